@@ -1,0 +1,11 @@
+pub mod BitSet
+pub mod Bytes
+pub mod Chain
+pub mod Configurations
+pub mod Fields
+pub mod Forms
+pub mod Groups
+pub mod Interfaces
+pub mod Lookups
+pub mod Setup
+pub mod Strings
