@@ -1,0 +1,9 @@
+pub mod BufferState
+pub mod BufferFacts
+pub mod BufferLends
+pub mod TransferErrors
+pub mod TransferStatus
+pub mod TransferTexts
+pub mod Transfers
+pub mod Slots
+pub mod IdleLends
