@@ -1,0 +1,5 @@
+pub mod Kinds
+pub mod Messages
+pub mod ErrorState
+pub mod Errors
+pub mod Texts

@@ -1,0 +1,161 @@
+//! Texts and kinds from outside, and that a copy succeeds.
+
+ghost use Rattle.std.specs.Prelude.{◌≡◌, IfOk};
+
+use crate::{Error, ErrorKind};
+use std::alloc::{AllocError, Global};
+use std::process::Abort;
+use std::test::Fail;
+
+fn expect_row(
+    rt: &impl Abort,
+    alloc: Global,
+    error: &Error,
+    kind: ErrorKind,
+    code: Option<u32>,
+    text: &str,
+) -> Result<(), AllocError> {
+    let shown = error.to_string(alloc)?;
+    assert_eq!(rt; shown.as_str(), text);
+    assert_eq!(rt; error.kind(), kind, "of {text}");
+    assert_eq!(rt; error.os_error(), code, "of {text}");
+    Ok(())
+}
+
+#[test]
+fn errnos_of_calls_have_their_errors(rt: HostRuntime) -> Result<(), Fail> {
+    use ErrorKind::{Busy, Disconnected, NotFound, Other, PermissionDenied};
+    let rows = [
+        (
+            Error::open(2),
+            Disconnected,
+            2,
+            "device not found (errno 2)",
+        ),
+        (
+            Error::open(1),
+            PermissionDenied,
+            1,
+            "permission denied (errno 1)",
+        ),
+        (
+            Error::open(13),
+            PermissionDenied,
+            13,
+            "permission denied (errno 13)",
+        ),
+        (
+            Error::open(19),
+            Other,
+            19,
+            "failed to open device (errno 19)",
+        ),
+        (
+            Error::open(4095),
+            Other,
+            4095,
+            "failed to open device (errno 4095)",
+        ),
+        (
+            Error::read_descriptors(19),
+            Other,
+            19,
+            "failed to read descriptors (errno 19)",
+        ),
+        (
+            Error::claim(19),
+            Disconnected,
+            19,
+            "device disconnected (errno 19)",
+        ),
+        (
+            Error::claim(22),
+            NotFound,
+            22,
+            "interface not found (errno 22)",
+        ),
+        (
+            Error::claim(2),
+            NotFound,
+            2,
+            "interface not found (errno 2)",
+        ),
+        (Error::claim(16), Busy, 16, "interface is busy (errno 16)"),
+        (
+            Error::claim(61),
+            Other,
+            61,
+            "failed to claim interface (errno 61)",
+        ),
+    ];
+    for (error, kind, code, text) in rows {
+        expect_row(&rt, rt.alloc(), &error, kind, Some(code), text)?;
+    }
+    Ok(())
+}
+
+#[test]
+fn errors_without_a_code_show_none(rt: HostRuntime) -> Result<(), Fail> {
+    use ErrorKind::{Busy, NotFound, Other};
+    let nowhere = "specified endpoint does not exist on this interface";
+    let rows = [
+        (
+            Error::invalid_device_descriptor(),
+            Other,
+            "invalid device descriptor",
+        ),
+        (
+            Error::configuration(),
+            Other,
+            "failed to read sysfs bConfigurationValue",
+        ),
+        (Error::no_endpoint(), NotFound, nowhere),
+        (
+            Error::wrong_direction(),
+            Other,
+            "incorrect endpoint direction",
+        ),
+        (Error::wrong_type(), Other, "incorrect endpoint type"),
+        (
+            Error::no_packet_size(),
+            Other,
+            "endpoint has max packet size 0",
+        ),
+        (Error::endpoint_in_use(), Busy, "endpoint already in use"),
+    ];
+    for (error, kind, text) in rows {
+        expect_row(&rt, rt.alloc(), &error, kind, None, text)?;
+    }
+    Ok(())
+}
+
+#[test]
+fn kinds_print_their_names(rt: HostRuntime) -> Result<(), Fail> {
+    let rows = [
+        (ErrorKind::Disconnected, "Disconnected"),
+        (ErrorKind::Busy, "Busy"),
+        (ErrorKind::PermissionDenied, "PermissionDenied"),
+        (ErrorKind::NotFound, "NotFound"),
+        (ErrorKind::Unsupported, "Unsupported"),
+        (ErrorKind::Other, "Other"),
+    ];
+    for (kind, name) in rows {
+        let shown = kind.to_string(rt.alloc())?;
+        assert_eq!(rt; shown.as_str(), name);
+    }
+    Ok(())
+}
+
+fn copied(error: &Error) -> Result<Error, AllocError>
+    ensures same { IfOk result (λ copy. copy ≡ error.now) }
+{
+    error.clone()
+}
+
+#[test]
+fn a_copy_of_an_error_is_the_error(rt: HostRuntime) -> Result<(), Fail> {
+    let copy = copied(&Error::claim(16))?;
+    let text = "interface is busy (errno 16)";
+    expect_row(&rt, rt.alloc(), &copy, ErrorKind::Busy, Some(16), text)?;
+    Ok(())
+}
