@@ -1,0 +1,155 @@
+-- What an event makes of the completions.
+use Rattle.std.proofs.Common.{◌≡◌, ◌≢◌, ℕ, ◌<◌, ◌≤◌, arith, List, [], ◌∷◌, length, Option, Some, None, true, false, cond, refl, ap, sym, ◌∙◌, slice_get}
+use Rattle.std.specs.Prelude.{is_some, nat_le, ◌&&◌, ◌==◌}
+use Rattle.std.proofs.Common.{inl, inr}
+use Rattle.std.proofs.lemmas.Grind.{common_steps}
+use Rattle.std.proofs.lemmas.Bool.{cases_Bool, cases_eq, cases_lt, eq-eqb, ne_eqb}
+use Rattle.std.proofs.lemmas.Option.{slice_get_past, slice_get_within}
+use Rattle.usb_kernel.specs.declared.event.Event.{Event}
+use Rattle.usb_kernel.specs.declared.event.Event.TheVariants.{Submit, Packet, Discard, Reap}
+use Rattle.usb_kernel.specs.declared.event.Body.{Body}
+use Rattle.usb_kernel.specs.declared.submission.Done.{Done}
+use Rattle.usb_kernel.specs.declared.submission.Submission.{Submission}
+use Rattle.usb_kernel.specs.declared.step.KernelStep.{KernelStep}
+use Rattle.usb_kernel.specs.declared.step.KernelStep.TheVariants as step
+use Rattle.usb_kernel.specs.Tickets.{Ticket, tickets}
+use Rattle.usb_kernel.specs.Fates.{Fate, fresh, with_packet, finish, reap}
+use Rattle.usb_kernel.specs.Journal.{fate, oldest, at_ticket, at_oldest, change}
+use Rattle.usb_kernel.specs.Submissions.{refuse_event, refused_of}
+use Rattle.usb_kernel.specs.Completions.{refused_done, completion, completion_if, completion_for, completed, done_if, reapable}
+use Rattle.usb_kernel.specs.Steps.{after_packet, after_reap, after_discard, is_unfinished, stepped, step_done}
+use Rattle.usb_kernel.proofs.Places.{slice_get-append_left, slice_get-append_seam}
+use Rattle.usb_kernel.proofs.Fresh.{fate-fresh}
+use Rattle.usb_kernel.proofs.Final.{reaped_is_final}
+
+finish-reaped : (n : ℕ) (f : Fate) → (finish n f).reaped ≡ f.reaped
+finish-reaped n f = grind (arith, common_steps)
+
+with_packet-reaped : (s : Ticket) (b : List ℕ) (f : Fate) → (with_packet s b f).reaped ≡ f.reaped
+with_packet-reaped s b f = grind (arith, common_steps)
+
+change-reaped : (step : Ticket → Fate → Fate) (o : Option Ticket) (f : Fate) → ((s : Ticket) (g : Fate) → (step s g).reaped ≡ g.reaped) → (change step o f).reaped ≡ f.reaped
+change-reaped step None f same = refl
+change-reaped step (Some s) f same = same s f
+
+at_ticket-reaped : (t : ℕ) (step : Ticket → Fate → Fate) (ts : List Ticket) (f : ℕ → Fate) (u : ℕ) → ((s : Ticket) (g : Fate) → (step s g).reaped ≡ g.reaped) → (at_ticket t step ts f u).reaped ≡ (f u).reaped
+at_ticket-reaped t step ts f u same =
+    elim (t == u) as (λ v. (cond v (change step (slice_get ts u) (f u)) (f u)).reaped ≡ (f u).reaped) [ true ↦ change-reaped step (slice_get ts u) (f u) same | false ↦ refl ]
+
+at_oldest-reaped : (o : Option ℕ) (step : Ticket → Fate → Fate) (ts : List Ticket) (f : ℕ → Fate) (u : ℕ) → ((s : Ticket) (g : Fate) → (step s g).reaped ≡ g.reaped) → (at_oldest o step ts f u).reaped ≡ (f u).reaped
+at_oldest-reaped None step ts f u same = refl
+at_oldest-reaped (Some t) step ts f u same = at_ticket-reaped t step ts f u same
+
+-- a fate that was not reaped, and is not, has no completion
+completion-unreaped : (t : ℕ) (o : Option Ticket) (f : Fate) → f.reaped ≡ false → completion_if t o f ≡ None
+completion-unreaped t None f none = refl
+completion-unreaped t (Some s) f none = rw none refl
+
+-- an event that reaps nothing keeps the completions
+pub completion-kept : (past : List Event) (event : Event) (u : ℕ) → tickets (event ∷ past) ≡ tickets past → (fate (event ∷ past) u).reaped ≡ (fate past u).reaped → completion (event ∷ past) u ≡ completion past u
+unfolding completion
+completion-kept past event u same kept =
+    elim (cases_Bool (fate past u).reaped) [
+      | inl yes_ ↦ rw (same, reaped_is_final past event u yes_) refl
+      | inr no_ ↦ rw same (completion-unreaped u (slice_get (tickets past) u) (fate (event ∷ past) u) (kept ∙ no_) ∙ sym (completion-unreaped u (slice_get (tickets past) u) (fate past u) no_))
+    ]
+
+pub completion-packet : (past : List Event) (d e : ℕ) (b : List ℕ) (u : ℕ) → completion (after_packet past d e b) u ≡ completion past u
+completion-packet past d e b u =
+    let here = completion-kept past (Packet d e b) u refl (at_oldest-reaped (oldest past d e) (λ s. with_packet s b) (tickets past) (fate past) u (λ s g. with_packet-reaped s b g)) in
+    elim (nat_le 128 e && is_some (oldest past d e)) as (λ v. completion (cond v (Packet d e b ∷ past) past) u ≡ completion past u) [ true ↦ here | false ↦ refl ]
+
+pub completion-discard : (past : List Event) (t : ℕ) (u : ℕ) → completion (after_discard past t) u ≡ completion past u
+completion-discard past t u =
+    let here = completion-kept past (Discard t) u refl (at_ticket-reaped t (λ s. finish 2) (tickets past) (fate past) u (λ s g. finish-reaped 2 g)) in
+    elim (is_unfinished past t) as (λ v. completion (cond v (Discard t ∷ past) past) u ≡ completion past u) [ true ↦ here | false ↦ refl ]
+
+-- what is reapable gets its completion by the reap
+reapable-completion : (t : ℕ) (s : Ticket) (f : Fate) (done : Done) → done_if t f s ≡ Some done → (completion_for t s (reap s f) ≡ Some done) × (done.ticket ≡ t)
+reapable-completion t s f done some = grind (arith, common_steps)
+
+reapable-completion-if : (t : ℕ) (o : Option Ticket) (past : List Event) (done : Done) → slice_get (tickets past) t ≡ o → reapable past t ≡ Some done → (completion (Reap t ∷ past) t ≡ Some done) × (done.ticket ≡ t)
+unfolding completion
+reapable-completion-if t None past done at some = let no_ : None ≡ Some done = rw at at some in cc
+reapable-completion-if t (Some s) past done at some =
+    let here : done_if t (fate past t) s ≡ Some done = rw at at some in
+    let both = reapable-completion t s (fate past t) done here in
+    (rw (eq-eqb t t refl, at) both.0, both.1)
+
+completion-reap-other : (past : List Event) (t u : ℕ) → t ≢ u → completion (Reap t ∷ past) u ≡ completion past u
+unfolding completion
+completion-reap-other past t u apart = rw (ne_eqb t u apart) refl
+
+completion-reap-at : (past : List Event) (t u : ℕ) (o : Option Done) → reapable past t ≡ o → completion (cond (is_some o) (Reap t ∷ past) past) u ≡ completed o (completion past) u
+completion-reap-at past t u None is = refl
+completion-reap-at past t u (Some done) is =
+    let both = reapable-completion-if t (slice_get (tickets past) t) past done refl is in
+    elim (cases_eq t u) [
+      | inl same ↦ rw (eq-eqb done.ticket u (both.1 ∙ same)) (ap (completion (Reap t ∷ past)) (sym same) ∙ both.0)
+      | inr apart ↦ rw (ne_eqb done.ticket u (λ is_u. apart (sym both.1 ∙ is_u))) (completion-reap-other past t u apart)
+    ]
+
+pub completion-reap : (past : List Event) (t : ℕ) (u : ℕ) → completion (after_reap past t) u ≡ completed (reapable past t) (completion past) u
+completion-reap past t u = completion-reap-at past t u (reapable past t) refl
+
+-- what a step makes of the completions
+pub completion-step : (past : List Event) (s : KernelStep) (u : ℕ) → completion (stepped past s) u ≡ completed (step_done past s) (completion past) u
+completion-step past (step.Packet d e b) u = completion-packet past d e b u
+completion-step past (step.Reap None) u = refl
+completion-step past (step.Reap (Some t)) u = completion-reap past t u
+
+-- a step submits nothing
+pub tickets-reap : (past : List Event) (t : ℕ) → tickets (after_reap past t) ≡ tickets past
+tickets-reap past t = elim (is_some (reapable past t)) as (λ v. tickets (cond v (Reap t ∷ past) past) ≡ tickets past) [ true ↦ refl | false ↦ refl ]
+
+pub tickets-discard : (past : List Event) (t : ℕ) → tickets (after_discard past t) ≡ tickets past
+tickets-discard past t = elim (is_unfinished past t) as (λ v. tickets (cond v (Discard t ∷ past) past) ≡ tickets past) [ true ↦ refl | false ↦ refl ]
+
+pub tickets-step : (past : List Event) (s : KernelStep) → tickets (stepped past s) ≡ tickets past
+tickets-step past (step.Packet d e b) = elim (nat_le 128 e && is_some (oldest past d e)) as (λ v. tickets (cond v (Packet d e b ∷ past) past) ≡ tickets past) [ true ↦ refl | false ↦ refl ]
+tickets-step past (step.Reap None) = refl
+tickets-step past (step.Reap (Some t)) = tickets-reap past t
+
+reapable-within : (past : List Event) (t : ℕ) (o : Option Ticket) (done : Done) → slice_get (tickets past) t ≡ o → reapable past t ≡ Some done → (done.ticket ≡ t) × (t < length (tickets past))
+reapable-within past t None done at some = let no_ : None ≡ Some done = rw at at some in cc
+reapable-within past t (Some s) done at some =
+    ((reapable-completion-if t (Some s) past done at some).1, slice_get_within (tickets past) t s at)
+
+-- the completion that a step gives is of a ticket
+pub step_done-within : (past : List Event) (s : KernelStep) (done : Done) → step_done past s ≡ Some done → done.ticket < length (tickets past)
+step_done-within past (step.Packet d e b) done some = cc
+step_done-within past (step.Reap None) done some = cc
+step_done-within past (step.Reap (Some t)) done some =
+    let both = reapable-within past t (slice_get (tickets past) t) done refl some in rw both.0 both.1
+
+-- a submission
+pub completion-submit : (past : List Event) (t d e m : ℕ) (body : Body) (room : ℕ) (deadline : Option ℕ) (u : ℕ) → completion (Submit t d e m body room deadline ∷ past) u ≡ completion past u
+unfolding completion
+completion-submit past t d e m body room deadline u =
+    elim (cases_lt u (length (tickets past))) [
+      | inl within ↦ rw (slice_get-append_left (tickets past) (new ∷ []) u within) refl
+      | inr beyond ↦ rw (fate-fresh past u beyond) (completion-unreaped u _ fresh refl ∙ sym (completion-unreaped u _ fresh refl))
+    ]
+  where
+    new : Ticket
+    new = record { device = d; endpoint = e; maximum = m; body = body; capacity = room; refused = false; deadline = deadline }
+
+pub completion-fresh : (past : List Event) (u : ℕ) → length (tickets past) ≤ u → completion past u ≡ None
+unfolding completion
+completion-fresh past u beyond = rw (slice_get_past (tickets past) u beyond) refl
+
+-- a refused submission has its completion at once
+pub completion-refuse : (past : List Event) (s : Submission) (t errno u : ℕ) → u < length (tickets past) → completion (refuse_event t s errno ∷ past) u ≡ completion past u
+unfolding completion
+completion-refuse past s t errno u within =
+    let apart : length (tickets past) ≢ u = (λ same. omega arith) in
+    rw (slice_get-append_left (tickets past) (refused_of s ∷ []) u within, ne_eqb (length (tickets past)) u apart) refl
+
+pub completion-refused : (past : List Event) (s : Submission) (t errno : ℕ) → completion (refuse_event t s errno ∷ past) (length (tickets past)) ≡ Some (refused_done (length (tickets past)) s errno)
+unfolding completion
+completion-refused past s t errno =
+    rw (slice_get-append_seam (tickets past) (refused_of s), eq-eqb (length (tickets past)) (length (tickets past)) refl) refl
+
+pub reapable_within : (past : List Event) (t : ℕ) (done : Done) → reapable past t ≡ Some done → done.ticket < length (tickets past)
+reapable_within past t done some =
+    let both = reapable-within past t (slice_get (tickets past) t) done refl some in rw both.0 both.1

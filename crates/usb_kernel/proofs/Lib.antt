@@ -1,0 +1,14 @@
+pub mod RowLemmas
+pub mod Steps
+pub mod TableLemmas
+pub mod Fresh
+pub mod Discards
+pub mod Final
+pub mod Lowest
+pub mod Opens
+pub mod Echoes
+pub mod Completions
+pub mod Places
+pub mod InterfaceLemmas
+pub mod DeviceLemmas
+pub mod WorkedRows

@@ -1,0 +1,12 @@
+use Rattle.std.proofs.Common.{arith}
+use Rattle.usb_kernel.specs.Tickets.{tickets}
+use Rattle.std.specs.Prelude.{length}
+use Rattle.usb_kernel.proofs.Fresh.{Agrees-submit, length-rows}
+use Rattle.usb_kernel.proofs.table.add.Goals as goal
+
+pub returns-clause-number : goal.returns-clause-number
+returns-clause-number c = λ past agrees. omega (arith, length-rows past c.args.rows.now.items agrees)
+
+pub returns-clause-agrees : goal.returns-clause-agrees
+returns-clause-agrees c =
+    λ past agrees. rw c.push_slot.ensures.rows (Agrees-submit past c.args.rows.now.items c.args.s (length (tickets past)) c.queued.result agrees c.queued.ensures.row c.queued.ensures.roomy)

@@ -1,0 +1,15 @@
+pub mod Tickets
+pub mod Fates
+pub mod Journal
+pub mod Submissions
+pub mod Completions
+pub mod Interfaces
+pub mod Devices
+pub mod Claims
+pub mod Submits
+pub mod Steps
+pub mod Info
+pub mod Value
+pub mod Rows
+pub mod KernelFacts
+pub mod Laws

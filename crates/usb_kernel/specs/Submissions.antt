@@ -1,0 +1,47 @@
+-- What a submission is as an event and as a ticket.
+use Rattle.std.specs.Prelude.{ℕ, ◌+◌, ◌*◌, ◌≤◌, ◌≡◌, true, false, [], Some, None, nat_le, if◌then◌else◌}
+use Rattle.usb_xfer.specs.BufferState.{BufferState}
+use Rattle.usb_kernel.specs.declared.event.Event.{Event}
+use Rattle.usb_kernel.specs.declared.event.Event.TheVariants.{Submit, Refuse}
+use Rattle.usb_kernel.specs.declared.event.Body.{Body}
+use Rattle.usb_kernel.specs.declared.event.Body.TheVariants.{Wanted, Sent}
+use Rattle.usb_kernel.specs.declared.submission.Submission.{Submission}
+use Rattle.usb_kernel.specs.Tickets.{Ticket}
+use Rattle.usb_kernel.specs.Fates.{Fate}
+
+-- an IN endpoint, which has bit 7, wants a length. An OUT endpoint sends bytes
+abbrev pub body_of : ℕ → BufferState → Body
+body_of endpoint b = if nat_le 128 endpoint then Wanted b.requested else Sent b.bytes
+
+abbrev pub submit_event : ℕ → Submission → Event
+submit_event t s = Submit t s.device s.endpoint s.maximum (body_of s.endpoint s.buffer) s.buffer.room s.deadline
+
+abbrev pub refuse_event : ℕ → Submission → ℕ → Event
+refuse_event t s errno = Refuse t s.device s.endpoint s.maximum (body_of s.endpoint s.buffer) s.buffer.room errno
+
+abbrev pub ticket_of : Submission → Ticket
+ticket_of s =
+    record {
+      device = s.device;
+      endpoint = s.endpoint;
+      maximum = s.maximum;
+      body = body_of s.endpoint s.buffer;
+      capacity = s.buffer.room;
+      refused = false;
+      deadline = s.deadline;
+    }
+
+abbrev pub refused_of : Submission → Ticket
+refused_of s = record (ticket_of s) { refused = true; deadline = None }
+
+-- a refused ticket counts as finished and reaped at once, with no bytes
+abbrev pub refused_fate : ℕ → Fate
+refused_fate errno = record { packets = []; acks = 0; status = Some errno; reaped = true }
+
+-- an IN endpoint is asked for its maximum, or for a multiple of it that is not 0
+abbrev pub IsWhole : Submission → Type 0
+IsWhole s = 128 ≤ s.endpoint → (more : ℕ) × ((more + 1) * s.maximum ≡ s.buffer.requested)
+
+-- the numbers of errors
+abbrev pub IsErrno : ℕ → Type 0
+IsErrno errno = (1 ≤ errno) × (errno ≤ 4095)

@@ -1,0 +1,196 @@
+//! Simulated devices.
+
+ghost use Rattle.std.specs.Prelude.{◌≡◌, ◌+◌, ◌<◌, map, IfOk, position, find, option_copied};
+ghost use Rattle.usb_kernel.specs.Devices.{fresh_device, has_device_number, device_of, if_plugged, plugged_device};
+ghost use Rattle.usb_kernel.specs.Claims.{is_at, open_result, result_by, has_interface, claim_rows, claim_result, with_claim, after_claim, release_rows, release_result, without_claim, after_release};
+
+use crate::bytes::Bytes;
+use crate::interfaces::InterfaceSet;
+use std::alloc::Global;
+use usb_desc::{NoMemory, find_configuration};
+
+/// A simulated device: its place on a bus, its speed's code, the value of its active configuration, its descriptors (the device
+/// descriptor, then its configurations, USB 2.0, 9.6), and the numbers of the interfaces that have a kernel driver.
+#[derive(Drop)]
+pub struct SimDevice {
+    pub bus: u8,
+    pub address: u8,
+    pub speed: u8,
+    pub config: u8,
+    pub bytes: Bytes,
+    pub drivers: Bytes,
+}
+
+/// A device as the kernel keeps it.
+#[derive(Drop)]
+pub struct DeviceState {
+    pub number: u8,
+    pub bus: u8,
+    pub address: u8,
+    pub speed: u8,
+    pub configuration: u8,
+    pub bytes: Bytes,
+    pub plugged: bool,
+    pub claimed: InterfaceSet,
+    pub bound: InterfaceSet,
+}
+
+impl DeviceState {
+    /// A device at the start.
+    fn fresh(number: u8, device: SimDevice) -> DeviceState
+        ensures device { result ≡ fresh_device (number, device) }
+    {
+        let bound = InterfaceSet::from_slice(device.drivers.as_slice());
+        DeviceState {
+            number,
+            bus: device.bus,
+            address: device.address,
+            speed: device.speed,
+            configuration: device.config,
+            bytes: device.bytes,
+            plugged: true,
+            claimed: InterfaceSet::new(),
+            bound,
+        }
+    }
+
+    /// Whether its active configuration has an interface.
+    fn has_interface(&self, number: u8) -> bool
+        ensures has { result ≡ has_interface number self.now }
+    {
+        match find_configuration(self.bytes.as_slice(), self.configuration) {
+            Some(configuration) => configuration.has_interface(number),
+            None => false,
+        }
+    }
+
+    /// The errno with which a claim is refused while it is plugged.
+    fn claim_refusal(&self, interface: u8) -> Option<u16>
+        ensures errno { result ≡ claim_rows interface self.now }
+    {
+        if !self.has_interface(interface) {
+            return Some(2);
+        }
+        if self.claimed.contains(interface) || self.bound.contains(interface) {
+            return Some(16);
+        }
+        None
+    }
+
+    /// Claims an interface.
+    fn claim(&mut self, interface: u8) -> Result<(), u16>
+        ensures result { result ≡ result_by (claim_rows interface) (if_plugged self.old) }
+        ensures device { self.new ≡ with_claim interface self.old }
+    {
+        if !self.plugged {
+            return Err(19);
+        }
+        if let Some(errno) = self.claim_refusal(interface) {
+            return Err(errno);
+        }
+        self.claimed.insert(interface);
+        Ok(())
+    }
+
+    /// Ends the claim of an interface. The answer is errno 19 where the device is unplugged.
+    fn release(&mut self, interface: u8) -> Result<(), u16>
+        ensures result { result ≡ result_by release_rows (if_plugged self.old) }
+        ensures device { self.new ≡ without_claim interface self.old }
+    {
+        self.claimed.remove(interface);
+        if self.plugged { Ok(()) } else { Err(19) }
+    }
+}
+
+/// The devices at the start.
+pub(crate) fn fresh_devices(
+    alloc: Global,
+    devices: Vec<(u8, SimDevice)>,
+) -> Result<Vec<DeviceState>, NoMemory>
+    ensures devices { IfOk result (λ made. made.items ≡ map fresh_device devices.items) }
+{
+    let Ok(mut made) = Vec::with_capacity(alloc, devices.len()) else {
+        return Err(NoMemory);
+    };
+    for (number, device) in devices {
+        if made.push(DeviceState::fresh(number, device)).is_err() {
+            return Err(NoMemory);
+        }
+    }
+    Ok(made)
+}
+
+/// The place of the first device with a number.
+pub(crate) fn place_of(devices: &[DeviceState], number: u8) -> Option<usize>
+    ensures place { result ≡ position (has_device_number number) devices.now }
+{
+    devices.iter().position(|d| d.number == number)
+}
+
+/// The first device with a number.
+fn first_of(devices: &[DeviceState], number: u8) -> Option<&DeviceState>
+    ensures device { option_copied result ≡ device_of devices.now number }
+{
+    devices.iter().find(|d| d.number == number)
+}
+
+/// The device of a number, while it is plugged.
+pub(crate) fn plugged(devices: &[DeviceState], number: u8) -> Option<&DeviceState>
+    ensures device { option_copied result ≡ plugged_device devices.now number }
+{
+    match first_of(devices, number) {
+        Some(device) if device.plugged => Some(device),
+        _ => None,
+    }
+}
+
+/// The first plugged device at an address.
+fn first_at(devices: &[DeviceState], bus: u8, address: u8) -> Option<&DeviceState>
+    ensures device { option_copied result ≡ find (is_at bus address) devices.now }
+{
+    devices
+        .iter()
+        .find(|d| d.plugged && d.bus == bus && d.address == address)
+}
+
+/// Its number, else errno 2.
+pub(crate) fn number_at(devices: &[DeviceState], bus: u8, address: u8) -> Result<u8, u16>
+    ensures result { result ≡ open_result devices.now bus address }
+{
+    match first_at(devices, bus, address) {
+        Some(device) => Ok(device.number),
+        None => Err(2),
+    }
+}
+
+/// Claims an interface.
+pub(crate) fn claim_interface(
+    devices: &mut Vec<DeviceState>,
+    number: u8,
+    interface: u8,
+) -> Result<(), u16>
+    ensures result { result ≡ claim_result devices.old.items number interface }
+    ensures devices { devices.new.items ≡ after_claim devices.old.items number interface }
+{
+    let Some(at) = place_of(devices, number) else {
+        return Err(19);
+    };
+    let device = &mut devices[at];
+    device.claim(interface)
+}
+
+/// Ends the claim of an interface.
+pub(crate) fn release_interface(
+    devices: &mut Vec<DeviceState>,
+    number: u8,
+    interface: u8,
+) -> Result<(), u16>
+    ensures result { result ≡ release_result devices.old.items number }
+    ensures devices { devices.new.items ≡ after_release devices.old.items number interface }
+{
+    let Some(at) = place_of(devices, number) else {
+        return Err(19);
+    };
+    let device = &mut devices[at];
+    device.release(interface)
+}

@@ -1,0 +1,411 @@
+//! The kernel: devices, tickets and a journal.
+
+ghost use Rattle.std.specs.Prelude.{◌≡◌, ◌+◌, ◌*◌, ◌^◌, ◌<◌, ◌≤◌, ◌∷◌, [], length, map, reverse, IsTrue, IsSome, vec_len, vec_capacity, Some, OnOk, OnErr, IfOk, IfErr};
+ghost use Rattle.usb_desc.specs.declared.types.TransferType.{TransferType};
+ghost use Rattle.usb_kernel.specs.Tickets.{tickets};
+ghost use Rattle.usb_kernel.specs.Submissions.{submit_event, IsWhole, IsErrno};
+ghost use Rattle.usb_kernel.specs.Completions.{reapable, lowest};
+ghost use Rattle.usb_kernel.specs.Devices.{fresh_device};
+ghost use Rattle.usb_kernel.specs.Claims.{open_result, descriptors_result, configuration_result, claim_result, after_claim, release_result, after_release};
+ghost use Rattle.usb_kernel.specs.Submits.{submit_result, after_submit, refuse_result, after_refuse, number_of};
+ghost use Rattle.usb_kernel.specs.Steps.{after_packet, after_reap, after_discard, names_ticket, after_reap_of, reapable_of, stepped, step_done};
+ghost use Rattle.usb_kernel.specs.Info.{info_of, unreaped};
+ghost use Rattle.usb_kernel.specs.Laws.{ReapedIsFinal};
+
+use crate::bytes::Bytes;
+use crate::devices::{
+    DeviceState, SimDevice, claim_interface, fresh_devices, number_at, plugged, release_interface,
+};
+use crate::event::Event;
+use crate::slot::Slot;
+use crate::step::KernelStep;
+use crate::submission::{Done, Submission, Submitted, TicketInfo};
+use crate::table::{
+    add, add_refused, drop_open, first_number, give_packet, info_at, take_finished,
+};
+use std::alloc::Global;
+use std::marker::Model;
+use usb_desc::NoMemory;
+
+/// A simulated kernel. It keeps its events in a journal, and beside it the table of tickets that the journal means.
+#[derive(Drop)]
+pub struct Kernel {
+    journal: Vec<Event>,
+    tickets: Vec<Slot>,
+    devices: Vec<DeviceState>,
+    spare: usize,
+    owed: usize,
+    unreaped: usize,
+}
+
+impl Model for Kernel {
+    ghost use Rattle.std.specs.Prelude.{reverse};
+    ghost use Rattle.usb_kernel.specs.Value.{KernelState};
+
+    ghost Value = { KernelState };
+
+    ghost view = { λ k. record { past = reverse k.journal.items; devices = k.devices.items; spare = k.spare } };
+
+    ghost use Rattle.usb_kernel.specs.KernelFacts.{IsKept};
+
+    ghost invariant = { IsKept };
+}
+
+/// Appends an event for which there is room.
+fn put(journal: &mut Vec<Event>, event: Event)
+    requires room { vec_len journal.old < vec_capacity journal.old }
+    ensures items { reverse journal.new.items ≡ event ∷ reverse journal.old.items }
+    ensures len { vec_len journal.new ≡ vec_len journal.old + 1 }
+    ensures capacity { vec_capacity journal.old ≤ vec_capacity journal.new }
+{
+    let _ = journal.push(event);
+}
+
+/// Makes room for these places and three more, and for four places per ticket with one more ticket.
+fn make_room(journal: &mut Vec<Event>, places: usize, count: usize) -> Result<(), NoMemory>
+    ensures items { journal.new.items ≡ journal.old.items }
+    ensures len { vec_len journal.new ≡ vec_len journal.old }
+    ensures capacity { vec_capacity journal.old ≤ vec_capacity journal.new }
+    ensures room { OnOk result (vec_len journal.new + places + 3 ≤ vec_capacity journal.new) }
+    ensures four { OnOk result (4 * (count + 1) ≤ vec_capacity journal.new) }
+    ensures small { OnOk result (4 * (count + 1) < 2 ^ 64) }
+{
+    let Some(more) = places.checked_add(3) else {
+        return Err(NoMemory);
+    };
+    let Some(next) = count.checked_add(1) else {
+        return Err(NoMemory);
+    };
+    let Some(four) = next.checked_mul(4) else {
+        return Err(NoMemory);
+    };
+    let more = more.max(four.saturating_sub(journal.len()));
+    if journal.reserve(more).is_err() {
+        return Err(NoMemory);
+    }
+    Ok(())
+}
+
+impl Kernel {
+    /// A kernel with these devices, by number, and no event. Where two devices share a number the first counts.
+    pub fn new(alloc: Global, devices: Vec<(u8, SimDevice)>) -> Result<Kernel, NoMemory>
+        ensures past { IfOk result (λ kernel. kernel.past ≡ []) }
+        ensures devices { IfOk result (λ kernel. kernel.devices ≡ map fresh_device devices.items) }
+        ensures spare { IfOk result (λ kernel. kernel.spare ≡ 0) }
+    {
+        let devices = fresh_devices(alloc, devices)?;
+        Ok(Kernel {
+            journal: Vec::new(alloc),
+            tickets: Vec::new(alloc),
+            devices,
+            spare: 0,
+            owed: 0,
+            unreaped: 0,
+        })
+    }
+
+    /// The events, in the order in which they came.
+    pub fn journal(&self) -> &[Event]
+        ensures events { result.now ≡ reverse self.now.past }
+    {
+        self.journal.as_slice()
+    }
+
+    /// How many tickets there are. They have the numbers from 0 on.
+    #[tactic(auto, using(crate::proofs::Fresh::length_rows))]
+    pub fn tickets(&self) -> u64
+        ensures tickets { result ≡ length (tickets self.now.past) }
+    {
+        self.tickets.len() as u64
+    }
+
+    /// How many tickets are not reaped.
+    #[tactic(auto, using(crate::proofs::Lowest::unreaped_count))]
+    pub fn unreaped(&self) -> usize
+        ensures unreaped { result ≡ unreaped self.now.past }
+    {
+        self.unreaped
+    }
+
+    /// What is known of a ticket.
+    #[tactic(auto, using(crate::proofs::Fresh::length_rows))]
+    pub fn ticket(&self, ticket: u64) -> TicketInfo
+        requires below { ticket < length (tickets self.now.past) }
+        ensures info { info_of self.now.past ticket ≡ Some result }
+    {
+        info_at(&self.tickets, ticket)
+    }
+
+    /// The least number of a ticket that is finished and not reaped.
+    #[tactic(auto, using(crate::proofs::Lowest::lowest_position))]
+    pub fn lowest_finished(&self) -> Option<u64>
+        ensures lowest { result ≡ lowest self.now.past }
+    {
+        first_number(&self.tickets)
+    }
+
+    /// Makes room for at least n steps.
+    pub fn reserve(&mut self, n: usize) -> Result<(), NoMemory>
+        ensures ok { OnOk result (n ≤ self.new.spare) }
+        ensures kept { self.old.spare ≤ self.new.spare }
+        ensures rest { self.new ≡ record self.old { spare = self.new.spare } }
+        ensures err { OnErr result (self.new ≡ self.old) }
+    {
+        if n <= self.spare {
+            return Ok(());
+        }
+        let Some(more) = n.checked_add(self.owed) else {
+            return Err(NoMemory);
+        };
+        match self.journal.reserve(more) {
+            Ok(()) => {
+                self.spare = n;
+                Ok(())
+            }
+            Err(_) => Err(NoMemory),
+        }
+    }
+
+    /// A submission becomes the next ticket, which is refused with 19 where no plugged device has the number.
+    /// An `Err` is want of memory, and then nothing has changed.
+    pub fn submit(&mut self, s: Submission) -> Result<Submitted, Submission>
+        requires whole { IsWhole s }
+        requires deadline { IsSome s.deadline → s.kind ≡ TransferType.Control }
+        ensures submitted { IfOk result (λ r. r ≡ submit_result self.old.devices self.old.past s) }
+        ensures number { IfOk result (λ r. 4 * number_of r + 3 < 2 ^ 64) }
+        ensures past { OnOk result (self.new.past ≡ after_submit self.old.devices self.old.past s) }
+        ensures rest { self.new ≡ record self.old { past = self.new.past } }
+        ensures err { OnErr result (self.new ≡ self.old) }
+        ensures back { IfErr result (λ back. back ≡ s) }
+    {
+        if plugged(&self.devices, s.device).is_none() {
+            return self.refuse(s, 19);
+        }
+        self.queue(s)
+    }
+
+    /// A submission becomes the next ticket.
+    fn queue(&mut self, s: Submission) -> Result<Submitted, Submission>
+        requires whole { IsWhole s }
+        ensures submitted { IfOk result (λ r. r ≡ Submitted.Queued (length (tickets self.old.past))) }
+        ensures number { IfOk result (λ r. 4 * number_of r + 3 < 2 ^ 64) }
+        ensures past { OnOk result (self.new.past ≡ submit_event (length (tickets self.old.past)) s ∷ self.old.past) }
+        ensures rest { self.new ≡ record self.old { past = self.new.past } }
+        ensures err { OnErr result (self.new ≡ self.old) }
+        ensures back { IfErr result (λ back. back ≡ s) }
+    {
+        let Ok(body) = s.body(*self.journal.allocator()) else {
+            return Err(s);
+        };
+        let places = self.spare + self.owed;
+        let Ok(()) = make_room(&mut self.journal, places, self.tickets.len()) else {
+            return Err(s);
+        };
+        if self.tickets.reserve(1).is_err() {
+            return Err(s);
+        }
+        let device = s.device;
+        let endpoint = s.endpoint;
+        let maximum = s.maximum;
+        let capacity = s.buffer.capacity();
+        let deadline = s.deadline;
+        let ticket = add(&mut self.tickets, s);
+        self.owed += 2;
+        self.unreaped += 1;
+        put(
+            &mut self.journal,
+            Event::Submit {
+                ticket,
+                device,
+                endpoint,
+                maximum,
+                body,
+                capacity,
+                deadline,
+            },
+        );
+        Ok(Submitted::Queued(ticket))
+    }
+
+    /// A submission becomes the next ticket, and is refused at once. An `Err` is want of memory, and then nothing has changed.
+    pub fn refuse(&mut self, s: Submission, errno: u16) -> Result<Submitted, Submission>
+        requires errno { IsErrno errno }
+        ensures submitted { IfOk result (λ r. r ≡ refuse_result self.old.past s errno) }
+        ensures number { IfOk result (λ r. 4 * number_of r + 3 < 2 ^ 64) }
+        ensures past { OnOk result (self.new.past ≡ after_refuse self.old.past s errno) }
+        ensures rest { self.new ≡ record self.old { past = self.new.past } }
+        ensures err { OnErr result (self.new ≡ self.old) }
+        ensures back { IfErr result (λ back. back ≡ s) }
+    {
+        let Ok(body) = s.body(*self.journal.allocator()) else {
+            return Err(s);
+        };
+        let places = self.spare + self.owed;
+        let Ok(()) = make_room(&mut self.journal, places, self.tickets.len()) else {
+            return Err(s);
+        };
+        if self.tickets.reserve(1).is_err() {
+            return Err(s);
+        }
+        let device = s.device;
+        let endpoint = s.endpoint;
+        let maximum = s.maximum;
+        let capacity = s.buffer.capacity();
+        let done = add_refused(&mut self.tickets, s, errno);
+        let ticket = done.ticket;
+        put(
+            &mut self.journal,
+            Event::Refuse {
+                ticket,
+                device,
+                endpoint,
+                maximum,
+                body,
+                capacity,
+                errno,
+            },
+        );
+        Ok(Submitted::Refused(done))
+    }
+
+    /// Applies a step, which uses one place of `spare` whether it acts or not. It takes no memory.
+    pub fn step(&mut self, step: KernelStep) -> Option<Done>
+        requires spare { 1 ≤ self.old.spare }
+        requires names_ticket { IsTrue (names_ticket step) }
+        ensures past { self.new.past ≡ stepped self.old.past step }
+        ensures done { result ≡ step_done self.old.past step }
+        ensures spare { self.new.spare + 1 ≡ self.old.spare }
+        ensures rest { self.new ≡ record self.old { past = self.new.past; spare = self.new.spare } }
+    {
+        match step {
+            KernelStep::Packet {
+                device,
+                endpoint,
+                bytes,
+            } => {
+                self.packet(device, endpoint, bytes);
+                None
+            }
+            KernelStep::Reap { ticket } => self.reap_step(ticket),
+        }
+    }
+
+    /// A packet comes to an endpoint: it goes to the oldest IN ticket.
+    fn packet(&mut self, device: u8, endpoint: u8, bytes: Bytes)
+        requires spare { 1 ≤ self.old.spare }
+        ensures past { self.new.past ≡ after_packet self.old.past device endpoint bytes }
+        ensures spare { self.new.spare + 1 ≡ self.old.spare }
+        ensures rest { self.new ≡ record self.old { past = self.new.past; spare = self.new.spare } }
+    {
+        self.spare -= 1;
+        if let Some(freed) = give_packet(&mut self.tickets, device, endpoint, bytes.as_slice()) {
+            self.owed -= freed;
+            put(
+                &mut self.journal,
+                Event::Packet {
+                    device,
+                    endpoint,
+                    bytes,
+                },
+            );
+        }
+    }
+
+    /// The step that reaps.
+    fn reap_step(&mut self, ticket: Option<u64>) -> Option<Done>
+        requires spare { 1 ≤ self.old.spare }
+        ensures past { self.new.past ≡ after_reap_of self.old.past ticket }
+        ensures done { result ≡ reapable_of self.old.past ticket }
+        ensures spare { self.new.spare + 1 ≡ self.old.spare }
+        ensures rest { self.new ≡ record self.old { past = self.new.past; spare = self.new.spare } }
+    {
+        self.spare -= 1;
+        self.reap(ticket?)
+    }
+
+    /// Discards a ticket that is not finished, with errno 2.
+    pub fn discard(&mut self, ticket: u64)
+        ensures past { self.new.past ≡ after_discard self.old.past ticket }
+        ensures rest { self.new ≡ record self.old { past = self.new.past } }
+    {
+        if drop_open(&mut self.tickets, ticket) {
+            self.owed -= 1;
+            put(&mut self.journal, Event::Discard { ticket });
+        }
+    }
+
+    /// The completion of a ticket that is finished and not reaped.
+    pub fn reap(&mut self, ticket: u64) -> Option<Done>
+        ensures done { result ≡ reapable self.old.past ticket }
+        ensures past { self.new.past ≡ after_reap self.old.past ticket }
+        ensures rest { self.new ≡ record self.old { past = self.new.past } }
+    {
+        let done = take_finished(&mut self.tickets, ticket)?;
+        self.owed -= 1;
+        self.unreaped -= 1;
+        put(&mut self.journal, Event::Reap { ticket });
+        Some(done)
+    }
+
+    /// The number of the first plugged device at an address of a bus, else errno 2.
+    pub fn open(&mut self, bus: u8, address: u8) -> Result<u8, u16>
+        ensures number { result ≡ open_result self.old.devices bus address }
+        ensures rest { self.new ≡ self.old }
+    {
+        number_at(&self.devices, bus, address)
+    }
+
+    /// The descriptors of a device, else errno 19.
+    pub fn read_descriptors(&self, device: u8) -> Result<&[u8], u16>
+        ensures bytes { IfOk result (λ bytes. descriptors_result self.now.devices device ≡ Ok bytes.now) }
+        ensures err { IfErr result (λ errno. descriptors_result self.now.devices device ≡ Err errno) }
+    {
+        match plugged(&self.devices, device) {
+            Some(device) => Ok(device.bytes.as_slice()),
+            None => Err(19),
+        }
+    }
+
+    /// Claims an interface. The errno is 19 where no plugged device has the number, 2 where its active configuration does not
+    /// have the interface, and 16 where the interface is claimed or has a kernel driver.
+    pub fn claim(&mut self, device: u8, interface: u8) -> Result<(), u16>
+        ensures result { result ≡ claim_result self.old.devices device interface }
+        ensures devices { self.new.devices ≡ after_claim self.old.devices device interface }
+        ensures rest { self.new ≡ record self.old { devices = self.new.devices } }
+    {
+        claim_interface(&mut self.devices, device, interface)
+    }
+
+    /// Ends the claim of an interface, on an unplugged device too. The answer is errno 19 there.
+    pub fn release(&mut self, device: u8, interface: u8) -> Result<(), u16>
+        ensures result { result ≡ release_result self.old.devices device }
+        ensures devices { self.new.devices ≡ after_release self.old.devices device interface }
+        ensures rest { self.new ≡ record self.old { devices = self.new.devices } }
+    {
+        release_interface(&mut self.devices, device, interface)
+    }
+
+    /// The value of a device's active configuration, else errno 19.
+    pub fn configuration(&mut self, device: u8) -> Result<u8, u16>
+        ensures value { result ≡ configuration_result self.old.devices device }
+        ensures rest { self.new ≡ self.old }
+    {
+        match plugged(&self.devices, device) {
+            Some(device) => Ok(device.configuration),
+            None => Err(19),
+        }
+    }
+}
+
+/// Whatever comes after its reap, a ticket's fate stays.
+#[tactic(auto, using(crate::proofs::Final::reaped_is_final))]
+pub fn reaped_is_final()
+    ensures law { ReapedIsFinal }
+{}
+
+fn needs_both<T: Send + Sync>(_x: &T) {}
+
+/// A kernel may be lent to another thread.
+pub fn is_send_and_sync(kernel: &Kernel) {
+    needs_both(kernel);
+}

@@ -1,0 +1,63 @@
+//! Transfers that are handed in, and what the kernel answers of them.
+
+ghost use Rattle.std.specs.Prelude.{◌≡◌, IfOk};
+ghost use Rattle.usb_kernel.specs.Submissions.{body_of};
+
+use crate::bytes::Bytes;
+use crate::event::Body;
+use std::alloc::Global;
+use usb_desc::{NoMemory, TransferType};
+use usb_xfer::Buffer;
+
+/// A transfer that is handed in. A control transfer uses endpoint 0x00 or 0x80 and has its setup packet (USB 2.0, 9.3).
+#[derive(Drop)]
+pub struct Submission {
+    pub device: u8,
+    pub endpoint: u8,
+    pub kind: TransferType,
+    pub maximum: usize,
+    pub deadline: Option<u64>,
+    pub setup: Option<[u8; 8]>,
+    pub buffer: Buffer,
+}
+
+/// A completion. The status is an errno, 0 where all went well; the count is that of the bytes received or acknowledged.
+#[derive(Drop)]
+pub struct Done {
+    pub ticket: u64,
+    pub status: u16,
+    pub refused: bool,
+    pub count: usize,
+    pub buffer: Buffer,
+}
+
+/// What becomes of a submission: a ticket, or a refused ticket with its completion.
+#[derive(Drop)]
+pub enum Submitted {
+    Queued(u64),
+    Refused(Done),
+}
+
+/// What is known of a ticket. The status is the errno of a finished ticket.
+#[derive(Drop)]
+pub struct TicketInfo {
+    pub device: u8,
+    pub endpoint: u8,
+    pub status: Option<u16>,
+    pub refused: bool,
+    pub reaped: bool,
+    pub count: usize,
+}
+
+impl Submission {
+    /// What it sends or wants.
+    pub(crate) fn body(&self, alloc: Global) -> Result<Body, NoMemory>
+        ensures body { IfOk result (λ b. b ≡ body_of self.now.endpoint self.now.buffer) }
+    {
+        if self.endpoint < 128 {
+            Ok(Body::Sent(Bytes::from_slice(alloc, self.buffer.as_slice())?))
+        } else {
+            Ok(Body::Wanted(self.buffer.requested_len()))
+        }
+    }
+}
