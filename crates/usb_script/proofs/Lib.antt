@@ -1,0 +1,6 @@
+pub mod FirstLine
+pub mod FirstWord
+pub mod OnLiterals
+pub mod ParseOn
+pub mod StepsOfLine
+mod WorkedScripts

@@ -1,0 +1,18 @@
+-- The letters that names begin with.
+use Rattle.std.specs.Prelude.{ℕ}
+
+-- k: a simulated device
+abbrev pub simulated_letter : ℕ
+simulated_letter = 107
+
+-- d: an open device
+abbrev pub device_letter : ℕ
+device_letter = 100
+
+-- i: a claimed interface
+abbrev pub interface_letter : ℕ
+interface_letter = 105
+
+-- e: an open endpoint
+abbrev pub endpoint_letter : ℕ
+endpoint_letter = 101

@@ -1,0 +1,16 @@
+pub mod Calls
+pub mod ErrorText
+pub mod Fields
+pub mod ItemKinds
+pub mod ItemRanges
+pub mod KernelSteps
+pub mod Letters
+pub mod LineEnd
+pub mod LineForms
+pub mod Lines
+pub mod Order
+pub mod Outcome
+pub mod Parse
+pub mod ScriptFacts
+pub mod SetupLines
+pub mod Words

@@ -1,0 +1,41 @@
+-- The lines of a script, and the words of a line.
+use Rattle.std.specs.Prelude.{ℕ, ◌-◌, ◌==◌, ◌&&◌, nat_le, Bool, true, false, not, List, [], ◌∷◌, length, take, slice_index, filter, find, Option, Some, None, if◌then◌else◌}
+use Rattle.std.specs.List.{slice_split}
+
+-- a byte before the first of these lines
+abbrev pub onto_line : ℕ → List (List ℕ) → List (List ℕ)
+onto_line b [] = (b ∷ []) ∷ []
+onto_line b (line ∷ lines) = (b ∷ line) ∷ lines
+
+-- the lines of a script: each ends with LF, which the last may lack
+abbrev pub lines_of : List ℕ → List (List ℕ)
+lines_of [] = []
+lines_of (b ∷ bytes) = if b == 10 then [] ∷ lines_of bytes else onto_line b (lines_of bytes)
+
+abbrev pub is_space : ℕ → Bool
+is_space b = b == 32
+
+abbrev pub is_word : List ℕ → Bool
+is_word [] = false
+is_word (b ∷ bytes) = true
+
+-- the words of a line: what stands between its spaces
+abbrev pub words_of : List ℕ → List (List ℕ)
+words_of line = filter is_word (slice_split is_space line)
+
+-- the bytes that a line may hold: the space and the visible characters of ASCII
+abbrev pub is_printable : ℕ → Bool
+is_printable b = nat_le 32 b && nat_le b 126
+
+-- a line's own bytes: one CR at its end is dropped
+abbrev pub without_cr : List ℕ → List ℕ
+without_cr line = if slice_index line (length line - 1) == 13 then take (length line - 1) line else line
+
+-- by the first byte that isn't a space: there is none, or it is the `#` of a comment
+abbrev pub is_skipped_by : Option ℕ → Bool
+is_skipped_by None = true
+is_skipped_by (Some b) = b == 35
+
+-- whether a line is skipped: a comment, whatever it holds, a line of spaces or an empty one
+abbrev pub is_skipped : List ℕ → Bool
+is_skipped line = is_skipped_by (find (λ b. not (is_space b)) line)

@@ -1,0 +1,82 @@
+-- What a word spells: a number, a name, a byte, some bytes, or the kind of an endpoint.
+use Rattle.std.specs.Prelude.{ℕ, ◌+◌, ◌*◌, ◌-◌, ◌==◌, ◌&&◌, nat_le, Bool, false, List, [], ◌∷◌, length, codes, Option, Some, None, Result, Ok, Err, if◌then◌else◌, option_and_then}
+use Rattle.std.specs.Str.{bytes_eq}
+use Rattle.hex.specs.Hex.{decode_of, hex_digit_value}
+use Rattle.hex.specs.declared.error.FromHexError.{FromHexError}
+use Rattle.usb_desc.specs.declared.types.Direction.{Direction}
+use Rattle.usb_desc.specs.declared.types.Direction.TheVariants.{In}
+use Rattle.usb_desc.specs.declared.types.TransferType.{TransferType}
+use Rattle.usb_desc.specs.declared.types.TransferType.TheVariants.{Bulk}
+use Rattle.usb_script.specs.Lines.{is_word}
+
+-- one reading after another, each of which may refuse
+infixl 10 ◌>>=◌
+abbrev pub ◌>>=◌ : {A B : Type 0} → Option A → (A → Option B) → Option B
+o >>= f = option_and_then f o
+
+-- the first word, and those after it
+abbrev pub word_at : List (List ℕ) → Option (List ℕ × List (List ℕ))
+word_at [] = None
+word_at (word ∷ words) = Some (word, words)
+
+abbrev pub is_digit : ℕ → Bool
+is_digit b = nat_le 48 b && nat_le b 57
+
+-- the number that decimal digits make behind those read so far
+abbrev pub digits_after : ℕ → List ℕ → Option ℕ
+digits_after n [] = Some n
+digits_after n (b ∷ bytes) = if is_digit b then digits_after (n * 10 + (b - 48)) bytes else None
+
+-- 1 to 19 decimal digits, of which the first may be zeros
+unfoldable pub decimal_of : List ℕ → Option ℕ
+decimal_of word = if is_word word && nat_le (length word) 19 then digits_after 0 word else None
+
+abbrev pub at_most : ℕ → ℕ → Option ℕ
+at_most top n = if nat_le n top then Some n else None
+
+-- a decimal number up to this one
+unfoldable pub number_of : ℕ → List ℕ → Option ℕ
+number_of top word = do
+  n ← decimal_of word
+  at_most top n
+
+abbrev pub has_leading_zero : List ℕ → Bool
+has_leading_zero [] = false
+has_leading_zero (digit ∷ []) = false
+has_leading_zero (digit ∷ next ∷ digits) = digit == 48
+
+-- 0 to 63, with no leading zero
+unfoldable pub index_of : List ℕ → Option ℕ
+index_of digits = if has_leading_zero digits then None else number_of 63 digits
+
+-- the number of a name: its letter, and 0 to 63 behind it
+unfoldable pub handle_of : ℕ → List ℕ → Option ℕ
+handle_of letter [] = None
+handle_of letter (b ∷ digits) = if b == letter then index_of digits else None
+
+-- HH: a byte as two hexadecimal digits, in either case
+unfoldable pub hex_byte_of : List ℕ → Option ℕ
+hex_byte_of [] = None
+hex_byte_of (high ∷ []) = None
+hex_byte_of (high ∷ low ∷ []) = do
+  h ← hex_digit_value high
+  l ← hex_digit_value low
+  Some (h * 16 + l)
+hex_byte_of (high ∷ low ∷ digit ∷ digits) = None
+
+abbrev pub or_none : Result (List ℕ) FromHexError → Option (List ℕ)
+or_none (Ok bytes) = Some bytes
+or_none (Err e) = None
+
+abbrev pub at_most_bytes : ℕ → List ℕ → Option (List ℕ)
+at_most_bytes top bytes = if nat_le (length bytes) top then Some bytes else None
+
+-- BYTES: a dash for none, or pairs of hexadecimal digits in either case, at most 65536 of them
+unfoldable pub bytes_of : List ℕ → Option (List ℕ)
+bytes_of word =
+    if bytes_eq word (codes "-") then Some []
+    else (or_none (decode_of word) >>= at_most_bytes 65536)
+
+-- KIND: the transfer type and the direction of an endpoint
+unfoldable pub kind_of : List ℕ → Option (TransferType × Direction)
+kind_of word = if bytes_eq word (codes "bulk-in") then Some (Bulk, In) else None

@@ -1,0 +1,19 @@
+//! Scripts for the simulated host: their lines, their words and their items.
+#![tactic(auto)]
+
+mod call;
+mod device;
+mod error;
+mod item;
+mod line;
+mod order;
+mod reading;
+mod script;
+mod steps;
+#[cfg(test)]
+mod tests;
+mod words;
+
+pub use error::SessionError;
+pub use item::{Item, Steps};
+pub use script::{MAX_SCRIPT, Script, parse_script};

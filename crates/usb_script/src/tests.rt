@@ -1,0 +1,258 @@
+//! Scripts that are read, and lines that are outside the grammar.
+
+use crate::error::SessionError;
+use crate::item::Item;
+use crate::script::{MAX_SCRIPT, parse_script};
+use std::alloc::Global;
+use std::test::Fail;
+use usb_kernel::KernelStep;
+
+/// How many items a script has, or why it is refused.
+fn count_of(alloc: Global, bytes: &[u8]) -> Result<usize, SessionError> {
+    let script = parse_script(alloc, bytes)?;
+    Ok(script.items().len())
+}
+
+const FIRST_PACKET: &str =
+    "device k0 1 6 3 1 1201000200000040aaaabbbb0001000000010902200001010080320904000002ff0000000705810240000007050202400000\nopen d0 1 6\nclaim d0 0 i0\nendpoint e0 i0 81 bulk-in\nsubmitin e0 64\npoll e0\n! pkt k0 81 010203\npoll e0\n! reap 0\npoll e0\n";
+
+#[test]
+fn counts_items_or_names_the_line(rt: HostRuntime) {
+    let malformed = |line| Err(SessionError::Malformed { line });
+    let table: [(&str, Result<usize, SessionError>); 58] = [
+        (FIRST_PACKET, Ok(10)),
+        ("", Ok(0)),
+        ("open d0 1", malformed(1)),
+        ("! pkt k0 81 01 ; pkt k0 81 0203 ; reap 1", Ok(1)),
+        ("poll e0\npoll e0", Ok(2)),
+        ("  poll   e0  \n", Ok(1)),
+        ("poll\te0\n", malformed(1)),
+        ("poll e0\r\n", Ok(1)),
+        ("poll e0\r", Ok(1)),
+        ("poll e0\r\r\n", malformed(1)),
+        ("poll\r e0\n", malformed(1)),
+        ("\r\n", Ok(0)),
+        ("\r\r\n", malformed(1)),
+        ("poll e0\n\nx", malformed(3)),
+        ("poll e0\n   \nx", malformed(3)),
+        ("# poll\n  # \t poll\r\r\nx", malformed(3)),
+        ("poll e0 # comment\n", malformed(1)),
+        ("\t# comment\n", malformed(1)),
+        ("\topen d0 1 6\n", malformed(1)),
+        ("# first\ndevice k0 1 1 3 1 -\n\ndevice k1 1 2 3 1 -", Ok(2)),
+        ("devdesc d63", Ok(1)),
+        ("devdesc d64", malformed(1)),
+        ("descriptors d0 0", malformed(1)),
+        ("poll e0\npoll e0\npoll x0\npoll x0\n", malformed(3)),
+        ("poll e63", Ok(1)),
+        ("poll e64", malformed(1)),
+        ("poll e00", malformed(1)),
+        ("poll e07", malformed(1)),
+        ("poll e", malformed(1)),
+        ("poll e0 e0", malformed(1)),
+        ("Poll e0", malformed(1)),
+        ("submitin e0 65536", Ok(1)),
+        ("submitin e0 65537", malformed(1)),
+        ("submitin e0 0000000000000065536", Ok(1)),
+        ("submitin e0 00000000000000000001", malformed(1)),
+        ("submitin e0 +1", malformed(1)),
+        ("open d0 255 000", Ok(1)),
+        ("open d0 256 0", malformed(1)),
+        ("claim d63 255 i63", Ok(1)),
+        ("endpoint e0 i0 fF bulk-in", Ok(1)),
+        ("endpoint e0 i0 8 bulk-in", malformed(1)),
+        ("endpoint e0 i0 081 bulk-in", malformed(1)),
+        ("endpoint e0 i0 81 bulk-out", malformed(1)),
+        ("device k0 1 1 3 1 -", Ok(1)),
+        ("device k0 1 1 3 1 0aF", malformed(1)),
+        ("device k0 1 1 3 1 0g", malformed(1)),
+        ("device k0 1 1 3 1 -\ndevice k1 1 2 3 1 -", Ok(2)),
+        ("device k0 1 1 3 1 -\ndevice k0 1 2 3 1 -", malformed(2)),
+        ("device k0 1 1 3 1 -\ndevice k1 1 1 3 1 -", malformed(2)),
+        ("poll e0\ndevice k0 1 1 3 1 -", malformed(2)),
+        ("! reap 0\ndevice k0 1 1 3 1 -", malformed(2)),
+        ("! pkt k63 81 -", Ok(1)),
+        ("! reap 4294967295", Ok(1)),
+        ("! reap 4294967296", malformed(1)),
+        ("! reap", malformed(1)),
+        ("!", malformed(1)),
+        ("! reap 0 ;", malformed(1)),
+        ("! reap 0 ; ; reap 1", malformed(1)),
+    ];
+    for (text, want) in table {
+        assert_eq!(rt; count_of(rt.alloc(), text.as_bytes()), want, "{text}");
+    }
+}
+
+#[test]
+fn takes_scripts_and_byte_words_up_to_their_limits(rt: HostRuntime) -> Result<(), Fail> {
+    let mut script = b"poll e0".to_vec(rt.alloc())?;
+    script.resize(MAX_SCRIPT, b' ')?;
+    assert_eq!(rt; count_of(rt.alloc(), script.as_slice()), Ok(1));
+    script.push(b' ')?;
+    assert_eq!(rt;
+        count_of(rt.alloc(), script.as_slice()),
+        Err(SessionError::TooLong)
+    );
+
+    let mut comments = Vec::new(rt.alloc());
+    for _ in 0..MAX_SCRIPT / 8 {
+        comments.extend_from_slice(b"# \xff\0 #\r\n")?;
+    }
+    assert_eq!(rt; comments.len(), MAX_SCRIPT);
+    assert_eq!(rt; count_of(rt.alloc(), comments.as_slice()), Ok(0));
+    comments.push(b'\n')?;
+    assert_eq!(rt;
+        count_of(rt.alloc(), comments.as_slice()),
+        Err(SessionError::TooLong)
+    );
+
+    let mut line = b"! pkt k0 81 ".to_vec(rt.alloc())?;
+    let len = line.len();
+    line.resize(len + 131072, b'7')?;
+    assert_eq!(rt; count_of(rt.alloc(), line.as_slice()), Ok(1));
+    line.extend_from_slice(b"77")?;
+    assert_eq!(rt;
+        count_of(rt.alloc(), line.as_slice()),
+        Err(SessionError::Malformed { line: 1 })
+    );
+    Ok(())
+}
+
+const EACH_LINE: &str =
+    "device k1 2 3 4 5 0aFf\nopen d6 7 8\ndevdesc d8\ndescriptors d9\nclaim d9 10 i11\nendpoint e12 i13 8e bulk-in\nsubmitin e15 16\npoll e17\n! pkt k18 93 14 ; reap 15\n";
+
+#[test]
+fn reads_the_words_of_each_line(rt: HostRuntime) -> Result<(), Fail> {
+    let script = parse_script(rt.alloc(), EACH_LINE.as_bytes())?;
+    assert_eq!(rt; script.step_count(), 2);
+    let mut texts = Vec::new(rt.alloc());
+    for item in script.items() {
+        texts.push(text_of(rt.alloc(), item)?)?;
+    }
+    let want = [
+        "device 1 2 3 4 5 [10, 255]",
+        "open 6 7 8",
+        "devdesc 8",
+        "descriptors 9",
+        "claim 9 10 11",
+        "endpoint 12 13 142 Bulk In",
+        "submitin 15 16",
+        "poll 17",
+        "steps 2",
+    ];
+    assert_eq!(rt; texts.len(), want.len());
+    for (text, want) in texts.iter().zip(want) {
+        assert_eq!(rt; text.as_str(), want);
+    }
+    Ok(())
+}
+
+/// The fields of an item, as text.
+fn text_of(alloc: Global, item: &Item) -> Result<String, Fail> {
+    let text = match item {
+        Item::Device {
+            device,
+            bus,
+            address,
+            speed,
+            configuration,
+            descriptors,
+        } => {
+            let bytes = descriptors.as_slice();
+            format!(in alloc; "device {device} {bus} {address} {speed} {configuration} {bytes:?}")?
+        }
+        Item::Open {
+            device,
+            bus,
+            address,
+        } => format!(in alloc; "open {device} {bus} {address}")?,
+        Item::DeviceDescriptor { device } => format!(in alloc; "devdesc {device}")?,
+        Item::Descriptors { device } => format!(in alloc; "descriptors {device}")?,
+        Item::Claim {
+            device,
+            number,
+            interface,
+        } => format!(in alloc; "claim {device} {number} {interface}")?,
+        Item::Endpoint {
+            endpoint,
+            interface,
+            address,
+            transfer_type,
+            direction,
+        } => format!(in alloc;
+            "endpoint {endpoint} {interface} {address} {transfer_type:?} {direction:?}"
+        )?,
+        Item::SubmitIn { endpoint, length } => format!(in alloc; "submitin {endpoint} {length}")?,
+        Item::Poll { endpoint } => format!(in alloc; "poll {endpoint}")?,
+        Item::Steps(steps) => {
+            let count = steps.as_slice().len();
+            format!(in alloc; "steps {count}")?
+        }
+    };
+    Ok(text)
+}
+
+#[test]
+fn reads_the_words_of_each_step(rt: HostRuntime) -> Result<(), Fail> {
+    let script = parse_script(rt.alloc(), "! pkt k18 93 1415 ; reap 15".as_bytes())?;
+    let [item] = script.items() else {
+        panic!(rt; "one item");
+    };
+    let Item::Steps(steps) = item else {
+        panic!(rt; "steps");
+    };
+    match steps.as_slice() {
+        [
+            KernelStep::Packet {
+                device,
+                endpoint,
+                bytes,
+            },
+            KernelStep::Reap { ticket },
+        ] => {
+            assert_eq!(rt; (*device, *endpoint), (18, 0x93));
+            assert_eq!(rt; bytes.as_slice(), [0x14, 0x15].as_slice());
+            assert_eq!(rt; *ticket, Some(15));
+        }
+        _ => panic!(rt; "a packet and a reap"),
+    }
+    Ok(())
+}
+
+#[test]
+fn tells_setup_lines_from_calls(rt: HostRuntime) -> Result<(), Fail> {
+    let script = parse_script(rt.alloc(), EACH_LINE.as_bytes())?;
+    let kinds = [
+        (true, false),
+        (false, true),
+        (false, true),
+        (false, true),
+        (false, true),
+        (false, true),
+        (false, true),
+        (false, true),
+        (false, false),
+    ];
+    assert_eq!(rt; script.items().len(), kinds.len());
+    for (item, kind) in script.items().iter().zip(kinds) {
+        assert_eq!(rt; (item.is_setup(), item.is_call()), kind);
+    }
+    Ok(())
+}
+
+#[test]
+fn prints_each_error(rt: HostRuntime) -> Result<(), Fail> {
+    let table = [
+        (SessionError::Malformed { line: 17 }, "malformed line 17"),
+        (SessionError::TooLong, "script too long"),
+        (SessionError::ReadFault, "read fault"),
+        (SessionError::WriteFault, "write fault"),
+        (SessionError::Memory, "out of memory"),
+    ];
+    for (error, want) in table {
+        let text = format!(in rt.alloc(); "{error}")?;
+        assert_eq!(rt; text.as_str(), want);
+    }
+    Ok(())
+}
