@@ -1,0 +1,6 @@
+pub mod Words
+pub mod Calls
+pub mod Completions
+pub mod Tickets
+pub mod Devices
+pub mod Descriptors

@@ -1,0 +1,15 @@
+//! The printed lines of a session: answers of calls, and fates of tickets.
+#![tactic(auto)]
+
+mod calls;
+mod completions;
+mod descriptors;
+mod devices;
+mod tickets;
+mod words;
+
+pub use calls::{condition_line, tried_line};
+pub use completions::polled_line;
+pub use descriptors::descriptors_line;
+pub use devices::device_line;
+pub use tickets::ticket_line;
