@@ -1,0 +1,16 @@
+pub mod KernelLemmas
+pub mod SlotLemmas
+pub mod Relates
+pub mod Polls
+pub mod PastLemmas
+pub mod Whole
+pub mod Submits
+pub mod EndLemmas
+pub mod ClaimLemmas
+pub mod OpenLemmas
+pub mod AnswerLemmas
+pub mod AskLemmas
+pub mod FateLemmas
+pub mod RunLemmas
+pub mod SumLemmas
+pub mod WorkedOutput

@@ -1,0 +1,17 @@
+pub mod Slots
+pub mod Names
+pub mod HostState
+pub mod State
+pub mod Relation
+pub mod Tried
+pub mod Opens
+pub mod Claims
+pub mod Endpoints
+pub mod Submits
+pub mod Polls
+pub mod Steps
+pub mod Ends
+pub mod Answers
+pub mod Fates
+pub mod Output
+pub mod Sums

@@ -1,0 +1,37 @@
+//! `devdesc` and `descriptors`: what an open device told of itself.
+
+ghost use Rattle.std.specs.Prelude.{IfOk, string_bytes};
+ghost use Rattle.usb_answers.specs.State.{State};
+ghost use Rattle.usb_answers.specs.Answers.{Answered, device_descriptor_answer, descriptors_answer};
+ghost use Rattle.usb_answers.specs.Relation.{Represents};
+
+use crate::session::Session;
+use std::alloc::Global;
+use usb_desc::NoMemory;
+use usb_lines::{condition_line, descriptors_line, device_line};
+
+impl Session {
+    /// The device descriptor of an open device.
+    pub fn device_descriptor_line(&self, alloc: Global, name: u8) -> Result<String, NoMemory>
+        ensures answered { IfOk result (λ line. (state : State) → Represents self.now state → Answered self.now (string_bytes line) (device_descriptor_answer state name)) }
+    {
+        let Some(opened) = self.host.opened(name) else {
+            let line = condition_line(alloc)?;
+            return Ok(line);
+        };
+        let line = device_line(alloc, &opened.device_descriptor)?;
+        Ok(line)
+    }
+
+    /// The configurations of an open device, with their interfaces and endpoints.
+    pub fn descriptors_line(&self, alloc: Global, name: u8) -> Result<String, NoMemory>
+        ensures answered { IfOk result (λ line. (state : State) → Represents self.now state → Answered self.now (string_bytes line) (descriptors_answer state name)) }
+    {
+        let Some(opened) = self.host.opened(name) else {
+            let line = condition_line(alloc)?;
+            return Ok(line);
+        };
+        let line = descriptors_line(alloc, opened.descriptors.as_slice())?;
+        Ok(line)
+    }
+}
