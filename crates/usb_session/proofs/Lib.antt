@@ -1,0 +1,4 @@
+pub mod MemoryLemmas
+pub mod OutsideLemmas
+pub mod RunLemmas
+pub mod SessionLemmas

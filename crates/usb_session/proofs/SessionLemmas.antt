@@ -1,0 +1,76 @@
+-- Why a session fails.
+use Rattle.std.proofs.Common.{◌≡◌, count_by, ℕ, ◌+◌, ◌<◌, ◌≤◌, List, length, Ok, Err, Some, None, ap, sym, ◌∙◌, refl, arith, length-append, inl, Result, ltb, false}
+use Rattle.std.specs.declared.option.Option.{Option}
+use Rattle.std.specs.Io.KnownBytes.{Consumes, Keeps}
+use Rattle.std.proofs.lemmas.Bool.Decides.{nat_tests}
+use Rattle.usb_script.specs.declared.item.Item.{Item}
+use Rattle.usb_script.specs.declared.error.SessionError.{SessionError}
+use Rattle.usb_script.specs.declared.error.SessionError.TheVariants.{Malformed, TooLong, ReadFault, WriteFault, Memory}
+use Rattle.usb_script.specs.Parse.{script_of, parse, or_malformed}
+use Rattle.usb_script.specs.Outcome.{OrMemory}
+use Rattle.usb_session.specs.Causes.{ReadWhole}
+use Rattle.usb_script.specs.ItemKinds.{is_call}
+use Rattle.usb_answers.specs.declared.summary.Summary.{Summary}
+use Rattle.usb_answers.specs.Output.{final_state}
+use Rattle.usb_answers.proofs.SumLemmas.{one_end_each}
+use Rattle.usb_session.specs.Session.{Seen, IsAnswered, HasReason, IsSmooth}
+use Rattle.usb_session.proofs.OutsideLemmas.{ReadWhole-known}
+
+long_is_refused : (bytes : List ℕ) → 1048576 < length bytes → script_of bytes ≡ Err TooLong
+unfolding script_of
+long_is_refused bytes long = grind (arith, nat_tests)
+
+took_of_known : (old new : Option (List ℕ)) (bytes taken : List ℕ) → old ≡ Some bytes → Consumes old new taken → length taken ≤ length bytes
+took_of_known None new bytes taken e t = cc
+took_of_known (Some xs) None bytes taken e t = absurd t
+took_of_known (Some xs) (Some ys) bytes taken e t =
+    let same : xs ≡ bytes = cc in
+    let whole : length xs ≡ length taken + length ys = ap length t ∙ length-append taken ys in
+    let long : length xs ≡ length bytes = ap length same in omega arith
+
+whole_of_known : (old new : Option (List ℕ)) (bytes read : List ℕ) → old ≡ Some bytes → ReadWhole old new read → bytes ≡ read
+whole_of_known None new bytes read e r = cc
+whole_of_known (Some xs) new bytes read e r =
+    let same : xs ≡ bytes = cc in sym same ∙ ReadWhole-known xs read new r
+
+-- where nothing fails, want of memory is the only error
+pub memory_alone : (s : Seen) (e : SessionError) → HasReason s e → IsSmooth s → e ≡ Memory
+memory_alone s (Malformed line) reason smooth =
+    let same = whole_of_known s.left s.left' smooth.bytes reason.0.bytes smooth.known reason.0.read in
+    let here : script_of smooth.bytes ≡ Err (Malformed line) = ap script_of same ∙ reason.0.parsed in
+    let valid = smooth.valid in cc
+memory_alone s TooLong reason smooth =
+    let less = took_of_known s.left s.left' smooth.bytes reason.0.bytes smooth.known reason.0.taken in
+    let count = reason.0.count in
+    let here : script_of smooth.bytes ≡ Err TooLong = long_is_refused smooth.bytes (omega arith) in
+    let valid = smooth.valid in cc
+memory_alone s ReadFault reason smooth = absurd (smooth.reads reason.0)
+memory_alone s WriteFault reason smooth = absurd (smooth.writes reason.0)
+memory_alone s Memory reason smooth = refl
+
+pub Keeps_self : (o : Option (List ℕ)) → Keeps o o
+Keeps_self None = tt
+Keeps_self (Some xs) = refl
+
+only_malformed : (r : Result (List Item) ℕ) (e : SessionError) → or_malformed r ≡ Err e → (line : ℕ) × (e ≡ Malformed line)
+only_malformed (Ok items) e same = cc
+only_malformed (Err line) e same = (line, cc)
+
+small_is_malformed : (bytes : List ℕ) (e : SessionError) → length bytes < 1048577 → script_of bytes ≡ Err e → (line : ℕ) × (e ≡ Malformed line)
+unfolding script_of
+small_is_malformed bytes e few same =
+    let small : ltb 1048576 (length bytes) ≡ false = grind (arith, nat_tests) in
+    only_malformed (parse bytes) e (rw small at same)
+
+-- what was read doesn't parse
+pub parsing_reason : (s : Seen) (e : SessionError) (bytes : List ℕ) → ReadWhole s.left s.left' bytes → length bytes < 1048577 → OrMemory {X = List Item} (Err e) (script_of bytes) → Keeps s.written s.written' → HasReason s e
+parsing_reason s (Malformed line) bytes read few parsed kept = (record { bytes = bytes; read = read; parsed = parsed }, kept)
+parsing_reason s TooLong bytes read few parsed kept = let m = small_is_malformed bytes TooLong few parsed in let e = m.1 in cc
+parsing_reason s ReadFault bytes read few parsed kept = let m = small_is_malformed bytes ReadFault few parsed in let e = m.1 in cc
+parsing_reason s WriteFault bytes read few parsed kept = let m = small_is_malformed bytes WriteFault few parsed in let e = m.1 in cc
+parsing_reason s Memory bytes read few parsed kept = inl kept
+
+-- each ticket of an answered script has one end
+pub answered-ends : (s : Seen) (summary : Summary) → IsAnswered s summary → summary.taken + summary.dropped + summary.reclaimed ≡ summary.tickets
+answered-ends s summary answered =
+    rw answered.summed (one_end_each (count_by is_call answered.items) (final_state answered.items))

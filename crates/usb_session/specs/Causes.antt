@@ -1,0 +1,61 @@
+-- What a call leaves behind at its source and its sink, and why it failed.
+use Rattle.std.specs.Prelude.{ℕ, ◌≡◌, ◌+◌, ◌-◌, ◌^◌, ◌≤◌, min, List, ◌++◌, length, OnErr}
+use Rattle.std.specs.declared.option.Option.{Option}
+use Rattle.std.specs.declared.result.Result.{Result}
+use Rattle.std.specs.Io.KnownBytes.{Appends, Consumes, IsAtEnd}
+use Rattle.usb_script.specs.declared.error.SessionError.{SessionError}
+use Rattle.usb_script.specs.declared.error.SessionError.TheVariants.{Malformed, TooLong, ReadFault, WriteFault, Memory}
+
+-- a count of faults rose, or stands at the greatest `u64`
+abbrev pub Rose : ℕ → ℕ → Type 0
+Rose before now = min (before + 1) (2 ^ 64 - 1) ≤ now
+
+-- a count of faults never falls, and a failure raises it
+pub record HasCause {T E : Type 0} (before now : ℕ) (result : Result T E) : Type 0 where
+  pub later : before ≤ now
+  pub failed : OnErr result (Rose before now)
+
+-- the bytes written so far, and those that are left, make the whole
+pub record Wrote (old new : Option (List ℕ)) (whole left : List ℕ) : Type 0 where
+  pub done : List ℕ
+  pub appended : Appends old new done
+  pub complete : done ++ left ≡ whole
+
+-- a prefix of the whole was written
+abbrev pub WrotePrefix : Option (List ℕ) → Option (List ℕ) → List ℕ → Type 0
+WrotePrefix old new whole = (left : List ℕ) × Wrote old new whole left
+
+-- these bytes were read, to the end of the source
+pub record ReadWhole (old new : Option (List ℕ)) (bytes : List ℕ) : Type 0 where
+  pub taken : Consumes old new bytes
+  pub end : IsAtEnd new
+
+-- more bytes than a script has were read
+pub record TookTooMany (old new : Option (List ℕ)) : Type 0 where
+  pub bytes : List ℕ
+  pub taken : Consumes old new bytes
+  pub count : length bytes ≡ 1048577
+
+-- a piece was read, and appended to what was read before
+pub record ReadPiece (old new : Option (List ℕ)) (before after : List ℕ) (room : ℕ) : Type 0 where
+  pub piece : List ℕ
+  pub taken : Consumes old new piece
+  pub appended : after ≡ before ++ piece
+  pub fits : length piece ≤ room
+  pub end : length piece ≡ 0 → IsAtEnd new
+
+-- what reading a script may answer
+abbrev pub IsReadingError : SessionError → Type 0
+IsReadingError ReadFault = Unit {0}
+IsReadingError TooLong = Unit {0}
+IsReadingError Memory = Unit {0}
+IsReadingError WriteFault = ⊥
+IsReadingError (Malformed line) = ⊥
+
+-- what writing answers may answer
+abbrev pub IsWritingError : SessionError → Type 0
+IsWritingError WriteFault = Unit {0}
+IsWritingError Memory = Unit {0}
+IsWritingError TooLong = ⊥
+IsWritingError ReadFault = ⊥
+IsWritingError (Malformed line) = ⊥

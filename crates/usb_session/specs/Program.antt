@@ -1,0 +1,60 @@
+-- What the program answers to its words.
+use Rattle.std.specs.Prelude.{ℕ, ◌≡◌, ◌⊎◌, Bool, true, false, List, [], ◌∷◌, ◌++◌, codes, Result, Ok, Err}
+use Rattle.std.specs.Fmt.{decimal}
+use Rattle.std.specs.Str.{bytes_eq}
+use Rattle.std.specs.declared.option.Option.{Option}
+use Rattle.std.specs.Io.KnownBytes.{Appends}
+use Rattle.usb_script.specs.declared.error.SessionError.{SessionError}
+use Rattle.usb_script.specs.declared.error.SessionError.TheVariants.{Malformed, TooLong, ReadFault, WriteFault, Memory}
+use Rattle.usb_session.specs.Causes.{Rose, WrotePrefix}
+use Rattle.usb_session.specs.Session.{Seen, IsAnswered, HasReason}
+use Rattle.usb_answers.specs.declared.summary.Summary.{Summary}
+
+-- whether the words ask for a session: there are none, or there is `session` alone
+abbrev pub is_session : List (List ℕ) → Bool
+is_session [] = true
+is_session (word ∷ []) = bytes_eq word (codes "session")
+is_session (word ∷ next ∷ words) = false
+
+abbrev pub error_status : SessionError → ℕ
+error_status (Malformed line) = 3
+error_status TooLong = 4
+error_status ReadFault = 5
+error_status WriteFault = 6
+error_status Memory = 7
+
+-- the status of a session
+abbrev pub status_of : Result Summary SessionError → ℕ
+status_of (Ok summary) = 0
+status_of (Err e) = error_status e
+
+abbrev pub error_line : SessionError → List ℕ
+error_line (Malformed line) = codes "nusb_sim: malformed line " ++ (decimal line ++ codes "\n")
+error_line TooLong = codes "nusb_sim: script too long\n"
+error_line ReadFault = codes "nusb_sim: read fault\n"
+error_line WriteFault = codes "nusb_sim: write fault\n"
+error_line Memory = codes "nusb_sim: out of memory\n"
+
+-- the line that a session's answer is reported by, which is empty where it is Ok
+abbrev pub report_of : Result Summary SessionError → List ℕ
+report_of (Ok summary) = []
+report_of (Err e) = error_line e
+
+abbrev pub usage_line : List ℕ
+usage_line = codes "usage: nusb_sim [session|generate N|live N]\n"
+
+-- the line was written, or a prefix of it where the count of faults rose
+abbrev pub Reports : Option (List ℕ) → Option (List ℕ) → ℕ → ℕ → List ℕ → Type 0
+Reports old new before now line = Appends old new line ⊎ (Rose before now × WrotePrefix old new line)
+
+-- a session that gave this answer
+abbrev pub IsSession : Seen → Result Summary SessionError → Type 0
+IsSession s (Ok summary) = IsAnswered s summary
+IsSession s (Err e) = HasReason s e
+
+-- what the call with words for a session answers
+pub record RunsSession (s : Seen) (told told' : Option (List ℕ)) (faults faults' status : ℕ) : Type 0 where
+  pub answer : Result Summary SessionError
+  pub session : IsSession s answer
+  pub status_is : status ≡ status_of answer
+  pub report : Reports told told' faults faults' (report_of answer)

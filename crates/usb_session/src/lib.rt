@@ -1,0 +1,20 @@
+//! A session: reads a script, answers it and writes the answers.
+#![tactic(auto)]
+
+mod memory;
+mod outside;
+mod program;
+mod reading;
+mod run;
+mod standard;
+mod sure;
+mod writing;
+
+pub use memory::{MemSink, MemSource};
+pub use outside::{Failed, Sink, Source};
+pub use program::run_program;
+pub use run::run_session;
+pub use standard::{StdSink, StdSource};
+pub use sure::{SureSink, SureSource};
+pub use usb_answers::Summary;
+pub use usb_script::{Item, Script, SessionError, parse_script};

@@ -1,0 +1,146 @@
+//! A source and a sink in memory, for tests.
+
+ghost use Rattle.std.specs.Prelude.{◌≡◌, ◌<◌, ◌↔◌, ◌⊎◌, [], length, Some, IfOk, IsErr, Contains};
+ghost use Rattle.std.specs.Io.{ReadsAtMost, WritesAtMost};
+ghost use Rattle.std.specs.Io.KnownBytes.{ReadConsumes, WriteAppends};
+ghost use Rattle.usb_session.specs.Causes.{HasCause};
+ghost use Rattle.usb_session.specs.Memory.{next_call};
+
+use crate::outside::{Failed, Sink, Source};
+use std::alloc::Global;
+use std::marker::Model;
+use usb_desc::NoMemory;
+
+/// Bytes to be read. The calls with these numbers, counted from 1, fail.
+#[derive(Debug, Drop)]
+pub struct MemSource {
+    bytes: Vec<u8>,
+    at: usize,
+    calls: u64,
+    fail_at: Vec<u64>,
+    faults: u64,
+}
+
+impl Model for MemSource {
+    ghost use Rattle.std.specs.Prelude.{drop, ◌≤◌, vec_len};
+    ghost use Rattle.usb_session.specs.Memory.{Input};
+
+    ghost Value = { Input };
+
+    ghost view = { λ s. record { rest = drop s.at s.bytes.items; calls = s.calls; fail_at = s.fail_at.items; faults = s.faults } };
+
+    ghost invariant = { λ s. s.at ≤ vec_len s.bytes };
+}
+
+impl MemSource {
+    pub fn new(bytes: Vec<u8>, fail_at: Vec<u64>) -> MemSource
+        ensures fresh { result ≡ record { rest = bytes.items; calls = 0; fail_at = fail_at.items; faults = 0 } }
+    {
+        MemSource {
+            bytes,
+            at: 0,
+            calls: 0,
+            fail_at,
+            faults: 0,
+        }
+    }
+}
+
+impl Source for MemSource {
+    ghost left = { λ s. Some s.rest };
+
+    ghost faults = { λ s. s.faults };
+
+    // It fails exactly at the calls that were named.
+    fn read(&mut self, buf: &mut [u8]) -> Result<usize, Failed>
+        ensures bound { ReadsAtMost result buf.new }
+        ensures bytes { ReadConsumes (Some self.old.rest) (Some self.new.rest) result buf.new }
+        ensures cause { HasCause self.old.faults self.new.faults result }
+        ensures calls { self.new.calls ≡ next_call self.old.calls }
+        ensures schedule { self.new.fail_at ≡ self.old.fail_at }
+        ensures fails { IsErr result ↔ Contains self.old.fail_at self.new.calls }
+    {
+        self.calls = self.calls.saturating_add(1);
+        if self.fail_at.contains(&self.calls) {
+            self.faults = self.faults.saturating_add(1);
+            return Err(Failed);
+        }
+        let rest = &self.bytes[self.at..];
+        let len = rest.len().min(buf.len());
+        buf[..len].copy_from_slice(&rest[..len]);
+        self.at += len;
+        Ok(len)
+    }
+}
+
+/// Takes bytes while it has room. The calls with these numbers, counted from 1, fail.
+#[derive(Debug, Drop)]
+pub struct MemSink {
+    bytes: Vec<u8>,
+    room: usize,
+    calls: u64,
+    fail_at: Vec<u64>,
+    faults: u64,
+}
+
+impl Model for MemSink {
+    ghost use Rattle.std.specs.Prelude.{◌≤◌, vec_len, vec_capacity};
+    ghost use Rattle.usb_session.specs.Memory.{Output};
+
+    ghost Value = { Output };
+
+    ghost view = { λ s. record { bytes = s.bytes.items; room = s.room; calls = s.calls; fail_at = s.fail_at.items; faults = s.faults } };
+
+    ghost invariant = { λ s. (vec_len s.bytes ≤ s.room) × (s.room ≤ vec_capacity s.bytes) };
+}
+
+impl MemSink {
+    pub fn new(alloc: Global, room: usize, fail_at: Vec<u64>) -> Result<MemSink, NoMemory>
+        ensures empty { IfOk result (λ s. s ≡ record { bytes = []; room = room; calls = 0; fail_at = fail_at.items; faults = 0 }) }
+    {
+        let Ok(bytes) = Vec::with_capacity(alloc, room) else {
+            return Err(NoMemory);
+        };
+        Ok(MemSink {
+            bytes,
+            room,
+            calls: 0,
+            fail_at,
+            faults: 0,
+        })
+    }
+
+    pub fn bytes(&self) -> &[u8]
+        ensures value { result.now ≡ self.now.bytes }
+    {
+        self.bytes.as_slice()
+    }
+}
+
+impl Sink for MemSink {
+    ghost written = { λ s. Some s.bytes };
+
+    ghost faults = { λ s. s.faults };
+
+    // It fails exactly at the calls that were named, and where the room is used up.
+    fn write(&mut self, bytes: &[u8]) -> Result<usize, Failed>
+        ensures bound { WritesAtMost result bytes.now }
+        ensures some { 0 < length bytes.now → IfOk result (λ n. 0 < n) }
+        ensures bytes { WriteAppends (Some self.old.bytes) (Some self.new.bytes) result bytes.now }
+        ensures cause { HasCause self.old.faults self.new.faults result }
+        ensures calls { self.new.calls ≡ next_call self.old.calls }
+        ensures schedule { (self.new.fail_at ≡ self.old.fail_at) × (self.new.room ≡ self.old.room) }
+        ensures fails { IsErr result ↔ (Contains self.old.fail_at self.new.calls ⊎ ((length self.old.bytes ≡ self.old.room) × (0 < length bytes.now))) }
+    {
+        self.calls = self.calls.saturating_add(1);
+        let free = self.room - self.bytes.len();
+        let is_full = free == 0 && !bytes.is_empty();
+        if is_full || self.fail_at.contains(&self.calls) {
+            self.faults = self.faults.saturating_add(1);
+            return Err(Failed);
+        }
+        let len = free.min(bytes.len());
+        self.bytes.extend_from_slice(&bytes[..len]).unwrap();
+        Ok(len)
+    }
+}

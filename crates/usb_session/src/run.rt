@@ -1,0 +1,126 @@
+//! A whole session.
+
+ghost use Rattle.std.specs.Prelude.{◌≡◌, ◌≤◌, ◌<◌, ◌+◌, length, IfOk, IfErr, OnOk, OnErr, IsErrOf};
+ghost use Rattle.std.specs.List.{All};
+ghost use Rattle.std.specs.Io.KnownBytes.{Appends};
+ghost use Rattle.usb_script.specs.declared.item.Item.{Item};
+ghost use Rattle.usb_script.specs.ItemKinds.{step_count};
+ghost use Rattle.usb_script.specs.ScriptFacts.{IsBounded};
+ghost use Rattle.usb_answers.specs.Fates.{fate_lines};
+ghost use Rattle.usb_answers.specs.Output.{output};
+ghost use Rattle.usb_answers.specs.Sums.{sum_of};
+ghost use Rattle.usb_answers.specs.State.{State};
+ghost use Rattle.usb_answers.specs.Relation.{Holds};
+ghost use Rattle.usb_session.specs.Causes.{Rose, WrotePrefix, IsWritingError};
+ghost use Rattle.usb_session.specs.Session.{seen, IsAnswered, HasReason, IsLater, IsSmooth};
+
+use crate::outside::{Failed, Sink, Source};
+use crate::reading::read_script;
+use crate::writing::offer;
+use std::alloc::Global;
+use usb_answers::{Session, Summary};
+use usb_script::{Item, SessionError, parse_script};
+
+/// Writes a piece.
+fn write_piece<K: Sink>(sink: &mut K, bytes: &[u8]) -> Result<(), SessionError>
+    ensures ok { OnOk result (Appends (K.written sink.old) (K.written sink.new) bytes.now) }
+    ensures err { OnErr result (WrotePrefix (K.written sink.old) (K.written sink.new) bytes.now) }
+    ensures cause { OnErr result (Rose (K.faults sink.old) (K.faults sink.new)) }
+    ensures only { IfErr result (λ e. e ≡ SessionError.WriteFault) }
+    ensures later { K.faults sink.old ≤ K.faults sink.new }
+{
+    match offer(sink, bytes) {
+        Ok(()) => Ok(()),
+        Err(Failed) => Err(SessionError::WriteFault),
+    }
+}
+
+/// Writes the fate line of each ticket, by number.
+fn write_fates<K: Sink>(alloc: Global, session: &Session, sink: &mut K) -> Result<(), SessionError>
+    ensures ok { OnOk result ((state : State) → Holds session.now state → Appends (K.written sink.old) (K.written sink.new) (fate_lines state)) }
+    ensures err { OnErr result ((state : State) → Holds session.now state → WrotePrefix (K.written sink.old) (K.written sink.new) (fate_lines state)) }
+    ensures cause { IsErrOf result SessionError.WriteFault → Rose (K.faults sink.old) (K.faults sink.new) }
+    ensures only { IfErr result IsWritingError }
+    ensures later { K.faults sink.old ≤ K.faults sink.new }
+{
+    for ticket in 0..session.tickets() {
+        let line = session.fate_line(alloc, ticket)?;
+        write_piece(sink, line.as_bytes())?;
+    }
+    Ok(())
+}
+
+/// Answers each item in order, ends the session, and then writes the fate lines.
+fn answer_items<K: Sink>(
+    alloc: Global,
+    items: &[Item],
+    steps: usize,
+    sink: &mut K,
+) -> Result<Summary, SessionError>
+    requires bounded { IsBounded items.now }
+    requires steps { step_count items.now ≤ steps }
+    ensures ok { OnOk result (Appends (K.written sink.old) (K.written sink.new) (output items.now)) }
+    ensures summary { IfOk result (λ s. s ≡ sum_of items.now) }
+    ensures err { OnErr result (WrotePrefix (K.written sink.old) (K.written sink.new) (output items.now)) }
+    ensures cause { IsErrOf result SessionError.WriteFault → Rose (K.faults sink.old) (K.faults sink.new) }
+    ensures only { IfErr result IsWritingError }
+    ensures later { K.faults sink.old ≤ K.faults sink.new }
+{
+    let mut session = Session::new(alloc, items, steps)?;
+    let mut calls = 0u32;
+    for item in items {
+        let line = session.answer(alloc, item)?;
+        write_piece(sink, line.as_bytes())?;
+        if item.is_call() {
+            calls += 1;
+        }
+    }
+    session.end();
+    write_fates(alloc, &session, sink)?;
+    Ok(session.summary(calls))
+}
+
+/// Reads a script to its end, answers it, and writes the answers.
+fn answer_source<S: Source, K: Sink>(
+    alloc: Global,
+    source: &mut S,
+    sink: &mut K,
+) -> Result<Summary, SessionError>
+    ensures ok { IfOk result (IsAnswered (seen (S.left source.old) (S.left source.new) (S.faults source.old) (S.faults source.new)
+        (K.written sink.old) (K.written sink.new) (K.faults sink.old) (K.faults sink.new))) }
+    ensures err { IfErr result (HasReason (seen (S.left source.old) (S.left source.new) (S.faults source.old) (S.faults source.new)
+        (K.written sink.old) (K.written sink.new) (K.faults sink.old) (K.faults sink.new))) }
+    ensures later { IsLater (seen (S.left source.old) (S.left source.new) (S.faults source.old) (S.faults source.new)
+        (K.written sink.old) (K.written sink.new) (K.faults sink.old) (K.faults sink.new)) }
+{
+    let bytes = read_script(alloc, source)?;
+    let script = parse_script(alloc, bytes.as_slice())?;
+    answer_items(alloc, script.items(), script.step_count(), sink)
+}
+
+/// Reads a script to its end, at most 2^20 + 1 bytes, answers it, and writes the answers. Each line is offered to the
+/// sink in one piece, and again what the sink didn't take. Nothing is written before the whole script was read and
+/// parsed.
+///
+/// On `Ok` the sink got the whole output of the script, and the summary counts its calls and tickets. An `Err` says why:
+/// the script is malformed or too long, reading failed, writing failed (then a prefix of the output was written), or
+/// memory was wanting.
+pub fn run_session<S: Source, K: Sink>(
+    alloc: Global,
+    source: &mut S,
+    sink: &mut K,
+) -> Result<Summary, SessionError>
+    ensures ok { IfOk result (IsAnswered (seen (S.left source.old) (S.left source.new) (S.faults source.old) (S.faults source.new)
+        (K.written sink.old) (K.written sink.new) (K.faults sink.old) (K.faults sink.new))) }
+    ensures err { IfErr result (HasReason (seen (S.left source.old) (S.left source.new) (S.faults source.old) (S.faults source.new)
+        (K.written sink.old) (K.written sink.new) (K.faults sink.old) (K.faults sink.new))) }
+    ensures later { IsLater (seen (S.left source.old) (S.left source.new) (S.faults source.old) (S.faults source.new)
+        (K.written sink.old) (K.written sink.new) (K.faults sink.old) (K.faults sink.new)) }
+    // Each ticket was taken, dropped or reclaimed.
+    ensures ends { IfOk result (λ s. s.taken + s.dropped + s.reclaimed ≡ s.tickets) }
+    // A valid script is answered, unless memory runs out.
+    ensures complete { IsSmooth (seen (S.left source.old) (S.left source.new) (S.faults source.old) (S.faults source.new)
+        (K.written sink.old) (K.written sink.new) (K.faults sink.old) (K.faults sink.new)) → IfErr result (λ e. e ≡ SessionError.Memory) }
+{
+    answer_source(alloc, source, sink)
+}

@@ -1,0 +1,68 @@
+//! Standard input and output as a source and a sink.
+
+ghost use Rattle.std.specs.Prelude.{◌≡◌};
+
+use crate::outside::{Failed, Sink, Source};
+use std::io::{Read, Write};
+
+/// A reader that counts its faults.
+#[derive(Drop)]
+pub struct StdSource<R: Read> {
+    input: R,
+    faults: u64,
+}
+
+impl<R: Read> StdSource<R> {
+    pub fn new(input: R) -> StdSource<R>
+        ensures input { result.input ≡ input }
+    {
+        StdSource { input, faults: 0 }
+    }
+}
+
+impl<R: Read> Source for StdSource<R> {
+    ghost left = { λ s. R.remaining s.input };
+
+    ghost faults = { λ s. s.faults };
+
+    fn read(&mut self, buf: &mut [u8]) -> Result<usize, Failed> {
+        match self.input.read(buf) {
+            Ok(count) => Ok(count),
+            Err(_) => {
+                self.faults = self.faults.saturating_add(1);
+                Err(Failed)
+            }
+        }
+    }
+}
+
+/// A writer that counts its faults. Taking nothing of a piece is a fault.
+#[derive(Drop)]
+pub struct StdSink<W: Write> {
+    output: W,
+    faults: u64,
+}
+
+impl<W: Write> StdSink<W> {
+    pub fn new(output: W) -> StdSink<W>
+        ensures output { result.output ≡ output }
+    {
+        StdSink { output, faults: 0 }
+    }
+}
+
+impl<W: Write> Sink for StdSink<W> {
+    ghost written = { λ s. W.contents s.output };
+
+    ghost faults = { λ s. s.faults };
+
+    fn write(&mut self, bytes: &[u8]) -> Result<usize, Failed> {
+        match self.output.write(bytes) {
+            Ok(count) if 0 < count || bytes.is_empty() => Ok(count),
+            _ => {
+                self.faults = self.faults.saturating_add(1);
+                Err(Failed)
+            }
+        }
+    }
+}

@@ -1,0 +1,22 @@
+//! Writing to a sink.
+
+ghost use Rattle.std.specs.Prelude.{◌≡◌, OnOk, OnErr};
+ghost use Rattle.std.specs.Io.KnownBytes.{Appends};
+ghost use Rattle.usb_session.specs.Causes.{HasCause, WrotePrefix};
+
+use crate::outside::{Failed, Sink};
+
+/// Offers a piece to the sink, and again what it did not take.
+pub fn offer<K: Sink>(sink: &mut K, bytes: &[u8]) -> Result<(), Failed>
+    ensures ok { OnOk result (Appends (K.written sink.old) (K.written sink.new) bytes.now) }
+    ensures err { OnErr result (WrotePrefix (K.written sink.old) (K.written sink.new) bytes.now) }
+    ensures cause { HasCause (K.faults sink.old) (K.faults sink.new) result }
+{
+    let mut rest = bytes;
+    while !rest.is_empty() {
+        let count = sink.write(rest)?;
+        let (_, after) = rest.split_at(count);
+        rest = after;
+    }
+    Ok(())
+}
