@@ -1,0 +1,51 @@
+#!/usr/bin/env python3
+"""Writes a script of at most 2^20 bytes to standard output, in which nearly each line is a call.
+
+usage: bench/big_script.py polls|cycles|refused|descriptors
+
+polls        polls of an endpoint with nothing pending
+cycles       a transfer, its packet, its reap and its poll, again and again
+refused      transfers of an invalid length, until 64 are pending
+descriptors  the printed descriptors of one device, again and again: a walk of all its descriptors a line
+"""
+import sys
+
+LIMIT = 1 << 20
+DEVICE = (
+    "1201000200000040aaaabbbb000100000001"
+    "090220000101008032"
+    "0904000002ff000000"
+    "07058102400000"
+    "07050202400000"
+)
+HEAD = f"device k0 1 6 3 1 {DEVICE}\nopen d0 1 6\nclaim d0 0 i0\nendpoint e0 i0 81 bulk-in\n"
+
+
+def body(kind):
+    number = 0
+    while True:
+        if kind == "polls":
+            yield "poll e0\n"
+        elif kind == "cycles":
+            yield f"submitin e0 64\n! pkt k0 81 01 ; reap {number}\npoll e0\n"
+        elif kind == "refused":
+            yield "submitin e0 63\n"
+        elif kind == "descriptors":
+            yield "descriptors d0\n"
+        else:
+            sys.exit(__doc__)
+        number += 1
+
+
+def main():
+    kind = sys.argv[1] if len(sys.argv) == 2 else ""
+    size = len(HEAD)
+    sys.stdout.write(HEAD)
+    for lines in body(kind):
+        size += len(lines)
+        if size > LIMIT:
+            break
+        sys.stdout.write(lines)
+
+
+main()
