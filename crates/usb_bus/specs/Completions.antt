@@ -1,0 +1,15 @@
+-- The completion of a transfer, as its handle gets it.
+use Rattle.std.specs.Prelude.{ℕ, List, Option}
+use Rattle.std.specs.Option.{option_map}
+use Rattle.usb_xfer.specs.declared.transfer.Completion.{Completion}
+use Rattle.usb_xfer.specs.TransferStatus.{status_of}
+use Rattle.usb_kernel.specs.declared.event.Event.{Event}
+use Rattle.usb_kernel.specs.declared.submission.Done.{Done}
+use Rattle.usb_kernel.specs.Completions.{completion}
+
+abbrev pub completion_of : Done → Completion
+completion_of done = record { buffer = done.buffer; actual_len = done.count; status = status_of done.refused done.status }
+
+-- that of a ticket in a journal, where the ticket is reaped
+unfoldable pub transfer_completion : List Event → ℕ → Option Completion
+transfer_completion past t = option_map completion_of (completion past t)
