@@ -1,23 +1,25 @@
 -- What an event makes of the completions.
 use Rattle.std.proofs.Common.{◌≡◌, ◌≢◌, ℕ, ◌<◌, ◌≤◌, arith, List, [], ◌∷◌, length, Option, Some, None, true, false, cond, refl, ap, sym, ◌∙◌, slice_get}
-use Rattle.std.specs.Prelude.{is_some, nat_le, ◌&&◌, ◌==◌}
+use Rattle.std.specs.Prelude.{is_some, nat_le, nat_lt, ◌&&◌, ◌==◌}
 use Rattle.std.proofs.Common.{inl, inr}
 use Rattle.std.proofs.lemmas.Grind.{common_steps}
 use Rattle.std.proofs.lemmas.Bool.{cases_Bool, cases_eq, cases_lt, eq-eqb, ne_eqb}
 use Rattle.std.proofs.lemmas.Option.{slice_get_past, slice_get_within}
 use Rattle.usb_kernel.specs.declared.event.Event.{Event}
-use Rattle.usb_kernel.specs.declared.event.Event.TheVariants.{Submit, Packet, Discard, Reap}
+use Rattle.usb_kernel.specs.declared.event.Event.TheVariants.{Submit, Packet, Ack, Fail, Discard, Reap, Unplug}
 use Rattle.usb_kernel.specs.declared.event.Body.{Body}
+use Rattle.usb_kernel.specs.declared.devices.DeviceState.{DeviceState}
 use Rattle.usb_kernel.specs.declared.submission.Done.{Done}
 use Rattle.usb_kernel.specs.declared.submission.Submission.{Submission}
 use Rattle.usb_kernel.specs.declared.step.KernelStep.{KernelStep}
 use Rattle.usb_kernel.specs.declared.step.KernelStep.TheVariants as step
 use Rattle.usb_kernel.specs.Tickets.{Ticket, tickets}
-use Rattle.usb_kernel.specs.Fates.{Fate, fresh, with_packet, finish, reap}
+use Rattle.usb_kernel.specs.Fates.{Fate, fresh, with_packet, with_ack, finish, reap, unplug}
 use Rattle.usb_kernel.specs.Journal.{fate, oldest, at_ticket, at_oldest, change}
 use Rattle.usb_kernel.specs.Submissions.{refuse_event, refused_of}
 use Rattle.usb_kernel.specs.Completions.{refused_done, completion, completion_if, completion_for, completed, done_if, reapable}
-use Rattle.usb_kernel.specs.Steps.{after_packet, after_reap, after_discard, is_unfinished, stepped, step_done}
+use Rattle.usb_kernel.specs.Steps.{after_packet, after_ack, after_fail, after_unplug, after_reap, after_reap_of, reapable_of, reaped_by, after_discard, is_unfinished, stepped, step_done}
+use Rattle.usb_kernel.specs.Devices.{plugged_device}
 use Rattle.usb_kernel.proofs.Places.{slice_get-append_left, slice_get-append_seam}
 use Rattle.usb_kernel.proofs.Fresh.{fate-fresh}
 use Rattle.usb_kernel.proofs.Final.{reaped_is_final}
@@ -27,6 +29,12 @@ finish-reaped n f = grind (arith, common_steps)
 
 with_packet-reaped : (s : Ticket) (b : List ℕ) (f : Fate) → (with_packet s b f).reaped ≡ f.reaped
 with_packet-reaped s b f = grind (arith, common_steps)
+
+with_ack-reaped : (s : Ticket) (f : Fate) → (with_ack s f).reaped ≡ f.reaped
+with_ack-reaped s f = grind (arith, common_steps)
+
+unplug-reaped : (d : ℕ) (s : Ticket) (f : Fate) → (unplug d s f).reaped ≡ f.reaped
+unplug-reaped d s f = grind (arith, common_steps)
 
 change-reaped : (step : Ticket → Fate → Fate) (o : Option Ticket) (f : Fate) → ((s : Ticket) (g : Fate) → (step s g).reaped ≡ g.reaped) → (change step o f).reaped ≡ f.reaped
 change-reaped step None f same = refl
@@ -58,6 +66,21 @@ pub completion-packet : (past : List Event) (d e : ℕ) (b : List ℕ) (u : ℕ)
 completion-packet past d e b u =
     let here = completion-kept past (Packet d e b) u refl (at_oldest-reaped (oldest past d e) (λ s. with_packet s b) (tickets past) (fate past) u (λ s g. with_packet-reaped s b g)) in
     elim (nat_le 128 e && is_some (oldest past d e)) as (λ v. completion (cond v (Packet d e b ∷ past) past) u ≡ completion past u) [ true ↦ here | false ↦ refl ]
+
+pub completion-ack : (past : List Event) (d e : ℕ) (u : ℕ) → completion (after_ack past d e) u ≡ completion past u
+completion-ack past d e u =
+    let here = completion-kept past (Ack d e) u refl (at_oldest-reaped (oldest past d e) with_ack (tickets past) (fate past) u with_ack-reaped) in
+    elim (nat_lt e 128 && is_some (oldest past d e)) as (λ v. completion (cond v (Ack d e ∷ past) past) u ≡ completion past u) [ true ↦ here | false ↦ refl ]
+
+pub completion-fail : (past : List Event) (d e errno : ℕ) (u : ℕ) → completion (after_fail past d e errno) u ≡ completion past u
+completion-fail past d e errno u =
+    let here = completion-kept past (Fail d e errno) u refl (at_oldest-reaped (oldest past d e) (λ s. finish errno) (tickets past) (fate past) u (λ s g. finish-reaped errno g)) in
+    elim (is_some (oldest past d e)) as (λ v. completion (cond v (Fail d e errno ∷ past) past) u ≡ completion past u) [ true ↦ here | false ↦ refl ]
+
+pub completion-unplug : (devices : List DeviceState) (past : List Event) (d : ℕ) (u : ℕ) → completion (after_unplug devices past d) u ≡ completion past u
+completion-unplug devices past d u =
+    let here = completion-kept past (Unplug d) u refl (change-reaped (unplug d) (slice_get (tickets past) u) (fate past u) (unplug-reaped d)) in
+    elim (is_some (plugged_device devices d)) as (λ v. completion (cond v (Unplug d ∷ past) past) u ≡ completion past u) [ true ↦ here | false ↦ refl ]
 
 pub completion-discard : (past : List Event) (t : ℕ) (u : ℕ) → completion (after_discard past t) u ≡ completion past u
 completion-discard past t u =
@@ -92,11 +115,19 @@ completion-reap-at past t u (Some done) is =
 pub completion-reap : (past : List Event) (t : ℕ) (u : ℕ) → completion (after_reap past t) u ≡ completed (reapable past t) (completion past) u
 completion-reap past t u = completion-reap-at past t u (reapable past t) refl
 
+pub completion-reap_of : (past : List Event) (ticket : Option ℕ) (u : ℕ) → completion (after_reap_of past ticket) u ≡ completed (reapable_of past ticket) (completion past) u
+completion-reap_of past None u = refl
+completion-reap_of past (Some t) u = completion-reap past t u
+
 -- what a step makes of the completions
-pub completion-step : (past : List Event) (s : KernelStep) (u : ℕ) → completion (stepped past s) u ≡ completed (step_done past s) (completion past) u
-completion-step past (step.Packet d e b) u = completion-packet past d e b u
-completion-step past (step.Reap None) u = refl
-completion-step past (step.Reap (Some t)) u = completion-reap past t u
+pub completion-step : (devices : List DeviceState) (past : List Event) (s : KernelStep) (u : ℕ) → completion (stepped devices past s) u ≡ completed (step_done past s) (completion past) u
+completion-step devices past (step.Packet d e b) u = completion-packet past d e b u
+completion-step devices past (step.Ack d e) u = completion-ack past d e u
+completion-step devices past (step.Fail d e errno) u = completion-fail past d e errno u
+completion-step devices past (step.Unplug d) u = completion-unplug devices past d u
+completion-step devices past (step.Clock to) u = refl
+completion-step devices past (step.Reap ticket) u = completion-reap_of past (reaped_by past ticket) u
+completion-step devices past (step.Refuse d call errno) u = refl
 
 -- a step submits nothing
 pub tickets-reap : (past : List Event) (t : ℕ) → tickets (after_reap past t) ≡ tickets past
@@ -105,22 +136,33 @@ tickets-reap past t = elim (is_some (reapable past t)) as (λ v. tickets (cond v
 pub tickets-discard : (past : List Event) (t : ℕ) → tickets (after_discard past t) ≡ tickets past
 tickets-discard past t = elim (is_unfinished past t) as (λ v. tickets (cond v (Discard t ∷ past) past) ≡ tickets past) [ true ↦ refl | false ↦ refl ]
 
-pub tickets-step : (past : List Event) (s : KernelStep) → tickets (stepped past s) ≡ tickets past
-tickets-step past (step.Packet d e b) = elim (nat_le 128 e && is_some (oldest past d e)) as (λ v. tickets (cond v (Packet d e b ∷ past) past) ≡ tickets past) [ true ↦ refl | false ↦ refl ]
-tickets-step past (step.Reap None) = refl
-tickets-step past (step.Reap (Some t)) = tickets-reap past t
+pub tickets-reap_of : (past : List Event) (ticket : Option ℕ) → tickets (after_reap_of past ticket) ≡ tickets past
+tickets-reap_of past None = refl
+tickets-reap_of past (Some t) = tickets-reap past t
+
+pub tickets-step : (devices : List DeviceState) (past : List Event) (s : KernelStep) → tickets (stepped devices past s) ≡ tickets past
+tickets-step devices past (step.Packet d e b) = elim (nat_le 128 e && is_some (oldest past d e)) as (λ v. tickets (cond v (Packet d e b ∷ past) past) ≡ tickets past) [ true ↦ refl | false ↦ refl ]
+tickets-step devices past (step.Ack d e) = elim (nat_lt e 128 && is_some (oldest past d e)) as (λ v. tickets (cond v (Ack d e ∷ past) past) ≡ tickets past) [ true ↦ refl | false ↦ refl ]
+tickets-step devices past (step.Fail d e errno) = elim (is_some (oldest past d e)) as (λ v. tickets (cond v (Fail d e errno ∷ past) past) ≡ tickets past) [ true ↦ refl | false ↦ refl ]
+tickets-step devices past (step.Unplug d) = elim (is_some (plugged_device devices d)) as (λ v. tickets (cond v (Unplug d ∷ past) past) ≡ tickets past) [ true ↦ refl | false ↦ refl ]
+tickets-step devices past (step.Clock to) = refl
+tickets-step devices past (step.Reap ticket) = tickets-reap_of past (reaped_by past ticket)
+tickets-step devices past (step.Refuse d call errno) = refl
 
 reapable-within : (past : List Event) (t : ℕ) (o : Option Ticket) (done : Done) → slice_get (tickets past) t ≡ o → reapable past t ≡ Some done → (done.ticket ≡ t) × (t < length (tickets past))
 reapable-within past t None done at some = let no_ : None ≡ Some done = rw at at some in cc
 reapable-within past t (Some s) done at some =
     ((reapable-completion-if t (Some s) past done at some).1, slice_get_within (tickets past) t s at)
 
+reapable_of-within : (past : List Event) (ticket : Option ℕ) (done : Done) → reapable_of past ticket ≡ Some done → done.ticket < length (tickets past)
+reapable_of-within past None done some = cc
+reapable_of-within past (Some t) done some =
+    let both = reapable-within past t (slice_get (tickets past) t) done refl some in rw both.0 both.1
+
 -- the completion that a step gives is of a ticket
 pub step_done-within : (past : List Event) (s : KernelStep) (done : Done) → step_done past s ≡ Some done → done.ticket < length (tickets past)
-step_done-within past (step.Packet d e b) done some = cc
-step_done-within past (step.Reap None) done some = cc
-step_done-within past (step.Reap (Some t)) done some =
-    let both = reapable-within past t (slice_get (tickets past) t) done refl some in rw both.0 both.1
+step_done-within past (step.Reap ticket) done some = reapable_of-within past (reaped_by past ticket) done some
+step_done-within past _ done some = cc
 
 -- a submission
 pub completion-submit : (past : List Event) (t d e m : ℕ) (body : Body) (room : ℕ) (deadline : Option ℕ) (u : ℕ) → completion (Submit t d e m body room deadline ∷ past) u ≡ completion past u

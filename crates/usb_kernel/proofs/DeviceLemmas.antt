@@ -1,13 +1,13 @@
 -- The device that a number names.
-use Rattle.std.proofs.Common.{◌≡◌, ℕ, ◌+◌, ◌<◌, suc, zero, arith, true, false, List, [], ◌∷◌, length, set, get_or, Some, None, refl, ap, sym, ◌∙◌, inl, inr}
-use Rattle.std.specs.Prelude.{position}
+use Rattle.std.proofs.Common.{◌≡◌, ℕ, ◌+◌, ◌<◌, suc, zero, arith, true, false, List, [], ◌∷◌, length, set, get_or, Some, None, refl, ap, sym, ◌∙◌, inl, inr, cond}
+use Rattle.std.specs.Prelude.{position, is_some}
 use Rattle.std.specs.List.{position_from}
 use Rattle.std.proofs.lemmas.Bool.{cases_Bool}
 use Rattle.std.proofs.lemmas.Option.{none-some}
 use Rattle.std.proofs.lemmas.List.Quantifiers.{position-Some}
 use Rattle.std.proofs.lemmas.Iterator.Adapters.{position_from-zero}
 use Rattle.usb_kernel.specs.declared.devices.DeviceState.{DeviceState}
-use Rattle.usb_kernel.specs.Devices.{has_device_number, device_of, change_device}
+use Rattle.usb_kernel.specs.Devices.{has_device_number, device_of, if_plugged, change_device}
 
 -- what is known of the place of a number
 pub record Placed (change : DeviceState → DeviceState) (ds : List DeviceState) (k i : ℕ) (d : DeviceState) : Type 0 where
@@ -44,3 +44,7 @@ nowhere change (x ∷ ds) k n none =
 -- a number that no device has
 pub unplaced : (change : DeviceState → DeviceState) (ds : List DeviceState) (k : ℕ) → position (has_device_number k) ds ≡ None → (device_of ds k ≡ None) × (change_device change k ds ≡ ds)
 unplaced change ds k none = nowhere change ds k 0 (sym (position_from-zero (has_device_number k) ds) ∙ none)
+
+-- whether there is a plugged device of a number
+pub is_some-if_plugged : (d : DeviceState) → is_some (if_plugged d) ≡ d.plugged
+is_some-if_plugged d = elim d.plugged as (λ v. is_some (cond v (Some d) None) ≡ v) [ true ↦ refl | false ↦ refl ]

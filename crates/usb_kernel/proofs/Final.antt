@@ -29,7 +29,7 @@ fresh_final : (f : Fate) → IsFinal f → f ≡ fresh → ⊥
 fresh_final f final same = let none : f.reaped ≡ false = ap (λ (x : Fate). x.reaped) same in grind (arith, common_steps)
 
 -- the oldest open ticket is unfinished
-oldest-unfinished : (ts : List Ticket) (k : ℕ) (f : ℕ → Fate) (d e t : ℕ) → slice_get (map (λ p. p.0) (filter (is_open f d e) (enumerate_from k ts))) 0 ≡ Some t → is_none (f t).status ≡ true
+pub oldest-unfinished : (ts : List Ticket) (k : ℕ) (f : ℕ → Fate) (d e t : ℕ) → slice_get (map (λ p. p.0) (filter (is_open f d e) (enumerate_from k ts))) 0 ≡ Some t → is_none (f t).status ≡ true
 oldest-unfinished [] k f d e t at = absurd (none-some t at)
 oldest-unfinished (x ∷ ts) k f d e t at =
     elim (cases_Bool (is_open f d e (k, x))) [

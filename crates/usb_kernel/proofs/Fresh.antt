@@ -77,7 +77,7 @@ length-rows past rows agrees = ap length agrees.table ∙ length-rows_from (tick
 pub length_rows : (past : List Event) (rows : List Slot) → Agrees past rows → length rows ≡ length (tickets past)
 length_rows past rows agrees = length-rows past rows agrees
 
-All-none : {X : Type 0} (P : X → Type 0) → All P []
+pub All-none : {X : Type 0} (P : X → Type 0) → All P []
 All-none P k d inside = absurd (omega arith)
 
 -- before the first event

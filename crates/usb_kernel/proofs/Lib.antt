@@ -12,3 +12,12 @@ pub mod Places
 pub mod InterfaceLemmas
 pub mod DeviceLemmas
 pub mod WorkedRows
+pub mod Unplugs
+pub mod ArmedLemmas
+pub mod Rules
+pub mod Order
+pub mod Selections
+pub mod OpenLists
+pub mod Extends
+pub mod Waiting
+pub mod Reaped

@@ -1,11 +1,11 @@
-use Rattle.std.proofs.Common.{◌≡◌, ℕ, ◌+◌, ◌*◌, ◌<◌, ◌≤◌, suc, zero, arith, List, [], ◌∷◌, ◌++◌, length, None, false, length-append}
+use Rattle.std.proofs.Common.{◌≡◌, ℕ, ◌+◌, ◌*◌, ◌<◌, ◌≤◌, suc, zero, arith, List, [], ◌∷◌, ◌++◌, length, None, false, length-append, min}
 use Rattle.std.specs.List.{concat}
 use Rattle.std.proofs.lemmas.List.Folds.{concat-append}
 use Rattle.std.proofs.lemmas.Grind.{common_steps}
-use Rattle.usb_kernel.specs.declared.event.Body.TheVariants.{Wanted}
+use Rattle.usb_kernel.specs.declared.event.Body.TheVariants.{Wanted, Sent}
 use Rattle.usb_kernel.specs.Tickets.{Ticket}
-use Rattle.usb_kernel.specs.Fates.{Fate, with_packet, accept}
-use Rattle.usb_kernel.specs.Rows.{row_of, row_with_packet, row_with_bytes}
+use Rattle.usb_kernel.specs.Fates.{Fate, with_packet, with_ack, accept}
+use Rattle.usb_kernel.specs.Rows.{row_of, row_with_packet, row_with_ack, row_with_bytes}
 
 -- a whole packet leaves whole packets
 pub room_left : (count more maximum wanted n : ℕ) → count + (more + 1) * maximum ≡ wanted → n ≤ maximum → maximum ≤ n → count + n < wanted → (m : ℕ) × (count + n + (m + 1) * maximum ≡ wanted)
@@ -33,3 +33,9 @@ row-accept s ps acks n b =
 -- appending a packet's bytes to the row is appending the packet to the fate
 pub row-with_packet : (s : Ticket) (f : Fate) (n : ℕ) (b : List ℕ) → s.body ≡ Wanted n → f.status ≡ None → f.reaped ≡ false → row_with_packet (row_of s f) b ≡ row_of s (with_packet s b f)
 row-with_packet s f n b is_in unfinished kept = grind (arith, common_steps, row-accept)
+
+-- counting an acknowledgement's bytes in the row is an acknowledgement of the fate
+pub row-with_ack : (s : Ticket) (f : Fate) (bytes : List ℕ) → s.body ≡ Sent bytes → f.status ≡ None → f.reaped ≡ false → row_with_ack (row_of s f) ≡ row_of s (with_ack s f)
+row-with_ack s f bytes is_out unfinished kept =
+    let counted : min (length bytes) (min (length bytes) (s.maximum * f.acks) + s.maximum) ≡ min (length bytes) (s.maximum * (f.acks + 1)) = omega arith in
+    grind (arith, common_steps)

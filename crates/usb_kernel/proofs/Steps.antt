@@ -1,27 +1,27 @@
 -- The table is kept: one lemma for each event.
-use Rattle.std.proofs.Common.{◌≡◌, ℕ, ◌+◌, ◌-◌, ◌<◌, ◌≤◌, arith, List, ◌∷◌, length, set, get_or, Option, Some, None, true, false, refl, ap, sym, ◌∙◌, slice_get, subst, cond}
+use Rattle.std.proofs.Common.{◌≡◌, ℕ, Bool, ◌+◌, ◌-◌, ◌<◌, ◌≤◌, arith, List, ◌∷◌, length, set, get_or, Option, Some, None, true, false, refl, ap, sym, ◌∙◌, slice_get, subst, cond}
 use Rattle.std.proofs.lemmas.List.{set-get_or}
-use Rattle.std.specs.Prelude.{position, is_none, IsSome, is_some, nat_le, ◌&&◌, ◌==◌}
-use Rattle.std.specs.List.{All, sum_by}
+use Rattle.std.specs.Prelude.{position, is_none, IsSome, is_some, nat_le, nat_lt, ◌&&◌, ◌==◌}
+use Rattle.std.specs.List.{All, sum_by, count_by}
 use Rattle.std.proofs.lemmas.List.Sums.{sum_by-set, get_or-le-sum_by}
 use Rattle.std.proofs.lemmas.List.Quantifiers.{position-Some}
 use Rattle.std.proofs.lemmas.List.Elements.{All-set, All-get_or}
 use Rattle.std.proofs.lemmas.Option.{slice_get-get_or, get_or_from_slice_get, slice_get_within, slice_get_past, slice_get_read, same_Some}
 use Rattle.std.proofs.lemmas.Grind.{common_steps}
-use Rattle.std.proofs.lemmas.Bool.{le-leb, and_parts, eqb-true}
+use Rattle.std.proofs.lemmas.Bool.{le-leb, lt-ltb, and_parts, eqb-true}
 use Rattle.usb_kernel.specs.declared.event.Event.{Event}
-use Rattle.usb_kernel.specs.declared.event.Event.TheVariants.{Packet, Reap}
+use Rattle.usb_kernel.specs.declared.event.Event.TheVariants.{Packet, Ack, Fail, Reap}
 use Rattle.usb_kernel.specs.declared.slot.Slot.{Slot}
 use Rattle.usb_kernel.specs.declared.submission.Done.{Done}
 use Rattle.usb_kernel.specs.declared.submission.TicketInfo.{TicketInfo}
 use Rattle.usb_kernel.specs.Tickets.{Ticket, tickets}
-use Rattle.usb_kernel.specs.Fates.{Fate, reap, with_packet, received}
+use Rattle.usb_kernel.specs.Fates.{Fate, reap, finish, with_packet, with_ack, received}
 use Rattle.usb_kernel.specs.Journal.{fate, oldest, at_ticket}
 use Rattle.usb_kernel.specs.Completions.{buffer_for, done_if, reapable}
-use Rattle.usb_kernel.specs.Steps.{after_packet, after_reap}
+use Rattle.usb_kernel.specs.Steps.{after_packet, after_ack, after_fail, after_reap}
 use Rattle.usb_kernel.specs.Info.{info_of, info_for}
-use Rattle.usb_kernel.specs.Rows.{row_info, row_of, Agrees, HasItsBody, IsRoomy, is_open_row, row_with_packet, owed, row_done}
-use Rattle.usb_kernel.proofs.RowLemmas.{row-with_packet}
+use Rattle.usb_kernel.specs.Rows.{row_info, row_of, Agrees, HasItsBody, IsRoomy, is_open_row, is_unreaped_row, row_with_packet, row_with_ack, owed, row_done}
+use Rattle.usb_kernel.proofs.RowLemmas.{row-with_packet, row-with_ack}
 use Rattle.usb_kernel.proofs.TableLemmas.{set-at_ticket, rows_from-same, position-is_open_row, slice_get-rows_from, length-rows_from}
 
 -- what holds of each element holds of the one at a place
@@ -97,6 +97,37 @@ after_packet-none past d e b none =
 pub after_packet-some : (past : List Event) (d e i : ℕ) (b : List ℕ) → 128 ≤ e → oldest past d e ≡ Some i → after_packet past d e b ≡ Packet d e b ∷ past
 after_packet-some past d e i b input first = rw (le-leb 128 e input, first) refl
 
+pub Agrees-ack : (past later : List Event) (rows : List Slot) (d e i : ℕ) (r next : Slot) → Agrees past rows → Found past d e i r → e < 128 → next ≡ row_with_ack r → IsRoomy next → later ≡ Ack d e ∷ past → Agrees later (set rows i next)
+Agrees-ack past later rows d e i r next agrees f output is roomy so =
+    rw so (Agrees-set past (Ack d e) rows i f.ticket next with_ack agrees f.at
+    (let s = f.ticket in
+    let endpoint : s.endpoint ≡ e = sym (ap (λ (x : Slot). x.endpoint) f.row) ∙ f.endpoint in
+    let unfinished : (fate past i).status ≡ None = sym (ap (λ (x : Slot). x.status) f.row) ∙ f.unfinished in
+    let is_out = f.body.1 (rw endpoint output) in
+    let kept = not_reaped s (fate past i) r f.row (f.roomy f.unfinished).0 in
+    is ∙ rw f.row (row-with_ack s (fate past i) is_out.0 is_out.1 unfinished kept))
+    roomy refl (λ u. rw f.first refl))
+
+pub after_ack-none : (past : List Event) (d e : ℕ) → oldest past d e ≡ None → after_ack past d e ≡ past
+after_ack-none past d e none =
+    rw none (elim (nat_lt e 128) as (λ v. cond (v && false) (Ack d e ∷ past) past ≡ past) [ true ↦ refl | false ↦ refl ])
+
+pub after_ack-some : (past : List Event) (d e i : ℕ) → e < 128 → oldest past d e ≡ Some i → after_ack past d e ≡ Ack d e ∷ past
+after_ack-some past d e i output first = rw (lt-ltb e 128 output, first) refl
+
+pub Agrees-fail : (past later : List Event) (rows : List Slot) (d e errno i : ℕ) (r next : Slot) → Agrees past rows → Found past d e i r → next ≡ record r { status = Some errno } → later ≡ Fail d e errno ∷ past → Agrees later (set rows i next)
+Agrees-fail past later rows d e errno i r next agrees f is so =
+    let none : (fate past i).status ≡ None = sym (ap (λ (x : Slot). x.status) f.row) ∙ f.unfinished in
+    let same : next ≡ row_of f.ticket (finish errno (fate past i)) = is ∙ rw (f.row, none) refl in
+    let done : next.status ≡ Some errno = ap (λ (x : Slot). x.status) is in
+    rw so (Agrees-set past (Fail d e errno) rows i f.ticket next (λ s. finish errno) agrees f.at same (λ never. absurd (some_not_none next.status (rw done refl) never)) refl (λ u. rw f.first refl))
+
+pub after_fail-none : (past : List Event) (d e errno : ℕ) → oldest past d e ≡ None → after_fail past d e errno ≡ past
+after_fail-none past d e errno none = rw none refl
+
+pub after_fail-some : (past : List Event) (d e errno i : ℕ) → oldest past d e ≡ Some i → after_fail past d e errno ≡ Fail d e errno ∷ past
+after_fail-some past d e errno i first = rw first refl
+
 -- where no row is open, there is no open ticket
 pub oldest-none : (past : List Event) (rows : List Slot) (d e : ℕ) → Agrees past rows → position (is_open_row d e) rows ≡ None → oldest past d e ≡ None
 oldest-none past rows d e agrees at = sym (position-is_open_row (tickets past) (fate past) d e) ∙ rw (← agrees.table) at
@@ -106,6 +137,15 @@ pub owed-set : (rows : List Slot) (i n : ℕ) (r next : Slot) → n ≡ sum_by o
 owed-set rows i n r next total inside read =
     let here : owed r ≡ owed (get_or rows i r) = ap owed read in
     (omega (arith, get_or-le-sum_by owed rows i r inside), omega (arith, sum_by-set owed rows i next r inside, get_or-le-sum_by owed rows i r inside))
+
+-- a write that a test doesn't see leaves the count of those that pass it
+count_by-set : {X : Type 0} (p : X → Bool) (xs : List X) (i : ℕ) (x y : X) → i < length xs → x ≡ get_or xs i x → p y ≡ p x → count_by p (set xs i y) ≡ count_by p xs
+count_by-set p xs i x y inside read same =
+    let here : cond {A = ℕ} (p y) 1 0 ≡ cond {A = ℕ} (p (get_or xs i x)) 1 0 = ap (λ (b : Bool). cond {A = ℕ} b 1 0) (same ∙ ap p read) in
+    omega (arith, sum_by-set (λ x. cond (p x) 1 0) xs i y x inside)
+
+pub unreaped-set : (rows : List Slot) (i : ℕ) (r next : Slot) → i < length rows → r ≡ get_or rows i r → is_unreaped_row next ≡ is_unreaped_row r → count_by is_unreaped_row (set rows i next) ≡ count_by is_unreaped_row rows
+unreaped-set rows i r next inside read same = count_by-set is_unreaped_row rows i r next inside read same
 
 -- an open ticket may need both its places
 pub owed-open : (r : Slot) → r.status ≡ None → IsSome r.buffer → owed r ≡ 2

@@ -64,3 +64,7 @@ without_claim i d = record d { claimed = set d.claimed i false }
 
 abbrev pub after_release : List DeviceState → ℕ → ℕ → List DeviceState
 after_release devices k i = change_device (without_claim i) k devices
+
+-- clear_halt: no row. No halt is kept, so nothing changes
+abbrev pub clear_halt_result : List DeviceState → ℕ → Result (Unit {0}) ℕ
+clear_halt_result devices k = result_by (λ d. None) (plugged_device devices k)

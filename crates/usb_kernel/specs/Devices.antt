@@ -1,5 +1,5 @@
 -- The simulated devices, and which of them a number names.
-use Rattle.std.specs.Prelude.{ℕ, Bool, true, List, [], ◌∷◌, Option, Some, None, find, option_and_then, ◌==◌, if◌then◌else◌}
+use Rattle.std.specs.Prelude.{ℕ, Bool, true, false, List, [], ◌∷◌, Option, Some, None, find, option_and_then, ◌==◌, if◌then◌else◌}
 use Rattle.usb_kernel.specs.declared.devices.SimDevice.{SimDevice}
 use Rattle.usb_kernel.specs.declared.devices.DeviceState.{DeviceState}
 use Rattle.usb_kernel.specs.Interfaces.{no_interfaces, interfaces_of}
@@ -37,3 +37,10 @@ plugged_device devices k = option_and_then if_plugged (device_of devices k)
 abbrev pub change_device : (DeviceState → DeviceState) → ℕ → List DeviceState → List DeviceState
 change_device change k [] = []
 change_device change k (d ∷ ds) = if d.number == k then change d ∷ ds else d ∷ change_device change k ds
+
+-- a device that is pulled out: the rest of what is kept of it stays
+abbrev pub unplugged : DeviceState → DeviceState
+unplugged d = record d { plugged = false }
+
+abbrev pub devices_unplugged : List DeviceState → ℕ → List DeviceState
+devices_unplugged devices k = change_device unplugged k devices

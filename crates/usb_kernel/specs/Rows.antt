@@ -1,5 +1,5 @@
 -- The table that the kernel keeps beside its journal.
-use Rattle.std.specs.Prelude.{ℕ, ◌+◌, ◌*◌, ◌<◌, ◌≤◌, ◌≡◌, Bool, List, [], ◌∷◌, ◌++◌, length, Option, Some, None, is_none, is_some, IsSome, nat_lt, nat_le, ◌==◌, ◌&&◌, ◌||◌, if◌then◌else◌}
+use Rattle.std.specs.Prelude.{ℕ, ◌+◌, ◌*◌, ◌<◌, ◌≤◌, ◌≡◌, Bool, true, List, [], ◌∷◌, ◌++◌, length, slice_get, Option, Some, None, is_none, is_some, IsSome, min, nat_lt, nat_le, ◌==◌, ◌&&◌, ◌||◌, if◌then◌else◌}
 use Rattle.std.specs.List.{All}
 use Rattle.std.specs.Option.{ForSome, option_and_then}
 use Rattle.usb_kernel.specs.declared.submission.Done.{Done}
@@ -51,6 +51,16 @@ pub record Agrees (past : List Event) (rows : List Slot) : Type 0 where
   pub bodies : All HasItsBody (tickets past)
   pub roomy : All IsRoomy rows
 
+-- the first n tickets are reaped: so says the journal
+pub record AreReaped (n : ℕ) (past : List Event) : Type 0 where
+  pub within : n ≤ length (tickets past)
+  pub reaped : (t : ℕ) → t < n → (fate past t).reaped ≡ true
+
+-- and so says the table
+pub record AreReapedRows (n : ℕ) (rows : List Slot) : Type 0 where
+  pub within : n ≤ length rows
+  pub reaped : (t : ℕ) (r : Slot) → t < n → slice_get rows t ≡ Some r → r.buffer ≡ None
+
 -- the places in the journal that a ticket may still need: for its discard and for its reap
 abbrev pub owed : Slot → ℕ
 owed r = if is_none r.buffer then 0 else (if is_none r.status then 2 else 1)
@@ -81,6 +91,22 @@ row_with_packet r b =
     row_taking : Slot → List ℕ → Option BufferState → Slot
     row_taking r b None = r
     row_taking r b (Some buffer) = row_with_bytes r b buffer
+
+-- a row with a count, of the bytes of its buffer
+abbrev pub row_with_count : Slot → ℕ → ℕ → Slot
+row_with_count r len n = record r { count = n; status = if nat_le len n then Some 0 else r.status }
+
+-- a row that gets an acknowledgement
+abbrev pub row_with_ack : Slot → Slot
+row_with_ack r = row_acked r r.buffer
+  where
+    row_acked : Slot → Option BufferState → Slot
+    row_acked r None = r
+    row_acked r (Some b) = row_with_count r (length b.bytes) (min (length b.bytes) (r.count + r.maximum))
+
+-- a row when a device goes
+abbrev pub row_unplugged : ℕ → Slot → Slot
+row_unplugged d r = if r.device == d && is_none r.status then record r { status = Some 108 } else r
 
 -- the completion that a row gives
 abbrev pub row_done : ℕ → Slot → Option Done

@@ -1,17 +1,34 @@
--- What a step makes of the journal. A step with nothing to act on leaves no event.
-use Rattle.std.specs.Prelude.{ℕ, Bool, true, List, ◌∷◌, length, Option, Some, None, is_none, is_some, nat_le, nat_lt, ◌&&◌, if◌then◌else◌}
+-- What a step makes of a kernel. A step with nothing to act on leaves no event.
+use Rattle.std.specs.Prelude.{ℕ, ◌-◌, Bool, List, [], ◌∷◌, ◌++◌, length, max, Option, Some, None, is_none, is_some, nat_le, nat_lt, ◌&&◌, if◌then◌else◌}
 use Rattle.usb_kernel.specs.declared.event.Event.{Event}
-use Rattle.usb_kernel.specs.declared.event.Event.TheVariants.{Packet, Discard, Reap}
+use Rattle.usb_kernel.specs.declared.event.Event.TheVariants.{Packet, Ack, Fail, Discard, Reap, Unplug}
+use Rattle.usb_kernel.specs.declared.devices.DeviceState.{DeviceState}
 use Rattle.usb_kernel.specs.declared.submission.Done.{Done}
+use Rattle.usb_kernel.specs.declared.step.Armed.{Armed}
 use Rattle.usb_kernel.specs.declared.step.KernelStep.{KernelStep}
 use Rattle.usb_kernel.specs.declared.step.KernelStep.TheVariants as step
 use Rattle.usb_kernel.specs.Tickets.{tickets}
 use Rattle.usb_kernel.specs.Journal.{fate, oldest}
-use Rattle.usb_kernel.specs.Completions.{reapable}
+use Rattle.usb_kernel.specs.Submissions.{IsErrno}
+use Rattle.usb_kernel.specs.Completions.{reapable, lowest}
+use Rattle.usb_kernel.specs.Devices.{plugged_device, devices_unplugged}
+use Rattle.usb_kernel.specs.Value.{KernelState}
 
 -- a packet goes to the oldest IN ticket of its endpoint
 abbrev pub after_packet : List Event → ℕ → ℕ → List ℕ → List Event
 after_packet past d e b = if nat_le 128 e && is_some (oldest past d e) then Packet d e b ∷ past else past
+
+-- an acknowledgement is of the oldest OUT ticket of its endpoint
+abbrev pub after_ack : List Event → ℕ → ℕ → List Event
+after_ack past d e = if nat_lt e 128 && is_some (oldest past d e) then Ack d e ∷ past else past
+
+-- a failure is of the oldest ticket of its endpoint
+abbrev pub after_fail : List Event → ℕ → ℕ → ℕ → List Event
+after_fail past d e errno = if is_some (oldest past d e) then Fail d e errno ∷ past else past
+
+-- an unplug is of a plugged device
+abbrev pub after_unplug : List DeviceState → List Event → ℕ → List Event
+after_unplug devices past d = if is_some (plugged_device devices d) then Unplug d ∷ past else past
 
 -- a reap is of a ticket that is finished and not reaped
 abbrev pub after_reap : List Event → ℕ → List Event
@@ -24,10 +41,10 @@ is_unfinished past t = nat_lt t (length (tickets past)) && is_none (fate past t)
 abbrev pub after_discard : List Event → ℕ → List Event
 after_discard past t = if is_unfinished past t then Discard t ∷ past else past
 
--- a step that reaps names its ticket
-abbrev pub names_ticket : KernelStep → Bool
-names_ticket (step.Packet d e b) = true
-names_ticket (step.Reap ticket) = is_some ticket
+-- a step that reaps names its ticket, or takes the lowest that is finished and not reaped
+abbrev pub reaped_by : List Event → Option ℕ → Option ℕ
+reaped_by past None = lowest past
+reaped_by past (Some t) = Some t
 
 abbrev pub after_reap_of : List Event → Option ℕ → List Event
 after_reap_of past None = past
@@ -38,11 +55,48 @@ reapable_of past None = None
 reapable_of past (Some t) = reapable past t
 
 -- the journal after a step
-abbrev pub stepped : List Event → KernelStep → List Event
-stepped past (step.Packet d e b) = after_packet past d e b
-stepped past (step.Reap ticket) = after_reap_of past ticket
+abbrev pub stepped : List DeviceState → List Event → KernelStep → List Event
+stepped devices past (step.Packet d e b) = after_packet past d e b
+stepped devices past (step.Ack d e) = after_ack past d e
+stepped devices past (step.Fail d e errno) = after_fail past d e errno
+stepped devices past (step.Unplug d) = after_unplug devices past d
+stepped devices past (step.Clock to) = past
+stepped devices past (step.Reap ticket) = after_reap_of past (reaped_by past ticket)
+stepped devices past (step.Refuse d call errno) = past
 
 -- a step gives a completion exactly at a reap that acts
 abbrev pub step_done : List Event → KernelStep → Option Done
-step_done past (step.Packet d e b) = None
-step_done past (step.Reap ticket) = reapable_of past ticket
+step_done past (step.Reap ticket) = reapable_of past (reaped_by past ticket)
+step_done past _ = None
+
+-- the devices after a step: an unplug lasts
+abbrev pub devices_stepped : List DeviceState → KernelStep → List DeviceState
+devices_stepped devices (step.Unplug d) = devices_unplugged devices d
+devices_stepped devices _ = devices
+
+-- the clock after a step: it never falls
+abbrev pub clock_stepped : ℕ → KernelStep → ℕ
+clock_stepped clock (step.Clock to) = max clock to
+clock_stepped clock _ = clock
+
+-- the armed refusals after a step: one more at the end, whatever its device is
+abbrev pub armed_stepped : List Armed → KernelStep → List Armed
+armed_stepped armed (step.Refuse d call errno) = armed ++ record { device = d; call = call; errno = errno } ∷ []
+armed_stepped armed _ = armed
+
+-- the kernel after a step, which has used one place
+abbrev pub after_step : KernelState → KernelStep → KernelState
+after_step k s =
+    record {
+      past = stepped k.devices k.past s;
+      devices = devices_stepped k.devices s;
+      clock = clock_stepped k.clock s;
+      armed = armed_stepped k.armed s;
+      spare = k.spare - 1;
+    }
+
+-- the errno of a step that fails or refuses is from 1 to 4095
+abbrev pub HasErrno : KernelStep → Type 0
+HasErrno (step.Fail d e errno) = IsErrno errno
+HasErrno (step.Refuse d call errno) = IsErrno errno
+HasErrno _ = Unit {0}

@@ -1,18 +1,20 @@
 -- What a submission comes to: a queued ticket, or a refused one.
-use Rattle.std.specs.Prelude.{ℕ, List, ◌∷◌, length, Option, Some, None, is_some, if◌then◌else◌}
+use Rattle.std.specs.Prelude.{ℕ, List, ◌∷◌, length, Option, Some, None}
 use Rattle.usb_kernel.specs.declared.event.Event.{Event}
 use Rattle.usb_kernel.specs.declared.devices.DeviceState.{DeviceState}
+use Rattle.usb_kernel.specs.declared.step.Armed.{Armed}
+use Rattle.usb_kernel.specs.declared.step.KernelCall.TheVariants as call
 use Rattle.usb_kernel.specs.declared.submission.Submission.{Submission}
 use Rattle.usb_kernel.specs.declared.submission.Submitted.{Submitted}
 use Rattle.usb_kernel.specs.declared.submission.Submitted.TheVariants.{Queued, Refused}
 use Rattle.usb_kernel.specs.Tickets.{tickets}
 use Rattle.usb_kernel.specs.Submissions.{submit_event, refuse_event}
 use Rattle.usb_kernel.specs.Completions.{refused_done}
-use Rattle.usb_kernel.specs.Devices.{plugged_device}
+use Rattle.usb_kernel.specs.Refusals.{call_refusal, armed_left}
 
--- the errno with which a submission is refused: 19 where no plugged device has the number
-abbrev pub submit_refusal : List DeviceState → ℕ → Option ℕ
-submit_refusal devices k = if is_some (plugged_device devices k) then None else Some 19
+-- the errno with which a submission to a device is refused: 19 where it is not plugged, else that of an armed refusal
+abbrev pub submit_refusal : List DeviceState → List Armed → ℕ → Option ℕ
+submit_refusal devices armed d = call_refusal devices armed d call.Submit
 
 abbrev pub submit_or_refuse : ℕ → Submission → Option ℕ → Event
 submit_or_refuse t s None = submit_event t s
@@ -23,11 +25,15 @@ queued_or_refused t s None = Queued t
 queued_or_refused t s (Some errno) = Refused (refused_done t s errno)
 
 -- a submission gets the next number
-abbrev pub submit_result : List DeviceState → List Event → Submission → Submitted
-submit_result devices past s = queued_or_refused (length (tickets past)) s (submit_refusal devices s.device)
+abbrev pub submit_result : List DeviceState → List Armed → List Event → Submission → Submitted
+submit_result devices armed past s = queued_or_refused (length (tickets past)) s (submit_refusal devices armed s.device)
 
-abbrev pub after_submit : List DeviceState → List Event → Submission → List Event
-after_submit devices past s = submit_or_refuse (length (tickets past)) s (submit_refusal devices s.device) ∷ past
+abbrev pub after_submit : List DeviceState → List Armed → List Event → Submission → List Event
+after_submit devices armed past s = submit_or_refuse (length (tickets past)) s (submit_refusal devices armed s.device) ∷ past
+
+-- and uses up the refusal that was armed for it
+abbrev pub armed_after_submit : List DeviceState → List Armed → Submission → List Armed
+armed_after_submit devices armed s = armed_left devices armed s.device call.Submit
 
 -- a submission that is refused whatever the device is
 abbrev pub refuse_result : List Event → Submission → ℕ → Submitted

@@ -2,9 +2,13 @@
 use Rattle.std.specs.Prelude.{ℕ, List}
 use Rattle.usb_kernel.specs.declared.event.Event.{Event}
 use Rattle.usb_kernel.specs.declared.devices.DeviceState.{DeviceState}
+use Rattle.usb_kernel.specs.declared.step.Armed.{Armed}
 
--- the events so far, the latest first; the devices; and how many steps the journal still has places for
+-- the events so far, the latest first; the devices; the clock in nanoseconds; the armed refusals in the order of arming; and how
+-- many steps the kernel still has places for
 pub record KernelState : Type 0 where
   pub past : List Event
   pub devices : List DeviceState
+  pub clock : ℕ
+  pub armed : List Armed
   pub spare : ℕ

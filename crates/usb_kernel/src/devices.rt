@@ -1,7 +1,7 @@
 //! Simulated devices.
 
-ghost use Rattle.std.specs.Prelude.{◌≡◌, ◌+◌, ◌<◌, map, IfOk, position, find, option_copied};
-ghost use Rattle.usb_kernel.specs.Devices.{fresh_device, has_device_number, device_of, if_plugged, plugged_device};
+ghost use Rattle.std.specs.Prelude.{◌≡◌, ◌+◌, ◌<◌, map, IfOk, position, find, option_copied, is_some};
+ghost use Rattle.usb_kernel.specs.Devices.{fresh_device, has_device_number, device_of, if_plugged, plugged_device, unplugged, devices_unplugged};
 ghost use Rattle.usb_kernel.specs.Claims.{is_at, open_result, result_by, has_interface, claim_rows, claim_result, with_claim, after_claim, release_rows, release_result, without_claim, after_release};
 
 use crate::bytes::Bytes;
@@ -100,6 +100,16 @@ impl DeviceState {
         self.claimed.remove(interface);
         if self.plugged { Ok(()) } else { Err(19) }
     }
+
+    /// Pulls it out. It answers whether it was plugged.
+    fn unplug(&mut self) -> bool
+        ensures was { result ≡ self.old.plugged }
+        ensures device { self.new ≡ unplugged self.old }
+    {
+        let was = self.plugged;
+        self.plugged = false;
+        was
+    }
 }
 
 /// The devices at the start.
@@ -193,4 +203,16 @@ pub(crate) fn release_interface(
     };
     let device = &mut devices[at];
     device.release(interface)
+}
+
+/// Pulls a device out. It answers whether a plugged device had the number.
+pub(crate) fn unplug_device(devices: &mut Vec<DeviceState>, number: u8) -> bool
+    ensures was { result ≡ is_some (plugged_device devices.old.items number) }
+    ensures devices { devices.new.items ≡ devices_unplugged devices.old.items number }
+{
+    let Some(at) = place_of(devices, number) else {
+        return false;
+    };
+    let device = &mut devices[at];
+    device.unplug()
 }

@@ -1,27 +1,31 @@
 //! The kernel: devices, tickets and a journal.
 
-ghost use Rattle.std.specs.Prelude.{◌≡◌, ◌+◌, ◌*◌, ◌^◌, ◌<◌, ◌≤◌, ◌∷◌, [], length, map, reverse, IsTrue, IsSome, vec_len, vec_capacity, Some, OnOk, OnErr, IfOk, IfErr};
+ghost use Rattle.std.specs.Prelude.{◌≡◌, ℕ, ◌+◌, ◌*◌, ◌^◌, ◌<◌, ◌≤◌, ◌++◌, ◌∷◌, [], length, map, max, reverse, IsSome, vec_len, vec_capacity, Some, OnOk, OnErr, IfOk, IfErr};
 ghost use Rattle.usb_desc.specs.declared.types.TransferType.{TransferType};
 ghost use Rattle.usb_kernel.specs.Tickets.{tickets};
 ghost use Rattle.usb_kernel.specs.Submissions.{submit_event, IsWhole, IsErrno};
+ghost use Rattle.usb_kernel.specs.Legal.{IsLegal, IsLawful};
+ghost use Rattle.usb_kernel.specs.Rows.{AreReaped};
 ghost use Rattle.usb_kernel.specs.Completions.{reapable, lowest};
-ghost use Rattle.usb_kernel.specs.Devices.{fresh_device};
-ghost use Rattle.usb_kernel.specs.Claims.{open_result, descriptors_result, configuration_result, claim_result, after_claim, release_result, after_release};
-ghost use Rattle.usb_kernel.specs.Submits.{submit_result, after_submit, refuse_result, after_refuse, number_of};
-ghost use Rattle.usb_kernel.specs.Steps.{after_packet, after_reap, after_discard, names_ticket, after_reap_of, reapable_of, stepped, step_done};
+ghost use Rattle.usb_kernel.specs.Devices.{fresh_device, devices_unplugged};
+ghost use Rattle.usb_kernel.specs.Claims.{open_result, descriptors_result, configuration_result, claim_result, after_claim, release_result, after_release, clear_halt_result};
+ghost use Rattle.usb_kernel.specs.Submits.{submit_result, after_submit, armed_after_submit, refuse_result, after_refuse, number_of};
+ghost use Rattle.usb_kernel.specs.Steps.{after_packet, after_ack, after_fail, after_unplug, after_reap, after_discard, reaped_by, after_reap_of, reapable_of, stepped, step_done, devices_stepped, clock_stepped, armed_stepped, HasErrno};
 ghost use Rattle.usb_kernel.specs.Info.{info_of, unreaped};
-ghost use Rattle.usb_kernel.specs.Laws.{ReapedIsFinal};
 
 use crate::bytes::Bytes;
 use crate::devices::{
     DeviceState, SimDevice, claim_interface, fresh_devices, number_at, plugged, release_interface,
+    unplug_device,
 };
 use crate::event::Event;
+use crate::refusals::{arm, armed_for, disarm};
 use crate::slot::Slot;
-use crate::step::KernelStep;
+use crate::step::{Armed, KernelCall, KernelStep};
 use crate::submission::{Done, Submission, Submitted, TicketInfo};
 use crate::table::{
-    add, add_refused, drop_open, first_number, give_packet, info_at, take_finished,
+    add, add_refused, drop_open, fail_oldest, first_number, give_ack, give_packet, info_at,
+    skip_reaped, take_finished, unplug_tickets,
 };
 use std::alloc::Global;
 use std::marker::Model;
@@ -33,9 +37,12 @@ pub struct Kernel {
     journal: Vec<Event>,
     tickets: Vec<Slot>,
     devices: Vec<DeviceState>,
+    clock: u64,
+    armed: Vec<Armed>,
     spare: usize,
     owed: usize,
     unreaped: usize,
+    reaped_below: usize,
 }
 
 impl Model for Kernel {
@@ -44,7 +51,7 @@ impl Model for Kernel {
 
     ghost Value = { KernelState };
 
-    ghost view = { λ k. record { past = reverse k.journal.items; devices = k.devices.items; spare = k.spare } };
+    ghost view = { λ k. record { past = reverse k.journal.items; devices = k.devices.items; clock = k.clock; armed = k.armed.items; spare = k.spare } };
 
     ghost use Rattle.usb_kernel.specs.KernelFacts.{IsKept};
 
@@ -52,13 +59,25 @@ impl Model for Kernel {
 }
 
 /// Appends an event for which there is room.
-fn put(journal: &mut Vec<Event>, event: Event)
+fn push_event(journal: &mut Vec<Event>, event: Event)
     requires room { vec_len journal.old < vec_capacity journal.old }
     ensures items { reverse journal.new.items ≡ event ∷ reverse journal.old.items }
     ensures len { vec_len journal.new ≡ vec_len journal.old + 1 }
     ensures capacity { vec_capacity journal.old ≤ vec_capacity journal.new }
 {
     let _ = journal.push(event);
+}
+
+/// The same. What is reaped stays reaped.
+fn put(journal: &mut Vec<Event>, event: Event)
+    requires room { vec_len journal.old < vec_capacity journal.old }
+    ensures items { reverse journal.new.items ≡ event ∷ reverse journal.old.items }
+    ensures reaped { (n : ℕ) → AreReaped n (reverse journal.old.items) → AreReaped n (reverse journal.new.items) }
+    ensures lawful { IsLegal event → IsLawful (reverse journal.old.items) → IsLawful (reverse journal.new.items) }
+    ensures len { vec_len journal.new ≡ vec_len journal.old + 1 }
+    ensures capacity { vec_capacity journal.old ≤ vec_capacity journal.new }
+{
+    push_event(journal, event);
 }
 
 /// Makes room for these places and three more, and for four places per ticket with one more ticket.
@@ -87,10 +106,12 @@ fn make_room(journal: &mut Vec<Event>, places: usize, count: usize) -> Result<()
 }
 
 impl Kernel {
-    /// A kernel with these devices, by number, and no event. Where two devices share a number the first counts.
+    /// A kernel with these devices, by number, no event, clock 0 and no armed refusal. Where two devices share a number the first counts.
     pub fn new(alloc: Global, devices: Vec<(u8, SimDevice)>) -> Result<Kernel, NoMemory>
         ensures past { IfOk result (λ kernel. kernel.past ≡ []) }
         ensures devices { IfOk result (λ kernel. kernel.devices ≡ map fresh_device devices.items) }
+        ensures clock { IfOk result (λ kernel. kernel.clock ≡ 0) }
+        ensures armed { IfOk result (λ kernel. kernel.armed ≡ []) }
         ensures spare { IfOk result (λ kernel. kernel.spare ≡ 0) }
     {
         let devices = fresh_devices(alloc, devices)?;
@@ -98,15 +119,19 @@ impl Kernel {
             journal: Vec::new(alloc),
             tickets: Vec::new(alloc),
             devices,
+            clock: 0,
+            armed: Vec::new(alloc),
             spare: 0,
             owed: 0,
             unreaped: 0,
+            reaped_below: 0,
         })
     }
 
     /// The events, in the order in which they came.
     pub fn journal(&self) -> &[Event]
         ensures events { result.now ≡ reverse self.now.past }
+        ensures lawful { IsLawful self.now.past }
     {
         self.journal.as_slice()
     }
@@ -141,12 +166,13 @@ impl Kernel {
     pub fn lowest_finished(&self) -> Option<u64>
         ensures lowest { result ≡ lowest self.now.past }
     {
-        first_number(&self.tickets)
+        first_number(&self.tickets, self.reaped_below)
     }
 
     /// Makes room for at least n steps.
     pub fn reserve(&mut self, n: usize) -> Result<(), NoMemory>
         ensures ok { OnOk result (n ≤ self.new.spare) }
+        ensures exact { OnOk result (self.new.spare ≡ max self.old.spare n) }
         ensures kept { self.old.spare ≤ self.new.spare }
         ensures rest { self.new ≡ record self.old { spare = self.new.spare } }
         ensures err { OnErr result (self.new ≡ self.old) }
@@ -157,31 +183,38 @@ impl Kernel {
         let Some(more) = n.checked_add(self.owed) else {
             return Err(NoMemory);
         };
-        match self.journal.reserve(more) {
-            Ok(()) => {
-                self.spare = n;
-                Ok(())
-            }
-            Err(_) => Err(NoMemory),
+        if self.journal.reserve(more).is_err() || self.armed.reserve(n).is_err() {
+            return Err(NoMemory);
         }
+        self.spare = n;
+        Ok(())
     }
 
-    /// A submission becomes the next ticket, which is refused with 19 where no plugged device has the number.
-    /// An `Err` is want of memory, and then nothing has changed.
+    /// A submission becomes the next ticket, which is refused with 19 where no plugged device has the number, and else by the first
+    /// refusal that is armed for it, which is used up. An `Err` is want of memory, and then nothing has changed.
     pub fn submit(&mut self, s: Submission) -> Result<Submitted, Submission>
         requires whole { IsWhole s }
         requires deadline { IsSome s.deadline → s.kind ≡ TransferType.Control }
-        ensures submitted { IfOk result (λ r. r ≡ submit_result self.old.devices self.old.past s) }
+        ensures submitted { IfOk result (λ r. r ≡ submit_result self.old.devices self.old.armed self.old.past s) }
         ensures number { IfOk result (λ r. 4 * number_of r + 3 < 2 ^ 64) }
-        ensures past { OnOk result (self.new.past ≡ after_submit self.old.devices self.old.past s) }
-        ensures rest { self.new ≡ record self.old { past = self.new.past } }
+        ensures past { OnOk result (self.new.past ≡ after_submit self.old.devices self.old.armed self.old.past s) }
+        ensures armed { OnOk result (self.new.armed ≡ armed_after_submit self.old.devices self.old.armed s) }
+        ensures rest { self.new ≡ record self.old { past = self.new.past; armed = self.new.armed } }
         ensures err { OnErr result (self.new ≡ self.old) }
         ensures back { IfErr result (λ back. back ≡ s) }
     {
         if plugged(&self.devices, s.device).is_none() {
             return self.refuse(s, 19);
         }
-        self.queue(s)
+        let device = s.device;
+        match armed_for(&self.armed, device, KernelCall::Submit) {
+            None => self.queue(s),
+            Some(errno) => {
+                let submitted = self.refuse(s, errno)?;
+                disarm(&mut self.armed, device, KernelCall::Submit);
+                Ok(submitted)
+            }
+        }
     }
 
     /// A submission becomes the next ticket.
@@ -271,23 +304,40 @@ impl Kernel {
     /// Applies a step, which uses one place of `spare` whether it acts or not. It takes no memory.
     pub fn step(&mut self, step: KernelStep) -> Option<Done>
         requires spare { 1 ≤ self.old.spare }
-        requires names_ticket { IsTrue (names_ticket step) }
-        ensures past { self.new.past ≡ stepped self.old.past step }
+        requires errno { HasErrno step }
+        ensures past { self.new.past ≡ stepped self.old.devices self.old.past step }
         ensures done { result ≡ step_done self.old.past step }
+        ensures devices { self.new.devices ≡ devices_stepped self.old.devices step }
+        ensures clock { self.new.clock ≡ clock_stepped self.old.clock step }
+        ensures armed { self.new.armed ≡ armed_stepped self.old.armed step }
         ensures spare { self.new.spare + 1 ≡ self.old.spare }
-        ensures rest { self.new ≡ record self.old { past = self.new.past; spare = self.new.spare } }
     {
         match step {
             KernelStep::Packet {
                 device,
                 endpoint,
                 bytes,
-            } => {
-                self.packet(device, endpoint, bytes);
-                None
-            }
-            KernelStep::Reap { ticket } => self.reap_step(ticket),
+            } => self.packet(device, endpoint, bytes),
+            KernelStep::Ack { device, endpoint } => self.ack(device, endpoint),
+            KernelStep::Fail {
+                device,
+                endpoint,
+                errno,
+            } => self.fail(device, endpoint, errno),
+            KernelStep::Unplug { device } => self.unplug(device),
+            KernelStep::Clock { to } => self.clock(to),
+            KernelStep::Reap { ticket } => return self.reap_step(ticket),
+            KernelStep::Refuse {
+                device,
+                call,
+                errno,
+            } => self.arm(Armed {
+                device,
+                call,
+                errno,
+            }),
         }
+        None
     }
 
     /// A packet comes to an endpoint: it goes to the oldest IN ticket.
@@ -298,7 +348,13 @@ impl Kernel {
         ensures rest { self.new ≡ record self.old { past = self.new.past; spare = self.new.spare } }
     {
         self.spare -= 1;
-        if let Some(freed) = give_packet(&mut self.tickets, device, endpoint, bytes.as_slice()) {
+        if let Some(freed) = give_packet(
+            &mut self.tickets,
+            self.reaped_below,
+            device,
+            endpoint,
+            bytes.as_slice(),
+        ) {
             self.owed -= freed;
             put(
                 &mut self.journal,
@@ -311,16 +367,108 @@ impl Kernel {
         }
     }
 
-    /// The step that reaps.
-    fn reap_step(&mut self, ticket: Option<u64>) -> Option<Done>
+    /// An endpoint acknowledges a packet of its oldest OUT ticket.
+    fn ack(&mut self, device: u8, endpoint: u8)
         requires spare { 1 ≤ self.old.spare }
-        ensures past { self.new.past ≡ after_reap_of self.old.past ticket }
-        ensures done { result ≡ reapable_of self.old.past ticket }
+        ensures past { self.new.past ≡ after_ack self.old.past device endpoint }
         ensures spare { self.new.spare + 1 ≡ self.old.spare }
         ensures rest { self.new ≡ record self.old { past = self.new.past; spare = self.new.spare } }
     {
         self.spare -= 1;
-        self.reap(ticket?)
+        if let Some(freed) = give_ack(&mut self.tickets, self.reaped_below, device, endpoint) {
+            self.owed -= freed;
+            put(&mut self.journal, Event::Ack { device, endpoint });
+        }
+    }
+
+    /// The oldest ticket of an endpoint fails.
+    fn fail(&mut self, device: u8, endpoint: u8, errno: u16)
+        requires spare { 1 ≤ self.old.spare }
+        requires errno { IsErrno errno }
+        ensures past { self.new.past ≡ after_fail self.old.past device endpoint errno }
+        ensures spare { self.new.spare + 1 ≡ self.old.spare }
+        ensures rest { self.new ≡ record self.old { past = self.new.past; spare = self.new.spare } }
+    {
+        self.spare -= 1;
+        if fail_oldest(
+            &mut self.tickets,
+            self.reaped_below,
+            device,
+            endpoint,
+            errno,
+        ) {
+            self.owed -= 1;
+            put(
+                &mut self.journal,
+                Event::Fail {
+                    device,
+                    endpoint,
+                    errno,
+                },
+            );
+        }
+    }
+
+    /// A plugged device is gone, and its tickets are finished.
+    fn unplug(&mut self, device: u8)
+        requires spare { 1 ≤ self.old.spare }
+        ensures past { self.new.past ≡ after_unplug self.old.devices self.old.past device }
+        ensures devices { self.new.devices ≡ devices_unplugged self.old.devices device }
+        ensures spare { self.new.spare + 1 ≡ self.old.spare }
+        ensures rest { self.new ≡ record self.old { past = self.new.past; devices = self.new.devices; spare = self.new.spare } }
+    {
+        self.spare -= 1;
+        if unplug_device(&mut self.devices, device) {
+            self.owed -= unplug_tickets(&mut self.tickets, device);
+            put(&mut self.journal, Event::Unplug { device });
+        }
+    }
+
+    /// The clock is set, where that is later.
+    fn clock(&mut self, to: u64)
+        requires spare { 1 ≤ self.old.spare }
+        ensures clock { self.new.clock ≡ max self.old.clock to }
+        ensures spare { self.new.spare + 1 ≡ self.old.spare }
+        ensures rest { self.new ≡ record self.old { clock = self.new.clock; spare = self.new.spare } }
+    {
+        self.spare -= 1;
+        self.idle(to);
+    }
+
+    /// Arms a refusal.
+    fn arm(&mut self, refusal: Armed)
+        requires spare { 1 ≤ self.old.spare }
+        requires errno { IsErrno refusal.errno }
+        ensures armed { self.new.armed ≡ self.old.armed ++ refusal ∷ [] }
+        ensures spare { self.new.spare + 1 ≡ self.old.spare }
+        ensures rest { self.new ≡ record self.old { armed = self.new.armed; spare = self.new.spare } }
+    {
+        self.spare -= 1;
+        arm(&mut self.armed, refusal);
+    }
+
+    /// The ticket that a step reaps: the one that is named, or the lowest that is finished and not reaped.
+    fn ticket_to_reap(&self, ticket: Option<u64>) -> Option<u64>
+        ensures ticket { result ≡ reaped_by self.now.past ticket }
+    {
+        if ticket.is_some() {
+            ticket
+        } else {
+            self.lowest_finished()
+        }
+    }
+
+    /// The step that reaps.
+    fn reap_step(&mut self, ticket: Option<u64>) -> Option<Done>
+        requires spare { 1 ≤ self.old.spare }
+        ensures past { self.new.past ≡ after_reap_of self.old.past (reaped_by self.old.past ticket) }
+        ensures done { result ≡ reapable_of self.old.past (reaped_by self.old.past ticket) }
+        ensures spare { self.new.spare + 1 ≡ self.old.spare }
+        ensures rest { self.new ≡ record self.old { past = self.new.past; spare = self.new.spare } }
+    {
+        self.spare -= 1;
+        let ticket = self.ticket_to_reap(ticket)?;
+        self.reap(ticket)
     }
 
     /// Discards a ticket that is not finished, with errno 2.
@@ -344,6 +492,7 @@ impl Kernel {
         self.owed -= 1;
         self.unreaped -= 1;
         put(&mut self.journal, Event::Reap { ticket });
+        self.reaped_below = skip_reaped(&self.tickets, self.reaped_below);
         Some(done)
     }
 
@@ -395,13 +544,33 @@ impl Kernel {
             None => Err(19),
         }
     }
-}
 
-/// Whatever comes after its reap, a ticket's fate stays.
-#[tactic(auto, using(crate::proofs::Final::reaped_is_final))]
-pub fn reaped_is_final()
-    ensures law { ReapedIsFinal }
-{}
+    /// Clears the halt of an endpoint, else errno 19. No halt is kept.
+    pub fn clear_halt(&mut self, device: u8, _endpoint: u8) -> Result<(), u16>
+        ensures result { result ≡ clear_halt_result self.old.devices device }
+        ensures rest { self.new ≡ self.old }
+    {
+        match plugged(&self.devices, device) {
+            Some(_) => Ok(()),
+            None => Err(19),
+        }
+    }
+
+    /// The clock, in nanoseconds.
+    pub fn now(&self) -> u64
+        ensures clock { result ≡ self.now.clock }
+    {
+        self.clock
+    }
+
+    /// Raises the clock to this time, in nanoseconds, where that is later.
+    pub fn idle(&mut self, until: u64)
+        ensures clock { self.new.clock ≡ max self.old.clock until }
+        ensures rest { self.new ≡ record self.old { clock = self.new.clock } }
+    {
+        self.clock = self.clock.max(until);
+    }
+}
 
 fn needs_both<T: Send + Sync>(_x: &T) {}
 

@@ -6,6 +6,8 @@ mod devices;
 mod event;
 mod interfaces;
 mod kernel;
+mod laws;
+mod refusals;
 mod slot;
 mod step;
 mod submission;
@@ -15,8 +17,13 @@ pub use bytes::Bytes;
 pub use devices::{DeviceState, SimDevice};
 pub use event::{Body, Event};
 pub use interfaces::InterfaceSet;
-pub use kernel::{Kernel, is_send_and_sync, reaped_is_final};
-pub use step::KernelStep;
+pub use kernel::{Kernel, is_send_and_sync};
+pub use laws::{
+    calls_extend_journals, echo_is_two_events, extensions_compose, extensions_keep_tickets,
+    finished_can_be_reaped, later_are_untouched, oldest_is_served, reaped_is_final,
+    submissions_open_tickets, tickets_are_closed, waiting_tickets_are_counted,
+};
+pub use step::{Armed, KernelCall, KernelStep};
 pub use submission::{Done, Submission, Submitted, TicketInfo};
 
 #[cfg(test)]

@@ -1,10 +1,10 @@
 //! A ticket as the kernel keeps it.
 
-ghost use Rattle.std.specs.Prelude.{◌≡◌, ◌+◌, ◌<◌, ◌≤◌, IsSome, Some, []};
+ghost use Rattle.std.specs.Prelude.{◌≡◌, ◌+◌, ◌<◌, ◌≤◌, IsSome, Some, None, []};
 ghost use Rattle.usb_kernel.specs.Fates.{fresh};
 ghost use Rattle.usb_kernel.specs.Submissions.{body_of, ticket_of, refused_of, refused_fate, IsWhole};
 ghost use Rattle.usb_kernel.specs.Completions.{buffer_for, refused_done};
-ghost use Rattle.usb_kernel.specs.Rows.{IsRoomy, is_reapable_row, is_unreaped_row, row_info, owed, row_with_packet, row_done, row_of};
+ghost use Rattle.usb_kernel.specs.Rows.{IsRoomy, is_reapable_row, is_unreaped_row, row_info, owed, row_with_packet, row_with_ack, row_unplugged, row_done, row_of};
 
 use crate::submission::{Done, Submission, TicketInfo};
 use usb_xfer::Buffer;
@@ -138,6 +138,49 @@ impl Slot {
                 self.status = Some(0);
             }
         }
+    }
+
+    /// The next packet of it is acknowledged.
+    pub(crate) fn take_ack(&mut self)
+        requires output { self.old.endpoint < 128 }
+        requires unfinished { self.old.status ≡ None }
+        requires roomy { IsRoomy self.old }
+        ensures row { self.new ≡ row_with_ack self.old }
+        ensures roomy { IsRoomy self.new }
+        ensures unreaped { is_unreaped_row self.new ≡ is_unreaped_row self.old }
+    {
+        if let Some(buffer) = &self.buffer {
+            let len = buffer.len();
+            self.count += self.maximum.min(len - self.count);
+            if self.count >= len {
+                self.status = Some(0);
+            }
+        }
+    }
+
+    /// It fails with an errno.
+    pub(crate) fn fail(&mut self, errno: u16)
+        requires unfinished { self.old.status ≡ None }
+        requires roomy { IsRoomy self.old }
+        ensures row { self.new ≡ record self.old { status = Some errno } }
+        ensures places { owed self.new + 1 ≡ owed self.old }
+        ensures unreaped { is_unreaped_row self.new ≡ is_unreaped_row self.old }
+    {
+        self.status = Some(errno);
+    }
+
+    /// Its device is gone, where that is the one. It answers how many places that freed.
+    pub(crate) fn unplug(&mut self, device: u8) -> usize
+        ensures row { self.new ≡ row_unplugged device self.old }
+        ensures places { owed self.new + result ≡ owed self.old }
+        ensures few { result ≤ 1 }
+        ensures unreaped { is_unreaped_row self.new ≡ is_unreaped_row self.old }
+    {
+        let before = self.places();
+        if self.device == device && self.status.is_none() {
+            self.status = Some(108);
+        }
+        before - self.places()
     }
 
     /// What is known of it.

@@ -1,12 +1,27 @@
 //! The steps of a simulation.
 
-ghost use Rattle.std.specs.Prelude.{◌≡◌, IfOk};
+ghost use Rattle.std.specs.Prelude.{◌≡◌, ◌==◌, IfOk};
+ghost use Rattle.usb_kernel.specs.Refusals.{call_number};
 
 use crate::bytes::Bytes;
 use std::alloc::Global;
 use usb_desc::NoMemory;
 
-/// A step of the simulation.
+/// A call that an armed refusal can be for.
+#[derive(Clone, Copy)]
+pub enum KernelCall {
+    Submit,
+}
+
+/// A refusal that waits for the next call of its kind on its device.
+#[derive(Clone, Copy)]
+pub struct Armed {
+    pub device: u8,
+    pub call: KernelCall,
+    pub errno: u16,
+}
+
+/// A step of the simulation. Devices are named by their numbers and endpoints by their addresses.
 #[derive(Drop)]
 pub enum KernelStep {
     /// A packet comes to an IN endpoint.
@@ -15,10 +30,53 @@ pub enum KernelStep {
         endpoint: u8,
         bytes: Bytes,
     },
-    /// A ticket is reaped, where it is finished and not reaped.
+    /// An OUT endpoint acknowledges a packet.
+    Ack {
+        device: u8,
+        endpoint: u8,
+    },
+    /// The oldest transfer of an endpoint fails with an errno.
+    Fail {
+        device: u8,
+        endpoint: u8,
+        errno: u16,
+    },
+    /// The device is gone.
+    Unplug {
+        device: u8,
+    },
+    /// The clock is set, in nanoseconds, where that is later.
+    Clock {
+        to: u64,
+    },
+    /// A ticket is reaped, where it is finished and not reaped: the one that is named, or the lowest such.
     Reap {
         ticket: Option<u64>,
     },
+    /// The device's next call of a kind is refused with an errno.
+    Refuse {
+        device: u8,
+        call: KernelCall,
+        errno: u16,
+    },
+}
+
+impl KernelCall {
+    /// The number of the call.
+    fn number(self) -> u8
+        ensures number { result ≡ call_number self }
+    {
+        match self {
+            KernelCall::Submit => 0,
+        }
+    }
+
+    /// Whether it is this call.
+    pub(crate) fn is(self, other: KernelCall) -> bool
+        ensures same { result ≡ (call_number self == call_number other) }
+    {
+        self.number() == other.number()
+    }
 }
 
 impl KernelStep {
@@ -39,7 +97,31 @@ impl KernelStep {
                     bytes,
                 })
             }
+            KernelStep::Ack { device, endpoint } => Ok(KernelStep::Ack {
+                device: *device,
+                endpoint: *endpoint,
+            }),
+            KernelStep::Fail {
+                device,
+                endpoint,
+                errno,
+            } => Ok(KernelStep::Fail {
+                device: *device,
+                endpoint: *endpoint,
+                errno: *errno,
+            }),
+            KernelStep::Unplug { device } => Ok(KernelStep::Unplug { device: *device }),
+            KernelStep::Clock { to } => Ok(KernelStep::Clock { to: *to }),
             KernelStep::Reap { ticket } => Ok(KernelStep::Reap { ticket: *ticket }),
+            KernelStep::Refuse {
+                device,
+                call,
+                errno,
+            } => Ok(KernelStep::Refuse {
+                device: *device,
+                call: *call,
+                errno: *errno,
+            }),
         }
     }
 }

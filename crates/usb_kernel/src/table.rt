@@ -1,14 +1,14 @@
 //! The table of tickets, one row for each. Each change of it is one event of the journal that the table agrees with.
 
-ghost use Rattle.std.specs.Prelude.{◌≡◌, ◌+◌, ◌<◌, ◌++◌, ◌∷◌, [], length, List, position, vec_len, vec_capacity, is_some, unwrap_or, Some, if◌then◌else◌};
+ghost use Rattle.std.specs.Prelude.{◌≡◌, ◌+◌, ◌<◌, ◌++◌, ◌∷◌, [], length, map, List, position, vec_len, vec_capacity, is_some, unwrap_or, Some, if◌then◌else◌};
 ghost use Rattle.std.specs.List.{All, count_by, sum_by};
 ghost use Rattle.usb_kernel.specs.declared.event.Event.{Event};
 ghost use Rattle.usb_kernel.specs.Tickets.{tickets};
 ghost use Rattle.usb_kernel.specs.Submissions.{submit_event, refuse_event, IsWhole};
 ghost use Rattle.usb_kernel.specs.Completions.{reapable, refused_done};
-ghost use Rattle.usb_kernel.specs.Steps.{after_packet, after_reap, after_discard};
+ghost use Rattle.usb_kernel.specs.Steps.{after_packet, after_ack, after_fail, after_reap, after_discard};
 ghost use Rattle.usb_kernel.specs.Info.{info_of};
-ghost use Rattle.usb_kernel.specs.Rows.{IsRoomy, is_open_row, is_reapable_row, is_unreaped_row, owed, Agrees};
+ghost use Rattle.usb_kernel.specs.Rows.{IsRoomy, is_open_row, is_reapable_row, is_unreaped_row, row_unplugged, owed, Agrees, AreReaped, AreReapedRows};
 
 use crate::slot::Slot;
 use crate::submission::{Done, Submission, TicketInfo};
@@ -57,6 +57,18 @@ fn first_open(rows: &[Slot], device: u8, endpoint: u8) -> Option<usize>
     rows.iter().position(|t| t.device == device && t.endpoint == endpoint && t.status.is_none())
 }
 
+/// The same of a table whose rows below a place are reaped.
+fn open_from(rows: &[Slot], from: usize, device: u8, endpoint: u8) -> Option<usize>
+    requires reaped { AreReapedRows from rows.now }
+    requires roomy { All IsRoomy rows.now }
+    ensures place { result ≡ position (is_open_row device endpoint) rows.now }
+{
+    match first_open(&rows[from..], device, endpoint) {
+        Some(at) => Some(from + at),
+        None => None,
+    }
+}
+
 /// The first row that is finished and not reaped.
 fn first_reapable(rows: &[Slot]) -> Option<usize>
     ensures place { result ≡ position is_reapable_row rows.now }
@@ -64,23 +76,38 @@ fn first_reapable(rows: &[Slot]) -> Option<usize>
     rows.iter().position(|t| t.is_reapable())
 }
 
-/// The same, as a ticket's number.
-pub(crate) fn first_number(rows: &[Slot]) -> Option<u64>
+/// The same, as a ticket's number, of a table whose rows below a place are reaped.
+pub(crate) fn first_number(rows: &[Slot], from: usize) -> Option<u64>
+    requires reaped { AreReapedRows from rows.now }
     ensures number { result ≡ position is_reapable_row rows.now }
 {
-    match first_reapable(rows) {
-        Some(at) => Some(at as u64),
+    match first_reapable(&rows[from..]) {
+        Some(at) => Some((from + at) as u64),
         None => None,
     }
 }
 
-/// Gives a packet to the oldest IN ticket of an endpoint. It answers how many places that freed.
+/// The rows below a place are reaped: the place of the next that is not, or the end.
+pub(crate) fn skip_reaped(rows: &[Slot], from: usize) -> usize
+    requires reaped { AreReapedRows from rows.now }
+    ensures reaped { (past : List Event) → Agrees past rows.now → AreReaped result past }
+{
+    let mut at = from;
+    while at < rows.len() && rows[at].buffer.is_none() {
+        at += 1;
+    }
+    at
+}
+
+/// Gives a packet to the oldest IN ticket of an endpoint. The rows below a place are reaped. It answers how many places that freed.
 pub(crate) fn give_packet(
     rows: &mut Vec<Slot>,
+    from: usize,
     device: u8,
     endpoint: u8,
     bytes: &[u8],
 ) -> Option<usize>
+    requires reaped { AreReapedRows from rows.old.items }
     requires roomy { All IsRoomy rows.old.items }
     ensures agrees { (past : List Event) → Agrees past rows.old.items → Agrees (after_packet past device endpoint bytes.now) rows.new.items }
     ensures acts { (past : List Event) → Agrees past rows.old.items → after_packet past device endpoint bytes.now ≡ (if is_some result then Event.Packet device endpoint bytes.now ∷ past else past) }
@@ -90,13 +117,80 @@ pub(crate) fn give_packet(
     if endpoint < 128 {
         return None;
     }
-    let Some(at) = first_open(rows, device, endpoint) else {
+    let Some(at) = open_from(rows, from, device, endpoint) else {
         return None;
     };
     let slot = &mut rows[at];
     let before = slot.places();
     slot.take_packet(bytes);
     Some(before - slot.places())
+}
+
+/// Acknowledges a packet of the oldest OUT ticket of an endpoint. It answers how many places that freed.
+pub(crate) fn give_ack(rows: &mut Vec<Slot>, from: usize, device: u8, endpoint: u8) -> Option<usize>
+    requires reaped { AreReapedRows from rows.old.items }
+    requires roomy { All IsRoomy rows.old.items }
+    ensures agrees { (past : List Event) → Agrees past rows.old.items → Agrees (after_ack past device endpoint) rows.new.items }
+    ensures acts { (past : List Event) → Agrees past rows.old.items → after_ack past device endpoint ≡ (if is_some result then Event.Ack device endpoint ∷ past else past) }
+    ensures places { sum_by owed rows.new.items + unwrap_or result 0 ≡ sum_by owed rows.old.items }
+    ensures unreaped { count_by is_unreaped_row rows.new.items ≡ count_by is_unreaped_row rows.old.items }
+{
+    if endpoint >= 128 {
+        return None;
+    }
+    let Some(at) = open_from(rows, from, device, endpoint) else {
+        return None;
+    };
+    let slot = &mut rows[at];
+    let before = slot.places();
+    slot.take_ack();
+    Some(before - slot.places())
+}
+
+/// Finishes the oldest ticket of an endpoint with an errno. It answers whether there was one.
+pub(crate) fn fail_oldest(
+    rows: &mut Vec<Slot>,
+    from: usize,
+    device: u8,
+    endpoint: u8,
+    errno: u16,
+) -> bool
+    requires reaped { AreReapedRows from rows.old.items }
+    requires roomy { All IsRoomy rows.old.items }
+    ensures agrees { (past : List Event) → Agrees past rows.old.items → Agrees (after_fail past device endpoint errno) rows.new.items }
+    ensures acts { (past : List Event) → Agrees past rows.old.items → after_fail past device endpoint errno ≡ (if result then Event.Fail device endpoint errno ∷ past else past) }
+    ensures places { sum_by owed rows.new.items + (if result then 1 else 0) ≡ sum_by owed rows.old.items }
+    ensures unreaped { count_by is_unreaped_row rows.new.items ≡ count_by is_unreaped_row rows.old.items }
+{
+    let Some(at) = open_from(rows, from, device, endpoint) else {
+        return false;
+    };
+    let slot = &mut rows[at];
+    slot.fail(errno);
+    true
+}
+
+/// Finishes the tickets of a device that is gone. It answers how many places that freed.
+fn unplug_rows(rows: &mut Vec<Slot>, device: u8) -> usize
+    ensures rows { rows.new.items ≡ map (row_unplugged device) rows.old.items }
+    ensures places { sum_by owed rows.new.items + result ≡ sum_by owed rows.old.items }
+    ensures unreaped { count_by is_unreaped_row rows.new.items ≡ count_by is_unreaped_row rows.old.items }
+{
+    let mut freed = 0;
+    for i in 0..rows.len() {
+        let row = &mut rows[i];
+        freed += row.unplug(device);
+    }
+    freed
+}
+
+/// The same, as the journal sees it.
+pub(crate) fn unplug_tickets(rows: &mut Vec<Slot>, device: u8) -> usize
+    ensures agrees { (past : List Event) → Agrees past rows.old.items → Agrees (Event.Unplug device ∷ past) rows.new.items }
+    ensures places { sum_by owed rows.new.items + result ≡ sum_by owed rows.old.items }
+    ensures unreaped { count_by is_unreaped_row rows.new.items ≡ count_by is_unreaped_row rows.old.items }
+{
+    unplug_rows(rows, device)
 }
 
 /// Takes the completion of a ticket that is finished and not reaped.

@@ -1,8 +1,8 @@
 //! Worked rows: expected values from the rules of the simulation, and one run of each call that allocates.
 
-ghost use Rattle.std.specs.Prelude.{◌≡◌, IfOk, None, IsTrue};
-ghost use Rattle.usb_kernel.specs.Submissions.{IsWhole};
-ghost use Rattle.usb_kernel.specs.Steps.{names_ticket};
+ghost use Rattle.std.specs.Prelude.{◌≡◌, ◌+◌, ◌≤◌, IfOk, None};
+ghost use Rattle.usb_kernel.specs.Submissions.{IsWhole, IsErrno};
+ghost use Rattle.usb_kernel.specs.Steps.{HasErrno};
 
 use super::*;
 use std::alloc::Global;
@@ -58,9 +58,74 @@ fn wanting(alloc: Global, device: u8) -> Result<Submission, NoMemory>
     })
 }
 
+/// A bulk transfer that wants 128 bytes, two packets.
+fn wanting_two(alloc: Global) -> Result<Submission, NoMemory>
+    ensures whole { IfOk result IsWhole }
+    ensures deadline { IfOk result (λ s. s.deadline ≡ None) }
+{
+    let buffer = Buffer::new(alloc, 128)?;
+    Ok(Submission {
+        device: 0,
+        endpoint: 0x81,
+        kind: TransferType::Bulk,
+        maximum: 64,
+        deadline: None,
+        setup: None,
+        buffer,
+    })
+}
+
+/// A bulk transfer that sends this many bytes.
+fn sending(alloc: Global, device: u8, len: u8) -> Result<Submission, NoMemory>
+    ensures whole { IfOk result IsWhole }
+    ensures deadline { IfOk result (λ s. s.deadline ≡ None) }
+{
+    let mut buffer = Buffer::new(alloc, len as usize)?;
+    buffer.extend_fill(len as usize, 7);
+    Ok(Submission {
+        device,
+        endpoint: 0x02,
+        kind: TransferType::Bulk,
+        maximum: 64,
+        deadline: None,
+        setup: None,
+        buffer,
+    })
+}
+
+/// An acknowledgement on endpoint 0x02 of device 0.
+const ACK: KernelStep = KernelStep::Ack {
+    device: 0,
+    endpoint: 0x02,
+};
+
+/// The device's next submission is to be refused.
+fn refuse_submit(device: u8, errno: u16) -> KernelStep
+    requires errno { IsErrno errno }
+    ensures errno { HasErrno result }
+{
+    KernelStep::Refuse {
+        device,
+        call: KernelCall::Submit,
+        errno,
+    }
+}
+
+/// How many events the journal has after a step that gives no completion.
+fn events_after(kernel: &mut Kernel, step: KernelStep) -> Option<usize>
+    requires spare { 1 ≤ kernel.old.spare }
+    requires errno { HasErrno step }
+    ensures spare { kernel.new.spare + 1 ≡ kernel.old.spare }
+{
+    match kernel.step(step) {
+        Some(_) => None,
+        None => Some(kernel.journal().len()),
+    }
+}
+
 /// A packet on endpoint 0x81 of device 0.
 fn packet(alloc: Global, bytes: &[u8]) -> Result<KernelStep, NoMemory>
-    ensures names_ticket { IfOk result (λ step. IsTrue (names_ticket step)) }
+    ensures errno { IfOk result HasErrno }
 {
     Ok(KernelStep::Packet {
         device: 0,
@@ -212,6 +277,174 @@ fn devices_answer_in_the_order_of_their_rows(rt: HostRuntime) -> Result<(), Fail
 }
 
 #[test]
+fn acknowledgements_take_up_to_the_maximum(rt: HostRuntime) -> Result<(), Fail> {
+    let mut kernel = kernel(rt.alloc())?;
+    for len in [65, 65, 0] {
+        assert!(rt; queued(kernel.submit(sending(rt.alloc(), 0, len)?)).is_some());
+    }
+    kernel.reserve(4)?;
+    kernel.step(ACK);
+    kernel.step(KernelStep::Fail {
+        device: 0,
+        endpoint: 0x02,
+        errno: 32,
+    });
+    kernel.step(ACK);
+    assert_eq!(rt; kernel.lowest_finished(), Some(0));
+    assert!(rt; kernel.reap(1).is_none());
+    kernel.step(ACK);
+    for (ticket, status, count, len) in [(0, 32, 64, 65), (1, 0, 65, 65)] {
+        let done = kernel.reap(ticket).ok_or("no completion")?;
+        assert_eq!(rt;
+            (done.status, done.count, done.buffer.len()),
+            (status, count, len)
+        );
+    }
+    assert_eq!(rt; kernel.lowest_finished(), None);
+    kernel.reserve(1)?;
+    kernel.step(ACK);
+    assert_eq!(rt;
+        kernel.reap(2).map(|done| (done.status, done.count)),
+        Some((0, 0))
+    );
+    Ok(())
+}
+
+#[test]
+fn a_failure_keeps_received_bytes(rt: HostRuntime) -> Result<(), Fail> {
+    let mut kernel = kernel(rt.alloc())?;
+    kernel.reserve(2)?;
+    assert_eq!(rt; queued(kernel.submit(wanting_two(rt.alloc())?)), Some(0));
+    kernel.step(packet(rt.alloc(), &[7; 64])?);
+    assert_eq!(rt; kernel.lowest_finished(), None);
+    kernel.step(KernelStep::Fail {
+        device: 0,
+        endpoint: 0x81,
+        errno: 32,
+    });
+    let done = kernel.reap(0).ok_or("no completion")?;
+    assert_eq!(rt;
+        (done.status, done.count, done.buffer.as_slice()),
+        (32, 64, [7; 64].as_slice())
+    );
+    Ok(())
+}
+
+#[test]
+fn an_unplug_finishes_its_tickets_and_lasts(rt: HostRuntime) -> Result<(), Fail> {
+    let mut kernel = kernel(rt.alloc())?;
+    kernel.reserve(2)?;
+    assert_eq!(rt; queued(kernel.submit(wanting(rt.alloc(), 0)?)), Some(0));
+    assert_eq!(rt; queued(kernel.submit(sending(rt.alloc(), 0, 9)?)), Some(1));
+    assert_eq!(rt; queued(kernel.submit(wanting(rt.alloc(), 1)?)), Some(2));
+    kernel.step(refuse_submit(0, 5));
+    kernel.step(KernelStep::Unplug { device: 0 });
+    assert_eq!(rt;
+        (kernel.clear_halt(0, 0x81), kernel.clear_halt(1, 0x81)),
+        (Err(19), Ok(()))
+    );
+    assert_eq!(rt; kernel.configuration(0), Err(19));
+    for (ticket, status) in [(0, Some(108)), (1, Some(108)), (2, None)] {
+        let done = kernel.reap(ticket);
+        assert_eq!(rt; done.map(|done| done.status), status, "{ticket}");
+    }
+    let after = refused(kernel.submit(wanting(rt.alloc(), 0)?));
+    assert_eq!(rt; after.map(|done| done.status), Some(19));
+    Ok(())
+}
+
+#[test]
+fn armed_refusals_are_used_in_order_and_once(rt: HostRuntime) -> Result<(), Fail> {
+    let mut kernel = kernel(rt.alloc())?;
+    kernel.reserve(4)?;
+    kernel.step(refuse_submit(0, 5));
+    kernel.step(refuse_submit(1, 6));
+    kernel.step(refuse_submit(0, 7));
+    kernel.step(refuse_submit(9, 8));
+    for (device, status) in [
+        (0, Some(5)),
+        (0, Some(7)),
+        (0, None),
+        (1, Some(6)),
+        (1, None),
+        (9, Some(19)),
+    ] {
+        let done = refused(kernel.submit(wanting(rt.alloc(), device)?));
+        assert_eq!(rt; done.map(|done| done.status), status, "on {device}");
+    }
+    assert_eq!(rt; (kernel.tickets(), kernel.unreaped()), (6, 2));
+    Ok(())
+}
+
+#[test]
+fn the_clock_never_falls(rt: HostRuntime) -> Result<(), Fail> {
+    let mut kernel = kernel(rt.alloc())?;
+    kernel.reserve(2)?;
+    assert_eq!(rt; kernel.now(), 0);
+    kernel.step(KernelStep::Clock { to: 5 });
+    kernel.step(KernelStep::Clock { to: 3 });
+    assert_eq!(rt; kernel.now(), 5);
+    kernel.idle(4);
+    assert_eq!(rt; kernel.now(), 5);
+    kernel.idle(9);
+    assert_eq!(rt; kernel.now(), 9);
+    Ok(())
+}
+
+#[test]
+fn a_reap_with_no_number_takes_the_lowest(rt: HostRuntime) -> Result<(), Fail> {
+    let mut kernel = kernel(rt.alloc())?;
+    for _ in 0..3 {
+        assert!(rt; queued(kernel.submit(wanting(rt.alloc(), 0)?)).is_some());
+    }
+    kernel.discard(2);
+    kernel.discard(1);
+    kernel.reserve(3)?;
+    let first = kernel.step(KernelStep::Reap { ticket: None });
+    let second = kernel.step(KernelStep::Reap { ticket: None });
+    let third = kernel.step(KernelStep::Reap { ticket: None });
+    assert_eq!(rt; first.map(|done| done.ticket), Some(1));
+    assert_eq!(rt; second.map(|done| done.ticket), Some(2));
+    assert!(rt; third.is_none());
+    Ok(())
+}
+
+#[test]
+fn a_step_with_nothing_to_act_on_leaves_no_event(rt: HostRuntime) -> Result<(), Fail> {
+    let mut kernel = kernel(rt.alloc())?;
+    kernel.reserve(10)?;
+    assert_eq!(rt; queued(kernel.submit(wanting(rt.alloc(), 1)?)), Some(0));
+    let other = packet(rt.alloc(), &[1])?;
+    assert_eq!(rt; events_after(&mut kernel, other), Some(1));
+    assert_eq!(rt; events_after(&mut kernel, ACK), Some(1));
+    let input = KernelStep::Ack {
+        device: 1,
+        endpoint: 0x81,
+    };
+    assert_eq!(rt; events_after(&mut kernel, input), Some(1));
+    let none_open = KernelStep::Fail {
+        device: 1,
+        endpoint: 0x02,
+        errno: 5,
+    };
+    assert_eq!(rt; events_after(&mut kernel, none_open), Some(1));
+    let unknown = KernelStep::Unplug { device: 2 };
+    assert_eq!(rt; events_after(&mut kernel, unknown), Some(1));
+    assert_eq!(rt;
+        events_after(&mut kernel, KernelStep::Clock { to: 5 }),
+        Some(1)
+    );
+    assert_eq!(rt; events_after(&mut kernel, refuse_submit(1, 5)), Some(1));
+    let lowest = KernelStep::Reap { ticket: None };
+    assert_eq!(rt; events_after(&mut kernel, lowest), Some(1));
+    let unfinished = KernelStep::Reap { ticket: Some(0) };
+    assert_eq!(rt; events_after(&mut kernel, unfinished), Some(1));
+    let beyond = KernelStep::Reap { ticket: Some(9) };
+    assert_eq!(rt; events_after(&mut kernel, beyond), Some(1));
+    Ok(())
+}
+
+#[test]
 fn copies_are_equal(rt: HostRuntime) -> Result<(), Fail> {
     let bytes = Bytes::from_slice(rt.alloc(), &[5, 6])?;
     assert_eq!(rt; bytes.clone(rt.alloc())?.as_slice(), [5, 6].as_slice());
@@ -224,7 +457,7 @@ fn copies_are_equal(rt: HostRuntime) -> Result<(), Fail> {
             assert_eq!(rt; (device, endpoint), (0, 0x81));
             assert_eq!(rt; bytes.as_slice(), [8, 9].as_slice());
         }
-        KernelStep::Reap { .. } => assert!(rt; false),
+        _ => assert!(rt; false),
     }
     let reap = KernelStep::Reap { ticket: Some(4) };
     assert!(rt;

@@ -26,3 +26,6 @@ returns-clause-acts c =
     λ past agrees.
     let row = found past c.args.rows.now.items c.args.device c.args.endpoint c.in-Some.at c.index_mut-slot.result.now agrees (rw c.deref.ensures.value at (sym c.in-Some.ensures.place)) c.index_mut-slot.ensures.value in
     after_packet-some past c.args.device c.args.endpoint c.in-Some.at c.args.bytes.now c.if-endpoint-lt128.false row.first
+
+pub open_from-requires-clause-roomy : goal.open_from-requires-clause-roomy
+open_from-requires-clause-roomy c = rw c.deref.ensures.value c.requires.roomy

@@ -1,0 +1,92 @@
+//! Laws of journals. Each is the contract of a function that does nothing.
+
+ghost use Rattle.usb_kernel.specs.Laws.{ReapedIsFinal, CompletionIsFinal, EventExtends, SubmitExtends, RefuseExtends, StepExtends, DiscardExtends, ReapExtends, ExtendsItself, ExtendsInTurn, TicketStays, StatusStays, ReapedStays, CompletionStays, LaterAreUntouched};
+ghost use Rattle.usb_kernel.specs.Laws.{SubmitOpens, SubmitSparesOthers, RefuseOpensNone, PacketServesOldest, PacketSparesOthers, AckServesOldest, AckSparesOthers, FailTakesOldest, FailSparesOthers, DiscardCloses, ReapClosesNone, UnplugCloses, UnplugSparesOthers, EchoIsAckAndPacket, EchoClosesAsBoth, EchoNeedsBoth, EchoClosesNone};
+ghost use Rattle.usb_kernel.specs.Laws.{DiscardFinishes, FinishedIsReapable, ReapableHasLowest, LowestIsReapable, LowestIsLeast, WaitingAreTickets, ReapEndsWaiting, ReapLeavesOneLess, SubmitLeavesWaiting, RefuseLeavesWaiting, OthersAddWaiting};
+
+/// Whatever comes after its reap, a ticket's fate stays, and its completion with it.
+pub fn reaped_is_final()
+    ensures fate { ReapedIsFinal }
+    ensures completion { CompletionIsFinal }
+{}
+
+/// A journal goes on by each event, and by each call that may leave one.
+pub fn calls_extend_journals()
+    ensures event { EventExtends }
+    ensures submit { SubmitExtends }
+    ensures refuse { RefuseExtends }
+    ensures step { StepExtends }
+    ensures discard { DiscardExtends }
+    ensures reap { ReapExtends }
+{}
+
+/// A journal goes on to itself, and goes on in turn.
+pub fn extensions_compose()
+    ensures itself { ExtendsItself }
+    ensures in_turn { ExtendsInTurn }
+{}
+
+/// What stays while a journal goes on.
+pub fn extensions_keep_tickets()
+    ensures ticket { TicketStays }
+    ensures status { StatusStays }
+    ensures fate { ReapedStays }
+    ensures completion { CompletionStays }
+{}
+
+/// While a ticket is open, nothing has come to the later ones of its endpoint.
+pub fn later_are_untouched()
+    ensures law { LaterAreUntouched }
+{}
+
+/// A submission opens one ticket, on its own endpoint.
+pub fn submissions_open_tickets()
+    ensures own { SubmitOpens }
+    ensures others { SubmitSparesOthers }
+    ensures refused { RefuseOpensNone }
+{}
+
+/// A packet or an acknowledgement closes the oldest open ticket of its endpoint where it finishes it, and a failure closes it always.
+pub fn oldest_is_served()
+    ensures packet { PacketServesOldest }
+    ensures packet_others { PacketSparesOthers }
+    ensures ack { AckServesOldest }
+    ensures ack_others { AckSparesOthers }
+    ensures fail { FailTakesOldest }
+    ensures fail_others { FailSparesOthers }
+{}
+
+/// A discard closes its ticket, an unplug closes the tickets of its device, and a reap closes none.
+pub fn tickets_are_closed()
+    ensures discard { DiscardCloses }
+    ensures reap { ReapClosesNone }
+    ensures unplug { UnplugCloses }
+    ensures unplug_others { UnplugSparesOthers }
+{}
+
+/// An echo is an acknowledgement, and then the packet that it takes.
+pub fn echo_is_two_events()
+    ensures fate { EchoIsAckAndPacket }
+    ensures closes { EchoClosesAsBoth }
+    ensures alone { EchoNeedsBoth }
+    ensures alone_closes { EchoClosesNone }
+{}
+
+/// A discard finishes its ticket, and a ticket that is finished and not reaped is not overlooked.
+pub fn finished_can_be_reaped()
+    ensures discarded { DiscardFinishes }
+    ensures reapable { FinishedIsReapable }
+    ensures some { ReapableHasLowest }
+    ensures lowest { LowestIsReapable }
+    ensures least { LowestIsLeast }
+{}
+
+/// How many tickets wait to be reaped after an event.
+pub fn waiting_tickets_are_counted()
+    ensures few { WaitingAreTickets }
+    ensures reap { ReapEndsWaiting }
+    ensures one_less { ReapLeavesOneLess }
+    ensures submit { SubmitLeavesWaiting }
+    ensures refuse { RefuseLeavesWaiting }
+    ensures others { OthersAddWaiting }
+{}
