@@ -1,12 +1,8 @@
 -- How a bus goes on.
-use Rattle.std.specs.Prelude.{◌≡◌, ◌≤◌, List, ◌++◌}
-use Rattle.usb_kernel.specs.declared.event.Event.{Event}
+use Rattle.std.specs.Prelude.{◌≡◌, ◌≤◌}
 use Rattle.usb_bus.specs.BusState.{BusState}
-
 -- the old journal is the beginning of the new one
-pub record Extends (old new : List Event) : Type 0 where
-  pub more : List Event
-  pub is : new ≡ more ++ old
+pub use Rattle.usb_kernel.specs.Extends.{Extends}
 
 -- events may have come and time may have passed, and nothing that endpoints hold has ended
 pub record IsLater (old new : BusState) : Type 0 where

@@ -5,3 +5,7 @@ pub mod Submitted
 pub mod Later
 pub mod Turns
 pub mod Values
+pub mod Transferred
+pub mod KernelBusState
+pub mod KernelBusCalls
+pub mod KernelBusFacts

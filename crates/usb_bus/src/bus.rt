@@ -103,11 +103,12 @@ pub trait Bus: Slots<TransferData> {
         ensures state { state self.new ≡ record (state self.old) { keys = without_key (state self.old).keys endpoint_key } }
         ensures ok { self.new ≡ closed self.old endpoint_key };
 
-    /// Goes on by one step. Time is up only where no ticket is finished and unreaped.
+    /// Goes on by one step. Time is up only where no ticket is finished and unreaped, and then nothing has changed.
     fn turn(&mut self) -> Turn
         ensures state { IsLater (state self.old) (state self.new) }
         ensures falls { Falls result (state self.old).left (state self.new).left }
         ensures time_up { result ≡ Turn.TimeUp → lowest (state self.old).past ≡ None }
+        ensures still { result ≡ Turn.TimeUp → state self.new ≡ state self.old }
         ensures turn { result ≡ turn_of self.old }
         ensures ok { self.new ≡ turned self.old };
 

@@ -3,8 +3,16 @@
 
 mod bus;
 mod completion;
+mod kernel_bus;
+mod kernel_slots;
 mod route;
+mod transfers;
 
 pub use bus::Bus;
 pub use completion::completion_from;
+pub use kernel_bus::KernelBus;
 pub use route::{Route, Turn};
+pub use transfers::{Transferred, submit_buffer, transfer, turn_until_complete};
+
+#[cfg(test)]
+mod tests;

@@ -1,0 +1,3 @@
+pub mod TransferLemmas
+pub mod SlotLemmas
+pub mod KernelBusLemmas
