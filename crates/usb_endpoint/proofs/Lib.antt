@@ -1,0 +1,9 @@
+pub mod HandleLemmas
+pub mod SubmitLemmas
+pub mod CloseLemmas
+pub mod WaitLemmas
+pub mod OrderLemmas
+pub mod EndLemmas
+pub mod Determined
+pub mod BlockingLemmas
+pub mod AllStandLemmas

@@ -1,0 +1,13 @@
+use Rattle.std.proofs.Common.{◌≡◌, drop}
+use Rattle.usb_kernel.specs.Steps.{after_discard}
+use Rattle.usb_endpoint.specs.Closes.{all_discarded}
+use Rattle.usb_endpoint.proofs.endpoint.Endpoint.cancel_all.Given as goal
+
+abbrev pub invariant-tickets : goal.invariant-tickets
+invariant-tickets g l = record {
+  bus : l.bus ≡ all_discarded g.B.Bus.discarded l.initial.bus (drop l.i l.self-inside.pending.items);
+  state : g.B.Bus.state l.bus ≡ record (g.B.Bus.state l.initial.bus) {
+    past = all_discarded after_discard (g.B.Bus.state l.initial.bus).past (drop l.i l.self-inside.pending.items);
+    left = (g.B.Bus.state l.bus).left;
+  };
+}

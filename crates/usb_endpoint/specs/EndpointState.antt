@@ -1,0 +1,18 @@
+-- What an endpoint is to its users.
+use Rattle.std.specs.Prelude.{ℕ, List}
+use Rattle.usb_desc.specs.declared.types.TransferType.{TransferType}
+use Rattle.usb_bus.specs.declared.route.Route.{Route}
+
+-- the device's number at the kernel, the address, the transfer type and the maximum packet size of the endpoint, the key by
+-- which a bus knows it, and its pending tickets in the order of their submission
+pub record EndpointState : Type 0 where
+  pub device : ℕ
+  pub address : ℕ
+  pub kind : TransferType
+  pub maximum : ℕ
+  pub key : ℕ
+  pub pending : List ℕ
+
+-- where its submissions go
+abbrev pub route_of : EndpointState → Route
+route_of e = record { device = e.device; endpoint = e.address; kind = e.kind; maximum = e.maximum; key = e.key }

@@ -1,0 +1,44 @@
+-- What a handle's calls ask of a bus, what they keep true, and what they give.
+use Rattle.std.specs.Prelude.{ℕ, ◌≡◌, ◌≢◌, true, List, [], ◌∷◌, Option, Some, None}
+use Rattle.usb_xfer.specs.declared.transfer.Completion.{Completion}
+use Rattle.usb_bus.specs.BusState.{BusState}
+use Rattle.usb_bus.specs.Completions.{transfer_completion}
+use Rattle.usb_endpoint.specs.EndpointState.{EndpointState}
+
+-- a ticket is none of these
+abbrev pub IsApart : ℕ → List ℕ → Type 0
+IsApart t [] = Unit {0}
+IsApart t (u ∷ us) = (t ≢ u) × IsApart t us
+
+-- the tickets are held by the endpoint of this key, and no two are the same
+abbrev pub AreHeld : (ℕ → Option ℕ) → ℕ → List ℕ → Type 0
+AreHeld owner k [] = Unit {0}
+AreHeld owner k (t ∷ ts) = (owner t ≡ Some k) × IsApart t ts × AreHeld owner k ts
+
+-- the endpoint stands in the bus: its key is open, and it holds its pending tickets
+pub record Stands (b : BusState) (e : EndpointState) : Type 0 where
+  pub key_is_open : b.keys e.key ≡ true
+  pub held : AreHeld b.owner e.key e.pending
+
+-- what endpoints of other keys hold has not ended
+pub record KeepsOthers (old new : BusState) (key : ℕ) : Type 0 where
+  pub tickets : (t k : ℕ) → k ≢ key → old.owner t ≡ Some k → new.owner t ≡ Some k
+  pub keys : (k : ℕ) → k ≢ key → old.keys k ≡ true → new.keys k ≡ true
+
+-- the front is reaped: it was taken, with the completion that the journal has for it
+pub record TookNext {S : Type 0} (state : S → BusState) (taken : S → ℕ → S) (old : S) (e : EndpointState) (c : Completion) (new : S) (next : EndpointState) : Type 0 where
+  pub front : ℕ
+  pub others : List ℕ
+  pub was : e.pending ≡ front ∷ others
+  pub completion_is : transfer_completion (state old).past front ≡ Some c
+  pub next_is : next ≡ record e { pending = others }
+  pub rest : new ≡ taken old front
+
+-- the front is not reaped, and nothing changed
+pub record LeftNext {S : Type 0} (state : S → BusState) (old : S) (e : EndpointState) (new : S) (next : EndpointState) : Type 0 where
+  pub front : ℕ
+  pub others : List ℕ
+  pub was : e.pending ≡ front ∷ others
+  pub none : transfer_completion (state old).past front ≡ None
+  pub next_is : next ≡ e
+  pub rest : new ≡ old

@@ -1,0 +1,13 @@
+pub mod EndpointState
+pub mod Polls
+pub mod Handles
+pub mod Submits
+pub mod Closes
+pub mod Waits
+pub mod Blocking
+pub mod Frames
+pub mod AllStand
+pub mod Histories
+pub mod Ends
+pub mod Laws
+pub mod AnyEndpoints

@@ -1,0 +1,40 @@
+-- What the submission of a buffer does.
+use Rattle.std.specs.Prelude.{ℕ, ◌≡◌, ◌%◌, Bool, true, false, Option, Some, nat_le, nat_lt, ◌==◌, ◌&&◌, if◌then◌else◌}
+use Rattle.usb_xfer.specs.BufferState.{BufferState}
+use Rattle.usb_xfer.specs.declared.transfer.Held.{Held}
+use Rattle.usb_xfer.specs.declared.transfer.TransferData.{TransferData}
+use Rattle.usb_xfer.specs.Transfers.{filled_transfer, buffer_held}
+use Rattle.usb_bus.specs.declared.route.Route.{Route}
+use Rattle.usb_bus.specs.BusState.{BusState}
+use Rattle.usb_bus.specs.Submitted.{Entered}
+use Rattle.usb_endpoint.specs.EndpointState.{EndpointState, route_of}
+
+-- a length in whole packets, at least one
+abbrev pub is_whole : ℕ → ℕ → Bool
+is_whole maximum n = nat_lt 0 maximum && (nat_lt 0 n && n % maximum == 0)
+
+-- an IN endpoint, which has bit 7, is asked for whole packets. An OUT endpoint sends any bytes
+abbrev pub is_valid : EndpointState → BufferState → Bool
+is_valid e b = if nat_le 128 e.address then is_whole e.maximum b.requested else true
+
+-- the transfer of a buffer that goes by a route
+abbrev pub transfer_by : Route → BufferState → TransferData
+transfer_by to b = filled_transfer to.endpoint to.kind b
+
+-- a transfer that is valid is submitted. Another one is refused with 22 (EINVAL), whatever the kernel would answer
+abbrev pub handed_over : {S : Type 0} → (S → Route → TransferData → S) → (S → Route → TransferData → ℕ → S) → S → Route → TransferData → Bool → S
+handed_over submitted refused old to transfer valid = if valid then submitted old to transfer else refused old to transfer 22
+
+-- what is left of a bus after an endpoint's submission
+abbrev pub entered : {S : Type 0} → (S → Route → TransferData → S) → (S → Route → TransferData → ℕ → S) → S → EndpointState → BufferState → S
+entered submitted refused old e b = handed_over submitted refused old (route_of e) (transfer_by (route_of e) b) (is_valid e b)
+
+-- a buffer became the next ticket, which is refused with 22 where it is not valid
+pub record Enters (old new : BusState) (to : Route) (b : BufferState) (valid : Bool) : Type 0 where
+  pub refusal : Option ℕ
+  pub ticket : Entered old new to b refusal
+  pub invalid : valid ≡ false → refusal ≡ Some 22
+
+-- so did the buffer that a transfer holds
+abbrev pub HandsOver : BusState → BusState → Route → Held → Bool → Type 0
+HandsOver old new to held valid = (b : BufferState) → buffer_held held ≡ Some b → Enters old new to b valid

@@ -1,0 +1,158 @@
+//! Endpoints of any type and direction, side by side.
+
+ghost use Rattle.std.specs.Prelude.{◌≡◌, ◌<◌, ◌++◌, ◌∷◌, [], length, IfOk, OnOk, OnErr, IfErr, IfSome, IfNone};
+ghost use Rattle.usb_kernel.specs.Tickets.{tickets};
+ghost use Rattle.usb_endpoint.specs.AnyEndpoints.{state_of};
+ghost use Rattle.usb_endpoint.specs.Submits.{entered};
+ghost use Rattle.usb_endpoint.specs.Polls.{IfReady, IfPending};
+ghost use Rattle.usb_endpoint.specs.Handles.{TookNext, LeftNext, Stands, KeepsOthers};
+ghost use Rattle.usb_endpoint.specs.Waits.{WaitedNext, WaitedInVain};
+ghost use Rattle.usb_endpoint.specs.Blocking.{Transferred};
+ghost use Rattle.usb_endpoint.specs.Closes.{all_discarded, after_close};
+
+use crate::endpoint::Endpoint;
+use futures::task::Poll;
+use usb_bus::Bus;
+use usb_xfer::{Buffer, Bulk, Completion, In, Interrupt, Out};
+
+/// An open endpoint of one of the four kinds that can be opened. Each call is the endpoint's.
+///
+/// It is never dropped: `close` spends it.
+pub enum AnyEndpoint {
+    BulkIn(Endpoint<Bulk, In>),
+    BulkOut(Endpoint<Bulk, Out>),
+    InterruptIn(Endpoint<Interrupt, In>),
+    InterruptOut(Endpoint<Interrupt, Out>),
+}
+
+impl AnyEndpoint {
+    /// The address: USB 2.0, table 9-13, `bEndpointAddress`.
+    pub fn endpoint_address(&self) -> u8
+        ensures address { result ≡ (state_of self.now).address }
+    {
+        match self {
+            AnyEndpoint::BulkIn(endpoint) => endpoint.endpoint_address(),
+            AnyEndpoint::BulkOut(endpoint) => endpoint.endpoint_address(),
+            AnyEndpoint::InterruptIn(endpoint) => endpoint.endpoint_address(),
+            AnyEndpoint::InterruptOut(endpoint) => endpoint.endpoint_address(),
+        }
+    }
+
+    /// How many transfers were submitted and not taken.
+    pub fn pending(&self) -> usize
+        ensures count { result ≡ length (state_of self.now).pending }
+    {
+        match self {
+            AnyEndpoint::BulkIn(endpoint) => endpoint.pending(),
+            AnyEndpoint::BulkOut(endpoint) => endpoint.pending(),
+            AnyEndpoint::InterruptIn(endpoint) => endpoint.pending(),
+            AnyEndpoint::InterruptOut(endpoint) => endpoint.pending(),
+        }
+    }
+
+    /// Submits a buffer. An `Err` is want of memory: the buffer comes back, and nothing has changed.
+    pub fn submit<B: Bus>(&mut self, bus: &mut B, buf: Buffer) -> Result<(), Buffer>
+        requires few { length (state_of self.old).pending < 64 }
+        requires stands { Stands (B.state bus.old) (state_of self.old) }
+        ensures pending { OnOk result (state_of self.new ≡ record (state_of self.old) { pending = (state_of self.old).pending ++ length (tickets (B.state bus.old).past) ∷ [] }) }
+        ensures bus { OnOk result (bus.new ≡ entered B.submitted B.refused bus.old (state_of self.old) buf) }
+        ensures stands { Stands (B.state bus.new) (state_of self.new) }
+        ensures others { KeepsOthers (B.state bus.old) (B.state bus.new) (state_of self.old).key }
+        ensures err { OnErr result ((state_of self.new ≡ state_of self.old) × (bus.new ≡ bus.old)) }
+    {
+        match self {
+            AnyEndpoint::BulkIn(endpoint) => endpoint.submit(bus, buf),
+            AnyEndpoint::BulkOut(endpoint) => endpoint.submit(bus, buf),
+            AnyEndpoint::InterruptIn(endpoint) => endpoint.submit(bus, buf),
+            AnyEndpoint::InterruptOut(endpoint) => endpoint.submit(bus, buf),
+        }
+    }
+
+    /// The completion of the first pending transfer, which is taken, where it is there.
+    pub fn poll_next_complete<B: Bus>(&mut self, bus: &mut B) -> Poll<Completion>
+        requires some { 0 < length (state_of self.old).pending }
+        requires stands { Stands (B.state bus.old) (state_of self.old) }
+        ensures ready { IfReady result (λ c. TookNext B.state B.taken bus.old (state_of self.old) c bus.new (state_of self.new)) }
+        ensures pending { IfPending result (LeftNext B.state bus.old (state_of self.old) bus.new (state_of self.new)) }
+        ensures stands { Stands (B.state bus.new) (state_of self.new) }
+        ensures others { KeepsOthers (B.state bus.old) (B.state bus.new) (state_of self.old).key }
+    {
+        match self {
+            AnyEndpoint::BulkIn(endpoint) => endpoint.poll_next_complete(bus),
+            AnyEndpoint::BulkOut(endpoint) => endpoint.poll_next_complete(bus),
+            AnyEndpoint::InterruptIn(endpoint) => endpoint.poll_next_complete(bus),
+            AnyEndpoint::InterruptOut(endpoint) => endpoint.poll_next_complete(bus),
+        }
+    }
+
+    /// Waits for the first pending transfer and takes its completion, at most `timeout` nanoseconds of the bus's clock.
+    pub fn wait_next_complete<B: Bus>(&mut self, bus: &mut B, timeout: u64) -> Option<Completion>
+        requires some { 0 < length (state_of self.old).pending }
+        requires stands { Stands (B.state bus.old) (state_of self.old) }
+        ensures found { IfSome result (λ c. WaitedNext B.state B.turned B.turn_of B.taken timeout bus.old (state_of self.old) c bus.new (state_of self.new)) }
+        ensures ended { IfNone result (WaitedInVain B.state B.turned B.turn_of timeout bus.old (state_of self.old) bus.new (state_of self.new)) }
+        ensures stands { Stands (B.state bus.new) (state_of self.new) }
+        ensures others { KeepsOthers (B.state bus.old) (B.state bus.new) (state_of self.old).key }
+    {
+        match self {
+            AnyEndpoint::BulkIn(endpoint) => endpoint.wait_next_complete(bus, timeout),
+            AnyEndpoint::BulkOut(endpoint) => endpoint.wait_next_complete(bus, timeout),
+            AnyEndpoint::InterruptIn(endpoint) => endpoint.wait_next_complete(bus, timeout),
+            AnyEndpoint::InterruptOut(endpoint) => endpoint.wait_next_complete(bus, timeout),
+        }
+    }
+
+    /// Submits a buffer, waits for its completion and takes it. An `Err` is want of memory: the buffer comes back, and nothing
+    /// has changed.
+    pub fn transfer_blocking<B: Bus>(
+        &mut self,
+        bus: &mut B,
+        buf: Buffer,
+        timeout: u64,
+    ) -> Result<Completion, Buffer>
+        requires none { (state_of self.old).pending ≡ [] }
+        requires stands { Stands (B.state bus.old) (state_of self.old) }
+        ensures transferred { IfOk result (λ c. Transferred B.state B.submitted B.refused B.turned B.turn_of B.discarded B.taken timeout bus.old (state_of self.old) buf c bus.new) }
+        ensures stands { Stands (B.state bus.new) (state_of self.new) }
+        ensures others { KeepsOthers (B.state bus.old) (B.state bus.new) (state_of self.old).key }
+        ensures rest { state_of self.new ≡ state_of self.old }
+        ensures err { OnErr result (bus.new ≡ bus.old) }
+    {
+        match self {
+            AnyEndpoint::BulkIn(endpoint) => endpoint.transfer_blocking(bus, buf, timeout),
+            AnyEndpoint::BulkOut(endpoint) => endpoint.transfer_blocking(bus, buf, timeout),
+            AnyEndpoint::InterruptIn(endpoint) => endpoint.transfer_blocking(bus, buf, timeout),
+            AnyEndpoint::InterruptOut(endpoint) => endpoint.transfer_blocking(bus, buf, timeout),
+        }
+    }
+
+    /// Discards the pending transfers that are not finished, from the last to the first.
+    pub fn cancel_all<B: Bus>(&mut self, bus: &mut B)
+        requires stands { Stands (B.state bus.old) (state_of self.old) }
+        ensures bus { bus.new ≡ all_discarded B.discarded bus.old (state_of self.old).pending }
+        ensures stands { Stands (B.state bus.new) (state_of self.new) }
+        ensures others { KeepsOthers (B.state bus.old) (B.state bus.new) (state_of self.old).key }
+        ensures rest { state_of self.new ≡ state_of self.old }
+    {
+        match self {
+            AnyEndpoint::BulkIn(endpoint) => endpoint.cancel_all(bus),
+            AnyEndpoint::BulkOut(endpoint) => endpoint.cancel_all(bus),
+            AnyEndpoint::InterruptIn(endpoint) => endpoint.cancel_all(bus),
+            AnyEndpoint::InterruptOut(endpoint) => endpoint.cancel_all(bus),
+        }
+    }
+
+    /// Cancels the pending transfers, gives them up and leaves the bus.
+    pub fn close<B: Bus>(self, bus: &mut B)
+        requires stands { Stands (B.state bus.old) (state_of self) }
+        ensures bus { bus.new ≡ after_close B.discarded B.abandoned B.closed bus.old (state_of self) }
+        ensures others { KeepsOthers (B.state bus.old) (B.state bus.new) (state_of self).key }
+    {
+        match self {
+            AnyEndpoint::BulkIn(endpoint) => endpoint.close(bus),
+            AnyEndpoint::BulkOut(endpoint) => endpoint.close(bus),
+            AnyEndpoint::InterruptIn(endpoint) => endpoint.close(bus),
+            AnyEndpoint::InterruptOut(endpoint) => endpoint.close(bus),
+        }
+    }
+}

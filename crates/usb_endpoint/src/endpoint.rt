@@ -1,0 +1,239 @@
+//! The queue of an endpoint.
+
+ghost use Rattle.std.specs.Prelude.{◌≡◌, ◌<◌, ◌≤◌, ◌^◌, ◌++◌, ◌∷◌, [], length, IfOk, OnOk, OnErr, IfErr};
+ghost use Rattle.usb_kernel.specs.Tickets.{tickets};
+ghost use Rattle.usb_kernel.specs.Steps.{after_discard};
+ghost use Rattle.usb_bus.specs.BusState.{without, without_key};
+ghost use Rattle.usb_bus.specs.Later.{GoesOn};
+ghost use Rattle.usb_endpoint.specs.EndpointState.{route_of};
+ghost use Rattle.usb_endpoint.specs.Polls.{IfReady, IfPending};
+ghost use Rattle.usb_endpoint.specs.Handles.{TookNext, LeftNext, Stands, KeepsOthers};
+ghost use Rattle.usb_endpoint.specs.Submits.{is_valid, entered, Enters};
+ghost use Rattle.usb_endpoint.specs.Closes.{all_discarded, all_abandoned, after_close};
+
+use crate::enter::{completion_in, enter, is_whole_length};
+use futures::task::Poll;
+use std::alloc::Global;
+use std::collections::VecDeque;
+use std::marker::{Model, PhantomData};
+use usb_bus::{Bus, Route};
+use usb_desc::NoMemory;
+use usb_xfer::{
+    Buffer, Completion, EndpointDirection, EndpointType, Pending, TransferData,
+    take_completed_from_queue,
+};
+
+/// An open endpoint of type `T` and direction `D` (USB 2.0, section 9.6.6), with the transfers that were submitted to it.
+///
+/// It is never dropped: `close` spends it.
+pub struct Endpoint<T: EndpointType, D: EndpointDirection> {
+    device: u8,
+    address: u8,
+    maximum: usize,
+    key: usize,
+    pending: VecDeque<Pending<TransferData>>,
+    of: PhantomData<(T, D)>,
+}
+
+impl<T: EndpointType, D: EndpointDirection> Model for Endpoint<T, D> {
+    ghost use Rattle.std.specs.Prelude.{◌<◌};
+    ghost use Rattle.usb_endpoint.specs.EndpointState.{EndpointState};
+
+    ghost Value = { EndpointState };
+
+    ghost view = { λ e. record {
+      device = e.device;
+      address = e.address;
+      kind = T.TYPE;
+      maximum = e.maximum;
+      key = e.key;
+      pending = e.pending.items;
+    } };
+
+    // packets have a size
+    ghost invariant = { λ e. 0 < e.maximum };
+}
+
+impl<T: EndpointType, D: EndpointDirection> Endpoint<T, D> {
+    /// An endpoint with nothing pending. The maximum packet size is in bytes.
+    pub fn new(alloc: Global, device: u8, address: u8, maximum: usize, key: usize) -> Self
+        requires packets { 0 < maximum }
+        ensures fresh { result ≡ record {
+          device = device;
+          address = address;
+          kind = T.TYPE;
+          maximum = maximum;
+          key = key;
+          pending = [];
+        } }
+    {
+        Endpoint {
+            device,
+            address,
+            maximum,
+            key,
+            pending: VecDeque::new(alloc),
+            of: PhantomData,
+        }
+    }
+
+    /// The address: USB 2.0, table 9-13, `bEndpointAddress`.
+    pub fn endpoint_address(&self) -> u8
+        ensures address { result ≡ self.now.address }
+    {
+        self.address
+    }
+
+    /// The maximum packet size in bytes: USB 2.0, table 9-13, `wMaxPacketSize`, bits 10 to 0.
+    pub fn max_packet_size(&self) -> usize
+        ensures maximum { result ≡ self.now.maximum }
+        ensures packets { 0 < result }
+    {
+        self.maximum
+    }
+
+    /// How many transfers were submitted and not taken.
+    pub fn pending(&self) -> usize
+        ensures count { result ≡ length self.now.pending }
+    {
+        self.pending.len()
+    }
+
+    /// An empty buffer of this capacity, which asks for as many bytes.
+    pub fn allocate(&self, len: usize) -> Result<Buffer, NoMemory>
+        requires small { len < 2 ^ 31 }
+        ensures empty { IfOk result (λ b. b ≡ record { bytes = []; requested = len; room = len }) }
+    {
+        Buffer::new(*self.pending.allocator(), len)
+    }
+
+    /// Where submissions go.
+    fn route(&self) -> Route
+        ensures route { result ≡ route_of self.now }
+    {
+        Route {
+            device: self.device,
+            endpoint: self.address,
+            kind: T::TYPE,
+            maximum: self.maximum,
+            key: self.key,
+        }
+    }
+
+    /// Whether a buffer can be submitted: an IN endpoint is asked for whole packets, at least one.
+    fn accepts(&self, buf: &Buffer) -> bool
+        ensures valid { result ≡ is_valid self.now buf.now }
+    {
+        self.address < 128 || is_whole_length(self.maximum, buf.requested_len())
+    }
+
+    /// Submits a buffer, which becomes a pending transfer. An IN endpoint is asked for whole packets, at least one; any other
+    /// requested length is refused with 22 (EINVAL), and the completion says so.
+    ///
+    /// # Errors
+    ///
+    /// The buffer, where memory is wanted. Nothing has changed.
+    pub fn submit<B: Bus>(&mut self, bus: &mut B, buf: Buffer) -> Result<(), Buffer>
+        requires few { length self.old.pending < 64 }
+        requires stands { Stands (B.state bus.old) self.old }
+        ensures pending { OnOk result (self.new ≡ record self.old { pending = self.old.pending ++ length (tickets (B.state bus.old).past) ∷ [] }) }
+        ensures bus { OnOk result (bus.new ≡ entered B.submitted B.refused bus.old self.old buf) }
+        ensures enters { OnOk result (Enters (B.state bus.old) (B.state bus.new) (route_of self.old) buf (is_valid self.old buf)) }
+        ensures left { 128 ≤ self.old.address → (B.state bus.new).left ≤ (B.state bus.old).left }
+        ensures stands { Stands (B.state bus.new) self.new }
+        ensures others { KeepsOthers (B.state bus.old) (B.state bus.new) self.old.key }
+        ensures rest { self.new ≡ record self.old { pending = self.new.pending } }
+        ensures err { OnErr result ((self.new ≡ self.old) × (bus.new ≡ bus.old)) }
+        ensures back { IfErr result (λ back. back ≡ buf) }
+    {
+        let to = self.route();
+        let is_accepted = self.accepts(&buf);
+        if self.pending.reserve(1).is_err() {
+            return Err(buf);
+        }
+        match enter(bus, to, buf, is_accepted) {
+            Ok(ticket) => {
+                self.pending.push_back_reserved(ticket);
+                Ok(())
+            }
+            Err(back) => Err(back),
+        }
+    }
+
+    /// The completion of the first pending transfer, which is taken, where it is there. The transfers behind it wait, also
+    /// those that were finished before it.
+    pub fn poll_next_complete<B: Bus>(&mut self, bus: &mut B) -> Poll<Completion>
+        requires some { 0 < length self.old.pending }
+        requires stands { Stands (B.state bus.old) self.old }
+        ensures ready { IfReady result (λ c. TookNext B.state B.taken bus.old self.old c bus.new self.new) }
+        ensures pending { IfPending result (LeftNext B.state bus.old self.old bus.new self.new) }
+        ensures goes_on { GoesOn (B.state bus.old) (B.state bus.new) }
+        ensures stands { Stands (B.state bus.new) self.new }
+        ensures others { KeepsOthers (B.state bus.old) (B.state bus.new) self.old.key }
+        ensures rest { self.new ≡ record self.old { pending = self.new.pending } }
+    {
+        match take_completed_from_queue(&mut self.pending, bus) {
+            Some(transfer) => Poll::Ready(completion_in(transfer)),
+            None => Poll::Pending,
+        }
+    }
+
+    /// Discards the pending transfers that are not finished, from the last to the first. They stay pending.
+    pub fn cancel_all<B: Bus>(&mut self, bus: &mut B)
+        requires stands { Stands (B.state bus.old) self.old }
+        ensures bus { bus.new ≡ all_discarded B.discarded bus.old self.old.pending }
+        ensures state { B.state bus.new ≡ record (B.state bus.old) {
+          past = all_discarded after_discard (B.state bus.old).past self.old.pending;
+          left = (B.state bus.new).left;
+        } }
+        ensures stands { Stands (B.state bus.new) self.new }
+        ensures others { KeepsOthers (B.state bus.old) (B.state bus.new) self.old.key }
+        ensures rest { self.new ≡ self.old }
+    {
+        'tickets: for i in (0..self.pending.len()).rev() {
+            bus.discard(&self.pending[i]);
+        }
+    }
+
+    /// Cancels the pending transfers, gives them up and leaves the bus.
+    #[tactic(auto, using(crate::proofs::HandleLemmas::others_in_turn))]
+    pub fn close<B: Bus>(mut self, bus: &mut B)
+        requires stands { Stands (B.state bus.old) self }
+        ensures bus { bus.new ≡ after_close B.discarded B.abandoned B.closed bus.old self }
+        ensures state { B.state bus.new ≡ record (B.state bus.old) {
+          past = all_discarded after_discard (B.state bus.old).past self.pending;
+          owner = all_abandoned without (B.state bus.old).owner self.pending;
+          keys = without_key (B.state bus.old).keys self.key;
+          left = (B.state bus.new).left;
+        } }
+        ensures others { KeepsOthers (B.state bus.old) (B.state bus.new) self.key }
+    {
+        self.cancel_all(bus);
+        self.give_up(bus);
+    }
+
+    /// Gives the pending transfers up, from the first on, and leaves the bus.
+    fn give_up<B: Bus>(self, bus: &mut B)
+        requires stands { Stands (B.state bus.old) self }
+        ensures bus { bus.new ≡ B.closed (all_abandoned B.abandoned bus.old self.pending) self.key }
+        ensures state { B.state bus.new ≡ record (B.state bus.old) {
+          owner = all_abandoned without (B.state bus.old).owner self.pending;
+          keys = without_key (B.state bus.old).keys self.key;
+        } }
+        ensures others { KeepsOthers (B.state bus.old) (B.state bus.new) self.key }
+    {
+        let Endpoint {
+            device: _,
+            address: _,
+            maximum: _,
+            key,
+            mut pending,
+            of: _,
+        } = self;
+        'tickets: while let Some(ticket) = pending.pop_front() {
+            bus.abandon(ticket);
+        }
+        pending.destroy_empty();
+        bus.leave(key);
+    }
+}

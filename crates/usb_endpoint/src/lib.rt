@@ -1,0 +1,19 @@
+//! Endpoints over any bus: queues of transfers that complete in the order of their submission.
+#![tactic(auto)]
+
+mod any_endpoint;
+mod endpoint;
+mod enter;
+mod laws;
+mod next_complete;
+mod waits;
+
+pub use any_endpoint::AnyEndpoint;
+pub use endpoint::Endpoint;
+pub use laws::{
+    calls_keep_other_endpoints, completions_come_in_order, tickets_end_once, waits_have_one_outcome,
+};
+pub use next_complete::NextComplete;
+
+#[cfg(test)]
+mod tests;
