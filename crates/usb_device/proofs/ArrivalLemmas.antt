@@ -1,0 +1,108 @@
+-- Completions that arrive at a host.
+use Rattle.std.proofs.Common.{ℕ, ◌≡◌, List, length, map, set, slice_get, Option, Some, None, inl, inr, refl, sym, ◌∙◌, ap, length-set}
+use Rattle.std.proofs.lemmas.Bool.{eq-eqb, ne_eqb}
+use Rattle.std.proofs.lemmas.Option.{none-some}
+use Rattle.std.proofs.lemmas.List.{map-set}
+use Rattle.usb_kernel.specs.declared.event.Event.{Event}
+use Rattle.usb_kernel.specs.declared.step.KernelStep.{KernelStep}
+use Rattle.usb_kernel.specs.declared.submission.Done.{Done}
+use Rattle.usb_kernel.specs.declared.devices.DeviceState.{DeviceState}
+use Rattle.usb_kernel.specs.Value.{KernelState}
+use Rattle.usb_kernel.specs.Completions.{completion, reapable}
+use Rattle.usb_kernel.specs.Steps.{stepped, step_done, after_reap, after_discard}
+use Rattle.usb_kernel.proofs.Completions.{completion-step, tickets-step, completion-reap, tickets-reap, completion-discard, tickets-discard}
+use Rattle.usb_bus.specs.Completions.{transfer_completion}
+use Rattle.usb_device.specs.declared.ends.TicketEnd.TheVariants.{Reclaimed}
+use Rattle.usb_device.specs.declared.opened.OpenDevice.{OpenDevice}
+use Rattle.usb_device.specs.declared.owners.EndedClaim.{EndedClaim}
+use Rattle.usb_device.specs.declared.slot.Slot.{Slot}
+use Rattle.usb_device.specs.declared.slot.Slot.TheVariants as slot
+use Rattle.usb_device.specs.HostState.{HostState, Ended}
+use Rattle.usb_device.specs.HostFacts.{Agree, Comes, Fits, host_made}
+use Rattle.usb_device.specs.LedgerState.{LedgerState, ticket_of, slot_with, abandoned_key, ended_with}
+use Rattle.usb_device.specs.Releases.{without_ended, settled}
+use Rattle.usb_device.specs.TicketEnds.{came, host_ended}
+use Rattle.usb_device.proofs.ListLemmas.{slice_get-set}
+use Rattle.usb_device.proofs.LedgerLemmas.{ticket-at, tickets-same}
+
+pub Fits-same : (past next : List Event) (t : ℕ) (s : Slot) → completion next t ≡ completion past t → Fits past t s → Fits next t s
+unfolding transfer_completion
+Fits-same past next t (slot.Held key transfer) same fits = rw same fits
+Fits-same past next t (slot.Abandoned key) same fits = same ∙ fits
+Fits-same past next t (slot.Ended end) same fits = tt
+
+Fits-with : (next : List Event) (done : Done) (t : ℕ) (s : Slot) → completion next t ≡ Some done → Fits next t (slot_with done s)
+unfolding transfer_completion
+Fits-with next done t (slot.Held key transfer) has = rw has refl
+Fits-with next done t (slot.Abandoned key) has = tt
+Fits-with next done t (slot.Ended end) has = tt
+
+pub Agree-none : (past next : List Event) (slots : List Slot) → Agree past slots → Comes past next None → Agree next slots
+Agree-none past next slots agree comes =
+    record { count = agree.count ∙ sym comes.count; each = λ t s at. Fits-same past next t s (comes.each t) (agree.each t s at) }
+
+pub Agree-some : (past next : List Event) (slots : List Slot) (done : Done) (s : Slot) → Agree past slots → Comes past next (Some done) → slice_get slots done.ticket ≡ Some s → Agree next (set slots done.ticket (slot_with done s))
+Agree-some past next slots done s agree comes at =
+    record {
+      count = length-set slots done.ticket (slot_with done s) ∙ agree.count ∙ sym comes.count;
+      each = λ t x here.
+          elim (slice_get-set slots done.ticket t (slot_with done s) x here) [
+            | inl w ↦
+                let has : completion next t ≡ Some done = comes.each t ∙ rw (eq-eqb done.ticket t (sym w.0)) refl in
+                rw w.1 (Fits-with next done t s has)
+            | inr w ↦
+                let same : completion next t ≡ completion past t = comes.each t ∙ rw (ne_eqb done.ticket t (λ z. w.0 (sym z))) refl in
+                Fits-same past next t x same (agree.each t x w.1)
+          ];
+    }
+
+-- a host at which a completion arrives
+module _ (k : KernelState) (devices : List OpenDevice) (l : LedgerState) (steps : List KernelStep) (done : Done) where
+  came-held : (key : ℕ) (s : Slot) → slice_get l.slots done.ticket ≡ Some s → abandoned_key s ≡ None → came (host_made k devices l steps) (Some done) ≡ host_made k devices l steps
+  unfolding came
+  came-held key (slot.Held j transfer) at none = rw (ticket-at l.slots done.ticket (slot.Held j transfer) at) refl
+  came-held key (slot.Abandoned j) at none = absurd (none-some j (sym none))
+  came-held key (slot.Ended end) at none = rw (ticket-at l.slots done.ticket (slot.Ended end) at) refl
+
+  came-reclaimed : (key : ℕ) → slice_get l.slots done.ticket ≡ Some (slot.Abandoned key)
+      → came (host_made k devices l steps) (Some done) ≡ settled (record (host_made k devices l steps) { tickets = set (map ticket_of l.slots) done.ticket (Ended Reclaimed) }) key
+  unfolding came host_ended
+  came-reclaimed key at = rw (ticket-at l.slots done.ticket (slot.Abandoned key) at, ticket-at l.slots done.ticket (slot.Abandoned key) at) refl
+
+  pub came-slot : (s : Slot) (l' : LedgerState) (ended : Option EndedClaim) (k' : KernelState) → slice_get l.slots done.ticket ≡ Some s → l' ≡ record l { slots = set l.slots done.ticket (slot_with done s) } → ended ≡ ended_with l' (abandoned_key s) → k' ≡ record k { devices = without_ended k.devices ended }
+      → host_made k' devices l' steps ≡ came (host_made k devices l steps) (Some done)
+  unfolding settled
+  came-slot (slot.Held key transfer) l' ended k' at is claim kernel =
+      let same = tickets-same l.slots done.ticket (slot.Held key transfer) (slot_with done (slot.Held key transfer)) at refl in
+      rw (kernel, claim, is, same) (sym (came-held key (slot.Held key transfer) at refl))
+  came-slot (slot.Abandoned key) l' ended k' at is claim kernel =
+      rw (came-reclaimed key at, kernel, claim, is, map-set ticket_of l.slots done.ticket (slot.Ended Reclaimed)) refl
+  came-slot (slot.Ended end) l' ended k' at is claim kernel =
+      let same = tickets-same l.slots done.ticket (slot.Ended end) (slot_with done (slot.Ended end)) at refl in
+      rw (kernel, claim, is, same) (sym (came-held 0 (slot.Ended end) at refl))
+
+pub came-none : (h : HostState) → came h None ≡ h
+unfolding came
+came-none h = refl
+
+-- kernels with the same parts are the same
+pub kernel-same : (a b : KernelState) → a.past ≡ b.past → a.devices ≡ b.devices → a.clock ≡ b.clock → a.armed ≡ b.armed → a.spare ≡ b.spare → a ≡ b
+kernel-same a b past devices clock armed spare =
+    ap (λ x. record a { past = x }) past
+    ∙ ap (λ x. record a { past = b.past; devices = x }) devices
+    ∙ ap (λ x. record a { past = b.past; devices = b.devices; clock = x }) clock
+    ∙ ap (λ x. record a { past = b.past; devices = b.devices; clock = b.clock; armed = x }) armed
+    ∙ ap (λ x. record b { spare = x }) spare
+
+-- the completions of a step, of a reap and of a discard
+pub Comes-step : (devices : List DeviceState) (past : List Event) (s : KernelStep) → Comes past (stepped devices past s) (step_done past s)
+Comes-step devices past s = record { count = ap length (tickets-step devices past s); each = completion-step devices past s }
+
+pub Comes-reap : (past : List Event) (t : ℕ) → Comes past (after_reap past t) (reapable past t)
+Comes-reap past t = record { count = ap length (tickets-reap past t); each = completion-reap past t }
+
+pub Comes-discard : (past : List Event) (t : ℕ) → Comes past (after_discard past t) None
+Comes-discard past t = record { count = ap length (tickets-discard past t); each = completion-discard past t }
+
+pub Agree-at : (past next : List Event) (slots : List Slot) → next ≡ past → Agree past slots → Agree next slots
+Agree-at past next slots same agree = rw same agree

@@ -1,0 +1,231 @@
+-- What the calls of handles make of a host as a bus, and what they leave as it was.
+use Rattle.std.proofs.Common.{ℕ, zero, suc, ◌≡◌, ◌≢◌, Bool, true, false, cond, List, [], ◌∷◌, ◌++◌, set, slice_get, Option, Some, None, refl, sym, ◌∙◌, ap, inl, inr}
+use Rattle.std.specs.Prelude.{is_some, option_and_then}
+use Rattle.std.specs.Option.{option_map, option_map_or}
+use Rattle.std.proofs.Math.Path.{fun_ext}
+use Rattle.std.proofs.lemmas.Bool.{cases_eq, eq-eqb, ne_eqb}
+use Rattle.std.proofs.lemmas.Option.{none-some}
+use Rattle.usb_xfer.specs.BufferState.{BufferState}
+use Rattle.usb_xfer.specs.declared.transfer.TransferData.{TransferData}
+use Rattle.usb_xfer.specs.Transfers.{buffer_held}
+use Rattle.usb_kernel.specs.Completions.{completion}
+use Rattle.usb_bus.specs.declared.route.Route.{Route}
+use Rattle.usb_bus.specs.BusState.{BusState, without, without_key}
+use Rattle.usb_endpoint.specs.Handles.{KeepsOthers}
+use Rattle.usb_endpoint.proofs.HandleLemmas.{without-other, KeepsOthers-end}
+use Rattle.usb_device.specs.declared.ends.TicketEnd.{TicketEnd}
+use Rattle.usb_device.specs.declared.ends.TicketEnd.TheVariants.{Taken, Dropped}
+use Rattle.usb_device.specs.HostState.{HostState, HostTicket, HostEndpoint, Hold, Held, Abandoned, Ended}
+use Rattle.usb_device.specs.Releases.{settled}
+use Rattle.usb_device.specs.TicketEnds.{ended_as, host_ended, host_taken, given_up, host_abandoned}
+use Rattle.usb_device.specs.HostCalls.{submitted_with, host_submitted, refused_with, host_refused, closed_if, host_left}
+use Rattle.usb_device.specs.HostBus.{held_as, owner_at, key_at, bus_of}
+use Rattle.usb_device.specs.HostFrames.{KeepsLine, KeepsOpen}
+use Rattle.usb_device.proofs.HostFrames.{ended_as-is, owner-set_other}
+
+-- nothing that handles stand on has changed
+pub keeps-open : (h : HostState) → KeepsOpen h h
+keeps-open h = record { line = record { steps = refl; spare = refl; devices = refl }; interfaces = refl; endpoints = refl }
+
+-- a submission adds a ticket, and changes the journal and the armed refusals
+submitted_with-keeps : (h : HostState) (to : Route) (t : TransferData) (o : Option BufferState) → KeepsOpen h (submitted_with h to t o)
+submitted_with-keeps h to t None = keeps-open h
+submitted_with-keeps h to t (Some b) = record { line = record { steps = refl; spare = refl; devices = refl }; interfaces = refl; endpoints = refl }
+
+pub keeps-submitted : (h : HostState) (to : Route) (t : TransferData) → KeepsOpen h (host_submitted h to t)
+unfolding host_submitted
+keeps-submitted h to t = submitted_with-keeps h to t (buffer_held t.held)
+
+-- so does one that is refused
+refused_with-keeps : (h : HostState) (to : Route) (t : TransferData) (errno : ℕ) (o : Option BufferState) → KeepsOpen h (refused_with h to t errno o)
+refused_with-keeps h to t errno None = keeps-open h
+refused_with-keeps h to t errno (Some b) = record { line = record { steps = refl; spare = refl; devices = refl }; interfaces = refl; endpoints = refl }
+
+pub keeps-refused : (h : HostState) (to : Route) (t : TransferData) (errno : ℕ) → KeepsOpen h (host_refused h to t errno)
+unfolding host_refused
+keeps-refused h to t errno = refused_with-keeps h to t errno (buffer_held t.held)
+
+-- who holds a ticket holds it when there is one more
+owner-push : (ts : List HostTicket) (x : HostTicket) (t k : ℕ) → owner_at ts t ≡ Some k → owner_at (ts ++ x ∷ []) t ≡ Some k
+owner-push [] x t k own = absurd (none-some k own)
+owner-push (y ∷ ys) x zero k own = own
+owner-push (y ∷ ys) x (suc t) k own = owner-push ys x t k own
+
+submitted_with-others : (h : HostState) (to : Route) (t : TransferData) (key : ℕ) (o : Option BufferState) → KeepsOthers (bus_of h) (bus_of (submitted_with h to t o)) key
+submitted_with-others h to t key None = record { tickets = λ u k other own. own; keys = λ k other is. is }
+submitted_with-others h to t key (Some b) =
+    record {
+      tickets = λ u k other own. owner-push h.tickets (Held (record { key = to.key; endpoint = t.endpoint; kind = t.kind })) u k own;
+      keys = λ k other is. is;
+    }
+
+pub others-submitted : (h : HostState) (to : Route) (t : TransferData) (key : ℕ) → KeepsOthers (bus_of h) (bus_of (host_submitted h to t)) key
+unfolding host_submitted
+others-submitted h to t key = submitted_with-others h to t key (buffer_held t.held)
+
+refused_with-others : (h : HostState) (to : Route) (t : TransferData) (errno key : ℕ) (o : Option BufferState) → KeepsOthers (bus_of h) (bus_of (refused_with h to t errno o)) key
+refused_with-others h to t errno key None = record { tickets = λ u k other own. own; keys = λ k other is. is }
+refused_with-others h to t errno key (Some b) =
+    record {
+      tickets = λ u k other own. owner-push h.tickets (Held (record { key = to.key; endpoint = t.endpoint; kind = t.kind })) u k own;
+      keys = λ k other is. is;
+    }
+
+pub others-refused : (h : HostState) (to : Route) (t : TransferData) (errno key : ℕ) → KeepsOthers (bus_of h) (bus_of (host_refused h to t errno)) key
+unfolding host_refused
+others-refused h to t errno key = refused_with-others h to t errno key (buffer_held t.held)
+
+-- the owners without one
+without-at : (owner owner' : ℕ → Option ℕ) (t : ℕ) → owner' t ≡ None → ((u : ℕ) → t ≢ u → owner' u ≡ owner u) → (u : ℕ) → owner' u ≡ without owner t u
+without-at owner owner' t none other u =
+    elim (cases_eq t u) [
+      | inl same ↦ let now : without owner t u ≡ None = rw (eq-eqb t u same) refl in ap owner' (sym same) ∙ (none ∙ sym now)
+      | inr ne ↦ other u ne ∙ sym (without-other owner t u ne)
+    ]
+
+owner-set_none : (ts : List HostTicket) (t : ℕ) (new : HostTicket) → held_as new ≡ None → owner_at (set ts t new) t ≡ None
+owner-set_none [] t new none = refl
+owner-set_none (x ∷ xs) zero new none = ap (option_map (λ (hold : Hold). hold.key)) none
+owner-set_none (x ∷ xs) (suc t) new none = owner-set_none xs t new none
+
+-- nobody holds a ticket that is not there, or that was given up, or that has its end
+owner-none : (ts : List HostTicket) (t : ℕ) (o : Option HostTicket) → slice_get ts t ≡ o → option_and_then held_as o ≡ None → owner_at ts t ≡ None
+owner-none ts t o at none = ap (λ (o : Option HostTicket). option_map (λ (hold : Hold). hold.key) (option_and_then held_as o)) at ∙ ap (option_map (λ (hold : Hold). hold.key)) none
+
+without-same : (h : HostState) (t : ℕ) (o : Option HostTicket) → slice_get h.tickets t ≡ o → option_and_then held_as o ≡ None → (u : ℕ) → owner_at h.tickets u ≡ without (owner_at h.tickets) t u
+without-same h t o at none = without-at (owner_at h.tickets) (owner_at h.tickets) t (owner-none h.tickets t o at none) (λ u ne. refl)
+
+without-set : (h : HostState) (t : ℕ) (new : HostTicket) → held_as new ≡ None → (u : ℕ) → owner_at (set h.tickets t new) u ≡ without (owner_at h.tickets) t u
+without-set h t new none = without-at (owner_at h.tickets) (owner_at (set h.tickets t new)) t (owner-set_none h.tickets t new none) (λ u ne. owner-set_other h.tickets t u new ne)
+
+ended_as-owner : (h : HostState) (t : ℕ) (end : TicketEnd) (o : Option HostTicket) → slice_get h.tickets t ≡ o → (u : ℕ) → owner_at (ended_as h t end o).tickets u ≡ without (owner_at h.tickets) t u
+unfolding settled
+ended_as-owner h t end None at = without-same h t None at refl
+ended_as-owner h t end (Some (Held hold)) at = without-set h t (Ended end) refl
+ended_as-owner h t end (Some (Abandoned key)) at = without-set h t (Ended end) refl
+ended_as-owner h t end (Some (Ended before)) at = without-same h t (Some (Ended before)) at refl
+
+-- the end of a ticket, to a bus
+pub bus-ended : (h : HostState) (t : ℕ) (end : TicketEnd) → bus_of (host_ended h t end) ≡ record (bus_of h) { owner = without (owner_at h.tickets) t }
+unfolding host_ended
+bus-ended h t end =
+    ap bus_of (ended_as-is h t end (slice_get h.tickets t))
+    ∙ ap (λ (owner : ℕ → Option ℕ). record (bus_of h) { owner = owner }) (fun_ext (ended_as-owner h t end (slice_get h.tickets t) refl))
+
+pub bus-taken : (h : HostState) (t : ℕ) → bus_of (host_taken h t) ≡ record (bus_of h) { owner = without (owner_at h.tickets) t }
+unfolding host_taken
+bus-taken h t = bus-ended h t Taken
+
+given_up-bus : (h : HostState) (t : ℕ) (o : Option HostTicket) → slice_get h.tickets t ≡ o → bus_of (given_up h t o) ≡ record (bus_of h) { owner = without (owner_at h.tickets) t }
+given_up-bus h t None at = ap (λ (owner : ℕ → Option ℕ). record (bus_of h) { owner = owner }) (fun_ext (without-same h t None at refl))
+given_up-bus h t (Some (Held hold)) at = ap (λ (owner : ℕ → Option ℕ). record (bus_of h) { owner = owner }) (fun_ext (without-set h t (Abandoned hold.key) refl))
+given_up-bus h t (Some (Abandoned key)) at = ap (λ (owner : ℕ → Option ℕ). record (bus_of h) { owner = owner }) (fun_ext (without-same h t (Some (Abandoned key)) at refl))
+given_up-bus h t (Some (Ended end)) at = ap (λ (owner : ℕ → Option ℕ). record (bus_of h) { owner = owner }) (fun_ext (without-same h t (Some (Ended end)) at refl))
+
+-- what holds of both outcomes
+of_two : (P : HostState → Type 0) (b : Bool) (x y : HostState) → P x → P y → P (cond b x y)
+of_two P true x y px py = px
+of_two P false x y px py = py
+
+pub bus-abandoned : (h : HostState) (t : ℕ) → bus_of (host_abandoned h t) ≡ record (bus_of h) { owner = without (owner_at h.tickets) t }
+unfolding host_abandoned
+bus-abandoned h t =
+    of_two (λ g. bus_of g ≡ record (bus_of h) { owner = without (owner_at h.tickets) t }) (is_some (completion h.kernel.past t)) (host_ended h t Dropped) (given_up h t (slice_get h.tickets t))
+    (bus-ended h t Dropped) (given_up-bus h t (slice_get h.tickets t) refl)
+
+-- an endpoint that has a ticket ends it alone
+pub others-taken : (h : HostState) (t key : ℕ) → owner_at h.tickets t ≡ Some key → KeepsOthers (bus_of h) (bus_of (host_taken h t)) key
+others-taken h t key own = KeepsOthers-end (bus_of h) (bus_of h) (bus_of (host_taken h t)) key t (record { tickets = λ u k other held. held; keys = λ k other is. is }) own (bus-taken h t)
+
+pub others-abandoned : (h : HostState) (t key : ℕ) → owner_at h.tickets t ≡ Some key → KeepsOthers (bus_of h) (bus_of (host_abandoned h t)) key
+others-abandoned h t key own = KeepsOthers-end (bus_of h) (bus_of h) (bus_of (host_abandoned h t)) key t (record { tickets = λ u k other held. held; keys = λ k other is. is }) own (bus-abandoned h t)
+
+-- what ends a ticket keeps what is open
+pub keeps-ended : (h : HostState) (t : ℕ) (end : TicketEnd) → KeepsOpen h (host_ended h t end)
+unfolding host_ended
+keeps-ended h t end =
+    let is = ended_as-is h t end (slice_get h.tickets t) in
+    record {
+      line = record { steps = ap (λ (g : HostState). g.steps) is; spare = ap (λ (g : HostState). g.kernel.spare) is; devices = ap (λ (g : HostState). g.devices) is };
+      interfaces = ap (λ (g : HostState). g.interfaces) is;
+      endpoints = ap (λ (g : HostState). g.endpoints) is;
+    }
+
+pub keeps-taken : (h : HostState) (t : ℕ) → KeepsOpen h (host_taken h t)
+unfolding host_taken
+keeps-taken h t = keeps-ended h t Taken
+
+given_up-keeps : (h : HostState) (t : ℕ) (o : Option HostTicket) → KeepsOpen h (given_up h t o)
+given_up-keeps h t None = keeps-open h
+given_up-keeps h t (Some (Held hold)) = record { line = record { steps = refl; spare = refl; devices = refl }; interfaces = refl; endpoints = refl }
+given_up-keeps h t (Some (Abandoned key)) = keeps-open h
+given_up-keeps h t (Some (Ended end)) = keeps-open h
+
+pub keeps-abandoned : (h : HostState) (t : ℕ) → KeepsOpen h (host_abandoned h t)
+unfolding host_abandoned
+keeps-abandoned h t =
+    of_two (λ g. KeepsOpen h g) (is_some (completion h.kernel.past t)) (host_ended h t Dropped) (given_up h t (slice_get h.tickets t))
+    (keeps-ended h t Dropped) (given_up-keeps h t (slice_get h.tickets t))
+
+-- the keys without that of a handle that is closed
+key-set : (es : List HostEndpoint) (k : ℕ) (e : HostEndpoint) → key_at (set es k (record e { is_open = false })) k ≡ false
+key-set [] k e = refl
+key-set (x ∷ xs) zero e = refl
+key-set (x ∷ xs) (suc k) e = key-set xs k e
+
+key-set_other : (es : List HostEndpoint) (k j : ℕ) (e : HostEndpoint) → k ≢ j → key_at (set es k e) j ≡ key_at es j
+key-set_other [] k j e ne = refl
+key-set_other (x ∷ xs) zero zero e ne = absurd (ne refl)
+key-set_other (x ∷ xs) zero (suc j) e ne = refl
+key-set_other (x ∷ xs) (suc k) zero e ne = refl
+key-set_other (x ∷ xs) (suc k) (suc j) e ne = key-set_other xs k j e (λ z. ne (ap suc z))
+
+without_key-at : (keys keys' : ℕ → Bool) (k : ℕ) → keys' k ≡ false → ((j : ℕ) → k ≢ j → keys' j ≡ keys j) → (j : ℕ) → keys' j ≡ without_key keys k j
+without_key-at keys keys' k none other j =
+    elim (cases_eq k j) [
+      | inl same ↦ let now : without_key keys k j ≡ false = rw (eq-eqb k j same) refl in ap keys' (sym same) ∙ (none ∙ sym now)
+      | inr ne ↦ let now : without_key keys k j ≡ keys j = rw (ne_eqb k j ne) refl in other j ne ∙ sym now
+    ]
+
+closed_if-keys : (h : HostState) (k : ℕ) (o : Option HostEndpoint) → slice_get h.endpoints k ≡ o → (j : ℕ) → key_at (closed_if h k o).endpoints j ≡ without_key (key_at h.endpoints) k j
+unfolding settled
+closed_if-keys h k None at =
+    without_key-at (key_at h.endpoints) (key_at h.endpoints) k (ap (λ (o : Option HostEndpoint). option_map_or (λ (e : HostEndpoint). e.is_open) o false) at) (λ j ne. refl)
+closed_if-keys h k (Some e) at =
+    without_key-at (key_at h.endpoints) (key_at (set h.endpoints k (record e { is_open = false }))) k (key-set h.endpoints k e)
+    (λ j ne. key-set_other h.endpoints k j (record e { is_open = false }) ne)
+
+-- the close of an endpoint changes endpoints, and devices of the kernel
+closed_if-is : (h : HostState) (k : ℕ) (o : Option HostEndpoint) → closed_if h k o ≡ record h { kernel = record h.kernel { devices = (closed_if h k o).kernel.devices }; endpoints = (closed_if h k o).endpoints }
+unfolding settled
+closed_if-is h k None = refl
+closed_if-is h k (Some e) = refl
+
+pub bus-left : (h : HostState) (k : ℕ) → bus_of (host_left h k) ≡ record (bus_of h) { keys = without_key (key_at h.endpoints) k }
+unfolding host_left
+bus-left h k =
+    ap bus_of (closed_if-is h k (slice_get h.endpoints k))
+    ∙ ap (λ (keys : ℕ → Bool). record (bus_of h) { keys = keys }) (fun_ext (closed_if-keys h k (slice_get h.endpoints k) refl))
+
+pub line-left : (h : HostState) (k : ℕ) → KeepsLine h (host_left h k)
+unfolding host_left
+line-left h k =
+    let is = closed_if-is h k (slice_get h.endpoints k) in
+    record { steps = ap (λ (g : HostState). g.steps) is; spare = ap (λ (g : HostState). g.kernel.spare) is; devices = ap (λ (g : HostState). g.devices) is }
+
+pub interfaces-left : (h : HostState) (k : ℕ) → (host_left h k).interfaces ≡ h.interfaces
+unfolding host_left
+interfaces-left h k = ap (λ (g : HostState). g.interfaces) (closed_if-is h k (slice_get h.endpoints k))
+
+without_key-other : (keys : ℕ → Bool) (key k : ℕ) → k ≢ key → without_key keys key k ≡ keys k
+without_key-other keys key k ne = rw (ne_eqb key k (λ z. ne (sym z))) refl
+
+others-without : (old new : BusState) (key : ℕ) → new ≡ record old { keys = without_key old.keys key } → KeepsOthers old new key
+others-without old new key is =
+    record {
+      tickets = λ t k other own. ap (λ (b : BusState). b.owner t) is ∙ own;
+      keys = λ k other open_. ap (λ (b : BusState). b.keys k) is ∙ (without_key-other old.keys key k other ∙ open_);
+    }
+
+pub others-left : (h : HostState) (key : ℕ) → KeepsOthers (bus_of h) (bus_of (host_left h key)) key
+others-left h key = others-without (bus_of h) (bus_of (host_left h key)) key (bus-left h key)

@@ -1,0 +1,205 @@
+-- What the calls of a host leave as it was.
+use Rattle.std.proofs.Common.{ℕ, zero, suc, arith, ◌≡◌, ◌≢◌, ◌≤◌, List, [], ◌∷◌, length, set, slice_get, Option, Some, None, refl, sym, ◌∙◌, ap}
+use Rattle.std.specs.Prelude.{is_some}
+use Rattle.std.specs.Option.{option_map}
+use Rattle.std.proofs.Math.Path.{fun_ext}
+use Rattle.std.proofs.lemmas.Option.{same_Some}
+use Rattle.usb_kernel.specs.declared.event.Event.{Event}
+use Rattle.usb_kernel.specs.declared.event.Event.TheVariants.{Discard, Reap}
+use Rattle.usb_kernel.specs.declared.step.KernelStep.{KernelStep}
+use Rattle.usb_kernel.specs.declared.step.KernelStep.TheVariants as step
+use Rattle.usb_kernel.specs.declared.submission.Done.{Done}
+use Rattle.usb_kernel.specs.Extends as journal
+use Rattle.usb_kernel.specs.Completions.{reapable, lowest}
+use Rattle.usb_kernel.specs.Steps.{after_step, after_reap, after_discard, is_unfinished, step_done, clock_stepped, stepped}
+use Rattle.usb_kernel.proofs.Extends.{extends-same, extends-if, extends-step, extends-trans}
+use Rattle.usb_bus.specs.BusState.{BusState}
+use Rattle.usb_bus.specs.Later.{Extends, IsLater}
+use Rattle.usb_device.specs.declared.ends.TicketEnd.{TicketEnd}
+use Rattle.usb_device.specs.declared.ends.TicketEnd.TheVariants.{Reclaimed}
+use Rattle.usb_device.specs.HostState.{HostState, HostTicket, Hold, Held, Abandoned, Ended}
+use Rattle.usb_device.specs.Releases.{settled}
+use Rattle.usb_device.specs.TicketEnds.{ended_as, host_ended, reclaimed_if, came}
+use Rattle.usb_bus.specs.declared.route.Turn.TheVariants.{TimeUp}
+use Rattle.usb_device.specs.HostTurns.{with_past, host_stepped, host_reaped, all_stepped, end_of, turn_for, reaped_of, turned_of, host_turn, host_turned}
+use Rattle.usb_device.specs.HostCalls.{host_discarded, host_idled}
+use Rattle.usb_device.specs.HostBus.{held_as, owner_at, key_at, bus_of}
+use Rattle.usb_device.specs.HostFrames.{UsesPlaces}
+
+-- the end of a ticket changes tickets, and devices of the kernel
+pub ended_as-is : (h : HostState) (t : ℕ) (end : TicketEnd) (o : Option HostTicket) → ended_as h t end o ≡ record h { kernel = record h.kernel { devices = (ended_as h t end o).kernel.devices }; tickets = (ended_as h t end o).tickets }
+unfolding settled
+ended_as-is h t end None = refl
+ended_as-is h t end (Some (Held hold)) = refl
+ended_as-is h t end (Some (Abandoned key)) = refl
+ended_as-is h t end (Some (Ended before)) = refl
+
+reclaimed_if-is : (h : HostState) (t : ℕ) (o : Option HostTicket) → reclaimed_if h t o ≡ record h { kernel = record h.kernel { devices = (reclaimed_if h t o).kernel.devices }; tickets = (reclaimed_if h t o).tickets }
+unfolding host_ended
+reclaimed_if-is h t None = refl
+reclaimed_if-is h t (Some (Held hold)) = refl
+reclaimed_if-is h t (Some (Abandoned key)) = ended_as-is h t Reclaimed (slice_get h.tickets t)
+reclaimed_if-is h t (Some (Ended end)) = refl
+
+pub came-is : (h : HostState) (o : Option Done) → came h o ≡ record h { kernel = record h.kernel { devices = (came h o).kernel.devices }; tickets = (came h o).tickets }
+unfolding came
+came-is h None = refl
+came-is h (Some done) = reclaimed_if-is h done.ticket (slice_get h.tickets done.ticket)
+
+-- owners after a write of a ticket
+pub owner-set : (ts : List HostTicket) (t u : ℕ) (old new : HostTicket) → slice_get ts t ≡ Some old → held_as new ≡ held_as old → owner_at (set ts t new) u ≡ owner_at ts u
+owner-set [] t u old new at same = refl
+owner-set (x ∷ xs) zero zero old new at same = ap (option_map (λ (hold : Hold). hold.key)) (same ∙ ap held_as (sym (same_Some x old at)))
+owner-set (x ∷ xs) zero (suc u) old new at same = refl
+owner-set (x ∷ xs) (suc t) zero old new at same = refl
+owner-set (x ∷ xs) (suc t) (suc u) old new at same = owner-set xs t u old new at same
+
+pub owner-set_other : (ts : List HostTicket) (t u : ℕ) (new : HostTicket) → t ≢ u → owner_at (set ts t new) u ≡ owner_at ts u
+owner-set_other [] t u new ne = refl
+owner-set_other (x ∷ xs) zero zero new ne = absurd (ne refl)
+owner-set_other (x ∷ xs) zero (suc u) new ne = refl
+owner-set_other (x ∷ xs) (suc t) zero new ne = refl
+owner-set_other (x ∷ xs) (suc t) (suc u) new ne = owner-set_other xs t u new (λ e. ne (ap suc e))
+
+-- a ticket that was given up is nobody's, and stays so when it is reclaimed
+reclaimed-owner : (h : HostState) (t : ℕ) (o : Option HostTicket) (u : ℕ) → slice_get h.tickets t ≡ o → owner_at (reclaimed_if h t o).tickets u ≡ owner_at h.tickets u
+unfolding host_ended settled
+reclaimed-owner h t None u at = refl
+reclaimed-owner h t (Some (Held hold)) u at = refl
+reclaimed-owner h t (Some (Abandoned key)) u at = ap (λ (o : Option HostTicket). owner_at (ended_as h t Reclaimed o).tickets u) at ∙ owner-set h.tickets t u (Abandoned key) (Ended Reclaimed) at refl
+reclaimed-owner h t (Some (Ended end)) u at = refl
+
+came-owner : (h : HostState) (o : Option Done) (u : ℕ) → owner_at (came h o).tickets u ≡ owner_at h.tickets u
+unfolding came
+came-owner h None u = refl
+came-owner h (Some done) u = reclaimed-owner h done.ticket (slice_get h.tickets done.ticket) u refl
+
+-- what came after changes of the kernel
+uses-came : (n : ℕ) (old new : HostState) (o : Option Done) → UsesPlaces n old new → UsesPlaces n old (came new o)
+uses-came n old new o uses =
+    let is = came-is new o in
+    let clock : (came new o).kernel.clock ≡ new.kernel.clock = ap (λ (h : HostState). h.kernel.clock) is in
+    let before : old.kernel.clock ≤ new.kernel.clock = uses.later.clock in
+    record {
+      steps = ap (λ (h : HostState). h.steps) is ∙ uses.steps;
+      spare = ap (λ (h : HostState). h.kernel.spare) is ∙ uses.spare;
+      devices = ap (λ (h : HostState). h.devices) is ∙ uses.devices;
+      interfaces = ap (λ (h : HostState). h.interfaces) is ∙ uses.interfaces;
+      endpoints = ap (λ (h : HostState). h.endpoints) is ∙ uses.endpoints;
+      later = record {
+        past = record { more = uses.later.past.more; is = ap (λ (h : HostState). h.kernel.past) is ∙ uses.later.past.is };
+        clock = omega (arith, clock, before);
+        owner = fun_ext (came-owner new o) ∙ uses.later.owner;
+        keys = ap (λ (h : HostState). key_at h.endpoints) is ∙ uses.later.keys;
+      };
+    }
+
+-- a journal that goes on, at this crate's names
+goes-on : (old new : List Event) → journal.Extends old new → Extends old new
+goes-on old new on = record { more = on.more; is = on.is }
+
+pub uses-none : (h : HostState) → UsesPlaces 0 h h
+uses-none h =
+    record {
+      steps = refl;
+      spare = omega arith;
+      devices = refl;
+      interfaces = refl;
+      endpoints = refl;
+      later = record { past = goes-on h.kernel.past h.kernel.past (extends-same h.kernel.past); clock = omega arith; owner = refl; keys = refl };
+    }
+
+clock-later : (now : ℕ) (s : KernelStep) → now ≤ clock_stepped now s
+clock-later now (step.Packet d e b) = omega arith
+clock-later now (step.Ack d e) = omega arith
+clock-later now (step.Fail d e errno) = omega arith
+clock-later now (step.Unplug d) = omega arith
+clock-later now (step.Clock to) = omega arith
+clock-later now (step.Reap ticket) = omega arith
+clock-later now (step.Refuse d call errno) = omega arith
+
+-- a step uses one place
+pub uses-stepped : (h : HostState) (s : KernelStep) → UsesPlaces 1 h (host_stepped h s)
+unfolding host_stepped
+uses-stepped h s =
+    uses-came 1 h (record h { kernel = after_step h.kernel s }) (step_done h.kernel.past s)
+    (record {
+      steps = refl;
+      spare = refl;
+      devices = refl;
+      interfaces = refl;
+      endpoints = refl;
+      later = record {
+        past = goes-on h.kernel.past (stepped h.kernel.devices h.kernel.past s) (extends-step h.kernel.devices h.kernel.past s);
+        clock = clock-later h.kernel.clock s;
+        owner = refl;
+        keys = refl;
+      };
+    })
+
+with_past-uses : (h : HostState) (past : List Event) → journal.Extends h.kernel.past past → UsesPlaces 0 h (with_past h past)
+with_past-uses h past on =
+    record {
+      steps = refl;
+      spare = omega arith;
+      devices = refl;
+      interfaces = refl;
+      endpoints = refl;
+      later = record { past = goes-on h.kernel.past past on; clock = omega arith; owner = refl; keys = refl };
+    }
+
+pub uses-reaped : (h : HostState) (t : ℕ) → UsesPlaces 0 h (host_reaped h t)
+unfolding host_reaped
+uses-reaped h t =
+    uses-came 0 h (with_past h (after_reap h.kernel.past t)) (reapable h.kernel.past t)
+    (with_past-uses h (after_reap h.kernel.past t) (extends-if (is_some (reapable h.kernel.past t)) h.kernel.past (Reap t)))
+
+pub uses-discarded : (h : HostState) (t : ℕ) → UsesPlaces 0 h (host_discarded h t)
+unfolding host_discarded
+uses-discarded h t = with_past-uses h (after_discard h.kernel.past t) (extends-if (is_unfinished h.kernel.past t) h.kernel.past (Discard t))
+
+pub uses-idled : (h : HostState) (until : ℕ) → UsesPlaces 0 h (host_idled h until)
+uses-idled h until =
+    record {
+      steps = refl;
+      spare = omega arith;
+      devices = refl;
+      interfaces = refl;
+      endpoints = refl;
+      later = record { past = goes-on h.kernel.past h.kernel.past (extends-same h.kernel.past); clock = omega arith; owner = refl; keys = refl };
+    }
+
+pub later-trans : (a b c : BusState) → IsLater a b → IsLater b c → IsLater a c
+later-trans a b c first second =
+    let on : journal.Extends a.past c.past = extends-trans a.past b.past c.past (record { more = first.past.more; is = first.past.is }) (record { more = second.past.more; is = second.past.is }) in
+    let early : a.clock ≤ b.clock = first.clock in
+    let late : b.clock ≤ c.clock = second.clock in
+    record { past = goes-on a.past c.past on; clock = omega (arith, early, late); owner = second.owner ∙ first.owner; keys = second.keys ∙ first.keys }
+
+-- these steps, one after another
+pub uses-all : (h : HostState) (ss : List KernelStep) → UsesPlaces (length ss) h (all_stepped h ss)
+uses-all h [] = uses-none h
+uses-all h (s ∷ ss) =
+    let one = uses-stepped h s in
+    let rest = uses-all (host_stepped h s) ss in
+    record {
+      steps = rest.steps ∙ one.steps;
+      spare = omega (arith, one.spare, rest.spare);
+      devices = rest.devices ∙ one.devices;
+      interfaces = rest.interfaces ∙ one.interfaces;
+      endpoints = rest.endpoints ∙ one.endpoints;
+      later = later-trans (bus_of h) (bus_of (host_stepped h s)) (bus_of (all_stepped (host_stepped h s) ss)) one.later rest.later;
+    }
+
+-- a turn at which time is up leaves the host as it was
+reaps-still : (h : HostState) (o : Option ℕ) → end_of o ≡ TimeUp → reaped_of h o ≡ h
+reaps-still h None up = refl
+reaps-still h (Some t) up = cc
+
+turns-still : (h : HostState) (ss : List KernelStep) → turn_for h.kernel.past ss ≡ TimeUp → turned_of h ss ≡ h
+turns-still h [] up = reaps-still h (lowest h.kernel.past) up
+turns-still h (s ∷ ss) up = cc
+
+pub turn-still : (h : HostState) → host_turn h ≡ TimeUp → host_turned h ≡ h
+unfolding host_turn host_turned
+turn-still h up = turns-still h h.steps up

@@ -1,0 +1,168 @@
+-- The handles of interfaces over the calls of a host.
+use Rattle.std.proofs.Common.{ℕ, zero, suc, ◌≡◌, ◌≢◌, ◌-◌, true, false, List, [], ◌∷◌, ◌++◌, length, length-set, set, slice_get, Option, Some, None, refl, ◌∙◌, ap, ◌≤◌, ◌<◌, arith, Result, Ok, Err, length-append}
+use Rattle.std.proofs.lemmas.Option.{none-some}
+use Rattle.usb_endpoint.specs.Handles.{KeepsOthers}
+use Rattle.usb_device.specs.declared.opened.OpenDevice.{OpenDevice}
+use Rattle.usb_device.specs.HostState.{HostState, HostEndpoint, ClaimedInterface}
+use Rattle.usb_device.specs.HostBus.{key_at, bus_of}
+use Rattle.usb_device.specs.Releases.{owner_gone}
+use Rattle.usb_device.specs.Handles.{handle_gone, handle_closed}
+use Rattle.usb_device.specs.InterfaceClaims.{fresh_interface, claimed_on, host_claimed}
+use Rattle.usb_device.specs.EndpointOpens.{asked_on, host_asked, with_endpoint}
+use Rattle.usb_device.specs.HandleStates.{InterfaceState, StandsInterface}
+use Rattle.usb_error.specs.ErrorState.{ErrorState}
+use Rattle.usb_device.specs.Opens.{open_tried, opened_by, host_opened}
+use Rattle.usb_device.specs.HostFrames.{KeepsLine}
+
+-- a handle stands while the interfaces stay
+pub StandsInterface-same : (h g : HostState) (f : InterfaceState) → g.interfaces ≡ h.interfaces → length h.devices ≤ length g.devices → StandsInterface h f → StandsInterface g f
+StandsInterface-same h g f same more stands =
+    record {
+      claim = stands.claim;
+      at = ap (λ (cs : List ClaimedInterface). slice_get cs f.key) same ∙ stands.at;
+      number = stands.number;
+      open_handle = stands.open_handle;
+      device = omega (arith, stands.device, more);
+    }
+
+-- the close of a handle changes interfaces, and devices of the kernel
+handle_gone-is : (h : HostState) (i : ℕ) (o : Option ClaimedInterface) → handle_gone h i o ≡ record h { kernel = record h.kernel { devices = (handle_gone h i o).kernel.devices }; interfaces = (handle_gone h i o).interfaces }
+unfolding owner_gone
+handle_gone-is h i None = refl
+handle_gone-is h i (Some c) = refl
+
+pub bus-handle_closed : (h : HostState) (i : ℕ) → bus_of (handle_closed h i) ≡ bus_of h
+unfolding handle_closed
+bus-handle_closed h i = ap bus_of (handle_gone-is h i (slice_get h.interfaces i))
+
+pub line-handle_closed : (h : HostState) (i : ℕ) → KeepsLine h (handle_closed h i)
+unfolding handle_closed
+line-handle_closed h i =
+    let is = handle_gone-is h i (slice_get h.interfaces i) in
+    record { steps = ap (λ (g : HostState). g.steps) is; spare = ap (λ (g : HostState). g.kernel.spare) is; devices = ap (λ (g : HostState). g.devices) is }
+
+pub endpoints-handle_closed : (h : HostState) (i : ℕ) → (handle_closed h i).endpoints ≡ h.endpoints
+unfolding handle_closed
+endpoints-handle_closed h i = ap (λ (g : HostState). g.endpoints) (handle_gone-is h i (slice_get h.interfaces i))
+
+handle_gone-length : (h : HostState) (i : ℕ) (o : Option ClaimedInterface) → length (handle_gone h i o).interfaces ≡ length h.interfaces
+unfolding owner_gone
+handle_gone-length h i None = refl
+handle_gone-length h i (Some c) = length-set h.interfaces i (record c { handles = c.handles - 1 })
+
+pub interfaces-handle_closed : (h : HostState) (i : ℕ) → length (handle_closed h i).interfaces ≡ length h.interfaces
+unfolding handle_closed
+interfaces-handle_closed h i = handle_gone-length h i (slice_get h.interfaces i)
+
+set-other : {A : Type 0} (xs : List A) (i k : ℕ) (x : A) → i ≢ k → slice_get (set xs i x) k ≡ slice_get xs k
+set-other [] i k x ne = refl
+set-other (y ∷ ys) zero zero x ne = absurd (ne refl)
+set-other (y ∷ ys) zero (suc k) x ne = refl
+set-other (y ∷ ys) (suc i) zero x ne = refl
+set-other (y ∷ ys) (suc i) (suc k) x ne = set-other ys i k x (λ z. ne (ap suc z))
+
+handle_gone-other : (h : HostState) (i k : ℕ) (o : Option ClaimedInterface) → i ≢ k → slice_get (handle_gone h i o).interfaces k ≡ slice_get h.interfaces k
+unfolding owner_gone
+handle_gone-other h i k None ne = refl
+handle_gone-other h i k (Some c) ne = set-other h.interfaces i k (record c { handles = c.handles - 1 }) ne
+
+-- a handle of another interface stands over the close of one
+pub StandsInterface-other : (h : HostState) (i : ℕ) (f : InterfaceState) → i ≢ f.key → StandsInterface h f → StandsInterface (handle_closed h i) f
+unfolding handle_closed
+StandsInterface-other h i f ne stands =
+    let same : length (handle_gone h i (slice_get h.interfaces i)).devices ≡ length h.devices = ap (λ (g : HostState). length g.devices) (handle_gone-is h i (slice_get h.interfaces i)) in
+    record {
+      claim = stands.claim;
+      at = handle_gone-other h i f.key (slice_get h.interfaces i) ne ∙ stands.at;
+      number = stands.number;
+      open_handle = stands.open_handle;
+      device = omega (arith, stands.device, same);
+    }
+
+-- a claim adds an interface, and changes devices of the kernel
+claimed_on-is : (h : HostState) (key number : ℕ) (o : Option OpenDevice) → claimed_on h key number o ≡ record h { kernel = record h.kernel { devices = (claimed_on h key number o).kernel.devices }; interfaces = (claimed_on h key number o).interfaces }
+claimed_on-is h key number None = refl
+claimed_on-is h key number (Some o) = refl
+
+pub bus-claimed : (h : HostState) (key number : ℕ) → bus_of (host_claimed h key number) ≡ bus_of h
+unfolding host_claimed
+bus-claimed h key number = ap bus_of (claimed_on-is h key number (slice_get h.devices key))
+
+pub line-claimed : (h : HostState) (key number : ℕ) → KeepsLine h (host_claimed h key number)
+unfolding host_claimed
+line-claimed h key number =
+    let is = claimed_on-is h key number (slice_get h.devices key) in
+    record { steps = ap (λ (g : HostState). g.steps) is; spare = ap (λ (g : HostState). g.kernel.spare) is; devices = ap (λ (g : HostState). g.devices) is }
+
+pub endpoints-claimed : (h : HostState) (key number : ℕ) → (host_claimed h key number).endpoints ≡ h.endpoints
+unfolding host_claimed
+endpoints-claimed h key number = ap (λ (g : HostState). g.endpoints) (claimed_on-is h key number (slice_get h.devices key))
+
+get-push : {A : Type 0} (xs : List A) (y x : A) (k : ℕ) → slice_get xs k ≡ Some x → slice_get (xs ++ y ∷ []) k ≡ Some x
+get-push [] y x k at = absurd (none-some x at)
+get-push (z ∷ zs) y x zero at = at
+get-push (z ∷ zs) y x (suc k) at = get-push zs y x k at
+
+claimed_on-stays : (h : HostState) (key number k : ℕ) (c : ClaimedInterface) (o : Option OpenDevice) → slice_get h.interfaces k ≡ Some c → slice_get (claimed_on h key number o).interfaces k ≡ Some c
+claimed_on-stays h key number k c None at = at
+claimed_on-stays h key number k c (Some o) at = get-push h.interfaces (fresh_interface key o number) c k at
+
+-- each handle stands over a claim
+pub StandsInterface-claimed : (h : HostState) (key number : ℕ) (f : InterfaceState) → StandsInterface h f → StandsInterface (host_claimed h key number) f
+unfolding host_claimed
+StandsInterface-claimed h key number f stands =
+    let same : length (claimed_on h key number (slice_get h.devices key)).devices ≡ length h.devices = ap (λ (g : HostState). length g.devices) (claimed_on-is h key number (slice_get h.devices key)) in
+    record {
+      claim = stands.claim;
+      at = claimed_on-stays h key number f.key stands.claim (slice_get h.devices key) stands.at;
+      number = stands.number;
+      open_handle = stands.open_handle;
+      device = omega (arith, stands.device, same);
+    }
+
+key-push : (es : List HostEndpoint) (e : HostEndpoint) (k : ℕ) → key_at es k ≡ true → key_at (es ++ e ∷ []) k ≡ true
+key-push [] e k is = let no_ : false ≡ true = is in absurd (cc)
+key-push (x ∷ xs) e zero is = is
+key-push (x ∷ xs) e (suc k) is = key-push xs e k is
+
+-- one more endpoint takes nothing from the others
+pub others-with_endpoint : (h : HostState) (i address key : ℕ) → KeepsOthers (bus_of h) (bus_of (with_endpoint h i address)) key
+others-with_endpoint h i address key =
+    record {
+      tickets = λ t k other own. own;
+      keys = λ k other is. key-push h.endpoints (record { interface = i; address = address; is_open = true }) k is;
+    }
+
+-- a look at the active configuration keeps all but what the open device keeps of it
+asked_on-is : (h : HostState) (key : ℕ) (o : Option OpenDevice) → asked_on h key o ≡ record h { devices = (asked_on h key o).devices }
+asked_on-is h key None = refl
+asked_on-is h key (Some o) = refl
+
+pub asked-is : (h : HostState) (key : ℕ) → host_asked h key ≡ record h { devices = (host_asked h key).devices }
+unfolding host_asked
+asked-is h key = asked_on-is h key (slice_get h.devices key)
+
+asked_on-length : (h : HostState) (key : ℕ) (o : Option OpenDevice) → length (asked_on h key o).devices ≡ length h.devices
+asked_on-length h key None = refl
+asked_on-length h key (Some o) = length-set h.devices key _
+
+pub asked-length : (h : HostState) (key : ℕ) → length (host_asked h key).devices ≡ length h.devices
+unfolding host_asked
+asked-length h key = asked_on-length h key (slice_get h.devices key)
+
+-- a device that is opened is one more, and nothing else changes
+opened_by-is : (h : HostState) (tried : Result OpenDevice ErrorState) → opened_by h tried ≡ record h { devices = (opened_by h tried).devices }
+opened_by-is h (Err error) = refl
+opened_by-is h (Ok o) = refl
+
+pub opened-is : (h : HostState) (bus address : ℕ) → host_opened h bus address ≡ record h { devices = (host_opened h bus address).devices }
+unfolding host_opened
+opened-is h bus address = opened_by-is h (open_tried h.kernel.devices bus address)
+
+opened_by-length : (h : HostState) (tried : Result OpenDevice ErrorState) → length h.devices ≤ length (opened_by h tried).devices
+opened_by-length h (Err error) = omega arith
+opened_by-length h (Ok o) = let longer = length-append h.devices (o ∷ []) in omega (arith, longer)
+
+pub opened-length : (h : HostState) (bus address : ℕ) → length h.devices ≤ length (host_opened h bus address).devices
+unfolding host_opened
+opened-length h bus address = opened_by-length h (open_tried h.kernel.devices bus address)

@@ -1,0 +1,117 @@
+-- The definitions at a small host, computed.
+use Rattle.std.specs.Prelude.{◌≡◌, refl, ℕ, Bool, true, false, List, [], ◌∷◌, Some, None, slice_get, Option, ◌||◌}
+use Rattle.usb_desc.specs.declared.types.TransferType.TheVariants.{Bulk}
+use Rattle.usb_kernel.specs.declared.event.Event.{Event}
+use Rattle.usb_kernel.specs.declared.event.Event.TheVariants.{Submit}
+use Rattle.usb_kernel.specs.declared.event.Body.TheVariants.{Wanted}
+use Rattle.usb_kernel.specs.declared.devices.DeviceState.{DeviceState}
+use Rattle.usb_kernel.specs.Completions.{completion}
+use Rattle.usb_kernel.specs.Steps.{after_packet, after_reap}
+use Rattle.usb_kernel.specs.Interfaces.{is_in}
+use Rattle.usb_device.specs.declared.ends.TicketEnd.TheVariants.{Dropped, Reclaimed}
+use Rattle.usb_device.specs.HostState.{HostState, HostTicket, Held, Abandoned, Ended}
+use Rattle.usb_device.specs.Owners.{is_in_use, is_used_among, is_owned_among}
+use Rattle.usb_device.specs.Releases.{settled, owner_gone, claim_ended, claim_of}
+use Rattle.usb_device.specs.TicketEnds.{host_ended, host_taken, host_abandoned, came}
+use Rattle.usb_device.specs.HostTurns.{host_reaped}
+use Rattle.usb_device.specs.HostCalls.{host_discarded, host_left}
+use Rattle.usb_device.specs.Handles.{handle_closed}
+
+-- a transfer of 8 bytes on endpoint 81 of device 0, in packets of at most 4
+abbrev submit : ℕ → List Event → List Event
+submit ticket past = Submit ticket 0 129 4 (Wanted 8) 8 None ∷ past
+
+-- three of them: the first is reaped, the second is finished and the third is not
+abbrev past : List Event
+past =
+    after_packet (after_reap (after_packet (submit 2 (submit 1 (submit 0 []))) 0 129 (7 ∷ [])) 0) 0 129 (8 ∷ [])
+
+-- device 0 with its interface 1 claimed
+abbrev device : DeviceState
+device =
+    record {
+      number = 0;
+      bus = 1;
+      address = 6;
+      speed = 3;
+      configuration = 1;
+      bytes = [];
+      plugged = true;
+      claimed = false ∷ true ∷ [];
+      bound = [];
+    }
+
+abbrev held : HostTicket
+held = Held (record { key = 0; endpoint = 129; kind = Bulk })
+
+-- an endpoint of the interface holds the three
+abbrev open_endpoint : HostState
+open_endpoint =
+    record {
+      kernel = record { past = past; devices = device ∷ []; clock = 0; armed = []; spare = 0 };
+      devices = [];
+      interfaces = record { opened = 0; device = 0; number = 1; setting = 0; handles = 1 } ∷ [];
+      endpoints = record { interface = 0; address = 129; is_open = true } ∷ [];
+      tickets = held ∷ held ∷ held ∷ [];
+      steps = [];
+    }
+
+-- it is closed: the tickets are discarded from the last to the first, and then given up
+abbrev cancelled : HostState
+cancelled = host_discarded (host_discarded (host_discarded open_endpoint 2) 1) 0
+
+abbrev closed : HostState
+closed = host_left (host_abandoned (host_abandoned (host_abandoned cancelled 0) 1) 2) 0
+
+-- whether the interface is claimed at the kernel
+abbrev claimed_of : Option DeviceState → Bool
+claimed_of None = false
+claimed_of (Some d) = is_in d.claimed 1
+
+abbrev is_claimed : HostState → Bool
+is_claimed h = claimed_of (slice_get h.kernel.devices 0)
+
+-- the reaped ticket is dropped, the others are given up, and the bit stays in use
+pub closed_tickets : closed.tickets ≡ Ended Dropped ∷ Abandoned 0 ∷ Abandoned 0 ∷ []
+unfolding is_used_among is_owned_among claim_ended claim_of settled owner_gone host_ended host_taken host_abandoned came host_reaped host_discarded host_left handle_closed completion
+closed_tickets = refl
+
+pub closed_use : is_in_use closed 0 129 ≡ true
+unfolding is_used_among is_owned_among claim_ended claim_of settled owner_gone host_ended host_taken host_abandoned came host_reaped host_discarded host_left handle_closed completion
+closed_use = refl
+
+-- other bits are not: not that of OUT endpoint 1, and not those of another interface
+pub closed_other : is_in_use closed 0 1 || is_in_use closed 1 129 ≡ false
+unfolding is_used_among is_owned_among claim_ended claim_of settled owner_gone host_ended host_taken host_abandoned came host_reaped host_discarded host_left handle_closed completion
+closed_other = refl
+
+-- it stays so when one of the two is reaped
+pub one_reaped : is_in_use (host_reaped closed 2) 0 129 ≡ true
+unfolding is_used_among is_owned_among claim_ended claim_of settled owner_gone host_ended host_taken host_abandoned came host_reaped host_discarded host_left handle_closed completion
+one_reaped = refl
+
+-- with the other one it is free, and the interface is claimed while its handle is open
+pub both_reaped : is_in_use (host_reaped (host_reaped closed 2) 1) 0 129 ≡ false
+unfolding is_used_among is_owned_among claim_ended claim_of settled owner_gone host_ended host_taken host_abandoned came host_reaped host_discarded host_left handle_closed completion
+both_reaped = refl
+
+pub both_claimed : is_claimed (host_reaped (host_reaped closed 2) 1) ≡ true
+unfolding is_used_among is_owned_among claim_ended claim_of settled owner_gone host_ended host_taken host_abandoned came host_reaped host_discarded host_left handle_closed completion
+both_claimed = refl
+
+pub handle_last : is_claimed (handle_closed (host_reaped (host_reaped closed 2) 1) 0) ≡ false
+unfolding is_used_among is_owned_among claim_ended claim_of settled owner_gone host_ended host_taken host_abandoned came host_reaped host_discarded host_left handle_closed completion
+handle_last = refl
+
+-- where the handle is closed first, the claim ends with the last ticket
+pub ticket_first : is_claimed (host_reaped (handle_closed closed 0) 2) ≡ true
+unfolding is_used_among is_owned_among claim_ended claim_of settled owner_gone host_ended host_taken host_abandoned came host_reaped host_discarded host_left handle_closed completion
+ticket_first = refl
+
+pub ticket_last : is_claimed (host_reaped (host_reaped (handle_closed closed 0) 2) 1) ≡ false
+unfolding is_used_among is_owned_among claim_ended claim_of settled owner_gone host_ended host_taken host_abandoned came host_reaped host_discarded host_left handle_closed completion
+ticket_last = refl
+
+pub last_ends : (host_reaped (host_reaped (handle_closed closed 0) 2) 1).tickets ≡ Ended Dropped ∷ Ended Reclaimed ∷ Ended Reclaimed ∷ []
+unfolding is_used_among is_owned_among claim_ended claim_of settled owner_gone host_ended host_taken host_abandoned came host_reaped host_discarded host_left handle_closed completion
+last_ends = refl

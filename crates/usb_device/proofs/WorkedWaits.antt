@@ -1,0 +1,85 @@
+-- Waits and blocking transfers at a small host, computed.
+use Rattle.std.specs.Prelude.{◌≡◌, refl, true, false, List, [], ◌∷◌, None}
+use Rattle.usb_desc.specs.declared.types.TransferType.TheVariants.{Bulk}
+use Rattle.usb_kernel.specs.declared.event.Event.{Event}
+use Rattle.usb_kernel.specs.declared.event.Event.TheVariants.{Submit, Packet, Discard, Reap}
+use Rattle.usb_kernel.specs.declared.event.Body.TheVariants.{Wanted}
+use Rattle.usb_kernel.specs.declared.step.KernelStep.{KernelStep}
+use Rattle.usb_kernel.specs.declared.step.KernelStep.TheVariants as step
+use Rattle.usb_kernel.specs.Completions.{completion}
+use Rattle.usb_bus.specs.Completions.{transfer_completion}
+use Rattle.usb_device.specs.HostState.{HostState, Held}
+use Rattle.usb_device.specs.TicketEnds.{came}
+use Rattle.usb_device.specs.HostTurns.{host_stepped, host_reaped}
+use Rattle.usb_device.specs.HostCalls.{host_discarded}
+use Rattle.usb_device.specs.HostWaits.{host_waited}
+use Rattle.usb_device.specs.HostBlocking.{host_blocked}
+
+-- ticket 0 is a transfer of 8 bytes on endpoint 81 of device 0, in packets of at most 4
+abbrev submitted : Event
+submitted = Submit 0 0 129 4 (Wanted 8) 8 None
+
+-- the endpoint of key 0 holds it, and these steps are left
+abbrev with_steps : List KernelStep → HostState
+with_steps steps =
+    record {
+      kernel = record { past = submitted ∷ []; devices = []; clock = 0; armed = []; spare = 9 };
+      devices = [];
+      interfaces = [];
+      endpoints = record { interface = 0; address = 129; is_open = true } ∷ [];
+      tickets = Held (record { key = 0; endpoint = 129; kind = Bulk }) ∷ [];
+      steps = steps;
+    }
+
+-- at 5 nanoseconds a short packet finishes it, and then it is reaped
+abbrev line : List KernelStep
+line = step.Clock 5 ∷ step.Packet 0 129 (7 ∷ []) ∷ step.Reap None ∷ step.Clock 100 ∷ []
+
+-- a wait of 10 nanoseconds finds it before the last step
+pub found : (host_waited (with_steps line) 0 10).0 ≡ true
+unfolding host_waited host_stepped host_reaped came completion transfer_completion
+found = refl
+
+pub found_steps : (host_waited (with_steps line) 0 10).1.steps ≡ step.Clock 100 ∷ []
+unfolding host_waited host_stepped host_reaped came completion transfer_completion
+found_steps = refl
+
+-- a wait of 5 is over at the first step
+pub late : (host_waited (with_steps line) 0 5).0 ≡ false
+unfolding host_waited host_stepped host_reaped came completion transfer_completion
+late = refl
+
+pub late_steps : (host_waited (with_steps line) 0 5).1.steps ≡ step.Packet 0 129 (7 ∷ []) ∷ step.Reap None ∷ step.Clock 100 ∷ []
+unfolding host_waited host_stepped host_reaped came completion transfer_completion
+late_steps = refl
+
+-- a wait of nothing takes no step
+pub at_once : (host_waited (with_steps line) 0 0) ≡ (false, with_steps line)
+unfolding host_waited host_stepped host_reaped came completion transfer_completion
+at_once = refl
+
+-- where no step reaps it, the wait does
+pub reaped : (host_waited (with_steps (step.Packet 0 129 (7 ∷ []) ∷ [])) 0 10).1.kernel.past ≡ Reap 0 ∷ Packet 0 129 (7 ∷ []) ∷ submitted ∷ []
+unfolding host_waited host_stepped host_reaped came completion transfer_completion
+reaped = refl
+
+-- with no step and no ticket that is finished, time is up
+pub up : (host_waited (with_steps []) 0 10) ≡ (false, with_steps [])
+unfolding host_waited host_stepped host_reaped came completion transfer_completion
+up = refl
+
+-- a blocking transfer of 5 is discarded then. Waits of a second are over at 3 and at 5 seconds, and the last one reaps it; a packet that
+-- comes after the discard is nobody's
+pub cancelled :
+    (host_blocked (with_steps (step.Clock 5 ∷ step.Clock 3000000000 ∷ step.Clock 5000000000 ∷ step.Packet 0 129 (7 ∷ []) ∷ [])) 0 5).kernel.past ≡ Reap 0 ∷ Discard 0 ∷ submitted ∷ []
+unfolding host_waited host_blocked host_discarded host_stepped host_reaped came completion transfer_completion
+cancelled = refl
+
+pub cancelled_steps : (host_blocked (with_steps (step.Clock 5 ∷ step.Clock 3000000000 ∷ step.Clock 5000000000 ∷ step.Packet 0 129 (7 ∷ []) ∷ [])) 0 5).steps ≡ []
+unfolding host_waited host_blocked host_discarded host_stepped host_reaped came completion transfer_completion
+cancelled_steps = refl
+
+-- one that is finished in time is not discarded
+pub in_time : (host_blocked (with_steps line) 0 10).kernel.past ≡ Reap 0 ∷ Packet 0 129 (7 ∷ []) ∷ submitted ∷ []
+unfolding host_waited host_blocked host_discarded host_stepped host_reaped came completion transfer_completion
+in_time = refl

@@ -1,0 +1,22 @@
+use Rattle.std.proofs.Common.{◌≡◌, ap, refl, ◌∙◌, arith}
+use Rattle.usb_kernel.specs.Value.{KernelState}
+use Rattle.usb_kernel.specs.Steps.{after_discard}
+use Rattle.usb_device.specs.HostCalls.{host_discarded}
+use Rattle.usb_device.proofs.ArrivalLemmas.{Comes-discard, Agree-none, Agree-at}
+use Rattle.usb_device.proofs.host.Host.discard_ticket.Goals as goal
+
+pub invariant_of-self : goal.invariant_of-self
+invariant_of-self c =
+    let k = c.self.inside.kernel in
+    record {
+      agree = Agree-at (after_discard k.past c.args.ticket) c.discard.new.self.past c.self.inside.ledger.slots c.discard.ensures.past (Agree-none k.past (after_discard k.past c.args.ticket) c.self.inside.ledger.slots c.self.invariant.agree (Comes-discard k.past c.args.ticket));
+      room = omega (arith, ap (λ (x : KernelState). x.spare) c.discard.ensures.rest, c.self.invariant.room);
+      errnos = c.self.invariant.errnos;
+    }
+
+pub returns : goal.returns
+unfolding host_discarded
+returns c =
+    let k = c.self.inside.kernel in
+    let after : c.discard.new.self ≡ record k { past = after_discard k.past c.args.ticket } = c.discard.ensures.rest ∙ ap (λ p. record k { past = p }) c.discard.ensures.past in
+    record { discarded = rw (after, ← c.self.view_is) refl }

@@ -1,0 +1,12 @@
+use Rattle.usb_device.proofs.WaitFrames.{went-turned, went-waited, went-blocked, went-rest, rest-steps, rest-spare}
+use Rattle.usb_device.proofs.laws.lines_go_on.Goals as goal
+
+pub returns : goal.returns
+returns c = record {
+  turn = went-turned;
+  wait = went-waited;
+  blocking = went-blocked;
+  rest = went-rest;
+  none_left = rest-steps;
+  places = rest-spare;
+}

@@ -1,0 +1,39 @@
+-- The ends of tickets.
+use Rattle.std.specs.Prelude.{ℕ, ◌≡◌, Some}
+use Rattle.usb_kernel.specs.declared.step.KernelStep.{KernelStep}
+use Rattle.usb_xfer.specs.declared.transfer.TransferData.{TransferData}
+use Rattle.usb_bus.specs.declared.route.Route.{Route}
+use Rattle.usb_device.specs.declared.ends.TicketEnd.{TicketEnd}
+use Rattle.usb_device.specs.HostState.{HostState}
+use Rattle.usb_device.specs.HostBus.{end_at}
+use Rattle.usb_device.specs.HostTurns.{host_stepped, host_turned, host_rest}
+use Rattle.usb_device.specs.HostCalls.{host_submitted, host_refused, host_discarded, host_left, host_idled}
+use Rattle.usb_device.specs.TicketEnds.{host_taken, host_abandoned}
+use Rattle.usb_device.specs.Finishes.{finished}
+use Rattle.usb_device.specs.Handles.{handle_closed}
+use Rattle.usb_device.specs.Opens.{host_opened}
+use Rattle.usb_device.specs.InterfaceClaims.{host_claimed}
+use Rattle.usb_device.specs.EndpointOpens.{host_asked, with_endpoint}
+
+-- a ticket that has an end keeps it
+abbrev pub KeepsEnds : HostState → HostState → Type 0
+KeepsEnds old new = (t : ℕ) (end : TicketEnd) → end_at old.tickets t ≡ Some end → end_at new.tickets t ≡ Some end
+
+-- over each call: so a ticket has at most one end
+pub record EndsStay : Type 0 where
+  pub step : (h : HostState) (s : KernelStep) → KeepsEnds h (host_stepped h s)
+  pub rest : (h : HostState) → KeepsEnds h (host_rest h)
+  pub turn : (h : HostState) → KeepsEnds h (host_turned h)
+  pub idle : (h : HostState) (until : ℕ) → KeepsEnds h (host_idled h until)
+  pub submit : (h : HostState) (to : Route) (t : TransferData) → KeepsEnds h (host_submitted h to t)
+  pub refuse : (h : HostState) (to : Route) (t : TransferData) (errno : ℕ) → KeepsEnds h (host_refused h to t errno)
+  pub discard : (h : HostState) (t : ℕ) → KeepsEnds h (host_discarded h t)
+  pub take : (h : HostState) (t : ℕ) → KeepsEnds h (host_taken h t)
+  pub abandon : (h : HostState) (t : ℕ) → KeepsEnds h (host_abandoned h t)
+  pub leave : (h : HostState) (key : ℕ) → KeepsEnds h (host_left h key)
+  pub open_device : (h : HostState) (bus address : ℕ) → KeepsEnds h (host_opened h bus address)
+  pub claim : (h : HostState) (device number : ℕ) → KeepsEnds h (host_claimed h device number)
+  pub close_handle : (h : HostState) (interface : ℕ) → KeepsEnds h (handle_closed h interface)
+  pub ask : (h : HostState) (device : ℕ) → KeepsEnds h (host_asked h device)
+  pub open_endpoint : (h : HostState) (interface address : ℕ) → KeepsEnds h (with_endpoint h interface address)
+  pub finish : (h : HostState) → KeepsEnds h (finished h)

@@ -1,0 +1,17 @@
+-- The end: the tickets are discarded by number, and then reaped by number.
+use Rattle.std.specs.Prelude.{ℕ, zero, suc, length}
+use Rattle.usb_kernel.specs.Tickets.{tickets}
+use Rattle.usb_device.specs.HostState.{HostState}
+use Rattle.usb_device.specs.HostTurns.{host_reaped}
+use Rattle.usb_device.specs.HostCalls.{host_discarded}
+
+abbrev pub discarded_below : HostState → ℕ → HostState
+discarded_below h zero = h
+discarded_below h (suc k) = host_discarded (discarded_below h k) k
+
+abbrev pub reaped_below : HostState → ℕ → HostState
+reaped_below h zero = h
+reaped_below h (suc k) = host_reaped (reaped_below h k) k
+
+unfoldable pub finished : HostState → HostState
+finished h = reaped_below (discarded_below h (length (tickets h.kernel.past))) (length (tickets h.kernel.past))

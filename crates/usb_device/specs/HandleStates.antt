@@ -1,0 +1,20 @@
+-- Handles, and when they stand.
+use Rattle.std.specs.Prelude.{ℕ, ◌≡◌, ◌<◌, length, Some, slice_get}
+use Rattle.usb_device.specs.HostState.{HostState, ClaimedInterface}
+
+-- a handle of an interface: the interface's key and its number
+pub record InterfaceState : Type 0 where
+  pub key : ℕ
+  pub number : ℕ
+
+-- a handle of a device, which is its key, stands where the host has a device of this key
+abbrev pub StandsDevice : HostState → ℕ → Type 0
+StandsDevice h key = key < length h.devices
+
+-- a handle of an interface stands where the host has an interface of this key and number with an open handle, and its device
+pub record StandsInterface (h : HostState) (i : InterfaceState) : Type 0 where
+  pub claim : ClaimedInterface
+  pub at : slice_get h.interfaces i.key ≡ Some claim
+  pub number : claim.number ≡ i.number
+  pub open_handle : 0 < claim.handles
+  pub device : StandsDevice h claim.opened

@@ -1,0 +1,19 @@
+-- How a blocking transfer goes at a host.
+use Rattle.std.specs.Prelude.{ℕ, Bool, length, if◌then◌else◌, zero, suc}
+use Rattle.usb_device.specs.HostState.{HostState}
+use Rattle.usb_device.specs.HostCalls.{host_discarded}
+use Rattle.usb_device.specs.HostWaits.{host_waited}
+
+-- what is left where the ticket was found, and else what comes then
+abbrev pub or_then : Bool × HostState → (HostState → HostState) → HostState
+or_then p next = if p.0 then p.1 else next p.1
+
+-- waits of a second (10^9 nanoseconds), at most so many, until one finds the ticket
+abbrev pub waited_by_seconds : ℕ → HostState → ℕ → HostState
+waited_by_seconds zero h t = h
+waited_by_seconds (suc n) h t = or_then (host_waited h t 1000000000) (λ g. waited_by_seconds n g t)
+
+-- A wait for a ticket; after one in vain the ticket is discarded, and waited for by seconds. Each of these waits that is in vain has taken a step of the line
+unfoldable pub host_blocked : HostState → ℕ → ℕ → HostState
+host_blocked h t timeout =
+    or_then (host_waited h t timeout) (λ g. waited_by_seconds (suc (length g.steps)) (host_discarded g t) t)

@@ -1,0 +1,52 @@
+-- What a host is as a bus.
+use Rattle.std.specs.Prelude.{ℕ, ◌+◌, ◌*◌, ◌^◌, Bool, false, List, length, Option, Some, None, slice_get, option_and_then}
+use Rattle.std.specs.Option.{option_map, option_map_or}
+use Rattle.usb_xfer.specs.declared.transfer.Completion.{Completion}
+use Rattle.usb_xfer.specs.declared.transfer.Held.TheVariants.{Complete}
+use Rattle.usb_xfer.specs.declared.transfer.TransferData.{TransferData}
+use Rattle.usb_kernel.specs.Completions.{waiting}
+use Rattle.usb_bus.specs.BusState.{BusState}
+use Rattle.usb_bus.specs.Completions.{transfer_completion}
+use Rattle.usb_device.specs.declared.ends.TicketEnd.{TicketEnd}
+use Rattle.usb_device.specs.HostState.{HostState, Hold, HostTicket, HostEndpoint, Held, Abandoned, Ended}
+
+-- what the endpoint that holds a ticket has of it
+abbrev pub held_as : HostTicket → Option Hold
+held_as (Held hold) = Some hold
+held_as (Abandoned key) = None
+held_as (Ended end) = None
+
+abbrev pub hold_at : List HostTicket → ℕ → Option Hold
+hold_at tickets t = option_and_then held_as (slice_get tickets t)
+
+-- the key of that endpoint
+abbrev pub owner_at : List HostTicket → ℕ → Option ℕ
+owner_at tickets t = option_map (λ hold. hold.key) (hold_at tickets t)
+
+-- whether the endpoint of a key is open
+abbrev pub key_at : List HostEndpoint → ℕ → Bool
+key_at endpoints k = option_map_or (λ (e : HostEndpoint). e.is_open) (slice_get endpoints k) false
+
+-- the steps that are left, and then the tickets that are finished and not reaped, as one number
+abbrev pub turns_left : HostState → ℕ
+turns_left h = length h.steps * 2 ^ 64 + length (waiting h.kernel.past)
+
+abbrev pub bus_of : HostState → BusState
+bus_of h =
+    record { past = h.kernel.past; clock = h.kernel.clock; owner = owner_at h.tickets; keys = key_at h.endpoints; left = turns_left h }
+
+-- the transfer of a ticket that an endpoint holds, once its completion has come
+abbrev pub transfer_with : Hold → Completion → TransferData
+transfer_with hold c = record { endpoint = hold.endpoint; kind = hold.kind; held = Complete c }
+
+abbrev pub host_value : HostState → ℕ → Option TransferData
+host_value h t = option_and_then (λ hold. option_map (transfer_with hold) (transfer_completion h.kernel.past t)) (hold_at h.tickets t)
+
+-- the end of a ticket that has one
+abbrev pub ended_at : HostTicket → Option TicketEnd
+ended_at (Held hold) = None
+ended_at (Abandoned key) = None
+ended_at (Ended end) = Some end
+
+abbrev pub end_at : List HostTicket → ℕ → Option TicketEnd
+end_at tickets t = option_and_then ended_at (slice_get tickets t)

@@ -1,0 +1,37 @@
+-- An interface of an open device is claimed.
+use Rattle.std.specs.Prelude.{ℕ, [], ◌∷◌, ◌++◌, length, Result, Ok, Err, Option, Some, None, slice_get}
+use Rattle.usb_kernel.specs.Claims.{claim_result, after_claim}
+use Rattle.usb_error.specs.ErrorState.{ErrorState}
+use Rattle.usb_error.specs.Errors.{claim_error}
+use Rattle.usb_device.specs.declared.opened.OpenDevice.{OpenDevice}
+use Rattle.usb_device.specs.HostState.{HostState, ClaimedInterface}
+use Rattle.usb_device.specs.Releases.{with_devices}
+use Rattle.usb_device.specs.Tried.{or_error}
+
+-- a fresh claim has the setting 0 and one open handle
+abbrev pub fresh_interface : ℕ → OpenDevice → ℕ → ClaimedInterface
+fresh_interface key o number = record { opened = key; device = o.device; number = number; setting = 0; handles = 1 }
+
+-- the kernel's answer to the claim
+abbrev pub claim_tried : HostState → OpenDevice → ℕ → Result (Unit {0}) ErrorState
+claim_tried h o number = or_error claim_error (claim_result h.kernel.devices o.device number)
+
+-- one more interface is claimed
+abbrev pub claimed_on : HostState → ℕ → ℕ → Option OpenDevice → HostState
+claimed_on h key number None = h
+claimed_on h key number (Some o) =
+    record (with_devices h (after_claim h.kernel.devices o.device number)) {
+      interfaces = h.interfaces ++ fresh_interface key o number ∷ [];
+    }
+
+unfoldable pub host_claimed : HostState → ℕ → ℕ → HostState
+host_claimed h key number = claimed_on h key number (slice_get h.devices key)
+
+-- the claimed interface has the next key
+abbrev pub claimed_key : ℕ → Result (Unit {0}) ErrorState → Result ℕ ErrorState
+claimed_key key (Err error) = Err error
+claimed_key key (Ok done) = Ok key
+
+abbrev pub claim_key : HostState → ℕ → Option OpenDevice → Result ℕ ErrorState
+claim_key h number None = Ok (length h.interfaces)
+claim_key h number (Some o) = claimed_key (length h.interfaces) (claim_tried h o number)

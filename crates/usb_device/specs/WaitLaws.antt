@@ -1,0 +1,45 @@
+-- Waits and blocking transfers at a host, by the steps of its line.
+use Rattle.std.specs.Prelude.{ℕ, ◌≡◌, ◌≤◌, ◌+◌, Bool, List, [], length, Some}
+use Rattle.usb_endpoint.specs.Waits.{waited}
+use Rattle.usb_endpoint.specs.Blocking.{blocked}
+use Rattle.usb_device.specs.HostState.{HostState}
+use Rattle.usb_device.specs.HostBus.{bus_of}
+use Rattle.usb_device.specs.HostTurns.{host_turned, host_turn, host_rest}
+use Rattle.usb_device.specs.HostCalls.{host_discarded}
+use Rattle.usb_device.specs.HostWaits.{wait_steps, host_waited}
+use Rattle.usb_device.specs.HostBlocking.{host_blocked}
+use Rattle.usb_device.specs.HostFrames.{LineGoesOn, WentOn}
+
+-- a wait at a host that has an answer goes by the steps that are left
+abbrev pub WaitIsBySteps : Type 0
+WaitIsBySteps =
+    (n : ℕ) (h : HostState) (t timeout start : ℕ) (x : Bool × HostState) →
+    waited bus_of host_turned host_turn t timeout start n h ≡ Some x → x ≡ wait_steps h.steps h t timeout start
+
+-- and so does a blocking transfer, whatever bounds its waits had
+abbrev pub BlockingIsBySteps : Type 0
+BlockingIsBySteps =
+    (t timeout looks : ℕ) (more : List ℕ) (h g : HostState) →
+    blocked bus_of host_turned host_turn host_discarded t timeout looks more h ≡ Some g → g ≡ host_blocked h t timeout
+
+-- a turn, a wait and a blocking transfer take steps only from the front of the line, and end nothing that endpoints hold
+abbrev pub TurnGoesOn : Type 0
+TurnGoesOn = (h : HostState) → WentOn h (host_turned h)
+
+abbrev pub WaitGoesOn : Type 0
+WaitGoesOn = (h : HostState) (t timeout : ℕ) → WentOn h (host_waited h t timeout).1
+
+abbrev pub BlockingGoesOn : Type 0
+BlockingGoesOn = (h : HostState) (t timeout : ℕ) → WentOn h (host_blocked h t timeout)
+
+-- at the end of a line no step is left
+abbrev pub RestGoesOn : Type 0
+RestGoesOn = (h : HostState) → WentOn h (host_rest h)
+
+abbrev pub RestLeavesNone : Type 0
+RestLeavesNone = (h : HostState) → (host_rest h).steps ≡ []
+
+-- and each step of it, taken by a call before or not, has used a place of the kernel
+abbrev pub LineUsesPlaces : Type 0
+LineUsesPlaces =
+    (old new : HostState) → LineGoesOn old new → length old.steps ≤ old.kernel.spare → (host_rest new).kernel.spare + length old.steps ≡ old.kernel.spare

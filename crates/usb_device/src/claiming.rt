@@ -1,0 +1,44 @@
+//! Interfaces of open devices are claimed, and their handles closed.
+
+ghost use Rattle.std.specs.Prelude.{◌≡◌, ◌<◌, length, slice_get, OnOk, OnErr};
+ghost use Rattle.std.specs.Option.{ForSome};
+ghost use Rattle.usb_device.specs.HostState.{HostState};
+ghost use Rattle.usb_device.specs.Handles.{handle_closed};
+ghost use Rattle.usb_device.specs.InterfaceClaims.{claim_key, host_claimed};
+ghost use Rattle.usb_device.specs.Tried.{Tried};
+
+use crate::host::{Host, release};
+use usb_desc::Fail;
+use usb_error::Error;
+
+impl Host {
+    /// Claims an interface of an open device. It has the next key, and one handle.
+    pub(crate) fn claim(&mut self, device: usize, number: u8) -> Result<usize, Fail<Error>>
+        requires device { device < length self.old.devices }
+        ensures tried { Tried result (claim_key self.old number (slice_get self.old.devices device)) }
+        ensures ok { OnOk result (self.new ≡ host_claimed self.old device number) }
+        ensures err { OnErr result (self.new ≡ self.old) }
+    {
+        let at_kernel = self.devices[device].device;
+        if let Err(errno) = self.kernel.claim(at_kernel, number) {
+            return Err(Fail::Cause(Error::claim(errno)));
+        }
+        match self.ledger.open_interface(device, at_kernel, number) {
+            Ok(key) => Ok(key),
+            Err(_) => {
+                let _ = self.kernel.release(at_kernel, number);
+                Err(Fail::Memory)
+            }
+        }
+    }
+
+    /// A handle of a claimed interface is closed. With the last owner the claim ends.
+    pub(crate) fn close_handle(&mut self, interface: usize)
+        requires interface { interface < length self.old.interfaces }
+        requires open { ForSome (slice_get self.old.interfaces interface) (λ c. 0 < c.handles) }
+        ensures closed { self.new ≡ handle_closed self.old interface }
+    {
+        let ended = self.ledger.close_handle(interface);
+        release(&mut self.kernel, ended);
+    }
+}

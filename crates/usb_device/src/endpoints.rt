@@ -1,0 +1,137 @@
+//! Endpoints of claimed interfaces are opened.
+
+ghost use Rattle.std.specs.Prelude.{◌≡◌, ◌<◌, length, slice_get, set, OnOk, OnErr, IfOk};
+ghost use Rattle.std.specs.Option.{ForSome, option_copied};
+ghost use Rattle.usb_device.specs.HostState.{HostState, ClaimedInterface};
+ghost use Rattle.usb_device.specs.OwnerRows.{claim_state};
+ghost use Rattle.usb_device.specs.EndpointRefusals.{endpoint_tried};
+ghost use Rattle.usb_device.specs.EndpointOpens.{active_value, host_asked, endpoint_of_setting, host_tries, with_endpoint, route_of, maximum_tried};
+ghost use Rattle.usb_device.specs.Tried.{Tried};
+
+use crate::host::Host;
+use crate::opened::OpenDevice;
+use usb_bus::Route;
+use usb_desc::{Direction, EndpointDescriptor, Fail, TransferType, find_configuration};
+use usb_error::Error;
+use usb_kernel::Kernel;
+
+/// The descriptor of an endpoint of an interface in a setting, in the configuration that the open device keeps.
+#[tactic(auto, unfolding(crate::specs::EndpointOpens::endpoint_of_setting))]
+fn find_endpoint(
+    opened: &OpenDevice,
+    number: u8,
+    setting: u8,
+    address: u8,
+) -> Option<EndpointDescriptor<'_>>
+    ensures value { result ≡ endpoint_of_setting opened.now number setting address }
+{
+    let configuration = find_configuration(opened.descriptors.as_slice(), opened.configuration)?;
+    let setting = configuration.find_alt_setting(number, setting)?;
+    setting.find_endpoint(address)
+}
+
+/// The maximum packet size of an endpoint that may be opened, or why it may not.
+fn maximum_of(
+    found: Option<EndpointDescriptor<'_>>,
+    address: u8,
+    kind: TransferType,
+    direction: Direction,
+    is_used: bool,
+) -> Result<usize, Error>
+    ensures tried { result ≡ endpoint_tried found.entry address kind direction is_used }
+{
+    let Some(endpoint) = found else {
+        return Err(Error::no_endpoint());
+    };
+    if Direction::from_address(address) != direction {
+        return Err(Error::wrong_direction());
+    }
+    if endpoint.transfer_type() != kind {
+        return Err(Error::wrong_type());
+    }
+    if endpoint.max_packet_size() == 0 {
+        return Err(Error::no_packet_size());
+    }
+    if is_used {
+        return Err(Error::endpoint_in_use());
+    }
+    Ok(endpoint.max_packet_size())
+}
+
+/// The value of the active configuration: the kernel's, or where the kernel refuses the one that the open device keeps.
+fn active_value(kernel: &mut Kernel, opened: &OpenDevice) -> u8
+    ensures value { result ≡ active_value kernel.old.devices opened.now }
+    ensures kernel { kernel.new ≡ kernel.old }
+{
+    match kernel.configuration(opened.device) {
+        Ok(value) => value,
+        Err(_) => opened.configuration,
+    }
+}
+
+impl Host {
+    /// Asks the kernel for the value of a device's active configuration, which the open device keeps.
+    fn ask_configuration(&mut self, device: usize)
+        requires device { device < length self.old.devices }
+        ensures asked { self.new ≡ host_asked self.old device }
+    {
+        let value = active_value(&mut self.kernel, &self.devices[device]);
+        let opened = &mut self.devices[device];
+        opened.configuration = value;
+    }
+
+    /// The maximum packet size of an endpoint that may be opened, or why it may not.
+    fn try_endpoint(
+        &self,
+        interface: usize,
+        address: u8,
+        kind: TransferType,
+        direction: Direction,
+    ) -> Result<usize, Error>
+        requires interface { interface < length self.now.interfaces }
+        requires device { ForSome (slice_get self.now.interfaces interface) (λ c. c.opened < length self.now.devices) }
+        ensures tried { ForSome (slice_get self.now.interfaces interface) (λ c. result ≡ host_tries self.now interface c address kind direction) }
+    {
+        let claim = self.ledger.interface(interface);
+        let is_used = self.ledger.is_used(interface, address);
+        let opened = &self.devices[claim.opened];
+        let found = find_endpoint(opened, claim.number, claim.setting, address);
+        maximum_of(found, address, kind, direction, is_used)
+    }
+
+    /// Opens an endpoint of a claimed interface. It has the next key. The kernel is asked for the active configuration first;
+    /// the open device keeps what it gives, also where the endpoint is not opened.
+    pub(crate) fn open_endpoint(
+        &mut self,
+        interface: usize,
+        address: u8,
+        kind: TransferType,
+        direction: Direction,
+    ) -> Result<Route, Fail<Error>>
+        requires interface { interface < length self.old.interfaces }
+        requires device { ForSome (slice_get self.old.interfaces interface) (λ c. c.opened < length self.old.devices) }
+        ensures tried { ForSome (slice_get self.old.interfaces interface) (λ c. Tried (maximum_tried result) (host_tries (host_asked self.old c.opened) interface c address kind direction)) }
+        ensures packets { IfOk result (λ route. 0 < route.maximum) }
+        ensures route { ForSome (slice_get self.old.interfaces interface) (λ c. IfOk result (λ route. route ≡ route_of c address kind route.maximum (length self.old.endpoints))) }
+        ensures ok { ForSome (slice_get self.old.interfaces interface) (λ c. OnOk result (self.new ≡ with_endpoint (host_asked self.old c.opened) interface address)) }
+        ensures err { ForSome (slice_get self.old.interfaces interface) (λ c. OnErr result (self.new ≡ host_asked self.old c.opened)) }
+    {
+        let device = self.ledger.device(interface);
+        let opened = self.ledger.opened(interface);
+        self.ask_configuration(opened);
+        let maximum = match self.try_endpoint(interface, address, kind, direction) {
+            Ok(maximum) => maximum,
+            Err(error) => return Err(Fail::Cause(error)),
+        };
+        let Ok(key) = self.ledger.open_endpoint(interface, address) else {
+            return Err(Fail::Memory);
+        };
+        Ok(Route {
+            device,
+            endpoint: address,
+            kind,
+            maximum,
+            key,
+        })
+    }
+}

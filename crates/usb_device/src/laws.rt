@@ -1,0 +1,30 @@
+//! Laws of waits at a host. Each is the contract of a function that does nothing.
+
+ghost use Rattle.usb_device.specs.EndLaws.{EndsStay};
+ghost use Rattle.usb_device.specs.WaitLaws.{WaitIsBySteps, BlockingIsBySteps, TurnGoesOn, WaitGoesOn, BlockingGoesOn, RestGoesOn, RestLeavesNone, LineUsesPlaces};
+
+/// A wait for a ticket goes by the steps of the line that are left, and then by reaps.
+pub fn wait_is_by_steps()
+    ensures { WaitIsBySteps }
+{}
+
+/// A blocking transfer is a wait, and where that is in vain a discard and waits of a second (10^9 nanoseconds), each of which has
+/// taken a step of the line if it is in vain too.
+pub fn blocking_is_by_steps()
+    ensures { BlockingIsBySteps }
+{}
+
+/// What takes steps of a line takes them from its front. At the line's end all are taken, and each has used a place of the kernel.
+pub fn lines_go_on()
+    ensures turn { TurnGoesOn }
+    ensures wait { WaitGoesOn }
+    ensures blocking { BlockingGoesOn }
+    ensures rest { RestGoesOn }
+    ensures none_left { RestLeavesNone }
+    ensures places { LineUsesPlaces }
+{}
+
+/// A ticket has at most one end: one that it has stays over each call on the host.
+pub fn tickets_end_once()
+    ensures stay { EndsStay }
+{}

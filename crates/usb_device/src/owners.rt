@@ -1,0 +1,256 @@
+//! Who owns the claimed interfaces, and which of their endpoints are in use, kept as counts and bits.
+
+ghost use Rattle.std.specs.Prelude.{◌≡◌, ◌+◌, ◌-◌, ◌^◌, ◌<◌, ◌++◌, ◌∷◌, [], ◌||◌, length, set, true, false, IfSome, nat_lt, slice_get, Some, None, OnOk, OnErr, IfOk, if◌then◌else◌, vec_len, vec_capacity};
+ghost use Rattle.std.specs.Option.{ForSome};
+ghost use Rattle.std.specs.List.{list_any};
+ghost use Rattle.std.specs.FinSet as bits;
+ghost use Rattle.usb_desc.specs.BitSet.{bit_of, members};
+ghost use Rattle.usb_device.specs.OwnerRows.{OwnersState, claim_state, is_alive, uses_row, with_row, row_gone, claim_gone};
+
+use std::alloc::Global;
+use std::marker::Model;
+use usb_desc::{EndpointBitSet, NoMemory};
+
+/// A claim that ends: the device's number at the kernel, and the interface's number.
+#[derive(Clone, Copy)]
+pub(crate) struct EndedClaim {
+    pub device: u8,
+    pub number: u8,
+}
+
+/// A claimed interface: the key of its open device, the device's number at the kernel, its own number and alternate setting,
+/// how many handles of it are open, how many of its endpoints live, and their bits.
+#[derive(Drop)]
+pub(crate) struct Claim {
+    pub opened: usize,
+    pub device: u8,
+    pub number: u8,
+    pub setting: u8,
+    pub handles: usize,
+    living: usize,
+    bits: EndpointBitSet,
+}
+
+/// An endpoint: the key of its interface, its address, whether its handle is open, and how many of its tickets have no end.
+#[derive(Drop)]
+pub(crate) struct Row {
+    pub interface: usize,
+    pub address: u8,
+    pub is_open: bool,
+    pub tickets: usize,
+}
+
+/// The claimed interfaces and their endpoints, each by its key.
+#[derive(Drop)]
+pub(crate) struct Owners {
+    claims: Vec<Claim>,
+    rows: Vec<Row>,
+}
+
+impl Model for Owners {
+    ghost use Rattle.std.specs.Prelude.{map};
+    ghost use Rattle.usb_device.specs.OwnerRows.{OwnersState, claim_state};
+
+    ghost Value = { OwnersState };
+
+    ghost view = { λ o. record { interfaces = map claim_state o.claims.items; rows = o.rows.items } };
+
+    ghost use Rattle.usb_device.specs.OwnerFacts.{AreCounted};
+
+    ghost invariant = { AreCounted };
+}
+
+impl Row {
+    /// Whether the endpoint lives.
+    fn is_alive(&self) -> bool
+        ensures alive { result ≡ is_alive self.now }
+    {
+        self.is_open || self.tickets > 0
+    }
+}
+
+impl Claim {
+    /// The claim, where the interface has no owner.
+    fn if_left(&self) -> Option<EndedClaim>
+        ensures left { result ≡ (if nat_lt 0 self.now.handles || nat_lt 0 self.now.living then None else Some (record { device = self.now.device; number = self.now.number })) }
+    {
+        if self.handles > 0 || self.living > 0 {
+            return None;
+        }
+        Some(EndedClaim {
+            device: self.device,
+            number: self.number,
+        })
+    }
+
+    /// An endpoint of the interface lives no more.
+    fn lose(&mut self, address: u8)
+        requires some { 0 < self.old.living }
+        ensures rest { self.new ≡ record self.old { living = self.old.living - 1; bits = self.new.bits } }
+        ensures bits { members self.new.bits ≡ bits.remove (members self.old.bits) (bit_of address) }
+    {
+        self.living -= 1;
+        self.bits.clear(address);
+    }
+}
+
+impl Claim {
+    /// An endpoint of the interface lives.
+    fn gain(&mut self, address: u8)
+        requires small { self.old.living + 1 < 2 ^ 64 }
+        ensures rest { self.new ≡ record self.old { living = self.old.living + 1; bits = self.new.bits } }
+        ensures bits { members self.new.bits ≡ bits.insert (members self.old.bits) (bit_of address) }
+    {
+        self.living += 1;
+        self.bits.set(address);
+    }
+}
+
+impl Owners {
+    /// An endpoint that lives is open or not, and has this many tickets without an end. The claim of its interface ends where it
+    /// was the last owner and lives no more.
+    fn change(&mut self, key: usize, is_open: bool, tickets: usize) -> Option<EndedClaim>
+        requires key { key < length self.old.rows }
+        requires alive { ForSome (slice_get self.old.rows key) (λ e. is_alive e ≡ true) }
+        ensures rows { self.new ≡ record self.old { rows = with_row self.old.rows key is_open tickets } }
+        ensures gone { result ≡ row_gone self.new key }
+    {
+        let row = &mut self.rows[key];
+        row.is_open = is_open;
+        row.tickets = tickets;
+        if row.is_alive() {
+            return None;
+        }
+        let interface = row.interface;
+        let address = row.address;
+        let claim = &mut self.claims[interface];
+        claim.lose(address);
+        claim.if_left()
+    }
+
+    /// No interface, and no endpoint.
+    pub fn new(alloc: Global) -> Owners
+        ensures empty { result ≡ record { interfaces = []; rows = [] } }
+    {
+        Owners {
+            claims: Vec::new(alloc),
+            rows: Vec::new(alloc),
+        }
+    }
+
+    /// A ticket comes to an endpoint that is open.
+    pub fn add_ticket(&mut self, key: usize)
+        requires key { key < length self.old.rows }
+        requires open { ForSome (slice_get self.old.rows key) (λ e. e.is_open ≡ true) }
+        requires small { ForSome (slice_get self.old.rows key) (λ e. e.tickets + 1 < 2 ^ 64) }
+        ensures rows { ForSome (slice_get self.old.rows key) (λ e. self.new ≡ record self.old { rows = with_row self.old.rows key true (e.tickets + 1) }) }
+    {
+        let row = &self.rows[key];
+        let tickets = row.tickets + 1;
+        let _ = self.change(key, true, tickets);
+    }
+
+    /// A ticket of an endpoint has its end.
+    pub fn end_ticket(&mut self, key: usize) -> Option<EndedClaim>
+        requires key { key < length self.old.rows }
+        requires some { ForSome (slice_get self.old.rows key) (λ e. 0 < e.tickets) }
+        ensures rows { ForSome (slice_get self.old.rows key) (λ e. self.new ≡ record self.old { rows = with_row self.old.rows key e.is_open (e.tickets - 1) }) }
+        ensures gone { result ≡ row_gone self.new key }
+    {
+        let row = &self.rows[key];
+        let is_open = row.is_open;
+        let tickets = row.tickets - 1;
+        self.change(key, is_open, tickets)
+    }
+
+    /// The handle of an endpoint is closed.
+    pub fn close_endpoint(&mut self, key: usize) -> Option<EndedClaim>
+        requires key { key < length self.old.rows }
+        requires open { ForSome (slice_get self.old.rows key) (λ e. e.is_open ≡ true) }
+        ensures rows { ForSome (slice_get self.old.rows key) (λ e. self.new ≡ record self.old { rows = with_row self.old.rows key false e.tickets }) }
+        ensures gone { result ≡ row_gone self.new key }
+    {
+        let row = &self.rows[key];
+        let tickets = row.tickets;
+        self.change(key, false, tickets)
+    }
+
+    /// A handle of an interface is closed.
+    pub fn close_handle(&mut self, interface: usize) -> Option<EndedClaim>
+        requires key { interface < length self.old.interfaces }
+        requires some { ForSome (slice_get self.old.interfaces interface) (λ c. 0 < c.handles) }
+        ensures interfaces { ForSome (slice_get self.old.interfaces interface) (λ c. self.new ≡ record self.old { interfaces = set self.old.interfaces interface (record c { handles = c.handles - 1 }) }) }
+        ensures gone { result ≡ claim_gone self.new interface }
+    {
+        let claim = &mut self.claims[interface];
+        claim.handles -= 1;
+        claim.if_left()
+    }
+
+    /// A claimed interface.
+    pub fn interface(&self, interface: usize) -> &Claim
+        requires key { interface < length self.now.interfaces }
+        ensures claim { slice_get self.now.interfaces interface ≡ Some (claim_state result.now) }
+    {
+        &self.claims[interface]
+    }
+
+    /// Whether a living endpoint of an interface has the bit of an address.
+    pub fn is_used(&self, interface: usize, address: u8) -> bool
+        requires key { interface < length self.now.interfaces }
+        ensures used { result ≡ list_any (uses_row interface address) self.now.rows }
+    {
+        let claim = &self.claims[interface];
+        claim.bits.is_set(address)
+    }
+
+    /// One more interface is claimed, with one handle.
+    pub fn open_interface(
+        &mut self,
+        opened: usize,
+        device: u8,
+        number: u8,
+    ) -> Result<usize, NoMemory>
+        ensures key { IfOk result (λ key. key ≡ length self.old.interfaces) }
+        ensures interfaces { OnOk result (self.new ≡ record self.old { interfaces = self.old.interfaces ++ record { opened = opened; device = device; number = number; setting = 0; handles = 1 } ∷ [] }) }
+        ensures err { OnErr result (self.new ≡ self.old) }
+    {
+        let key = self.claims.len();
+        let claim = Claim {
+            opened,
+            device,
+            number,
+            setting: 0,
+            handles: 1,
+            living: 0,
+            bits: EndpointBitSet::new(),
+        };
+        if self.claims.push(claim).is_err() {
+            return Err(NoMemory);
+        }
+        Ok(key)
+    }
+
+    /// One more endpoint of an interface is open. Its bit must not be in use.
+    pub fn open_endpoint(&mut self, interface: usize, address: u8) -> Result<usize, NoMemory>
+        requires key { interface < length self.old.interfaces }
+        requires unused { list_any (uses_row interface address) self.old.rows ≡ false }
+        ensures key { IfOk result (λ key. key ≡ length self.old.rows) }
+        ensures rows { OnOk result (self.new ≡ record self.old { rows = self.old.rows ++ record { interface = interface; address = address; is_open = true; tickets = 0 } ∷ [] }) }
+        ensures err { OnErr result (self.new ≡ self.old) }
+    {
+        let key = self.rows.len();
+        let row = Row {
+            interface,
+            address,
+            is_open: true,
+            tickets: 0,
+        };
+        if self.rows.push(row).is_err() {
+            return Err(NoMemory);
+        }
+        let claim = &mut self.claims[interface];
+        claim.gain(address);
+        Ok(key)
+    }
+}
