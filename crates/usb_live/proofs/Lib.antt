@@ -1,0 +1,9 @@
+pub mod Kept
+pub mod CellFacts
+pub mod OwnerSteps
+pub mod HandlerSteps
+pub mod StepFacts
+pub mod Queue
+pub mod Reaped
+pub mod Whole
+pub mod Rounds

@@ -1,0 +1,11 @@
+pub mod Cells
+pub mod Rows
+pub mod Steps
+pub mod Seats
+pub mod Rests
+pub mod Answers
+pub mod Rounds
+pub mod Submits
+pub mod Live
+pub mod Calls
+pub mod Laws

@@ -1,0 +1,60 @@
+-- What an endpoint is to its caller, and how its queue stands to the cells.
+use Rattle.std.specs.Prelude.{◌≡◌, ◌≢◌, ◌⊎◌, ℕ, ◌^◌, ◌<◌, List, [], ◌∷◌, length, true, false, Bool, cond, slice_index_or}
+use Rattle.usb_live.specs.declared.view.View.{View}
+use Rattle.usb_live.specs.declared.view.Owned.{Owned}
+use Rattle.usb_live.specs.declared.view.Owned.TheVariants.{Free, Mine, Pending, Left}
+use Rattle.usb_live.specs.declared.view.OwnerCell.{OwnerCell}
+use Rattle.usb_live.specs.declared.entry.Entry.{Entry}
+use Rattle.usb_live.specs.declared.entry.Tally.{Tally}
+use Rattle.usb_bus.specs.declared.route.Route.{Route}
+use Rattle.usb_live.specs.Rows.{stage_at}
+
+-- what the owner knows of the cells, where transfers go, the source at which it hears of the handler's moves, the transfers on their
+-- way, the oldest first, and how many there were
+pub record Live : Type 0 where
+  pub seat : View
+  pub route : Route
+  pub source : ℕ
+  pub queue : List Entry
+  pub tally : Tally
+
+-- a transfer on its way lies in a cell that is pending, or that is the owner's where it was refused
+abbrev pub stage_of : Entry → Owned
+stage_of e = cond e.refused (Mine e.ticket) (Pending e.ticket)
+
+-- an entry stands at its cell
+abbrev pub Stands : List OwnerCell → Entry → Type 0
+Stands cells e = (e.cell < 64) × (e.ticket < 2 ^ 62) × (stage_at cells e.cell ≡ stage_of e)
+
+-- the cell i is that of no entry
+abbrev pub Off : ℕ → List Entry → Type 0
+Off i [] = Unit {0}
+Off i (e ∷ es) = (i ≢ e.cell) × Off i es
+
+-- the cell i is that of an entry
+abbrev pub In : ℕ → List Entry → Type 0
+In i [] = ⊥
+In i (e ∷ es) = (i ≡ e.cell) ⊎ In i es
+
+-- each entry stands at a cell of its own
+abbrev pub Queued : List OwnerCell → List Entry → Type 0
+Queued cells [] = Unit {0}
+Queued cells (e ∷ es) = Stands cells e × Off e.cell es × Queued cells es
+
+-- the owner left the cell to the handler
+abbrev pub IsLeft : Owned → Type 0
+IsLeft (Left t) = Unit {0}
+IsLeft _ = ⊥
+
+-- a cell is free and not used; or it is used, and left or in the queue
+abbrev pub Accounted : List OwnerCell → List Entry → List Bool → ℕ → Type 0
+Accounted cells q used i =
+    ((slice_index_or used i true ≡ false) × (stage_at cells i ≡ Free))
+    ⊎ ((slice_index_or used i true ≡ true) × (IsLeft (stage_at cells i) ⊎ In i q))
+
+-- the queue and the marks of used cells are in order with the owner's view
+pub record Orderly (v : View) (q : List Entry) (used : List Bool) : Type 0 where
+  pub wide : length v.owner ≡ 64
+  pub long : length used ≡ 64
+  pub queued : Queued v.owner q
+  pub accounted : (i : ℕ) → i < 64 → Accounted v.owner q used i

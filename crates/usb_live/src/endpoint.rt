@@ -1,0 +1,331 @@
+//! A queue of transfers over a row.
+ghost use Rattle.std.specs.Prelude.{◌≡◌, ℕ, ◌+◌, ◌*◌, ◌^◌, ◌<◌, true, false, [], List, None, IfOk, IfErr, OnOk, OnErr, MatchOption, MatchBool, length, slice_set, slice_index_or, cond, ◌⊎◌};
+ghost use Rattle.futures.specs.Task.{IsArmed, Hears, Keeps};
+ghost use Rattle.futures.specs.declared.task.Poll.TheVariants.{Ready};
+ghost use Rattle.usb_live.specs.declared.view.View.{View};
+ghost use Rattle.usb_kernel.specs.Submits.{number_of};
+ghost use Rattle.usb_live.specs.declared.view.Owned.TheVariants.{Free, Mine, Left};
+ghost use Rattle.usb_live.specs.Rows.{owner_cell, stage_at};
+ghost use Rattle.usb_live.specs.Steps.{owning, looked};
+ghost use Rattle.usb_bus.specs.Routes.{submission_of};
+ghost use Rattle.usb_live.specs.Submits.{is_whole, submitted, after_submitted, entry_of};
+ghost use Rattle.usb_live.specs.Live.{Stands, stage_of};
+
+use crate::entry::{Entry, LiveError, Receipt, Tally};
+use crate::seats::{Owner, OwnerSeat};
+use futures::task::{Context, Poll};
+use std::alloc::Global;
+use std::collections::VecDeque;
+use std::marker::Model;
+use std::sync::Wait;
+use usb_bus::{Route, completion_from};
+use usb_kernel::{Kernel, Submission, Submitted};
+use usb_xfer::{Buffer, Notify};
+
+/// The errno of an invalid length.
+const INVALID: u16 = 22;
+
+/// A queue of transfers that lie in the cells of a row. `close` ends it: an endpoint is never dropped.
+pub struct LiveEndpoint<'a> {
+    notify: &'a Notify,
+    to: Route,
+    seat: Owner,
+    queue: VecDeque<Entry>,
+    used: [bool; 64],
+    tally: Tally,
+}
+
+impl<'a> Model for LiveEndpoint<'a> {
+    ghost use Rattle.usb_live.specs.Live.{Live, Orderly};
+
+    ghost Value = { Live };
+
+    ghost view = { λ e. record { seat = e.seat; route = e.to; source = e.notify.now; queue = e.queue.items; tally = e.tally } };
+
+    ghost invariant = { λ e. Orderly e.seat e.queue.items e.used };
+}
+
+/// What the route hands in for a buffer.
+fn submission(to: Route, buffer: Buffer) -> Submission
+    ensures submission { result ≡ submission_of to buffer }
+{
+    Submission {
+        device: to.device,
+        endpoint: to.endpoint,
+        kind: to.kind,
+        maximum: to.maximum,
+        deadline: None,
+        setup: None,
+        buffer,
+    }
+}
+
+/// Whether the length is one that the endpoint may be asked for.
+fn has_whole_length(s: &Submission) -> bool
+    ensures whole { result ≡ is_whole s.now }
+{
+    let len = s.buffer.requested_len();
+    s.endpoint < 128 || (s.maximum > 0 && len > 0 && len % s.maximum == 0)
+}
+
+/// A submission goes to the kernel, or is refused where its length is invalid. An `Err` is want of memory.
+fn enter(kernel: &mut Kernel, s: Submission) -> Result<Submitted, Submission>
+    requires deadline { s.deadline ≡ None }
+    ensures submitted { IfOk result (λ r. r ≡ submitted kernel.old s) }
+    ensures number { IfOk result (λ r. number_of r < 2 ^ 62) }
+    ensures kernel { OnOk result (kernel.new ≡ after_submitted kernel.old s) }
+    ensures err { OnErr result (kernel.new ≡ kernel.old) }
+    ensures back { IfErr result (λ back. back ≡ s) }
+{
+    if has_whole_length(&s) {
+        kernel.submit(s)
+    } else {
+        kernel.refuse(s, INVALID)
+    }
+}
+
+/// Puts a submission into a free cell: for the handler to finish, or with its completion where it was refused.
+fn place(seat: &mut Owner, cell: usize, submitted: Submitted) -> Entry
+    requires cell { (cell < 64) × ((owner_cell seat.old cell).stage ≡ Free) }
+    requires number { number_of submitted < 2 ^ 62 }
+    ensures entry { result ≡ entry_of submitted cell }
+    ensures seat { seat.new ≡ owning seat.old cell (stage_of (entry_of submitted cell)) false }
+{
+    match submitted {
+        Submitted::Queued(ticket) => {
+            seat.submit(cell, ticket);
+            Entry {
+                ticket,
+                cell,
+                refused: false,
+            }
+        }
+        Submitted::Refused(done) => {
+            let ticket = done.ticket;
+            seat.refuse(cell, ticket, completion_from(done));
+            Entry {
+                ticket,
+                cell,
+                refused: true,
+            }
+        }
+    }
+}
+
+/// Whether the handler is done with an entry. A refused one was never its own.
+fn is_done(seat: &mut Owner, e: Entry) -> bool
+    requires stands { Stands seat.old.owner e }
+    ensures looked { MatchBool result
+        (seat.new ≡ cond e.refused seat.old (looked (owning seat.old e.cell (Mine e.ticket) false) e.cell (4 * e.ticket)))
+        ((e.refused ≡ false) × (seat.new ≡ looked seat.old e.cell (4 * e.ticket + 1))) }
+{
+    if e.refused {
+        return true;
+    }
+    seat.look(e.cell, e.ticket)
+}
+
+/// Takes the completion of the front entry, whose cell the owner has.
+fn take_front(seat: &mut Owner, used: &mut [bool; 64], e: Entry) -> Receipt
+    requires cell { (e.cell < 64) × ((owner_cell seat.old e.cell).stage ≡ Mine e.ticket) }
+    requires used { length used.old ≡ 64 }
+    ensures ticket { result.ticket ≡ e.ticket }
+    ensures seat { seat.new ≡ owning seat.old e.cell Free false }
+    ensures used { used.new ≡ slice_set used.old e.cell false }
+{
+    let completion = seat.take(e.cell, e.ticket);
+    used[e.cell] = false;
+    Receipt {
+        ticket: e.ticket,
+        completion,
+    }
+}
+
+/// The first cell that is not used.
+fn free_cell(used: &[bool; 64]) -> Option<usize>
+    requires long { length used.now ≡ 64 }
+    ensures first { MatchOption result
+        ((i : ℕ) → i < 64 → slice_index_or used.now i true ≡ true)
+        (λ i. (i < 64) × (slice_index_or used.now i true ≡ false)) }
+{
+    for i in 0..64 {
+        if !used[i] {
+            return Some(i);
+        }
+    }
+    None
+}
+
+/// Leaves an entry to the handler, or drops it where the handler is done with it. Says how many were dropped.
+fn give_up(seat: &mut Owner, used: &mut [bool; 64], e: Entry) -> u64
+    requires cell { Stands seat.old.owner e }
+    requires used { (length used.old ≡ 64) × (length seat.old.owner ≡ 64) }
+    ensures given_up { ((result ≡ 1) × (seat.new ≡ owning seat.old e.cell Free false) × (used.new ≡ slice_set used.old e.cell false))
+        ⊎ ((result ≡ 0) × (seat.new ≡ owning seat.old e.cell (Left e.ticket) false) × (used.new ≡ used.old)) }
+{
+    if e.refused {
+        drop(take_front(seat, used, e));
+        return 1;
+    }
+    if seat.leave(e.cell, e.ticket) {
+        return 0;
+    }
+    drop(take_front(seat, used, e));
+    1
+}
+
+impl<'a> LiveEndpoint<'a> {
+    ghost use Rattle.usb_live.specs.Live.{Live};
+    ghost use Rattle.usb_live.specs.declared.view.OwnerCell.{OwnerCell};
+    ghost use Rattle.usb_live.specs.Calls.{SubmitTells, NextTells, cancelled, IsShut, with_dropped};
+
+    /// An empty queue over a row, and its numbers go on from the tally. An `Err` is want of memory, and gives seat and tally back.
+    pub fn new(
+        alloc: Global,
+        owner: OwnerSeat,
+        to: Route,
+        notify: &'a Notify,
+        tally: Tally,
+    ) -> Result<LiveEndpoint<'a>, (OwnerSeat, Tally)>
+        ensures fresh { IfOk result (λ e. e ≡ record { seat = owner; route = to; source = notify.now; queue = []; tally = tally }) }
+        ensures back { IfErr result (λ back. back ≡ (owner, tally)) }
+    {
+        match VecDeque::with_capacity(alloc, 64) {
+            Ok(queue) => Ok(LiveEndpoint {
+                notify,
+                to,
+                seat: owner.into_owner(),
+                queue,
+                used: [false; 64],
+                tally,
+            }),
+            Err(_) => Err((owner, tally)),
+        }
+    }
+
+    /// How many transfers are on their way.
+    pub fn pending(&self) -> usize
+        ensures pending { result ≡ length self.now.queue }
+    {
+        self.queue.len()
+    }
+
+    /// Submits a transfer of this buffer, and gives its ticket. An `Err` gives the buffer back, and nothing has changed.
+    pub fn submit(&mut self, kernel: &mut Kernel, buf: Buffer) -> Result<u64, LiveError>
+        ensures submitted { SubmitTells result buf self.old kernel.old self.new kernel.new }
+    {
+        let Some(cell) = free_cell(&self.used) else {
+            return Err(LiveError::Full(buf));
+        };
+        if self.queue.reserve(1).is_err() {
+            return Err(LiveError::Memory(buf));
+        }
+        let submitted = match enter(kernel, submission(self.to, buf)) {
+            Ok(submitted) => submitted,
+            Err(back) => return Err(LiveError::Memory(back.buffer)),
+        };
+        let entry = place(&mut self.seat, cell, submitted);
+        self.queue.push_back_reserved(entry);
+        self.used[cell] = true;
+        self.tally.submitted = self.tally.submitted.saturating_add(1);
+        Ok(entry.ticket)
+    }
+
+    /// The receipt of the oldest transfer, once the handler is done with it. Some transfer has to be on its way.
+    pub fn try_next_complete(&mut self) -> Poll<Receipt>
+        requires pending { 0 < length self.old.queue }
+        ensures told { NextTells result self.old self.new }
+    {
+        let Some(front) = self.queue.front() else {
+            unreachable!()
+        };
+        let e = *front;
+        if !is_done(&mut self.seat, e) {
+            return Poll::Pending;
+        }
+        let receipt = take_front(&mut self.seat, &mut self.used, e);
+        self.queue.pop_front();
+        self.tally.taken = self.tally.taken.saturating_add(1);
+        Poll::Ready(receipt)
+    }
+
+    /// Registers the task to be polled again at the handler's next move, and then does as `try_next_complete`.
+    pub fn poll_next_complete(&mut self, rt: &impl Wait, cx: &mut Context<'_>) -> Poll<Receipt>
+        requires pending { 0 < length self.old.queue }
+        ensures told { NextTells result self.old self.new }
+        ensures armed { IsArmed cx.new }
+        ensures heard { Hears cx.new self.old.source }
+        ensures kept { Keeps cx.old cx.new }
+    {
+        self.notify.subscribe(rt, cx);
+        self.try_next_complete()
+    }
+
+    /// Waits until the handler is done with the oldest transfer. Some transfer has to be on its way.
+    pub fn wait_next_complete(&mut self, rt: &impl Wait) -> Receipt
+        requires pending { 0 < length self.old.queue }
+        ensures told { (v : View) × (v.owner ≡ self.old.seat.owner) × NextTells (Ready result) (record self.old { seat = v }) self.new }
+    {
+        'rounds: for _ in rt.forever() {
+            let seen = self.notify.moves(rt);
+            if let Poll::Ready(receipt) = self.try_next_complete() {
+                return receipt;
+            }
+            self.notify.wait_past(rt, seen);
+        }
+        unreachable!()
+    }
+
+    /// Discards what is on its way, from the last to the first.
+    pub fn cancel_all(&mut self, kernel: &mut Kernel)
+        ensures kernel { kernel.new ≡ cancelled self.old.queue kernel.old }
+        ensures same { self.new ≡ self.old }
+    {
+        let queue = &self.queue;
+        'tickets: for i in (0..queue.len()).rev() {
+            kernel.discard(queue[i].ticket);
+        }
+    }
+
+    /// Discards what is on its way, leaves what is pending to the handler, and drops what the handler is done with.
+    pub fn shut(&mut self, kernel: &mut Kernel)
+        ensures kernel { kernel.new ≡ cancelled self.old.queue kernel.old }
+        ensures cells { IsShut self.new.seat.owner }
+        ensures rest { self.new ≡ record self.old {
+          seat = self.new.seat;
+          queue = [];
+          tally = with_dropped self.old.tally self.old.seat.owner self.new.seat.owner;
+        } }
+    {
+        self.cancel_all(kernel);
+        let _dropped = self.tally.dropped;
+        'entries: while let Some(e) = self.queue.pop_front() {
+            let dropped = give_up(&mut self.seat, &mut self.used, e);
+            self.tally.dropped = self.tally.dropped.saturating_add(dropped);
+        }
+    }
+
+    /// Shuts, gives the seat up, and answers the numbers.
+    pub fn close(mut self, kernel: &mut Kernel) -> Tally
+        ensures kernel { kernel.new ≡ cancelled self.entry.queue kernel.old }
+        ensures tally { (cells : List OwnerCell) × IsShut cells × (result ≡ with_dropped self.entry.tally self.entry.seat.owner cells) }
+    {
+        self.shut(kernel);
+        let LiveEndpoint {
+            notify: _,
+            to: _,
+            seat: _,
+            queue: _,
+            used: _,
+            tally,
+        } = self;
+        tally
+    }
+}
+
+fn needs_send<T: Send>(_x: &T) {}
+
+/// An endpoint may be moved to another thread.
+pub fn live_endpoint_is_send(endpoint: &LiveEndpoint<'_>) {
+    needs_send(endpoint);
+}
