@@ -2,11 +2,12 @@
 use Rattle.std.proofs.Common.{◌≡◌, ℕ, ◌+◌, ◌<◌, ◌≤◌, zero, suc, List, [], ◌∷◌, ◌++◌, length, Option, Some, None, Bool, true, false, cond, refl, ap, sym, ◌∙◌, arith, append_assoc, codes}
 use Rattle.std.specs.Str.{bytes_eq}
 use Rattle.usb_kernel.specs.declared.step.KernelStep.{KernelStep}
-use Rattle.usb_kernel.specs.declared.step.KernelStep.TheVariants.{Packet, Reap}
+use Rattle.usb_kernel.specs.declared.step.KernelStep.TheVariants.{Packet, Ack, Fail, Unplug, Clock, Reap, Refuse}
 use Rattle.usb_script.specs.Words.{◌>>=◌, word_at}
-use Rattle.usb_script.specs.Fields.{field_at, number_at, handle_at, hex_byte_at, bytes_at}
+use Rattle.usb_script.specs.Fields.{field_at, number_at, handle_at, hex_byte_at, bytes_at, errno_at, call_at}
 use Rattle.usb_script.specs.Letters.{simulated_letter}
-use Rattle.usb_script.specs.KernelSteps.{packet_at, reap_at, step_named, step_at, after_step, steps_within, steps_of}
+use Rattle.usb_script.specs.StepForms.{packet_at, ack_at, fail_at, unplug_at, clock_at, step_ends, reap_named_at, reap_at, refuse_at, endpoint_step_named, step_named}
+use Rattle.usb_script.specs.KernelSteps.{step_at, after_step, steps_within, steps_of}
 
 -- some steps, and then these
 abbrev pub behind : List KernelStep → Option (List KernelStep) → Option (List KernelStep)
@@ -39,33 +40,97 @@ field_at_is {A} spelled words x e =
     let left : a.0.1 ≡ x.1 = ap (λ (p : A × List (List ℕ)). p.1) same in
     omega (arith, word_at_is words a.0 a.1, ap length left)
 
-packet_at_shorter : (words : List (List ℕ)) (x : KernelStep × List (List ℕ)) → packet_at words ≡ Some x → length x.1 ≤ length words
+-- words are read off the front, and the others are left
+abbrev Shortens : (List (List ℕ) → Option (KernelStep × List (List ℕ))) → Type 0
+Shortens read = (words : List (List ℕ)) (x : KernelStep × List (List ℕ)) → read words ≡ Some x → length x.1 ≤ length words
+
+-- the words that are left where a reading gives this
+left_is : (step : KernelStep) (words : List (List ℕ)) (x : KernelStep × List (List ℕ)) → Some (step, words) ≡ Some x → length x.1 ≡ length words
+left_is step words x e = let same : (step, words) ≡ x = cc in ap (λ (p : KernelStep × List (List ℕ)). length p.1) (sym same)
+
+packet_at_shorter : Shortens packet_at
 unfolding packet_at handle_at hex_byte_at bytes_at
 packet_at_shorter words x e =
     let a = bind_some (handle_at simulated_letter words) _ x e in
     let b = bind_some (hex_byte_at a.0.1) _ x a.2 in
     let d = bind_some (bytes_at b.0.1) _ x b.2 in
-    let same : (Packet a.0.0 b.0.0 d.0.0, d.0.1) ≡ x = cc d.2 in
-    let left : d.0.1 ≡ x.1 = ap (λ (p : KernelStep × List (List ℕ)). p.1) same in
-    omega (arith, field_at_is _ words a.0 a.1, field_at_is _ a.0.1 b.0 b.1, field_at_is _ b.0.1 d.0 d.1, ap length left)
+    omega (arith, field_at_is _ words a.0 a.1, field_at_is _ a.0.1 b.0 b.1, field_at_is _ b.0.1 d.0 d.1, left_is (Packet a.0.0 b.0.0 d.0.0) d.0.1 x d.2)
 
-reap_at_shorter : (words : List (List ℕ)) (x : KernelStep × List (List ℕ)) → reap_at words ≡ Some x → length x.1 ≤ length words
-unfolding reap_at number_at
-reap_at_shorter words x e =
+ack_at_shorter : Shortens ack_at
+unfolding ack_at handle_at hex_byte_at
+ack_at_shorter words x e =
+    let a = bind_some (handle_at simulated_letter words) _ x e in
+    let b = bind_some (hex_byte_at a.0.1) _ x a.2 in
+    omega (arith, field_at_is _ words a.0 a.1, field_at_is _ a.0.1 b.0 b.1, left_is (Ack a.0.0 b.0.0) b.0.1 x b.2)
+
+fail_at_shorter : Shortens fail_at
+unfolding fail_at handle_at hex_byte_at errno_at
+fail_at_shorter words x e =
+    let a = bind_some (handle_at simulated_letter words) _ x e in
+    let b = bind_some (hex_byte_at a.0.1) _ x a.2 in
+    let d = bind_some (errno_at b.0.1) _ x b.2 in
+    omega (arith, field_at_is _ words a.0 a.1, field_at_is _ a.0.1 b.0 b.1, field_at_is _ b.0.1 d.0 d.1, left_is (Fail a.0.0 b.0.0 d.0.0) d.0.1 x d.2)
+
+unplug_at_shorter : Shortens unplug_at
+unfolding unplug_at handle_at
+unplug_at_shorter words x e =
+    let a = bind_some (handle_at simulated_letter words) _ x e in
+    omega (arith, field_at_is _ words a.0 a.1, left_is (Unplug a.0.0) a.0.1 x a.2)
+
+clock_at_shorter : Shortens clock_at
+unfolding clock_at number_at
+clock_at_shorter words x e =
+    let a = bind_some (number_at 1000000000000000000 words) _ x e in
+    omega (arith, field_at_is _ words a.0 a.1, left_is (Clock a.0.0) a.0.1 x a.2)
+
+reap_named_at_shorter : Shortens reap_named_at
+unfolding reap_named_at number_at
+reap_named_at_shorter words x e =
     let a = bind_some (number_at 4294967295 words) _ x e in
-    let same : (Reap (Some a.0.0), a.0.1) ≡ x = cc a.2 in
-    let left : a.0.1 ≡ x.1 = ap (λ (p : KernelStep × List (List ℕ)). p.1) same in
-    omega (arith, field_at_is _ words a.0 a.1, ap length left)
+    omega (arith, field_at_is _ words a.0 a.1, left_is (Reap (Some a.0.0)) a.0.1 x a.2)
 
--- each of the two, by the test of its name
-chosen_shorter : (is_packet is_reap : Bool) (words : List (List ℕ)) (x : KernelStep × List (List ℕ)) → cond is_packet (packet_at words) (cond is_reap (reap_at words) None) ≡ Some x → length x.1 ≤ length words
-chosen_shorter true other words x e = packet_at_shorter words x e
-chosen_shorter false true words x e = reap_at_shorter words x e
-chosen_shorter false false words x e = cc
+reap_chosen_shorter : (ends : Bool) → Shortens (λ words. cond ends (Some (Reap None, words)) (reap_named_at words))
+reap_chosen_shorter true words x e = omega (arith, left_is (Reap None) words x e)
+reap_chosen_shorter false words x e = reap_named_at_shorter words x e
 
-step_named_shorter : (name : List ℕ) (words : List (List ℕ)) (x : KernelStep × List (List ℕ)) → step_named name words ≡ Some x → length x.1 ≤ length words
+reap_at_shorter : Shortens reap_at
+unfolding reap_at
+reap_at_shorter words x e = reap_chosen_shorter (step_ends words) words x e
+
+refuse_at_shorter : Shortens refuse_at
+unfolding refuse_at handle_at call_at errno_at
+refuse_at_shorter words x e =
+    let a = bind_some (handle_at simulated_letter words) _ x e in
+    let b = bind_some (call_at a.0.1) _ x a.2 in
+    let d = bind_some (errno_at b.0.1) _ x b.2 in
+    omega (arith, field_at_is _ words a.0 a.1, field_at_is _ a.0.1 b.0 b.1, field_at_is _ b.0.1 d.0 d.1, left_is (Refuse a.0.0 b.0.0 d.0.0) d.0.1 x d.2)
+
+-- one of two readings
+either_shortens : (test : Bool) (read other : List (List ℕ) → Option (KernelStep × List (List ℕ))) → Shortens read → Shortens other → Shortens (λ words. cond test (read words) (other words))
+either_shortens true read other f g words x e = f words x e
+either_shortens false read other f g words x e = g words x e
+
+none_shortens : Shortens (λ words. None)
+none_shortens words x e = cc
+
+endpoint_step_named_shorter : (name : List ℕ) → Shortens (endpoint_step_named name)
+unfolding endpoint_step_named
+endpoint_step_named_shorter name words x e =
+    either_shortens (bytes_eq name (codes "pkt")) packet_at (λ ws. cond (bytes_eq name (codes "ack")) (ack_at ws) (cond (bytes_eq name (codes "fail")) (fail_at ws) None)) packet_at_shorter
+    (either_shortens (bytes_eq name (codes "ack")) ack_at (λ ws. cond (bytes_eq name (codes "fail")) (fail_at ws) None) ack_at_shorter
+    (either_shortens (bytes_eq name (codes "fail")) fail_at (λ ws. None) fail_at_shorter none_shortens)) words x e
+
+step_named_shorter : (name : List ℕ) → Shortens (step_named name)
 unfolding step_named
-step_named_shorter name words x e = chosen_shorter (bytes_eq name (codes "pkt")) (bytes_eq name (codes "reap")) words x e
+step_named_shorter name words x e =
+    let last : List (List ℕ) → Option (KernelStep × List (List ℕ)) = endpoint_step_named name in
+    let refuses : List (List ℕ) → Option (KernelStep × List (List ℕ)) = λ ws. cond (bytes_eq name (codes "refuse")) (refuse_at ws) (last ws) in
+    let reaps : List (List ℕ) → Option (KernelStep × List (List ℕ)) = λ ws. cond (bytes_eq name (codes "reap")) (reap_at ws) (refuses ws) in
+    let clocks : List (List ℕ) → Option (KernelStep × List (List ℕ)) = λ ws. cond (bytes_eq name (codes "clock")) (clock_at ws) (reaps ws) in
+    either_shortens (bytes_eq name (codes "unplug")) unplug_at clocks unplug_at_shorter
+    (either_shortens (bytes_eq name (codes "clock")) clock_at reaps clock_at_shorter
+    (either_shortens (bytes_eq name (codes "reap")) reap_at refuses reap_at_shorter
+    (either_shortens (bytes_eq name (codes "refuse")) refuse_at last refuse_at_shorter (endpoint_step_named_shorter name)))) words x e
 
 -- a step takes a word, its name
 step_at_shorter : (words : List (List ℕ)) (x : KernelStep × List (List ℕ)) → step_at words ≡ Some x → length x.1 + 1 ≤ length words

@@ -1,9 +1,12 @@
 -- Scripts worked out by the definition alone.
 use Rattle.std.proofs.Common.{◌≡◌, ◌++◌, [], ◌∷◌, codes, Some, None, Ok, Err, refl}
-use Rattle.usb_script.specs.declared.item.Item.TheVariants.{SubmitIn, Poll, Steps}
+use Rattle.usb_desc.specs.declared.types.Direction.TheVariants.{Out}
+use Rattle.usb_desc.specs.declared.types.TransferType.TheVariants.{Interrupt}
+use Rattle.usb_script.specs.declared.item.Item.TheVariants.{Endpoint, SubmitIn, Poll, Wait, TransferIn, TransferOut, Steps}
 use Rattle.usb_script.specs.declared.error.SessionError.TheVariants.{Malformed}
 use Rattle.usb_script.specs.declared.reading.Reading.TheVariants.{Skipped, Read}
-use Rattle.usb_kernel.specs.declared.step.KernelStep.TheVariants.{Packet, Reap}
+use Rattle.usb_kernel.specs.declared.step.KernelStep.TheVariants.{Packet, Ack, Fail, Unplug, Clock, Reap, Refuse}
+use Rattle.usb_kernel.specs.declared.step.KernelCall.TheVariants.{Submit}
 use Rattle.usb_script.specs.LineForms.{reading_of}
 use Rattle.usb_script.specs.Parse.{script_of}
 use Rattle.usb_script.proofs.OnLiterals.{script_on_literals}
@@ -66,3 +69,59 @@ two_crs = refl
 third_line : script_of (codes "# one" ++ 10 ∷ 10 ∷ codes "poll e64") ≡ Err (Malformed 3)
 unfolding script_on_literals
 third_line = refl
+
+acknowledgement_and_failure : reading_of (codes "! ack k0 02 ; fail k1 81 032") ≡ Some (Read (Steps (Ack 0 2 ∷ Fail 1 129 32 ∷ [])))
+unfolding script_on_literals
+acknowledgement_and_failure = refl
+
+errno_0 : reading_of (codes "! fail k0 81 0") ≡ None
+unfolding script_on_literals
+errno_0 = refl
+
+unplug_and_clock : reading_of (codes "! unplug k63 ; clock 1000000000000000000") ≡ Some (Read (Steps (Unplug 63 ∷ Clock 1000000000000000000 ∷ [])))
+unfolding script_on_literals
+unplug_and_clock = refl
+
+clock_has_no_max : reading_of (codes "! clock max") ≡ None
+unfolding script_on_literals
+clock_has_no_max = refl
+
+reap_alone : reading_of (codes "! reap ; reap 1") ≡ Some (Read (Steps (Reap None ∷ Reap (Some 1) ∷ [])))
+unfolding script_on_literals
+reap_alone = refl
+
+refusal_of_a_submission : reading_of (codes "! refuse k0 submit 5") ≡ Some (Read (Steps (Refuse 0 Submit 5 ∷ [])))
+unfolding script_on_literals
+refusal_of_a_submission = refl
+
+interrupt_out : reading_of (codes "endpoint e0 i1 02 int-out") ≡ Some (Read (Endpoint 0 1 2 Interrupt Out))
+unfolding script_on_literals
+interrupt_out = refl
+
+wait_without_end : reading_of (codes "wait e0 max : reap") ≡ Some (Read (Wait 0 18446744073709551615 (Reap None ∷ [])))
+unfolding script_on_literals
+wait_without_end = refl
+
+transfer_in_without_steps : reading_of (codes "xferin e1 65536 1000000000000000000") ≡ Some (Read (TransferIn 1 65536 1000000000000000000 []))
+unfolding script_on_literals
+transfer_in_without_steps = refl
+
+transfer_out_with_steps : reading_of (codes "xferout e0 0102 5 : ack k0 02 ; reap") ≡ Some (Read (TransferOut 0 (1 ∷ 2 ∷ []) 5 (Ack 0 2 ∷ Reap None ∷ [])))
+unfolding script_on_literals
+transfer_out_with_steps = refl
+
+colon_without_steps : reading_of (codes "wait e0 5 :") ≡ None
+unfolding script_on_literals
+colon_without_steps = refl
+
+steps_of_a_call_that_does_not_wait : reading_of (codes "poll e0 : reap") ≡ None
+unfolding script_on_literals
+steps_of_a_call_that_does_not_wait = refl
+
+one_nanosecond_too_much : reading_of (codes "wait e0 1000000000000000001") ≡ None
+unfolding script_on_literals
+one_nanosecond_too_much = refl
+
+close_of_a_device : reading_of (codes "close d0") ≡ None
+unfolding script_on_literals
+close_of_a_device = refl

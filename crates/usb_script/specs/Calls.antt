@@ -1,12 +1,17 @@
--- Calls: one definition for each form, over the words behind its first one.
-use Rattle.std.specs.Prelude.{ℕ, List, codes, Option, None, if◌then◌else◌}
+-- Calls on the bus, on devices and on interfaces: one definition for each form, over the words behind its first one.
+use Rattle.std.specs.Prelude.{ℕ, List, codes, Option, if◌then◌else◌}
 use Rattle.std.specs.Str.{bytes_eq}
 use Rattle.usb_script.specs.declared.item.Item.{Item}
-use Rattle.usb_script.specs.declared.item.Item.TheVariants.{Open, DeviceDescriptor, Descriptors, Claim, Endpoint, SubmitIn, Poll}
+use Rattle.usb_script.specs.declared.item.Item.TheVariants.{Now, Open, DeviceDescriptor, Descriptors, Claim, Endpoint}
 use Rattle.usb_script.specs.Words.{◌>>=◌}
 use Rattle.usb_script.specs.Fields.{number_at, handle_at, hex_byte_at, kind_at}
 use Rattle.usb_script.specs.Letters.{device_letter, interface_letter, endpoint_letter}
 use Rattle.usb_script.specs.LineEnd.{end_of_line}
+use Rattle.usb_script.specs.EndpointCalls.{endpoint_call_of}
+
+-- `now`
+unfoldable pub now_of : List (List ℕ) → Option Item
+now_of words = end_of_line Now words
 
 -- `open d B B`: bus and address
 unfoldable pub open_of : List (List ℕ) → Option Item
@@ -45,30 +50,11 @@ endpoint_of words = do
   kind ← kind_at address.1
   end_of_line (Endpoint endpoint.0 interface.0 address.0 kind.0.0 kind.0.1) kind.1
 
--- `submitin e N`: how many bytes are wanted
-unfoldable pub submit_in_of : List (List ℕ) → Option Item
-submit_in_of words = do
-  endpoint ← handle_at endpoint_letter words
-  length ← number_at 65536 endpoint.1
-  end_of_line (SubmitIn endpoint.0 length.0) length.1
-
--- `poll e`
-unfoldable pub poll_of : List (List ℕ) → Option Item
-poll_of words = do
-  endpoint ← handle_at endpoint_letter words
-  end_of_line (Poll endpoint.0) endpoint.1
-
--- the calls on endpoints
-unfoldable pub endpoint_call_of : List ℕ → List (List ℕ) → Option Item
-endpoint_call_of name words =
-    if bytes_eq name (codes "submitin") then submit_in_of words
-    else if bytes_eq name (codes "poll") then poll_of words
-    else None
-
--- the calls on devices and interfaces, and further calls
+-- the calls on the bus, on devices and on interfaces, and further calls
 unfoldable pub device_call_of : List ℕ → List (List ℕ) → Option Item
 device_call_of name words =
-    if bytes_eq name (codes "open") then open_of words
+    if bytes_eq name (codes "now") then now_of words
+    else if bytes_eq name (codes "open") then open_of words
     else if bytes_eq name (codes "devdesc") then device_descriptor_of words
     else if bytes_eq name (codes "descriptors") then descriptors_of words
     else if bytes_eq name (codes "claim") then claim_of words

@@ -2,7 +2,7 @@
 use Rattle.std.specs.Prelude.{ℕ, Bool, true, false, not, ◌&&◌, List, length}
 use Rattle.std.specs.List.{sum_by}
 use Rattle.usb_script.specs.declared.item.Item.{Item}
-use Rattle.usb_script.specs.declared.item.Item.TheVariants.{Device, Steps}
+use Rattle.usb_script.specs.declared.item.Item.TheVariants.{Device, Wait, TransferIn, TransferOut, Steps}
 
 -- a setup line declares what is there before the first call
 abbrev pub is_setup : Item → Bool
@@ -18,8 +18,11 @@ is_steps item = false
 abbrev pub is_call : Item → Bool
 is_call item = not (is_setup item) && not (is_steps item)
 
--- how many steps an item makes
+-- how many steps an item makes: a line of steps, and a call that waits with steps of its own
 abbrev pub steps_in : Item → ℕ
+steps_in (Wait endpoint timeout steps) = length steps
+steps_in (TransferIn endpoint wanted timeout steps) = length steps
+steps_in (TransferOut endpoint bytes timeout steps) = length steps
 steps_in (Steps steps) = length steps
 steps_in item = 0
 

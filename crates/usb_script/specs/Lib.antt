@@ -1,8 +1,10 @@
 pub mod Calls
+pub mod EndpointCalls
 pub mod ErrorText
 pub mod Fields
 pub mod ItemKinds
 pub mod ItemRanges
+pub mod StepForms
 pub mod KernelSteps
 pub mod Letters
 pub mod LineEnd
@@ -10,7 +12,9 @@ pub mod LineForms
 pub mod Lines
 pub mod Order
 pub mod Outcome
+pub mod OwnSteps
 pub mod Parse
 pub mod ScriptFacts
 pub mod SetupLines
+pub mod Waits
 pub mod Words

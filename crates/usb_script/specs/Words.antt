@@ -1,12 +1,14 @@
--- What a word spells: a number, a name, a byte, some bytes, or the kind of an endpoint.
+-- What a word spells: a number, a time, a name, a byte, some bytes, or a kind of endpoint or of call.
 use Rattle.std.specs.Prelude.{ℕ, ◌+◌, ◌*◌, ◌-◌, ◌==◌, ◌&&◌, nat_le, Bool, false, List, [], ◌∷◌, length, codes, Option, Some, None, Result, Ok, Err, if◌then◌else◌, option_and_then}
 use Rattle.std.specs.Str.{bytes_eq}
 use Rattle.hex.specs.Hex.{decode_of, hex_digit_value}
 use Rattle.hex.specs.declared.error.FromHexError.{FromHexError}
 use Rattle.usb_desc.specs.declared.types.Direction.{Direction}
-use Rattle.usb_desc.specs.declared.types.Direction.TheVariants.{In}
+use Rattle.usb_desc.specs.declared.types.Direction.TheVariants.{In, Out}
 use Rattle.usb_desc.specs.declared.types.TransferType.{TransferType}
-use Rattle.usb_desc.specs.declared.types.TransferType.TheVariants.{Bulk}
+use Rattle.usb_desc.specs.declared.types.TransferType.TheVariants.{Bulk, Interrupt}
+use Rattle.usb_kernel.specs.declared.step.KernelCall.{KernelCall}
+use Rattle.usb_kernel.specs.declared.step.KernelCall.TheVariants.{Submit}
 use Rattle.usb_script.specs.Lines.{is_word}
 
 -- one reading after another, each of which may refuse
@@ -45,6 +47,10 @@ has_leading_zero [] = false
 has_leading_zero (digit ∷ []) = false
 has_leading_zero (digit ∷ next ∷ digits) = digit == 48
 
+-- TIME: a number of nanoseconds up to 10 ^ 18, or `max`, the greatest one of 64 bits
+unfoldable pub time_of : List ℕ → Option ℕ
+time_of word = if bytes_eq word (codes "max") then Some 18446744073709551615 else number_of 1000000000000000000 word
+
 -- 0 to 63, with no leading zero
 unfoldable pub index_of : List ℕ → Option ℕ
 index_of digits = if has_leading_zero digits then None else number_of 63 digits
@@ -79,4 +85,22 @@ bytes_of word =
 
 -- KIND: the transfer type and the direction of an endpoint
 unfoldable pub kind_of : List ℕ → Option (TransferType × Direction)
-kind_of word = if bytes_eq word (codes "bulk-in") then Some (Bulk, In) else None
+kind_of word =
+    if bytes_eq word (codes "bulk-in") then Some (Bulk, In)
+    else if bytes_eq word (codes "bulk-out") then Some (Bulk, Out)
+    else if bytes_eq word (codes "int-in") then Some (Interrupt, In)
+    else if bytes_eq word (codes "int-out") then Some (Interrupt, Out)
+    else None
+
+abbrev pub at_least : ℕ → ℕ → Option ℕ
+at_least least n = if nat_le least n then Some n else None
+
+-- ERRNO: the number of an error, from 1 to 4095
+unfoldable pub errno_of : List ℕ → Option ℕ
+errno_of word = do
+  n ← number_of 4095 word
+  at_least 1 n
+
+-- CALL: the kind of call that a refusal is for
+unfoldable pub call_of : List ℕ → Option KernelCall
+call_of word = if bytes_eq word (codes "submit") then Some Submit else None

@@ -1,16 +1,18 @@
-//! Calls.
+//! Calls on the bus, on devices and on interfaces.
 
-ghost use Rattle.std.specs.Prelude.{◌≡◌, IfOk};
+ghost use Rattle.std.specs.Prelude.{◌≡◌, ◌≤◌, length, IfOk};
 ghost use Rattle.usb_script.specs.Lines.{words_of};
 ghost use Rattle.usb_script.specs.LineEnd.{end_of_line};
 ghost use Rattle.usb_script.specs.Outcome.{Gives};
-ghost use Rattle.usb_script.specs.Calls.{open_of, device_descriptor_of, descriptors_of, claim_of, endpoint_of, submit_in_of, poll_of, endpoint_call_of, device_call_of};
+ghost use Rattle.usb_script.specs.Calls.{now_of, open_of, device_descriptor_of, descriptors_of, claim_of, endpoint_of, device_call_of};
 ghost use Rattle.usb_script.specs.ItemKinds.{steps_in};
 ghost use Rattle.usb_script.specs.ItemRanges.{IsInRange};
 
+use crate::endpoint_call::endpoint_call_line;
 use crate::item::Item;
 use crate::reading::LineError;
-use crate::words::{next_byte, next_handle, next_hex_byte, next_kind, next_number, next_word};
+use crate::words::{next_byte, next_handle, next_hex_byte, next_kind, next_word};
+use std::alloc::Global;
 
 /// The item, where no further word stands.
 pub fn end_of_line(item: Item, rest: &[u8]) -> Result<Item, LineError>
@@ -22,6 +24,16 @@ pub fn end_of_line(item: Item, rest: &[u8]) -> Result<Item, LineError>
         Err(LineError::Malformed) => Ok(item),
         Err(LineError::Memory) => Err(LineError::Memory),
     }
+}
+
+/// `now`
+#[tactic(auto, unfolding(crate::specs::Calls::now_of))]
+fn now_line(rest: &[u8]) -> Result<Item, LineError>
+    ensures value { Gives (λ i. i) result (now_of (words_of rest.now)) }
+    ensures range { IfOk result IsInRange }
+    ensures steps { IfOk result (λ item. steps_in item ≡ 0) }
+{
+    end_of_line(Item::Now, rest)
 }
 
 /// `open d B B`
@@ -103,54 +115,16 @@ fn endpoint_line(rest: &[u8]) -> Result<Item, LineError>
     end_of_line(item, rest)
 }
 
-/// `submitin e N`
-#[tactic(auto, unfolding(crate::specs::Calls::submit_in_of))]
-fn submit_in_line(rest: &[u8]) -> Result<Item, LineError>
-    ensures value { Gives (λ i. i) result (submit_in_of (words_of rest.now)) }
-    ensures range { IfOk result IsInRange }
-    ensures steps { IfOk result (λ item. steps_in item ≡ 0) }
-{
-    let (endpoint, rest) = next_handle(b'e', rest)?;
-    let (length, rest) = next_number(65536, rest)?;
-    let length = length as u32;
-    end_of_line(Item::SubmitIn { endpoint, length }, rest)
-}
-
-/// `poll e`
-#[tactic(auto, unfolding(crate::specs::Calls::poll_of))]
-fn poll_line(rest: &[u8]) -> Result<Item, LineError>
-    ensures value { Gives (λ i. i) result (poll_of (words_of rest.now)) }
-    ensures range { IfOk result IsInRange }
-    ensures steps { IfOk result (λ item. steps_in item ≡ 0) }
-{
-    let (endpoint, rest) = next_handle(b'e', rest)?;
-    end_of_line(Item::Poll { endpoint }, rest)
-}
-
-/// A call on an endpoint, with this first word.
-#[tactic(auto, unfolding(crate::specs::Calls::endpoint_call_of))]
-fn endpoint_call_line(name: &[u8], rest: &[u8]) -> Result<Item, LineError>
-    ensures value { Gives (λ i. i) result (endpoint_call_of name.now (words_of rest.now)) }
-    ensures range { IfOk result IsInRange }
-    ensures steps { IfOk result (λ item. steps_in item ≡ 0) }
-{
-    if name == b"submitin".as_slice() {
-        submit_in_line(rest)
-    } else if name == b"poll".as_slice() {
-        poll_line(rest)
-    } else {
-        Err(LineError::Malformed)
-    }
-}
-
-/// A call on a device or an interface, or a further call, with this first word.
+/// A call on the bus, on a device or on an interface, or a further call, with this first word.
 #[tactic(auto, unfolding(crate::specs::Calls::device_call_of))]
-pub fn device_call_line(name: &[u8], rest: &[u8]) -> Result<Item, LineError>
+pub fn device_call_line(alloc: Global, name: &[u8], rest: &[u8]) -> Result<Item, LineError>
     ensures value { Gives (λ i. i) result (device_call_of name.now (words_of rest.now)) }
     ensures range { IfOk result IsInRange }
-    ensures steps { IfOk result (λ item. steps_in item ≡ 0) }
+    ensures few { IfOk result (λ item. steps_in item ≤ length rest.now) }
 {
-    if name == b"open".as_slice() {
+    if name == b"now".as_slice() {
+        now_line(rest)
+    } else if name == b"open".as_slice() {
         open_line(rest)
     } else if name == b"devdesc".as_slice() {
         device_descriptor_line(rest)
@@ -161,6 +135,6 @@ pub fn device_call_line(name: &[u8], rest: &[u8]) -> Result<Item, LineError>
     } else if name == b"endpoint".as_slice() {
         endpoint_line(rest)
     } else {
-        endpoint_call_line(name, rest)
+        endpoint_call_line(alloc, name, rest)
     }
 }

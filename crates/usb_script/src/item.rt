@@ -55,6 +55,8 @@ pub enum Item {
         /// Its device descriptor, and its configurations behind it. USB 2.0, section 9.5.
         descriptors: Bytes,
     },
+    /// `now`: asks for the time on the clock.
+    Now,
     /// `open d B B`: opens the device with this bus and address.
     Open {
         device: u8,
@@ -89,8 +91,53 @@ pub enum Item {
         endpoint: u8,
         length: u32,
     },
+    /// `submitout e BYTES`: submits a transfer of these bytes, at most 65536.
+    SubmitOut {
+        endpoint: u8,
+        bytes: Bytes,
+    },
+    /// `pending e`: asks how many transfers are pending.
+    Pending {
+        endpoint: u8,
+    },
     /// `poll e`: asks for the next completion.
     Poll {
+        endpoint: u8,
+    },
+    /// `wait e TIME : STEP ; ..`: waits for the next completion.
+    Wait {
+        endpoint: u8,
+        /// For how long at most, in nanoseconds: at most 10^18, or [`u64::MAX`].
+        timeout: u64,
+        /// What happens while it waits.
+        steps: Steps,
+    },
+    /// `xferin e N TIME : STEP ; ..`: makes a transfer that wants this many bytes, at most 65536,
+    /// and waits for it.
+    TransferIn {
+        endpoint: u8,
+        length: u32,
+        /// For how long at most, in nanoseconds: at most 10^18, or [`u64::MAX`].
+        timeout: u64,
+        /// What happens while it waits.
+        steps: Steps,
+    },
+    /// `xferout e BYTES TIME : STEP ; ..`: makes a transfer of these bytes, at most 65536, and
+    /// waits for it.
+    TransferOut {
+        endpoint: u8,
+        bytes: Bytes,
+        /// For how long at most, in nanoseconds: at most 10^18, or [`u64::MAX`].
+        timeout: u64,
+        /// What happens while it waits.
+        steps: Steps,
+    },
+    /// `cancel e`: cancels all pending transfers.
+    Cancel {
+        endpoint: u8,
+    },
+    /// `close e`: closes the endpoint.
+    CloseEndpoint {
         endpoint: u8,
     },
     /// `! STEP ; ..`: steps of the simulation.
@@ -117,7 +164,10 @@ impl Item {
         ensures value { result ≡ steps_in self.now }
     {
         match self {
-            Item::Steps(steps) => steps.as_slice().len(),
+            Item::Wait { steps, .. }
+            | Item::TransferIn { steps, .. }
+            | Item::TransferOut { steps, .. }
+            | Item::Steps(steps) => steps.as_slice().len(),
             _ => 0,
         }
     }

@@ -3,15 +3,18 @@
 
 mod call;
 mod device;
+mod endpoint_call;
 mod error;
 mod item;
 mod line;
 mod order;
 mod reading;
 mod script;
+mod step;
 mod steps;
 #[cfg(test)]
 mod tests;
+mod wait;
 mod words;
 
 pub use error::SessionError;

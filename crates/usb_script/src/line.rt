@@ -39,7 +39,7 @@ fn named_line(alloc: Global, name: &[u8], rest: &[u8]) -> Result<Item, LineError
     } else if name == b"device".as_slice() {
         device_line(alloc, rest)
     } else {
-        device_call_line(name, rest)
+        device_call_line(alloc, name, rest)
     }
 }
 

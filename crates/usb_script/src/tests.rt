@@ -1,11 +1,14 @@
 //! Scripts that are read, and lines that are outside the grammar.
 
+mod calls;
+mod steps;
+
 use crate::error::SessionError;
 use crate::item::Item;
 use crate::script::{MAX_SCRIPT, parse_script};
 use std::alloc::Global;
 use std::test::Fail;
-use usb_kernel::KernelStep;
+use steps::text_of_steps;
 
 /// How many items a script has, or why it is refused.
 fn count_of(alloc: Global, bytes: &[u8]) -> Result<usize, SessionError> {
@@ -19,11 +22,10 @@ const FIRST_PACKET: &str =
 #[test]
 fn counts_items_or_names_the_line(rt: HostRuntime) {
     let malformed = |line| Err(SessionError::Malformed { line });
-    let table: [(&str, Result<usize, SessionError>); 58] = [
+    let table: [(&str, Result<usize, SessionError>); 49] = [
         (FIRST_PACKET, Ok(10)),
         ("", Ok(0)),
         ("open d0 1", malformed(1)),
-        ("! pkt k0 81 01 ; pkt k0 81 0203 ; reap 1", Ok(1)),
         ("poll e0\npoll e0", Ok(2)),
         ("  poll   e0  \n", Ok(1)),
         ("poll\te0\n", malformed(1)),
@@ -62,7 +64,6 @@ fn counts_items_or_names_the_line(rt: HostRuntime) {
         ("endpoint e0 i0 fF bulk-in", Ok(1)),
         ("endpoint e0 i0 8 bulk-in", malformed(1)),
         ("endpoint e0 i0 081 bulk-in", malformed(1)),
-        ("endpoint e0 i0 81 bulk-out", malformed(1)),
         ("device k0 1 1 3 1 -", Ok(1)),
         ("device k0 1 1 3 1 0aF", malformed(1)),
         ("device k0 1 1 3 1 0g", malformed(1)),
@@ -71,13 +72,6 @@ fn counts_items_or_names_the_line(rt: HostRuntime) {
         ("device k0 1 1 3 1 -\ndevice k1 1 1 3 1 -", malformed(2)),
         ("poll e0\ndevice k0 1 1 3 1 -", malformed(2)),
         ("! reap 0\ndevice k0 1 1 3 1 -", malformed(2)),
-        ("! pkt k63 81 -", Ok(1)),
-        ("! reap 4294967295", Ok(1)),
-        ("! reap 4294967296", malformed(1)),
-        ("! reap", malformed(1)),
-        ("!", malformed(1)),
-        ("! reap 0 ;", malformed(1)),
-        ("! reap 0 ; ; reap 1", malformed(1)),
     ];
     for (text, want) in table {
         assert_eq!(rt; count_of(rt.alloc(), text.as_bytes()), want, "{text}");
@@ -120,12 +114,12 @@ fn takes_scripts_and_byte_words_up_to_their_limits(rt: HostRuntime) -> Result<()
 }
 
 const EACH_LINE: &str =
-    "device k1 2 3 4 5 0aFf\nopen d6 7 8\ndevdesc d8\ndescriptors d9\nclaim d9 10 i11\nendpoint e12 i13 8e bulk-in\nsubmitin e15 16\npoll e17\n! pkt k18 93 14 ; reap 15\n";
+    "device k1 2 3 4 5 0aFf\nopen d6 7 8\ndevdesc d8\ndescriptors d9\nclaim d9 10 i11\nendpoint e12 i13 8e bulk-in\nsubmitin e15 16\npoll e17\n! pkt k18 93 14 ; reap 15\nnow\nsubmitout e18 19\npending e20\nwait e21 22 : reap\nxferin e23 24 25 : unplug k26 ; clock 27\nxferout e28 29 max\ncancel e30\nclose e31\n";
 
 #[test]
 fn reads_the_words_of_each_line(rt: HostRuntime) -> Result<(), Fail> {
     let script = parse_script(rt.alloc(), EACH_LINE.as_bytes())?;
-    assert_eq!(rt; script.step_count(), 2);
+    assert_eq!(rt; script.step_count(), 5);
     let mut texts = Vec::new(rt.alloc());
     for item in script.items() {
         texts.push(text_of(rt.alloc(), item)?)?;
@@ -139,7 +133,15 @@ fn reads_the_words_of_each_line(rt: HostRuntime) -> Result<(), Fail> {
         "endpoint 12 13 142 Bulk In",
         "submitin 15 16",
         "poll 17",
-        "steps 2",
+        "steps ; packet 18 147 [20] ; reap Some(15)",
+        "now",
+        "submitout 18 [25]",
+        "pending 20",
+        "wait 21 22 ; reap None",
+        "xferin 23 24 25 ; unplug 26 ; clock 27",
+        "xferout 28 [41] 18446744073709551615",
+        "cancel 30",
+        "close 31",
     ];
     assert_eq!(rt; texts.len(), want.len());
     for (text, want) in texts.iter().zip(want) {
@@ -149,7 +151,7 @@ fn reads_the_words_of_each_line(rt: HostRuntime) -> Result<(), Fail> {
 }
 
 /// The fields of an item, as text.
-fn text_of(alloc: Global, item: &Item) -> Result<String, Fail> {
+pub fn text_of(alloc: Global, item: &Item) -> Result<String, Fail> {
     let text = match item {
         Item::Device {
             device,
@@ -162,6 +164,7 @@ fn text_of(alloc: Global, item: &Item) -> Result<String, Fail> {
             let bytes = descriptors.as_slice();
             format!(in alloc; "device {device} {bus} {address} {speed} {configuration} {bytes:?}")?
         }
+        Item::Now => format!(in alloc; "now")?,
         Item::Open {
             device,
             bus,
@@ -183,56 +186,89 @@ fn text_of(alloc: Global, item: &Item) -> Result<String, Fail> {
         } => format!(in alloc;
             "endpoint {endpoint} {interface} {address} {transfer_type:?} {direction:?}"
         )?,
-        Item::SubmitIn { endpoint, length } => format!(in alloc; "submitin {endpoint} {length}")?,
-        Item::Poll { endpoint } => format!(in alloc; "poll {endpoint}")?,
         Item::Steps(steps) => {
-            let count = steps.as_slice().len();
-            format!(in alloc; "steps {count}")?
+            let steps = text_of_steps(alloc, steps)?;
+            format!(in alloc; "steps{steps}")?
         }
+        _ => text_of_endpoint_call(alloc, item)?,
+    };
+    Ok(text)
+}
+
+/// The fields of a call on an endpoint, as text.
+fn text_of_endpoint_call(alloc: Global, item: &Item) -> Result<String, Fail> {
+    let text = match item {
+        Item::SubmitIn { endpoint, length } => format!(in alloc; "submitin {endpoint} {length}")?,
+        Item::SubmitOut { endpoint, bytes } => {
+            let bytes = bytes.as_slice();
+            format!(in alloc; "submitout {endpoint} {bytes:?}")?
+        }
+        Item::Pending { endpoint } => format!(in alloc; "pending {endpoint}")?,
+        Item::Poll { endpoint } => format!(in alloc; "poll {endpoint}")?,
+        Item::Cancel { endpoint } => format!(in alloc; "cancel {endpoint}")?,
+        Item::CloseEndpoint { endpoint } => format!(in alloc; "close {endpoint}")?,
+        _ => text_of_wait(alloc, item)?,
+    };
+    Ok(text)
+}
+
+/// The fields of a call that waits, as text.
+fn text_of_wait(alloc: Global, item: &Item) -> Result<String, Fail> {
+    let text = match item {
+        Item::Wait {
+            endpoint,
+            timeout,
+            steps,
+        } => {
+            let steps = text_of_steps(alloc, steps)?;
+            format!(in alloc; "wait {endpoint} {timeout}{steps}")?
+        }
+        Item::TransferIn {
+            endpoint,
+            length,
+            timeout,
+            steps,
+        } => {
+            let steps = text_of_steps(alloc, steps)?;
+            format!(in alloc; "xferin {endpoint} {length} {timeout}{steps}")?
+        }
+        Item::TransferOut {
+            endpoint,
+            bytes,
+            timeout,
+            steps,
+        } => {
+            let bytes = bytes.as_slice();
+            let steps = text_of_steps(alloc, steps)?;
+            format!(in alloc; "xferout {endpoint} {bytes:?} {timeout}{steps}")?
+        }
+        _ => format!(in alloc; "no call that waits")?,
     };
     Ok(text)
 }
 
 #[test]
-fn reads_the_words_of_each_step(rt: HostRuntime) -> Result<(), Fail> {
-    let script = parse_script(rt.alloc(), "! pkt k18 93 1415 ; reap 15".as_bytes())?;
-    let [item] = script.items() else {
-        panic!(rt; "one item");
-    };
-    let Item::Steps(steps) = item else {
-        panic!(rt; "steps");
-    };
-    match steps.as_slice() {
-        [
-            KernelStep::Packet {
-                device,
-                endpoint,
-                bytes,
-            },
-            KernelStep::Reap { ticket },
-        ] => {
-            assert_eq!(rt; (*device, *endpoint), (18, 0x93));
-            assert_eq!(rt; bytes.as_slice(), [0x14, 0x15].as_slice());
-            assert_eq!(rt; *ticket, Some(15));
-        }
-        _ => panic!(rt; "a packet and a reap"),
-    }
-    Ok(())
-}
-
-#[test]
 fn tells_setup_lines_from_calls(rt: HostRuntime) -> Result<(), Fail> {
     let script = parse_script(rt.alloc(), EACH_LINE.as_bytes())?;
+    let call = (false, true);
     let kinds = [
         (true, false),
-        (false, true),
-        (false, true),
-        (false, true),
-        (false, true),
-        (false, true),
-        (false, true),
-        (false, true),
+        call,
+        call,
+        call,
+        call,
+        call,
+        call,
+        call,
         (false, false),
+        call,
+        call,
+        call,
+        call,
+        call,
+        call,
+        call,
+        call,
     ];
     assert_eq!(rt; script.items().len(), kinds.len());
     for (item, kind) in script.items().iter().zip(kinds) {

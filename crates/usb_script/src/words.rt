@@ -4,16 +4,21 @@ ghost use Rattle.std.specs.Prelude.{◌≡◌, ◌<◌, ◌≤◌, ◌≢◌, �
 ghost use Rattle.hex.specs.Hex.{hex_digit_value};
 ghost use Rattle.usb_script.specs.Lines.{words_of, is_skipped};
 ghost use Rattle.usb_script.specs.Outcome.{Gives};
-ghost use Rattle.usb_script.specs.Words.{word_at, digits_after, decimal_of, number_of, has_leading_zero, index_of, handle_of, hex_byte_of, bytes_of, kind_of};
-ghost use Rattle.usb_script.specs.Fields.{number_at, handle_at, hex_byte_at, bytes_at, kind_at};
+ghost use Rattle.usb_script.specs.Words.{word_at, digits_after, decimal_of, number_of, time_of, has_leading_zero, index_of, handle_of, hex_byte_of, bytes_of, kind_of, errno_of, call_of};
+ghost use Rattle.usb_script.specs.Fields.{number_at, time_at, handle_at, hex_byte_at, bytes_at, kind_at, errno_at, call_at};
+ghost use Rattle.usb_kernel.specs.Submissions.{IsErrno};
+ghost use Rattle.usb_script.specs.ItemRanges.{IsTimeout, IsOpenable};
 
 use crate::reading::LineError;
 use std::alloc::Global;
 use usb_desc::{Direction, TransferType};
-use usb_kernel::Bytes;
+use usb_kernel::{Bytes, KernelCall};
 
 /// The most bytes that one word gives.
 const MAX_BYTES: usize = 65536;
+
+/// The latest time, and the longest that a call waits but for `max`, in nanoseconds.
+pub const MAX_TIME: u64 = 1_000_000_000_000_000_000;
 
 /// The line without the spaces before its first word.
 pub fn skip_spaces(line: &[u8]) -> &[u8]
@@ -117,6 +122,31 @@ pub fn next_byte(line: &[u8]) -> Result<(u8, &[u8]), LineError>
 {
     let (value, rest) = next_number(255, line)?;
     Ok((value as u8, rest))
+}
+
+/// A time in nanoseconds, where `max` is the greatest one.
+#[tactic(auto, unfolding(crate::specs::Words::time_of))]
+fn time(word: &[u8]) -> Result<u64, LineError>
+    ensures value { Gives (λ n. n) result (time_of word.now) }
+    ensures range { IfOk result IsTimeout }
+{
+    if word == b"max".as_slice() {
+        Ok(u64::MAX)
+    } else {
+        number(MAX_TIME, word)
+    }
+}
+
+/// The time that the first word is, and what follows it.
+#[tactic(auto, unfolding(crate::specs::Fields::time_at))]
+pub fn next_time(line: &[u8]) -> Result<(u64, &[u8]), LineError>
+    ensures value { Gives (λ x. (x.0, words_of x.1.now)) result (time_at (words_of line.now)) }
+    ensures range { IfOk result (λ x. IsTimeout x.0) }
+    ensures shorter { IfOk result (λ x. length x.1.now < length line.now) }
+{
+    let (word, rest) = next_word(line)?;
+    let time = time(word)?;
+    Ok((time, rest))
 }
 
 /// Whether a further digit follows a 0.
@@ -234,9 +264,16 @@ pub fn next_bytes(alloc: Global, line: &[u8]) -> Result<(Bytes, &[u8]), LineErro
 #[tactic(auto, unfolding(crate::specs::Words::kind_of))]
 fn kind(word: &[u8]) -> Result<(TransferType, Direction), LineError>
     ensures value { Gives (λ k. k) result (kind_of word.now) }
+    ensures openable { IfOk result (λ k. IsOpenable k.0) }
 {
     if word == b"bulk-in".as_slice() {
         Ok((TransferType::Bulk, Direction::In))
+    } else if word == b"bulk-out".as_slice() {
+        Ok((TransferType::Bulk, Direction::Out))
+    } else if word == b"int-in".as_slice() {
+        Ok((TransferType::Interrupt, Direction::In))
+    } else if word == b"int-out".as_slice() {
+        Ok((TransferType::Interrupt, Direction::Out))
     } else {
         Err(LineError::Malformed)
     }
@@ -246,9 +283,58 @@ fn kind(word: &[u8]) -> Result<(TransferType, Direction), LineError>
 #[tactic(auto, unfolding(crate::specs::Fields::kind_at))]
 pub fn next_kind(line: &[u8]) -> Result<((TransferType, Direction), &[u8]), LineError>
     ensures value { Gives (λ x. (x.0, words_of x.1.now)) result (kind_at (words_of line.now)) }
+    ensures openable { IfOk result (λ x. IsOpenable x.0.0) }
     ensures shorter { IfOk result (λ x. length x.1.now < length line.now) }
 {
     let (word, rest) = next_word(line)?;
     let kind = kind(word)?;
     Ok((kind, rest))
+}
+
+/// The number of an error, from 1 to 4095.
+#[tactic(auto, unfolding(crate::specs::Words::errno_of))]
+fn errno(word: &[u8]) -> Result<u16, LineError>
+    ensures value { Gives (λ n. n) result (errno_of word.now) }
+    ensures errno { IfOk result IsErrno }
+{
+    let value = number(4095, word)?;
+    if value == 0 {
+        return Err(LineError::Malformed);
+    }
+    Ok(value as u16)
+}
+
+/// The number of an error that the first word is, and what follows it.
+#[tactic(auto, unfolding(crate::specs::Fields::errno_at))]
+pub fn next_errno(line: &[u8]) -> Result<(u16, &[u8]), LineError>
+    ensures value { Gives (λ x. (x.0, words_of x.1.now)) result (errno_at (words_of line.now)) }
+    ensures errno { IfOk result (λ x. IsErrno x.0) }
+    ensures shorter { IfOk result (λ x. length x.1.now < length line.now) }
+{
+    let (word, rest) = next_word(line)?;
+    let errno = errno(word)?;
+    Ok((errno, rest))
+}
+
+/// The kind of call that a refusal is for.
+#[tactic(auto, unfolding(crate::specs::Words::call_of))]
+fn call(word: &[u8]) -> Result<KernelCall, LineError>
+    ensures value { Gives (λ c. c) result (call_of word.now) }
+{
+    if word == b"submit".as_slice() {
+        Ok(KernelCall::Submit)
+    } else {
+        Err(LineError::Malformed)
+    }
+}
+
+/// The kind of call that the first word is, and what follows it.
+#[tactic(auto, unfolding(crate::specs::Fields::call_at))]
+pub fn next_call(line: &[u8]) -> Result<(KernelCall, &[u8]), LineError>
+    ensures value { Gives (λ x. (x.0, words_of x.1.now)) result (call_at (words_of line.now)) }
+    ensures shorter { IfOk result (λ x. length x.1.now < length line.now) }
+{
+    let (word, rest) = next_word(line)?;
+    let call = call(word)?;
+    Ok((call, rest))
 }
