@@ -1,16 +1,29 @@
--- The lines of completions.
+-- The lines of completions, and of what else a queue tells.
 use Rattle.std.specs.Prelude.{ℕ, List, [], ◌∷◌, codes, Option, Some, None}
 use Rattle.std.specs.Fmt.{decimal}
-use Rattle.usb_xfer.specs.TransferTexts.{status_word}
-use Rattle.usb_kernel.specs.declared.submission.Done.{Done}
+use Rattle.usb_xfer.specs.TransferTexts.{word_of_status}
+use Rattle.usb_xfer.specs.declared.transfer.Completion.{Completion}
 use Rattle.usb_lines.specs.Words.{line_of, hex_word}
 
 -- a completion: status, count, requested length and bytes
-unfoldable pub done_line : Done → List ℕ
-done_line done =
-    line_of (codes "done") (status_word done.refused done.status ∷ decimal done.count ∷ decimal done.buffer.requested ∷ hex_word done.buffer.bytes ∷ [])
+unfoldable pub done_line : Completion → List ℕ
+done_line c =
+    line_of (codes "done") (word_of_status c.status ∷ decimal c.actual_len ∷ decimal c.buffer.requested ∷ hex_word c.buffer.bytes ∷ [])
 
 -- what a poll gave
-abbrev pub polled_line : Option Done → List ℕ
+abbrev pub polled_line : Option Completion → List ℕ
 polled_line None = line_of (codes "pending") []
-polled_line (Some done) = done_line done
+polled_line (Some c) = done_line c
+
+-- what a wait gave
+abbrev pub waited_line : Option Completion → List ℕ
+waited_line None = line_of (codes "none") []
+waited_line (Some c) = done_line c
+
+-- how many transfers are pending
+unfoldable pub count_line : ℕ → List ℕ
+count_line n = line_of (codes "count") (decimal n ∷ [])
+
+-- the clock in nanoseconds
+unfoldable pub now_line : ℕ → List ℕ
+now_line clock = line_of (codes "now") (decimal clock ∷ [])

@@ -9,7 +9,7 @@ mod tickets;
 mod words;
 
 pub use calls::{condition_line, tried_line};
-pub use completions::polled_line;
+pub use completions::{count_line, now_line, polled_line, waited_line};
 pub use descriptors::descriptors_line;
 pub use devices::device_line;
 pub use tickets::ticket_line;

@@ -55,7 +55,7 @@ impl TransferError {
     }
 
     /// The word of the error in an answer.
-    fn word(self, alloc: Global) -> Result<String, AllocError>
+    pub fn word(self, alloc: Global) -> Result<String, AllocError>
         ensures word { IfOk result (λ s. string_bytes s ≡ error_word self) }
     {
         match self {
