@@ -1,126 +1,146 @@
--- The end of a session, step by step.
-use Rattle.std.proofs.Common.{◌≡◌, ◌≢◌, ℕ, ◌<◌, ◌≤◌, suc, zero, arith, List, [], ◌∷◌, length, map, reverse, Option, Some, None, true, false, refl, ap, sym, ◌∙◌, cond, Bool, inl, inr}
-use Rattle.std.specs.Prelude.{is_some}
+-- The end of a session: interfaces are closed.
+use Rattle.std.proofs.Common.{◌≡◌, ◌≢◌, ℕ, ◌<◌, ◌≤◌, ◌+◌, arith, suc, zero, List, [], ◌∷◌, ◌++◌, slice_get, length, map, Option, Some, None, refl, ap, sym, ◌∙◌, subst, inl, inr}
 use Rattle.std.specs.Option.{option_map}
-use Rattle.std.proofs.lemmas.Bool.{cases_lt, eq-eqb, ne_eqb}
-use Rattle.usb_kernel.specs.declared.submission.Done.{Done}
-use Rattle.usb_kernel.specs.Tickets.{tickets}
-use Rattle.usb_kernel.specs.Completions.{completion, reapable}
-use Rattle.usb_kernel.specs.Steps.{after_discard, after_reap}
-use Rattle.usb_kernel.proofs.Completions.{completion-discard, tickets-discard, completion-reap, tickets-reap, completion-fresh, reapable_within}
-use Rattle.usb_answers.specs.declared.handles.Handle.{Handle}
-use Rattle.usb_answers.specs.declared.session.Session.{Session}
-use Rattle.usb_answers.specs.Slots.{change_at, slot_for, slot_closed, with_dropped, contains, table_from}
-use Rattle.usb_answers.specs.Names.{named, freed, nothing}
-use Rattle.usb_answers.specs.State.{State, kept}
-use Rattle.usb_answers.specs.Ends.{close_ticket, close_tickets, close_endpoint, free_name, discard, reap}
-use Rattle.usb_answers.specs.Relation.{Holds, slot_of, slots_of, without_room}
-use Rattle.usb_answers.proofs.KernelLemmas.{past_is, appended}
-use Rattle.usb_answers.proofs.SlotLemmas.{change_at-table, change_at-beyond, table_from-same, length-table_from}
-use Rattle.usb_answers.proofs.Relates.{named_kept}
-use Rattle.usb_answers.proofs.PastLemmas.{Holds-past, puts}
+use Rattle.std.proofs.lemmas.Bool.{cases_eq, cases_lt}
+use Rattle.std.proofs.lemmas.Option.{none-some}
+use Rattle.usb_endpoint.specs.declared.any_endpoint.AnyEndpoint.{AnyEndpoint}
+use Rattle.usb_endpoint.specs.AnyEndpoints.{state_of}
+use Rattle.usb_endpoint.specs.EndpointState.{EndpointState}
+use Rattle.usb_endpoint.specs.Handles.{Stands}
+use Rattle.usb_device.specs.declared.opened.OpenDevice.{OpenDevice}
+use Rattle.usb_device.specs.HostState.{HostState}
+use Rattle.usb_device.specs.HostBus.{bus_of}
+use Rattle.usb_device.specs.Handles.{handle_closed}
+use Rattle.usb_device.specs.Finishes.{finished}
+use Rattle.usb_device.specs.HandleStates.{InterfaceState, StandsInterface}
+use Rattle.usb_device.proofs.InterfaceFrames.{StandsInterface-other, bus-handle_closed, line-handle_closed}
+use Rattle.usb_answers.specs.Names.{named, freed}
+use Rattle.usb_answers.specs.State.{State}
+use Rattle.usb_answers.specs.Closes.{closed}
+use Rattle.usb_answers.specs.Ends.{interface_closed_at, interface_closed, interfaces_closed, endpoints_closed, all_closed, ended}
+use Rattle.usb_answers.specs.SessionState.{SessionState, IsSound}
+use Rattle.usb_answers.specs.SessionFacts.{session_made}
+use Rattle.usb_answers.specs.Relation.{Represents, session_of}
+use Rattle.usb_answers.proofs.NameLemmas.{named-map, named-freed, named-freed_other, named-past, freed-none, length-freed, named_of, place_of}
 
--- a session on the way to a state, with tickets that are still to be closed
-pub record Closing (s : Session) (queue : List ℕ) (final : State) : Type 0 where
-  pub now : State
-  pub holds : Holds s now
-  pub rest : close_tickets now (reverse queue) ≡ final
-
-slot_closed-none : (a b : Bool) → slot_closed (slot_for a b None) ≡ slot_for a b None
-slot_closed-none true b = refl
-slot_closed-none false true = refl
-slot_closed-none false false = refl
-
-slot_closed-some : (a b : Bool) (done : Done) → slot_closed (slot_for a b (Some done)) ≡ slot_for a true (Some done)
-slot_closed-some true b done = refl
-slot_closed-some false true done = refl
-slot_closed-some false false done = refl
-
--- the dropped tickets, where this one has this completion
-abbrev pub drops : State → ℕ → Option Done → State
-drops state t o = record state { kernel = record state.kernel { past = after_discard state.kernel.past t }; dropped = cond (is_some o) (t ∷ state.dropped) state.dropped }
-
-slot_of-dropped : (state : State) (t : ℕ) (o : Option Done) → completion state.kernel.past t ≡ o → slot_closed (slot_of state t) ≡ slot_of (drops state t o) t
-slot_of-dropped state t None is =
-    rw (completion-discard state.kernel.past t t, is) (slot_closed-none (contains state.taken t) (contains state.dropped t))
-slot_of-dropped state t (Some done) is =
-    rw (completion-discard state.kernel.past t t, is, eq-eqb t t refl) (slot_closed-some (contains state.taken t) (contains state.dropped t) done)
-
-slot_of-kept : (state : State) (t u : ℕ) (o : Option Done) → u ≢ t → slot_of state u ≡ slot_of (drops state t o) u
-slot_of-kept state t u None apart = rw (completion-discard state.kernel.past t u) refl
-slot_of-kept state t u (Some done) apart = rw (completion-discard state.kernel.past t u, ne_eqb t u (λ is. apart (sym is))) refl
-
-slots_of-dropped : (state : State) (t : ℕ) (o : Option Done) → completion state.kernel.past t ≡ o → t < length (tickets state.kernel.past) → with_dropped (slots_of state) t ≡ slots_of (drops state t o)
-unfolding slots_of with_dropped
-slots_of-dropped state t o is within =
-    rw (tickets-discard state.kernel.past t) (change_at-table slot_closed (slot_of state) (slot_of (drops state t o)) (length (tickets state.kernel.past)) t (slot_of-dropped state t o is) (λ u apart. slot_of-kept state t u o apart) within)
-
-slots_of-beyond : (state : State) (t : ℕ) → length (tickets state.kernel.past) ≤ t → with_dropped (slots_of state) t ≡ slots_of (drops state t None)
-unfolding slots_of with_dropped
-slots_of-beyond state t beyond =
-    let len = length-table_from (slot_of state) 0 (length (tickets state.kernel.past)) in
-    rw (tickets-discard state.kernel.past t) (change_at-beyond slot_closed (table_from 0 (length (tickets state.kernel.past)) (slot_of state)) t (omega arith) ∙ table_from-same (slot_of state) (slot_of (drops state t None)) 0 (length (tickets state.kernel.past)) (λ u. rw (completion-discard state.kernel.past t u) refl))
-
-slots_of-closed : (state : State) (t : ℕ) → with_dropped (slots_of state) t ≡ slots_of (drops state t (completion state.kernel.past t))
-slots_of-closed state t =
-    elim (cases_lt t (length (tickets state.kernel.past))) [
-      | inl within ↦ slots_of-dropped state t (completion state.kernel.past t) refl within
-      | inr beyond ↦ rw (completion-fresh state.kernel.past t beyond) (slots_of-beyond state t beyond)
+-- what is open under a name once another was freed
+names-left : {X : Type 0} (xs after : List (Option X)) (n m : ℕ) (z : X) → after ≡ freed xs n → named after m ≡ Some z → (n ≢ m) × (named xs m ≡ Some z)
+names-left xs after n m z rest is =
+    elim (cases_eq m n) [
+      | inl same ↦ absurd (none-some z (sym (named-freed xs n) ∙ sym (ap (named (freed xs n)) same) ∙ sym (ap (λ l. named l m) rest) ∙ is))
+      | inr apart ↦ (λ same. apart (sym same), sym (named-freed_other xs n m apart) ∙ sym (ap (λ l. named l m) rest) ∙ is)
     ]
 
-pub close_ticket-holds : (s now : Session) (state : State) (t : ℕ) → Holds s state → now.kernel ≡ record s.kernel { past = now.kernel.past } → now.kernel.past ≡ after_discard s.kernel.past t → now.slots.items ≡ with_dropped s.slots.items t → now.host ≡ s.host → now.endpoints.items ≡ s.endpoints.items → Holds now (close_ticket state t)
-unfolding close_ticket
-close_ticket-holds s now state t h rest past slots host endpoints =
+device-stays : (old new : HostState) (key : ℕ) → new.devices ≡ old.devices → key < length old.devices → key < length new.devices
+device-stays old new key same below = let e = ap (λ (l : List OpenDevice). length l) same in omega arith
+
+-- an interface was closed
+interface-sound : (s : SessionState) (after : List (Option InterfaceState)) (i : ℕ) (f : InterfaceState) → IsSound s → named s.interfaces i ≡ Some f → after ≡ freed s.interfaces i → IsSound (record s { host = handle_closed s.host f.key; interfaces = after })
+interface-sound s after i f sound was rest =
     record {
-      kernel = appended s.kernel now.kernel state.kernel (after_discard state.kernel.past t) rest (past ∙ ap (λ p. after_discard p t) (past_is s state h)) h.kernel;
-      slots = slots ∙ ap (λ xs. with_dropped xs t) h.slots ∙ slots_of-closed state t;
-      host = host ∙ h.host;
-      endpoints = endpoints ∙ h.endpoints;
+      idle = (line-handle_closed s.host f.key).steps ∙ sound.idle;
+      device_names = sound.device_names;
+      interface_names = ap (λ (l : List (Option InterfaceState)). length l) rest ∙ length-freed s.interfaces i ∙ sound.interface_names;
+      endpoint_names = sound.endpoint_names;
+      devices_stand = λ d key is. device-stays s.host (handle_closed s.host f.key) key (line-handle_closed s.host f.key).devices (sound.devices_stand d key is);
+      interfaces_stand = λ j g is.
+          let there = names-left s.interfaces after i j g rest is in
+          StandsInterface-other s.host f.key g (sound.interfaces_differ i j f g was there.1 there.0) (sound.interfaces_stand j g there.1);
+      interfaces_differ = λ j k g h isg ish apart.
+          sound.interfaces_differ j k g h (names-left s.interfaces after i j g rest isg).1 (names-left s.interfaces after i k h rest ish).1 apart;
+      endpoints_stand = λ e h is. subst (λ b. Stands b h) (sym (bus-handle_closed s.host f.key)) (sound.endpoints_stand e h is);
+      endpoints_differ = sound.endpoints_differ;
     }
 
-pub discard-holds : (s now : Session) (state : State) (t : ℕ) → Holds s state → now.kernel ≡ record s.kernel { past = now.kernel.past } → now.kernel.past ≡ after_discard s.kernel.past t → now.slots.items ≡ s.slots.items → now.host ≡ s.host → now.endpoints.items ≡ s.endpoints.items → Holds now (discard state t)
-unfolding discard
-discard-holds s now state t h rest past slots host endpoints =
-    Holds-past s now state (after_discard state.kernel.past t) None h (tickets-discard state.kernel.past t) (completion-discard state.kernel.past t) (λ done is. absurd (no_done done is)) (appended s.kernel now.kernel state.kernel (after_discard state.kernel.past t) rest (past ∙ ap (λ p. after_discard p t) (past_is s state h)) h.kernel) slots host endpoints
+pub close_interface-sound : (host now : HostState) (ds : List (Option ℕ)) (is after : List (Option InterfaceState)) (es : List (Option AnyEndpoint)) (i : ℕ) (f : InterfaceState) → IsSound (session_made host ds is es) → named is i ≡ Some f → after ≡ freed is i → now ≡ handle_closed host f.key → IsSound (session_made now ds after es)
+close_interface-sound host now ds is after es i f sound was rest closed =
+    subst (λ (g : HostState). IsSound (session_made g ds after es)) (sym closed) (interface-sound (session_made host ds is es) after i f sound was rest)
+
+interface-represents : (s : SessionState) (state : State) (after : List (Option InterfaceState)) (i : ℕ) (f : InterfaceState) → Represents s state → named s.interfaces i ≡ Some f → after ≡ freed s.interfaces i → Represents (record s { host = handle_closed s.host f.key; interfaces = after }) (interface_closed state i)
+unfolding interface_closed
+interface-represents s state after i f r was rest =
+    let here : named state.interfaces i ≡ Some f = ap (λ (v : SessionState). named v.interfaces i) (sym r.is) ∙ was in
+    rw here record {
+      is =
+          ap (λ (l : List (Option InterfaceState)). record s { host = handle_closed s.host f.key; interfaces = l }) rest
+          ∙ ap (λ (v : SessionState). record v { host = handle_closed v.host f.key; interfaces = freed v.interfaces i }) r.is;
+      few = r.few;
+    }
+
+interface-none : (s : SessionState) (state : State) (i : ℕ) → Represents s state → named s.interfaces i ≡ None → Represents s (interface_closed state i)
+unfolding interface_closed
+interface-none s state i r none =
+    let here : named state.interfaces i ≡ None = ap (λ (v : SessionState). named v.interfaces i) (sym r.is) ∙ none in
+    rw here r
+
+pub close_interface-code : (S : SessionState) (host now : HostState) (ds : List (Option ℕ)) (is after : List (Option InterfaceState)) (es : List (Option AnyEndpoint)) (i : ℕ) (f : InterfaceState) → session_made host ds is es ≡ S → named is i ≡ Some f → after ≡ freed is i → now ≡ handle_closed host f.key → (state : State) → Represents S state → Represents (session_made now ds after es) (interface_closed state i)
+close_interface-code S host now ds is after es i f view was rest closed state r =
+    subst (λ (g : HostState). Represents (session_made g ds after es) (interface_closed state i)) (sym closed)
+    (interface-represents (session_made host ds is es) state after i f (subst (λ v. Represents v state) (sym view) r) was rest)
+
+-- nothing was open under the name
+pub interface-nothing : (S : SessionState) (host : HostState) (ds : List (Option ℕ)) (is after : List (Option InterfaceState)) (es : List (Option AnyEndpoint)) (i : ℕ) → session_made host ds is es ≡ S → named is i ≡ None → after ≡ freed is i → (state : State) → Represents S state → Represents (session_made host ds after es) (interface_closed state i)
+interface-nothing S host ds is after es i view none rest state r =
+    subst (λ l. Represents (session_made host ds l es) (interface_closed state i)) (sym (rest ∙ freed-none is i none))
+    (interface-none (session_made host ds is es) state i (subst (λ v. Represents v state) (sym view) r) none)
+
+pub interface-sound_same : (host : HostState) (ds : List (Option ℕ)) (is after : List (Option InterfaceState)) (es : List (Option AnyEndpoint)) (i : ℕ) → IsSound (session_made host ds is es) → named is i ≡ None → after ≡ freed is i → IsSound (session_made host ds after es)
+interface-sound_same host ds is after es i sound none rest =
+    subst (λ l. IsSound (session_made host ds l es)) (sym (rest ∙ freed-none is i none)) sound
+
+-- the names below a number are free, and one more
+pub none-more : {X : Type 0} (xs after : List (Option X)) (n : ℕ) → after ≡ freed xs n → ((e : ℕ) → e < n → named xs e ≡ None) → (e : ℕ) → e < n + 1 → named after e ≡ None
+none-more xs after n rest none e below =
+    elim (cases_eq e n) [
+      | inl same ↦ ap (λ l. named l e) rest ∙ ap (named (freed xs n)) same ∙ named-freed xs n
+      | inr apart ↦ ap (λ l. named l e) rest ∙ named-freed_other xs n e apart ∙ none e (lower e n apart below)
+    ]
   where
-    no_done : (done : Done) → None ≡ Some done → ⊥
-    no_done done is = cc
+    lower : (a b : ℕ) → a ≢ b → a < b + 1 → a < b
+    lower a b apart small = omega arith
 
-pub reap-holds : (s now : Session) (state : State) (t : ℕ) (o : Option Done) → Holds s state → o ≡ reapable s.kernel.past t → now.kernel ≡ record s.kernel { past = now.kernel.past } → now.kernel.past ≡ after_reap s.kernel.past t → now.slots.items ≡ puts o s.slots.items → now.host ≡ s.host → now.endpoints.items ≡ s.endpoints.items → Holds now (reap state t)
-unfolding reap
-reap-holds s now state t o h gives rest past slots host endpoints =
-    let p = past_is s state h in
-    let here : o ≡ reapable state.kernel.past t = gives ∙ ap (λ p. reapable p t) p in
-    Holds-past s now state (after_reap state.kernel.past t) o h (tickets-reap state.kernel.past t) (λ u. rw here (completion-reap state.kernel.past t u)) (λ done is. reapable_within state.kernel.past t done (sym here ∙ is)) (appended s.kernel now.kernel state.kernel (after_reap state.kernel.past t) rest (past ∙ ap (λ p. after_reap p t) p) h.kernel) slots host endpoints
+-- no name is open where none of the 64 is
+pub none-all : {X : Type 0} (xs : List (Option X)) → length xs ≡ 64 → ((n : ℕ) → n < 64 → named xs n ≡ None) → (n : ℕ) → named xs n ≡ None
+none-all xs all none n =
+    elim (cases_lt n 64) [
+      | inl within ↦ none n within
+      | inr beyond ↦ named-past xs n (omega arith)
+    ]
 
-map-change_at : {X Y : Type 0} (v : X → Y) (f : X → X) (g : Y → Y) (xs : List X) (i : ℕ) → ((x : X) → v (f x) ≡ g (v x)) → map v (change_at f xs i) ≡ change_at g (map v xs) i
-map-change_at v f g [] i same = refl
-map-change_at v f g (x ∷ xs) zero same = let first = same x in cc
-map-change_at v f g (x ∷ xs) (suc i) same = let others = map-change_at v f g xs i same in cc
+unmapped : {X Y : Type 0} (f : X → Y) (o : Option X) → option_map f o ≡ None → o ≡ None
+unmapped f None none = refl
+unmapped f (Some x) none = absurd (none-some (f x) (sym none))
 
-pub free_name-holds : (s now : Session) (state : State) (e : ℕ) → Holds s state → now.kernel ≡ s.kernel → now.slots.items ≡ s.slots.items → now.host ≡ s.host → now.endpoints.items ≡ freed s.endpoints.items e → Holds now (free_name state e)
-unfolding freed slots_of
-free_name-holds s now state e h kernel slots host endpoints =
-    record {
-      kernel = ap without_room kernel ∙ h.kernel;
-      slots = slots ∙ h.slots;
-      host = host ∙ h.host;
-      endpoints = endpoints ∙ rw h.endpoints (sym (map-change_at (option_map kept) nothing nothing state.endpoints e (λ o. refl)));
-    }
+pub none-endpoints : (es : List (Option AnyEndpoint)) → ((n : ℕ) → named (map (option_map state_of) es) n ≡ None) → (n : ℕ) → named es n ≡ None
+none-endpoints es none n = unmapped state_of (named es n) (sym (named-map state_of es n) ∙ none n)
 
-pub close_endpoint-some : (s : Session) (state : State) (e : ℕ) (handle : Handle) → Holds s state → named s.endpoints.items e ≡ Some handle → close_endpoint state e ≡ close_tickets (free_name state e) (reverse handle.queue)
-unfolding close_endpoint
-close_endpoint-some s state e handle h is = rw (sym (named_kept s state e h) ∙ is) refl
+-- all names but the last
+slice_get-front : {X : Type 0} (xs ys : List X) (n : ℕ) (x : X) → slice_get xs n ≡ Some x → slice_get (xs ++ ys) n ≡ Some x
+slice_get-front [] ys n x is = absurd (none-some x is)
+slice_get-front (z ∷ xs) ys zero x is = is
+slice_get-front (z ∷ xs) ys (suc n) x is = slice_get-front xs ys n x is
 
-pub close_endpoint-none : (s : Session) (state : State) (e : ℕ) → Holds s state → named s.endpoints.items e ≡ None → close_endpoint state e ≡ state
-unfolding close_endpoint
-close_endpoint-none s state e h is = rw (sym (named_kept s state e h) ∙ is) refl
+slice_get-last : {X : Type 0} (xs : List X) (x : X) → slice_get (xs ++ x ∷ []) (length xs) ≡ Some x
+slice_get-last [] x = refl
+slice_get-last (z ∷ xs) x = slice_get-last xs x
 
-freed-none : {X : Type 0} (xs : List (Option X)) (e : ℕ) → named xs e ≡ None → freed xs e ≡ xs
-unfolding freed named
-freed-none [] e none = refl
-freed-none (o ∷ xs) zero none = rw none refl
-freed-none (o ∷ xs) (suc e) none = let others = freed-none xs e none in cc
+pub named-front : {X : Type 0} (old front last : List (Option X)) (n : ℕ) (x : X) → old ≡ front ++ last → named front n ≡ Some x → named old n ≡ Some x
+named-front old front last n x is at =
+    named_of old n (Some x) (ap (λ l. slice_get l n) is ∙ slice_get-front front last n (Some x) (place_of front n x at))
 
-pub freed_none : (xs : List (Option Handle)) (e : ℕ) → named xs e ≡ None → freed xs e ≡ xs
-freed_none xs e none = freed-none xs e none
+pub named-last : {X : Type 0} (old front : List (Option X)) (o : Option X) (x : X) → old ≡ front ++ o ∷ [] → o ≡ Some x → named old (length front) ≡ Some x
+named-last old front o x is at =
+    named_of old (length front) o (ap (λ l. slice_get l (length front)) is ∙ slice_get-last front o) ∙ at
+
+-- the host of a session at the end
+pub end-host : (s : SessionState) (host now : HostState) (state : State) → s.host ≡ host → now ≡ finished host → Represents s (interfaces_closed (endpoints_closed state 64) 64) → now ≡ ended state
+unfolding ended all_closed
+end-host s host now state here done r =
+    done ∙ ap finished (sym here ∙ ap (λ (v : SessionState). v.host) r.is)
+
+-- one name more is closed
+pub endpoints_closed-more : (state : State) (n : ℕ) → endpoints_closed state (n + 1) ≡ closed (endpoints_closed state n) n
+endpoints_closed-more state n = let more : n + 1 ≡ suc n = omega arith in rw more refl
+
+pub interfaces_closed-more : (state : State) (n : ℕ) → interfaces_closed state (n + 1) ≡ interface_closed (interfaces_closed state n) n
+interfaces_closed-more state n = let more : n + 1 ≡ suc n = omega arith in rw more refl

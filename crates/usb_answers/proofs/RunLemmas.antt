@@ -1,77 +1,113 @@
 -- The run over the items.
-use Rattle.std.proofs.Common.{◌≡◌, ℕ, ◌<◌, ◌≤◌, ◌+◌, suc, zero, List, [], ◌∷◌, ◌++◌, length, get_or, drop, Option, Some, None, refl, ap, sym, ◌∙◌}
-use Rattle.std.specs.Prelude.{replicate, map}
+use Rattle.std.proofs.Common.{◌≡◌, ℕ, ◌<◌, ◌≤◌, ◌+◌, arith, List, [], ◌∷◌, ◌++◌, length, get_or, drop, map, replicate, Option, Some, None, refl, ap, sym, ◌∙◌, subst}
+use Rattle.std.specs.Prelude.{max}
 use Rattle.std.specs.Option.{option_map}
-use Rattle.std.proofs.lemmas.List.{at_drop_more, at_drop_all}
+use Rattle.std.proofs.lemmas.List.{at_drop_more, at_drop_all, length-replicate}
 use Rattle.std.proofs.lemmas.Option.{none-some}
 use Rattle.usb_kernel.specs.declared.devices.SimDevice.{SimDevice}
+use Rattle.usb_kernel.specs.Value.{KernelState}
 use Rattle.usb_kernel.specs.Devices.{fresh_device}
+use Rattle.usb_endpoint.specs.declared.any_endpoint.AnyEndpoint.{AnyEndpoint}
+use Rattle.usb_endpoint.specs.EndpointState.{EndpointState}
+use Rattle.usb_endpoint.specs.AnyEndpoints.{state_of}
+use Rattle.usb_device.specs.HostState.{HostState, host_of}
+use Rattle.usb_device.specs.HandleStates.{InterfaceState}
 use Rattle.usb_script.specs.declared.item.Item.{Item}
-use Rattle.usb_answers.specs.declared.session.Session.{Session}
-use Rattle.usb_answers.specs.HostState.{no_host}
-use Rattle.usb_answers.specs.Slots.{table_from}
+use Rattle.usb_script.specs.ItemKinds.{step_count}
 use Rattle.usb_answers.specs.Names.{named}
-use Rattle.usb_answers.specs.State.{State, kept}
+use Rattle.usb_answers.specs.State.{State, Endpoint, kept}
 use Rattle.usb_answers.specs.Answers.{answer}
 use Rattle.usb_answers.specs.Ends.{ended}
 use Rattle.usb_answers.specs.Fates.{fate_lines}
-use Rattle.usb_answers.specs.Output.{device_of_item, devices_of, output_from, last_state, start}
-use Rattle.usb_answers.specs.Relation.{Represents, IsSound, slots_of}
+use Rattle.usb_answers.specs.Output.{device_of_item, devices_of, output_from, last_host, start}
+use Rattle.usb_answers.specs.SessionState.{SessionState, IsSound}
+use Rattle.usb_answers.specs.SessionFacts.{session_made}
+use Rattle.usb_answers.specs.Relation.{Represents, session_of}
+use Rattle.usb_answers.proofs.NameLemmas.{named-replicate, map-replicate}
 
 -- one item on: its line and the output behind it
 pub output_from-step : (items : List Item) (i : ℕ) (item : Item) (state : State) (line : List ℕ) → i < length items → item ≡ get_or items i item → line ≡ (answer state item).line → line ++ output_from (answer state item).state (drop (i + 1) items) ≡ output_from state (drop i items)
 output_from-step items i item state line within here is =
     rw is (ap (λ (x : Item). (answer state x).line ++ output_from (answer state x).state (drop (i + 1) items)) here ∙ sym (at_drop_more (output_from state) items i item within))
 
-pub last_state-step : (items : List Item) (i : ℕ) (item : Item) (state : State) → i < length items → item ≡ get_or items i item → last_state (answer state item).state (drop (i + 1) items) ≡ last_state state (drop i items)
-last_state-step items i item state within here =
-    ap (λ (x : Item). last_state (answer state x).state (drop (i + 1) items)) here ∙ sym (at_drop_more (last_state state) items i item within)
+pub last_host-step : (items : List Item) (i : ℕ) (item : Item) (state : State) → i < length items → item ≡ get_or items i item → last_host (answer state item).state (drop (i + 1) items) ≡ last_host state (drop i items)
+last_host-step items i item state within here =
+    ap (λ (x : Item). last_host (answer state x).state (drop (i + 1) items)) here ∙ sym (at_drop_more (last_host state) items i item within)
 
 -- no item is left
 pub output_from-end : (items : List Item) (i : ℕ) (state : State) → length items ≤ i → output_from state (drop i items) ≡ fate_lines (ended state)
 output_from-end items i state past = at_drop_all (output_from state) items i past
 
-pub last_state-end : (items : List Item) (i : ℕ) (state : State) → length items ≤ i → last_state state (drop i items) ≡ ended state
-last_state-end items i state past = at_drop_all (last_state state) items i past
+pub last_host-end : (items : List Item) (i : ℕ) (state : State) → length items ≤ i → last_host state (drop i items) ≡ ended state
+last_host-end items i state past = at_drop_all (last_host state) items i past
+
+-- the host at the beginning
+larger : (a b : ℕ) → a ≡ 0 → max a b ≡ b
+larger a b none = omega arith
+
+pub host-start : (k now : KernelState) (items : List Item) (devices : List (ℕ × SimDevice)) (steps : ℕ) → k.past ≡ [] → k.devices ≡ map fresh_device devices → devices ≡ devices_of items → k.clock ≡ 0 → k.armed ≡ [] → k.spare ≡ 0 → now ≡ record k { spare = now.spare } → now.spare ≡ max k.spare steps → steps ≡ step_count items → host_of now ≡ (start items).host
+unfolding start
+host-start k now items devices steps past known are clock armed none rest spare all =
+    let room : now.spare ≡ step_count items = spare ∙ larger k.spare steps none ∙ all in
+    let simulated = known ∙ ap (map fresh_device) are in
+    ap host_of rest ∙ rw (past, simulated, clock, armed, room) refl
 
 -- the beginning
-named-replicate : {X : Type 0} (n e : ℕ) → named {X = X} (replicate n None) e ≡ None
-unfolding named
-named-replicate zero e = refl
-named-replicate (suc n) zero = refl
-named-replicate (suc n) (suc e) = named-replicate n e
-
 nobody : {X : Type 0} (n e : ℕ) (x : X) → named (replicate n None) e ≡ Some x → ⊥
 nobody {X} n e x is = none-some x (sym (named-replicate n e) ∙ is)
 
-IsSound-start : (items : List Item) → IsSound (start items)
+-- a session with nothing open
+abbrev pub empty_session : HostState → SessionState
+empty_session host = record { host = host; devices = replicate 64 None; interfaces = replicate 64 None; endpoints = replicate 64 None }
+
+empty-sound : (host : HostState) → host.steps ≡ [] → IsSound (empty_session host)
+empty-sound host idle =
+    record {
+      idle = idle;
+      device_names = length-replicate {A = Option ℕ} 64 None;
+      interface_names = length-replicate {A = Option InterfaceState} 64 None;
+      endpoint_names = length-replicate {A = Option EndpointState} 64 None;
+      devices_stand = λ d key is. absurd (nobody 64 d key is);
+      interfaces_stand = λ i f is. absurd (nobody 64 i f is);
+      interfaces_differ = λ i j f g isf isg apart. absurd (nobody 64 i f isf);
+      endpoints_stand = λ e h is. absurd (nobody 64 e h is);
+      endpoints_differ = λ d e g h isg ish apart. absurd (nobody 64 d g isg);
+    }
+
+made-empty : (host : HostState) (ds : List (Option ℕ)) (is : List (Option InterfaceState)) (es : List (Option AnyEndpoint)) → ds ≡ replicate 64 None → is ≡ replicate 64 None → es ≡ replicate 64 None → session_made host ds is es ≡ empty_session host
+made-empty host ds is es d i e =
+    ap (λ (l : List (Option ℕ)). session_made host l is es) d ∙ ap (λ (l : List (Option InterfaceState)). session_made host (replicate 64 None) l es) i
+    ∙ ap (λ (l : List (Option EndpointState)). record (empty_session host) { endpoints = l }) (ap (map (option_map state_of)) e ∙ sym (map-replicate state_of 64))
+
+start-steps : (items : List Item) → (start items).host.steps ≡ []
 unfolding start
-IsSound-start items =
+start-steps items = refl
+
+pub sound-start : (items : List Item) (host : HostState) (ds : List (Option ℕ)) (is : List (Option InterfaceState)) (es : List (Option AnyEndpoint)) → host ≡ (start items).host → ds ≡ replicate 64 None → is ≡ replicate 64 None → es ≡ replicate 64 None → IsSound (session_made host ds is es)
+sound-start items host ds is es start_ d i e =
+    subst IsSound (sym (made-empty host ds is es d i e)) (empty-sound host (ap (λ (h : HostState). h.steps) start_ ∙ start-steps items))
+
+empty-start : (items : List Item) → empty_session (start items).host ≡ session_of (start items)
+unfolding start
+empty-start items = ap (λ (l : List (Option EndpointState)). record (empty_session (start items).host) { endpoints = l }) (map-replicate kept 64)
+
+few-start : (items : List Item) (e : ℕ) (h : Endpoint) → named (start items).endpoints e ≡ Some h → h.taken ≤ length h.tickets
+unfolding start
+few-start items e h is = absurd (nobody 64 e h is)
+
+pub represents-start : (items : List Item) (host : HostState) (ds : List (Option ℕ)) (is : List (Option InterfaceState)) (es : List (Option AnyEndpoint)) → host ≡ (start items).host → ds ≡ replicate 64 None → is ≡ replicate 64 None → es ≡ replicate 64 None → Represents (session_made host ds is es) (start items)
+represents-start items host ds is es start_ d i e =
     record {
-      known = λ e i t s. absurd (nobody 64 e s.endpoint s.is_open);
-      apart = λ e i d j t s r. absurd (nobody 64 e s.endpoint s.is_open);
-      few = λ e h is. absurd (nobody 64 e h is);
-      taken = λ e i t h is at. absurd (nobody 64 e h is);
-      dropped = λ e i t s. absurd (nobody 64 e s.endpoint s.is_open);
-      spent = λ t beyond. (refl, refl);
+      is = made-empty host ds is es d i e ∙ ap empty_session start_ ∙ empty-start items;
+      few = few-start items;
     }
 
-map-replicate : {X Y : Type 0} (f : X → Y) (n : ℕ) → replicate n None ≡ map (option_map f) (replicate n None)
-map-replicate f zero = refl
-map-replicate f (suc n) = let e = map-replicate f n in ap (λ xs. None ∷ xs) e
+spare-of_start : (items : List Item) → (start items).host.kernel.spare ≡ step_count items
+unfolding start
+spare-of_start items = refl
 
-pub Represents-start : (s : Session) (items : List Item) → s.kernel.past ≡ [] → s.kernel.devices ≡ map fresh_device (devices_of items) → s.slots.items ≡ [] → s.host ≡ no_host → s.endpoints.items ≡ replicate 64 None → Represents s (start items)
-unfolding start slots_of table_from
-Represents-start s items past devices slots host endpoints =
-    record {
-      holds = record {
-        kernel = rw (past, devices) refl;
-        slots = slots;
-        host = host;
-        endpoints = endpoints ∙ map-replicate kept 64;
-      };
-      sound = IsSound-start items;
-    }
+pub spare-start : (items : List Item) (host : HostState) (steps : ℕ) → host ≡ (start items).host → steps ≡ step_count items → host.kernel.spare ≡ steps
+spare-start items host steps start_ all = ap (λ (h : HostState). h.kernel.spare) start_ ∙ spare-of_start items ∙ sym all
 
 -- the devices of the items so far
 pub devices_of-more : (items : List Item) (i : ℕ) (item : Item) (o : Option (ℕ × SimDevice)) → i < length items → item ≡ get_or items i item → o ≡ device_of_item item → devices_of (drop i items) ≡ devices_of (item ∷ drop (i + 1) items)

@@ -1,75 +1,72 @@
 -- The counts.
-use Rattle.std.proofs.Common.{◌≡◌, ℕ, ◌+◌, suc, zero, arith, List, [], ◌∷◌, length, Option, Some, None, true, false, refl, ap, ◌∙◌, Bool}
-use Rattle.std.specs.Prelude.{not, ◌&&◌}
+use Rattle.std.proofs.Common.{◌≡◌, ℕ, ◌+◌, ◌-◌, ◌<◌, ◌≤◌, suc, zero, arith, List, [], ◌∷◌, length, take, get_or, Option, Some, None, true, false, refl, ap, sym, ◌∙◌, cond, Bool, slice_get}
+use Rattle.std.specs.Prelude.{option_and_then}
 use Rattle.std.specs.List.{count_by}
-use Rattle.std.proofs.lemmas.Grind.{common_steps}
-use Rattle.usb_kernel.specs.declared.event.Event.{Event}
-use Rattle.usb_kernel.specs.declared.submission.Done.{Done}
-use Rattle.usb_kernel.specs.Tickets.{tickets}
-use Rattle.usb_kernel.specs.Completions.{completion}
-use Rattle.usb_answers.specs.declared.session.Session.{Session}
-use Rattle.usb_answers.specs.declared.summary.Summary.{Summary}
-use Rattle.usb_answers.specs.Slots.{slot_for, contains, table_from}
-use Rattle.usb_answers.specs.State.{State, tickets_of}
-use Rattle.usb_answers.specs.Sums.{is_taken, is_dropped, is_reclaimed, numbers, counts_of, OneEndEach, is_taken_slot, is_dropped_slot, is_left_slot}
-use Rattle.usb_answers.specs.Relation.{Holds, slot_of, slots_of}
-use Rattle.usb_answers.proofs.KernelLemmas.{past_is}
-use Rattle.usb_answers.proofs.SlotLemmas.{length-table_from}
+use Rattle.std.specs.Option.{option_map_or}
+use Rattle.std.proofs.lemmas.List.Sums.{count_by_more_yes, count_by_more_no, sum_by-cons}
+use Rattle.usb_device.specs.declared.ends.TicketEnd.{TicketEnd}
+use Rattle.usb_device.specs.declared.ends.TicketEnd.TheVariants.{Taken, Dropped, Reclaimed}
+use Rattle.usb_device.specs.HostState.{HostState, HostTicket, Held, Abandoned, Ended}
+use Rattle.usb_device.specs.HostBus.{ended_at, end_at}
+use Rattle.usb_answers.specs.Sums.{is_same_end, has_end, ticket_has, is_left, counts_of, OneEndEach}
 
--- tests of a table are tests of its numbers
-count-table : {X : Type 0} (p : X → Bool) (q : ℕ → Bool) (f : ℕ → X) (k n : ℕ) → ((u : ℕ) → p (f u) ≡ q u) → count_by p (table_from k n f) ≡ count_by q (table_from k n (λ t. t))
-unfolding table_from
-count-table p q f k zero same = refl
-count-table p q f k (suc n) same =
-    let first = same k in let others = count-table p q f (k + 1) n same in grind (arith, common_steps)
+-- a ticket has an end where its end is this one
+abbrev pub has_of : Option TicketEnd → TicketEnd → Bool
+has_of None end = false
+has_of (Some its) end = is_same_end its end
 
-taken-slot : (a b : Bool) (o : Option Done) → is_taken_slot (slot_for a b o) ≡ a
-taken-slot true b o = refl
-taken-slot false true o = refl
-taken-slot false false None = refl
-taken-slot false false (Some done) = refl
+has_of-ended : (o : Option HostTicket) (end : TicketEnd) → has_of (option_and_then ended_at o) end ≡ option_map_or (has_end end) o false
+has_of-ended None end = refl
+has_of-ended (Some (Held hold)) end = refl
+has_of-ended (Some (Abandoned key)) end = refl
+has_of-ended (Some (Ended its)) end = refl
 
-dropped-slot : (a b : Bool) (o : Option Done) → is_dropped_slot (slot_for a b o) ≡ (not a && b)
-dropped-slot true b o = refl
-dropped-slot false true o = refl
-dropped-slot false false None = refl
-dropped-slot false false (Some done) = refl
+pub has-some : (ts : List HostTicket) (t : ℕ) (end its : TicketEnd) (o : Option TicketEnd) (b : Bool) → o ≡ end_at ts t → o ≡ Some its → b ≡ is_same_end its end → b ≡ ticket_has ts t end
+has-some ts t end its o b at is same = same ∙ ap (λ x. has_of x end) (sym is ∙ at) ∙ has_of-ended (slice_get ts t) end
 
-left-slot : (a b : Bool) (o : Option Done) → is_left_slot (slot_for a b o) ≡ (not a && not b)
-left-slot true b o = refl
-left-slot false true o = refl
-left-slot false false None = refl
-left-slot false false (Some done) = refl
+pub has-none : (ts : List HostTicket) (t : ℕ) (end : TicketEnd) (o : Option TicketEnd) → o ≡ end_at ts t → o ≡ None → false ≡ ticket_has ts t end
+has-none ts t end o at is = ap (λ x. has_of x end) (sym is ∙ at) ∙ has_of-ended (slice_get ts t) end
 
-pub counts-taken : (calls : ℕ) (s : Session) (state : State) → Holds s state → count_by is_taken_slot s.slots.items ≡ (counts_of calls state).taken
-unfolding slots_of counts_of
-counts-taken calls s state h = rw h.slots (count-table is_taken_slot (is_taken state) (slot_of state) 0 (tickets_of state) (λ u. taken-slot (contains state.taken u) (contains state.dropped u) (completion state.kernel.past u)))
+-- the ticket of a number, as it is read
+read-as : (ts : List HostTicket) (t : ℕ) (end : TicketEnd) (b : Bool) → t < length ts → ticket_has ts t end ≡ b → (x : HostTicket) × (has_end end (get_or ts t x) ≡ b)
+read-as [] t end b below is = absurd (omega arith)
+read-as (x ∷ xs) zero end b below is = (x, is)
+read-as (x ∷ xs) (suc t) end b below is = read-as xs t end b (omega arith) is
 
-pub counts-dropped : (calls : ℕ) (s : Session) (state : State) → Holds s state → count_by is_dropped_slot s.slots.items ≡ (counts_of calls state).dropped
-unfolding slots_of counts_of
-counts-dropped calls s state h = rw h.slots (count-table is_dropped_slot (is_dropped state) (slot_of state) 0 (tickets_of state) (λ u. dropped-slot (contains state.taken u) (contains state.dropped u) (completion state.kernel.past u)))
+-- one ticket more is counted
+pub count-yes : (ts : List HostTicket) (t : ℕ) (end : TicketEnd) (b : Bool) → t < length ts → b ≡ ticket_has ts t end → b ≡ true → count_by (has_end end) (take (t + 1) ts) ≡ count_by (has_end end) (take t ts) + 1
+count-yes ts t end b below is has =
+    let r = read-as ts t end true below (sym is ∙ has) in count_by_more_yes (has_end end) ts t r.0 below r.1
 
-pub counts-left : (calls : ℕ) (s : Session) (state : State) → Holds s state → count_by is_left_slot s.slots.items ≡ (counts_of calls state).reclaimed
-unfolding slots_of counts_of
-counts-left calls s state h = rw h.slots (count-table is_left_slot (is_reclaimed state) (slot_of state) 0 (tickets_of state) (λ u. left-slot (contains state.taken u) (contains state.dropped u) (completion state.kernel.past u)))
+pub count-no : (ts : List HostTicket) (t : ℕ) (end : TicketEnd) (b : Bool) → t < length ts → b ≡ ticket_has ts t end → b ≡ false → count_by (has_end end) (take (t + 1) ts) ≡ count_by (has_end end) (take t ts)
+count-no ts t end b below is lacks =
+    let r = read-as ts t end false below (sym is ∙ lacks) in count_by_more_no (has_end end) ts t r.0 below r.1
 
-pub counts-calls : (calls : ℕ) (state : State) → calls ≡ (counts_of calls state).calls
-unfolding counts_of
-counts-calls calls state = refl
+-- exactly one of three tests holds of each ticket
+one_of : (x : HostTicket) → cond (has_end Taken x) 1 0 + cond (has_end Dropped x) 1 0 + cond (is_left x) 1 0 ≡ 1
+one_of (Held hold) = refl
+one_of (Abandoned key) = refl
+one_of (Ended Taken) = refl
+one_of (Ended Dropped) = refl
+one_of (Ended Reclaimed) = refl
 
-pub counts-tickets : (calls : ℕ) (s : Session) (state : State) → Holds s state → length (tickets s.kernel.past) ≡ (counts_of calls state).tickets
-unfolding counts_of
-counts-tickets calls s state h = ap (λ (p : List Event). length (tickets p)) (past_is s state h)
-
--- exactly one of three tests holds of each
-three : (a b : ℕ → Bool) (ts : List ℕ) → count_by a ts + count_by (λ t. not (a t) && b t) ts + count_by (λ t. not (a t) && not (b t)) ts ≡ length ts
-three a b [] = refl
-three a b (t ∷ ts) =
-    let others = three a b ts in grind (arith, common_steps)
+parts : (ts : List HostTicket) → count_by (has_end Taken) ts + count_by (has_end Dropped) ts + count_by is_left ts ≡ length ts
+parts [] = refl
+parts (x ∷ ts) =
+    let others = parts ts in
+    omega (arith, one_of x, sum_by-cons (λ y. cond (has_end Taken y) 1 0) x ts, sum_by-cons (λ y. cond (has_end Dropped y) 1 0) x ts, sum_by-cons (λ y. cond (is_left y) 1 0) x ts)
 
 pub one_end_each : OneEndEach
 unfolding counts_of
-one_end_each calls state = three (contains state.taken) (contains state.dropped) (numbers (tickets_of state)) ∙ length-table_from (λ t. t) 0 (tickets_of state)
+one_end_each calls h = parts h.tickets
 
-pub same_counts : (x : Summary) (calls tickets taken dropped reclaimed : ℕ) → calls ≡ x.calls → tickets ≡ x.tickets → taken ≡ x.taken → dropped ≡ x.dropped → reclaimed ≡ x.reclaimed → record { calls = calls; tickets = tickets; taken = taken; dropped = dropped; reclaimed = reclaimed } ≡ x
-same_counts x calls tickets taken dropped reclaimed e a b c d = rw (e, a, b, c, d) refl
+-- the counts of taken and dropped tickets go into that of all
+pub counted-few : (ts : List HostTicket) (n taken dropped : ℕ) → n ≡ length ts → taken ≡ count_by (has_end Taken) ts → dropped ≡ count_by (has_end Dropped) ts → taken + dropped ≤ n
+counted-few ts n taken dropped all a b = let whole = parts ts in omega arith
+
+pub counts-are : (calls : ℕ) (h : HostState) (n taken dropped left : ℕ) → n ≡ length h.tickets → taken ≡ count_by (has_end Taken) h.tickets → dropped ≡ count_by (has_end Dropped) h.tickets → left ≡ n - taken - dropped → record { calls = calls; tickets = n; taken = taken; dropped = dropped; reclaimed = left } ≡ counts_of calls h
+unfolding counts_of
+counts-are calls h n taken dropped left all a b rest =
+    let whole = parts h.tickets in
+    let others : left ≡ count_by is_left h.tickets = omega arith in
+    rw (others, all, a, b) refl

@@ -1,39 +1,35 @@
 -- `claim`: an interface of an open device is claimed.
-use Rattle.std.specs.Prelude.{ℕ, not, ◌||◌, Bool, Result, Ok, Err, Option, Some, None, is_none}
-use Rattle.usb_kernel.specs.Claims.{claim_result, after_claim}
+use Rattle.std.specs.Prelude.{ℕ, not, ◌||◌, Bool, List, length, slice_get, Result, Ok, Err, Option, Some, None, is_none}
 use Rattle.usb_error.specs.ErrorState.{ErrorState}
-use Rattle.usb_error.specs.Errors.{claim_error}
-use Rattle.usb_answers.specs.declared.host.Open.{Open}
-use Rattle.usb_answers.specs.declared.host.Interface.{Interface}
-use Rattle.usb_answers.specs.HostState.{HostState}
+use Rattle.usb_device.specs.declared.opened.OpenDevice.{OpenDevice}
+use Rattle.usb_device.specs.InterfaceClaims.{claim_tried, host_claimed}
+use Rattle.usb_device.specs.HandleStates.{InterfaceState}
 use Rattle.usb_answers.specs.Names.{named, is_free, set_name}
 use Rattle.usb_answers.specs.State.{State, Given}
 
 -- it is barred where the device is not open, or the interface's name is in use
-abbrev pub claim_barred_by : HostState → ℕ → ℕ → Bool
-claim_barred_by host d i = is_none (named host.opens d) || not (is_free host.interfaces i)
-
 unfoldable pub claim_barred : State → ℕ → ℕ → Bool
-claim_barred state d i = claim_barred_by state.host d i
+claim_barred state d i = is_none (named state.devices d) || not (is_free state.interfaces i)
 
--- a fresh claim has the setting 0
-abbrev pub fresh_interface : ℕ → Open → ℕ → Interface
-fresh_interface d o number = record { opened = d; device = o.device; number = number; setting = 0 }
-
-abbrev pub claimed_as : State → ℕ → Open → ℕ → ℕ → Result Unit ℕ → Given (Option ErrorState)
-claimed_as state d o number i (Err errno) = record { state = state; value = Some (claim_error errno) }
-claimed_as state d o number i (Ok done) =
+-- a claim that is not refused gives the interface a handle
+abbrev pub claimed_as : State → ℕ → ℕ → ℕ → Result Unit ErrorState → Given (Option ErrorState)
+claimed_as state key number i (Err error) = record { state = state; value = Some error }
+claimed_as state key number i (Ok done) =
     record {
       state = record state {
-        kernel = record state.kernel { devices = after_claim state.kernel.devices o.device number };
-        host = record state.host { interfaces = set_name state.host.interfaces i (fresh_interface d o number) };
+        host = host_claimed state.host key number;
+        interfaces = set_name state.interfaces i (record { key = length state.host.interfaces; number = number });
       };
       value = None;
     }
 
-abbrev pub claimed_on : State → ℕ → ℕ → ℕ → Option Open → Given (Option ErrorState)
-claimed_on state d number i None = record { state = state; value = None }
-claimed_on state d number i (Some o) = claimed_as state d o number i (claim_result state.kernel.devices o.device number)
+abbrev pub claimed_by : State → ℕ → ℕ → ℕ → Option OpenDevice → Given (Option ErrorState)
+claimed_by state key number i None = record { state = state; value = None }
+claimed_by state key number i (Some o) = claimed_as state key number i (claim_tried state.host o number)
+
+abbrev pub claimed_on : State → ℕ → ℕ → Option ℕ → Given (Option ErrorState)
+claimed_on state number i None = record { state = state; value = None }
+claimed_on state number i (Some key) = claimed_by state key number i (slice_get state.host.devices key)
 
 unfoldable pub claimed : State → ℕ → ℕ → ℕ → Given (Option ErrorState)
-claimed state d number i = claimed_on state d number i (named state.host.opens d)
+claimed state d number i = claimed_on state number i (named state.devices d)

@@ -1,12 +1,15 @@
--- A line of steps: the kernel takes them in order.
-use Rattle.std.specs.Prelude.{List, [], ◌∷◌}
+-- The steps of a line: they are lent to the host, and those that are left when the call answers are applied right after it.
+use Rattle.std.specs.Prelude.{List}
 use Rattle.usb_kernel.specs.declared.step.KernelStep.{KernelStep}
-use Rattle.usb_kernel.specs.Steps.{stepped}
-use Rattle.usb_answers.specs.State.{State}
+use Rattle.usb_device.specs.HostTurns.{host_rest}
+use Rattle.usb_answers.specs.State.{State, with_host}
 
-unfoldable pub stepped_once : State → KernelStep → State
-stepped_once state s = record state { kernel = record state.kernel { past = stepped state.kernel.past s } }
+abbrev pub lent : State → List KernelStep → State
+lent state steps = with_host state (record state.host { steps = steps })
 
-abbrev pub stepped_all : State → List KernelStep → State
-stepped_all state [] = state
-stepped_all state (s ∷ ss) = stepped_all (stepped_once state s) ss
+abbrev pub rested : State → State
+rested state = with_host state (host_rest state.host)
+
+-- a line of steps, and the steps of a barred call: all are applied in order
+unfoldable pub stepped_all : State → List KernelStep → State
+stepped_all state steps = rested (lent state steps)

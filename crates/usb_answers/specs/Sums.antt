@@ -1,63 +1,50 @@
 -- The counts of a session.
-use Rattle.std.specs.Prelude.{ℕ, ◌+◌, ◌≡◌, not, ◌&&◌, Bool, true, false, List}
+use Rattle.std.specs.Prelude.{ℕ, ◌+◌, ◌≡◌, Bool, true, false, not, ◌&&◌, List, length, slice_get}
 use Rattle.std.specs.List.{count_by}
+use Rattle.std.specs.Option.{option_map_or}
 use Rattle.usb_script.specs.declared.item.Item.{Item}
 use Rattle.usb_script.specs.ItemKinds.{is_call}
-use Rattle.usb_answers.specs.declared.slots.Slot.{Slot}
-use Rattle.usb_answers.specs.declared.slots.Slot.TheVariants.{Waiting, Here, Taken, Dropped}
+use Rattle.usb_device.specs.declared.ends.TicketEnd.{TicketEnd}
+use Rattle.usb_device.specs.declared.ends.TicketEnd.TheVariants.{Taken, Dropped, Reclaimed}
+use Rattle.usb_device.specs.HostState.{HostState, HostTicket, Held, Abandoned, Ended}
 use Rattle.usb_answers.specs.declared.summary.Summary.{Summary}
-use Rattle.usb_answers.specs.Slots.{contains, table_from}
-use Rattle.usb_answers.specs.State.{State, tickets_of}
-use Rattle.usb_answers.specs.Output.{final_state}
+use Rattle.usb_answers.specs.Output.{final_host}
 
-abbrev pub is_taken : State → ℕ → Bool
-is_taken state t = contains state.taken t
+abbrev pub is_same_end : TicketEnd → TicketEnd → Bool
+is_same_end Taken Taken = true
+is_same_end Dropped Dropped = true
+is_same_end Reclaimed Reclaimed = true
+is_same_end a b = false
 
-abbrev pub is_dropped : State → ℕ → Bool
-is_dropped state t = not (contains state.taken t) && contains state.dropped t
+-- whether a ticket has this end
+abbrev pub has_end : TicketEnd → HostTicket → Bool
+has_end end (Held hold) = false
+has_end end (Abandoned key) = false
+has_end end (Ended its) = is_same_end its end
 
--- each ticket that was neither taken nor dropped
-abbrev pub is_reclaimed : State → ℕ → Bool
-is_reclaimed state t = not (contains state.taken t) && not (contains state.dropped t)
+-- whether the ticket of a number has this end
+abbrev pub ticket_has : List HostTicket → ℕ → TicketEnd → Bool
+ticket_has tickets t end = option_map_or (has_end end) (slice_get tickets t) false
 
--- the numbers of the tickets
-abbrev pub numbers : ℕ → List ℕ
-numbers n = table_from 0 n (λ t. t)
+-- whether a ticket was neither taken nor dropped
+abbrev pub is_left : HostTicket → Bool
+is_left ticket = not (has_end Taken ticket) && not (has_end Dropped ticket)
 
--- so many calls, the tickets of a state, and how many of them were taken, dropped and reclaimed
-unfoldable pub counts_of : ℕ → State → Summary
-counts_of calls state =
+-- so many calls, the tickets of a host, how many of them were taken, how many were dropped, and all others, which are reclaimed
+unfoldable pub counts_of : ℕ → HostState → Summary
+counts_of calls h =
     record {
       calls = calls;
-      tickets = tickets_of state;
-      taken = count_by (is_taken state) (numbers (tickets_of state));
-      dropped = count_by (is_dropped state) (numbers (tickets_of state));
-      reclaimed = count_by (is_reclaimed state) (numbers (tickets_of state));
+      tickets = length h.tickets;
+      taken = count_by (has_end Taken) h.tickets;
+      dropped = count_by (has_end Dropped) h.tickets;
+      reclaimed = count_by is_left h.tickets;
     }
 
--- what a script comes to: its call lines are counted, and the tickets of the last state
+-- what a script comes to: its call lines are counted, and the tickets of the host at its end
 abbrev pub sum_of : List Item → Summary
-sum_of items = counts_of (count_by is_call items) (final_state items)
+sum_of items = counts_of (count_by is_call items) (final_host items)
 
 -- each ticket has one end
 abbrev pub OneEndEach : Type 0
-OneEndEach = (calls : ℕ) (state : State) → (counts_of calls state).taken + (counts_of calls state).dropped + (counts_of calls state).reclaimed ≡ (counts_of calls state).tickets
-
--- the same, as the slots tell it
-abbrev pub is_taken_slot : Slot → Bool
-is_taken_slot Waiting = false
-is_taken_slot (Here done) = false
-is_taken_slot Taken = true
-is_taken_slot Dropped = false
-
-abbrev pub is_dropped_slot : Slot → Bool
-is_dropped_slot Waiting = false
-is_dropped_slot (Here done) = false
-is_dropped_slot Taken = false
-is_dropped_slot Dropped = true
-
-abbrev pub is_left_slot : Slot → Bool
-is_left_slot Waiting = true
-is_left_slot (Here done) = true
-is_left_slot Taken = false
-is_left_slot Dropped = false
+OneEndEach = (calls : ℕ) (h : HostState) → (counts_of calls h).taken + (counts_of calls h).dropped + (counts_of calls h).reclaimed ≡ (counts_of calls h).tickets

@@ -3,22 +3,32 @@
 ghost use Rattle.std.specs.Prelude.{◌≡◌, ◌≤◌, ◌+◌, IfOk, OnOk, string_bytes, length};
 ghost use Rattle.std.specs.List.{All};
 ghost use Rattle.usb_script.specs.ItemKinds.{steps_in};
-ghost use Rattle.usb_script.specs.ItemRanges.{IsInRange, IsStepInRange};
+ghost use Rattle.usb_script.specs.ItemRanges.{IsInRange, IsStepInRange, IsOpenable};
 ghost use Rattle.usb_answers.specs.State.{State};
-ghost use Rattle.usb_answers.specs.Answers.{Answered, open_answer, claim_answer, endpoint_answer, submit_answer, poll_answer, steps_answer, answer};
+ghost use Rattle.usb_answers.specs.Buffers.{in_buffer, out_buffer};
+ghost use Rattle.usb_answers.specs.Answered.{Answered};
+ghost use Rattle.usb_answers.specs.Steps.{stepped_all};
+ghost use Rattle.usb_answers.specs.Answers.{now_answer, open_answer, claim_answer, endpoint_answer, submit_answer, pending_answer, poll_answer, wait_answer, transfer_answer, cancel_answer, close_answer, steps_answer, barred};
 ghost use Rattle.usb_answers.specs.Relation.{Represents};
 
-use crate::claiming::claim_is_barred;
-use crate::endpoints::endpoint_is_barred;
+use crate::buffers::{in_buffer, out_buffer};
 use crate::session::Session;
 use std::alloc::Global;
 use usb_desc::{Direction, NoMemory, TransferType};
 use usb_kernel::KernelStep;
-use usb_lines::{condition_line, polled_line, tried_line};
+use usb_lines::{condition_line, count_line, now_line, polled_line, tried_line, waited_line};
 use usb_script::Item;
+use usb_xfer::Buffer;
 
 impl Session {
-    fn open_line(
+    pub(crate) fn now_line(&self, alloc: Global) -> Result<String, NoMemory>
+        ensures answered { IfOk result (λ line. (state : State) → Represents self.now state → Answered self.now (string_bytes line) (now_answer state)) }
+    {
+        let line = now_line(alloc, self.host.kernel().now())?;
+        Ok(line)
+    }
+
+    pub(crate) fn open_line(
         &mut self,
         alloc: Global,
         name: u8,
@@ -26,9 +36,9 @@ impl Session {
         address: u8,
     ) -> Result<String, NoMemory>
         ensures answered { IfOk result (λ line. (state : State) → Represents self.old state → Answered self.new (string_bytes line) (open_answer state name bus address)) }
-        ensures spare { self.new.kernel.spare ≡ self.old.kernel.spare }
+        ensures spare { self.new.host.kernel.spare ≡ self.old.host.kernel.spare }
     {
-        if !self.host.is_open_free(name) {
+        if self.open_is_barred(name) {
             let line = condition_line(alloc)?;
             return Ok(line);
         }
@@ -37,7 +47,7 @@ impl Session {
         Ok(line)
     }
 
-    fn claim_line(
+    pub(crate) fn claim_line(
         &mut self,
         alloc: Global,
         opened: u8,
@@ -45,9 +55,9 @@ impl Session {
         name: u8,
     ) -> Result<String, NoMemory>
         ensures answered { IfOk result (λ line. (state : State) → Represents self.old state → Answered self.new (string_bytes line) (claim_answer state opened number name)) }
-        ensures spare { self.new.kernel.spare ≡ self.old.kernel.spare }
+        ensures spare { self.new.host.kernel.spare ≡ self.old.host.kernel.spare }
     {
-        if claim_is_barred(&self.host, opened, name) {
+        if self.claim_is_barred(opened, name) {
             let line = condition_line(alloc)?;
             return Ok(line);
         }
@@ -56,7 +66,7 @@ impl Session {
         Ok(line)
     }
 
-    fn endpoint_line(
+    pub(crate) fn endpoint_line(
         &mut self,
         alloc: Global,
         name: u8,
@@ -65,96 +75,226 @@ impl Session {
         kind: TransferType,
         direction: Direction,
     ) -> Result<String, NoMemory>
+        requires openable { IsOpenable kind }
         ensures answered { IfOk result (λ line. (state : State) → Represents self.old state → Answered self.new (string_bytes line) (endpoint_answer state name interface address kind direction)) }
-        ensures spare { self.new.kernel.spare ≡ self.old.kernel.spare }
+        ensures spare { self.new.host.kernel.spare ≡ self.old.host.kernel.spare }
     {
-        if endpoint_is_barred(&self.endpoints, &self.host, name, interface) {
+        if self.endpoint_is_barred(name, interface) {
             let line = condition_line(alloc)?;
             return Ok(line);
         }
-        let tried = self.open_endpoint(alloc, name, interface, address, kind, direction);
+        let tried = self.open_endpoint(name, interface, address, kind, direction);
         let line = tried_line(alloc, &tried)?;
         Ok(line)
     }
 
-    fn submit_line(&mut self, alloc: Global, endpoint: u8, len: u32) -> Result<String, NoMemory>
-        requires small { len ≤ 65536 }
-        ensures answered { IfOk result (λ line. (state : State) → Represents self.old state → Answered self.new (string_bytes line) (submit_answer state endpoint len)) }
-        ensures spare { OnOk result (self.new.kernel.spare ≡ self.old.kernel.spare) }
+    pub(crate) fn submit_line(
+        &mut self,
+        alloc: Global,
+        direction: Direction,
+        endpoint: u8,
+        buffer: Buffer,
+    ) -> Result<String, NoMemory>
+        ensures answered { IfOk result (λ line. (state : State) → Represents self.old state → Answered self.new (string_bytes line) (submit_answer state direction endpoint buffer)) }
+        ensures spare { self.new.host.kernel.spare ≡ self.old.host.kernel.spare }
     {
-        if self.submit_is_barred(endpoint) {
+        if self.submit_is_barred(direction, endpoint) {
             let line = condition_line(alloc)?;
             return Ok(line);
         }
-        self.submit(alloc, endpoint, len)?;
+        self.submit(endpoint, buffer)?;
         let line = tried_line(alloc, &Ok(()))?;
         Ok(line)
     }
 
-    fn poll_line(&mut self, alloc: Global, endpoint: u8) -> Result<String, NoMemory>
+    pub(crate) fn submit_in_line(
+        &mut self,
+        alloc: Global,
+        endpoint: u8,
+        len: u32,
+    ) -> Result<String, NoMemory>
+        requires small { len ≤ 65536 }
+        ensures answered { IfOk result (λ line. (state : State) → Represents self.old state → Answered self.new (string_bytes line) (submit_answer state Direction.In endpoint (in_buffer len))) }
+        ensures spare { self.new.host.kernel.spare ≡ self.old.host.kernel.spare }
+    {
+        let buffer = in_buffer(alloc, len)?;
+        let line = self.submit_line(alloc, Direction::In, endpoint, buffer)?;
+        Ok(line)
+    }
+
+    pub(crate) fn submit_out_line(
+        &mut self,
+        alloc: Global,
+        endpoint: u8,
+        bytes: &[u8],
+    ) -> Result<String, NoMemory>
+        requires small { length bytes.now ≤ 65536 }
+        ensures answered { IfOk result (λ line. (state : State) → Represents self.old state → Answered self.new (string_bytes line) (submit_answer state Direction.Out endpoint (out_buffer bytes.now))) }
+        ensures spare { self.new.host.kernel.spare ≡ self.old.host.kernel.spare }
+    {
+        let buffer = out_buffer(alloc, bytes)?;
+        let line = self.submit_line(alloc, Direction::Out, endpoint, buffer)?;
+        Ok(line)
+    }
+
+    pub(crate) fn pending_line(&self, alloc: Global, endpoint: u8) -> Result<String, NoMemory>
+        ensures answered { IfOk result (λ line. (state : State) → Represents self.now state → Answered self.now (string_bytes line) (pending_answer state endpoint)) }
+    {
+        let Some(count) = self.pending(endpoint) else {
+            let line = condition_line(alloc)?;
+            return Ok(line);
+        };
+        let line = count_line(alloc, count)?;
+        Ok(line)
+    }
+
+    pub(crate) fn poll_line(&mut self, alloc: Global, endpoint: u8) -> Result<String, NoMemory>
         ensures answered { IfOk result (λ line. (state : State) → Represents self.old state → Answered self.new (string_bytes line) (poll_answer state endpoint)) }
-        ensures spare { self.new.kernel.spare ≡ self.old.kernel.spare }
+        ensures spare { self.new.host.kernel.spare ≡ self.old.host.kernel.spare }
     {
         if self.poll_is_barred(endpoint) {
             let line = condition_line(alloc)?;
             return Ok(line);
         }
-        let done = self.take_front(endpoint);
-        match polled_line(alloc, &done) {
-            Ok(line) => Ok(line),
-            Err(_) => Err(NoMemory),
-        }
+        let done = self.poll(endpoint);
+        let line = polled_line(alloc, &done)?;
+        Ok(line)
     }
 
-    fn steps_line(&mut self, alloc: Global, steps: &[KernelStep]) -> Result<String, NoMemory>
-        requires spare { length steps.now ≤ self.old.kernel.spare }
+    pub(crate) fn barred_line(
+        &mut self,
+        alloc: Global,
+        steps: &[KernelStep],
+    ) -> Result<String, NoMemory>
+        requires spare { length steps.now ≤ self.old.host.kernel.spare }
+        requires in_range { All IsStepInRange steps.now }
+        ensures answered { IfOk result (λ line. (state : State) → Represents self.old state → Answered self.new (string_bytes line) (barred (stepped_all state steps.now))) }
+        ensures spare { OnOk result (self.new.host.kernel.spare + length steps.now ≡ self.old.host.kernel.spare) }
+    {
+        self.step_all(alloc, steps)?;
+        let line = condition_line(alloc)?;
+        Ok(line)
+    }
+
+    pub(crate) fn wait_line(
+        &mut self,
+        alloc: Global,
+        endpoint: u8,
+        timeout: u64,
+        steps: &[KernelStep],
+    ) -> Result<String, NoMemory>
+        requires spare { length steps.now ≤ self.old.host.kernel.spare }
+        requires in_range { All IsStepInRange steps.now }
+        ensures answered { IfOk result (λ line. (state : State) → Represents self.old state → Answered self.new (string_bytes line) (wait_answer state endpoint timeout steps.now)) }
+        ensures spare { OnOk result (self.new.host.kernel.spare + length steps.now ≡ self.old.host.kernel.spare) }
+    {
+        if self.poll_is_barred(endpoint) {
+            let line = self.barred_line(alloc, steps)?;
+            return Ok(line);
+        }
+        let done = self.wait(alloc, endpoint, timeout, steps)?;
+        let line = waited_line(alloc, &done)?;
+        Ok(line)
+    }
+
+    pub(crate) fn transfer_line(
+        &mut self,
+        alloc: Global,
+        direction: Direction,
+        endpoint: u8,
+        buffer: Buffer,
+        timeout: u64,
+        steps: &[KernelStep],
+    ) -> Result<String, NoMemory>
+        requires spare { length steps.now ≤ self.old.host.kernel.spare }
+        requires in_range { All IsStepInRange steps.now }
+        ensures answered { IfOk result (λ line. (state : State) → Represents self.old state → Answered self.new (string_bytes line) (transfer_answer state direction endpoint buffer timeout steps.now)) }
+        ensures spare { OnOk result (self.new.host.kernel.spare + length steps.now ≡ self.old.host.kernel.spare) }
+    {
+        if self.transfer_is_barred(direction, endpoint) {
+            let line = self.barred_line(alloc, steps)?;
+            return Ok(line);
+        }
+        let completion = self.transfer(alloc, endpoint, buffer, timeout, steps)?;
+        let line = waited_line(alloc, &Some(completion))?;
+        Ok(line)
+    }
+
+    pub(crate) fn transfer_in_line(
+        &mut self,
+        alloc: Global,
+        endpoint: u8,
+        len: u32,
+        timeout: u64,
+        steps: &[KernelStep],
+    ) -> Result<String, NoMemory>
+        requires small { len ≤ 65536 }
+        requires spare { length steps.now ≤ self.old.host.kernel.spare }
+        requires in_range { All IsStepInRange steps.now }
+        ensures answered { IfOk result (λ line. (state : State) → Represents self.old state → Answered self.new (string_bytes line) (transfer_answer state Direction.In endpoint (in_buffer len) timeout steps.now)) }
+        ensures spare { OnOk result (self.new.host.kernel.spare + length steps.now ≡ self.old.host.kernel.spare) }
+    {
+        let buffer = in_buffer(alloc, len)?;
+        let line = self.transfer_line(alloc, Direction::In, endpoint, buffer, timeout, steps)?;
+        Ok(line)
+    }
+
+    pub(crate) fn transfer_out_line(
+        &mut self,
+        alloc: Global,
+        endpoint: u8,
+        bytes: &[u8],
+        timeout: u64,
+        steps: &[KernelStep],
+    ) -> Result<String, NoMemory>
+        requires small { length bytes.now ≤ 65536 }
+        requires spare { length steps.now ≤ self.old.host.kernel.spare }
+        requires in_range { All IsStepInRange steps.now }
+        ensures answered { IfOk result (λ line. (state : State) → Represents self.old state → Answered self.new (string_bytes line) (transfer_answer state Direction.Out endpoint (out_buffer bytes.now) timeout steps.now)) }
+        ensures spare { OnOk result (self.new.host.kernel.spare + length steps.now ≡ self.old.host.kernel.spare) }
+    {
+        let buffer = out_buffer(alloc, bytes)?;
+        let line = self.transfer_line(alloc, Direction::Out, endpoint, buffer, timeout, steps)?;
+        Ok(line)
+    }
+
+    pub(crate) fn cancel_line(&mut self, alloc: Global, endpoint: u8) -> Result<String, NoMemory>
+        ensures answered { IfOk result (λ line. (state : State) → Represents self.old state → Answered self.new (string_bytes line) (cancel_answer state endpoint)) }
+        ensures spare { self.new.host.kernel.spare ≡ self.old.host.kernel.spare }
+    {
+        if self.is_not_open(endpoint) {
+            let line = condition_line(alloc)?;
+            return Ok(line);
+        }
+        self.cancel(endpoint);
+        let line = tried_line(alloc, &Ok(()))?;
+        Ok(line)
+    }
+
+    pub(crate) fn close_line(&mut self, alloc: Global, endpoint: u8) -> Result<String, NoMemory>
+        ensures answered { IfOk result (λ line. (state : State) → Represents self.old state → Answered self.new (string_bytes line) (close_answer state endpoint)) }
+        ensures spare { self.new.host.kernel.spare ≡ self.old.host.kernel.spare }
+    {
+        if self.is_not_open(endpoint) {
+            let line = condition_line(alloc)?;
+            return Ok(line);
+        }
+        self.close(endpoint);
+        let line = tried_line(alloc, &Ok(()))?;
+        Ok(line)
+    }
+
+    pub(crate) fn steps_line(
+        &mut self,
+        alloc: Global,
+        steps: &[KernelStep],
+    ) -> Result<String, NoMemory>
+        requires spare { length steps.now ≤ self.old.host.kernel.spare }
         requires in_range { All IsStepInRange steps.now }
         ensures answered { IfOk result (λ line. (state : State) → Represents self.old state → Answered self.new (string_bytes line) (steps_answer state steps.now)) }
-        ensures spare { OnOk result (self.new.kernel.spare + length steps.now ≡ self.old.kernel.spare) }
+        ensures spare { OnOk result (self.new.host.kernel.spare + length steps.now ≡ self.old.host.kernel.spare) }
     {
         self.step_all(alloc, steps)?;
         Ok(String::new(alloc))
-    }
-
-    /// The line that answers an item of a script, with its LF. It is empty where the item has no answer.
-    #[tactic(auto, unfolding(crate::specs::Answers::answer))]
-    pub fn answer(&mut self, alloc: Global, item: &Item) -> Result<String, NoMemory>
-        requires in_range { IsInRange item.now }
-        requires spare { steps_in item.now ≤ self.old.kernel.spare }
-        ensures answered { IfOk result (λ line. (state : State) → Represents self.old state → Answered self.new (string_bytes line) (answer state item.now)) }
-        ensures spare { OnOk result (self.new.kernel.spare + steps_in item.now ≡ self.old.kernel.spare) }
-    {
-        match item {
-            Item::Device { .. } => Ok(String::new(alloc)),
-            Item::Open {
-                device,
-                bus,
-                address,
-            } => self.open_line(alloc, *device, *bus, *address),
-            Item::DeviceDescriptor { device } => self.device_descriptor_line(alloc, *device),
-            Item::Descriptors { device } => self.descriptors_line(alloc, *device),
-            Item::Claim {
-                device,
-                number,
-                interface,
-            } => self.claim_line(alloc, *device, *number, *interface),
-            Item::Endpoint {
-                endpoint,
-                interface,
-                address,
-                transfer_type,
-                direction,
-            } => self.endpoint_line(
-                alloc,
-                *endpoint,
-                *interface,
-                *address,
-                *transfer_type,
-                *direction,
-            ),
-            Item::SubmitIn { endpoint, length } => self.submit_line(alloc, *endpoint, *length),
-            Item::Poll { endpoint } => self.poll_line(alloc, *endpoint),
-            Item::Steps(steps) => self.steps_line(alloc, steps.as_slice()),
-        }
     }
 }

@@ -1,10 +1,12 @@
 //! `devdesc` and `descriptors`: what an open device told of itself.
 
-ghost use Rattle.std.specs.Prelude.{IfOk, string_bytes};
+ghost use Rattle.std.specs.Prelude.{◌≡◌, IfOk, string_bytes};
 ghost use Rattle.usb_answers.specs.State.{State};
-ghost use Rattle.usb_answers.specs.Answers.{Answered, device_descriptor_answer, descriptors_answer};
+ghost use Rattle.usb_answers.specs.Answered.{Answered};
+ghost use Rattle.usb_answers.specs.Answers.{device_descriptor_answer, descriptors_answer};
 ghost use Rattle.usb_answers.specs.Relation.{Represents};
 
+use crate::names::open_at;
 use crate::session::Session;
 use std::alloc::Global;
 use usb_desc::NoMemory;
@@ -15,11 +17,11 @@ impl Session {
     pub fn device_descriptor_line(&self, alloc: Global, name: u8) -> Result<String, NoMemory>
         ensures answered { IfOk result (λ line. (state : State) → Represents self.now state → Answered self.now (string_bytes line) (device_descriptor_answer state name)) }
     {
-        let Some(opened) = self.host.opened(name) else {
+        let Some(device) = open_at(&self.devices, name) else {
             let line = condition_line(alloc)?;
             return Ok(line);
         };
-        let line = device_line(alloc, &opened.device_descriptor)?;
+        let line = device_line(alloc, device.device_descriptor(&self.host))?;
         Ok(line)
     }
 
@@ -27,11 +29,11 @@ impl Session {
     pub fn descriptors_line(&self, alloc: Global, name: u8) -> Result<String, NoMemory>
         ensures answered { IfOk result (λ line. (state : State) → Represents self.now state → Answered self.now (string_bytes line) (descriptors_answer state name)) }
     {
-        let Some(opened) = self.host.opened(name) else {
+        let Some(device) = open_at(&self.devices, name) else {
             let line = condition_line(alloc)?;
             return Ok(line);
         };
-        let line = descriptors_line(alloc, opened.descriptors.as_slice())?;
+        let line = descriptors_line(alloc, device.descriptors(&self.host))?;
         Ok(line)
     }
 }

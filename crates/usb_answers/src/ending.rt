@@ -1,85 +1,81 @@
 //! The end of a session.
 
-ghost use Rattle.std.specs.Prelude.{◌≡◌, ◌≤◌, ◌+◌, length, reverse};
+ghost use Rattle.std.specs.Prelude.{◌≡◌, ◌<◌, ℕ, Some, None};
+ghost use Rattle.usb_device.specs.HandleStates.{StandsDevice};
 ghost use Rattle.usb_answers.specs.State.{State};
-ghost use Rattle.usb_answers.specs.Ends.{close_ticket, close_tickets, close_endpoint, close_all, discard, discard_all, reap, reap_all, ended};
-ghost use Rattle.usb_answers.specs.Relation.{Holds};
+ghost use Rattle.usb_answers.specs.Names.{named, freed};
+ghost use Rattle.usb_answers.specs.Ends.{endpoints_closed, interface_closed, interfaces_closed, ended};
+ghost use Rattle.usb_answers.specs.Relation.{Represents};
 
-use crate::handles::take_handle;
-use crate::queue::Queue;
+use crate::names::{drop_names, take_at};
 use crate::session::Session;
-use crate::slots::{drop_slot, put_slot};
+use usb_device::{Device, Host};
+
+/// Closes devices. The kernel knows nothing of it.
+fn close_devices(devices: Vec<Option<Device>>, host: &mut Host)
+    requires stand { (d key : ℕ) → named devices.items d ≡ Some key → StandsDevice host.old key }
+    ensures host { host.new ≡ host.old }
+{
+    let mut devices = devices;
+    'places: while let Some(place) = devices.pop() {
+        if let Some(device) = place {
+            device.close(host);
+        }
+    }
+    devices.destroy_empty();
+}
 
 impl Session {
-    fn close_ticket(&mut self, ticket: u64)
-        ensures holds { (state : State) → Holds self.old state → Holds self.new (close_ticket state ticket) }
+    /// Closes what is open under a name of an interface, if anything is.
+    fn close_interface(&mut self, name: u8)
+        ensures stands { (state : State) → Represents self.old state → Represents self.new (interface_closed state name) }
+        ensures freed { self.new.interfaces ≡ freed self.old.interfaces name }
+        ensures endpoints { self.new.endpoints ≡ self.old.endpoints }
     {
-        drop_slot(&mut self.slots, ticket);
-        self.kernel.discard(ticket);
-    }
-
-    fn close_queue(&mut self, queue: Queue)
-        ensures holds { (state : State) → Holds self.old state → Holds self.new (close_tickets state (reverse queue)) }
-    {
-        let mut queue = queue;
-        while let Some(ticket) = queue.pop_back() {
-            self.close_ticket(ticket);
+        if let Some(interface) = take_at(&mut self.interfaces, name) {
+            interface.close(&mut self.host);
         }
     }
 
-    fn close_endpoint(&mut self, endpoint: u8)
-        ensures holds { (state : State) → Holds self.old state → Holds self.new (close_endpoint state endpoint) }
+    /// Closes the endpoints by number.
+    fn close_endpoints(&mut self)
+        ensures stands { (state : State) → Represents self.old state → Represents self.new (endpoints_closed state 64) }
+        ensures none { (e : ℕ) → e < 64 → named self.new.endpoints e ≡ None }
     {
-        if let Some(handle) = take_handle(&mut self.endpoints, endpoint) {
-            self.close_queue(handle.queue);
+        for name in 0..64 {
+            self.close(name);
         }
     }
 
-    fn close_all(&mut self)
-        ensures holds { (state : State) → Holds self.old state → Holds self.new (close_all state) }
+    /// Closes the interfaces by number.
+    fn close_interfaces(&mut self)
+        ensures stands { (state : State) → Represents self.old state → Represents self.new (interfaces_closed state 64) }
+        ensures none { (i : ℕ) → i < 64 → named self.new.interfaces i ≡ None }
+        ensures endpoints { self.new.endpoints ≡ self.old.endpoints }
     {
-        for endpoint in 0..64 {
-            self.close_endpoint(endpoint);
+        for name in 0..64 {
+            self.close_interface(name);
         }
     }
 
-    fn discard(&mut self, ticket: u64)
-        ensures holds { (state : State) → Holds self.old state → Holds self.new (discard state ticket) }
+    /// Closes what is open, endpoints by number, then interfaces by number, and then devices; and gives the host, at which all
+    /// tickets are discarded and then reaped, by number.
+    pub fn end(self) -> Host
+        ensures host { (state : State) → Represents self state → result ≡ ended state }
     {
-        self.kernel.discard(ticket);
-    }
-
-    fn discard_all(&mut self)
-        ensures holds { (state : State) → Holds self.old state → Holds self.new (discard_all state) }
-    {
-        for ticket in 0..self.kernel.tickets() {
-            self.discard(ticket);
-        }
-    }
-
-    fn reap(&mut self, ticket: u64)
-        ensures holds { (state : State) → Holds self.old state → Holds self.new (reap state ticket) }
-    {
-        if let Some(done) = self.kernel.reap(ticket) {
-            put_slot(&mut self.slots, done);
-        }
-    }
-
-    fn reap_all(&mut self)
-        ensures holds { (state : State) → Holds self.old state → Holds self.new (reap_all state) }
-    {
-        for ticket in 0..self.kernel.tickets() {
-            self.reap(ticket);
-        }
-    }
-
-    /// Closes what is open, by number and from the last pending ticket to the first, then discards what is unfinished and
-    /// reaps everything, by number.
-    pub fn end(&mut self)
-        ensures holds { (state : State) → Holds self.old state → Holds self.new (ended state) }
-    {
-        self.close_all();
-        self.discard_all();
-        self.reap_all();
+        let mut session = self;
+        session.close_endpoints();
+        session.close_interfaces();
+        let Session {
+            mut host,
+            devices,
+            interfaces,
+            endpoints,
+        } = session;
+        drop_names(endpoints);
+        drop_names(interfaces);
+        close_devices(devices, &mut host);
+        host.finish();
+        host
     }
 }

@@ -1,146 +1,98 @@
 //! `endpoint`: an endpoint of a claimed interface is opened.
 
-ghost use Rattle.std.specs.Prelude.{◌≡◌, Ok, Err};
-ghost use Rattle.std.specs.Option.{option_copied};
-ghost use Rattle.std.specs.List.{list_any};
+ghost use Rattle.std.specs.Prelude.{◌≡◌, ◌||◌, not, is_none, false, slice_get, length, IfOk, OnOk, OnErr};
+ghost use Rattle.std.specs.Option.{ForSome};
+ghost use Rattle.usb_endpoint.specs.EndpointState.{EndpointState};
+ghost use Rattle.usb_endpoint.specs.Handles.{Stands, KeepsOthers};
+ghost use Rattle.usb_endpoint.specs.AnyEndpoints.{state_of};
+ghost use Rattle.usb_device.specs.HostBus.{bus_of};
+ghost use Rattle.usb_device.specs.HandleStates.{StandsInterface};
+ghost use Rattle.usb_device.specs.EndpointOpens.{host_asked, host_tries, with_endpoint, fresh_endpoint};
+ghost use Rattle.usb_device.specs.Tried.{Tried, mapped};
+ghost use Rattle.usb_script.specs.ItemRanges.{IsOpenable};
 ghost use Rattle.usb_answers.specs.State.{State};
-ghost use Rattle.usb_answers.specs.HostState.{HostState};
-ghost use Rattle.usb_answers.specs.Names.{named};
-ghost use Rattle.usb_answers.specs.Endpoints.{active_value, endpoint_in, endpoint_tried, endpoint_barred_by, endpoint_opened, is_used, uses_bit, shares_bit};
+ghost use Rattle.usb_answers.specs.Names.{named, is_free};
+ghost use Rattle.usb_answers.specs.Endpoints.{endpoint_opened};
+ghost use Rattle.usb_answers.specs.AnyOpened.{maximum_of};
 ghost use Rattle.usb_answers.specs.Relation.{Represents, Tries};
 
-use crate::handles::Handle;
-use crate::host::{Host, Interface, Open};
-use crate::names::{is_free, set_at};
-use crate::queue::Queue;
+use crate::names::{is_free, open_at, put_at};
 use crate::session::Session;
-use std::alloc::Global;
-use usb_desc::{Direction, EndpointDescriptor, Fail, TransferType, find_configuration};
+use usb_desc::{Direction, Fail, TransferType};
+use usb_device::{Host, Interface};
+use usb_endpoint::AnyEndpoint;
 use usb_error::Error;
-use usb_kernel::Kernel;
 
-fn shares_bit(a: u8, b: u8) -> bool
-    ensures shared { result ≡ shares_bit a b }
-{
-    a % 16 == b % 16 && a / 128 == b / 128
-}
-
-fn uses_bit(place: &Option<Handle>, interface: u8, address: u8) -> bool
-    ensures used { result ≡ uses_bit interface address place.now }
-{
-    match place {
-        Some(handle) => handle.owner == interface && shares_bit(handle.address, address),
-        None => false,
-    }
-}
-
-/// Whether an open endpoint of the interface has the address's bit.
-#[tactic(auto, unfolding(crate::specs::Endpoints::is_used))]
-fn is_used(handles: &[Option<Handle>], interface: u8, address: u8) -> bool
-    ensures used { result ≡ is_used handles.now interface address }
-{
-    handles
-        .iter()
-        .any(|place| uses_bit(place, interface, address))
-}
-
-/// Whether an opening is barred: the endpoint's name is in use, or the interface isn't claimed.
-pub fn endpoint_is_barred(handles: &[Option<Handle>], host: &Host, name: u8, interface: u8) -> bool
-    ensures barred { result ≡ endpoint_barred_by handles.now host.now name interface }
-{
-    !is_free(handles, name) || host.interface(interface).is_none()
-}
-
-/// The value of the active configuration: the kernel's, or where the kernel refuses the one that the open device keeps.
-fn active_value(kernel: &mut Kernel, opened: &Open) -> u8
-    ensures value { result ≡ active_value kernel.old.devices opened.now }
-    ensures kernel { kernel.new ≡ kernel.old }
-{
-    match kernel.configuration(opened.device) {
-        Ok(value) => value,
-        Err(_) => opened.configuration,
-    }
-}
-
-/// The descriptor of an endpoint of an interface in its current setting.
-fn endpoint_in<'a>(
-    kernel: &mut Kernel,
-    interface: Interface,
-    address: u8,
-    opened: Option<&'a Open>,
-) -> Option<EndpointDescriptor<'a>>
-    ensures value { result ≡ endpoint_in kernel.old.devices interface address (option_copied opened.entry) }
-    ensures kernel { kernel.new ≡ kernel.old }
-{
-    let opened = opened?;
-    let value = active_value(kernel, opened);
-    let configuration = find_configuration(opened.descriptors.as_slice(), value)?;
-    let setting = configuration.find_alt_setting(interface.number, interface.setting)?;
-    setting.find_endpoint(address)
-}
-
-/// The maximum packet size of an endpoint that may be opened, or why it may not.
-fn maximum_of(
-    found: Option<EndpointDescriptor<'_>>,
+/// Opens an endpoint of an interface, of any type and direction that there is.
+fn open_any(
+    host: &mut Host,
+    interface: &Interface,
     address: u8,
     kind: TransferType,
     direction: Direction,
-    is_used: bool,
-) -> Result<usize, Error>
-    ensures tried { result ≡ endpoint_tried found.entry address kind direction is_used }
+) -> Result<AnyEndpoint, Fail<Error>>
+    requires stands { StandsInterface host.old interface.now }
+    requires openable { IsOpenable kind }
+    ensures tried { ForSome (slice_get host.old.interfaces interface.now.key) (λ c. Tried (mapped maximum_of result) (host_tries (host_asked host.old c.opened) interface.now.key c address kind direction)) }
+    ensures endpoint { ForSome (slice_get host.old.interfaces interface.now.key) (λ c. IfOk result (λ e. state_of e ≡ fresh_endpoint c address kind (maximum_of e) (length host.old.endpoints))) }
+    ensures ok { ForSome (slice_get host.old.interfaces interface.now.key) (λ c. OnOk result (host.new ≡ with_endpoint (host_asked host.old c.opened) interface.now.key address)) }
+    ensures err { ForSome (slice_get host.old.interfaces interface.now.key) (λ c. OnErr result (host.new ≡ host_asked host.old c.opened)) }
+    ensures stands { IfOk result (λ e. Stands (bus_of host.new) (state_of e)) }
+    ensures others { IfOk result (λ e. KeepsOthers (bus_of host.old) (bus_of host.new) (state_of e).key) }
 {
-    let Some(endpoint) = found else {
-        return Err(Error::no_endpoint());
-    };
-    if Direction::from_address(address) != direction {
-        return Err(Error::wrong_direction());
+    match (kind, direction) {
+        (TransferType::Bulk, Direction::In) => match interface.endpoint(host, address) {
+            Ok(endpoint) => Ok(AnyEndpoint::BulkIn(endpoint)),
+            Err(error) => Err(error),
+        },
+        (TransferType::Bulk, Direction::Out) => match interface.endpoint(host, address) {
+            Ok(endpoint) => Ok(AnyEndpoint::BulkOut(endpoint)),
+            Err(error) => Err(error),
+        },
+        (TransferType::Interrupt, Direction::In) => match interface.endpoint(host, address) {
+            Ok(endpoint) => Ok(AnyEndpoint::InterruptIn(endpoint)),
+            Err(error) => Err(error),
+        },
+        (TransferType::Interrupt, Direction::Out) => match interface.endpoint(host, address) {
+            Ok(endpoint) => Ok(AnyEndpoint::InterruptOut(endpoint)),
+            Err(error) => Err(error),
+        },
+        _ => unreachable!(),
     }
-    if endpoint.transfer_type() != kind {
-        return Err(Error::wrong_type());
-    }
-    if endpoint.max_packet_size() == 0 {
-        return Err(Error::no_packet_size());
-    }
-    if is_used {
-        return Err(Error::endpoint_in_use());
-    }
-    Ok(endpoint.max_packet_size())
 }
 
 impl Session {
+    /// Whether an opening is barred: the endpoint's name is in use, or the interface isn't claimed.
+    pub fn endpoint_is_barred(&self, name: u8, interface: u8) -> bool
+        ensures barred { result ≡ (not (is_free self.now.endpoints name) || is_none (named self.now.interfaces interface)) }
+    {
+        let is_claimed = open_at(&self.interfaces, interface).is_some();
+        !is_free(&self.endpoints, name) || !is_claimed
+    }
+
     /// Opens an endpoint of a claimed interface under a name.
     pub fn open_endpoint(
         &mut self,
-        alloc: Global,
         name: u8,
         interface: u8,
         address: u8,
         kind: TransferType,
         direction: Direction,
     ) -> Result<(), Fail<Error>>
+        requires allowed { (not (is_free self.old.endpoints name) || is_none (named self.old.interfaces interface)) ≡ false }
+        requires openable { IsOpenable kind }
         ensures tried { (state : State) → Represents self.old state → Tries self.new result (endpoint_opened state name interface address kind direction) }
-        ensures spare { self.new.kernel.spare ≡ self.old.kernel.spare }
+        ensures spare { self.new.host.kernel.spare ≡ self.old.host.kernel.spare }
     {
-        let Some(owner) = self.host.interface(interface) else {
-            return Ok(());
+        let Some(interface) = open_at(&self.interfaces, interface) else {
+            unreachable!()
         };
-        let used = is_used(&self.endpoints, interface, address);
-        let opened = self.host.opened(owner.opened);
-        let found = endpoint_in(&mut self.kernel, owner, address, opened);
-        match maximum_of(found, address, kind, direction, used) {
-            Err(error) => Err(Fail::Cause(error)),
-            Ok(maximum) => {
-                let handle = Handle {
-                    device: owner.device,
-                    address,
-                    kind,
-                    maximum,
-                    owner: interface,
-                    queue: Queue::new(alloc),
-                };
-                set_at(&mut self.endpoints, name, handle);
+        match open_any(&mut self.host, interface, address, kind, direction) {
+            Ok(endpoint) => {
+                put_at(&mut self.endpoints, name, endpoint);
                 Ok(())
             }
+            Err(error) => Err(error),
         }
     }
 }

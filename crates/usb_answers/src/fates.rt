@@ -1,52 +1,43 @@
-//! The fate of each ticket.
+//! The fate of each ticket, read from a host.
 
-ghost use Rattle.std.specs.Prelude.{◌≡◌, ◌<◌, IfOk, string_bytes};
-ghost use Rattle.usb_answers.specs.State.{State, tickets_of};
-ghost use Rattle.usb_answers.specs.Fates.{end_of, fate_line};
-ghost use Rattle.usb_answers.specs.Relation.{Holds};
+ghost use Rattle.std.specs.Prelude.{◌≡◌, ◌<◌, IfOk, length, string_bytes};
 ghost use Rattle.usb_kernel.specs.Tickets.{tickets};
-ghost use Rattle.std.specs.Prelude.{length};
+ghost use Rattle.usb_answers.specs.Fates.{fate_line};
+ghost use Rattle.usb_answers.specs.EndWords.{word_of};
 
-use crate::session::Session;
-use crate::slots::Slot;
 use std::alloc::Global;
 use usb_desc::NoMemory;
+use usb_device::{Host, TicketEnd};
 use usb_lines::ticket_line;
 
 /// How a ticket ended.
-#[tactic(auto, unfolding(crate::specs::Fates::end_of))]
-fn end_of(slots: &[Slot], ticket: u64) -> &'static str
-    ensures end { result.now ≡ end_of slots.now ticket }
+fn word_of(end: Option<TicketEnd>) -> &'static str
+    ensures word { result.now ≡ word_of end }
 {
-    if ticket >= slots.len() as u64 {
-        return "reclaimed";
-    }
-    match &slots[ticket as usize] {
-        Slot::Taken => "taken",
-        Slot::Dropped => "dropped",
-        _ => "reclaimed",
+    match end {
+        Some(TicketEnd::Taken) => "taken",
+        Some(TicketEnd::Dropped) => "dropped",
+        Some(TicketEnd::Reclaimed) => "reclaimed",
+        None => "",
     }
 }
 
-impl Session {
-    /// How many tickets there are.
-    pub fn tickets(&self) -> u64
-        ensures count { (state : State) → Holds self.now state → result ≡ tickets_of state }
-        ensures number { result ≡ length (tickets self.now.kernel.past) }
-    {
-        self.kernel.tickets()
-    }
+/// How many tickets a host has.
+pub fn tickets(host: &Host) -> u64
+    ensures count { result ≡ length (tickets host.now.kernel.past) }
+{
+    host.tickets()
+}
 
-    /// The fate line of a ticket, with its LF.
-    pub fn fate_line(&self, alloc: Global, ticket: u64) -> Result<String, NoMemory>
-        requires below { ticket < length (tickets self.now.kernel.past) }
-        ensures line { IfOk result (λ line. (state : State) → Holds self.now state → string_bytes line ≡ fate_line state ticket) }
-    {
-        let info = self.kernel.ticket(ticket);
-        let how = end_of(&self.slots, ticket);
-        match ticket_line(alloc, ticket, &info, how) {
-            Ok(line) => Ok(line),
-            Err(_) => Err(NoMemory),
-        }
+/// The fate line of a ticket, with its LF.
+pub fn fate_line(alloc: Global, host: &Host, ticket: u64) -> Result<String, NoMemory>
+    requires below { ticket < length (tickets host.now.kernel.past) }
+    ensures line { IfOk result (λ line. string_bytes line ≡ fate_line host.now ticket) }
+{
+    let info = host.kernel().ticket(ticket);
+    let how = word_of(host.ticket_end(ticket));
+    match ticket_line(alloc, ticket, &info, how) {
+        Ok(line) => Ok(line),
+        Err(_) => Err(NoMemory),
     }
 }

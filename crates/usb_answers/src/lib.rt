@@ -2,23 +2,26 @@
 //! of its tickets.
 #![tactic(auto)]
 
+mod answer;
 mod answering;
+mod buffers;
 mod claiming;
+mod closing;
 mod describing;
 mod ending;
 mod endpoints;
 mod fates;
-mod handles;
-mod host;
 mod names;
 mod opening;
 mod polling;
-mod queue;
 mod session;
-mod slots;
 mod stepping;
 mod submitting;
 mod summary;
+mod transferring;
+mod waiting;
 
+pub use fates::{fate_line, tickets};
 pub use session::Session;
-pub use summary::{Summary, one_end_each};
+pub use summary::Summary;
+pub use usb_device::Host;

@@ -1,8 +1,8 @@
 //! Names: what is open under each number from 0 to 63.
 
-ghost use Rattle.std.specs.Prelude.{◌≡◌, IfOk, replicate, None};
+ghost use Rattle.std.specs.Prelude.{◌≡◌, ℕ, IfOk, true, replicate, None};
 ghost use Rattle.std.specs.Option.{option_copied};
-ghost use Rattle.usb_answers.specs.Names.{named, is_free, set_name};
+ghost use Rattle.usb_answers.specs.Names.{named, is_free, set_name, freed};
 
 use std::alloc::Global;
 use usb_desc::NoMemory;
@@ -11,14 +11,14 @@ use usb_desc::NoMemory;
 const NAMES: usize = 64;
 
 /// Names under which nothing is open.
-pub fn no_names<T: Drop>(alloc: Global) -> Result<Vec<Option<T>>, NoMemory>
+pub fn no_names<T>(alloc: Global) -> Result<Vec<Option<T>>, NoMemory>
     ensures empty { IfOk result (λ v. v.items ≡ replicate 64 None) }
 {
-    let mut names = Vec::new(alloc);
+    let Ok(mut names) = Vec::with_capacity(alloc, NAMES) else {
+        return Err(NoMemory);
+    };
     for i in 0..NAMES {
-        let Ok(()) = names.push(None) else {
-            return Err(NoMemory);
-        };
+        names.push_reserved(None);
     }
     Ok(names)
 }
@@ -45,12 +45,36 @@ pub fn open_at<T>(names: &[Option<T>], name: u8) -> Option<&T>
     }
 }
 
-/// Something is open under a name.
-pub fn set_at<T: Drop>(names: &mut Vec<Option<T>>, name: u8, x: T)
-    ensures after { names.new.items ≡ set_name names.old.items name x }
+/// What is open under a name is taken out.
+pub fn take_at<T>(names: &mut Vec<Option<T>>, name: u8) -> Option<T>
+    ensures taken { result ≡ named names.old.items name }
+    ensures rest { names.new.items ≡ freed names.old.items name }
 {
     if name as usize >= names.len() {
-        return;
+        return None;
     }
-    names[name as usize] = Some(x);
+    let place = &mut names[name as usize];
+    place.take()
+}
+
+/// Something is open under a name that was free.
+pub fn put_at<T>(names: &mut Vec<Option<T>>, name: u8, x: T)
+    requires free { is_free names.old.items name ≡ true }
+    ensures after { names.new.items ≡ set_name names.old.items name x }
+{
+    let place = &mut names[name as usize];
+    if let Some(_) = place.replace(x) {
+        unreachable!()
+    }
+}
+
+/// Drops names under which nothing is open.
+pub fn drop_names<T>(names: Vec<Option<T>>)
+    requires none { (n : ℕ) → named names.items n ≡ None }
+{
+    let mut names = names;
+    'places: while let Some(place) = names.pop() {
+        let None = place else { unreachable!() };
+    }
+    names.destroy_empty();
 }

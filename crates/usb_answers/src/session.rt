@@ -1,26 +1,48 @@
 //! The session.
 
-ghost use Rattle.std.specs.Prelude.{◌≡◌, ◌≤◌, IfOk, List, ℕ};
+ghost use Rattle.std.specs.Prelude.{◌≡◌, IfOk};
 ghost use Rattle.std.specs.List.{filter_map};
+ghost use Rattle.usb_script.specs.ItemKinds.{step_count};
 ghost use Rattle.usb_answers.specs.Output.{device_of_item, devices_of, start};
 ghost use Rattle.usb_answers.specs.Relation.{Represents};
 
-use crate::handles::Handle;
-use crate::host::Host;
-use crate::names::no_names;
-use crate::slots::Slot;
+use crate::names::{drop_names, no_names};
 use std::alloc::Global;
+use std::marker::Model;
 use usb_desc::NoMemory;
+use usb_device::{Device, Host, Interface};
+use usb_endpoint::AnyEndpoint;
 use usb_kernel::{Bytes, Kernel, SimDevice};
 use usb_script::Item;
 
-/// A kernel, what is kept of each of its tickets, what is open on its devices, and the open endpoints.
-#[derive(Drop)]
+/// A host, and what is open under each name: devices, claimed interfaces and endpoints.
+///
+/// It is never dropped: `end` spends it.
 pub struct Session {
-    pub kernel: Kernel,
-    pub slots: Vec<Slot>,
-    pub host: Host,
-    pub endpoints: Vec<Option<Handle>>,
+    pub(crate) host: Host,
+    pub(crate) devices: Vec<Option<Device>>,
+    pub(crate) interfaces: Vec<Option<Interface>>,
+    pub(crate) endpoints: Vec<Option<AnyEndpoint>>,
+}
+
+impl Model for Session {
+    ghost use Rattle.std.specs.Prelude.{map};
+    ghost use Rattle.std.specs.Option.{option_map};
+    ghost use Rattle.usb_endpoint.specs.AnyEndpoints.{state_of};
+    ghost use Rattle.usb_answers.specs.SessionState.{SessionState};
+
+    ghost Value = { SessionState };
+
+    ghost view = { λ s. record {
+      host = s.host;
+      devices = s.devices.items;
+      interfaces = s.interfaces.items;
+      endpoints = map (option_map state_of) s.endpoints.items;
+    } };
+
+    ghost use Rattle.usb_answers.specs.SessionFacts.{IsSoundInside};
+
+    ghost invariant = { IsSoundInside };
 }
 
 /// The simulated device of a line, where it declares one.
@@ -66,20 +88,43 @@ fn devices_of(alloc: Global, items: &[Item]) -> Result<Vec<(u8, SimDevice)>, NoM
     Ok(devices)
 }
 
+/// A host over the devices that these items declare, with room for so many steps.
+fn host_with(alloc: Global, items: &[Item], steps: usize) -> Result<Host, NoMemory>
+    ensures host { IfOk result (λ h. steps ≡ step_count items.now → h ≡ (start items.now).host) }
+{
+    let mut kernel = Kernel::new(alloc, devices_of(alloc, items)?)?;
+    kernel.reserve(steps)?;
+    Ok(Host::new(alloc, kernel))
+}
+
 impl Session {
-    /// A session over the devices that these items declare, with room for so many steps.
+    /// A session over the devices that these items declare, with room for their steps, of which there are so many.
     pub fn new(alloc: Global, items: &[Item], steps: usize) -> Result<Session, NoMemory>
+        requires steps { steps ≡ step_count items.now }
         ensures stands { IfOk result (λ s. Represents s (start items.now)) }
-        ensures spare { IfOk result (λ s. steps ≤ s.kernel.spare) }
+        ensures spare { IfOk result (λ s. s.host.kernel.spare ≡ steps) }
     {
-        let mut kernel = Kernel::new(alloc, devices_of(alloc, items)?)?;
-        kernel.reserve(steps)?;
-        let host = Host::new(alloc)?;
-        let endpoints = no_names(alloc)?;
+        let host = host_with(alloc, items, steps)?;
+        let devices = no_names(alloc)?;
+        let interfaces = match no_names(alloc) {
+            Ok(names) => names,
+            Err(error) => {
+                drop_names(devices);
+                return Err(error);
+            }
+        };
+        let endpoints = match no_names(alloc) {
+            Ok(names) => names,
+            Err(error) => {
+                drop_names(devices);
+                drop_names(interfaces);
+                return Err(error);
+            }
+        };
         Ok(Session {
-            kernel,
-            slots: Vec::new(alloc),
             host,
+            devices,
+            interfaces,
             endpoints,
         })
     }

@@ -1,42 +1,56 @@
-//! A line of steps: the kernel takes them in order.
+//! The steps of a line: they are lent to the host, which applies them in order.
 
-ghost use Rattle.std.specs.Prelude.{◌≡◌, ◌≤◌, ◌+◌, length, OnOk};
+ghost use Rattle.std.specs.Prelude.{◌≡◌, ◌≤◌, ◌+◌, [], length, IfOk, OnOk, OnErr};
 ghost use Rattle.std.specs.List.{All};
 ghost use Rattle.usb_kernel.specs.declared.step.KernelStep.{KernelStep};
 ghost use Rattle.usb_script.specs.ItemRanges.{IsStepInRange};
 ghost use Rattle.usb_answers.specs.State.{State};
-ghost use Rattle.usb_answers.specs.Steps.{stepped_once, stepped_all};
+ghost use Rattle.usb_answers.specs.Steps.{stepped_all};
 ghost use Rattle.usb_answers.specs.Relation.{Represents};
 
 use crate::session::Session;
-use crate::slots::put_slot;
 use std::alloc::Global;
 use usb_desc::NoMemory;
+use usb_device::Host;
 use usb_kernel::KernelStep;
 
-impl Session {
-    fn step(&mut self, step: KernelStep)
-        requires spare { 1 ≤ self.old.kernel.spare }
-        requires in_range { IsStepInRange step }
-        ensures stands { (state : State) → Represents self.old state → Represents self.new (stepped_once state step) }
-        ensures spare { self.new.kernel.spare + 1 ≡ self.old.kernel.spare }
-    {
-        if let Some(done) = self.kernel.step(step) {
-            put_slot(&mut self.slots, done);
-        }
+/// A copy of a line's steps.
+fn copy_of(alloc: Global, steps: &[KernelStep]) -> Result<Vec<KernelStep>, NoMemory>
+    ensures same { IfOk result (λ v. v.items ≡ steps.now) }
+{
+    let mut copy = Vec::new(alloc);
+    for step in steps {
+        let Ok(()) = copy.push(step.clone(alloc)?) else {
+            return Err(NoMemory);
+        };
     }
+    Ok(copy)
+}
 
-    /// Applies steps, in order.
+/// Lends a copy of a line's steps to the host. An `Err` is want of memory, and then nothing has changed.
+pub fn lend(host: &mut Host, alloc: Global, steps: &[KernelStep]) -> Result<(), NoMemory>
+    requires idle { host.old.steps ≡ [] }
+    requires spare { length steps.now ≤ host.old.kernel.spare }
+    requires in_range { All IsStepInRange steps.now }
+    ensures lent { OnOk result (host.new ≡ record host.old { steps = steps.now }) }
+    ensures err { OnErr result (host.new ≡ host.old) }
+{
+    let copy = copy_of(alloc, steps)?;
+    host.lend_steps(copy);
+    Ok(())
+}
+
+impl Session {
+    /// Applies steps, in order. An `Err` is want of memory, and then nothing has changed.
     pub fn step_all(&mut self, alloc: Global, steps: &[KernelStep]) -> Result<(), NoMemory>
-        requires spare { length steps.now ≤ self.old.kernel.spare }
+        requires spare { length steps.now ≤ self.old.host.kernel.spare }
         requires in_range { All IsStepInRange steps.now }
         ensures stands { OnOk result ((state : State) → Represents self.old state → Represents self.new (stepped_all state steps.now)) }
-        ensures spare { OnOk result (self.new.kernel.spare + length steps.now ≡ self.old.kernel.spare) }
+        ensures spare { OnOk result (self.new.host.kernel.spare + length steps.now ≡ self.old.host.kernel.spare) }
+        ensures err { OnErr result (self.new ≡ self.old) }
     {
-        for step in steps {
-            let step = step.clone(alloc)?;
-            self.step(step);
-        }
+        lend(&mut self.host, alloc, steps)?;
+        self.host.rest();
         Ok(())
     }
 }

@@ -1,104 +1,79 @@
-//! `submitin`: a transfer is handed in.
+//! `submitin` and `submitout`: a transfer is handed in.
 
-ghost use Rattle.std.specs.Prelude.{◌≡◌, ◌≤◌, None, IfOk, OnOk};
+ghost use Rattle.std.specs.Prelude.{◌≡◌, ◌||◌, not, nat_le, false, OnOk, OnErr, Bool};
+ghost use Rattle.usb_desc.specs.declared.types.Direction.{Direction};
+ghost use Rattle.usb_desc.specs.Fields.{direction_of_address};
+ghost use Rattle.usb_endpoint.specs.AnyEndpoints.{state_of};
+ghost use Rattle.usb_device.specs.EndpointRefusals.{same_direction};
 ghost use Rattle.usb_answers.specs.State.{State};
 ghost use Rattle.usb_answers.specs.Names.{named};
-ghost use Rattle.usb_answers.specs.Submits.{is_whole, after_entry, entry_result, done_at_once, in_submission, submit_barred_by, submitted};
+ghost use Rattle.usb_answers.specs.Submits.{has_direction, submit_barred_by, submitted};
 ghost use Rattle.usb_answers.specs.Relation.{Represents};
 
-use crate::handles::{Handle, push_at};
-use crate::names::open_at;
+use crate::names::{open_at, put_at, take_at};
 use crate::session::Session;
-use crate::slots::push_slot;
-use std::alloc::Global;
-use usb_desc::NoMemory;
-use usb_kernel::{Done, Kernel, Submission, Submitted};
+use usb_desc::{Direction, NoMemory};
+use usb_endpoint::AnyEndpoint;
 use usb_xfer::Buffer;
 
 /// How many transfers of an endpoint may be pending.
 const MOST_PENDING: usize = 64;
 
 /// How many tickets may be unreaped.
-const MOST_UNREAPED: usize = 1024;
+pub const MOST_UNREAPED: usize = 1024;
 
-/// The errno of an invalid length.
-const INVALID: u16 = 22;
-
-/// Whether a length is a multiple of the maximum, and not 0.
-fn is_whole(maximum: usize, len: usize) -> bool
-    ensures whole { result ≡ is_whole maximum len }
+/// Whether two directions are the same.
+fn is_same(a: Direction, b: Direction) -> bool
+    ensures same { result ≡ same_direction a b }
 {
-    maximum > 0 && len > 0 && len % maximum == 0
-}
-
-/// A submission goes to the kernel, or is refused where its length is invalid. An `Err` is want of memory.
-fn enter(kernel: &mut Kernel, s: Submission) -> Result<Submitted, Submission>
-    requires deadline { s.deadline ≡ None }
-    ensures past { OnOk result (kernel.new ≡ record kernel.old { past = after_entry kernel.old.devices kernel.old.past s }) }
-    ensures value { IfOk result (λ x. x ≡ entry_result kernel.old.devices kernel.old.past s) }
-{
-    if is_whole(s.maximum, s.buffer.requested_len()) {
-        kernel.submit(s)
-    } else {
-        kernel.refuse(s, INVALID)
+    match a {
+        Direction::Out => matches!(b, Direction::Out),
+        Direction::In => matches!(b, Direction::In),
     }
 }
 
-/// What a handle hands in for a wanted length in bytes.
-fn in_submission(alloc: Global, handle: &Handle, len: u32) -> Result<Submission, NoMemory>
-    requires small { len ≤ 65536 }
-    ensures value { IfOk result (λ s. s ≡ in_submission handle.now len) }
+/// Whether an endpoint has this direction.
+pub fn has_direction(endpoint: &AnyEndpoint, direction: Direction) -> bool
+    ensures has { result ≡ has_direction direction (state_of endpoint.now) }
 {
-    Ok(Submission {
-        device: handle.device,
-        endpoint: handle.address,
-        kind: handle.kind,
-        maximum: handle.maximum,
-        deadline: None,
-        setup: None,
-        buffer: Buffer::new(alloc, len as usize)?,
-    })
+    is_same(
+        Direction::from_address(endpoint.endpoint_address()),
+        direction,
+    )
 }
 
-/// The completion that a refused submission has at once.
-fn done_at_once(submitted: Submitted) -> Option<Done>
-    ensures value { result ≡ done_at_once submitted }
+/// Whether a submission is barred by the endpoint's direction, or by so many pending or unreaped transfers.
+fn bars_submission(has_direction: bool, pending: usize, unreaped: usize) -> bool
+    ensures barred { result ≡ (not has_direction || (nat_le 64 pending || nat_le 1024 unreaped)) }
 {
-    match submitted {
-        Submitted::Queued(_) => None,
-        Submitted::Refused(done) => Some(done),
-    }
+    !has_direction || pending >= MOST_PENDING || unreaped >= MOST_UNREAPED
 }
 
 impl Session {
-    /// Whether a submission is barred: the endpoint isn't open, or too many transfers are pending or unreaped.
-    pub fn submit_is_barred(&self, endpoint: u8) -> bool
-        ensures barred { result ≡ submit_barred_by self.now.kernel.past (named self.now.endpoints.items endpoint) }
+    /// Whether a submission is barred: the endpoint isn't open or has the other direction, or too many transfers are pending or
+    /// unreaped.
+    pub fn submit_is_barred(&self, direction: Direction, endpoint: u8) -> bool
+        ensures barred { result ≡ submit_barred_by self.now.host.kernel.past direction (named self.now.endpoints endpoint) }
     {
-        let Some(handle) = open_at(&self.endpoints, endpoint) else {
+        let Some(endpoint) = open_at(&self.endpoints, endpoint) else {
             return true;
         };
-        handle.queue.len() >= MOST_PENDING || self.kernel.unreaped() >= MOST_UNREAPED
+        let has = has_direction(endpoint, direction);
+        bars_submission(has, endpoint.pending(), self.host.kernel().unreaped())
     }
 
-    /// Hands in a transfer that wants so many bytes.
-    pub fn submit(&mut self, alloc: Global, endpoint: u8, len: u32) -> Result<(), NoMemory>
-        requires small { len ≤ 65536 }
-        ensures stands { OnOk result ((state : State) → Represents self.old state → Represents self.new (submitted state endpoint len)) }
-        ensures spare { OnOk result (self.new.kernel.spare ≡ self.old.kernel.spare) }
+    /// Submits a buffer to an endpoint. An `Err` is want of memory.
+    pub fn submit(&mut self, name: u8, buffer: Buffer) -> Result<(), NoMemory>
+        requires allowed { (direction : Direction) × (submit_barred_by self.old.host.kernel.past direction (named self.old.endpoints name) ≡ false) }
+        ensures stands { OnOk result ((state : State) → Represents self.old state → Represents self.new (submitted state name buffer)) }
+        ensures spare { self.new.host.kernel.spare ≡ self.old.host.kernel.spare }
     {
-        let Some(handle) = open_at(&self.endpoints, endpoint) else {
-            return Ok(());
+        let Some(mut endpoint) = take_at(&mut self.endpoints, name) else {
+            unreachable!()
         };
-        let submission = in_submission(alloc, handle, len)?;
-        let ticket = self.kernel.tickets();
-        let Ok(submitted) = enter(&mut self.kernel, submission) else {
-            return Err(NoMemory);
-        };
-        let Ok(()) = push_slot(&mut self.slots, done_at_once(submitted)) else {
-            return Err(NoMemory);
-        };
-        match push_at(&mut self.endpoints, endpoint, ticket) {
+        let tried = endpoint.submit(&mut self.host, buffer);
+        put_at(&mut self.endpoints, name, endpoint);
+        match tried {
             Ok(()) => Ok(()),
             Err(_) => Err(NoMemory),
         }

@@ -2,12 +2,9 @@
 
 ghost use Rattle.std.specs.Prelude.{◌≡◌};
 ghost use Rattle.std.specs.List.{count_by};
-ghost use Rattle.usb_answers.specs.State.{State};
-ghost use Rattle.usb_answers.specs.Sums.{counts_of, is_taken_slot, is_dropped_slot, is_left_slot, OneEndEach};
-ghost use Rattle.usb_answers.specs.Relation.{Holds};
+ghost use Rattle.usb_answers.specs.Sums.{counts_of, has_end, is_same_end, ticket_has};
 
-use crate::session::Session;
-use crate::slots::Slot;
+use usb_device::{Host, TicketEnd};
 
 /// What a session came to: how many calls were answered, how many tickets there were, and how many of them were taken,
 /// dropped and reclaimed.
@@ -20,44 +17,54 @@ pub struct Summary {
     pub reclaimed: u64,
 }
 
-fn count_taken(slots: &[Slot]) -> usize
-    ensures count { result ≡ count_by is_taken_slot slots.now }
+/// Whether two ends are the same.
+fn is_same(a: TicketEnd, b: TicketEnd) -> bool
+    ensures same { result ≡ is_same_end a b }
 {
-    slots.iter().filter(|x| matches!(x, Slot::Taken)).count()
-}
-
-fn count_dropped(slots: &[Slot]) -> usize
-    ensures count { result ≡ count_by is_dropped_slot slots.now }
-{
-    slots.iter().filter(|x| matches!(x, Slot::Dropped)).count()
-}
-
-fn count_left(slots: &[Slot]) -> usize
-    ensures count { result ≡ count_by is_left_slot slots.now }
-{
-    slots
-        .iter()
-        .filter(|x| matches!(x, Slot::Waiting | Slot::Here(_)))
-        .count()
-}
-
-impl Session {
-    /// The counts, with so many calls.
-    pub fn summary(&self, calls: u32) -> Summary
-        ensures value { (state : State) → Holds self.now state → result ≡ counts_of calls state }
-    {
-        Summary {
-            calls,
-            tickets: self.kernel.tickets(),
-            taken: count_taken(&self.slots) as u64,
-            dropped: count_dropped(&self.slots) as u64,
-            reclaimed: count_left(&self.slots) as u64,
-        }
+    match a {
+        TicketEnd::Taken => matches!(b, TicketEnd::Taken),
+        TicketEnd::Dropped => matches!(b, TicketEnd::Dropped),
+        TicketEnd::Reclaimed => matches!(b, TicketEnd::Reclaimed),
     }
 }
 
-/// Each ticket is taken, dropped or reclaimed.
-#[tactic(auto, using(crate::proofs::SumLemmas::one_end_each))]
-pub fn one_end_each()
-    ensures law { OneEndEach }
-{}
+/// Whether a ticket of a host has this end.
+fn has_end(host: &Host, ticket: u64, end: TicketEnd) -> bool
+    ensures has { result ≡ ticket_has host.now.tickets ticket end }
+{
+    match host.ticket_end(ticket) {
+        Some(its) => is_same(its, end),
+        None => false,
+    }
+}
+
+/// How many tickets of a host have this end.
+fn count_of(host: &Host, end: TicketEnd) -> u64
+    ensures count { result ≡ count_by (has_end end) host.now.tickets }
+{
+    let mut count = 0;
+    for ticket in 0..host.tickets() {
+        if has_end(host, ticket, end) {
+            count += 1;
+        }
+    }
+    count
+}
+
+impl Summary {
+    /// The counts of a host, with so many calls. What was neither taken nor dropped was reclaimed.
+    pub fn of(host: &Host, calls: u32) -> Summary
+        ensures value { result ≡ counts_of calls host.now }
+    {
+        let tickets = host.tickets();
+        let taken = count_of(host, TicketEnd::Taken);
+        let dropped = count_of(host, TicketEnd::Dropped);
+        Summary {
+            calls,
+            tickets,
+            taken,
+            dropped,
+            reclaimed: tickets - taken - dropped,
+        }
+    }
+}

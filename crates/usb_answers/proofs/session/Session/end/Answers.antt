@@ -1,9 +1,33 @@
-use Rattle.usb_answers.specs.Ends.{ended, close_all, discard_all}
+use Rattle.std.proofs.Common.{◌∙◌, ap, sym, map}
+use Rattle.std.specs.Option.{option_map}
+use Rattle.usb_endpoint.specs.AnyEndpoints.{state_of}
+use Rattle.usb_device.specs.Finishes.{finished}
+use Rattle.usb_answers.specs.Names.{named}
+use Rattle.usb_answers.specs.Ends.{endpoints_closed}
+use Rattle.usb_answers.specs.SessionState.{SessionState}
+use Rattle.usb_answers.proofs.EndLemmas.{none-all, none-endpoints, end-host}
 use Rattle.usb_answers.proofs.session.Session.end.Goals as goal
 
+pub drop_names-requires : goal.drop_names-requires
+drop_names-requires c = record {
+  none =
+      none-endpoints c.session.inside.endpoints.items
+      (none-all (map (option_map state_of) c.session.inside.endpoints.items) c.session.invariant.endpoint_names
+      (λ n below. ap (λ (v : SessionState). named v.endpoints n) c.session.view_is ∙ ap (λ l. named l n) c.close_interfaces.ensures.endpoints ∙ c.close_endpoints.ensures.none n below));
+}
+
+pub drop_names-requires-2 : goal.drop_names-requires-2
+drop_names-requires-2 c = record {
+  none =
+      none-all c.session.inside.interfaces.items c.session.invariant.interface_names
+      (λ n below. ap (λ (v : SessionState). named v.interfaces n) c.session.view_is ∙ c.close_interfaces.ensures.none n below);
+}
+
 pub returns : goal.returns
-unfolding ended
 returns c = record {
-  holds =
-      λ state h. c.reap_all.ensures.holds (discard_all (close_all state)) (c.discard_all.ensures.holds (close_all state) (c.close_all.ensures.holds state h));
+  host =
+      λ state r. end-host c.close_interfaces.new.self c.session.inside.host c.finish.new.self state
+      (sym (ap (λ (v : SessionState). v.host) c.session.view_is))
+      (c.finish.ensures.finished ∙ ap finished c.close_devices.ensures.host)
+      (c.close_interfaces.ensures.stands (endpoints_closed state 64) (c.close_endpoints.ensures.stands state r));
 }

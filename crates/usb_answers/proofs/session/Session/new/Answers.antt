@@ -1,15 +1,27 @@
-use Rattle.std.proofs.Common.{ap, ◌∙◌, map}
-use Rattle.usb_kernel.specs.Value.{KernelState}
-use Rattle.usb_kernel.specs.Devices.{fresh_device}
-use Rattle.usb_answers.proofs.RunLemmas.{Represents-start}
+use Rattle.std.proofs.Common.{◌∙◌, ap}
+use Rattle.usb_answers.specs.Names.{named}
+use Rattle.usb_answers.proofs.NameLemmas.{named-replicate}
+use Rattle.usb_answers.proofs.RunLemmas.{sound-start, represents-start, spare-start}
 use Rattle.usb_answers.proofs.session.Session.new.Goals as goal
+
+pub drop_names-requires : goal.drop_names-requires
+drop_names-requires c = record { none = λ n. ap (λ l. named l n) c.in_ok-devices.ensures.empty ∙ named-replicate 64 n }
+
+pub drop_names-requires-in-Err-no_names : goal.drop_names-requires-in-Err-no_names
+drop_names-requires-in-Err-no_names c = record { none = λ n. ap (λ l. named l n) c.in_ok-devices.ensures.empty ∙ named-replicate 64 n }
+
+pub drop_names-requires-in-Err-no_names-2 : goal.drop_names-requires-in-Err-no_names-2
+drop_names-requires-in-Err-no_names-2 c = record { none = λ n. ap (λ l. named l n) c.in-Ok.ensures.empty ∙ named-replicate 64 n }
+
+pub invariant_of-result : goal.invariant_of-result
+invariant_of-result c =
+    sound-start c.args.items.now c.in_ok-host.host c.in_ok-devices.devices.items c.in-Ok.names.items c.in-Ok-no_names.names.items
+    (c.in_ok-host.ensures.host c.requires.steps) c.in_ok-devices.ensures.empty c.in-Ok.ensures.empty c.in-Ok-no_names.ensures.empty
 
 pub returns-clause-stands : goal.returns-clause-stands
 returns-clause-stands c =
-    let rest = c.in_ok-reserve.ensures.rest in
-    Represents-start _ c.args.items.now
-    (ap (λ (k : KernelState). k.past) rest ∙ c.in_ok-kernel.ensures.past)
-    (ap (λ (k : KernelState). k.devices) rest ∙ c.in_ok-kernel.ensures.devices ∙ ap (map fresh_device) c.in_ok-devices_of.ensures.value)
-    c.new-3.ensures.items
-    c.in_ok-host.ensures.empty
-    c.in_ok-endpoints.ensures.empty
+    represents-start c.args.items.now c.in_ok-host.host c.in_ok-devices.devices.items c.in-Ok.names.items c.in-Ok-no_names.names.items
+    (c.in_ok-host.ensures.host c.requires.steps) c.in_ok-devices.ensures.empty c.in-Ok.ensures.empty c.in-Ok-no_names.ensures.empty
+
+pub returns-clause-spare : goal.returns-clause-spare
+returns-clause-spare c = spare-start c.args.items.now c.in_ok-host.host c.args.steps (c.in_ok-host.ensures.host c.requires.steps) c.requires.steps

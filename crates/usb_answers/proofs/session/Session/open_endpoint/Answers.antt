@@ -1,30 +1,73 @@
-use Rattle.std.proofs.Common.{refl, sym, ap, ◌∙◌, ◌≡◌, Ok, Err}
-use Rattle.usb_answers.specs.Names.{named}
-use Rattle.usb_answers.specs.Endpoints.{endpoint_in, endpoint_tried, is_used}
-use Rattle.usb_answers.proofs.OpenLemmas.{endpoint-nothing, endpoint-refused, endpoint-opens}
+use Rattle.std.proofs.Common.{◌≡◌, ◌∙◌, sym, ap, Some, map}
+use Rattle.std.specs.Prelude.{is_none}
+use Rattle.std.specs.Option.{option_map, option_copied}
+use Rattle.usb_endpoint.specs.AnyEndpoints.{state_of}
+use Rattle.usb_endpoint.specs.EndpointState.{EndpointState}
+use Rattle.usb_answers.specs.Names.{named, is_free}
+use Rattle.usb_answers.specs.SessionState.{SessionState}
+use Rattle.usb_answers.specs.SessionFacts.{session_made}
+use Rattle.usb_answers.proofs.Opened.{inside}
+use Rattle.usb_answers.proofs.NameLemmas.{map-set}
+use Rattle.usb_answers.proofs.EndpointOpened.{endpoint-sound, endpoint-gave, endpoint-refused, asked-sound, asked-spare, opened-spare, endpoint-free, free-view}
 use Rattle.usb_answers.proofs.session.Session.open_endpoint.Goals as goal
 
-pub returns-in_default-clause-tried : goal.returns-in_default-clause-tried
-returns-in_default-clause-tried c = λ state r. endpoint-nothing c.args.self.now state c.args.name c.args.interface c.args.address c.args.kind c.args.direction r (sym c.interface.ensures.value ∙ c.in_default.is)
+pub put_at-requires : goal.put_at-requires
+put_at-requires c = record {
+  free =
+      sym (free-view c.args.self.now c.self.inside.host c.self.inside.devices.items c.self.inside.interfaces.items c.self.inside.endpoints.items c.args.name c.self.view_is)
+      ∙ endpoint-free (is_free c.args.self.now.endpoints c.args.name) (is_none (named c.args.self.now.interfaces c.args.interface)) c.requires.allowed;
+}
 
-pub returns-in-Err-clause-tried : goal.returns-in-Err-clause-tried
-returns-in-Err-clause-tried c =
-    λ state r.
-    let s = c.args.self.now in
-    let f = c.in-Some.owner in
-    let found = c.endpoint_in-found.ensures.value ∙ ap (endpoint_in s.kernel.devices f c.args.address) c.opened-opened.ensures.value in
-    let used = c.is_used-used.ensures.used ∙ ap (λ xs. is_used xs c.args.interface c.args.address) c.deref.ensures.value in
-    let tried : endpoint_tried (endpoint_in s.kernel.devices f c.args.address (named s.host.opens f.opened)) c.args.address c.args.kind c.args.direction (is_used s.endpoints.items c.args.interface c.args.address) ≡ Err c.in-Err.error =
-    rw (← found, ← used) (sym c.maximum_of.ensures.tried ∙ c.in-Err.is) in
-    endpoint-refused s _ state c.args.name c.args.interface c.args.address c.args.kind c.args.direction f c.in-Err.error r (sym c.interface.ensures.value ∙ c.in-Some.is) tried c.endpoint_in-found.ensures.kernel refl refl refl
+pub invariant_of-self : goal.invariant_of-self
+invariant_of-self c =
+    let made = session_made c.self.inside.host c.self.inside.devices.items c.self.inside.interfaces.items c.self.inside.endpoints.items in
+    let at : named c.self.inside.interfaces.items c.args.interface ≡ Some c.in-Some.interface.now = rw (← c.deref.ensures.value) (sym c.open_at.ensures.value ∙ ap option_copied c.in-Some.is) in
+    let stands = c.self.invariant.interfaces_stand c.args.interface c.in-Some.interface.now at in
+    let claim = stands.claim in
+    endpoint-sound made c.open_any.new.host (map (option_map state_of) c.put_at.new.names.items) c.args.name c.in-Some.interface.now.key c.args.address (state_of c.in-Ok.endpoint) claim c.self.invariant (c.in-Ok.ensures.ok claim stands.at)
+    (ap (λ (x : EndpointState). x.key) (c.in-Ok.ensures.endpoint claim stands.at)) c.in-Ok.ensures.stands c.in-Ok.ensures.others
+    (ap (λ (v : SessionState). is_free v.endpoints c.args.name) c.self.view_is ∙ endpoint-free (is_free c.args.self.now.endpoints c.args.name) (is_none (named c.args.self.now.interfaces c.args.interface)) c.requires.allowed)
+    (ap (map (option_map state_of)) c.put_at.ensures.after ∙ map-set state_of c.self.inside.endpoints.items c.args.name c.in-Ok.endpoint)
+
+pub invariant_of-self-in-Err : goal.invariant_of-self-in-Err
+invariant_of-self-in-Err c =
+    let made = session_made c.self.inside.host c.self.inside.devices.items c.self.inside.interfaces.items c.self.inside.endpoints.items in
+    let at : named c.self.inside.interfaces.items c.args.interface ≡ Some c.in-Some.interface.now = rw (← c.deref.ensures.value) (sym c.open_at.ensures.value ∙ ap option_copied c.in-Some.is) in
+    let stands = c.self.invariant.interfaces_stand c.args.interface c.in-Some.interface.now at in
+    let claim = stands.claim in
+    asked-sound made c.open_any.new.host claim.opened c.self.invariant (c.in-Err.ensures.err claim stands.at)
 
 pub returns-in-Ok-clause-tried : goal.returns-in-Ok-clause-tried
-returns-in-Ok-clause-tried c =
-    λ state r.
-    let s = c.args.self.now in
-    let f = c.in-Some.owner in
-    let found = c.endpoint_in-found.ensures.value ∙ ap (endpoint_in s.kernel.devices f c.args.address) c.opened-opened.ensures.value in
-    let used = c.is_used-used.ensures.used ∙ ap (λ xs. is_used xs c.args.interface c.args.address) c.deref.ensures.value in
-    let tried : endpoint_tried (endpoint_in s.kernel.devices f c.args.address (named s.host.opens f.opened)) c.args.address c.args.kind c.args.direction (is_used s.endpoints.items c.args.interface c.args.address) ≡ Ok c.in-Ok.maximum =
-    rw (← found, ← used) (sym c.maximum_of.ensures.tried ∙ c.in-Ok.is) in
-    endpoint-opens s _ state c.args.name c.args.interface c.args.address c.in-Ok.maximum c.args.kind c.args.direction f r (sym c.interface.ensures.value ∙ c.in-Some.is) tried c.endpoint_in-found.ensures.kernel refl refl (c.set_at.ensures.after ∙ rw c.new.ensures.empty refl)
+returns-in-Ok-clause-tried c = λ state r.
+    let made = session_made c.self.inside.host c.self.inside.devices.items c.self.inside.interfaces.items c.self.inside.endpoints.items in
+    let at : named c.self.inside.interfaces.items c.args.interface ≡ Some c.in-Some.interface.now = rw (← c.deref.ensures.value) (sym c.open_at.ensures.value ∙ ap option_copied c.in-Some.is) in
+    let stands = c.self.invariant.interfaces_stand c.args.interface c.in-Some.interface.now at in
+    let claim = stands.claim in
+    endpoint-gave made state c.open_any.new.host (map (option_map state_of) c.put_at.new.names.items) c.args.name c.args.interface c.args.address (state_of c.in-Ok.endpoint).maximum c.args.kind c.args.direction c.in-Some.interface.now claim (state_of c.in-Ok.endpoint)
+    (inside c.args.self.now made state c.self.view_is r) at stands.at
+    (ap (λ (v : SessionState). is_free v.endpoints c.args.name) c.self.view_is ∙ endpoint-free (is_free c.args.self.now.endpoints c.args.name) (is_none (named c.args.self.now.interfaces c.args.interface)) c.requires.allowed)
+    (c.in-Ok.ensures.tried claim stands.at) (c.in-Ok.ensures.endpoint claim stands.at) (c.in-Ok.ensures.ok claim stands.at)
+    (ap (map (option_map state_of)) c.put_at.ensures.after ∙ map-set state_of c.self.inside.endpoints.items c.args.name c.in-Ok.endpoint)
+
+pub returns-in-Ok-clause-spare : goal.returns-in-Ok-clause-spare
+returns-in-Ok-clause-spare c =
+    let at : named c.self.inside.interfaces.items c.args.interface ≡ Some c.in-Some.interface.now = rw (← c.deref.ensures.value) (sym c.open_at.ensures.value ∙ ap option_copied c.in-Some.is) in
+    let stands = c.self.invariant.interfaces_stand c.args.interface c.in-Some.interface.now at in
+    let claim = stands.claim in
+    opened-spare c.self.inside.host c.open_any.new.host claim.opened c.in-Some.interface.now.key c.args.address (c.in-Ok.ensures.ok claim stands.at) ∙ ap (λ (v : SessionState). v.host.kernel.spare) c.self.view_is
+
+pub returns-in-Err-clause-tried : goal.returns-in-Err-clause-tried
+returns-in-Err-clause-tried c = λ state r.
+    let made = session_made c.self.inside.host c.self.inside.devices.items c.self.inside.interfaces.items c.self.inside.endpoints.items in
+    let at : named c.self.inside.interfaces.items c.args.interface ≡ Some c.in-Some.interface.now = rw (← c.deref.ensures.value) (sym c.open_at.ensures.value ∙ ap option_copied c.in-Some.is) in
+    let stands = c.self.invariant.interfaces_stand c.args.interface c.in-Some.interface.now at in
+    let claim = stands.claim in
+    endpoint-refused made state c.open_any.new.host c.args.name c.args.interface c.args.address c.args.kind c.args.direction c.in-Err.error c.in-Some.interface.now claim
+    (inside c.args.self.now made state c.self.view_is r) at stands.at (c.in-Err.ensures.tried claim stands.at) (c.in-Err.ensures.err claim stands.at)
+
+pub returns-in-Err-clause-spare : goal.returns-in-Err-clause-spare
+returns-in-Err-clause-spare c =
+    let at : named c.self.inside.interfaces.items c.args.interface ≡ Some c.in-Some.interface.now = rw (← c.deref.ensures.value) (sym c.open_at.ensures.value ∙ ap option_copied c.in-Some.is) in
+    let stands = c.self.invariant.interfaces_stand c.args.interface c.in-Some.interface.now at in
+    let claim = stands.claim in
+    asked-spare c.self.inside.host c.open_any.new.host claim.opened (c.in-Err.ensures.err claim stands.at) ∙ ap (λ (v : SessionState). v.host.kernel.spare) c.self.view_is

@@ -1,0 +1,194 @@
+-- Calls on one endpoint of a session: what they keep.
+use Rattle.std.proofs.Common.{◌≡◌, ◌≢◌, ℕ, ◌<◌, ◌≤◌, ◌+◌, arith, List, [], ◌∷◌, ◌++◌, length, map, Option, Some, None, Bool, true, false, refl, ap, sym, ◌∙◌, subst, slice_get, inl, inr, ◌⊎◌}
+use Rattle.std.specs.Option.{option_map}
+use Rattle.std.proofs.lemmas.Bool.{cases_eq}
+use Rattle.std.proofs.lemmas.Option.{none-some, same_Some}
+use Rattle.usb_kernel.specs.declared.step.KernelStep.{KernelStep}
+use Rattle.usb_endpoint.specs.declared.any_endpoint.AnyEndpoint.{AnyEndpoint}
+use Rattle.usb_endpoint.specs.AnyEndpoints.{state_of}
+use Rattle.usb_endpoint.specs.EndpointState.{EndpointState}
+use Rattle.usb_endpoint.specs.Handles.{Stands, KeepsOthers}
+use Rattle.usb_endpoint.specs.Frames.{Stands-other}
+use Rattle.usb_device.specs.HostState.{HostState}
+use Rattle.usb_device.specs.HostBus.{bus_of}
+use Rattle.usb_device.specs.HandleStates.{InterfaceState, StandsInterface}
+use Rattle.usb_device.proofs.InterfaceFrames.{StandsInterface-same}
+use Rattle.usb_answers.specs.Names.{named, change_named, freed, set_name}
+use Rattle.usb_answers.specs.State.{State, Endpoint, kept, handle_of}
+use Rattle.usb_answers.specs.SessionState.{SessionState, IsSound}
+use Rattle.usb_answers.specs.Relation.{Represents, session_of}
+use Rattle.usb_answers.proofs.NameLemmas.{named-map, named-set, named-set_other, named-freed, named-freed_other, freed-free, length-freed, length-set_name, map-freed, map-set, map-change_named, put-changed, put-back, named-change_same, named-change_other}
+
+-- what is kept between lines
+pub record KeepsSession (old new : HostState) : Type 0 where
+  pub idle : new.steps ≡ []
+  pub devices : length new.devices ≡ length old.devices
+  pub interfaces : new.interfaces ≡ old.interfaces
+
+-- what is open under a name once something was put back
+names-put : {X : Type 0} (xs after : List (Option X)) (n m : ℕ) (x y z : X) → named xs n ≡ Some x → after ≡ set_name (freed xs n) n y → named after m ≡ Some z → ((m ≡ n) × (z ≡ y)) ⊎ ((m ≢ n) × (named xs m ≡ Some z))
+names-put xs after n m x y z was put is =
+    elim (cases_eq m n) [
+      | inl same ↦ inl (same, same_Some z y (sym is ∙ ap (λ l. named l m) put ∙ ap (named (set_name (freed xs n) n y)) same ∙ named-set (freed xs n) n y (freed-free xs n x was)))
+      | inr apart ↦ inr (apart, sym (named-freed_other xs n m apart) ∙ sym (named-set_other (freed xs n) n m y apart) ∙ sym (ap (λ l. named l m) put) ∙ is)
+    ]
+
+-- what is open under a name once it was freed
+pub names-freed : {X : Type 0} (xs after : List (Option X)) (n m : ℕ) (z : X) → after ≡ freed xs n → named after m ≡ Some z → (m ≢ n) × (named xs m ≡ Some z)
+names-freed xs after n m z rest is =
+    elim (cases_eq m n) [
+      | inl same ↦ absurd (none-some z (sym (named-freed xs n) ∙ sym (ap (named (freed xs n)) same) ∙ sym (ap (λ l. named l m) rest) ∙ is))
+      | inr apart ↦ (apart, sym (named-freed_other xs n m apart) ∙ sym (ap (λ l. named l m) rest) ∙ is)
+    ]
+
+stands-put : (s : SessionState) (now : HostState) (after : List (Option EndpointState)) (e : ℕ) (x y : EndpointState) → IsSound s → named s.endpoints e ≡ Some x → after ≡ set_name (freed s.endpoints e) e y → Stands (bus_of now) y → KeepsOthers (bus_of s.host) (bus_of now) x.key → (d : ℕ) (h : EndpointState) → named after d ≡ Some h → Stands (bus_of now) h
+stands-put s now after e x y sound was put stands others d h is =
+    elim (names-put s.endpoints after e d x y h was put is) [
+      | inl here ↦ subst (Stands (bus_of now)) (sym here.1) stands
+      | inr there ↦ Stands-other (bus_of s.host) (bus_of now) x.key h others (sound.endpoints_differ d e h x there.1 was there.0) (sound.endpoints_stand d h there.1)
+    ]
+
+differ-put : (s : SessionState) (after : List (Option EndpointState)) (e : ℕ) (x y : EndpointState) → IsSound s → named s.endpoints e ≡ Some x → after ≡ set_name (freed s.endpoints e) e y → y.key ≡ x.key → (c d : ℕ) (g h : EndpointState) → named after c ≡ Some g → named after d ≡ Some h → c ≢ d → g.key ≢ h.key
+differ-put s after e x y sound was put key c d g h isg ish apart =
+    elim (names-put s.endpoints after e c x y g was put isg) [
+      | inl herec ↦ elim (names-put s.endpoints after e d x y h was put ish) [
+        | inl hered ↦ absurd (apart (herec.0 ∙ sym hered.0))
+        | inr thered ↦ λ same. sound.endpoints_differ e d x h was thered.1 (λ q. thered.0 (sym q)) (sym key ∙ sym (ap (λ (z : EndpointState). z.key) herec.1) ∙ same)
+      ]
+      | inr therec ↦ elim (names-put s.endpoints after e d x y h was put ish) [
+        | inl hered ↦ λ same. sound.endpoints_differ c e g x therec.1 was therec.0 (same ∙ ap (λ (z : EndpointState). z.key) hered.1 ∙ key)
+        | inr thered ↦ sound.endpoints_differ c d g h therec.1 thered.1 apart
+      ]
+    ]
+
+no_fewer : (a b : ℕ) → b ≡ a → a ≤ b
+no_fewer a b same = omega arith
+
+devices_stand-kept : (old new : HostState) (key : ℕ) → length new.devices ≡ length old.devices → key < length old.devices → key < length new.devices
+devices_stand-kept old new key same below = omega arith
+
+-- an endpoint was called and put back
+pub sound-put : (s : SessionState) (now : HostState) (after : List (Option EndpointState)) (e : ℕ) (x y : EndpointState) → IsSound s → named s.endpoints e ≡ Some x → after ≡ set_name (freed s.endpoints e) e y → KeepsSession s.host now → Stands (bus_of now) y → y.key ≡ x.key → KeepsOthers (bus_of s.host) (bus_of now) x.key → IsSound (record s { host = now; endpoints = after })
+sound-put s now after e x y sound was put keeps stands key others =
+    record {
+      idle = keeps.idle;
+      device_names = sound.device_names;
+      interface_names = sound.interface_names;
+      endpoint_names = ap (λ (l : List (Option EndpointState)). length l) put ∙ length-set_name (freed s.endpoints e) e y ∙ length-freed s.endpoints e ∙ sound.endpoint_names;
+      devices_stand = λ d k is. devices_stand-kept s.host now k keeps.devices (sound.devices_stand d k is);
+      interfaces_stand = λ i f is. StandsInterface-same s.host now f keeps.interfaces (no_fewer (length s.host.devices) (length now.devices) keeps.devices) (sound.interfaces_stand i f is);
+      interfaces_differ = sound.interfaces_differ;
+      endpoints_stand = stands-put s now after e x y sound was put stands others;
+      endpoints_differ = differ-put s after e x y sound was put key;
+    }
+
+-- an endpoint was closed
+pub sound-freed : (s : SessionState) (now : HostState) (after : List (Option EndpointState)) (e : ℕ) (x : EndpointState) → IsSound s → named s.endpoints e ≡ Some x → after ≡ freed s.endpoints e → KeepsSession s.host now → KeepsOthers (bus_of s.host) (bus_of now) x.key → IsSound (record s { host = now; endpoints = after })
+sound-freed s now after e x sound was rest keeps others =
+    record {
+      idle = keeps.idle;
+      device_names = sound.device_names;
+      interface_names = sound.interface_names;
+      endpoint_names = ap (λ (l : List (Option EndpointState)). length l) rest ∙ length-freed s.endpoints e ∙ sound.endpoint_names;
+      devices_stand = λ d k is. devices_stand-kept s.host now k keeps.devices (sound.devices_stand d k is);
+      interfaces_stand = λ i f is. StandsInterface-same s.host now f keeps.interfaces (no_fewer (length s.host.devices) (length now.devices) keeps.devices) (sound.interfaces_stand i f is);
+      interfaces_differ = sound.interfaces_differ;
+      endpoints_stand = λ d h is. let there = names-freed s.endpoints after e d h rest is in Stands-other (bus_of s.host) (bus_of now) x.key h others (sound.endpoints_differ d e h x there.1 was there.0) (sound.endpoints_stand d h there.1);
+      endpoints_differ = λ c d g h isg ish apart. sound.endpoints_differ c d g h (names-freed s.endpoints after e c g rest isg).1 (names-freed s.endpoints after e d h rest ish).1 apart;
+    }
+
+-- a host that went on by itself
+pub sound-host : (s : SessionState) (now : HostState) → IsSound s → KeepsSession s.host now → ((h : EndpointState) → Stands (bus_of s.host) h → Stands (bus_of now) h) → IsSound (record s { host = now })
+sound-host s now sound keeps stands =
+    record {
+      idle = keeps.idle;
+      device_names = sound.device_names;
+      interface_names = sound.interface_names;
+      endpoint_names = sound.endpoint_names;
+      devices_stand = λ d k is. devices_stand-kept s.host now k keeps.devices (sound.devices_stand d k is);
+      interfaces_stand = λ i f is. StandsInterface-same s.host now f keeps.interfaces (no_fewer (length s.host.devices) (length now.devices) keeps.devices) (sound.interfaces_stand i f is);
+      interfaces_differ = sound.interfaces_differ;
+      endpoints_stand = λ e h is. stands h (sound.endpoints_stand e h is);
+      endpoints_differ = sound.endpoints_differ;
+    }
+
+-- the endpoint of a state under a name at which the session has one
+pub record OpenAt (state : State) (e : ℕ) (x : EndpointState) : Type 0 where
+  pub entry : Endpoint
+  pub is : named state.endpoints e ≡ Some entry
+  pub same : kept entry ≡ x
+  pub few : entry.taken ≤ length entry.tickets
+
+pub named_kept : (s : SessionState) (state : State) (e : ℕ) → Represents s state → named s.endpoints e ≡ handle_of state e
+named_kept s state e r = ap (λ (v : SessionState). named v.endpoints e) r.is ∙ named-map kept state.endpoints e
+
+open_by : (state : State) (e : ℕ) (x : EndpointState) (o : Option Endpoint) → named state.endpoints e ≡ o → option_map kept o ≡ Some x → ((h : Endpoint) → named state.endpoints e ≡ Some h → h.taken ≤ length h.tickets) → OpenAt state e x
+open_by state e x None at is few = absurd (none-some x is)
+open_by state e x (Some h) at is few = record { entry = h; is = at; same = same_Some (kept h) x is; few = few h at }
+
+pub open_at : (s : SessionState) (state : State) (e : ℕ) (x : EndpointState) → Represents s state → named s.endpoints e ≡ Some x → OpenAt state e x
+open_at s state e x r is = open_by state e x (named state.endpoints e) refl (sym (named_kept s state e r) ∙ is) (r.few e)
+
+few-put : (state : State) (f : Endpoint → Endpoint) (e : ℕ) (h : Endpoint) → ((d : ℕ) (g : Endpoint) → named state.endpoints d ≡ Some g → g.taken ≤ length g.tickets) → named state.endpoints e ≡ Some h → (f h).taken ≤ length (f h).tickets → (d : ℕ) (g : Endpoint) → named (change_named f state.endpoints e) d ≡ Some g → g.taken ≤ length g.tickets
+few-put state f e h few was now d g is =
+    elim (cases_eq d e) [
+      | inl same ↦ subst (λ (x : Endpoint). x.taken ≤ length x.tickets) (same_Some (f h) g (ap (option_map f) (sym was) ∙ sym (named-change_same f state.endpoints e) ∙ ap (named (change_named f state.endpoints e)) (sym same) ∙ is)) now
+      | inr apart ↦ few d g (sym (named-change_other f state.endpoints e d apart) ∙ is)
+    ]
+
+-- an endpoint was called and put back
+pub represents-put : (s : SessionState) (state : State) (now : HostState) (after : List (Option EndpointState)) (f : Endpoint → Endpoint) (e : ℕ) (x y : EndpointState) (o : OpenAt state e x) → Represents s state → after ≡ set_name (freed s.endpoints e) e y → kept (f o.entry) ≡ y → (f o.entry).taken ≤ length (f o.entry).tickets → Represents (record s { host = now; endpoints = after }) (record state { host = now; endpoints = change_named f state.endpoints e })
+represents-put s state now after f e x y o r put same few =
+    let here : named (map (option_map kept) state.endpoints) e ≡ Some x = named-map kept state.endpoints e ∙ ap (option_map kept) o.is ∙ ap (λ z. Some z) o.same in
+    let names : after ≡ map (option_map kept) (change_named f state.endpoints e) =
+    put ∙ ap (λ (v : SessionState). set_name (freed v.endpoints e) e y) r.is
+    ∙ put-changed (λ z. y) (map (option_map kept) state.endpoints) e x y here refl
+    ∙ sym (map-change_named kept f (λ z. y) state.endpoints e (λ h is. ap (λ (z : Endpoint). kept (f z)) (same_Some h o.entry (sym is ∙ o.is)) ∙ same)) in
+    record {
+      is =
+          ap (λ (v : SessionState). record v { host = now; endpoints = after }) r.is
+          ∙ ap (λ (l : List (Option EndpointState)). record (session_of state) { host = now; endpoints = l }) names;
+      few = few-put state f e o.entry r.few o.is few;
+    }
+
+-- an endpoint was called and is as it was
+pub represents-same : (s : SessionState) (state : State) (now : HostState) (after : List (Option EndpointState)) (e : ℕ) (x : EndpointState) → Represents s state → named s.endpoints e ≡ Some x → after ≡ set_name (freed s.endpoints e) e x → Represents (record s { host = now; endpoints = after }) (record state { host = now })
+represents-same s state now after e x r was put =
+    record {
+      is = ap (λ (l : List (Option EndpointState)). record s { host = now; endpoints = l }) (put ∙ put-back s.endpoints e x was) ∙ ap (λ (v : SessionState). record v { host = now }) r.is;
+      few = r.few;
+    }
+
+few-freed : (state : State) (e : ℕ) → ((d : ℕ) (g : Endpoint) → named state.endpoints d ≡ Some g → g.taken ≤ length g.tickets) → (d : ℕ) (g : Endpoint) → named (freed state.endpoints e) d ≡ Some g → g.taken ≤ length g.tickets
+few-freed state e few d g is = few d g (names-freed state.endpoints (freed state.endpoints e) e d g refl is).1
+
+-- an endpoint was closed
+pub represents-freed : (s : SessionState) (state : State) (now : HostState) (after : List (Option EndpointState)) (e : ℕ) → Represents s state → after ≡ freed s.endpoints e → Represents (record s { host = now; endpoints = after }) (record state { host = now; endpoints = freed state.endpoints e })
+represents-freed s state now after e r rest =
+    record {
+      is =
+          ap (λ (v : SessionState). record v { host = now; endpoints = after }) r.is
+          ∙ ap (λ (l : List (Option EndpointState)). record (session_of state) { host = now; endpoints = l })
+          (rest ∙ ap (λ (v : SessionState). freed v.endpoints e) r.is ∙ sym (map-freed kept state.endpoints e));
+      few = few-freed state e r.few;
+    }
+
+-- only the host went on
+pub represents-host : (s : SessionState) (state : State) (now : HostState) → Represents s state → Represents (record s { host = now }) (record state { host = now })
+represents-host s state now r =
+    record { is = ap (λ (v : SessionState). record v { host = now }) r.is; few = r.few }
+
+pub host_is : (s : SessionState) (state : State) → Represents s state → s.host ≡ state.host
+host_is s state r = ap (λ (v : SessionState). v.host) r.is
+
+-- the endpoints of a session as their calls see them
+pub taken-map : (es : List (Option AnyEndpoint)) (e : ℕ) (x : AnyEndpoint) → named es e ≡ Some x → named (map (option_map state_of) es) e ≡ Some (state_of x)
+taken-map es e x is = named-map state_of es e ∙ ap (option_map state_of) is
+
+pub put-map : (es mid after : List (Option AnyEndpoint)) (e : ℕ) (y : AnyEndpoint) → mid ≡ freed es e → after ≡ set_name mid e y → map (option_map state_of) after ≡ set_name (freed (map (option_map state_of) es) e) e (state_of y)
+put-map es mid after e y rest put =
+    ap (map (option_map state_of)) put ∙ map-set state_of mid e y
+    ∙ ap (λ l. set_name l e (state_of y)) (ap (map (option_map state_of)) rest ∙ map-freed state_of es e)
+
+pub freed-map : (es after : List (Option AnyEndpoint)) (e : ℕ) → after ≡ freed es e → map (option_map state_of) after ≡ freed (map (option_map state_of) es) e
+freed-map es after e rest = ap (map (option_map state_of)) rest ∙ map-freed state_of es e

@@ -1,0 +1,27 @@
+-- What a session is to its users.
+use Rattle.std.specs.Prelude.{ℕ, ◌≡◌, ◌≢◌, ◌<◌, List, [], Option, Some, length}
+use Rattle.usb_endpoint.specs.EndpointState.{EndpointState}
+use Rattle.usb_endpoint.specs.Handles.{Stands}
+use Rattle.usb_device.specs.HostState.{HostState}
+use Rattle.usb_device.specs.HostBus.{bus_of}
+use Rattle.usb_device.specs.HandleStates.{InterfaceState, StandsInterface}
+use Rattle.usb_answers.specs.Names.{named}
+
+-- the host, and what is open by the number of its name: the keys of devices, the interfaces, and the endpoints as their calls see them
+pub record SessionState : Type 0 where
+  pub host : HostState
+  pub devices : List (Option ℕ)
+  pub interfaces : List (Option InterfaceState)
+  pub endpoints : List (Option EndpointState)
+
+-- between calls no step is left; there are 64 names of each kind; and what is open under a name stands in the host, nothing under two names
+pub record IsSound (s : SessionState) : Type 0 where
+  pub idle : s.host.steps ≡ []
+  pub device_names : length s.devices ≡ 64
+  pub interface_names : length s.interfaces ≡ 64
+  pub endpoint_names : length s.endpoints ≡ 64
+  pub devices_stand : (d key : ℕ) → named s.devices d ≡ Some key → key < length s.host.devices
+  pub interfaces_stand : (i : ℕ) (f : InterfaceState) → named s.interfaces i ≡ Some f → StandsInterface s.host f
+  pub interfaces_differ : (i j : ℕ) (f g : InterfaceState) → named s.interfaces i ≡ Some f → named s.interfaces j ≡ Some g → i ≢ j → f.key ≢ g.key
+  pub endpoints_stand : (e : ℕ) (h : EndpointState) → named s.endpoints e ≡ Some h → Stands (bus_of s.host) h
+  pub endpoints_differ : (d e : ℕ) (g h : EndpointState) → named s.endpoints d ≡ Some g → named s.endpoints e ≡ Some h → d ≢ e → g.key ≢ h.key
