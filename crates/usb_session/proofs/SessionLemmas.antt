@@ -11,7 +11,7 @@ use Rattle.usb_script.specs.Outcome.{OrMemory}
 use Rattle.usb_session.specs.Causes.{ReadWhole}
 use Rattle.usb_script.specs.ItemKinds.{is_call}
 use Rattle.usb_answers.specs.declared.summary.Summary.{Summary}
-use Rattle.usb_answers.specs.Output.{final_state}
+use Rattle.usb_answers.specs.Output.{final_host}
 use Rattle.usb_answers.proofs.SumLemmas.{one_end_each}
 use Rattle.usb_session.specs.Session.{Seen, IsAnswered, HasReason, IsSmooth}
 use Rattle.usb_session.proofs.OutsideLemmas.{ReadWhole-known}
@@ -73,4 +73,4 @@ parsing_reason s Memory bytes read few parsed kept = inl kept
 -- each ticket of an answered script has one end
 pub answered-ends : (s : Seen) (summary : Summary) → IsAnswered s summary → summary.taken + summary.dropped + summary.reclaimed ≡ summary.tickets
 answered-ends s summary answered =
-    rw answered.summed (one_end_each (count_by is_call answered.items) (final_state answered.items))
+    rw answered.summed (one_end_each (count_by is_call answered.items) (final_host answered.items))

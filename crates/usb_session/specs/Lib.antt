@@ -2,3 +2,4 @@ pub mod Causes
 pub mod Memory
 pub mod Program
 pub mod Session
+pub mod Running

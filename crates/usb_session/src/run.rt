@@ -1,16 +1,16 @@
 //! A whole session.
 
 ghost use Rattle.std.specs.Prelude.{◌≡◌, ◌≤◌, ◌<◌, ◌+◌, length, IfOk, IfErr, OnOk, OnErr, IsErrOf};
-ghost use Rattle.std.specs.List.{All};
+ghost use Rattle.std.specs.List.{All, count_by};
 ghost use Rattle.std.specs.Io.KnownBytes.{Appends};
 ghost use Rattle.usb_script.specs.declared.item.Item.{Item};
-ghost use Rattle.usb_script.specs.ItemKinds.{step_count};
+ghost use Rattle.usb_script.specs.ItemKinds.{is_call, step_count};
 ghost use Rattle.usb_script.specs.ScriptFacts.{IsBounded};
 ghost use Rattle.usb_answers.specs.Fates.{fate_lines};
-ghost use Rattle.usb_answers.specs.Output.{output};
+ghost use Rattle.usb_answers.specs.Output.{output, start};
 ghost use Rattle.usb_answers.specs.Sums.{sum_of};
-ghost use Rattle.usb_answers.specs.State.{State};
-ghost use Rattle.usb_answers.specs.Relation.{Holds};
+ghost use Rattle.usb_answers.specs.Relation.{Represents};
+ghost use Rattle.usb_session.specs.Running.{AllAnswered};
 ghost use Rattle.usb_session.specs.Causes.{Rose, WrotePrefix, IsWritingError};
 ghost use Rattle.usb_session.specs.Session.{seen, IsAnswered, HasReason, IsLater, IsSmooth};
 
@@ -18,7 +18,7 @@ use crate::outside::{Failed, Sink, Source};
 use crate::reading::read_script;
 use crate::writing::offer;
 use std::alloc::Global;
-use usb_answers::{Session, Summary};
+use usb_answers::{Host, Session, Summary, fate_line, tickets};
 use usb_script::{Item, SessionError, parse_script};
 
 /// Writes a piece.
@@ -35,38 +35,38 @@ fn write_piece<K: Sink>(sink: &mut K, bytes: &[u8]) -> Result<(), SessionError>
     }
 }
 
-/// Writes the fate line of each ticket, by number.
-fn write_fates<K: Sink>(alloc: Global, session: &Session, sink: &mut K) -> Result<(), SessionError>
-    ensures ok { OnOk result ((state : State) → Holds session.now state → Appends (K.written sink.old) (K.written sink.new) (fate_lines state)) }
-    ensures err { OnErr result ((state : State) → Holds session.now state → WrotePrefix (K.written sink.old) (K.written sink.new) (fate_lines state)) }
+/// Writes the fate line of each ticket of a host, by number.
+fn write_fates<K: Sink>(alloc: Global, host: &Host, sink: &mut K) -> Result<(), SessionError>
+    ensures ok { OnOk result (Appends (K.written sink.old) (K.written sink.new) (fate_lines host.now)) }
+    ensures err { OnErr result (WrotePrefix (K.written sink.old) (K.written sink.new) (fate_lines host.now)) }
     ensures cause { IsErrOf result SessionError.WriteFault → Rose (K.faults sink.old) (K.faults sink.new) }
     ensures only { IfErr result IsWritingError }
     ensures later { K.faults sink.old ≤ K.faults sink.new }
 {
-    for ticket in 0..session.tickets() {
-        let line = session.fate_line(alloc, ticket)?;
+    for ticket in 0..tickets(host) {
+        let line = fate_line(alloc, host, ticket)?;
         write_piece(sink, line.as_bytes())?;
     }
     Ok(())
 }
 
-/// Answers each item in order, ends the session, and then writes the fate lines.
-fn answer_items<K: Sink>(
+/// Answers each item in order, and counts the calls.
+fn answer_each<K: Sink>(
     alloc: Global,
     items: &[Item],
-    steps: usize,
+    session: &mut Session,
     sink: &mut K,
-) -> Result<Summary, SessionError>
+) -> Result<u32, SessionError>
     requires bounded { IsBounded items.now }
-    requires steps { step_count items.now ≤ steps }
-    ensures ok { OnOk result (Appends (K.written sink.old) (K.written sink.new) (output items.now)) }
-    ensures summary { IfOk result (λ s. s ≡ sum_of items.now) }
+    requires stands { Represents session.old (start items.now) }
+    requires room { step_count items.now ≤ session.old.host.kernel.spare }
+    ensures ok { OnOk result (AllAnswered (K.written sink.old) (K.written sink.new) session.new items.now) }
+    ensures calls { IfOk result (λ n. n ≡ count_by is_call items.now) }
     ensures err { OnErr result (WrotePrefix (K.written sink.old) (K.written sink.new) (output items.now)) }
     ensures cause { IsErrOf result SessionError.WriteFault → Rose (K.faults sink.old) (K.faults sink.new) }
     ensures only { IfErr result IsWritingError }
     ensures later { K.faults sink.old ≤ K.faults sink.new }
 {
-    let mut session = Session::new(alloc, items, steps)?;
     let mut calls = 0u32;
     for item in items {
         let line = session.answer(alloc, item)?;
@@ -75,9 +75,32 @@ fn answer_items<K: Sink>(
             calls += 1;
         }
     }
-    session.end();
-    write_fates(alloc, &session, sink)?;
-    Ok(session.summary(calls))
+    Ok(calls)
+}
+
+/// Answers each item in order, ends the session, and then writes the fate lines. The session is ended even where an answer
+/// could not be written.
+fn answer_items<K: Sink>(
+    alloc: Global,
+    items: &[Item],
+    steps: usize,
+    sink: &mut K,
+) -> Result<Summary, SessionError>
+    requires bounded { IsBounded items.now }
+    requires steps { steps ≡ step_count items.now }
+    ensures ok { OnOk result (Appends (K.written sink.old) (K.written sink.new) (output items.now)) }
+    ensures summary { IfOk result (λ s. s ≡ sum_of items.now) }
+    ensures err { OnErr result (WrotePrefix (K.written sink.old) (K.written sink.new) (output items.now)) }
+    ensures cause { IsErrOf result SessionError.WriteFault → Rose (K.faults sink.old) (K.faults sink.new) }
+    ensures only { IfErr result IsWritingError }
+    ensures later { K.faults sink.old ≤ K.faults sink.new }
+{
+    let mut session = Session::new(alloc, items, steps)?;
+    let answered = answer_each(alloc, items, &mut session, sink);
+    let host = session.end();
+    let calls = answered?;
+    write_fates(alloc, &host, sink)?;
+    Ok(Summary::of(&host, calls))
 }
 
 /// Reads a script to its end, answers it, and writes the answers.

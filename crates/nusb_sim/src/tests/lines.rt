@@ -19,6 +19,7 @@ fn skips_comments_and_empty_lines(rt: HostRuntime) -> Result<(), Fail> {
         // The last LF may be missing, and a CR may stand before an LF.
         (b"poll e0".as_slice(), 0, "condition\n", ""),
         (b"poll e0\r\n".as_slice(), 0, "condition\n", ""),
+        (b"now\r\n".as_slice(), 0, "now 0\n", ""),
         (b"poll e0\r\r\n".as_slice(), 3, "", malformed_1),
         (b"\topen d0 1 6\n".as_slice(), 3, "", malformed_1),
         // A skipped line is counted.
