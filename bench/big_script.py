@@ -1,10 +1,12 @@
 #!/usr/bin/env python3
 """Writes a script of at most 2^20 bytes to standard output, in which nearly each line is a call.
 
-usage: bench/big_script.py polls|cycles|refused|descriptors
+usage: bench/big_script.py polls|cycles|flight|waits|refused|descriptors
 
 polls        polls of an endpoint with nothing pending
 cycles       a transfer, its packet, its reap and its poll, again and again
+flight       32 transfers in flight, of which the oldest gets its packet, is reaped, polled and replaced, again and again
+waits        a blocking transfer with a packet and a reap of its own, again and again
 refused      transfers of an invalid length, until 64 are pending
 descriptors  the printed descriptors of one device, again and again: a walk of all its descriptors a line
 """
@@ -28,6 +30,11 @@ def body(kind):
             yield "poll e0\n"
         elif kind == "cycles":
             yield f"submitin e0 64\n! pkt k0 81 01 ; reap {number}\npoll e0\n"
+        elif kind == "flight":
+            turn = "" if number < 32 else "! pkt k0 81 01 ; reap\npoll e0\n"
+            yield f"{turn}submitin e0 64\n"
+        elif kind == "waits":
+            yield "xferin e0 64 100 : pkt k0 81 01 ; reap\n"
         elif kind == "refused":
             yield "submitin e0 63\n"
         elif kind == "descriptors":
