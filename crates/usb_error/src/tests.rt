@@ -25,72 +25,31 @@ fn expect_row(
 #[test]
 fn errnos_of_calls_have_their_errors(rt: HostRuntime) -> Result<(), Fail> {
     use ErrorKind::{Busy, Disconnected, NotFound, Other, PermissionDenied};
-    let rows = [
-        (
-            Error::open(2),
-            Disconnected,
-            2,
-            "device not found (errno 2)",
-        ),
-        (
-            Error::open(1),
-            PermissionDenied,
-            1,
-            "permission denied (errno 1)",
-        ),
-        (
-            Error::open(13),
-            PermissionDenied,
-            13,
-            "permission denied (errno 13)",
-        ),
-        (
-            Error::open(19),
-            Other,
-            19,
-            "failed to open device (errno 19)",
-        ),
-        (
-            Error::open(4095),
-            Other,
-            4095,
-            "failed to open device (errno 4095)",
-        ),
-        (
-            Error::read_descriptors(19),
-            Other,
-            19,
-            "failed to read descriptors (errno 19)",
-        ),
-        (
-            Error::claim(19),
-            Disconnected,
-            19,
-            "device disconnected (errno 19)",
-        ),
-        (
-            Error::claim(22),
-            NotFound,
-            22,
-            "interface not found (errno 22)",
-        ),
-        (
-            Error::claim(2),
-            NotFound,
-            2,
-            "interface not found (errno 2)",
-        ),
-        (Error::claim(16), Busy, 16, "interface is busy (errno 16)"),
-        (
-            Error::claim(61),
-            Other,
-            61,
-            "failed to claim interface (errno 61)",
-        ),
+    let opens = [
+        (2, Disconnected, "device not found (errno 2)"),
+        (1, PermissionDenied, "permission denied (errno 1)"),
+        (13, PermissionDenied, "permission denied (errno 13)"),
+        (19, Other, "failed to open device (errno 19)"),
+        (4095, Other, "failed to open device (errno 4095)"),
     ];
-    for (error, kind, code, text) in rows {
-        expect_row(&rt, rt.alloc(), &error, kind, Some(code), text)?;
+    for (errno, kind, text) in opens {
+        let code = Some(errno as u32);
+        expect_row(&rt, rt.alloc(), &Error::open(errno), kind, code, text)?;
     }
+    let claims = [
+        (19, Disconnected, "device disconnected (errno 19)"),
+        (22, NotFound, "interface not found (errno 22)"),
+        (2, NotFound, "interface not found (errno 2)"),
+        (16, Busy, "interface is busy (errno 16)"),
+        (61, Other, "failed to claim interface (errno 61)"),
+    ];
+    for (errno, kind, text) in claims {
+        let code = Some(errno as u32);
+        expect_row(&rt, rt.alloc(), &Error::claim(errno), kind, code, text)?;
+    }
+    let unread = Error::read_descriptors(19);
+    let text = "failed to read descriptors (errno 19)";
+    expect_row(&rt, rt.alloc(), &unread, Other, Some(19), text)?;
     Ok(())
 }
 

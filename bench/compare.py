@@ -1,0 +1,146 @@
+#!/usr/bin/env python3
+"""Runs two programs on random scripts, and prints the first script on which their answers or their status differ.
+
+usage: bench/compare.py PROGRAM OTHER [COUNT [SEED]]
+
+A script has a few simulated devices, and then calls and steps over few names, so that names collide, endpoints are busy,
+tickets are reaped in any order and devices are pulled out while transfers are open. One in ten has a malformed line.
+"""
+import random
+import subprocess
+import sys
+
+CONFIGURATIONS = [
+    # interface 0 with bulk IN 81 and bulk OUT 02 of 64 bytes
+    "090220000101008032" "0904000002ff000000" "07058102400000" "07050202400000",
+    # interface 0 with interrupt IN 81 of 8 bytes and interrupt OUT 01 of 16; interface 1 with bulk IN 82 of 0 bytes
+    "090230000201008032" "0904000002030000000705810308000a" "0705010310000a" "09040100010800000007058202000000",
+    # value 2: interface 3, twice, with bulk IN 83 of 512 bytes in the setting 1 alone
+    "090222000102008032" "0904030000ff000000" "0904030101ff000000" "07058302000200",
+]
+DEVICE = "120100020000004{0}aaaabbbb00010000000{1}"
+
+
+def descriptors(r):
+    count = r.randint(1, 2)
+    body = "".join(r.choice(CONFIGURATIONS) for _ in range(count))
+    whole = DEVICE.format(r.randint(0, 9), count) + body
+    if r.random() < 0.1:
+        whole = whole[: 2 * r.randint(0, len(whole) // 2)]
+    return whole or "-"
+
+
+def name(r, letter, most):
+    """A name, the low ones more often."""
+    return f"{letter}{min(r.randrange(most) for _ in range(2 if r.random() < 0.8 else 1))}"
+
+
+def hexes(r, lengths):
+    return r.randbytes(r.choice(lengths)).hex() or "-"
+
+
+def address(r):
+    return r.choice(["81", "82", "83", "01", "02", "91"])
+
+
+def step(r):
+    k = name(r, "k", 3)
+    return r.choice([
+        lambda: f"pkt {k} {address(r)} {hexes(r, [0, 1, 7, 8, 16, 63, 64, 64, 65, 512])}",
+        lambda: f"pkt {k} 81 {hexes(r, [0, 1, 8, 64])}",
+        lambda: f"ack {k} {address(r)}",
+        lambda: f"ack {k} {r.choice(['01', '02'])}",
+        lambda: f"fail {k} {address(r)} {r.choice([32, 71, 75, 84, 104, 108, 110, 22, 5, 4095])}",
+        lambda: f"clock {r.randrange(4000)}",
+        lambda: f"clock {r.randrange(5) * 10**9}",
+        lambda: f"refuse {k} submit {r.choice([12, 16, 19, 22, 28])}",
+        lambda: "reap",
+        lambda: "reap",
+        lambda: f"reap {r.randrange(12)}",
+        lambda: f"unplug {k}" if r.random() < 0.2 else "reap",
+    ])()
+
+
+def steps(r):
+    return " ; ".join(step(r) for _ in range(r.randint(1, 4)))
+
+
+def own(r):
+    return f" : {steps(r)}" if r.random() < 0.6 else ""
+
+
+def length(r):
+    return r.choice([0, 1, 8, 16, 24, 63, 64, 128, 512])
+
+
+def timeout(r):
+    return r.choice(["0", "1", "50", "1000", "1000000000", "max"])
+
+
+def call(r):
+    d, i, e = name(r, "d", 2), name(r, "i", 3), name(r, "e", 3)
+    return r.choice([
+        lambda: f"open {d} 1 {r.randint(6, 8)}",
+        lambda: f"claim {d} {r.choice([0, 0, 1, 3])} {i}",
+        lambda: f"endpoint {e} {i} {address(r)} {r.choice(['bulk-in', 'bulk-out', 'int-in', 'int-out'])}",
+        lambda: f"endpoint {e} {i} 81 {r.choice(['bulk-in', 'int-in'])}",
+        lambda: f"submitin {e} {length(r)}",
+        lambda: f"submitin {e} 64",
+        lambda: f"submitout {e} {hexes(r, [0, 1, 16, 63, 64, 130])}",
+        lambda: f"submitout {e} {hexes(r, [1, 64])}",
+        lambda: f"poll {e}",
+        lambda: f"poll {e}",
+        lambda: f"pending {e}",
+        lambda: f"wait {e} {timeout(r)}{own(r)}",
+        lambda: f"xferin {e} {length(r)} {timeout(r)}{own(r)}",
+        lambda: f"xferout {e} {hexes(r, [0, 1, 64, 100])} {timeout(r)}{own(r)}",
+        lambda: f"cancel {e}",
+        lambda: f"close {e}" if r.random() < 0.4 else f"poll {e}",
+        lambda: "now",
+        lambda: f"{r.choice(['devdesc', 'descriptors'])} {d}",
+    ])()
+
+
+def script(seed):
+    r = random.Random(seed)
+    lines = [f"device k{k} 1 {6 + k} 3 {r.choice([1, 1, 1, 2])} {descriptors(r)}" for k in range(r.randint(1, 3))]
+    if r.random() < 0.8:
+        kind = r.randrange(2)
+        lines[0] = f"device k0 1 6 3 1 {DEVICE.format(0, 1)}{CONFIGURATIONS[kind]}"
+        lines += ["open d0 1 6", "claim d0 0 i0", f"endpoint e0 i0 81 {['bulk-in', 'int-in'][kind]}"]
+        lines += [f"endpoint e1 i0 {['02 bulk-out', '01 int-out'][kind]}"]
+    for _ in range(r.randint(5, 60)):
+        lines.append(f"! {steps(r)}" if r.random() < 0.4 else call(r))
+    if r.random() < 0.1:
+        lines.insert(r.randrange(len(lines) + 1), r.choice(["poll", "poll e64", "\tnow", "! ", "clock 1", "now x", "# \x01", "poll e0 : reap"]))
+    return ("\n".join(lines) + r.choice(["", "\n", "\r\n"])).encode()
+
+
+def answer(program, text):
+    ran = subprocess.run([program], input=text, capture_output=True, timeout=120)
+    return ran.returncode, ran.stdout, ran.stderr
+
+
+def main():
+    if len(sys.argv) not in (3, 4, 5):
+        sys.exit(__doc__)
+    program, other = sys.argv[1:3]
+    count = int(sys.argv[3]) if len(sys.argv) > 3 else 1000
+    first = int(sys.argv[4]) if len(sys.argv) > 4 else 0
+    lines = 0
+    for seed in range(first, first + count):
+        text = script(seed)
+        one, two = answer(program, text), answer(other, text)
+        lines += one[1].count(b"\n")
+        if one != two:
+            sys.stdout.write(text.decode("ascii", "replace"))
+            print(f"\nscript {seed}: {one[0]} and {two[0]}")
+            for a, b in zip(one[1].split(b"\n"), two[1].split(b"\n")):
+                if a != b:
+                    print(f"  {a.decode()}\n  {b.decode()}")
+                    break
+            sys.exit(1)
+    print(f"{count} scripts, {lines} lines of answers: the same")
+
+
+main()
