@@ -20,3 +20,4 @@ pub mod EndpointCalls
 pub mod FreshKeys
 pub mod EndLemmas
 pub mod FinishLemmas
+pub mod CloseLemmas

@@ -1,11 +1,16 @@
 -- The ends of tickets.
-use Rattle.std.specs.Prelude.{ℕ, ◌≡◌, Some}
+use Rattle.std.specs.Prelude.{ℕ, ◌≡◌, Some, None, is_some, slice_get, if◌then◌else◌}
 use Rattle.usb_kernel.specs.declared.step.KernelStep.{KernelStep}
 use Rattle.usb_xfer.specs.declared.transfer.TransferData.{TransferData}
 use Rattle.usb_bus.specs.declared.route.Route.{Route}
+use Rattle.usb_kernel.specs.Completions.{completion}
+use Rattle.usb_endpoint.specs.EndpointState.{EndpointState}
+use Rattle.usb_endpoint.specs.Handles.{Stands}
+use Rattle.usb_endpoint.specs.Closes.{after_close}
 use Rattle.usb_device.specs.declared.ends.TicketEnd.{TicketEnd}
+use Rattle.usb_device.specs.declared.ends.TicketEnd.TheVariants.{Dropped}
 use Rattle.usb_device.specs.HostState.{HostState}
-use Rattle.usb_device.specs.HostBus.{end_at}
+use Rattle.usb_device.specs.HostBus.{end_at, bus_of}
 use Rattle.usb_device.specs.HostTurns.{host_stepped, host_turned, host_rest}
 use Rattle.usb_device.specs.HostCalls.{host_submitted, host_refused, host_discarded, host_left, host_idled}
 use Rattle.usb_device.specs.TicketEnds.{host_taken, host_abandoned}
@@ -37,3 +42,9 @@ pub record EndsStay : Type 0 where
   pub ask : (h : HostState) (device : ℕ) → KeepsEnds h (host_asked h device)
   pub open_endpoint : (h : HostState) (interface address : ℕ) → KeepsEnds h (with_endpoint h interface address)
   pub finish : (h : HostState) → KeepsEnds h (finished h)
+
+-- of an endpoint that is closed a pending ticket is dropped exactly where it was reaped, and else has no end yet
+abbrev pub DroppedWhereReaped : Type 0
+DroppedWhereReaped =
+    (h : HostState) (e : EndpointState) (i t : ℕ) → Stands (bus_of h) e → slice_get e.pending i ≡ Some t →
+    end_at (after_close host_discarded host_abandoned host_left h e).tickets t ≡ (if is_some (completion h.kernel.past t) then Some Dropped else None)

@@ -1,6 +1,6 @@
 //! Laws of waits at a host. Each is the contract of a function that does nothing.
 
-ghost use Rattle.usb_device.specs.EndLaws.{EndsStay};
+ghost use Rattle.usb_device.specs.EndLaws.{EndsStay, DroppedWhereReaped};
 ghost use Rattle.usb_device.specs.WaitLaws.{WaitIsBySteps, BlockingIsBySteps, TurnGoesOn, WaitGoesOn, BlockingGoesOn, RestGoesOn, RestLeavesNone, LineUsesPlaces};
 
 /// A wait for a ticket goes by the steps of the line that are left, and then by reaps.
@@ -27,4 +27,10 @@ pub fn lines_go_on()
 /// A ticket has at most one end: one that it has stays over each call on the host.
 pub fn tickets_end_once()
     ensures stay { EndsStay }
+{}
+
+/// A transfer that was not taken is dropped exactly where it was reaped when its endpoint is closed. Else it is reclaimed at its
+/// reap.
+pub fn what_is_reaped_is_dropped()
+    ensures dropped { DroppedWhereReaped }
 {}

@@ -16,7 +16,10 @@ mod slot;
 pub use device::{Device, Interface};
 pub use ends::TicketEnd;
 pub use host::Host;
-pub use laws::{blocking_is_by_steps, lines_go_on, tickets_end_once, wait_is_by_steps};
+pub use laws::{
+    blocking_is_by_steps, lines_go_on, tickets_end_once, wait_is_by_steps,
+    what_is_reaped_is_dropped,
+};
 pub use opened::OpenDevice;
 
 #[cfg(test)]
