@@ -18,3 +18,4 @@ pub mod RunLemmas
 pub mod SumLemmas
 pub mod TriedLines
 pub mod WaitCode
+mod WorkedOutput
