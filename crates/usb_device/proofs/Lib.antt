@@ -20,3 +20,5 @@ pub mod EndpointCalls
 pub mod FreshKeys
 pub mod EndLemmas
 pub mod FinishLemmas
+pub mod CountLemmas
+pub mod HeldLemmas
