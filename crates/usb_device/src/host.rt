@@ -17,7 +17,7 @@ ghost use Rattle.usb_device.specs.HostState.{HostState, host_of};
 ghost use Rattle.usb_device.specs.HostBus.{bus_of, hold_at, owner_at, key_at, host_value, end_at};
 ghost use Rattle.usb_device.specs.HostBusFacts.{bus_of-taken};
 ghost use Rattle.usb_device.specs.HostCalls.{host_submitted, host_refused, host_discarded, host_left, host_idled, host_halt_result, host_halt_cleared};
-ghost use Rattle.usb_device.specs.Finishes.{finished, HasEnds};
+ghost use Rattle.usb_device.specs.Finishes.{finished, HasEnds, HasCompletions};
 ghost use Rattle.usb_device.specs.HostFacts.{Agree, Comes, host_made, held_at_once};
 ghost use Rattle.usb_device.specs.HostLaws.{held-owned, value-held};
 ghost use Rattle.usb_device.specs.HostTurns.{host_stepped, host_reaped, host_turned, host_turn, host_rest};
@@ -210,6 +210,7 @@ impl Host {
     pub fn finish(&mut self)
         ensures finished { self.new ≡ finished self.old }
         ensures ended { ((t : ℕ) → owner_at self.old.tickets t ≡ None) → HasEnds self.new.tickets }
+        ensures reaped { HasCompletions self.new.kernel.past }
     {
         let count = self.kernel.tickets();
         for ticket in 0..count {

@@ -90,18 +90,17 @@ answered-cut {old} {mid} new s host items done ends cut =
     let here = ends done.now done.stands in
     Wrote_prefix new (fate_lines host) [] done.wrote cut (append-nil (fate_lines host) ∙ ap fate_lines here)
 
--- each ticket of the host has its end
-pub ended-host : {old new : Option (List ℕ)} (s : SessionState) (host : HostState) (items : List Item) → AllAnswered old new s items → ((state : State) → Represents s state → Accounted state → HasEnds host.tickets) → HasEnds host.tickets
-ended-host s host items done ends = ends done.now done.stands done.accounted
+-- the host at the end is the last of the script, and each of its tickets has its end
+pub host-final : {old new : Option (List ℕ)} (s : SessionState) (host : HostState) (items : List Item) → AllAnswered old new s items → ((state : State) → Represents s state → host ≡ ended state) → host ≡ final_host items
+host-final s host items done ends = ends done.now done.stands ∙ done.leads
 
--- which is the last of the script
-pub ended-final : {old new : Option (List ℕ)} (s : SessionState) (host : HostState) (items : List Item) → AllAnswered old new s items → ((state : State) → Represents s state → host ≡ ended state) → HasEnds host.tickets → HasEnds (final_host items).tickets
-ended-final s host items done ends has = subst (λ (h : HostState). HasEnds h.tickets) (ends done.now done.stands ∙ done.leads) has
+pub host-ended : {old new : Option (List ℕ)} (s : SessionState) (host : HostState) (items : List Item) → AllAnswered old new s items → ((state : State) → Represents s state → Accounted state → HasEnds host.tickets) → HasEnds host.tickets
+host-ended s host items done ends = ends done.now done.stands done.accounted
 
 -- the summary of the last host
 pub answered-sum : {old new : Option (List ℕ)} (s : SessionState) (host : HostState) (items : List Item) (calls : ℕ) (summary : Summary) → AllAnswered old new s items → ((state : State) → Represents s state → host ≡ ended state) → summary ≡ counts_of calls host → calls ≡ count_by is_call items → summary ≡ sum_of items
 answered-sum s host items calls summary done ends sums counted =
-    sums ∙ ap (counts_of calls) (ends done.now done.stands ∙ done.leads) ∙ ap (λ n. counts_of n (final_host items)) counted
+    sums ∙ ap (counts_of calls) (host-final s host items done ends) ∙ ap (λ n. counts_of n (final_host items)) counted
 
 -- the steps of an item and of those behind it
 pub step_count-step : (items : List Item) (i : ℕ) (item : Item) → i < length items → item ≡ get_or items i item → step_count (drop i items) ≡ steps_in item + step_count (drop (i + 1) items)

@@ -34,8 +34,9 @@ returns c = record {
       λ state r a. end-ended c.close_interfaces.new.self c.close_devices.new.host c.finish.new.self state
       (c.close_devices.ensures.host ∙ ap (λ (v : SessionState). v.host) c.session.view_is)
       (λ n. sym (ap (λ (v : SessionState). named v.endpoints n) c.session.view_is) ∙
-          none-all (map (option_map state_of) c.session.inside.endpoints.items) c.session.invariant.endpoint_names
-          (λ n below. ap (λ (v : SessionState). named v.endpoints n) c.session.view_is ∙ ap (λ l. named l n) c.close_interfaces.ensures.endpoints ∙ c.close_endpoints.ensures.none n below) n)
+      none-all (map (option_map state_of) c.session.inside.endpoints.items) c.session.invariant.endpoint_names
+      (λ n below. ap (λ (v : SessionState). named v.endpoints n) c.session.view_is ∙ ap (λ l. named l n) c.close_interfaces.ensures.endpoints ∙ c.close_endpoints.ensures.none n below) n)
       (c.close_interfaces.ensures.stands (endpoints_closed state 64) (c.close_endpoints.ensures.stands state r))
       a c.finish.ensures.ended;
+  reaped = c.finish.ensures.reaped;
 }
