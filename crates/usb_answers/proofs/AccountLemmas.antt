@@ -1,6 +1,6 @@
 -- What endpoints hold stays accounted for over each answer.
 use Rattle.std.proofs.Common.{◌≡◌, ◌≢◌, ℕ, ◌<◌, ◌≤◌, ◌+◌, suc, zero, arith, List, [], ◌∷◌, ◌++◌, length, drop, Option, Some, None, Result, Ok, Err, Bool, true, false, refl, ap, sym, ◌∙◌, subst, slice_get, inl, inr}
-use Rattle.std.specs.Prelude.{not, ◌||◌, ◌==◌, nat_le, if◌then◌else◌}
+use Rattle.std.specs.Prelude.{not, ◌||◌, ◌==◌, nat_le}
 use Rattle.std.specs.List.{Contains}
 use Rattle.std.specs.Option.{option_map}
 use Rattle.std.proofs.lemmas.Bool.{cases_eq, cond_both, or_parts, eqb-true, not-false}
@@ -14,43 +14,40 @@ use Rattle.usb_error.specs.ErrorState.{ErrorState}
 use Rattle.usb_kernel.specs.declared.event.Event.{Event}
 use Rattle.usb_kernel.specs.declared.step.KernelStep.{KernelStep}
 use Rattle.usb_kernel.specs.Info.{unreaped}
-use Rattle.usb_kernel.specs.Tickets.{tickets}
 use Rattle.usb_bus.specs.Completions.{transfer_completion}
 use Rattle.usb_endpoint.specs.EndpointState.{EndpointState}
 use Rattle.usb_endpoint.specs.Submits.{entered}
-use Rattle.usb_endpoint.specs.Closes.{all_discarded, after_close}
+use Rattle.usb_endpoint.specs.Closes.{all_discarded}
 use Rattle.usb_device.specs.declared.opened.OpenDevice.{OpenDevice}
 use Rattle.usb_device.specs.HostState.{HostState, ClaimedInterface}
 use Rattle.usb_device.specs.HandleStates.{InterfaceState}
 use Rattle.usb_device.specs.HostBus.{owner_at}
 use Rattle.usb_device.specs.HostFrames.{WentOn}
-use Rattle.usb_device.specs.HostCalls.{host_submitted, host_refused, host_discarded, host_left}
+use Rattle.usb_device.specs.HostCalls.{host_submitted, host_refused, host_discarded}
 use Rattle.usb_device.specs.HostTurns.{host_rest}
 use Rattle.usb_device.specs.HostWaits.{host_waited}
 use Rattle.usb_device.specs.HostBlocking.{host_blocked}
-use Rattle.usb_device.specs.TicketEnds.{host_taken, host_abandoned}
 use Rattle.usb_device.specs.Handles.{handle_closed}
-use Rattle.usb_device.specs.Opens.{open_tried, with_opened}
+use Rattle.usb_device.specs.Opens.{open_tried}
 use Rattle.usb_device.specs.InterfaceClaims.{claim_tried, host_claimed}
-use Rattle.usb_device.specs.EndpointOpens.{host_asked, host_tries, with_endpoint}
+use Rattle.usb_device.specs.EndpointOpens.{host_asked, host_tries}
 use Rattle.usb_device.proofs.CountLemmas.{KeepsCount, count-same, count-trans, taken-count, rest-count, waited-count, blocked-count, all_discarded-count, closed-count, handle_closed-count, claimed-count, asked-count, entered-count}
 use Rattle.usb_device.proofs.HeldLemmas.{HoldsNoMore, holds-bus, holds-went, taken-held, Contains-behind, closed-held, entered-held}
 use Rattle.usb_device.proofs.WaitFrames.{went-rest, went-waited, went-blocked}
 use Rattle.usb_device.proofs.EndpointCalls.{went-all_discarded}
 use Rattle.usb_device.proofs.InterfaceFrames.{bus-handle_closed, bus-claimed, asked-is}
-use Rattle.usb_script.specs.declared.item.Item.{Item}
 use Rattle.usb_script.specs.declared.item.Item.TheVariants.{Device, Now, Open, DeviceDescriptor, Descriptors, Claim, Endpoint as EndpointLine, SubmitIn, SubmitOut, Pending, Poll, Wait, TransferIn, TransferOut, Cancel, CloseEndpoint, Steps}
 use Rattle.usb_answers.specs.Names.{named, is_free, change_named, freed, set_name}
 use Rattle.usb_answers.specs.State.{State, Endpoint, Given, kept, pending, handle_of, tickets_of, with_host}
 use Rattle.usb_answers.specs.Opens.{opened_as, opened, open_barred}
 use Rattle.usb_answers.specs.Claims.{claimed_as, claimed_by, claimed_on, claimed, claim_barred}
-use Rattle.usb_answers.specs.Endpoints.{endpoint_as, endpoint_asked, endpoint_by, endpoint_on, endpoint_opened, endpoint_barred, fresh_endpoint}
+use Rattle.usb_answers.specs.Endpoints.{endpoint_as, endpoint_by, endpoint_on, endpoint_opened, endpoint_barred, fresh_endpoint}
 use Rattle.usb_answers.specs.Buffers.{in_buffer, out_buffer}
 use Rattle.usb_answers.specs.Submits.{submitted_at, submitted, submit_barred, with_ticket}
 use Rattle.usb_answers.specs.Polls.{poll_barred, front_of, one_taken, took, polled_front, polled}
 use Rattle.usb_answers.specs.Steps.{lent, rested, stepped_all}
 use Rattle.usb_answers.specs.Waits.{wait_ended, waited_front, waited_lent, waited}
-use Rattle.usb_answers.specs.Transfers.{with_taken, transfer_ended, transferred_at, transferred, transfer_barred, transfer_barred_by}
+use Rattle.usb_answers.specs.Transfers.{with_taken, transferred_at, transferred, transfer_barred, transfer_barred_by}
 use Rattle.usb_answers.specs.Closes.{is_not_open, cancelled_at, cancelled, closed_at, closed}
 use Rattle.usb_answers.specs.Answers.{Answer, barred, open_answer, asked, device_descriptor_answer, descriptors_answer, claim_answer, endpoint_answer, submit_answer, pending_at, pending_answer, poll_answer, wait_answer, transfer_answer, cancel_answer, close_answer, steps_answer, now_answer, answer}
 use Rattle.usb_answers.specs.Ends.{endpoints_closed, interface_closed_at, interface_closed, interfaces_closed, all_closed}

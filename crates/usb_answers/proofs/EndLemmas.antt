@@ -1,26 +1,25 @@
 -- The end of a session: interfaces are closed.
-use Rattle.std.proofs.Common.{◌≡◌, ◌≢◌, ℕ, ◌<◌, ◌≤◌, ◌+◌, arith, suc, zero, List, [], ◌∷◌, ◌++◌, slice_get, length, map, Option, Some, None, refl, ap, sym, ◌∙◌, subst, inl, inr}
+use Rattle.std.proofs.Common.{◌≡◌, ◌≢◌, ℕ, ◌<◌, ◌+◌, arith, suc, zero, List, [], ◌∷◌, ◌++◌, slice_get, length, map, Option, Some, None, refl, ap, sym, ◌∙◌, subst, inl, inr}
 use Rattle.std.specs.Option.{option_map}
 use Rattle.std.proofs.lemmas.Bool.{cases_eq, cases_lt}
 use Rattle.std.proofs.lemmas.Option.{none-some}
 use Rattle.usb_endpoint.specs.declared.any_endpoint.AnyEndpoint.{AnyEndpoint}
 use Rattle.usb_endpoint.specs.AnyEndpoints.{state_of}
-use Rattle.usb_endpoint.specs.EndpointState.{EndpointState}
 use Rattle.usb_endpoint.specs.Handles.{Stands}
 use Rattle.usb_device.specs.declared.opened.OpenDevice.{OpenDevice}
 use Rattle.usb_device.specs.HostState.{HostState}
-use Rattle.usb_device.specs.HostBus.{bus_of, owner_at}
+use Rattle.usb_device.specs.HostBus.{owner_at}
 use Rattle.usb_device.specs.Handles.{handle_closed}
 use Rattle.usb_device.specs.Finishes.{finished, HasEnds}
-use Rattle.usb_device.specs.HandleStates.{InterfaceState, StandsInterface}
+use Rattle.usb_device.specs.HandleStates.{InterfaceState}
 use Rattle.usb_device.proofs.InterfaceFrames.{StandsInterface-other, bus-handle_closed, line-handle_closed}
 use Rattle.usb_answers.specs.Names.{named, freed}
 use Rattle.usb_answers.specs.State.{State, kept}
 use Rattle.usb_answers.specs.Closes.{closed}
-use Rattle.usb_answers.specs.Ends.{interface_closed_at, interface_closed, interfaces_closed, endpoints_closed, all_closed, ended}
+use Rattle.usb_answers.specs.Ends.{interface_closed, interfaces_closed, endpoints_closed, all_closed, ended}
 use Rattle.usb_answers.specs.SessionState.{SessionState, IsSound}
 use Rattle.usb_answers.specs.SessionFacts.{session_made}
-use Rattle.usb_answers.specs.Relation.{Represents, session_of}
+use Rattle.usb_answers.specs.Relation.{Represents}
 use Rattle.usb_answers.specs.Accounts.{Accounted}
 use Rattle.usb_answers.proofs.AccountLemmas.{accounted-all_closed, accounted-none}
 use Rattle.usb_answers.proofs.Called.{named_kept, host_is}

@@ -1,4 +1,4 @@
-use Rattle.std.proofs.Common.{◌≡◌, ◌+◌, arith, refl}
+use Rattle.std.proofs.Common.{arith, refl}
 use Rattle.usb_answers.proofs.SumLemmas.{counted-few, counts-are}
 use Rattle.usb_answers.proofs.summary.Summary.of.Goals as goal
 
