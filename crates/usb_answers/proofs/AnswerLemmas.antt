@@ -2,7 +2,6 @@
 use Rattle.std.proofs.Common.{◌≡◌, ℕ, List, [], length, true, false, Result, Ok, Err, Option, Some, None, refl, ap, sym, ◌∙◌}
 use Rattle.std.specs.Prelude.{not, ◌||◌, is_none}
 use Rattle.std.specs.Option.{option_map}
-use Rattle.std.proofs.lemmas.Option.{none-some, same_Some}
 use Rattle.usb_desc.specs.declared.error.Fail.{Fail}
 use Rattle.usb_desc.specs.declared.error.Fail.TheVariants.{Cause, Memory}
 use Rattle.usb_desc.specs.declared.types.Direction.{Direction}
@@ -12,12 +11,11 @@ use Rattle.usb_xfer.specs.BufferState.{BufferState}
 use Rattle.usb_xfer.specs.declared.transfer.Completion.{Completion}
 use Rattle.usb_kernel.specs.declared.step.KernelStep.{KernelStep}
 use Rattle.usb_endpoint.specs.EndpointState.{EndpointState}
-use Rattle.usb_device.specs.declared.opened.OpenDevice.{OpenDevice}
 use Rattle.usb_device.specs.HostState.{HostState}
-use Rattle.usb_lines.specs.Calls.{ok_line, condition_line, tried_line, HasLine}
+use Rattle.usb_lines.specs.Calls.{condition_line, tried_line, HasLine}
 use Rattle.usb_lines.specs.Completions.{polled_line, waited_line, count_line, now_line}
 use Rattle.usb_answers.specs.Names.{named, is_free}
-use Rattle.usb_answers.specs.State.{State, Endpoint, Given, kept, handle_of}
+use Rattle.usb_answers.specs.State.{State, Endpoint, Given, kept}
 use Rattle.usb_answers.specs.Opens.{open_barred, opened}
 use Rattle.usb_answers.specs.Claims.{claim_barred, claimed}
 use Rattle.usb_answers.specs.Endpoints.{endpoint_barred, endpoint_opened}
@@ -30,8 +28,8 @@ use Rattle.usb_answers.specs.Steps.{stepped_all}
 use Rattle.usb_answers.specs.Answers.{barred, now_answer, open_answer, claim_answer, endpoint_answer, submit_answer, pending_answer, pending_at, poll_answer, wait_answer, transfer_answer, cancel_answer, close_answer, steps_answer}
 use Rattle.usb_answers.specs.Answered.{Answered}
 use Rattle.usb_answers.specs.SessionState.{SessionState}
-use Rattle.usb_answers.specs.Relation.{Represents, Gave, Tries, session_of}
-use Rattle.usb_answers.proofs.NameLemmas.{named-map, is_free-map}
+use Rattle.usb_answers.specs.Relation.{Represents, Gave, Tries}
+use Rattle.usb_answers.proofs.NameLemmas.{is_free-map}
 use Rattle.usb_answers.proofs.Called.{named_kept, host_is}
 
 submit_barred_kept : (s : SessionState) (state : State) (direction : Direction) (e : ℕ) → Represents s state → submit_barred state direction e ≡ submit_barred_by s.host.kernel.past direction (named s.endpoints e)

@@ -1,14 +1,9 @@
 -- Handles of interfaces are closed.
-use Rattle.std.proofs.Common.{◌≡◌, ◌≢◌, ℕ, ◌<◌, ◌≤◌, ◌+◌, ◌-◌, suc, zero, arith, List, [], ◌∷◌, length, set, map, Option, Some, None, refl, ap, sym, ◌∙◌, subst, slice_get, inl, inr}
-use Rattle.std.specs.Option.{option_map}
-use Rattle.std.proofs.lemmas.Bool.{cases_eq}
-use Rattle.std.proofs.lemmas.Option.{none-some}
+use Rattle.std.proofs.Common.{◌≡◌, ◌≢◌, ℕ, ◌-◌, suc, zero, arith, List, [], ◌∷◌, length, set, Option, Some, None, refl, ap, sym, ◌∙◌, subst, slice_get}
 use Rattle.usb_bus.specs.BusState.{BusState}
 use Rattle.usb_endpoint.specs.declared.any_endpoint.AnyEndpoint.{AnyEndpoint}
-use Rattle.usb_endpoint.specs.EndpointState.{EndpointState}
 use Rattle.usb_endpoint.specs.Handles.{Stands}
 use Rattle.usb_device.specs.HostState.{HostState, ClaimedInterface}
-use Rattle.usb_device.specs.HostBus.{bus_of}
 use Rattle.usb_device.specs.HandleStates.{InterfaceState, StandsInterface}
 use Rattle.usb_device.specs.Handles.{handle_closed, handle_gone}
 use Rattle.usb_device.specs.Releases.{owner_gone}
@@ -19,7 +14,7 @@ use Rattle.usb_answers.specs.Ends.{interface_closed, interface_closed_at}
 use Rattle.usb_answers.specs.SessionState.{SessionState, IsSound}
 use Rattle.usb_answers.specs.SessionFacts.{session_made}
 use Rattle.usb_answers.specs.Relation.{Represents, session_of}
-use Rattle.usb_answers.proofs.NameLemmas.{named-freed, named-freed_other, length-freed, freed-none}
+use Rattle.usb_answers.proofs.NameLemmas.{length-freed, freed-none}
 use Rattle.usb_answers.proofs.Called.{host_is, names-freed}
 
 slice_get-set_other : {X : Type 0} (xs : List X) (i k : ℕ) (x : X) → k ≢ i → slice_get (set xs i x) k ≡ slice_get xs k

@@ -1,6 +1,6 @@
 -- Calls on endpoints, as the code makes them: an endpoint is taken out of its name, called, and put back.
-use Rattle.std.proofs.Common.{◌≡◌, ◌≢◌, ℕ, ◌<◌, ◌≤◌, ◌+◌, arith, List, [], ◌∷◌, ◌++◌, length, map, Option, Some, None, Result, Ok, Err, Bool, true, false, refl, ap, sym, ◌∙◌, subst}
-use Rattle.std.specs.Prelude.{OnOk, OnErr, IfOk, is_none}
+use Rattle.std.proofs.Common.{◌≡◌, ℕ, List, [], ◌∷◌, ◌++◌, length, map, Option, Some, None, Result, Ok, Err, false, ap, sym, ◌∙◌, subst}
+use Rattle.std.specs.Prelude.{OnOk, OnErr, is_none}
 use Rattle.std.specs.Option.{option_map}
 use Rattle.std.proofs.lemmas.Option.{none-some}
 use Rattle.futures.specs.declared.task.Poll.{Poll}
@@ -33,7 +33,7 @@ use Rattle.usb_answers.specs.SessionFacts.{session_made}
 use Rattle.usb_answers.specs.Relation.{Represents, Gave}
 use Rattle.usb_answers.proofs.NameLemmas.{named-map, freed-none}
 use Rattle.usb_answers.proofs.Called.{KeepsSession, sound-put, sound-freed, taken-map, put-map, freed-map}
-use Rattle.usb_answers.proofs.Queue.{keeps_session, keeps-entered, keeps-all_discarded, keeps-closed, spare-closed, allowed-few, allowed-some, submit-represents, poll-took, poll-left, cancel-represents, close-represents, close-nothing}
+use Rattle.usb_answers.proofs.Queue.{keeps_session, keeps-entered, keeps-all_discarded, keeps-closed, submit-represents, poll-took, poll-left, cancel-represents, close-represents, close-nothing}
 
 pub sound-code : (host now : HostState) (ds : List (Option ℕ)) (is : List (Option InterfaceState)) (es mid after : List (Option AnyEndpoint)) (e : ℕ) (x y : AnyEndpoint) → IsSound (session_made host ds is es) → named es e ≡ Some x → mid ≡ freed es e → after ≡ set_name mid e y → KeepsSession host now → Stands (bus_of now) (state_of y) → (state_of y).key ≡ (state_of x).key → KeepsOthers (bus_of host) (bus_of now) (state_of x).key → IsSound (session_made now ds is after)
 sound-code host now ds is es mid after e x y sound was rest put keeps stands key others =

@@ -1,26 +1,28 @@
 -- The end of a session: interfaces are closed.
-use Rattle.std.proofs.Common.{◌≡◌, ◌≢◌, ℕ, ◌<◌, ◌≤◌, ◌+◌, arith, suc, zero, List, [], ◌∷◌, ◌++◌, slice_get, length, map, Option, Some, None, refl, ap, sym, ◌∙◌, subst, inl, inr}
+use Rattle.std.proofs.Common.{◌≡◌, ◌≢◌, ℕ, ◌<◌, ◌+◌, arith, suc, zero, List, [], ◌∷◌, ◌++◌, slice_get, length, map, Option, Some, None, refl, ap, sym, ◌∙◌, subst, inl, inr}
 use Rattle.std.specs.Option.{option_map}
 use Rattle.std.proofs.lemmas.Bool.{cases_eq, cases_lt}
 use Rattle.std.proofs.lemmas.Option.{none-some}
 use Rattle.usb_endpoint.specs.declared.any_endpoint.AnyEndpoint.{AnyEndpoint}
 use Rattle.usb_endpoint.specs.AnyEndpoints.{state_of}
-use Rattle.usb_endpoint.specs.EndpointState.{EndpointState}
 use Rattle.usb_endpoint.specs.Handles.{Stands}
 use Rattle.usb_device.specs.declared.opened.OpenDevice.{OpenDevice}
 use Rattle.usb_device.specs.HostState.{HostState}
-use Rattle.usb_device.specs.HostBus.{bus_of}
+use Rattle.usb_device.specs.HostBus.{owner_at}
 use Rattle.usb_device.specs.Handles.{handle_closed}
-use Rattle.usb_device.specs.Finishes.{finished}
-use Rattle.usb_device.specs.HandleStates.{InterfaceState, StandsInterface}
+use Rattle.usb_device.specs.Finishes.{finished, HasEnds}
+use Rattle.usb_device.specs.HandleStates.{InterfaceState}
 use Rattle.usb_device.proofs.InterfaceFrames.{StandsInterface-other, bus-handle_closed, line-handle_closed}
 use Rattle.usb_answers.specs.Names.{named, freed}
-use Rattle.usb_answers.specs.State.{State}
+use Rattle.usb_answers.specs.State.{State, kept}
 use Rattle.usb_answers.specs.Closes.{closed}
-use Rattle.usb_answers.specs.Ends.{interface_closed_at, interface_closed, interfaces_closed, endpoints_closed, all_closed, ended}
+use Rattle.usb_answers.specs.Ends.{interface_closed, interfaces_closed, endpoints_closed, all_closed, ended}
 use Rattle.usb_answers.specs.SessionState.{SessionState, IsSound}
 use Rattle.usb_answers.specs.SessionFacts.{session_made}
-use Rattle.usb_answers.specs.Relation.{Represents, session_of}
+use Rattle.usb_answers.specs.Relation.{Represents}
+use Rattle.usb_answers.specs.Accounts.{Accounted}
+use Rattle.usb_answers.proofs.AccountLemmas.{accounted-all_closed, accounted-none}
+use Rattle.usb_answers.proofs.Called.{named_kept, host_is}
 use Rattle.usb_answers.proofs.NameLemmas.{named-map, named-freed, named-freed_other, named-past, freed-none, length-freed, named_of, place_of}
 
 -- what is open under a name once another was freed
@@ -137,6 +139,15 @@ pub end-host : (s : SessionState) (host now : HostState) (state : State) → s.h
 unfolding ended all_closed
 end-host s host now state here done r =
     done ∙ ap finished (sym here ∙ ap (λ (v : SessionState). v.host) r.is)
+
+-- all is closed, so no endpoint holds a ticket, and each ticket of the host has its end
+pub end-ended : (s : SessionState) (before now : HostState) (state : State) → before ≡ s.host → ((e : ℕ) → named s.endpoints e ≡ None) → Represents s (interfaces_closed (endpoints_closed state 64) 64) → Accounted state
+    → (((t : ℕ) → owner_at before.tickets t ≡ None) → HasEnds now.tickets) → HasEnds now.tickets
+unfolding all_closed
+end-ended s before now state same none r a ends =
+    let last = all_closed state in
+    let closed_all : (e : ℕ) → named last.endpoints e ≡ None = λ e. unmapped kept (named last.endpoints e) (sym (named_kept s last e r) ∙ none e) in
+    ends (λ t. ap (λ (h : HostState). owner_at h.tickets t) (same ∙ host_is s last r) ∙ accounted-none last (accounted-all_closed state a) closed_all t)
 
 -- one name more is closed
 pub endpoints_closed-more : (state : State) (n : ℕ) → endpoints_closed state (n + 1) ≡ closed (endpoints_closed state n) n

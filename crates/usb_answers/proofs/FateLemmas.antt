@@ -4,7 +4,6 @@ use Rattle.std.specs.Prelude.{option_and_then}
 use Rattle.usb_kernel.specs.declared.submission.TicketInfo.{TicketInfo}
 use Rattle.usb_kernel.specs.Tickets.{tickets}
 use Rattle.usb_kernel.specs.Info.{info_of}
-use Rattle.usb_device.specs.declared.ends.TicketEnd.{TicketEnd}
 use Rattle.usb_device.specs.HostState.{HostState, HostTicket, Held, Abandoned, Ended}
 use Rattle.usb_device.specs.HostBus.{ended_at, end_at}
 use Rattle.usb_lines.specs.Tickets.{ticket_line}

@@ -1,49 +1,24 @@
 -- Lines with steps of their own: the steps are lent, a call is made, and the rest of them is applied.
-use Rattle.std.proofs.Common.{◌≡◌, ◌≢◌, ℕ, ◌<◌, ◌≤◌, ◌+◌, ◌-◌, suc, zero, arith, List, [], ◌∷◌, ◌++◌, length, length-append, append_assoc, drop, map, Option, Some, None, Result, Ok, Err, Bool, true, false, refl, ap, sym, ◌∙◌, subst}
-use Rattle.std.specs.Prelude.{OnOk, OnErr, IfOk, IfSome, IfNone, not, ◌||◌, ◌==◌, nat_le}
-use Rattle.std.specs.Option.{option_map}
-use Rattle.std.proofs.lemmas.Bool.Decides.{nat_tests}
-use Rattle.std.proofs.lemmas.Option.{none-some, same_Some}
-use Rattle.usb_desc.specs.declared.types.Direction.{Direction}
-use Rattle.usb_xfer.specs.BufferState.{BufferState}
-use Rattle.usb_xfer.specs.declared.transfer.Completion.{Completion}
-use Rattle.usb_kernel.specs.declared.event.Event.{Event}
+use Rattle.std.proofs.Common.{◌≡◌, ℕ, ◌≤◌, ◌+◌, ◌-◌, arith, List, [], ◌++◌, length, length-append, append_assoc, Option, Some, Bool, refl, ap, sym, ◌∙◌, subst}
 use Rattle.usb_kernel.specs.declared.step.KernelStep.{KernelStep}
-use Rattle.usb_kernel.specs.Info.{unreaped}
-use Rattle.usb_kernel.specs.Tickets.{tickets}
-use Rattle.usb_bus.specs.Later.{IsLater}
-use Rattle.usb_bus.specs.Completions.{transfer_completion}
 use Rattle.usb_endpoint.specs.declared.any_endpoint.AnyEndpoint.{AnyEndpoint}
 use Rattle.usb_endpoint.specs.AnyEndpoints.{state_of}
 use Rattle.usb_endpoint.specs.EndpointState.{EndpointState}
-use Rattle.usb_endpoint.specs.Submits.{entered}
-use Rattle.usb_endpoint.specs.Handles.{Stands, KeepsOthers, TookNext}
-use Rattle.usb_endpoint.specs.Waits.{WaitedNext, WaitedInVain}
-use Rattle.usb_endpoint.specs.Blocking.{Transferred}
+use Rattle.usb_endpoint.specs.Handles.{Stands, KeepsOthers}
 use Rattle.usb_endpoint.specs.Frames.{Stands-later}
 use Rattle.usb_device.specs.HostState.{HostState}
 use Rattle.usb_device.specs.HostBus.{bus_of}
 use Rattle.usb_device.specs.HostFrames.{WentOn, KeepsOpen}
-use Rattle.usb_device.specs.HostCalls.{host_submitted, host_refused, host_discarded}
-use Rattle.usb_device.specs.HostTurns.{host_turned, host_turn, host_rest}
-use Rattle.usb_device.specs.HostWaits.{host_waited}
-use Rattle.usb_device.specs.HostBlocking.{host_blocked}
-use Rattle.usb_device.specs.TicketEnds.{host_taken}
-use Rattle.usb_device.specs.WaitLaws.{WaitIsBySteps, BlockingIsBySteps}
+use Rattle.usb_device.specs.HostTurns.{host_rest}
 use Rattle.usb_device.specs.HandleStates.{InterfaceState}
-use Rattle.usb_device.proofs.WaitFrames.{went-rest, went-waited, went-blocked, rest-steps}
-use Rattle.usb_device.proofs.CallFrames.{keeps-taken}
-use Rattle.usb_answers.specs.Names.{named, change_named, freed, set_name}
-use Rattle.usb_answers.specs.State.{State, Endpoint, Given, kept, handle_of, tickets_of, with_host}
-use Rattle.usb_answers.specs.Steps.{lent, rested, stepped_all}
-use Rattle.usb_answers.specs.Polls.{front_of, took, one_taken}
-use Rattle.usb_answers.specs.Waits.{waited, waited_lent, waited_front, wait_ended}
-use Rattle.usb_answers.specs.Transfers.{transfer_barred_by, transferred, transferred_lent, transferred_at, transfer_ended, with_taken}
+use Rattle.usb_device.proofs.WaitFrames.{went-rest, rest-steps}
+use Rattle.usb_answers.specs.Names.{named, freed, set_name}
+use Rattle.usb_answers.specs.State.{State}
+use Rattle.usb_answers.specs.Steps.{stepped_all}
 use Rattle.usb_answers.specs.SessionState.{SessionState, IsSound}
 use Rattle.usb_answers.specs.SessionFacts.{session_made}
-use Rattle.usb_answers.specs.Relation.{Represents, Gave}
-use Rattle.usb_answers.proofs.Called.{KeepsSession, OpenAt, open_at, named_kept, represents-put, represents-same, represents-host, host_is, sound-host, taken-map, put-map}
-use Rattle.usb_answers.proofs.Queue.{keeps-entered, took-represents}
+use Rattle.usb_answers.specs.Relation.{Represents}
+use Rattle.usb_answers.proofs.Called.{KeepsSession, represents-host, host_is, sound-host}
 use Rattle.usb_answers.proofs.CodeLemmas.{sound-code}
 
 -- steps were taken from the front of the line, each of which used a place, and what is open is as it was

@@ -1,7 +1,6 @@
 -- Names: what is open under each.
-use Rattle.std.proofs.Common.{◌≡◌, ◌≢◌, ℕ, ◌<◌, ◌≤◌, ◌+◌, suc, zero, arith, List, [], ◌∷◌, ◌++◌, length, set, get_or, map, replicate, Option, Some, None, Bool, true, false, refl, ap, sym, ◌∙◌, slice_get, inl, inr}
+use Rattle.std.proofs.Common.{◌≡◌, ◌≢◌, ℕ, ◌<◌, ◌≤◌, suc, zero, arith, List, [], ◌∷◌, ◌++◌, length, set, get_or, map, replicate, Option, Some, None, true, refl, ap, sym, ◌∙◌, slice_get}
 use Rattle.std.specs.Option.{option_map}
-use Rattle.std.proofs.lemmas.Bool.{cases_eq}
 use Rattle.std.proofs.lemmas.Option.{slice_get-map, slice_get_past, slice_get_read, slice_get_within, none-some, same_Some}
 use Rattle.usb_answers.specs.Names.{named, flat, is_free, is_free_place, change_at, change_named, freed, nothing, set_name, something}
 

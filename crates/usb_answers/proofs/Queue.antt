@@ -1,7 +1,6 @@
 -- Submissions, polls, cancels and closes of a session's endpoints.
-use Rattle.std.proofs.Common.{◌≡◌, ◌≢◌, ℕ, ◌<◌, ◌≤◌, ◌+◌, suc, zero, arith, List, [], ◌∷◌, ◌++◌, length, length-append, drop, Option, Some, None, Bool, true, false, refl, ap, sym, ◌∙◌, subst, slice_get, inl, inr, ◌⊎◌}
-use Rattle.std.specs.Prelude.{not, ◌||◌, ◌==◌, nat_le, is_none}
-use Rattle.std.specs.Option.{option_map}
+use Rattle.std.proofs.Common.{◌≡◌, ℕ, ◌<◌, ◌≤◌, ◌+◌, suc, zero, arith, List, [], ◌∷◌, ◌++◌, length, length-append, drop, Option, Some, None, Bool, true, false, refl, ap, sym, ◌∙◌, subst, slice_get}
+use Rattle.std.specs.Prelude.{not, ◌||◌, ◌==◌, nat_le}
 use Rattle.std.proofs.lemmas.Bool.Decides.{nat_tests}
 use Rattle.std.proofs.lemmas.List.{drop-append-le}
 use Rattle.std.proofs.lemmas.Option.{none-some, same_Some}
@@ -14,23 +13,23 @@ use Rattle.usb_kernel.specs.Tickets.{tickets}
 use Rattle.usb_bus.specs.Completions.{transfer_completion}
 use Rattle.usb_endpoint.specs.EndpointState.{EndpointState, route_of}
 use Rattle.usb_endpoint.specs.Submits.{entered, handed_over, transfer_by, is_valid}
-use Rattle.usb_endpoint.specs.Handles.{Stands, KeepsOthers, AreHeld, TookNext, LeftNext}
+use Rattle.usb_endpoint.specs.Handles.{TookNext, LeftNext}
 use Rattle.usb_endpoint.specs.Closes.{all_discarded, all_abandoned, after_close}
 use Rattle.usb_device.specs.HostState.{HostState}
-use Rattle.usb_device.specs.HostBus.{bus_of, owner_at}
-use Rattle.usb_device.specs.HostFrames.{KeepsLine, KeepsOpen, UsesPlaces}
+use Rattle.usb_device.specs.HostBus.{bus_of}
+use Rattle.usb_device.specs.HostFrames.{KeepsOpen}
 use Rattle.usb_device.specs.HostCalls.{host_submitted, host_refused, host_discarded, host_left}
 use Rattle.usb_device.specs.TicketEnds.{host_taken, host_abandoned}
 use Rattle.usb_device.proofs.HostFrames.{uses-discarded}
-use Rattle.usb_device.proofs.CallFrames.{keeps-open, keeps-submitted, keeps-refused, keeps-taken, keeps-abandoned, line-left, interfaces-left}
+use Rattle.usb_device.proofs.CallFrames.{keeps-open, keeps-submitted, keeps-refused, keeps-abandoned, line-left, interfaces-left}
 use Rattle.usb_answers.specs.Names.{named, change_named, freed, set_name}
-use Rattle.usb_answers.specs.State.{State, Endpoint, Given, kept, handle_of, tickets_of}
-use Rattle.usb_answers.specs.Submits.{has_direction, submit_barred_by, submitted, submitted_at, with_ticket}
+use Rattle.usb_answers.specs.State.{State, Endpoint, Given, kept, tickets_of}
+use Rattle.usb_answers.specs.Submits.{has_direction, submit_barred_by, submitted, with_ticket}
 use Rattle.usb_answers.specs.Polls.{poll_barred_by, polled, polled_front, front_of, took, one_taken}
-use Rattle.usb_answers.specs.Closes.{cancelled, cancelled_at, closed, closed_at}
-use Rattle.usb_answers.specs.SessionState.{SessionState, IsSound}
-use Rattle.usb_answers.specs.Relation.{Represents, session_of, Gave}
-use Rattle.usb_answers.proofs.Called.{KeepsSession, OpenAt, open_at, named_kept, represents-put, represents-same, represents-freed, host_is}
+use Rattle.usb_answers.specs.Closes.{cancelled, closed}
+use Rattle.usb_answers.specs.SessionState.{SessionState}
+use Rattle.usb_answers.specs.Relation.{Represents, Gave}
+use Rattle.usb_answers.proofs.Called.{KeepsSession, open_at, named_kept, represents-put, represents-same, represents-freed, host_is}
 
 -- what is kept of the line and of what is open is kept between lines
 pub keeps_session : (old new : HostState) → old.steps ≡ [] → KeepsOpen old new → KeepsSession old new

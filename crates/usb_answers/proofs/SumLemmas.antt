@@ -1,6 +1,6 @@
 -- The counts.
 use Rattle.std.proofs.Common.{◌≡◌, ℕ, ◌+◌, ◌-◌, ◌<◌, ◌≤◌, suc, zero, arith, List, [], ◌∷◌, length, take, get_or, Option, Some, None, true, false, refl, ap, sym, ◌∙◌, cond, Bool, slice_get}
-use Rattle.std.specs.Prelude.{option_and_then}
+use Rattle.std.specs.Prelude.{IsSome, option_and_then}
 use Rattle.std.specs.List.{count_by}
 use Rattle.std.specs.Option.{option_map_or}
 use Rattle.std.proofs.lemmas.List.Sums.{count_by_more_yes, count_by_more_no, sum_by-cons}
@@ -8,7 +8,8 @@ use Rattle.usb_device.specs.declared.ends.TicketEnd.{TicketEnd}
 use Rattle.usb_device.specs.declared.ends.TicketEnd.TheVariants.{Taken, Dropped, Reclaimed}
 use Rattle.usb_device.specs.HostState.{HostState, HostTicket, Held, Abandoned, Ended}
 use Rattle.usb_device.specs.HostBus.{ended_at, end_at}
-use Rattle.usb_answers.specs.Sums.{is_same_end, has_end, ticket_has, is_left, counts_of, OneEndEach}
+use Rattle.usb_device.specs.Finishes.{HasEnds}
+use Rattle.usb_answers.specs.Sums.{is_same_end, has_end, ticket_has, counts_of, OneEndEach}
 
 -- a ticket has an end where its end is this one
 abbrev pub has_of : Option TicketEnd → TicketEnd → Bool
@@ -42,31 +43,33 @@ pub count-no : (ts : List HostTicket) (t : ℕ) (end : TicketEnd) (b : Bool) →
 count-no ts t end b below is lacks =
     let r = read-as ts t end false below (sym is ∙ lacks) in count_by_more_no (has_end end) ts t r.0 below r.1
 
--- exactly one of three tests holds of each ticket
-one_of : (x : HostTicket) → cond (has_end Taken x) 1 0 + cond (has_end Dropped x) 1 0 + cond (is_left x) 1 0 ≡ 1
-one_of (Held hold) = refl
-one_of (Abandoned key) = refl
-one_of (Ended Taken) = refl
-one_of (Ended Dropped) = refl
-one_of (Ended Reclaimed) = refl
+-- exactly one of three tests holds of a ticket that has its end
+one_of : (x : HostTicket) → IsSome (ended_at x) → cond (has_end Taken x) 1 0 + cond (has_end Dropped x) 1 0 + cond (has_end Reclaimed x) 1 0 ≡ 1
+one_of (Held hold) some = absurd (cc)
+one_of (Abandoned key) some = absurd (cc)
+one_of (Ended Taken) some = refl
+one_of (Ended Dropped) some = refl
+one_of (Ended Reclaimed) some = refl
 
-parts : (ts : List HostTicket) → count_by (has_end Taken) ts + count_by (has_end Dropped) ts + count_by is_left ts ≡ length ts
-parts [] = refl
-parts (x ∷ ts) =
-    let others = parts ts in
-    omega (arith, one_of x, sum_by-cons (λ y. cond (has_end Taken y) 1 0) x ts, sum_by-cons (λ y. cond (has_end Dropped y) 1 0) x ts, sum_by-cons (λ y. cond (is_left y) 1 0) x ts)
+parts : (ts : List HostTicket) → HasEnds ts → count_by (has_end Taken) ts + count_by (has_end Dropped) ts + count_by (has_end Reclaimed) ts ≡ length ts
+parts [] ends = refl
+parts (x ∷ ts) ends =
+    let others = parts ts (λ t below. ends (suc t) (omega arith)) in
+    let first = one_of x (ends 0 (omega arith)) in
+    omega (arith, first, sum_by-cons (λ y. cond (has_end Taken y) 1 0) x ts, sum_by-cons (λ y. cond (has_end Dropped y) 1 0) x ts, sum_by-cons (λ y. cond (has_end Reclaimed y) 1 0) x ts)
 
 pub one_end_each : OneEndEach
 unfolding counts_of
-one_end_each calls h = parts h.tickets
+one_end_each calls h ends = parts h.tickets ends
 
 -- the counts of taken and dropped tickets go into that of all
-pub counted-few : (ts : List HostTicket) (n taken dropped : ℕ) → n ≡ length ts → taken ≡ count_by (has_end Taken) ts → dropped ≡ count_by (has_end Dropped) ts → taken + dropped ≤ n
-counted-few ts n taken dropped all a b = let whole = parts ts in omega arith
+pub counted-few : (ts : List HostTicket) (n taken dropped : ℕ) → HasEnds ts → n ≡ length ts → taken ≡ count_by (has_end Taken) ts → dropped ≡ count_by (has_end Dropped) ts → taken + dropped ≤ n
+counted-few ts n taken dropped ends all a b = let whole = parts ts ends in omega arith
 
-pub counts-are : (calls : ℕ) (h : HostState) (n taken dropped left : ℕ) → n ≡ length h.tickets → taken ≡ count_by (has_end Taken) h.tickets → dropped ≡ count_by (has_end Dropped) h.tickets → left ≡ n - taken - dropped → record { calls = calls; tickets = n; taken = taken; dropped = dropped; reclaimed = left } ≡ counts_of calls h
+-- and leave that of the reclaimed
+pub counts-are : (calls : ℕ) (h : HostState) (n taken dropped left : ℕ) → HasEnds h.tickets → n ≡ length h.tickets → taken ≡ count_by (has_end Taken) h.tickets → dropped ≡ count_by (has_end Dropped) h.tickets → left ≡ n - taken - dropped → record { calls = calls; tickets = n; taken = taken; dropped = dropped; reclaimed = left } ≡ counts_of calls h
 unfolding counts_of
-counts-are calls h n taken dropped left all a b rest =
-    let whole = parts h.tickets in
-    let others : left ≡ count_by is_left h.tickets = omega arith in
+counts-are calls h n taken dropped left ends all a b rest =
+    let whole = parts h.tickets ends in
+    let others : left ≡ count_by (has_end Reclaimed) h.tickets = omega arith in
     rw (others, all, a, b) refl

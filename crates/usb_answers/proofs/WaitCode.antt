@@ -1,6 +1,6 @@
 -- Waits and blocking transfers of a session's endpoints.
-use Rattle.std.proofs.Common.{◌≡◌, ℕ, ◌<◌, ◌≤◌, ◌+◌, suc, zero, arith, List, [], ◌∷◌, ◌++◌, length, length-append, drop, map, slice_get, Option, Some, None, Result, Ok, Err, Bool, true, false, refl, ap, sym, ◌∙◌, subst}
-use Rattle.std.specs.Prelude.{OnErr, IfOk, IfSome, IfNone, not, ◌||◌, ◌==◌, nat_le}
+use Rattle.std.proofs.Common.{◌≡◌, ℕ, ◌<◌, ◌≤◌, ◌+◌, suc, zero, arith, List, [], ◌∷◌, ◌++◌, length, length-append, drop, map, slice_get, Option, Some, None, Bool, true, false, refl, ap, sym, ◌∙◌, subst}
+use Rattle.std.specs.Prelude.{IfSome, IfNone, not, ◌||◌, ◌==◌, nat_le}
 use Rattle.std.specs.Option.{option_map}
 use Rattle.std.proofs.lemmas.Bool.Decides.{nat_tests}
 use Rattle.std.proofs.lemmas.Option.{none-some, same_Some}
@@ -16,7 +16,6 @@ use Rattle.usb_endpoint.specs.declared.any_endpoint.AnyEndpoint.{AnyEndpoint}
 use Rattle.usb_endpoint.specs.AnyEndpoints.{state_of}
 use Rattle.usb_endpoint.specs.EndpointState.{EndpointState}
 use Rattle.usb_endpoint.specs.Submits.{entered}
-use Rattle.usb_endpoint.specs.Handles.{TookNext}
 use Rattle.usb_endpoint.specs.Waits as waits
 use Rattle.usb_endpoint.specs.Waits.{WaitedNext, WaitedInVain}
 use Rattle.usb_endpoint.specs.Blocking.{Transferred}
@@ -32,18 +31,18 @@ use Rattle.usb_device.specs.HandleStates.{InterfaceState}
 use Rattle.usb_device.proofs.WaitFrames.{went-waited, went-blocked}
 use Rattle.usb_device.proofs.CallFrames.{keeps-taken}
 use Rattle.usb_answers.specs.Names.{named, change_named, freed, set_name}
-use Rattle.usb_answers.specs.State.{State, Endpoint, Given, kept, handle_of, tickets_of, with_host}
+use Rattle.usb_answers.specs.State.{State, Given, kept, tickets_of, with_host}
 use Rattle.usb_answers.specs.Steps.{lent, rested}
 use Rattle.usb_answers.specs.Submits.{has_direction}
 use Rattle.usb_answers.specs.Polls.{front_of, took, one_taken}
 use Rattle.usb_answers.specs.Waits.{waited, waited_lent, waited_front, wait_ended}
 use Rattle.usb_answers.specs.Transfers.{transfer_barred_by, transferred, transferred_lent, transferred_at, transfer_ended, with_taken}
-use Rattle.usb_answers.specs.SessionState.{SessionState, IsSound}
+use Rattle.usb_answers.specs.SessionState.{SessionState}
 use Rattle.usb_answers.specs.SessionFacts.{session_made}
 use Rattle.usb_answers.specs.Relation.{Represents, Gave}
-use Rattle.usb_answers.proofs.Called.{OpenAt, open_at, named_kept, represents-put, represents-same, host_is, taken-map, put-map}
+use Rattle.usb_answers.proofs.Called.{open_at, named_kept, represents-put, represents-same, host_is, taken-map, put-map}
 use Rattle.usb_answers.proofs.Queue.{keeps-entered, took-represents}
-use Rattle.usb_answers.proofs.Lent.{Used, Line, used-went, used-keeps, used-trans}
+use Rattle.usb_answers.proofs.Lent.{Used, used-went, used-keeps, used-trans}
 
 -- the wait at the host that is left where the ticket was found or not
 by_steps : WaitIsBySteps → (looks : ℕ) (h : HostState) (t timeout : ℕ) (x : Bool × HostState) → waits.waited bus_of host_turned host_turn t timeout (bus_of h).clock looks h ≡ Some x → x ≡ host_waited h t timeout

@@ -1,5 +1,5 @@
 -- What each line of a script is answered.
-use Rattle.std.specs.Prelude.{ℕ, List, [], length, slice_get, Option, Some, None, option_and_then, is_none, if◌then◌else◌}
+use Rattle.std.specs.Prelude.{ℕ, List, [], length, slice_get, Option, Some, None, option_and_then, if◌then◌else◌}
 use Rattle.usb_desc.specs.declared.types.Direction.{Direction}
 use Rattle.usb_desc.specs.declared.types.Direction.TheVariants as direction
 use Rattle.usb_desc.specs.declared.types.TransferType.{TransferType}

@@ -1,9 +1,8 @@
 -- `claim`: an interface of an open device is claimed.
-use Rattle.std.specs.Prelude.{ℕ, not, ◌||◌, Bool, List, length, slice_get, Result, Ok, Err, Option, Some, None, is_none}
+use Rattle.std.specs.Prelude.{ℕ, not, ◌||◌, Bool, length, slice_get, Result, Ok, Err, Option, Some, None, is_none}
 use Rattle.usb_error.specs.ErrorState.{ErrorState}
 use Rattle.usb_device.specs.declared.opened.OpenDevice.{OpenDevice}
 use Rattle.usb_device.specs.InterfaceClaims.{claim_tried, host_claimed}
-use Rattle.usb_device.specs.HandleStates.{InterfaceState}
 use Rattle.usb_answers.specs.Names.{named, is_free, set_name}
 use Rattle.usb_answers.specs.State.{State, Given}
 

@@ -1,5 +1,5 @@
 -- `endpoint`: an endpoint of a claimed interface is opened.
-use Rattle.std.specs.Prelude.{ℕ, not, ◌||◌, Bool, List, [], length, slice_get, Result, Ok, Err, Option, Some, None, is_none}
+use Rattle.std.specs.Prelude.{ℕ, not, ◌||◌, Bool, [], length, slice_get, Result, Ok, Err, Option, Some, None, is_none}
 use Rattle.usb_desc.specs.declared.types.Direction.{Direction}
 use Rattle.usb_desc.specs.declared.types.TransferType.{TransferType}
 use Rattle.usb_error.specs.ErrorState.{ErrorState}

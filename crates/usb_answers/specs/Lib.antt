@@ -22,3 +22,4 @@ pub mod Answered
 pub mod SessionFacts
 pub mod AnyOpened
 pub mod Kinds
+pub mod Accounts

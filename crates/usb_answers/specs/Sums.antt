@@ -1,5 +1,5 @@
 -- The counts of a session.
-use Rattle.std.specs.Prelude.{ℕ, ◌+◌, ◌≡◌, Bool, true, false, not, ◌&&◌, List, length, slice_get}
+use Rattle.std.specs.Prelude.{ℕ, ◌+◌, ◌≡◌, Bool, true, false, List, length, slice_get}
 use Rattle.std.specs.List.{count_by}
 use Rattle.std.specs.Option.{option_map_or}
 use Rattle.usb_script.specs.declared.item.Item.{Item}
@@ -7,6 +7,7 @@ use Rattle.usb_script.specs.ItemKinds.{is_call}
 use Rattle.usb_device.specs.declared.ends.TicketEnd.{TicketEnd}
 use Rattle.usb_device.specs.declared.ends.TicketEnd.TheVariants.{Taken, Dropped, Reclaimed}
 use Rattle.usb_device.specs.HostState.{HostState, HostTicket, Held, Abandoned, Ended}
+use Rattle.usb_device.specs.Finishes.{HasEnds}
 use Rattle.usb_answers.specs.declared.summary.Summary.{Summary}
 use Rattle.usb_answers.specs.Output.{final_host}
 
@@ -26,11 +27,7 @@ has_end end (Ended its) = is_same_end its end
 abbrev pub ticket_has : List HostTicket → ℕ → TicketEnd → Bool
 ticket_has tickets t end = option_map_or (has_end end) (slice_get tickets t) false
 
--- whether a ticket was neither taken nor dropped
-abbrev pub is_left : HostTicket → Bool
-is_left ticket = not (has_end Taken ticket) && not (has_end Dropped ticket)
-
--- so many calls, the tickets of a host, how many of them were taken, how many were dropped, and all others, which are reclaimed
+-- so many calls, the tickets of a host, and how many of them were taken, dropped and reclaimed
 unfoldable pub counts_of : ℕ → HostState → Summary
 counts_of calls h =
     record {
@@ -38,13 +35,13 @@ counts_of calls h =
       tickets = length h.tickets;
       taken = count_by (has_end Taken) h.tickets;
       dropped = count_by (has_end Dropped) h.tickets;
-      reclaimed = count_by is_left h.tickets;
+      reclaimed = count_by (has_end Reclaimed) h.tickets;
     }
 
 -- what a script comes to: its call lines are counted, and the tickets of the host at its end
 abbrev pub sum_of : List Item → Summary
 sum_of items = counts_of (count_by is_call items) (final_host items)
 
--- each ticket has one end
+-- where each ticket has an end, each has one of the three
 abbrev pub OneEndEach : Type 0
-OneEndEach = (calls : ℕ) (h : HostState) → (counts_of calls h).taken + (counts_of calls h).dropped + (counts_of calls h).reclaimed ≡ (counts_of calls h).tickets
+OneEndEach = (calls : ℕ) (h : HostState) → HasEnds h.tickets → (counts_of calls h).taken + (counts_of calls h).dropped + (counts_of calls h).reclaimed ≡ (counts_of calls h).tickets

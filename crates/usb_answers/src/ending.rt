@@ -1,11 +1,13 @@
 //! The end of a session.
 
 ghost use Rattle.std.specs.Prelude.{◌≡◌, ◌<◌, ℕ, Some, None};
+ghost use Rattle.usb_device.specs.Finishes.{HasEnds, HasCompletions};
 ghost use Rattle.usb_device.specs.HandleStates.{StandsDevice};
 ghost use Rattle.usb_answers.specs.State.{State};
 ghost use Rattle.usb_answers.specs.Names.{named, freed};
 ghost use Rattle.usb_answers.specs.Ends.{endpoints_closed, interface_closed, interfaces_closed, ended};
 ghost use Rattle.usb_answers.specs.Relation.{Represents};
+ghost use Rattle.usb_answers.specs.Accounts.{Accounted};
 
 use crate::names::{drop_names, take_at};
 use crate::session::Session;
@@ -59,9 +61,11 @@ impl Session {
     }
 
     /// Closes what is open, endpoints by number, then interfaces by number, and then devices; and gives the host, at which all
-    /// tickets are discarded and then reaped, by number.
+    /// tickets are discarded and then reaped, by number. Then each ticket has its completion and its end.
     pub fn end(self) -> Host
         ensures host { (state : State) → Represents self state → result ≡ ended state }
+        ensures ended { (state : State) → Represents self state → Accounted state → HasEnds result.tickets }
+        ensures reaped { HasCompletions result.kernel.past }
     {
         let mut session = self;
         session.close_endpoints();

@@ -11,6 +11,7 @@ mod describing;
 mod ending;
 mod endpoints;
 mod fates;
+mod laws;
 mod names;
 mod opening;
 mod polling;
@@ -22,6 +23,7 @@ mod transferring;
 mod waiting;
 
 pub use fates::{fate_line, tickets};
+pub use laws::each_ticket_is_accounted_for;
 pub use session::Session;
 pub use summary::Summary;
 pub use usb_device::Host;

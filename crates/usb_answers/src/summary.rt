@@ -2,6 +2,7 @@
 
 ghost use Rattle.std.specs.Prelude.{◌≡◌};
 ghost use Rattle.std.specs.List.{count_by};
+ghost use Rattle.usb_device.specs.Finishes.{HasEnds};
 ghost use Rattle.usb_answers.specs.Sums.{counts_of, has_end, is_same_end, ticket_has};
 
 use usb_device::{Host, TicketEnd};
@@ -52,8 +53,9 @@ fn count_of(host: &Host, end: TicketEnd) -> u64
 }
 
 impl Summary {
-    /// The counts of a host, with so many calls. What was neither taken nor dropped was reclaimed.
+    /// The counts of a host at which each ticket has its end, with so many calls.
     pub fn of(host: &Host, calls: u32) -> Summary
+        requires ended { HasEnds host.now.tickets }
         ensures value { result ≡ counts_of calls host.now }
     {
         let tickets = host.tickets();

@@ -23,7 +23,7 @@ use Rattle.usb_device.specs.HostTurns.{host_reaped}
 use Rattle.usb_device.specs.HostCalls.{host_discarded}
 use Rattle.usb_device.specs.Releases.{settled}
 use Rattle.usb_device.specs.TicketEnds.{came, reclaimed_if, host_ended}
-use Rattle.usb_device.specs.Finishes.{discarded_below, reaped_below, finished}
+use Rattle.usb_device.specs.Finishes.{discarded_below, reaped_below, finished, HasCompletions}
 use Rattle.usb_device.proofs.BusLemmas.{bus_of-reaped}
 use Rattle.usb_device.proofs.LedgerLemmas.{some-at, ticket-at}
 use Rattle.std.proofs.Common.{map}
@@ -198,6 +198,16 @@ finished-ended h w t below =
     let within : t < n = omega (arith, last.count) in
     let x = some-at (reaped_below g n).tickets t below in
     ended-of (reaped_below g n) n t x.0 last (reaped-completed g n t all (omega (arith, count)) within) x.1
+
+-- and each its completion
+pub finished-reaped : (h : HostState) → HasCompletions (finished h).kernel.past
+unfolding finished
+finished-reaped h t below =
+    let n = length (tickets h.kernel.past) in
+    let g = discarded_below h n in
+    let count : length (tickets g.kernel.past) ≡ n = discarded-count h n in
+    let all : (u : ℕ) → u < length (tickets g.kernel.past) → IsSome (fate g.kernel.past u).status = λ u within. discarded-finished h n u (omega arith) (omega (arith, count)) in
+    reaped-completed g n t all (omega (arith, count)) (omega (arith, count, reaped-count g n))
 
 -- the slots of a host say so
 pub matched-waits : (k : KernelState) (devices : List OpenDevice) (l : LedgerState) (steps : List KernelStep) → Agree k.past l.slots → ((t : ℕ) → owner_at (host_made k devices l steps).tickets t ≡ None) → Waits (host_made k devices l steps) (length (tickets k.past))

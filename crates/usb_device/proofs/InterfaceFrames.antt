@@ -1,5 +1,5 @@
 -- The handles of interfaces over the calls of a host.
-use Rattle.std.proofs.Common.{ℕ, zero, suc, ◌≡◌, ◌≢◌, ◌-◌, true, false, List, [], ◌∷◌, ◌++◌, length, length-set, set, slice_get, Option, Some, None, refl, ◌∙◌, ap, ◌≤◌, ◌<◌, arith, Result, Ok, Err, length-append}
+use Rattle.std.proofs.Common.{ℕ, zero, suc, ◌≡◌, ◌≢◌, ◌-◌, true, false, List, [], ◌∷◌, ◌++◌, length, length-set, set, slice_get, Option, Some, None, refl, ◌∙◌, ap, ◌≤◌, arith, Result, Ok, Err, length-append}
 use Rattle.std.proofs.lemmas.Option.{none-some}
 use Rattle.usb_endpoint.specs.Handles.{KeepsOthers}
 use Rattle.usb_device.specs.declared.opened.OpenDevice.{OpenDevice}

@@ -21,3 +21,5 @@ pub mod FreshKeys
 pub mod EndLemmas
 pub mod FinishLemmas
 pub mod CloseLemmas
+pub mod CountLemmas
+pub mod HeldLemmas

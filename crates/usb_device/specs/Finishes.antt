@@ -1,7 +1,10 @@
 -- The end: the tickets are discarded by number, and then reaped by number.
-use Rattle.std.specs.Prelude.{ℕ, zero, suc, length}
+use Rattle.std.specs.Prelude.{ℕ, zero, suc, ◌<◌, List, length, IsSome}
+use Rattle.usb_kernel.specs.declared.event.Event.{Event}
 use Rattle.usb_kernel.specs.Tickets.{tickets}
-use Rattle.usb_device.specs.HostState.{HostState}
+use Rattle.usb_kernel.specs.Completions.{completion}
+use Rattle.usb_device.specs.HostState.{HostState, HostTicket}
+use Rattle.usb_device.specs.HostBus.{end_at}
 use Rattle.usb_device.specs.HostTurns.{host_reaped}
 use Rattle.usb_device.specs.HostCalls.{host_discarded}
 
@@ -15,3 +18,11 @@ reaped_below h (suc k) = host_reaped (reaped_below h k) k
 
 unfoldable pub finished : HostState → HostState
 finished h = reaped_below (discarded_below h (length (tickets h.kernel.past))) (length (tickets h.kernel.past))
+
+-- each ticket has an end
+abbrev pub HasEnds : List HostTicket → Type 0
+HasEnds tickets = (t : ℕ) → t < length tickets → IsSome (end_at tickets t)
+
+-- each ticket of a journal has its completion
+abbrev pub HasCompletions : List Event → Type 0
+HasCompletions past = (t : ℕ) → t < length (tickets past) → IsSome (completion past t)

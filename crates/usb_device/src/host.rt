@@ -17,7 +17,7 @@ ghost use Rattle.usb_device.specs.HostState.{HostState, host_of};
 ghost use Rattle.usb_device.specs.HostBus.{bus_of, hold_at, owner_at, key_at, host_value, end_at};
 ghost use Rattle.usb_device.specs.HostBusFacts.{bus_of-taken};
 ghost use Rattle.usb_device.specs.HostCalls.{host_submitted, host_refused, host_discarded, host_left, host_idled, host_halt_result, host_halt_cleared};
-ghost use Rattle.usb_device.specs.Finishes.{finished};
+ghost use Rattle.usb_device.specs.Finishes.{finished, HasEnds, HasCompletions};
 ghost use Rattle.usb_device.specs.HostFacts.{Agree, Comes, host_made, held_at_once};
 ghost use Rattle.usb_device.specs.HostLaws.{held-owned, value-held};
 ghost use Rattle.usb_device.specs.HostTurns.{host_stepped, host_reaped, host_turned, host_turn, host_rest};
@@ -209,7 +209,8 @@ impl Host {
     /// Discards the tickets that are not finished, by number, and then reaps those that are not reaped, by number.
     pub fn finish(&mut self)
         ensures finished { self.new ≡ finished self.old }
-        ensures ended { ((t : ℕ) → owner_at self.old.tickets t ≡ None) → (t : ℕ) → t < length self.new.tickets → IsSome (end_at self.new.tickets t) }
+        ensures ended { ((t : ℕ) → owner_at self.old.tickets t ≡ None) → HasEnds self.new.tickets }
+        ensures reaped { HasCompletions self.new.kernel.past }
     {
         let count = self.kernel.tickets();
         for ticket in 0..count {

@@ -7,6 +7,7 @@ use Rattle.std.proofs.lemmas.List.Sums.{count_by_more_yes, count_by_more_no, sum
 use Rattle.usb_script.specs.declared.item.Item.{Item}
 use Rattle.usb_script.specs.ItemKinds.{is_call, steps_in, step_count}
 use Rattle.usb_device.specs.HostState.{HostState}
+use Rattle.usb_device.specs.Finishes.{HasEnds}
 use Rattle.usb_answers.specs.SessionState.{SessionState}
 use Rattle.usb_answers.specs.declared.summary.Summary.{Summary}
 use Rattle.usb_kernel.specs.Tickets.{tickets}
@@ -18,6 +19,8 @@ use Rattle.usb_answers.specs.Fates.{fate_line, fate_lines, fate_lines_from}
 use Rattle.usb_answers.specs.Output.{output, output_from, last_host, final_host, start}
 use Rattle.usb_answers.specs.Relation.{Represents}
 use Rattle.usb_answers.specs.Sums.{counts_of, sum_of}
+use Rattle.usb_answers.specs.Accounts.{Accounted}
+use Rattle.usb_answers.proofs.AccountLemmas.{accounted-start, accounted-answer}
 use Rattle.usb_answers.proofs.FateLemmas.{fate_lines_from-step, fate_lines_from-end, fate_lines-all}
 use Rattle.usb_answers.proofs.RunLemmas.{output_from-step, last_host-step, output_from-end, last_host-end}
 use Rattle.usb_session.specs.Causes.{Wrote, WrotePrefix}
@@ -28,12 +31,13 @@ use Rattle.usb_session.proofs.OutsideLemmas.{Wrote_none, Wrote_more, Wrote_all, 
 pub record Running (old new : Option (List ℕ)) (s : SessionState) (items : List Item) (whole : List ℕ) (last : HostState) : Type 0 where
   pub now : State
   pub stands : Represents s now
+  pub accounted : Accounted now
   pub wrote : Wrote old new whole (output_from now items)
   pub leads : last_host now items ≡ last
 
 pub running-start : (old : Option (List ℕ)) (s : SessionState) (items : List Item) → Represents s (start items) → Running old old s items (output items) (final_host items)
 unfolding output final_host
-running-start old s items r = record { now = start items; stands = r; wrote = Wrote_none old (output_from (start items) items); leads = refl }
+running-start old s items r = record { now = start items; stands = r; accounted = accounted-start items; wrote = Wrote_none old (output_from (start items) items); leads = refl }
 
 pub running-on : {old mid : Option (List ℕ)} {whole : List ℕ} {last : HostState} (new : Option (List ℕ)) (s next : SessionState) (items : List Item) (i : ℕ) (item : Item) (line : List ℕ) → i < length items → item ≡ get_or items i item → Running old mid s (drop i items) whole last → ((state : State) → Represents s state → Answered next line (answer state item)) → Appends mid new line → Running old new next (drop (i + 1) items) whole last
 running-on new s next items i item line within here run answered appends =
@@ -41,6 +45,7 @@ running-on new s next items i item line within here run answered appends =
     record {
       now = (answer run.now item).state;
       stands = a.state;
+      accounted = accounted-answer run.now item run.stands.few run.accounted;
       wrote = Wrote_more new line (output_from (answer run.now item).state (drop (i + 1) items)) run.wrote appends (output_from-step items i item run.now line within here a.same);
       leads = last_host-step items i item run.now within here ∙ run.leads;
     }
@@ -65,6 +70,7 @@ running-done {old} {new} s items i past run =
     record {
       now = run.now;
       stands = run.stands;
+      accounted = run.accounted;
       wrote = subst (λ (left : List ℕ). Wrote old new (output items) left) (output_from-end items i run.now past) run.wrote;
       leads = sym (last_host-end items i run.now past) ∙ run.leads;
     }
@@ -84,10 +90,17 @@ answered-cut {old} {mid} new s host items done ends cut =
     let here = ends done.now done.stands in
     Wrote_prefix new (fate_lines host) [] done.wrote cut (append-nil (fate_lines host) ∙ ap fate_lines here)
 
+-- the host at the end is the last of the script, and each of its tickets has its end
+pub host-final : {old new : Option (List ℕ)} (s : SessionState) (host : HostState) (items : List Item) → AllAnswered old new s items → ((state : State) → Represents s state → host ≡ ended state) → host ≡ final_host items
+host-final s host items done ends = ends done.now done.stands ∙ done.leads
+
+pub host-ended : {old new : Option (List ℕ)} (s : SessionState) (host : HostState) (items : List Item) → AllAnswered old new s items → ((state : State) → Represents s state → Accounted state → HasEnds host.tickets) → HasEnds host.tickets
+host-ended s host items done ends = ends done.now done.stands done.accounted
+
 -- the summary of the last host
 pub answered-sum : {old new : Option (List ℕ)} (s : SessionState) (host : HostState) (items : List Item) (calls : ℕ) (summary : Summary) → AllAnswered old new s items → ((state : State) → Represents s state → host ≡ ended state) → summary ≡ counts_of calls host → calls ≡ count_by is_call items → summary ≡ sum_of items
 answered-sum s host items calls summary done ends sums counted =
-    sums ∙ ap (counts_of calls) (ends done.now done.stands ∙ done.leads) ∙ ap (λ n. counts_of n (final_host items)) counted
+    sums ∙ ap (counts_of calls) (host-final s host items done ends) ∙ ap (λ n. counts_of n (final_host items)) counted
 
 -- the steps of an item and of those behind it
 pub step_count-step : (items : List Item) (i : ℕ) (item : Item) → i < length items → item ≡ get_or items i item → step_count (drop i items) ≡ steps_in item + step_count (drop (i + 1) items)

@@ -73,4 +73,4 @@ parsing_reason s Memory bytes read few parsed kept = inl kept
 -- each ticket of an answered script has one end
 pub answered-ends : (s : Seen) (summary : Summary) → IsAnswered s summary → summary.taken + summary.dropped + summary.reclaimed ≡ summary.tickets
 answered-ends s summary answered =
-    rw answered.summed (one_end_each (count_by is_call answered.items) (final_host answered.items))
+    rw answered.summed (one_end_each (count_by is_call answered.items) (final_host answered.items) answered.ended)

@@ -5,14 +5,16 @@ use Rattle.usb_script.specs.declared.item.Item.{Item}
 use Rattle.usb_answers.specs.State.{State}
 use Rattle.usb_answers.specs.SessionState.{SessionState}
 use Rattle.usb_answers.specs.Relation.{Represents}
+use Rattle.usb_answers.specs.Accounts.{Accounted}
 use Rattle.usb_answers.specs.Ends.{ended}
 use Rattle.usb_answers.specs.Fates.{fate_lines}
 use Rattle.usb_answers.specs.Output.{output, final_host}
 use Rattle.usb_session.specs.Causes.{Wrote}
 
--- of the output all was written but the fate lines, and the end of the session leads to the script's last host
+-- of the output all was written but the fate lines, what endpoints hold is accounted for, and the end of the session leads to the script's last host
 pub record AllAnswered (old new : Option (List ℕ)) (s : SessionState) (items : List Item) : Type 0 where
   pub now : State
   pub stands : Represents s now
+  pub accounted : Accounted now
   pub wrote : Wrote old new (output items) (fate_lines (ended now))
   pub leads : ended now ≡ final_host items

@@ -7,7 +7,8 @@ use Rattle.usb_script.specs.declared.error.SessionError.{SessionError}
 use Rattle.usb_script.specs.declared.error.SessionError.TheVariants.{Malformed, TooLong, ReadFault, WriteFault, Memory}
 use Rattle.usb_script.specs.Parse.{script_of}
 use Rattle.usb_session.specs.Causes.{Rose, ReadWhole, WrotePrefix, TookTooMany}
-use Rattle.usb_answers.specs.Output.{output}
+use Rattle.usb_device.specs.Finishes.{HasEnds, HasCompletions}
+use Rattle.usb_answers.specs.Output.{output, final_host}
 use Rattle.usb_answers.specs.Sums.{sum_of}
 use Rattle.usb_answers.specs.declared.summary.Summary.{Summary}
 
@@ -32,12 +33,14 @@ pub record Answers (s : Seen) (answer : Result (List Item) SessionError) : Type 
   pub read : ReadWhole s.left s.left' bytes
   pub parsed : script_of bytes ≡ answer
 
--- a valid script was read, and its whole output was written
+-- a valid script was read, its whole output was written, and at its end each ticket has its end and its completion
 pub record IsAnswered (s : Seen) (summary : Summary) : Type 0 where
   pub items : List Item
   pub script : Answers s (Ok items)
   pub wrote : Appends s.written s.written' (output items)
   pub summed : summary ≡ sum_of items
+  pub ended : HasEnds (final_host items).tickets
+  pub reaped : HasCompletions (final_host items).kernel.past
 
 -- a valid script was read, and a prefix of its output was written
 pub record IsCutOff (s : Seen) : Type 0 where

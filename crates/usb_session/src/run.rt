@@ -6,8 +6,9 @@ ghost use Rattle.std.specs.Io.KnownBytes.{Appends};
 ghost use Rattle.usb_script.specs.declared.item.Item.{Item};
 ghost use Rattle.usb_script.specs.ItemKinds.{is_call, step_count};
 ghost use Rattle.usb_script.specs.ScriptFacts.{IsBounded};
+ghost use Rattle.usb_device.specs.Finishes.{HasEnds, HasCompletions};
 ghost use Rattle.usb_answers.specs.Fates.{fate_lines};
-ghost use Rattle.usb_answers.specs.Output.{output, start};
+ghost use Rattle.usb_answers.specs.Output.{output, start, final_host};
 ghost use Rattle.usb_answers.specs.Sums.{sum_of};
 ghost use Rattle.usb_answers.specs.Relation.{Represents};
 ghost use Rattle.usb_session.specs.Running.{AllAnswered};
@@ -90,6 +91,8 @@ fn answer_items<K: Sink>(
     requires steps { steps ≡ step_count items.now }
     ensures ok { OnOk result (Appends (K.written sink.old) (K.written sink.new) (output items.now)) }
     ensures summary { IfOk result (λ s. s ≡ sum_of items.now) }
+    ensures ended { IfOk result (λ _. HasEnds (final_host items.now).tickets) }
+    ensures reaped { IfOk result (λ _. HasCompletions (final_host items.now).kernel.past) }
     ensures err { OnErr result (WrotePrefix (K.written sink.old) (K.written sink.new) (output items.now)) }
     ensures cause { IsErrOf result SessionError.WriteFault → Rose (K.faults sink.old) (K.faults sink.new) }
     ensures only { IfErr result IsWritingError }

@@ -1,4 +1,4 @@
-use Rattle.std.proofs.Common.{◌≡◌, ◌∙◌, ◌<◌, ◌∷◌, [], length, ap, subst}
+use Rattle.std.proofs.Common.{◌∙◌, ◌<◌, ◌∷◌, [], length, subst}
 use Rattle.usb_device.specs.HostState.{HostState}
 use Rattle.std.proofs.Common.{sym}
 use Rattle.usb_answers.proofs.EndLemmas.{named-front, named-last}

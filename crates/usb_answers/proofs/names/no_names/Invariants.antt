@@ -1,4 +1,4 @@
-use Rattle.std.proofs.Common.{◌≡◌, None, ◌≤◌, ◌-◌, ◌+◌, vec_len, vec_capacity}
+use Rattle.std.proofs.Common.{◌≡◌, None, ◌≤◌, vec_len, vec_capacity}
 use Rattle.std.specs.Prelude.{replicate}
 use Rattle.usb_answers.proofs.names.no_names.Given as goal
 

@@ -1,4 +1,4 @@
-use Rattle.std.proofs.Common.{◌≡◌, ◌<◌, ◌∙◌, length, arith}
+use Rattle.std.proofs.Common.{◌<◌, length, arith}
 use Rattle.usb_answers.proofs.SumLemmas.{count-yes, count-no}
 use Rattle.usb_answers.proofs.summary.count_of.Goals as goal
 use Rattle.usb_answers.proofs.summary.count_of.Goals.{then-has_end, else-has_end}

@@ -1,7 +1,9 @@
-use Rattle.std.proofs.Common.{arith}
+use Rattle.std.proofs.Common.{arith, subst}
 use Rattle.std.proofs.lemmas.Result.{err_from_is_err_and}
+use Rattle.usb_device.specs.HostState.{HostState}
+use Rattle.usb_device.specs.Finishes.{HasEnds, HasCompletions}
 use Rattle.usb_answers.specs.Output.{output}
-use Rattle.usb_session.proofs.RunLemmas.{running-none, answered-end, answered-cut, answered-sum}
+use Rattle.usb_session.proofs.RunLemmas.{running-none, answered-end, answered-cut, answered-sum, host-final, host-ended}
 use Rattle.usb_session.proofs.run.answer_items.Goals as goal
 
 pub returns-in_err-session-clause-err : goal.returns-in_err-session-clause-err
@@ -22,3 +24,15 @@ returns-clause-ok g c = answered-end (g.K.Sink.written c.write_fates.new.sink) c
 
 pub returns-clause-summary : goal.returns-clause-summary
 returns-clause-summary g c = answered-sum c.answer_each-answered.new.session c.end-host.result c.args.items.now c.in_ok-calls.calls c.of.result c.in_ok-calls.ensures.ok c.end-host.ensures.host c.of.ensures.value c.in_ok-calls.ensures.calls
+
+pub of-requires : goal.of-requires
+of-requires g c = record { ended = host-ended c.answer_each-answered.new.session c.end-host.result c.args.items.now c.in_ok-calls.ensures.ok c.end-host.ensures.ended }
+
+pub returns-clause-ended : goal.returns-clause-ended
+returns-clause-ended g c =
+    subst (λ (h : HostState). HasEnds h.tickets) (host-final c.answer_each-answered.new.session c.end-host.result c.args.items.now c.in_ok-calls.ensures.ok c.end-host.ensures.host)
+    (host-ended c.answer_each-answered.new.session c.end-host.result c.args.items.now c.in_ok-calls.ensures.ok c.end-host.ensures.ended)
+
+pub returns-clause-reaped : goal.returns-clause-reaped
+returns-clause-reaped g c =
+    subst (λ (h : HostState). HasCompletions h.kernel.past) (host-final c.answer_each-answered.new.session c.end-host.result c.args.items.now c.in_ok-calls.ensures.ok c.end-host.ensures.host) c.end-host.ensures.reaped

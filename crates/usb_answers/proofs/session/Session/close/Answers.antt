@@ -1,16 +1,9 @@
-use Rattle.std.proofs.Common.{◌≡◌, sym, ◌∙◌, ap, Some, None, length}
-use Rattle.usb_kernel.specs.Tickets.{tickets}
-use Rattle.usb_endpoint.specs.EndpointState.{EndpointState}
+use Rattle.std.proofs.Common.{sym, ◌∙◌, ap}
 use Rattle.usb_endpoint.specs.AnyEndpoints.{state_of}
 use Rattle.usb_device.specs.HostState.{HostState}
 use Rattle.usb_answers.specs.SessionState.{SessionState}
-use Rattle.usb_answers.specs.Names.{named, is_free}
-use Rattle.usb_answers.proofs.NameLemmas.{freed-free}
-use Rattle.usb_answers.specs.Names.{freed}
-use Rattle.usb_answers.proofs.NameLemmas.{freed-none}
-use Rattle.usb_answers.proofs.Called.{freed-map}
-use Rattle.usb_answers.proofs.Queue.{spare-closed, close-nothing}
-use Rattle.usb_answers.proofs.CodeLemmas.{none-code, stands-code, close-code, close-sound, freed-view, freed-nothing, same-made, same-sound}
+use Rattle.usb_answers.proofs.Queue.{spare-closed}
+use Rattle.usb_answers.proofs.CodeLemmas.{stands-code, close-code, close-sound, freed-view, freed-nothing, same-sound}
 use Rattle.usb_answers.proofs.session.Session.close.Goals as goal
 
 pub close-requires : goal.close-requires

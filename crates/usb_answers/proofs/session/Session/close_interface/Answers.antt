@@ -1,4 +1,4 @@
-use Rattle.std.proofs.Common.{◌∙◌, ap, sym}
+use Rattle.std.proofs.Common.{◌∙◌, sym}
 use Rattle.usb_answers.proofs.EndLemmas.{close_interface-sound, close_interface-code, interface-nothing, interface-sound_same}
 use Rattle.usb_answers.proofs.session.Session.close_interface.Goals as goal
 

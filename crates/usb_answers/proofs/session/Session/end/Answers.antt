@@ -5,7 +5,7 @@ use Rattle.usb_device.specs.Finishes.{finished}
 use Rattle.usb_answers.specs.Names.{named}
 use Rattle.usb_answers.specs.Ends.{endpoints_closed}
 use Rattle.usb_answers.specs.SessionState.{SessionState}
-use Rattle.usb_answers.proofs.EndLemmas.{none-all, none-endpoints, end-host}
+use Rattle.usb_answers.proofs.EndLemmas.{none-all, none-endpoints, end-host, end-ended}
 use Rattle.usb_answers.proofs.session.Session.end.Goals as goal
 
 pub drop_names-requires : goal.drop_names-requires
@@ -30,4 +30,13 @@ returns c = record {
       (sym (ap (λ (v : SessionState). v.host) c.session.view_is))
       (c.finish.ensures.finished ∙ ap finished c.close_devices.ensures.host)
       (c.close_interfaces.ensures.stands (endpoints_closed state 64) (c.close_endpoints.ensures.stands state r));
+  ended =
+      λ state r a. end-ended c.close_interfaces.new.self c.close_devices.new.host c.finish.new.self state
+      (c.close_devices.ensures.host ∙ ap (λ (v : SessionState). v.host) c.session.view_is)
+      (λ n. sym (ap (λ (v : SessionState). named v.endpoints n) c.session.view_is) ∙
+      none-all (map (option_map state_of) c.session.inside.endpoints.items) c.session.invariant.endpoint_names
+      (λ n below. ap (λ (v : SessionState). named v.endpoints n) c.session.view_is ∙ ap (λ l. named l n) c.close_interfaces.ensures.endpoints ∙ c.close_endpoints.ensures.none n below) n)
+      (c.close_interfaces.ensures.stands (endpoints_closed state 64) (c.close_endpoints.ensures.stands state r))
+      a c.finish.ensures.ended;
+  reaped = c.finish.ensures.reaped;
 }

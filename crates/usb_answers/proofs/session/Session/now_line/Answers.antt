@@ -1,6 +1,5 @@
 use Rattle.std.proofs.Common.{◌∙◌, ap}
 use Rattle.usb_kernel.specs.Value.{KernelState}
-use Rattle.usb_device.specs.HostState.{HostState}
 use Rattle.usb_answers.specs.SessionState.{SessionState}
 use Rattle.usb_answers.proofs.AnswerLemmas.{now-answered}
 use Rattle.usb_answers.proofs.session.Session.now_line.Goals as goal

@@ -1,4 +1,4 @@
-use Rattle.std.proofs.Common.{◌≡◌, sym, ◌∙◌, ap, Some, None, refl}
+use Rattle.std.proofs.Common.{sym, ◌∙◌, ap, Some, refl}
 use Rattle.std.specs.Option.{option_copied}
 use Rattle.usb_answers.proofs.CodeLemmas.{none-code, named-code}
 use Rattle.usb_answers.proofs.session.Session.pending.Goals as goal

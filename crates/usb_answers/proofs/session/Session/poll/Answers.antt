@@ -1,13 +1,8 @@
-use Rattle.std.proofs.Common.{◌≡◌, sym, ◌∙◌, ap, Some, None, length}
-use Rattle.usb_kernel.specs.Tickets.{tickets}
-use Rattle.usb_endpoint.specs.EndpointState.{EndpointState}
+use Rattle.std.proofs.Common.{sym, ◌∙◌, ap}
 use Rattle.usb_endpoint.specs.AnyEndpoints.{state_of}
-use Rattle.usb_device.specs.HostState.{HostState}
 use Rattle.usb_answers.specs.SessionState.{SessionState}
 use Rattle.usb_answers.specs.Names.{named, is_free}
 use Rattle.usb_answers.proofs.NameLemmas.{freed-free}
-use Rattle.usb_answers.specs.Relation.{Represents, Gave}
-use Rattle.usb_answers.specs.State.{State}
 use Rattle.usb_answers.proofs.CodeLemmas.{poll-open, none-code, named-code, stands-code, sound-code, done_of, poll-keeps, poll-spare, poll-key, poll-code}
 use Rattle.usb_answers.proofs.Queue.{allowed-some}
 use Rattle.usb_answers.proofs.session.Session.poll.Goals as goal

@@ -1,4 +1,4 @@
-use Rattle.std.proofs.Common.{◌≡◌, sym, ◌∙◌, ap, length, ◌≤◌}
+use Rattle.std.proofs.Common.{◌∙◌, ap}
 use Rattle.usb_answers.specs.SessionState.{SessionState}
 use Rattle.usb_answers.proofs.CodeLemmas.{ok-holds}
 use Rattle.usb_answers.proofs.Lent.{line-alone, line-spare, alone-sound, steps-code}

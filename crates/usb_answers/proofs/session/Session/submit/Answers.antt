@@ -1,8 +1,6 @@
-use Rattle.std.proofs.Common.{◌≡◌, sym, ◌∙◌, ap, Some, None, length}
+use Rattle.std.proofs.Common.{sym, ◌∙◌, ap, length}
 use Rattle.usb_kernel.specs.Tickets.{tickets}
-use Rattle.usb_endpoint.specs.EndpointState.{EndpointState}
 use Rattle.usb_endpoint.specs.AnyEndpoints.{state_of}
-use Rattle.usb_device.specs.HostState.{HostState}
 use Rattle.usb_answers.specs.SessionState.{SessionState}
 use Rattle.usb_answers.specs.Names.{named, is_free}
 use Rattle.usb_answers.proofs.NameLemmas.{freed-free}

@@ -1,6 +1,6 @@
-use Rattle.std.proofs.Common.{◌≡◌, sym, ◌∙◌, ap, Some, None, refl}
+use Rattle.std.proofs.Common.{sym, ◌∙◌, ap, refl}
 use Rattle.std.specs.Option.{option_copied}
-use Rattle.usb_answers.proofs.CodeLemmas.{none-code, named-code}
+use Rattle.usb_answers.proofs.CodeLemmas.{none-code}
 use Rattle.usb_answers.proofs.BarLemmas.{transfer-bar}
 use Rattle.usb_answers.proofs.session.Session.transfer_is_barred.Goals as goal
 

@@ -1,12 +1,11 @@
-use Rattle.std.proofs.Common.{◌≡◌, sym, ◌∙◌, ap, Some, None, length, ◌≤◌}
-use Rattle.usb_endpoint.specs.EndpointState.{EndpointState}
+use Rattle.std.proofs.Common.{sym, ◌∙◌, ap}
 use Rattle.usb_endpoint.specs.AnyEndpoints.{state_of}
 use Rattle.usb_answers.specs.SessionState.{SessionState}
 use Rattle.usb_answers.specs.Names.{named, is_free}
 use Rattle.usb_answers.proofs.NameLemmas.{freed-free}
 use Rattle.usb_answers.proofs.CodeLemmas.{poll-open, none-code, named-code, stands-code, ok-holds}
 use Rattle.usb_answers.proofs.Queue.{allowed-some}
-use Rattle.usb_answers.proofs.Lent.{Line, stands-lent, line-sound, line-spare}
+use Rattle.usb_answers.proofs.Lent.{stands-lent, line-sound, line-spare}
 use Rattle.usb_answers.proofs.WaitCode.{wait-used, wait-key, wait-code}
 use Rattle.usb_answers.proofs.session.Session.wait.Goals as goal
 

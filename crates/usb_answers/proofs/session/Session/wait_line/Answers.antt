@@ -1,4 +1,4 @@
-use Rattle.std.proofs.Common.{sym, ◌∙◌, Some}
+use Rattle.std.proofs.Common.{sym, ◌∙◌}
 use Rattle.usb_answers.proofs.AnswerLemmas.{wait-barred, wait-answered}
 use Rattle.usb_answers.proofs.session.Session.wait_line.Goals as goal
 

@@ -1,11 +1,11 @@
-use Rattle.std.proofs.Common.{◌≡◌, ◌∙◌, ap, length, arith}
+use Rattle.std.proofs.Common.{◌≡◌, ◌∙◌, ap, sym, subst, length, arith}
 use Rattle.usb_kernel.specs.Tickets.{tickets}
 use Rattle.std.proofs.Common.{ℕ, None}
 use Rattle.usb_device.specs.HostState.{HostState}
 use Rattle.usb_device.specs.HostBus.{owner_at}
 use Rattle.usb_device.specs.HostFacts.{host_made}
-use Rattle.usb_device.proofs.FinishLemmas.{Waits, matched-waits, finished-ended}
-use Rattle.usb_device.specs.Finishes.{finished, discarded_below, reaped_below}
+use Rattle.usb_device.proofs.FinishLemmas.{Waits, matched-waits, finished-ended, finished-reaped}
+use Rattle.usb_device.specs.Finishes.{finished, discarded_below, reaped_below, HasCompletions}
 use Rattle.usb_device.proofs.host.Host.finish.Goals as goal
 
 pub returns-clause-finished : goal.returns-clause-finished
@@ -31,3 +31,8 @@ returns-clause-ended c = λ free t below.
     let waits = matched-waits k c.self.inside.devices.items l c.self.inside.steps.items c.self.invariant.agree free_then in
     let waits_now : Waits h (length (tickets h.kernel.past)) = rw (← c.self.view_is) waits in
     rw last (finished-ended h waits_now t (rw last at below))
+
+pub returns-clause-reaped : goal.returns-clause-reaped
+returns-clause-reaped c =
+    let last : c.loop-ticket-2.self ≡ finished c.args.self.now = returns-clause-finished c in
+    subst (λ (h : HostState). HasCompletions h.kernel.past) (sym last) (finished-reaped c.args.self.now)

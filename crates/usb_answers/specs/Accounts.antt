@@ -1,0 +1,40 @@
+-- What endpoints hold is pending at an endpoint that is open under a name.
+use Rattle.std.specs.Prelude.{ℕ, ◌≡◌, ◌≤◌, List, Option, Some, length}
+use Rattle.std.specs.List.{Contains}
+use Rattle.usb_kernel.specs.Tickets.{tickets}
+use Rattle.usb_script.specs.declared.item.Item.{Item}
+use Rattle.usb_device.specs.HostBus.{owner_at}
+use Rattle.usb_answers.specs.Names.{named}
+use Rattle.usb_answers.specs.State.{State, Endpoint, pending}
+use Rattle.usb_answers.specs.Answers.{answer}
+use Rattle.usb_answers.specs.Ends.{all_closed}
+use Rattle.usb_answers.specs.Output.{start}
+
+-- a ticket is pending at the endpoint of a key, which is open under a name
+pub record Covered (endpoints : List (Option Endpoint)) (t key : ℕ) : Type 0 where
+  pub name : ℕ
+  pub entry : Endpoint
+  pub at : named endpoints name ≡ Some entry
+  pub key_is : entry.key ≡ key
+  pub in_pending : Contains (pending entry) t
+
+-- each ticket that an endpoint holds is, and the host has a place for each ticket of the journal
+pub record Accounted (state : State) : Type 0 where
+  pub held : (t key : ℕ) → owner_at state.host.tickets t ≡ Some key → Covered state.endpoints t key
+  pub count : length state.host.tickets ≡ length (tickets state.host.kernel.past)
+
+-- no more tickets of an open endpoint were taken than it has
+abbrev pub TookFew : State → Type 0
+TookFew state = (e : ℕ) (h : Endpoint) → named state.endpoints e ≡ Some h → h.taken ≤ length h.tickets
+
+-- before the first line
+abbrev pub StartIsAccounted : Type 0
+StartIsAccounted = (items : List Item) → Accounted (start items)
+
+-- over each line
+abbrev pub AnswerKeepsAccounts : Type 0
+AnswerKeepsAccounts = (state : State) (item : Item) → TookFew state → Accounted state → Accounted (answer state item).state
+
+-- and over the closes at the end
+abbrev pub CloseKeepsAccounts : Type 0
+CloseKeepsAccounts = (state : State) → Accounted state → Accounted (all_closed state)
