@@ -23,3 +23,4 @@ pub mod SessionFacts
 pub mod AnyOpened
 pub mod Kinds
 pub mod Accounts
+pub mod FinalFates

@@ -1,0 +1,27 @@
+-- Fate lines that name a final status and an end.
+use Rattle.std.specs.Prelude.{ℕ, ◌≡◌, ◌<◌, true, length, Some}
+use Rattle.usb_kernel.specs.declared.submission.TicketInfo.{TicketInfo}
+use Rattle.usb_kernel.specs.Tickets.{tickets}
+use Rattle.usb_kernel.specs.Info.{info_of}
+use Rattle.usb_device.specs.declared.ends.TicketEnd.{TicketEnd}
+use Rattle.usb_device.specs.HostState.{HostState}
+use Rattle.usb_device.specs.HostBus.{end_at}
+use Rattle.usb_device.specs.Finishes.{HasEnds, HasCompletions}
+use Rattle.usb_lines.specs.Tickets.{ticket_line}
+use Rattle.usb_answers.specs.Fates.{end_word, fate_line}
+
+-- the ticket is finished and reaped and has its end, and its line says so
+pub record IsFinal (h : HostState) (t : ℕ) : Type 0 where
+  pub info : TicketInfo
+  pub errno : ℕ
+  pub end : TicketEnd
+  pub known : info_of h.kernel.past t ≡ Some info
+  pub finished : info.status ≡ Some errno
+  pub reaped : info.reaped ≡ true
+  pub ended : end_at h.tickets t ≡ Some end
+  pub line : fate_line h t ≡ ticket_line t info (end_word end)
+
+-- so is each line of a host at which each ticket has its end and its completion
+abbrev pub FatesAreFinal : Type 0
+FatesAreFinal =
+    (h : HostState) (t : ℕ) → HasEnds h.tickets → HasCompletions h.kernel.past → t < length h.tickets → t < length (tickets h.kernel.past) → IsFinal h t
