@@ -17,6 +17,7 @@ pub mod HostBlockingLemmas
 pub mod CallFrames
 pub mod InterfaceFrames
 pub mod EndpointCalls
+pub mod HandleFrames
 pub mod FreshKeys
 pub mod EndLemmas
 pub mod FinishLemmas

@@ -1,0 +1,57 @@
+-- Handles over calls that may be refused.
+use Rattle.std.proofs.Common.{ℕ, arith, ◌≡◌, Result, Ok, Err, sym, ap, subst, length, ◌∙◌}
+use Rattle.std.specs.Prelude.{OnOk, OnErr, List}
+use Rattle.usb_xfer.specs.BufferState.{BufferState}
+use Rattle.usb_endpoint.specs.EndpointState.{EndpointState}
+use Rattle.usb_endpoint.specs.Submits.{entered}
+use Rattle.usb_endpoint.specs.Closes.{after_close}
+use Rattle.usb_device.specs.declared.opened.OpenDevice.{OpenDevice}
+use Rattle.usb_device.specs.HostState.{HostState}
+use Rattle.usb_device.specs.HostBus.{bus_of}
+use Rattle.usb_device.specs.HostTurns.{host_turned}
+use Rattle.usb_device.specs.HostCalls.{host_submitted, host_refused, host_discarded, host_left}
+use Rattle.usb_device.specs.TicketEnds.{host_abandoned}
+use Rattle.usb_device.specs.HandleStates.{InterfaceState, StandsDevice, StandsInterface}
+use Rattle.usb_device.specs.InterfaceClaims.{host_claimed}
+use Rattle.usb_device.proofs.WaitFrames.{went-turned}
+use Rattle.usb_device.proofs.EndpointCalls.{keeps-entered, interfaces-closed, line-closed}
+use Rattle.usb_device.proofs.InterfaceFrames.{StandsInterface-same, bus-claimed, line-claimed}
+
+-- a handle stands while the interfaces and the devices stay
+stands-stays : (h g : HostState) (i : InterfaceState) → g.interfaces ≡ h.interfaces → g.devices ≡ h.devices → StandsInterface h i → StandsInterface g i
+stands-stays h g i interfaces devices stands =
+    let more : length g.devices ≡ length h.devices = ap (λ (ds : List OpenDevice). length ds) devices in
+    StandsInterface-same h g i interfaces (omega (arith, more)) stands
+
+-- over a turn
+pub stands-turned : (h g : HostState) (i : InterfaceState) → g ≡ host_turned h → StandsInterface h i → StandsInterface g i
+stands-turned h g i is stands =
+    let line = (went-turned h).line in
+    subst (λ (x : HostState). StandsInterface x i) (sym is) (stands-stays h (host_turned h) i line.interfaces line.devices stands)
+
+-- over a submission, also one in vain
+pub stands-entered : {A B : Type 0} (X : Type 0) (h g : HostState) (e : EndpointState) (b : BufferState) (i : InterfaceState) (r : Result A B)
+    → OnOk r (g ≡ entered host_submitted host_refused h e b) → OnErr r (X × (g ≡ h)) → StandsInterface h i → StandsInterface g i
+stands-entered X h g e b i (Ok x) ok err stands =
+    let keeps = keeps-entered h e b in
+    subst (λ (x : HostState). StandsInterface x i) (sym ok) (stands-stays h (entered host_submitted host_refused h e b) i keeps.interfaces keeps.line.devices stands)
+stands-entered X h g e b i (Err x) ok err stands = subst (λ (x : HostState). StandsInterface x i) (sym err.1) stands
+
+-- over the close of an endpoint
+pub stands-closed : (h g : HostState) (e : EndpointState) (i : InterfaceState) → g ≡ after_close host_discarded host_abandoned host_left h e → StandsInterface h i → StandsInterface g i
+stands-closed h g e i is stands =
+    subst (λ (x : HostState). StandsInterface x i) (sym is)
+    (stands-stays h (after_close host_discarded host_abandoned host_left h e) i (interfaces-closed h e) (line-closed h e).devices stands)
+
+-- a handle of a device stands over a claim, also one in vain
+pub device-claimed : {A B : Type 0} (h g : HostState) (key number d : ℕ) (r : Result A B) → OnOk r (g ≡ host_claimed h key number) → OnErr r (g ≡ h) → StandsDevice h d → StandsDevice g d
+device-claimed h g key number d (Ok x) ok err stands =
+    let same : length (host_claimed h key number).devices ≡ length h.devices = ap (λ (ds : List OpenDevice). length ds) (line-claimed h key number).devices in
+    let claimed : StandsDevice (host_claimed h key number) d = omega (arith, same, stands) in
+    subst (λ (x : HostState). StandsDevice x d) (sym ok) claimed
+device-claimed h g key number d (Err x) ok err stands = subst (λ (x : HostState). StandsDevice x d) (sym err) stands
+
+-- and the bus stays
+pub bus-claim : {A B : Type 0} (h g : HostState) (key number : ℕ) (r : Result A B) → OnOk r (g ≡ host_claimed h key number) → OnErr r (g ≡ h) → bus_of g ≡ bus_of h
+bus-claim h g key number (Ok x) ok err = ap bus_of ok ∙ bus-claimed h key number
+bus-claim h g key number (Err x) ok err = ap bus_of err
