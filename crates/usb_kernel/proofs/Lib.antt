@@ -20,4 +20,4 @@ pub mod Selections
 pub mod OpenLists
 pub mod Extends
 pub mod Waiting
-pub mod Reaped
+pub mod Unreaped

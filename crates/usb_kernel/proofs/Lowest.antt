@@ -1,4 +1,4 @@
-use Rattle.std.proofs.Common.{◌≡◌, ℕ, ◌+◌, List, [], ◌∷◌, refl, ◌∙◌}
+use Rattle.std.proofs.Common.{◌≡◌, ℕ, ◌+◌, List, [], ◌∷◌, length, refl, ap, ◌∙◌}
 use Rattle.std.specs.Prelude.{position, is_some, ◌&&◌, not}
 use Rattle.std.proofs.lemmas.Iterator.Adapters.{position_from-zero}
 use Rattle.std.proofs.lemmas.Grind.{common_steps}
@@ -12,7 +12,9 @@ use Rattle.usb_kernel.specs.Journal.{fate}
 use Rattle.usb_kernel.specs.Completions.{is_reapable, lowest}
 use Rattle.usb_kernel.specs.Info.{is_unreaped, unreaped}
 use Rattle.usb_kernel.specs.Rows.{row_of, rows_from, Agrees, is_reapable_row, is_unreaped_row}
+use Rattle.usb_kernel.specs.Unreaped.{unreaped_places}
 use Rattle.usb_kernel.proofs.TableLemmas.{position-rows}
+use Rattle.usb_kernel.proofs.Unreaped.{length-places}
 
 is_reapable_row-row_of : (s : Ticket) (f : Fate) → is_reapable_row (row_of s f) ≡ (is_some f.status && not f.reaped)
 is_reapable_row-row_of s f = grind (arith, common_steps)
@@ -32,6 +34,10 @@ count-rows (t ∷ ts) k f =
     let same : is_unreaped_row (row_of t (f k)) ≡ is_unreaped f (k, t) = is_unreaped_row-row_of t (f k) in
     grind (arith, common_steps)
 
-pub unreaped_count : (past : List Event) (rows : List Slot) → Agrees past rows → count_by is_unreaped_row rows ≡ unreaped past
+unreaped_count : (past : List Event) (rows : List Slot) → Agrees past rows → count_by is_unreaped_row rows ≡ unreaped past
 unfolding unreaped
 unreaped_count past rows agrees = rw agrees.table (count-rows (tickets past) 0 (fate past))
+
+-- as many places are listed
+pub unreaped_length : (past : List Event) (rows : List Slot) (places : List ℕ) → Agrees past rows → places ≡ unreaped_places rows → length places ≡ unreaped past
+unreaped_length past rows places agrees listed = ap length listed ∙ length-places rows 0 ∙ unreaped_count past rows agrees

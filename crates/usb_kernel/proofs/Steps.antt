@@ -1,8 +1,8 @@
 -- The table is kept: one lemma for each event.
-use Rattle.std.proofs.Common.{◌≡◌, ℕ, Bool, ◌+◌, ◌-◌, ◌<◌, ◌≤◌, arith, List, ◌∷◌, length, set, get_or, Option, Some, None, true, false, refl, ap, sym, ◌∙◌, slice_get, subst, cond}
+use Rattle.std.proofs.Common.{◌≡◌, ℕ, ◌+◌, ◌-◌, ◌<◌, ◌≤◌, arith, List, ◌∷◌, length, set, get_or, Option, Some, None, true, false, refl, ap, sym, ◌∙◌, slice_get, subst, cond}
 use Rattle.std.proofs.lemmas.List.{set-get_or}
 use Rattle.std.specs.Prelude.{position, is_none, IsSome, is_some, nat_le, nat_lt, ◌&&◌, ◌==◌}
-use Rattle.std.specs.List.{All, sum_by, count_by}
+use Rattle.std.specs.List.{All, sum_by}
 use Rattle.std.proofs.lemmas.List.Sums.{sum_by-set, get_or-le-sum_by}
 use Rattle.std.proofs.lemmas.List.Quantifiers.{position-Some}
 use Rattle.std.proofs.lemmas.List.Elements.{All-set, All-get_or}
@@ -20,7 +20,7 @@ use Rattle.usb_kernel.specs.Journal.{fate, oldest, at_ticket}
 use Rattle.usb_kernel.specs.Completions.{buffer_for, done_if, reapable}
 use Rattle.usb_kernel.specs.Steps.{after_packet, after_ack, after_fail, after_reap}
 use Rattle.usb_kernel.specs.Info.{info_of, info_for}
-use Rattle.usb_kernel.specs.Rows.{row_info, row_of, Agrees, HasItsBody, IsRoomy, is_open_row, is_unreaped_row, row_with_packet, row_with_ack, owed, row_done}
+use Rattle.usb_kernel.specs.Rows.{row_info, row_of, Agrees, HasItsBody, IsRoomy, is_open_row, row_with_packet, row_with_ack, owed, row_done}
 use Rattle.usb_kernel.proofs.RowLemmas.{row-with_packet, row-with_ack}
 use Rattle.usb_kernel.proofs.TableLemmas.{set-at_ticket, rows_from-same, position-is_open_row, slice_get-rows_from, length-rows_from}
 
@@ -137,15 +137,6 @@ pub owed-set : (rows : List Slot) (i n : ℕ) (r next : Slot) → n ≡ sum_by o
 owed-set rows i n r next total inside read =
     let here : owed r ≡ owed (get_or rows i r) = ap owed read in
     (omega (arith, get_or-le-sum_by owed rows i r inside), omega (arith, sum_by-set owed rows i next r inside, get_or-le-sum_by owed rows i r inside))
-
--- a write that a test doesn't see leaves the count of those that pass it
-count_by-set : {X : Type 0} (p : X → Bool) (xs : List X) (i : ℕ) (x y : X) → i < length xs → x ≡ get_or xs i x → p y ≡ p x → count_by p (set xs i y) ≡ count_by p xs
-count_by-set p xs i x y inside read same =
-    let here : cond {A = ℕ} (p y) 1 0 ≡ cond {A = ℕ} (p (get_or xs i x)) 1 0 = ap (λ (b : Bool). cond {A = ℕ} b 1 0) (same ∙ ap p read) in
-    omega (arith, sum_by-set (λ x. cond (p x) 1 0) xs i y x inside)
-
-pub unreaped-set : (rows : List Slot) (i : ℕ) (r next : Slot) → i < length rows → r ≡ get_or rows i r → is_unreaped_row next ≡ is_unreaped_row r → count_by is_unreaped_row (set rows i next) ≡ count_by is_unreaped_row rows
-unreaped-set rows i r next inside read same = count_by-set is_unreaped_row rows i r next inside read same
 
 -- an open ticket may need both its places
 pub owed-open : (r : Slot) → r.status ≡ None → IsSome r.buffer → owed r ≡ 2

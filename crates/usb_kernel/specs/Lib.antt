@@ -13,6 +13,7 @@ pub mod Steps
 pub mod Legal
 pub mod Info
 pub mod Rows
+pub mod Unreaped
 pub mod KernelFacts
 pub mod Extends
 pub mod Ahead

@@ -1,5 +1,5 @@
 -- The table that the kernel keeps beside its journal.
-use Rattle.std.specs.Prelude.{ℕ, ◌+◌, ◌*◌, ◌<◌, ◌≤◌, ◌≡◌, Bool, true, List, [], ◌∷◌, ◌++◌, length, slice_get, Option, Some, None, is_none, is_some, IsSome, min, nat_lt, nat_le, ◌==◌, ◌&&◌, ◌||◌, if◌then◌else◌}
+use Rattle.std.specs.Prelude.{ℕ, ◌+◌, ◌*◌, ◌<◌, ◌≤◌, ◌≡◌, Bool, List, [], ◌∷◌, ◌++◌, length, Option, Some, None, is_none, is_some, IsSome, min, nat_lt, nat_le, ◌==◌, ◌&&◌, ◌||◌, if◌then◌else◌}
 use Rattle.std.specs.List.{All}
 use Rattle.std.specs.Option.{ForSome, option_and_then}
 use Rattle.usb_kernel.specs.declared.submission.Done.{Done}
@@ -50,16 +50,6 @@ pub record Agrees (past : List Event) (rows : List Slot) : Type 0 where
   pub table : rows ≡ table_of past
   pub bodies : All HasItsBody (tickets past)
   pub roomy : All IsRoomy rows
-
--- the first n tickets are reaped: so says the journal
-pub record AreReaped (n : ℕ) (past : List Event) : Type 0 where
-  pub within : n ≤ length (tickets past)
-  pub reaped : (t : ℕ) → t < n → (fate past t).reaped ≡ true
-
--- and so says the table
-pub record AreReapedRows (n : ℕ) (rows : List Slot) : Type 0 where
-  pub within : n ≤ length rows
-  pub reaped : (t : ℕ) (r : Slot) → t < n → slice_get rows t ≡ Some r → r.buffer ≡ None
 
 -- the places in the journal that a ticket may still need: for its discard and for its reap
 abbrev pub owed : Slot → ℕ

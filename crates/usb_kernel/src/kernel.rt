@@ -5,7 +5,6 @@ ghost use Rattle.usb_desc.specs.declared.types.TransferType.{TransferType};
 ghost use Rattle.usb_kernel.specs.Tickets.{tickets};
 ghost use Rattle.usb_kernel.specs.Submissions.{submit_event, IsWhole, IsErrno};
 ghost use Rattle.usb_kernel.specs.Legal.{IsLegal, IsLawful};
-ghost use Rattle.usb_kernel.specs.Rows.{AreReaped};
 ghost use Rattle.usb_kernel.specs.Completions.{reapable, lowest};
 ghost use Rattle.usb_kernel.specs.Devices.{fresh_device, devices_unplugged};
 ghost use Rattle.usb_kernel.specs.Claims.{open_result, descriptors_result, configuration_result, claim_result, after_claim, release_result, after_release, clear_halt_result};
@@ -24,14 +23,15 @@ use crate::slot::Slot;
 use crate::step::{Armed, KernelCall, KernelStep};
 use crate::submission::{Done, Submission, Submitted, TicketInfo};
 use crate::table::{
-    add, add_refused, drop_open, fail_oldest, first_number, give_ack, give_packet, info_at,
-    skip_reaped, take_finished, unplug_tickets,
+    add, add_refused, drop_open, fail_oldest, first_number, forget_place, give_ack, give_packet,
+    info_at, push_place, take_finished, unplug_tickets,
 };
 use std::alloc::Global;
 use std::marker::Model;
 use usb_desc::NoMemory;
 
-/// A simulated kernel. It keeps its events in a journal, and beside it the table of tickets that the journal means.
+/// A simulated kernel. It keeps its events in a journal, and beside it the table of tickets that the journal means, and the places of
+/// the tickets that are not reaped, ascending.
 #[derive(Drop)]
 pub struct Kernel {
     journal: Vec<Event>,
@@ -41,8 +41,7 @@ pub struct Kernel {
     armed: Vec<Armed>,
     spare: usize,
     owed: usize,
-    unreaped: usize,
-    reaped_below: usize,
+    unreaped: Vec<usize>,
 }
 
 impl Model for Kernel {
@@ -68,11 +67,10 @@ fn push_event(journal: &mut Vec<Event>, event: Event)
     let _ = journal.push(event);
 }
 
-/// The same. What is reaped stays reaped.
+/// The same. A lawful journal stays lawful.
 fn put(journal: &mut Vec<Event>, event: Event)
     requires room { vec_len journal.old < vec_capacity journal.old }
     ensures items { reverse journal.new.items ≡ event ∷ reverse journal.old.items }
-    ensures reaped { (n : ℕ) → AreReaped n (reverse journal.old.items) → AreReaped n (reverse journal.new.items) }
     ensures lawful { IsLegal event → IsLawful (reverse journal.old.items) → IsLawful (reverse journal.new.items) }
     ensures len { vec_len journal.new ≡ vec_len journal.old + 1 }
     ensures capacity { vec_capacity journal.old ≤ vec_capacity journal.new }
@@ -123,8 +121,7 @@ impl Kernel {
             armed: Vec::new(alloc),
             spare: 0,
             owed: 0,
-            unreaped: 0,
-            reaped_below: 0,
+            unreaped: Vec::new(alloc),
         })
     }
 
@@ -145,11 +142,11 @@ impl Kernel {
     }
 
     /// How many tickets are not reaped.
-    #[tactic(auto, using(crate::proofs::Lowest::unreaped_count))]
+    #[tactic(auto, using(crate::proofs::Lowest::unreaped_length))]
     pub fn unreaped(&self) -> usize
         ensures unreaped { result ≡ unreaped self.now.past }
     {
-        self.unreaped
+        self.unreaped.len()
     }
 
     /// What is known of a ticket.
@@ -166,7 +163,7 @@ impl Kernel {
     pub fn lowest_finished(&self) -> Option<u64>
         ensures lowest { result ≡ lowest self.now.past }
     {
-        first_number(&self.tickets, self.reaped_below)
+        first_number(&self.tickets, &self.unreaped)
     }
 
     /// Makes room for at least n steps.
@@ -234,7 +231,7 @@ impl Kernel {
         let Ok(()) = make_room(&mut self.journal, places, self.tickets.len()) else {
             return Err(s);
         };
-        if self.tickets.reserve(1).is_err() {
+        if self.tickets.reserve(1).is_err() || self.unreaped.reserve(1).is_err() {
             return Err(s);
         }
         let device = s.device;
@@ -243,8 +240,8 @@ impl Kernel {
         let capacity = s.buffer.capacity();
         let deadline = s.deadline;
         let ticket = add(&mut self.tickets, s);
+        push_place(&mut self.unreaped, ticket as usize);
         self.owed += 2;
-        self.unreaped += 1;
         put(
             &mut self.journal,
             Event::Submit {
@@ -350,7 +347,7 @@ impl Kernel {
         self.spare -= 1;
         if let Some(freed) = give_packet(
             &mut self.tickets,
-            self.reaped_below,
+            &self.unreaped,
             device,
             endpoint,
             bytes.as_slice(),
@@ -375,7 +372,7 @@ impl Kernel {
         ensures rest { self.new ≡ record self.old { past = self.new.past; spare = self.new.spare } }
     {
         self.spare -= 1;
-        if let Some(freed) = give_ack(&mut self.tickets, self.reaped_below, device, endpoint) {
+        if let Some(freed) = give_ack(&mut self.tickets, &self.unreaped, device, endpoint) {
             self.owed -= freed;
             put(&mut self.journal, Event::Ack { device, endpoint });
         }
@@ -390,13 +387,7 @@ impl Kernel {
         ensures rest { self.new ≡ record self.old { past = self.new.past; spare = self.new.spare } }
     {
         self.spare -= 1;
-        if fail_oldest(
-            &mut self.tickets,
-            self.reaped_below,
-            device,
-            endpoint,
-            errno,
-        ) {
+        if fail_oldest(&mut self.tickets, &self.unreaped, device, endpoint, errno) {
             self.owed -= 1;
             put(
                 &mut self.journal,
@@ -489,10 +480,9 @@ impl Kernel {
         ensures rest { self.new ≡ record self.old { past = self.new.past } }
     {
         let done = take_finished(&mut self.tickets, ticket)?;
+        forget_place(&mut self.unreaped, ticket);
         self.owed -= 1;
-        self.unreaped -= 1;
         put(&mut self.journal, Event::Reap { ticket });
-        self.reaped_below = skip_reaped(&self.tickets, self.reaped_below);
         Some(done)
     }
 

@@ -4,7 +4,7 @@ ghost use Rattle.std.specs.Prelude.{◌≡◌, ◌+◌, ◌<◌, ◌≤◌, IsSo
 ghost use Rattle.usb_kernel.specs.Fates.{fresh};
 ghost use Rattle.usb_kernel.specs.Submissions.{body_of, ticket_of, refused_of, refused_fate, IsWhole};
 ghost use Rattle.usb_kernel.specs.Completions.{buffer_for, refused_done};
-ghost use Rattle.usb_kernel.specs.Rows.{IsRoomy, is_reapable_row, is_unreaped_row, row_info, owed, row_with_packet, row_with_ack, row_unplugged, row_done, row_of};
+ghost use Rattle.usb_kernel.specs.Rows.{IsRoomy, is_open_row, is_reapable_row, is_unreaped_row, row_info, owed, row_with_packet, row_with_ack, row_unplugged, row_done, row_of};
 
 use crate::submission::{Done, Submission, TicketInfo};
 use usb_xfer::Buffer;
@@ -97,6 +97,13 @@ impl Slot {
         ensures reapable { result ≡ is_reapable_row self.now }
     {
         self.status.is_some() && self.buffer.is_some()
+    }
+
+    /// Whether it is an open ticket of the endpoint.
+    pub(crate) fn is_open_at(&self, device: u8, endpoint: u8) -> bool
+        ensures open_at { result ≡ is_open_row device endpoint self.now }
+    {
+        self.device == device && self.endpoint == endpoint && self.status.is_none()
     }
 
     /// Gives the buffer away.

@@ -1,6 +1,7 @@
 use Rattle.std.proofs.Common.{◌≡◌, ◌<◌, arith, length, ◌∙◌, refl}
 use Rattle.usb_kernel.proofs.Steps.{row_at, same_read}
 use Rattle.usb_kernel.proofs.Discards.{after_discard-none, after_discard-some, is_unfinished-beyond, is_unfinished-row, Agrees-discard, none_when, not_none_when}
+use Rattle.usb_kernel.proofs.Unreaped.{unreaped-set}
 use Rattle.usb_kernel.proofs.table.drop_open.Goals as goal
 
 pub returns-then-ticket-len-clause-acts : goal.returns-then-ticket-len-clause-acts
@@ -40,3 +41,6 @@ returns-clause-agrees c =
     let open_one = none_when c.index_mut-slot.result.now.status (rw (← same) c.if-is_some.ensures) in
     let acts = after_discard-some past c.args.ticket (is_unfinished-row past c.args.rows.now.items c.args.ticket c.index_mut-slot.result.now agrees inside row ∙ rw open_one refl) in
     Agrees-discard past _ c.args.rows.now.items c.args.ticket c.index_mut-slot.result.now _ agrees row open_one refl acts
+
+pub returns-clause-unreaped : goal.returns-clause-unreaped
+returns-clause-unreaped c = unreaped-set c.args.rows.now.items c.args.ticket c.index_mut-slot.result.now _ (omega arith) c.index_mut-slot.ensures.value refl

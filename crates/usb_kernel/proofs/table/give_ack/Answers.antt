@@ -1,5 +1,6 @@
 use Rattle.std.proofs.Common.{arith, sym}
 use Rattle.usb_kernel.proofs.Steps.{found, oldest-none, open_row, Agrees-ack, after_ack-none, after_ack-some}
+use Rattle.usb_kernel.proofs.Unreaped.{unreaped-set}
 use Rattle.usb_kernel.proofs.table.give_ack.Goals as goal
 
 pub returns-in_default-clause-acts : goal.returns-in_default-clause-acts
@@ -27,5 +28,10 @@ returns-clause-acts c =
     let row = found past c.args.rows.now.items c.args.device c.args.endpoint c.in-Some.at c.index_mut-slot.result.now agrees (rw c.deref.ensures.value at (sym c.in-Some.ensures.place)) c.index_mut-slot.ensures.value in
     after_ack-some past c.args.device c.args.endpoint c.in-Some.at c.if-endpoint-ge128.false row.first
 
-pub open_from-requires-clause-roomy : goal.open_from-requires-clause-roomy
-open_from-requires-clause-roomy c = rw c.deref.ensures.value c.requires.roomy
+pub open_among-requires-clause-roomy : goal.open_among-requires-clause-roomy
+open_among-requires-clause-roomy c = rw c.deref.ensures.value c.requires.roomy
+
+pub returns-clause-unreaped : goal.returns-clause-unreaped
+returns-clause-unreaped c =
+    let row = open_row c.args.rows.now.items c.args.device c.args.endpoint c.in-Some.at c.index_mut-slot.result.now c.requires.roomy (rw c.deref.ensures.value at (sym c.in-Some.ensures.place)) c.index_mut-slot.ensures.value in
+    unreaped-set c.args.rows.now.items c.in-Some.at c.index_mut-slot.result.now c.take_ack.new.self row.inside c.index_mut-slot.ensures.value c.take_ack.ensures.unreaped

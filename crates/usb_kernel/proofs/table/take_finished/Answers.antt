@@ -1,7 +1,8 @@
-use Rattle.std.proofs.Common.{arith, sym, ◌∙◌}
+use Rattle.std.proofs.Common.{arith, sym, refl, ◌∙◌}
 use Rattle.std.specs.Prelude.{is_some}
 use Rattle.std.proofs.lemmas.Bool.{and_parts}
 use Rattle.usb_kernel.proofs.Steps.{set_read, row_at, reapable-row, reapable-none, row_done-none, after_reap-none, after_reap-some, Agrees-reap}
+use Rattle.usb_kernel.proofs.Unreaped.{unreaped-reap}
 use Rattle.usb_kernel.proofs.table.take_finished.Goals as goal
 
 pub returns-then-ticket-len-clause-done : goal.returns-then-ticket-len-clause-done
@@ -37,3 +38,8 @@ returns-clause-agrees c =
     let finished = and_parts (is_some c.index_mut-slot.result.now.status) (is_some c.index_mut-slot.result.now.buffer) (sym c.if-not-is_reapable.ensures.reapable) in
     let some = reapable-row past c.args.ticket c.index_mut-slot.result.now row ∙ c.take_done.ensures.done in
     Agrees-reap past _ c.args.rows.now.items c.args.ticket c.index_mut-slot.result.now c.take_done.new.self agrees row finished.0 c.take_done.ensures.row (after_reap-some past c.args.ticket _ some)
+
+pub returns-clause-unreaped : goal.returns-clause-unreaped
+returns-clause-unreaped c =
+    let finished = and_parts (is_some c.index_mut-slot.result.now.status) (is_some c.index_mut-slot.result.now.buffer) (sym c.if-not-is_reapable.ensures.reapable) in
+    unreaped-reap c.args.rows.now.items c.args.ticket c.index_mut-slot.result.now c.take_done.new.self (omega arith) c.index_mut-slot.ensures.value finished.1 (rw c.take_done.ensures.row refl)

@@ -2,7 +2,8 @@ use Rattle.std.proofs.Common.{◌<◌, arith, length, refl, ◌∙◌}
 use Rattle.std.specs.Prelude.{sum_by}
 use Rattle.std.proofs.lemmas.List.Edits.{map_over_more}
 use Rattle.usb_kernel.specs.Rows.{row_unplugged, owed}
-use Rattle.usb_kernel.proofs.Steps.{owed-set, unreaped-set}
+use Rattle.usb_kernel.proofs.Steps.{owed-set}
+use Rattle.usb_kernel.proofs.Unreaped.{unreaped-set}
 use Rattle.usb_kernel.proofs.table.unplug_rows.Goals as goal
 
 pub loop-i-preserved : goal.loop-i-preserved

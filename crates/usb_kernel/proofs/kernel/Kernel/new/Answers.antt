@@ -1,6 +1,6 @@
-use Rattle.std.proofs.Common.{arith, refl, reverse}
+use Rattle.std.proofs.Common.{arith, refl}
 use Rattle.usb_kernel.specs.Refusals.{HasArmedErrno}
-use Rattle.usb_kernel.proofs.Reaped.{AreReaped-none}
+use Rattle.usb_kernel.proofs.Unreaped.{unreaped-none}
 use Rattle.usb_kernel.proofs.Fresh.{Agrees-none, All-none}
 use Rattle.usb_kernel.proofs.kernel.Kernel.new.Goals as goal
 
@@ -8,9 +8,8 @@ pub invariant_of-result : goal.invariant_of-result
 invariant_of-result c = record {
   lawful = rw c.new.ensures.items tt;
   agrees = rw (c.new.ensures.items, c.new-2.ensures.items) Agrees-none;
-  below = AreReaped-none (reverse c.new.result.items);
+  listed = rw (c.new-2.ensures.items, c.new-4.ensures.items) unreaped-none;
   owes = rw c.new-2.ensures.items refl;
-  counts = rw c.new-2.ensures.items refl;
   space = rw c.new.ensures.len (omega arith);
   four = rw c.new.ensures.items (omega arith);
   errnos = rw c.new-3.ensures.items (All-none HasArmedErrno);

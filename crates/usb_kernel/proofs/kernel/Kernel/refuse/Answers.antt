@@ -3,9 +3,9 @@ use Rattle.usb_kernel.specs.declared.submission.Done.{Done}
 use Rattle.usb_kernel.specs.declared.event.Event.{Event}
 use Rattle.usb_kernel.specs.Tickets.{tickets}
 use Rattle.usb_kernel.specs.Submissions.{refuse_event}
-use Rattle.std.specs.List.{sum_by, count_by}
-use Rattle.usb_kernel.specs.Rows.{Agrees, owed, is_unreaped_row}
-use Rattle.usb_kernel.proofs.Reaped.{AreReaped-later}
+use Rattle.std.specs.List.{sum_by}
+use Rattle.usb_kernel.specs.Rows.{Agrees, owed}
+use Rattle.usb_kernel.specs.Unreaped.{unreaped_places}
 use Rattle.usb_kernel.proofs.Fresh.{tickets-refuse, length-rows}
 use Rattle.usb_kernel.proofs.kernel.Kernel.refuse.Goals as goal
 
@@ -19,9 +19,8 @@ invariant_of-self-2 c =
     record {
       lawful = rw journal (c.requires.errno, c.self.invariant.lawful);
       agrees = rw journal (c.add_refused-done.ensures.agrees past agrees);
-      below = rw journal (AreReaped-later past (refuse_event (length (tickets past)) c.args.s c.args.errno) c.self.inside.reaped_below c.self.invariant.below);
+      listed = c.self.invariant.listed ∙ ap unreaped_places (sym c.reserve.ensures.items) ∙ sym c.add_refused-done.ensures.unreaped;
       owes = c.self.invariant.owes ∙ ap (sum_by owed) (sym c.reserve.ensures.items) ∙ sym c.add_refused-done.ensures.places;
-      counts = c.self.invariant.counts ∙ ap (count_by is_unreaped_row) (sym c.reserve.ensures.items) ∙ sym c.add_refused-done.ensures.unreaped;
       space = omega (arith, c.in-Ok-make_room.ensures.room);
       four = rw (journal, tickets-refuse past c.args.s (length (tickets past)) c.args.errno) (omega (arith, c.in-Ok-make_room.ensures.four, length-rows past c.self.inside.tickets.items c.self.invariant.agrees));
       errnos = c.self.invariant.errnos;
