@@ -157,7 +157,6 @@ impl Session {
 
     fn answer(&mut self, item: &Item) -> String {
         let condition = || CONDITION.to_string();
-        let ok = |_| "ok\n".to_string();
         match item {
             Item::Device { .. } => String::new(),
             Item::Now => format!("now {}\n", self.host.kernel.clock),
@@ -170,36 +169,42 @@ impl Session {
             Item::Endpoint { name, interface, address, kind, is_in } => {
                 self.endpoint(*name as usize, *interface as usize, *address, *kind, *is_in).map_or_else(condition, tried_line)
             }
-            Item::SubmitIn { endpoint, length } => {
-                self.submit(*endpoint, true, Vec::new(), *length).map_or_else(condition, ok)
-            }
-            Item::SubmitOut { endpoint, bytes } => {
-                self.submit(*endpoint, false, bytes.clone(), bytes.len()).map_or_else(condition, ok)
-            }
-            Item::Pending { endpoint } => match &self.endpoints[*endpoint as usize] {
-                None => condition(),
-                Some(endpoint) => format!("count {}\n", endpoint.pending.len()),
-            },
-            Item::Poll { endpoint } => self.poll(*endpoint).unwrap_or_else(condition),
-            Item::Wait { endpoint, timeout, steps } => self.wait(*endpoint, *timeout, steps),
-            Item::TransferIn { endpoint, length, timeout, steps } => {
-                self.transfer(*endpoint, true, Vec::new(), *length, *timeout, steps)
-            }
-            Item::TransferOut { endpoint, bytes, timeout, steps } => {
-                self.transfer(*endpoint, false, bytes.clone(), bytes.len(), *timeout, steps)
-            }
-            Item::Cancel { endpoint } => match &self.endpoints[*endpoint as usize] {
-                None => condition(),
-                Some(endpoint) => ok(self.host.cancel(endpoint)),
-            },
-            Item::Close { endpoint } => match self.endpoints[*endpoint as usize].take() {
-                None => condition(),
-                Some(endpoint) => ok(self.host.close_endpoint(endpoint)),
-            },
             Item::Steps(steps) => {
                 steps.iter().for_each(|step| self.host.step(step));
                 String::new()
             }
+            _ => self.answer_endpoint(item).unwrap_or_else(condition),
+        }
+    }
+
+    /// The answer to a call on an endpoint, or none where it is barred.
+    fn answer_endpoint(&mut self, item: &Item) -> Option<String> {
+        let ok = |()| "ok\n".to_string();
+        match item {
+            Item::SubmitIn { endpoint, length } => self.submit(*endpoint, true, Vec::new(), *length).map(ok),
+            Item::SubmitOut { endpoint, bytes } => self.submit(*endpoint, false, bytes.clone(), bytes.len()).map(ok),
+            Item::Pending { endpoint } => {
+                let endpoint = self.endpoints[*endpoint as usize].as_ref()?;
+                Some(format!("count {}\n", endpoint.pending.len()))
+            }
+            Item::Poll { endpoint } => self.poll(*endpoint),
+            Item::Wait { endpoint, timeout, steps } => Some(self.wait(*endpoint, *timeout, steps)),
+            Item::TransferIn { endpoint, length, timeout, steps } => {
+                Some(self.transfer(*endpoint, true, Vec::new(), *length, *timeout, steps))
+            }
+            Item::TransferOut { endpoint, bytes, timeout, steps } => {
+                Some(self.transfer(*endpoint, false, bytes.clone(), bytes.len(), *timeout, steps))
+            }
+            Item::Cancel { endpoint } => {
+                self.host.cancel(self.endpoints[*endpoint as usize].as_ref()?);
+                Some(ok(()))
+            }
+            Item::Close { endpoint } => {
+                let endpoint = self.endpoints[*endpoint as usize].take()?;
+                self.host.close_endpoint(endpoint);
+                Some(ok(()))
+            }
+            _ => None,
         }
     }
 
