@@ -76,3 +76,41 @@ AllStand-opened old new es next all stands fresh keeps =
                 ]
           ];
     }
+
+-- where an element stands when one more stands behind these
+abbrev shift : {X : Type 0} → List X → ℕ → ℕ
+shift [] j = suc j
+shift (x ∷ xs) zero = zero
+shift (x ∷ xs) (suc j) = suc (shift xs j)
+
+at-shift : {X : Type 0} (xs ys : List X) (x y : X) (j : ℕ) → slice_get (xs ++ ys) j ≡ Some y → slice_get (xs ++ x ∷ ys) (shift xs j) ≡ Some y
+at-shift [] ys x y j at = at
+at-shift (z ∷ zs) ys x y zero at = at
+at-shift (z ∷ zs) ys x y (suc j) at = at-shift zs ys x y j at
+
+at-length : {X : Type 0} (xs ys : List X) (x : X) → slice_get (xs ++ x ∷ ys) (length xs) ≡ Some x
+at-length [] ys x = refl
+at-length (z ∷ zs) ys x = at-length zs ys x
+
+shift-same : {X : Type 0} (xs : List X) (j k : ℕ) → shift xs j ≡ shift xs k → j ≡ k
+shift-same [] j k same = omega (arith, same)
+shift-same (x ∷ xs) zero zero same = refl
+shift-same (x ∷ xs) zero (suc k) same = absurd (omega (arith, same))
+shift-same (x ∷ xs) (suc j) zero same = absurd (omega (arith, same))
+shift-same (x ∷ xs) (suc j) (suc k) same = ap suc (shift-same xs j k (omega (arith, same)))
+
+shift-apart : {X : Type 0} (xs : List X) (j : ℕ) → shift xs j ≢ length xs
+shift-apart [] j = λ same. absurd (omega (arith, same))
+shift-apart (x ∷ xs) zero = λ same. absurd (omega (arith, same))
+shift-apart (x ∷ xs) (suc j) = λ same. shift-apart xs j (omega (arith, same))
+
+-- one of them was closed
+pub AllStand-closed : (old new : BusState) (front others : List EndpointState) (e : EndpointState) → AllStand old (front ++ e ∷ others) → KeepsOthers old new e.key → AllStand new (front ++ others)
+AllStand-closed old new front others e all keeps =
+    record {
+      each = λ j f at.
+          let there = at-shift front others e f j at in
+          Stands-other old new e.key f keeps (all.apart (shift front j) (length front) f e there (at-length front others e) (shift-apart front j)) (all.each (shift front j) f there);
+      apart = λ j k f g here there ne.
+          all.apart (shift front j) (shift front k) f g (at-shift front others e f j here) (at-shift front others e g k there) (λ same. ne (shift-same front j k same));
+    }

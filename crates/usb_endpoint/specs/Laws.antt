@@ -63,3 +63,9 @@ abbrev pub AllStandAfterOpening : Type 0
 AllStandAfterOpening =
     (old new : BusState) (es : List EndpointState) (next : EndpointState) →
     AllStand old es → Stands new next → old.keys next.key ≡ false → KeepsOthers old new next.key → AllStand new (es ++ next ∷ [])
+
+-- and after one of them was closed
+abbrev pub AllStandAfterClose : Type 0
+AllStandAfterClose =
+    (old new : BusState) (front others : List EndpointState) (e : EndpointState) →
+    AllStand old (front ++ e ∷ others) → KeepsOthers old new e.key → AllStand new (front ++ others)

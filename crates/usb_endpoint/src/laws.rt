@@ -3,7 +3,7 @@
 ghost use Rattle.std.specs.Prelude.{◌≡◌, ℕ, Bool, List, Some};
 ghost use Rattle.usb_endpoint.specs.Waits.{waited};
 ghost use Rattle.usb_endpoint.specs.Blocking.{blocked};
-ghost use Rattle.usb_endpoint.specs.Laws.{TakenInOrder, SubmissionLeads, PollLeads, CallsCompose, EndEnds, EndedStays, EnteredMoves, LaterMoves, EndMoves, OthersStand, AllStandAfterCall, AllStandLater, AllStandAfterOpening};
+ghost use Rattle.usb_endpoint.specs.Laws.{TakenInOrder, SubmissionLeads, PollLeads, CallsCompose, EndEnds, EndedStays, EnteredMoves, LaterMoves, EndMoves, OthersStand, AllStandAfterCall, AllStandLater, AllStandAfterOpening, AllStandAfterClose};
 
 use usb_bus::Bus;
 
@@ -41,4 +41,5 @@ pub fn calls_keep_other_endpoints()
     ensures call { AllStandAfterCall }
     ensures later { AllStandLater }
     ensures opened { AllStandAfterOpening }
+    ensures closed { AllStandAfterClose }
 {}

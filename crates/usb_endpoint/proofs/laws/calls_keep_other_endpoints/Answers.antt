@@ -1,5 +1,5 @@
 use Rattle.usb_endpoint.specs.Frames.{Stands-other}
-use Rattle.usb_endpoint.proofs.AllStandLemmas.{AllStand-call, AllStand-later, AllStand-opened}
+use Rattle.usb_endpoint.proofs.AllStandLemmas.{AllStand-call, AllStand-later, AllStand-opened, AllStand-closed}
 use Rattle.usb_endpoint.proofs.laws.calls_keep_other_endpoints.Goals as goal
 
 pub returns-clause-other : goal.returns-clause-other
@@ -13,3 +13,6 @@ returns-clause-later c = AllStand-later
 
 pub returns-clause-opened : goal.returns-clause-opened
 returns-clause-opened c = AllStand-opened
+
+pub returns-clause-closed : goal.returns-clause-closed
+returns-clause-closed c = AllStand-closed
