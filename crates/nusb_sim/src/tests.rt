@@ -12,10 +12,10 @@ use usb_session::{
 };
 
 /// The lines that open a device with a bulk IN endpoint 81 of 64 bytes and a bulk OUT endpoint 02, and their answers.
-const OPENED: &str =
-    "device k0 1 6 3 1 1201000200000040aaaabbbb0001000000010902200001010080320904000002ff0000000705810240000007050202400000\nopen d0 1 6\nclaim d0 0 i0\nendpoint e0 i0 81 bulk-in\n";
-
-const OPENED_ANSWERS: &str = "ok\nok\nok\n";
+const OPENED: (&str, &str) = (
+    "device k0 1 6 3 1 1201000200000040aaaabbbb0001000000010902200001010080320904000002ff0000000705810240000007050202400000\nopen d0 1 6\nclaim d0 0 i0\nendpoint e0 i0 81 bulk-in\n",
+    "ok\nok\nok\n",
+);
 
 /// What a run left: the status, the output and the report.
 #[derive(Drop)]
@@ -53,108 +53,120 @@ fn run_on(
     Ok(Outcome { status, sink, diag })
 }
 
-fn expect(rt: &impl Abort, outcome: &Outcome, status: u8, output: &str, report: &str) {
-    assert_eq!(rt; outcome.status, status, "{output}");
-    assert_eq!(rt; outcome.sink.bytes(), output.as_bytes(), "{output}");
-    assert_eq!(rt; outcome.diag.bytes(), report.as_bytes(), "{output}");
+fn expect(rt: &impl Abort, name: &str, outcome: &Outcome, status: u8, output: &str, report: &str) {
+    assert_eq!(rt; outcome.status, status, "of {name}");
+    assert_eq!(rt; outcome.sink.bytes(), output.as_bytes(), "of {name}");
+    assert_eq!(rt; outcome.diag.bytes(), report.as_bytes(), "of {name}");
 }
 
-#[test]
-fn answers_each_call_and_then_each_ticket(rt: HostRuntime) -> Result<(), Fail> {
-    let table = [
-        (
-            "submitin e0 64\npoll e0\n! pkt k0 81 010203\npoll e0\n! reap 0\npoll e0\n",
-            "ok\npending\npending\ndone ok 3 64 010203\nticket 0 k0 81 ok 3 taken\n",
-        ),
-        (
-            "submitin e0 64\nsubmitin e0 64\n! pkt k0 81 01 ; pkt k0 81 0203 ; reap 1\npoll e0\n! reap 0\npoll e0\npoll e0\npoll e0\n",
-            "ok\nok\npending\ndone ok 1 64 01\ndone ok 2 64 0203\ncondition\nticket 0 k0 81 ok 1 taken\nticket 1 k0 81 ok 2 taken\n",
-        ),
-        (
-            "submitin e0 64\nsubmitin e0 64\nsubmitin e0 64\n! pkt k0 81 01 ; reap 0\n",
-            "ok\nok\nok\nticket 0 k0 81 ok 1 dropped\nticket 1 k0 81 cancelled 0 reclaimed\nticket 2 k0 81 cancelled 0 reclaimed\n",
-        ),
-        (
-            "submitin e0 64\n! pkt k0 81 010203\n",
-            "ok\nticket 0 k0 81 ok 3 reclaimed\n",
-        ),
-        (
-            "submitin e0 64\nsubmitin e0 100\n! pkt k0 81 - ; reap 0\npoll e0\npoll e0\n",
-            "ok\nok\ndone ok 0 64 -\ndone invalid 0 100 -\nticket 0 k0 81 ok 0 taken\nticket 1 k0 81 invalid 0 taken\n",
-        ),
-        (
-            "open d0 1 6\nopen d1 1 7\nclaim d0 0 i1\nclaim d0 1 i1\nclaim d2 0 i1\nendpoint e1 i0 82 bulk-in\nendpoint e1 i0 02 bulk-in\nendpoint e1 i0 81 bulk-in\npoll e1\n",
-            "condition\nerror Disconnected device not found (errno 2)\nerror Busy interface is busy (errno 16)\nerror NotFound interface not found (errno 2)\ncondition\nerror NotFound specified endpoint does not exist on this interface\nerror Other incorrect endpoint direction\nerror Busy endpoint already in use\ncondition\n",
-        ),
-    ];
-    for (script, output) in table {
-        let script = joined(rt.alloc(), OPENED, script)?;
-        let output = joined(rt.alloc(), OPENED_ANSWERS, output)?;
-        expect(
-            &rt,
-            &run_on(rt.alloc(), None, script.as_bytes(), &[], &[])?,
-            0,
-            output.as_str(),
-            "",
-        );
-        expect(
-            &rt,
-            &run_on(rt.alloc(), Some("session"), script.as_bytes(), &[], &[])?,
-            0,
-            output.as_str(),
-            "",
-        );
+/// Runs scripts that go on behind the front, whose answers are written first. A row has a name, the script and what is written.
+fn expect_rows(
+    rt: &impl Abort,
+    alloc: Global,
+    word: Option<&str>,
+    front: (&str, &str),
+    rows: &[(&str, &str, &str)],
+) -> Result<(), Fail> {
+    for row in rows {
+        let (name, script, output) = *row;
+        let script = joined(alloc, front.0, script)?;
+        let output = joined(alloc, front.1, output)?;
+        let outcome = run_on(alloc, word, script.as_bytes(), &[], &[])?;
+        expect(rt, name, &outcome, 0, output.as_str(), "");
     }
     Ok(())
 }
 
+/// Transfers of one endpoint, and calls that are refused.
+const TRANSFERS: [(&str, &str, &str); 6] = [
+    (
+        "first packet",
+        "submitin e0 64\npoll e0\n! pkt k0 81 010203\npoll e0\n! reap 0\npoll e0\n",
+        "ok\npending\npending\ndone ok 3 64 010203\nticket 0 k0 81 ok 3 taken\n",
+    ),
+    (
+        "second reaped first",
+        "submitin e0 64\nsubmitin e0 64\n! pkt k0 81 01 ; pkt k0 81 0203 ; reap 1\npoll e0\n! reap 0\npoll e0\npoll e0\npoll e0\n",
+        "ok\nok\npending\ndone ok 1 64 01\ndone ok 2 64 0203\ncondition\nticket 0 k0 81 ok 1 taken\nticket 1 k0 81 ok 2 taken\n",
+    ),
+    (
+        "reaped and open tickets at the end",
+        "submitin e0 64\nsubmitin e0 64\nsubmitin e0 64\n! pkt k0 81 01 ; reap 0\n",
+        "ok\nok\nok\nticket 0 k0 81 ok 1 dropped\nticket 1 k0 81 cancelled 0 reclaimed\nticket 2 k0 81 cancelled 0 reclaimed\n",
+    ),
+    (
+        "finished ticket at the end",
+        "submitin e0 64\n! pkt k0 81 010203\n",
+        "ok\nticket 0 k0 81 ok 3 reclaimed\n",
+    ),
+    (
+        "empty packet and invalid length",
+        "submitin e0 64\nsubmitin e0 100\n! pkt k0 81 - ; reap 0\npoll e0\npoll e0\n",
+        "ok\nok\ndone ok 0 64 -\ndone invalid 0 100 -\nticket 0 k0 81 ok 0 taken\nticket 1 k0 81 invalid 0 taken\n",
+    ),
+    (
+        "calls that are refused",
+        "open d0 1 6\nopen d1 1 7\nclaim d0 0 i1\nclaim d0 1 i1\nclaim d2 0 i1\nendpoint e1 i0 82 bulk-in\nendpoint e1 i0 02 bulk-in\nendpoint e1 i0 81 bulk-in\npoll e1\n",
+        "condition\nerror Disconnected device not found (errno 2)\nerror Busy interface is busy (errno 16)\nerror NotFound interface not found (errno 2)\ncondition\nerror NotFound specified endpoint does not exist on this interface\nerror Other incorrect endpoint direction\nerror Busy endpoint already in use\ncondition\n",
+    ),
+];
+
+#[test]
+fn answers_each_call_and_then_each_ticket(rt: HostRuntime) -> Result<(), Fail> {
+    let rows = TRANSFERS.as_slice();
+    expect_rows(&rt, rt.alloc(), None, OPENED, rows)?;
+    expect_rows(&rt, rt.alloc(), Some("session"), OPENED, rows)
+}
+
+/// Scripts, the status, what is written and what is reported.
+const UNANSWERED: [(&str, &str, u8, &str, &str); 6] = [
+    ("no line", "", 0, "", ""),
+    (
+        "malformed",
+        "open d0 1",
+        3,
+        "",
+        "nusb_sim: malformed line 1\n",
+    ),
+    (
+        "malformed after a call",
+        "open d0 1 6\nopen d0 1\n",
+        3,
+        "",
+        "nusb_sim: malformed line 2\n",
+    ),
+    (
+        "no descriptors",
+        "device k0 1 6 3 1 -\nopen d0 1 6\n",
+        0,
+        "error Other invalid device descriptor\n",
+        "",
+    ),
+    (
+        "device descriptor cut off",
+        "device k0 1 6 3 1 1201000200000040aaaabbbb0001000000\nopen d0 1 6\n",
+        0,
+        "error Other invalid device descriptor\n",
+        "",
+    ),
+    (
+        "maximum packet size 0",
+        "device k0 1 6 3 1 1201000200000040aaaabbbb0001000000010902200001010080320904000002ff0000000705810200000007050202400000\nopen d0 1 6\nclaim d0 0 i0\nendpoint e0 i0 81 bulk-in\n",
+        0,
+        "ok\nok\nerror Other endpoint has max packet size 0\n",
+        "",
+    ),
+];
+
 #[test]
 fn tells_why_nothing_was_answered(rt: HostRuntime) -> Result<(), Fail> {
-    let table = [
-        ("", 0, "", ""),
-        ("open d0 1", 3, "", "nusb_sim: malformed line 1\n"),
-        (
-            "open d0 1 6\nopen d0 1\n",
-            3,
-            "",
-            "nusb_sim: malformed line 2\n",
-        ),
-        (
-            "device k0 1 6 3 1 -\nopen d0 1 6\n",
-            0,
-            "error Other invalid device descriptor\n",
-            "",
-        ),
-        (
-            "device k0 1 6 3 1 1201000200000040aaaabbbb0001000000\nopen d0 1 6\n",
-            0,
-            "error Other invalid device descriptor\n",
-            "",
-        ),
-        (
-            "device k0 1 6 3 1 1201000200000040aaaabbbb0001000000010902200001010080320904000002ff0000000705810200000007050202400000\nopen d0 1 6\nclaim d0 0 i0\nendpoint e0 i0 81 bulk-in\n",
-            0,
-            "ok\nok\nerror Other endpoint has max packet size 0\n",
-            "",
-        ),
-    ];
-    for (script, status, output, report) in table {
-        expect(
-            &rt,
-            &run_on(rt.alloc(), None, script.as_bytes(), &[], &[])?,
-            status,
-            output,
-            report,
-        );
+    for (name, script, status, output, report) in UNANSWERED {
+        let outcome = run_on(rt.alloc(), None, script.as_bytes(), &[], &[])?;
+        expect(&rt, name, &outcome, status, output, report);
     }
+    let outcome = run_on(rt.alloc(), Some("--help"), b"", &[], &[])?;
     let usage = "usage: nusb_sim [session|generate N|live N]\n";
-    expect(
-        &rt,
-        &run_on(rt.alloc(), Some("--help"), b"", &[], &[])?,
-        2,
-        "",
-        usage,
-    );
+    expect(&rt, "an unknown word", &outcome, 2, "", usage);
     Ok(())
 }
 
@@ -162,48 +174,50 @@ fn tells_why_nothing_was_answered(rt: HostRuntime) -> Result<(), Fail> {
 fn stops_at_the_longest_script(rt: HostRuntime) -> Result<(), Fail> {
     let mut script = Vec::from_slice(rt.alloc(), b"poll e0")?;
     script.resize(1048576, b' ')?;
-    expect(
-        &rt,
-        &run_on(rt.alloc(), None, script.as_slice(), &[], &[])?,
-        0,
-        "condition\n",
-        "",
-    );
+    let longest = run_on(rt.alloc(), None, script.as_slice(), &[], &[])?;
+    expect(&rt, "the longest script", &longest, 0, "condition\n", "");
     script.push(b' ')?;
-    expect(
-        &rt,
-        &run_on(rt.alloc(), None, script.as_slice(), &[], &[])?,
-        4,
-        "",
-        "nusb_sim: script too long\n",
-    );
+    let longer = run_on(rt.alloc(), None, script.as_slice(), &[], &[])?;
+    let report = "nusb_sim: script too long\n";
+    expect(&rt, "one byte too long", &longer, 4, "", report);
     Ok(())
 }
 
-#[test]
-fn keeps_the_lines_before_a_fault(rt: HostRuntime) -> Result<(), Fail> {
-    let script = joined(rt.alloc(), OPENED, "poll e0\n")?;
-    expect(
-        &rt,
-        &run_on(rt.alloc(), None, script.as_bytes(), &[1], &[])?,
+/// The calls of the source and of the sink that fail, the status, what was written and what is reported.
+const FAULTS: [(&str, &[u64], &[u64], u8, &str, &str); 3] = [
+    (
+        "a source whose first read fails",
+        &[1],
+        &[],
         5,
         "",
         "nusb_sim: read fault\n",
-    );
-    expect(
-        &rt,
-        &run_on(rt.alloc(), None, script.as_bytes(), &[2], &[])?,
+    ),
+    (
+        "a source whose second read fails",
+        &[2],
+        &[],
         5,
         "",
         "nusb_sim: read fault\n",
-    );
-    expect(
-        &rt,
-        &run_on(rt.alloc(), None, script.as_bytes(), &[], &[3])?,
+    ),
+    (
+        "a sink that fails at its third call",
+        &[],
+        &[3],
         6,
         "ok\nok\n",
         "nusb_sim: write fault\n",
-    );
+    ),
+];
+
+#[test]
+fn keeps_the_lines_before_a_fault(rt: HostRuntime) -> Result<(), Fail> {
+    let script = joined(rt.alloc(), OPENED.0, "poll e0\n")?;
+    for (name, reads, writes, status, output, report) in FAULTS {
+        let outcome = run_on(rt.alloc(), None, script.as_bytes(), reads, writes)?;
+        expect(&rt, name, &outcome, status, output, report);
+    }
     Ok(())
 }
 
@@ -211,7 +225,7 @@ fn keeps_the_lines_before_a_fault(rt: HostRuntime) -> Result<(), Fail> {
 fn counts_calls_and_tickets(rt: HostRuntime) -> Result<(), Fail> {
     let script = joined(
         rt.alloc(),
-        OPENED,
+        OPENED.0,
         "submitin e0 64\nsubmitin e0 64\n! pkt k0 81 01 ; reap 0\npoll e0\n",
     )?;
     let mut source = SureSource::new(Vec::from_slice(rt.alloc(), script.as_bytes())?);

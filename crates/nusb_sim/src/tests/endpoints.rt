@@ -1,84 +1,84 @@
 //! Lines of endpoints: transfers that block, cancels, closes, and a device that goes away.
 
-use super::{OPENED, OPENED_ANSWERS, expect, joined, run_on};
+use super::{OPENED, expect_rows};
 use std::test::Fail;
 
 /// The lines that claim an interface with a bulk OUT endpoint 02, and their answers.
-const CLAIMED: &str =
-    "device k0 1 6 3 1 1201000200000040aaaabbbb0001000000010902200001010080320904000002ff0000000705810240000007050202400000\nopen d0 1 6\nclaim d0 0 i0\n";
+const CLAIMED: (&str, &str) = (
+    "device k0 1 6 3 1 1201000200000040aaaabbbb0001000000010902200001010080320904000002ff0000000705810240000007050202400000\nopen d0 1 6\nclaim d0 0 i0\n",
+    "ok\nok\n",
+);
 
-const CLAIMED_ANSWERS: &str = "ok\nok\n";
+/// Blocking transfers, closes and a device that goes away.
+const BLOCKING: [(&str, &str, &str); 4] = [
+    (
+        "blocking transfers",
+        "xferin e0 128 0\nxferin e0 128 100 : pkt k0 81 11111111111111111111111111111111111111111111111111111111111111111111111111111111111111111111111111111111111111111111111111111111 ; clock 100\nxferin e0 64 100 : pkt k0 81 05 ; clock 200 ; reap\nxferin e0 64 100 : clock 300 ; pkt k0 81 05 ; reap\n",
+        "done cancelled 0 128 -\ndone cancelled 64 128 11111111111111111111111111111111111111111111111111111111111111111111111111111111111111111111111111111111111111111111111111111111\ndone ok 1 64 05\ndone cancelled 0 64 -\nticket 0 k0 81 cancelled 0 taken\nticket 1 k0 81 cancelled 64 taken\nticket 2 k0 81 ok 1 taken\nticket 3 k0 81 cancelled 0 taken\n",
+    ),
+    (
+        "close with unreclaimed tickets",
+        "submitin e0 64\nsubmitin e0 64\nsubmitin e0 64\n! pkt k0 81 01 ; reap 0\nclose e0\nendpoint e0 i0 81 bulk-in\n! reap 1\nendpoint e0 i0 81 bulk-in\n! reap 2\nendpoint e0 i0 81 bulk-in\n",
+        "ok\nok\nok\nok\nerror Busy endpoint already in use\nerror Busy endpoint already in use\nok\nticket 0 k0 81 ok 1 dropped\nticket 1 k0 81 cancelled 0 reclaimed\nticket 2 k0 81 cancelled 0 reclaimed\n",
+    ),
+    (
+        "empty packet and invalid length",
+        "submitin e0 64\nsubmitin e0 100\npoll e0\npending e0\n! pkt k0 81 - ; reap\npoll e0\npoll e0\n",
+        "ok\nok\npending\ncount 2\ndone ok 0 64 -\ndone invalid 0 100 -\nticket 0 k0 81 ok 0 taken\nticket 1 k0 81 invalid 0 taken\n",
+    ),
+    (
+        "unplug",
+        "claim d0 0 i1\nsubmitin e0 64\nsubmitin e0 64\n! unplug k0\nsubmitin e0 64\npoll e0\n! reap ; reap\npoll e0\npoll e0\npoll e0\n",
+        "error Busy interface is busy (errno 16)\nok\nok\nok\npending\ndone disconnected 0 64 -\ndone disconnected 0 64 -\ndone disconnected 0 64 -\nticket 0 k0 81 disconnected 0 taken\nticket 1 k0 81 disconnected 0 taken\nticket 2 k0 81 disconnected 0 taken\n",
+    ),
+];
 
 #[test]
 fn answers_blocking_transfers_closes_and_an_unplug(rt: HostRuntime) -> Result<(), Fail> {
-    let table = [
-        (
-            "xferin e0 128 0\nxferin e0 128 100 : pkt k0 81 11111111111111111111111111111111111111111111111111111111111111111111111111111111111111111111111111111111111111111111111111111111 ; clock 100\nxferin e0 64 100 : pkt k0 81 05 ; clock 200 ; reap\nxferin e0 64 100 : clock 300 ; pkt k0 81 05 ; reap\n",
-            "done cancelled 0 128 -\ndone cancelled 64 128 11111111111111111111111111111111111111111111111111111111111111111111111111111111111111111111111111111111111111111111111111111111\ndone ok 1 64 05\ndone cancelled 0 64 -\nticket 0 k0 81 cancelled 0 taken\nticket 1 k0 81 cancelled 64 taken\nticket 2 k0 81 ok 1 taken\nticket 3 k0 81 cancelled 0 taken\n",
-        ),
-        (
-            "submitin e0 64\nsubmitin e0 64\nsubmitin e0 64\n! pkt k0 81 01 ; reap 0\nclose e0\nendpoint e0 i0 81 bulk-in\n! reap 1\nendpoint e0 i0 81 bulk-in\n! reap 2\nendpoint e0 i0 81 bulk-in\n",
-            "ok\nok\nok\nok\nerror Busy endpoint already in use\nerror Busy endpoint already in use\nok\nticket 0 k0 81 ok 1 dropped\nticket 1 k0 81 cancelled 0 reclaimed\nticket 2 k0 81 cancelled 0 reclaimed\n",
-        ),
-        (
-            "submitin e0 64\nsubmitin e0 100\npoll e0\npending e0\n! pkt k0 81 - ; reap\npoll e0\npoll e0\n",
-            "ok\nok\npending\ncount 2\ndone ok 0 64 -\ndone invalid 0 100 -\nticket 0 k0 81 ok 0 taken\nticket 1 k0 81 invalid 0 taken\n",
-        ),
-        (
-            "claim d0 0 i1\nsubmitin e0 64\nsubmitin e0 64\n! unplug k0\nsubmitin e0 64\npoll e0\n! reap ; reap\npoll e0\npoll e0\npoll e0\n",
-            "error Busy interface is busy (errno 16)\nok\nok\nok\npending\ndone disconnected 0 64 -\ndone disconnected 0 64 -\ndone disconnected 0 64 -\nticket 0 k0 81 disconnected 0 taken\nticket 1 k0 81 disconnected 0 taken\nticket 2 k0 81 disconnected 0 taken\n",
-        ),
-    ];
-    for (script, output) in table {
-        let script = joined(rt.alloc(), OPENED, script)?;
-        let output = joined(rt.alloc(), OPENED_ANSWERS, output)?;
-        let outcome = run_on(rt.alloc(), None, script.as_bytes(), &[], &[])?;
-        expect(&rt, &outcome, 0, output.as_str(), "");
-    }
-    Ok(())
+    expect_rows(&rt, rt.alloc(), None, OPENED, BLOCKING.as_slice())
 }
+
+/// OUT transfers.
+const OUT: [(&str, &str, &str); 2] = [
+    (
+        "cancelled OUT transfer",
+        "endpoint e1 i0 02 bulk-out\nsubmitout e1 0102\ncancel e1\npoll e1\n! reap\npoll e1\n",
+        "ok\nok\nok\npending\ndone cancelled 0 2 0102\nticket 0 k0 02 cancelled 0 taken\n",
+    ),
+    (
+        "stalled OUT transfer",
+        "endpoint e0 i0 02 bulk-out\nsubmitout e0 1111111111111111111111111111111111111111111111111111111111111111111111111111111111111111111111111111111111111111111111111111111111\n! ack k0 02 ; fail k0 02 32 ; reap\npoll e0\n",
+        "ok\nok\ndone stall 64 65 1111111111111111111111111111111111111111111111111111111111111111111111111111111111111111111111111111111111111111111111111111111111\nticket 0 k0 02 stall 64 taken\n",
+    ),
+];
 
 #[test]
 fn answers_out_transfers(rt: HostRuntime) -> Result<(), Fail> {
-    let table = [
-        (
-            "endpoint e1 i0 02 bulk-out\nsubmitout e1 0102\ncancel e1\npoll e1\n! reap\npoll e1\n",
-            "ok\nok\nok\npending\ndone cancelled 0 2 0102\nticket 0 k0 02 cancelled 0 taken\n",
-        ),
-        (
-            "endpoint e0 i0 02 bulk-out\nsubmitout e0 1111111111111111111111111111111111111111111111111111111111111111111111111111111111111111111111111111111111111111111111111111111111\n! ack k0 02 ; fail k0 02 32 ; reap\npoll e0\n",
-            "ok\nok\ndone stall 64 65 1111111111111111111111111111111111111111111111111111111111111111111111111111111111111111111111111111111111111111111111111111111111\nticket 0 k0 02 stall 64 taken\n",
-        ),
-    ];
-    for (script, output) in table {
-        let script = joined(rt.alloc(), CLAIMED, script)?;
-        let output = joined(rt.alloc(), CLAIMED_ANSWERS, output)?;
-        let outcome = run_on(rt.alloc(), None, script.as_bytes(), &[], &[])?;
-        expect(&rt, &outcome, 0, output.as_str(), "");
-    }
-    Ok(())
+    expect_rows(&rt, rt.alloc(), None, CLAIMED, OUT.as_slice())
 }
+
+/// Waits with steps of their own.
+const WAITS: [(&str, &str, &str); 3] = [
+    (
+        "wait by the clock",
+        "submitin e0 64\nsubmitin e0 64\nwait e0 100 : clock 50 ; pkt k0 81 01 ; reap\nnow\nwait e0 20\n",
+        "ok\nok\ndone ok 1 64 01\nnow 50\nnone\nticket 0 k0 81 ok 1 taken\nticket 1 k0 81 cancelled 0 reclaimed\n",
+    ),
+    // The steps that are left when the time is up are applied after the answer.
+    (
+        "steps that are left when the time is up",
+        "submitin e0 64\nwait e0 30 : clock 40 ; pkt k0 81 05 ; reap\npoll e0\n",
+        "ok\nnone\ndone ok 1 64 05\nticket 0 k0 81 ok 1 taken\n",
+    ),
+    // A wait with nothing pending is barred, and its steps are applied.
+    (
+        "wait with nothing pending",
+        "wait e0 30 : clock 7\nnow\n",
+        "condition\nnow 7\n",
+    ),
+];
 
 #[test]
 fn answers_waits_by_the_steps_of_their_lines(rt: HostRuntime) -> Result<(), Fail> {
-    let table = [
-        (
-            "submitin e0 64\nsubmitin e0 64\nwait e0 100 : clock 50 ; pkt k0 81 01 ; reap\nnow\nwait e0 20\n",
-            "ok\nok\ndone ok 1 64 01\nnow 50\nnone\nticket 0 k0 81 ok 1 taken\nticket 1 k0 81 cancelled 0 reclaimed\n",
-        ),
-        // The steps that are left when the time is up are applied after the answer.
-        (
-            "submitin e0 64\nwait e0 30 : clock 40 ; pkt k0 81 05 ; reap\npoll e0\n",
-            "ok\nnone\ndone ok 1 64 05\nticket 0 k0 81 ok 1 taken\n",
-        ),
-        // A wait with nothing pending is barred, and its steps are applied.
-        ("wait e0 30 : clock 7\nnow\n", "condition\nnow 7\n"),
-    ];
-    for (script, output) in table {
-        let script = joined(rt.alloc(), OPENED, script)?;
-        let output = joined(rt.alloc(), OPENED_ANSWERS, output)?;
-        let outcome = run_on(rt.alloc(), None, script.as_bytes(), &[], &[])?;
-        expect(&rt, &outcome, 0, output.as_str(), "");
-    }
-    Ok(())
+    expect_rows(&rt, rt.alloc(), None, OPENED, WAITS.as_slice())
 }

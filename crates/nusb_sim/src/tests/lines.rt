@@ -3,41 +3,38 @@
 use super::{expect, run_on};
 use std::test::Fail;
 
+const MALFORMED_1: &str = "nusb_sim: malformed line 1\n";
+
+/// Lines, the status, what is written and what is reported.
+const LINES: [(&str, &[u8], u8, &str, &str); 9] = [
+    ("comment of any bytes", b"#\xff\x00", 0, "", ""),
+    ("empty line with CR LF", b"\r\n", 0, "", ""),
+    (
+        "skipped lines",
+        b"\n  \n# poll e0\npoll e0\n",
+        0,
+        "condition\n",
+        "",
+    ),
+    ("no LF at the end", b"poll e0", 0, "condition\n", ""),
+    ("CR LF", b"poll e0\r\n", 0, "condition\n", ""),
+    ("the clock", b"now\r\n", 0, "now 0\n", ""),
+    ("two CR", b"poll e0\r\r\n", 3, "", MALFORMED_1),
+    ("tab", b"\topen d0 1 6\n", 3, "", MALFORMED_1),
+    (
+        "malformed after a comment",
+        b"# a comment\nopen d0 1\n",
+        3,
+        "",
+        "nusb_sim: malformed line 2\n",
+    ),
+];
+
 #[test]
 fn skips_comments_and_empty_lines(rt: HostRuntime) -> Result<(), Fail> {
-    let malformed_1 = "nusb_sim: malformed line 1\n";
-    let table = [
-        // A comment may have any bytes.
-        (b"#\xff\x00".as_slice(), 0, "", ""),
-        (b"\r\n".as_slice(), 0, "", ""),
-        (
-            b"\n  \n# poll e0\npoll e0\n".as_slice(),
-            0,
-            "condition\n",
-            "",
-        ),
-        // The last LF may be missing, and a CR may stand before an LF.
-        (b"poll e0".as_slice(), 0, "condition\n", ""),
-        (b"poll e0\r\n".as_slice(), 0, "condition\n", ""),
-        (b"now\r\n".as_slice(), 0, "now 0\n", ""),
-        (b"poll e0\r\r\n".as_slice(), 3, "", malformed_1),
-        (b"\topen d0 1 6\n".as_slice(), 3, "", malformed_1),
-        // A skipped line is counted.
-        (
-            b"# a comment\nopen d0 1\n".as_slice(),
-            3,
-            "",
-            "nusb_sim: malformed line 2\n",
-        ),
-    ];
-    for (script, status, output, report) in table {
-        expect(
-            &rt,
-            &run_on(rt.alloc(), None, script, &[], &[])?,
-            status,
-            output,
-            report,
-        );
+    for (name, script, status, output, report) in LINES {
+        let outcome = run_on(rt.alloc(), None, script, &[], &[])?;
+        expect(&rt, name, &outcome, status, output, report);
     }
     Ok(())
 }
@@ -52,20 +49,11 @@ fn reads_the_longest_script_of_comments(rt: HostRuntime) -> Result<(), Fail> {
         script.extend_from_slice(COMMENT)?;
     }
     assert_eq!(rt; script.len(), 1048576);
-    expect(
-        &rt,
-        &run_on(rt.alloc(), None, script.as_slice(), &[], &[])?,
-        0,
-        "",
-        "",
-    );
+    let longest = run_on(rt.alloc(), None, script.as_slice(), &[], &[])?;
+    expect(&rt, "the longest script", &longest, 0, "", "");
     script.push(b'\n')?;
-    expect(
-        &rt,
-        &run_on(rt.alloc(), None, script.as_slice(), &[], &[])?,
-        4,
-        "",
-        "nusb_sim: script too long\n",
-    );
+    let longer = run_on(rt.alloc(), None, script.as_slice(), &[], &[])?;
+    let report = "nusb_sim: script too long\n";
+    expect(&rt, "one byte too long", &longer, 4, "", report);
     Ok(())
 }
