@@ -1,4 +1,4 @@
-//! The session of `nusb_sim` as plain Rust, written from docs/SCRIPT.md: what the proved program is timed against and compared with.
+//! The session of `nusb_sim` as plain Rust, by the rules of docs/SCRIPT.md: what the proved program is timed against and compared with.
 
 mod descriptors;
 mod host;

@@ -17,8 +17,8 @@ const LINES: [(&str, &[u8], u8, &str, &str); 9] = [
         "",
     ),
     ("no LF at the end", b"poll e0", 0, "condition\n", ""),
-    ("CR LF", b"poll e0\r\n", 0, "condition\n", ""),
-    ("the clock", b"now\r\n", 0, "now 0\n", ""),
+    ("CR LF", b"now\r\n", 0, "now 0\n", ""),
+    ("CR LF behind a poll", b"poll e0\r\n", 0, "condition\n", ""),
     ("two CR", b"poll e0\r\r\n", 3, "", MALFORMED_1),
     ("tab", b"\topen d0 1 6\n", 3, "", MALFORMED_1),
     (
