@@ -1,7 +1,7 @@
 -- Which error a call answers for an errno of the system.
 use Rattle.std.specs.Prelude.{ℕ, ◌||◌, nat_eq, if◌then◌else◌}
 use Rattle.usb_error.specs.declared.kind.ErrorKind.TheVariants.{Disconnected, Busy, PermissionDenied as denied, NotFound, Other}
-use Rattle.usb_error.specs.declared.message.Message.TheVariants.{DeviceNotFound, DeviceDisconnected, PermissionDenied, FailedToOpenDevice, FailedToReadDescriptors, InvalidDeviceDescriptor, FailedToReadConfigurationValue, InterfaceNotFound, InterfaceIsBusy, FailedToClaimInterface, NoSuchEndpoint, IncorrectEndpointDirection, IncorrectEndpointType, EndpointHasNoPacketSize, EndpointAlreadyInUse}
+use Rattle.usb_error.specs.declared.message.Message.TheVariants.{DeviceNotFound, DeviceDisconnected, PermissionDenied, FailedToOpenDevice, FailedToReadDescriptors, InvalidDeviceDescriptor, FailedToReadConfigurationValue, InterfaceNotFound, InterfaceIsBusy, FailedToClaimInterface, NoSuchEndpoint, IncorrectEndpointDirection, IncorrectEndpointType, EndpointHasNoPacketSize, EndpointAlreadyInUse, ListingNotFound, ListingDenied, FailedToOpenListing}
 use Rattle.usb_error.specs.ErrorState.{ErrorState, coded, plain}
 
 -- opening a device: 2, that no plugged device has the address, and 1 or 13, that it is not allowed
@@ -46,3 +46,10 @@ no_packet_size_error = plain Other EndpointHasNoPacketSize
 
 abbrev pub endpoint_in_use_error : ErrorState
 endpoint_in_use_error = plain Busy EndpointAlreadyInUse
+
+-- listing the devices: 2, that there is no listing, and 1 or 13, that it is not allowed
+abbrev pub listing_error : ℕ → ErrorState
+listing_error errno =
+    if nat_eq errno 2 then coded Other ListingNotFound errno
+    else if nat_eq errno 1 || nat_eq errno 13 then coded denied ListingDenied errno
+    else coded Other FailedToOpenListing errno

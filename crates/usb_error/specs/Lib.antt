@@ -3,3 +3,4 @@ pub mod Messages
 pub mod ErrorState
 pub mod Errors
 pub mod Texts
+pub mod Outcomes

@@ -1,7 +1,7 @@
 -- The text of a message.
 use Rattle.std.specs.Prelude.{ℕ, List, codes}
 use Rattle.usb_error.specs.declared.message.Message.{Message}
-use Rattle.usb_error.specs.declared.message.Message.TheVariants.{DeviceNotFound, DeviceDisconnected, PermissionDenied, FailedToOpenDevice, FailedToReadDescriptors, InvalidDeviceDescriptor, FailedToReadConfigurationValue, InterfaceNotFound, InterfaceIsBusy, FailedToClaimInterface, NoSuchEndpoint, IncorrectEndpointDirection, IncorrectEndpointType, EndpointHasNoPacketSize, EndpointAlreadyInUse}
+use Rattle.usb_error.specs.declared.message.Message.TheVariants.{DeviceNotFound, DeviceDisconnected, PermissionDenied, FailedToOpenDevice, FailedToReadDescriptors, InvalidDeviceDescriptor, FailedToReadConfigurationValue, InterfaceNotFound, InterfaceIsBusy, FailedToClaimInterface, NoSuchEndpoint, IncorrectEndpointDirection, IncorrectEndpointType, EndpointHasNoPacketSize, EndpointAlreadyInUse, ListingNotFound, ListingDenied, FailedToOpenListing}
 
 abbrev pub message_text : Message → List ℕ
 message_text DeviceNotFound = codes "device not found"
@@ -19,3 +19,6 @@ message_text IncorrectEndpointDirection = codes "incorrect endpoint direction"
 message_text IncorrectEndpointType = codes "incorrect endpoint type"
 message_text EndpointHasNoPacketSize = codes "endpoint has max packet size 0"
 message_text EndpointAlreadyInUse = codes "endpoint already in use"
+message_text ListingNotFound = codes "/sys/bus/usb/devices/ not found"
+message_text ListingDenied = codes "/sys/bus/usb/devices/ permission denied"
+message_text FailedToOpenListing = codes "failed to open /sys/bus/usb/devices/"

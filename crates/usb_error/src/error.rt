@@ -26,7 +26,7 @@ impl Model for Error {
 
 impl Error {
     ghost use Rattle.usb_error.specs.ErrorState.{coded as coded_error, plain as plain_error};
-    ghost use Rattle.usb_error.specs.Errors.{open_error, read_descriptors_error, claim_error, configuration_error, invalid_device_descriptor_error, no_endpoint_error, wrong_direction_error, wrong_type_error, no_packet_size_error, endpoint_in_use_error};
+    ghost use Rattle.usb_error.specs.Errors.{open_error, read_descriptors_error, claim_error, configuration_error, invalid_device_descriptor_error, no_endpoint_error, wrong_direction_error, wrong_type_error, no_packet_size_error, endpoint_in_use_error, listing_error};
 
     /// The general category of the error.
     pub fn kind(&self) -> ErrorKind
@@ -118,6 +118,17 @@ impl Error {
         ensures error { result ≡ invalid_device_descriptor_error }
     {
         Error::plain(ErrorKind::Other, Message::InvalidDeviceDescriptor)
+    }
+
+    /// The error of devices that were not listed.
+    pub fn listing(errno: u16) -> Error
+        ensures error { result ≡ listing_error errno }
+    {
+        match errno {
+            2 => Error::coded(ErrorKind::Other, Message::ListingNotFound, errno),
+            1 | 13 => Error::coded(ErrorKind::PermissionDenied, Message::ListingDenied, errno),
+            _ => Error::coded(ErrorKind::Other, Message::FailedToOpenListing, errno),
+        }
     }
 
     /// The interface has no endpoint of the address.

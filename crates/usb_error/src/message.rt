@@ -25,6 +25,10 @@ pub enum Message {
     IncorrectEndpointType,
     EndpointHasNoPacketSize,
     EndpointAlreadyInUse,
+    /// There is no listing of devices.
+    ListingNotFound,
+    ListingDenied,
+    FailedToOpenListing,
 }
 
 impl Message {
@@ -48,6 +52,9 @@ impl Message {
             Message::IncorrectEndpointType => "incorrect endpoint type",
             Message::EndpointHasNoPacketSize => "endpoint has max packet size 0",
             Message::EndpointAlreadyInUse => "endpoint already in use",
+            Message::ListingNotFound => "/sys/bus/usb/devices/ not found",
+            Message::ListingDenied => "/sys/bus/usb/devices/ permission denied",
+            Message::FailedToOpenListing => "failed to open /sys/bus/usb/devices/",
         }
     }
 }

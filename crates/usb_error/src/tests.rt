@@ -47,6 +47,24 @@ fn errnos_of_calls_have_their_errors(rt: HostRuntime) -> Result<(), Fail> {
         let code = Some(errno as u32);
         expect_row(&rt, rt.alloc(), &Error::claim(errno), kind, code, text)?;
     }
+    let listings = [
+        (2, Other, "/sys/bus/usb/devices/ not found (errno 2)"),
+        (
+            1,
+            PermissionDenied,
+            "/sys/bus/usb/devices/ permission denied (errno 1)",
+        ),
+        (
+            13,
+            PermissionDenied,
+            "/sys/bus/usb/devices/ permission denied (errno 13)",
+        ),
+        (12, Other, "failed to open /sys/bus/usb/devices/ (errno 12)"),
+    ];
+    for (errno, kind, text) in listings {
+        let code = Some(errno as u32);
+        expect_row(&rt, rt.alloc(), &Error::listing(errno), kind, code, text)?;
+    }
     let unread = Error::read_descriptors(19);
     let text = "failed to read descriptors (errno 19)";
     expect_row(&rt, rt.alloc(), &unread, Other, Some(19), text)?;

@@ -1,8 +1,9 @@
 //! Buffers, transfers in their typed states, why a transfer failed, and how those that wait are woken.
 #![tactic(auto)]
 
-pub mod buffer;
+mod buffer;
 mod error;
+mod future;
 mod marker;
 mod notify;
 mod slots;
@@ -10,6 +11,7 @@ mod transfer;
 
 pub use buffer::Buffer;
 pub use error::{TransferError, format_os_error_code, status_word, transfer_status};
+pub use future::{Map, MapErr, MapFuture, MapOk, MapResult, MaybeFuture, Ready};
 pub use marker::{Bulk, BulkOrInterrupt, EndpointDirection, EndpointType, In, Interrupt, Out};
 pub use notify::{Notify, NotifyState, notify_is_send_and_sync};
 pub use slots::{Idle, Pending, Slots, take_completed_from_option, take_completed_from_queue};

@@ -1,6 +1,7 @@
 //! Waking those that wait for a transfer.
 
 ghost use Rattle.std.specs.Prelude.{◌≡◌, Some};
+ghost use Rattle.std.specs.Iterator.Runs.{CallKeepsClosure};
 ghost use Rattle.futures.specs.Task.{Hears, IsArmed, Keeps};
 
 use futures::task::{Context, Poll, Source, Waker};
@@ -77,10 +78,13 @@ impl Notify {
             .wait_while(rt, self.state.lock(rt), |s| s.moves == seen);
     }
 
-    /// Calls `check` until it gives a value, and waits for a `notify` between two calls.
+    /// Calls `check` until it gives a value, which is the answer, and waits for a `notify` between two calls.
     pub fn wait<T, F: FnMut() -> Option<T>>(&self, rt: &impl Wait, mut check: F) -> T
         requires callable { F.IsAlwaysCallable check }
-        ensures given { (f : F) × (g : F) × F.step f (Some result) g }
+
+        // A call gave it: one of `check` itself, where calls leave the closure as it was.
+        ensures given { (f : F) × (g : F) × F.step f (Some result) g
+            × (CallKeepsClosure F.FnMut check → f ≡ check) }
     {
         for _ in rt.forever() {
             let seen = self.moves(rt);

@@ -1,10 +1,19 @@
 //! What a `Notify` does for a task and for a thread.
 
+ghost use Rattle.std.specs.Prelude.{◌≡◌};
+
 use crate::{Notify, notify_is_send_and_sync};
 use futures::executor::block_on;
 use futures::future::poll_fn;
 use futures::task::Poll;
+use std::sync::Wait;
 use std::test::Fail;
+
+fn waited_for(notify: &Notify, rt: &impl Wait, value: u8) -> u8
+    ensures { result ≡ value }
+{
+    notify.wait(rt, || Some(value))
+}
 
 #[test]
 fn a_task_is_polled_again_after_a_move(rt: HostRuntime) -> Result<(), Fail> {
@@ -32,5 +41,5 @@ fn a_thread_waits_until_there_is_a_value(rt: HostRuntime) {
     let seen = notify.moves(&rt);
     notify.as_ref().notify(&rt);
     notify.wait_past(&rt, seen);
-    assert_eq!(rt; notify.wait(&rt, || Some(7)), 7);
+    assert_eq!(rt; waited_for(&notify, &rt, 7), 7);
 }

@@ -1,0 +1,37 @@
+//! A registry of texts, which are not Copy: serial numbers go on, and a stale key finds nothing.
+
+use super::*;
+use std::alloc::Global;
+use std::test::Fail;
+
+/// Puts a text of one letter in.
+fn put(texts: &mut Registry<String>, alloc: Global, c: char) -> Result<Key, Fail> {
+    let mut text = String::new(alloc);
+    text.push(c)?;
+    match texts.insert(text) {
+        Ok(key) => Ok(key),
+        Err(_) => Err("no memory".into()),
+    }
+}
+
+#[test]
+fn a_stale_key_finds_nothing(rt: HostRuntime) -> Result<(), Fail> {
+    let mut texts = Registry::new(rt.alloc());
+    assert!(rt; texts.is_empty());
+    let first = put(&mut texts, rt.alloc(), 'a')?;
+    let second = put(&mut texts, rt.alloc(), 'b')?;
+    let third = put(&mut texts, rt.alloc(), 'c')?;
+    assert!(rt; texts.remove(second).is_some());
+    let fourth = put(&mut texts, rt.alloc(), 'd')?;
+    assert_eq!(rt; (first.serial, third.serial, fourth.serial), (0, 2, 3));
+    assert_eq!(rt; texts.len(), 3);
+    assert!(rt; texts.get(second).is_none());
+    assert!(rt; texts.remove(second).is_none());
+    assert!(rt; texts.replace(second, String::new(rt.alloc())).is_err());
+    if let Some(text) = texts.get_mut(fourth) {
+        text.push('x')?;
+    }
+    let text = texts.get(fourth).ok_or("gone")?;
+    assert_eq!(rt; text.as_str(), "dx");
+    Ok(())
+}
