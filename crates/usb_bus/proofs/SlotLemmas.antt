@@ -6,7 +6,7 @@ use Rattle.std.proofs.lemmas.Bool.{eq-eqb, ne_eqb}
 use Rattle.std.proofs.lemmas.Option.{none-some, same_Some, slice_get-get_or, slice_get_within, slice_get-map}
 use Rattle.usb_xfer.specs.declared.transfer.Completion.{Completion}
 use Rattle.usb_xfer.specs.declared.transfer.Held.{Held}
-use Rattle.usb_xfer.specs.declared.transfer.Held.TheVariants.{Nothing, Complete}
+use Rattle.usb_xfer.specs.declared.transfer.Held.TheVariants.{Complete}
 use Rattle.usb_xfer.specs.declared.transfer.TransferData.{TransferData}
 use Rattle.usb_xfer.specs.Transfers.{completion_held}
 use Rattle.usb_kernel.specs.declared.event.Event.{Event}
@@ -18,14 +18,15 @@ use Rattle.usb_kernel.specs.declared.submission.Submitted.{Submitted}
 use Rattle.usb_kernel.specs.declared.devices.DeviceState.{DeviceState}
 use Rattle.usb_kernel.specs.declared.step.KernelStep.{KernelStep}
 use Rattle.usb_kernel.specs.Submits.{submit_or_refuse, queued_or_refused}
+use Rattle.usb_kernel.specs.Timers.{timer_turned}
 use Rattle.usb_kernel.specs.Steps.{stepped, step_done, after_reap, after_discard}
-use Rattle.usb_kernel.proofs.Completions.{completion-submit, completion-fresh, completion-refuse, completion-refused, completion-step, completion-reap, completion-discard, tickets-step, tickets-reap, tickets-discard}
+use Rattle.usb_kernel.proofs.Completions.{tickets-turned, completion-turned, completion-submit, completion-fresh, completion-refuse, completion-refused, completion-step, completion-reap, completion-discard, tickets-step, tickets-reap, tickets-discard}
 use Rattle.usb_kernel.proofs.Rules.{slice_get-push}
 use Rattle.usb_bus.specs.declared.kernel_slots.Slot.{Slot}
-use Rattle.usb_bus.specs.Completions.{completion_of, transfer_completion}
-use Rattle.usb_bus.specs.KernelBusState.{Place}
-use Rattle.usb_bus.specs.KernelBusCalls.{place_at, owner_at, value_for}
-use Rattle.usb_bus.specs.KernelBusFacts.{place_of, places_of, held_of, holding, with_completion, ended_slot, with_answer, Agree, CompletesOnly}
+use Rattle.usb_bus.specs.Completions.{completion_of, transfer_completion, CompletesOnly}
+use Rattle.usb_bus.specs.Holds.{Hold, held_of, held_at_once, value_for}
+use Rattle.usb_bus.specs.KernelBusCalls.{hold_at, owner_at}
+use Rattle.usb_bus.specs.KernelBusFacts.{hold_of, holds_of, holding, with_completion, ended_slot, Agree}
 
 -- an element after a write
 slice_get-set : {X : Type 0} (xs : List X) (i t : ℕ) (r x : X) → slice_get (set xs i r) t ≡ Some x → ((t ≡ i) × (x ≡ r)) ⊎ ((t ≢ i) × (slice_get xs t ≡ Some x))
@@ -38,76 +39,76 @@ slice_get-set (y ∷ ys) (suc i) (suc t) r x at = elim (slice_get-set ys i t r x
 pub slot_at : (slots : List Slot) (i : ℕ) (s : Slot) → i < length slots → s ≡ get_or slots i s → slice_get slots i ≡ Some s
 slot_at slots i s within at = slice_get-get_or slots i s within ∙ ap Some (sym at)
 
--- the places after a write
-places_of-set : (slots : List Slot) (i : ℕ) (s : Slot) → places_of (set slots i s) ≡ set (places_of slots) i (place_of s)
-places_of-set [] i s = refl
-places_of-set (x ∷ xs) zero s = refl
-places_of-set (x ∷ xs) (suc i) s = ap (λ (l : List (Option Place)). place_of x ∷ l) (places_of-set xs i s)
+-- the holds after a write
+holds_of-set : (slots : List Slot) (i : ℕ) (s : Slot) → holds_of (set slots i s) ≡ set (holds_of slots) i (hold_of s)
+holds_of-set [] i s = refl
+holds_of-set (x ∷ xs) zero s = refl
+holds_of-set (x ∷ xs) (suc i) s = ap (λ (l : List (Option Hold)). hold_of x ∷ l) (holds_of-set xs i s)
 
-pub places_of-ended : (slots : List Slot) (i : ℕ) (s later : Slot) → later ≡ ended_slot s → places_of (set slots i later) ≡ set (places_of slots) i None
-places_of-ended slots i s later is = places_of-set slots i later ∙ ap (λ (x : Slot). set (places_of slots) i (place_of x)) is
+pub holds_of-ended : (slots : List Slot) (i : ℕ) (s later : Slot) → later ≡ ended_slot s → holds_of (set slots i later) ≡ set (holds_of slots) i None
+holds_of-ended slots i s later is = holds_of-set slots i later ∙ ap (λ (x : Slot). set (holds_of slots) i (hold_of x)) is
 
-places_of-same : (slots : List Slot) (i : ℕ) (s next : Slot) → slice_get slots i ≡ Some s → place_of next ≡ place_of s → places_of (set slots i next) ≡ places_of slots
-places_of-same [] i s next at same = absurd (none-some s at)
-places_of-same (x ∷ xs) zero s next at same = ap (λ (o : Option Place). o ∷ places_of xs) (same ∙ ap place_of (sym (same_Some x s at)))
-places_of-same (x ∷ xs) (suc i) s next at same = ap (λ (l : List (Option Place)). place_of x ∷ l) (places_of-same xs i s next at same)
+holds_of-same : (slots : List Slot) (i : ℕ) (s next : Slot) → slice_get slots i ≡ Some s → hold_of next ≡ hold_of s → holds_of (set slots i next) ≡ holds_of slots
+holds_of-same [] i s next at same = absurd (none-some s at)
+holds_of-same (x ∷ xs) zero s next at same = ap (λ (o : Option Hold). o ∷ holds_of xs) (same ∙ ap hold_of (sym (same_Some x s at)))
+holds_of-same (x ∷ xs) (suc i) s next at same = ap (λ (l : List (Option Hold)). hold_of x ∷ l) (holds_of-same xs i s next at same)
 
-place_of-kept : (s : Slot) (c : Completion) → place_of (with_completion s c) ≡ place_of s
-place_of-kept s c = elim (is_some s.owner) as (λ v. place_of (cond v (record s { transfer = holding s.transfer (Complete c) }) s) ≡ place_of s) [ true ↦ refl | false ↦ refl ]
+hold_of-kept : (s : Slot) (c : Completion) → hold_of (with_completion s c) ≡ hold_of s
+hold_of-kept s c = elim (is_some s.owner) as (λ v. hold_of (cond v (record s { transfer = holding s.transfer (Complete c) }) s) ≡ hold_of s) [ true ↦ refl | false ↦ refl ]
 
-pub places_of-kept : (slots : List Slot) (i : ℕ) (s later : Slot) (c : Completion) → slice_get slots i ≡ Some s → later ≡ with_completion s c → places_of (set slots i later) ≡ places_of slots
-places_of-kept slots i s later c at is = places_of-same slots i s later at (ap place_of is ∙ place_of-kept s c)
+pub holds_of-kept : (slots : List Slot) (i : ℕ) (s later : Slot) (c : Completion) → slice_get slots i ≡ Some s → later ≡ with_completion s c → holds_of (set slots i later) ≡ holds_of slots
+holds_of-kept slots i s later c at is = holds_of-same slots i s later at (ap hold_of is ∙ hold_of-kept s c)
 
 -- the place of a ticket's slot
-place_at-slot : (slots : List Slot) (i : ℕ) (s : Slot) → slice_get slots i ≡ Some s → place_at (places_of slots) i ≡ place_of s
-place_at-slot slots i s at =
-    ap (λ (o : Option (Option Place)). option_and_then (λ (p : Option Place). p) o) (slice_get-map place_of slots i ∙ ap (option_map place_of) at)
+hold_at-slot : (slots : List Slot) (i : ℕ) (s : Slot) → slice_get slots i ≡ Some s → hold_at (holds_of slots) i ≡ hold_of s
+hold_at-slot slots i s at =
+    ap (λ (o : Option (Option Hold)). option_and_then (λ (p : Option Hold). p) o) (slice_get-map hold_of slots i ∙ ap (option_map hold_of) at)
 
-pub owner-within : (slots : List Slot) (i : ℕ) → IsSome (owner_at (places_of slots) i) → i < length slots
+pub owner-within : (slots : List Slot) (i : ℕ) → IsSome (owner_at (holds_of slots) i) → i < length slots
 owner-within [] i some = absurd (cc)
 owner-within (x ∷ xs) zero some = omega arith
 owner-within (x ∷ xs) (suc i) some = let IH = owner-within xs i some in omega arith
 
 -- what is known of a ticket that is held
 record HeldSlot (past : List Event) (slots : List Slot) (i : ℕ) (s : Slot) : Type 0 where
-  place : place_at (places_of slots) i ≡ place_of s
+  place : hold_at (holds_of slots) i ≡ hold_of s
   owned : is_some s.owner ≡ true
   held : s.transfer.held ≡ held_of (cond (is_some s.owner) (transfer_completion past i) None)
 
-owned-if : (s : Slot) → IsSome (option_map (λ (p : Place). p.key) (place_of s)) → is_some s.owner ≡ true
+owned-if : (s : Slot) → IsSome (option_map (λ (p : Hold). p.key) (hold_of s)) → is_some s.owner ≡ true
 owned-if s some = by_owner s.owner s.transfer some
   where
-    by_owner : (o : Option ℕ) (t : TransferData) → IsSome (option_map (λ (p : Place). p.key) (place_of (record { owner = o; transfer = t }))) → is_some o ≡ true
+    by_owner : (o : Option ℕ) (t : TransferData) → IsSome (option_map (λ (p : Hold). p.key) (hold_of (record { owner = o; transfer = t }))) → is_some o ≡ true
     by_owner None t some = some
     by_owner (Some k) t some = refl
 
-held_slot : (past : List Event) (slots : List Slot) (i : ℕ) (s : Slot) → Agree past slots → slice_get slots i ≡ Some s → IsSome (owner_at (places_of slots) i) → HeldSlot past slots i s
+held_slot : (past : List Event) (slots : List Slot) (i : ℕ) (s : Slot) → Agree past slots → slice_get slots i ≡ Some s → IsSome (owner_at (holds_of slots) i) → HeldSlot past slots i s
 held_slot past slots i s agree at some =
-    let place = place_at-slot slots i s at in
+    let place = hold_at-slot slots i s at in
     record {
       place = place;
       owned = owned-if s (rw place at some);
       held = agree.each i s at;
     }
 
-come-if : (o : Option ℕ) (t : TransferData) (come : Option Completion) → is_some o ≡ true → t.held ≡ held_of (cond (is_some o) come None) → is_some (completion_held t.held) ≡ is_some (value_for come (place_of (record { owner = o; transfer = t })))
+come-if : (o : Option ℕ) (t : TransferData) (come : Option Completion) → is_some o ≡ true → t.held ≡ held_of (cond (is_some o) come None) → is_some (completion_held t.held) ≡ is_some (value_for come (hold_of (record { owner = o; transfer = t })))
 come-if None t come owned held = absurd (cc)
 come-if (Some k) t None owned held = rw held refl
 come-if (Some k) t (Some c) owned held = rw held refl
 
 -- whether its transfer is complete
-pub has-come : (past : List Event) (slots : List Slot) (i : ℕ) (s : Slot) → Agree past slots → slice_get slots i ≡ Some s → IsSome (owner_at (places_of slots) i) → is_some (completion_held s.transfer.held) ≡ is_some (value_for (transfer_completion past i) (place_at (places_of slots) i))
+pub has-come : (past : List Event) (slots : List Slot) (i : ℕ) (s : Slot) → Agree past slots → slice_get slots i ≡ Some s → IsSome (owner_at (holds_of slots) i) → is_some (completion_held s.transfer.held) ≡ is_some (value_for (transfer_completion past i) (hold_at (holds_of slots) i))
 has-come past slots i s agree at some =
     let h = held_slot past slots i s agree at some in
-    come-if s.owner s.transfer (transfer_completion past i) h.owned h.held ∙ ap (λ (p : Option Place). is_some (value_for (transfer_completion past i) p)) (sym h.place)
+    come-if s.owner s.transfer (transfer_completion past i) h.owned h.held ∙ ap (λ (p : Option Hold). is_some (value_for (transfer_completion past i) p)) (sym h.place)
 
-value-if : (o : Option ℕ) (t : TransferData) (come : Option Completion) → is_some o ≡ true → IsSome (value_for come (place_of (record { owner = o; transfer = t }))) → t.held ≡ held_of (cond (is_some o) come None) → value_for come (place_of (record { owner = o; transfer = t })) ≡ Some t
+value-if : (o : Option ℕ) (t : TransferData) (come : Option Completion) → is_some o ≡ true → IsSome (value_for come (hold_of (record { owner = o; transfer = t }))) → t.held ≡ held_of (cond (is_some o) come None) → value_for come (hold_of (record { owner = o; transfer = t })) ≡ Some t
 value-if None t come owned some held = absurd (cc)
 value-if (Some k) t None owned some held = absurd (cc)
 value-if (Some k) t (Some c) owned some held = ap (λ (h : Held). Some (holding t h)) (sym held)
 
 -- and its value then
-pub held-value : (past : List Event) (slots : List Slot) (i : ℕ) (s : Slot) → Agree past slots → slice_get slots i ≡ Some s → IsSome (owner_at (places_of slots) i) → IsSome (value_for (transfer_completion past i) (place_at (places_of slots) i)) → value_for (transfer_completion past i) (place_at (places_of slots) i) ≡ Some s.transfer
+pub held-value : (past : List Event) (slots : List Slot) (i : ℕ) (s : Slot) → Agree past slots → slice_get slots i ≡ Some s → IsSome (owner_at (holds_of slots) i) → IsSome (value_for (transfer_completion past i) (hold_at (holds_of slots) i)) → value_for (transfer_completion past i) (hold_at (holds_of slots) i) ≡ Some s.transfer
 held-value past slots i s agree at some come =
     let h = held_slot past slots i s agree at some in
     ap (value_for (transfer_completion past i)) h.place ∙ value-if s.owner s.transfer (transfer_completion past i) h.owned (rw h.place at come) h.held
@@ -184,24 +185,24 @@ entered-before : (past : List Event) (sub : Submission) (refusal : Option ℕ) (
 entered-before past sub None n t within = completion-submit past n sub.device sub.endpoint sub.maximum _ sub.buffer.room sub.deadline t
 entered-before past sub (Some errno) n t within = completion-refuse past sub n errno t within
 
-entered-new : (past : List Event) (sub : Submission) (refusal : Option ℕ) (transfer : TransferData) → transfer.held ≡ Nothing
-    → (with_answer transfer (queued_or_refused (length (tickets past)) sub refusal)).held ≡ held_of (transfer_completion (submit_or_refuse (length (tickets past)) sub refusal ∷ past) (length (tickets past)))
-entered-new past sub None transfer empty =
+entered-new : (past : List Event) (sub : Submission) (refusal : Option ℕ)
+    → held_at_once (queued_or_refused (length (tickets past)) sub refusal) ≡ held_of (transfer_completion (submit_or_refuse (length (tickets past)) sub refusal ∷ past) (length (tickets past)))
+entered-new past sub None =
     let none : completion (submit_or_refuse (length (tickets past)) sub None ∷ past) (length (tickets past)) ≡ None =
     completion-submit past (length (tickets past)) sub.device sub.endpoint sub.maximum _ sub.buffer.room sub.deadline (length (tickets past)) ∙ completion-fresh past (length (tickets past)) (omega arith) in
-    empty ∙ ap held_of (sym (transfer-is _ (length (tickets past)) None none))
-entered-new past sub (Some errno) transfer empty =
+    ap held_of (sym (transfer-is _ (length (tickets past)) None none))
+entered-new past sub (Some errno) =
     ap held_of (sym (transfer-is (submit_or_refuse (length (tickets past)) sub (Some errno) ∷ past) (length (tickets past)) (Some (refused_done (length (tickets past)) sub errno)) (completion-refused past sub (length (tickets past)) errno)))
 
 entered-count : (past : List Event) (sub : Submission) (refusal : Option ℕ) (n : ℕ) → length (tickets (submit_or_refuse n sub refusal ∷ past)) ≡ length (tickets past) + 1
 entered-count past sub None n = omega (arith, length-append {A = Ticket})
 entered-count past sub (Some errno) n = omega (arith, length-append {A = Ticket})
 
-pub Agree-enter : (past : List Event) (slots : List Slot) (sub : Submission) (refusal : Option ℕ) (key : ℕ) (transfer : TransferData) → Agree past slots → transfer.held ≡ Nothing
-    → Agree (submit_or_refuse (length (tickets past)) sub refusal ∷ past) (slots ++ record { owner = Some key; transfer = with_answer transfer (queued_or_refused (length (tickets past)) sub refusal) } ∷ [])
-Agree-enter past slots sub refusal key transfer agree empty =
+pub Agree-enter : (past : List Event) (slots : List Slot) (sub : Submission) (refusal : Option ℕ) (key : ℕ) (transfer : TransferData) → Agree past slots
+    → Agree (submit_or_refuse (length (tickets past)) sub refusal ∷ past) (slots ++ record { owner = Some key; transfer = holding transfer (held_at_once (queued_or_refused (length (tickets past)) sub refusal)) } ∷ [])
+Agree-enter past slots sub refusal key transfer agree =
     let later = submit_or_refuse (length (tickets past)) sub refusal ∷ past in
-    let new : Slot = record { owner = Some key; transfer = with_answer transfer (queued_or_refused (length (tickets past)) sub refusal) } in
+    let new : Slot = record { owner = Some key; transfer = holding transfer (held_at_once (queued_or_refused (length (tickets past)) sub refusal)) } in
     let one : length (slots ++ new ∷ []) ≡ length slots + 1 = length-append slots (new ∷ []) in
     record {
       count = omega (arith, one, agree.count, entered-count past sub refusal (length (tickets past)));
@@ -213,25 +214,28 @@ Agree-enter past slots sub refusal key transfer agree empty =
                 rw same (agree.each t x before)
             | inr last ↦
                 let n : t ≡ length (tickets past) = last.0 ∙ agree.count in
-                rw (← last.1, n) (entered-new past sub refusal transfer empty)
+                rw (← last.1, n) (entered-new past sub refusal)
           ];
     }
 
 -- the same, as the calls say it
-pub Agree-entered : (past later : List Event) (slots reserved after : List Slot) (sub : Submission) (refusal : Option ℕ) (key : ℕ) (transfer : TransferData) (submitted : Submitted) → Agree past slots → transfer.held ≡ Nothing
+pub Agree-entered : (past later : List Event) (slots reserved after : List Slot) (sub : Submission) (refusal : Option ℕ) (key : ℕ) (transfer : TransferData) (submitted : Submitted) → Agree past slots
     → later ≡ submit_or_refuse (length (tickets past)) sub refusal ∷ past → reserved ≡ slots → submitted ≡ queued_or_refused (length (tickets past)) sub refusal
-    → after ≡ reserved ++ record { owner = Some key; transfer = with_answer transfer submitted } ∷ [] → Agree later after
-Agree-entered past later slots reserved after sub refusal key transfer submitted agree empty is same answer items =
-    rw (items, same, answer, is) (Agree-enter past slots sub refusal key transfer agree empty)
+    → after ≡ reserved ++ record { owner = Some key; transfer = holding transfer (held_at_once submitted) } ∷ [] → Agree later after
+Agree-entered past later slots reserved after sub refusal key transfer submitted agree is same answer items =
+    rw (items, same, answer, is) (Agree-enter past slots sub refusal key transfer agree)
 
 -- which completion a step, a reap and a discard bring
-pub completes-step : (devices : List DeviceState) (past : List Event) (s : KernelStep) (came : Option Done) → came ≡ step_done past s → CompletesOnly past (stepped devices past s) came
-completes-step devices past s came is =
-    record { count = ap length (tickets-step devices past s); each = λ u. completion-step devices past s u ∙ ap (λ (o : Option Done). completed o (completion past) u) (sym is) }
+pub completes-step : (devices : List DeviceState) (clock : ℕ) (past : List Event) (s : KernelStep) (came : Option Done) → came ≡ step_done past s → CompletesOnly past (stepped devices clock past s) came
+completes-step devices clock past s came is =
+    record { count = ap length (tickets-step devices clock past s); each = λ u. completion-step devices clock past s u ∙ ap (λ (o : Option Done). completed o (completion past) u) (sym is) }
 
 pub completes-reap : (past : List Event) (t : ℕ) (came : Option Done) → came ≡ reapable past t → CompletesOnly past (after_reap past t) came
 completes-reap past t came is =
     record { count = ap length (tickets-reap past t); each = λ u. completion-reap past t u ∙ ap (λ (o : Option Done). completed o (completion past) u) (sym is) }
+
+pub completes-timer : (clock : ℕ) (past : List Event) → CompletesOnly past (timer_turned clock past) None
+completes-timer clock past = record { count = ap length (tickets-turned clock past); each = completion-turned clock past }
 
 pub completes-discard : (past : List Event) (t : ℕ) → CompletesOnly past (after_discard past t) None
 completes-discard past t = record { count = ap length (tickets-discard past t); each = completion-discard past t }

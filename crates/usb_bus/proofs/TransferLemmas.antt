@@ -12,9 +12,9 @@ use Rattle.usb_bus.specs.declared.route.Turn.{Turn}
 use Rattle.usb_bus.specs.declared.route.Turn.TheVariants.{Stepped, Reaped, TimeUp}
 use Rattle.usb_bus.specs.BusState.{BusState, with_owner, without}
 use Rattle.usb_bus.specs.Submitted.{IsSubmitted, IsRefused}
-use Rattle.usb_bus.specs.Later.{Extends, IsLater}
+use Rattle.usb_bus.specs.Later.{Extends, IsLater, IsLaterWithout}
 use Rattle.usb_bus.specs.Turns.{Falls}
-use Rattle.usb_bus.specs.Transferred.{WentOn, IsLaterWithout}
+use Rattle.usb_bus.specs.Transferred.{WentOn}
 
 -- where a ticket came to an endpoint, the others still hold theirs
 entered-others : (owner : ℕ → Option ℕ) (n key t k : ℕ) → owner n ≡ None → owner t ≡ Some k → with_owner owner n key t ≡ Some k
@@ -59,10 +59,12 @@ module _ (old mid : BusState) (to : Route) (b : BufferState) (t : ℕ) (number :
       let h = submitted b refl in
       record {
         refusal = h.0;
-        past = record { more = past.more; is = past.is ∙ ap (λ p. past.more ++ p) h.1.past };
-        clock = omega (arith, clock, h.1.clock);
-        owner = owner;
-        keys = keys ∙ h.1.keys;
+        later = record {
+          past = record { more = past.more; is = past.is ∙ ap (λ p. past.more ++ p) h.1.past };
+          clock = omega (arith, clock, h.1.clock);
+          owner = owner;
+          keys = keys ∙ h.1.keys;
+        };
       }
 
   -- its endpoint still holds it

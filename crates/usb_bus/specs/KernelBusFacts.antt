@@ -6,28 +6,20 @@ use Rattle.usb_xfer.specs.declared.transfer.Held.{Held}
 use Rattle.usb_xfer.specs.declared.transfer.Held.TheVariants.{Nothing, Complete}
 use Rattle.usb_xfer.specs.declared.transfer.TransferData.{TransferData}
 use Rattle.usb_kernel.specs.declared.event.Event.{Event}
-use Rattle.usb_kernel.specs.declared.submission.Done.{Done}
-use Rattle.usb_kernel.specs.declared.submission.Submitted.{Submitted}
-use Rattle.usb_kernel.specs.declared.submission.Submitted.TheVariants.{Queued, Refused}
 use Rattle.usb_kernel.specs.Tickets.{tickets}
-use Rattle.usb_kernel.specs.Completions.{completion, completed}
 use Rattle.usb_bus.specs.declared.kernel_slots.Slot.{Slot}
 use Rattle.usb_bus.specs.declared.kernel_bus.KernelBus.TheInside.{Inside}
-use Rattle.usb_bus.specs.Completions.{completion_of, transfer_completion}
-use Rattle.usb_bus.specs.KernelBusState.{Place}
+use Rattle.usb_bus.specs.Completions.{transfer_completion}
+use Rattle.usb_bus.specs.Holds.{Hold, held_of}
 
 -- who holds the ticket of a slot
-abbrev pub place_of : Slot → Option Place
-place_of s = option_map (λ k. record { key = k; endpoint = s.transfer.endpoint; kind = s.transfer.kind }) s.owner
+abbrev pub hold_of : Slot → Option Hold
+hold_of s = option_map (λ k. record { key = k; endpoint = s.transfer.endpoint; kind = s.transfer.kind }) s.owner
 
-abbrev pub places_of : List Slot → List (Option Place)
-places_of slots = map place_of slots
+abbrev pub holds_of : List Slot → List (Option Hold)
+holds_of slots = map hold_of slots
 
--- what a transfer holds once the kernel has its buffer: its completion, where it has come
-abbrev pub held_of : Option Completion → Held
-held_of None = Nothing
-held_of (Some c) = Complete c
-
+-- a transfer that holds this
 abbrev pub holding : TransferData → Held → TransferData
 holding t held = record t { held = held }
 
@@ -39,21 +31,11 @@ with_completion s c = if is_some s.owner then record s { transfer = holding s.tr
 abbrev pub ended_slot : Slot → Slot
 ended_slot s = record { owner = None; transfer = holding s.transfer Nothing }
 
--- the transfer of a new ticket: a refused one is complete at once
-abbrev pub with_answer : TransferData → Submitted → TransferData
-with_answer t (Queued ticket) = t
-with_answer t (Refused done) = holding t (Complete (completion_of done))
-
 -- there is a slot for each ticket; that of a ticket that is held has the completion as soon as the ticket is reaped, and others
 -- have nothing
 pub record Agree (past : List Event) (slots : List Slot) : Type 0 where
   pub count : length slots ≡ length (tickets past)
   pub each : (t : ℕ) (s : Slot) → slice_get slots t ≡ Some s → s.transfer.held ≡ held_of (if is_some s.owner then transfer_completion past t else None)
-
--- the tickets are the same, and no other completion came than this one
-pub record CompletesOnly (old new : List Event) (came : Option Done) : Type 0 where
-  pub count : length (tickets new) ≡ length (tickets old)
-  pub each : (t : ℕ) → completion new t ≡ completed came (completion old) t
 
 -- the slots are what the journal says
 pub record IsMatched (h : Inside) : Type 0 where

@@ -1,15 +1,23 @@
 -- How a bus goes on.
-use Rattle.std.specs.Prelude.{◌≡◌, ◌≤◌}
-use Rattle.usb_bus.specs.BusState.{BusState}
+use Rattle.std.specs.Prelude.{ℕ, ◌≡◌, ◌≤◌, Option}
+use Rattle.usb_bus.specs.BusState.{BusState, without}
 -- the old journal is the beginning of the new one
 pub use Rattle.usb_kernel.specs.Extends.{Extends}
 
--- events may have come and time may have passed, and nothing that endpoints hold has ended
-pub record IsLater (old new : BusState) : Type 0 where
+-- events may have come and time may have passed, and these are the owners of the tickets then
+pub record LaterWith (old new : BusState) (owners : ℕ → Option ℕ) : Type 0 where
   pub past : Extends old.past new.past
   pub clock : old.clock ≤ new.clock
-  pub owner : new.owner ≡ old.owner
+  pub owner : new.owner ≡ owners
   pub keys : new.keys ≡ old.keys
+
+-- nothing that endpoints hold has ended
+abbrev pub IsLater : BusState → BusState → Type 0
+IsLater old new = LaterWith old new old.owner
+
+-- this ticket has ended: its endpoint holds it no more
+abbrev pub IsLaterWithout : BusState → BusState → ℕ → Type 0
+IsLaterWithout old new t = LaterWith old new (without old.owner t)
 
 -- the journal and the clock went on, and no turn was added
 pub record GoesOn (old new : BusState) : Type 0 where

@@ -6,6 +6,8 @@ pub mod Later
 pub mod Turns
 pub mod Values
 pub mod Transferred
+pub mod Holds
 pub mod KernelBusState
 pub mod KernelBusCalls
+pub mod KernelBusLaws
 pub mod KernelBusFacts

@@ -1,10 +1,11 @@
 -- What a submission does to a bus.
-use Rattle.std.specs.Prelude.{ℕ, ◌≡◌, ◌∷◌, length, Option, Some}
+use Rattle.std.specs.Prelude.{ℕ, ◌≡◌, ◌∷◌, length, Option, Some, IfSome}
 use Rattle.usb_xfer.specs.BufferState.{BufferState}
 use Rattle.usb_xfer.specs.declared.transfer.Held.{Held}
 use Rattle.usb_xfer.specs.Transfers.{buffer_held}
 use Rattle.usb_kernel.specs.Tickets.{tickets}
 use Rattle.usb_kernel.specs.Submits.{submit_or_refuse}
+use Rattle.usb_kernel.specs.Submissions.{IsErrno}
 use Rattle.usb_bus.specs.declared.route.Route.{Route}
 use Rattle.usb_bus.specs.Routes.{submission_of}
 use Rattle.usb_bus.specs.BusState.{BusState, with_owner}
@@ -15,6 +16,7 @@ pub record Entered (old new : BusState) (to : Route) (b : BufferState) (refusal 
   pub clock : new.clock ≡ old.clock
   pub owner : new.owner ≡ with_owner old.owner (length (tickets old.past)) to.key
   pub keys : new.keys ≡ old.keys
+  pub errno : IfSome refusal IsErrno
 
 -- the buffer of a transfer was submitted, or refused by the kernel
 abbrev pub IsSubmitted : BusState → BusState → Route → Held → Type 0

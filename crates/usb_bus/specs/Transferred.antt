@@ -1,5 +1,5 @@
 -- What became of a transfer over a bus.
-use Rattle.std.specs.Prelude.{ℕ, ◌≡◌, ◌≤◌, ◌∷◌, length, Option}
+use Rattle.std.specs.Prelude.{ℕ, ◌∷◌, length, Option}
 use Rattle.usb_xfer.specs.BufferState.{BufferState}
 use Rattle.usb_xfer.specs.declared.transfer.Completion.{Completion}
 use Rattle.usb_kernel.specs.Tickets.{tickets}
@@ -8,8 +8,8 @@ use Rattle.usb_bus.specs.declared.route.Route.{Route}
 use Rattle.usb_bus.specs.declared.transfers.Transferred.{Transferred}
 use Rattle.usb_bus.specs.declared.transfers.Transferred.TheVariants.{Complete, TimeUp, NoMemory}
 use Rattle.usb_bus.specs.Routes.{submission_of}
-use Rattle.usb_bus.specs.BusState.{BusState, without}
-use Rattle.usb_bus.specs.Later.{Extends}
+use Rattle.usb_bus.specs.BusState.{BusState}
+use Rattle.usb_bus.specs.Later.{LaterWith}
 
 -- what is true of each outcome
 abbrev pub IfComplete : Transferred → (Completion → Type 0) → Type 0
@@ -27,17 +27,7 @@ IfNoMemory (Complete c) P = Unit {0}
 IfNoMemory (TimeUp p) P = Unit {0}
 IfNoMemory (NoMemory b) P = P b
 
--- events may have come and time may have passed, and this ticket has ended: its endpoint holds it no more
-pub record IsLaterWithout (old new : BusState) (t : ℕ) : Type 0 where
-  pub past : Extends old.past new.past
-  pub clock : old.clock ≤ new.clock
-  pub owner : new.owner ≡ without old.owner t
-  pub keys : new.keys ≡ old.keys
-
--- the buffer became the next ticket, refused or not, events may have come and time may have passed, and these are the owners then
+-- the buffer became the next ticket, refused or not, the bus went on from there, and these are the owners then
 pub record WentOn (old new : BusState) (to : Route) (b : BufferState) (owners : ℕ → Option ℕ) : Type 0 where
   pub refusal : Option ℕ
-  pub past : Extends (submit_or_refuse (length (tickets old.past)) (submission_of to b) refusal ∷ old.past) new.past
-  pub clock : old.clock ≤ new.clock
-  pub owner : new.owner ≡ owners
-  pub keys : new.keys ≡ old.keys
+  pub later : LaterWith (record old { past = submit_or_refuse (length (tickets old.past)) (submission_of to b) refusal ∷ old.past }) new owners

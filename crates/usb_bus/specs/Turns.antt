@@ -1,7 +1,12 @@
--- How often a bus can go on by itself.
-use Rattle.std.specs.Prelude.{ℕ, ◌<◌, ◌≤◌}
+-- What a turn of a bus can be, and how often a bus can go on by itself.
+use Rattle.std.specs.Prelude.{ℕ, ◌<◌, ◌≤◌, Option, Some, None}
 use Rattle.usb_bus.specs.declared.route.Turn.{Turn}
 use Rattle.usb_bus.specs.declared.route.Turn.TheVariants.{Stepped, Reaped, TimeUp}
+
+-- a turn with no step left reaps the ticket that waits, or time is up
+abbrev pub reap_turn : Option ℕ → Turn
+reap_turn None = TimeUp
+reap_turn (Some t) = Reaped
 
 -- the number of a bus falls at each turn at which time is not up, and never rises at a turn
 abbrev pub Falls : Turn → ℕ → ℕ → Type 0

@@ -4,6 +4,7 @@ ghost use Rattle.std.specs.Prelude.{◌≡◌, ◌≤◌, ℕ, true, max, length
 ghost use Rattle.usb_kernel.specs.Tickets.{tickets};
 ghost use Rattle.usb_kernel.specs.Submissions.{IsErrno};
 ghost use Rattle.usb_kernel.specs.Completions.{lowest};
+ghost use Rattle.usb_kernel.specs.Timers.{timer_turned};
 ghost use Rattle.usb_kernel.specs.Steps.{after_discard};
 ghost use Rattle.usb_xfer.specs.declared.transfer.TransferData.{TransferData};
 ghost use Rattle.usb_bus.specs.declared.route.Route.{Route};
@@ -20,8 +21,9 @@ use usb_xfer::{Idle, Pending, Slots, TransferData};
 
 /// What endpoints stand on: a kernel with slots for the transfers that open endpoints hold.
 ///
-/// `state` says all that an endpoint needs to know of a bus. Beside it each call has a ghost function that says what is left of
-/// the whole bus after it, so that whoever knows the bus itself loses nothing by a call through an endpoint.
+/// `state` says all that an endpoint needs to know of a bus. Beside it each call has a ghost
+/// function that says what is left of the whole bus after it, so that whoever knows the bus itself
+/// loses nothing by a call through an endpoint.
 pub trait Bus: Slots<TransferData> {
     // What a bus is to the endpoints on it.
     ghost state: { Self → BusState };
@@ -47,9 +49,9 @@ pub trait Bus: Slots<TransferData> {
 
     ghost halt_result: { Self → ℕ → ℕ → Result (Unit {0}) ℕ };
 
-    /// Submits the buffer of a transfer, which becomes the next ticket: queued, or refused by the kernel. The endpoint of the
-    /// route's key, which must be open, holds the ticket from then on. An `Err` is want of memory: the transfer comes back
-    /// and nothing has changed.
+    /// Submits the buffer of a transfer, which becomes the next ticket: queued, or refused by the
+    /// kernel. The endpoint of the route's key, which must be open, holds the ticket from then on.
+    /// An `Err` is want of memory: the transfer comes back and nothing has changed.
     fn submit(
         &mut self,
         to: Route,
@@ -59,15 +61,18 @@ pub trait Bus: Slots<TransferData> {
         requires goes { GoesBy t to }
         requires whole { AsksWhole t to }
         ensures ticket { IfOk result (λ p. p ≡ length (tickets (state self.old).past)) }
-        ensures fresh { OnOk result ((state self.old).owner (length (tickets (state self.old).past)) ≡ None) }
+        ensures fresh { OnOk result
+            ((state self.old).owner (length (tickets (state self.old).past)) ≡ None) }
         ensures state { OnOk result (IsSubmitted (state self.old) (state self.new) to t.held) }
-        ensures left { OnOk result (128 ≤ to.endpoint → (state self.new).left ≤ (state self.old).left) }
+        ensures left { OnOk result
+            (128 ≤ to.endpoint → (state self.new).left ≤ (state self.old).left) }
         ensures ok { OnOk result (self.new ≡ submitted self.old to t) }
         ensures err { OnErr result (self.new ≡ self.old) }
         ensures back { IfErr result (λ back. back ≡ t) };
 
-    /// The buffer of a transfer becomes the next ticket, which is refused with this errno whatever the kernel would answer. An
-    /// `Err` is want of memory: the transfer comes back and nothing has changed.
+    /// The buffer of a transfer becomes the next ticket, which is refused with this errno whatever
+    /// the kernel would answer. An `Err` is want of memory: the transfer comes back and nothing has
+    /// changed.
     fn refuse(
         &mut self,
         to: Route,
@@ -78,7 +83,8 @@ pub trait Bus: Slots<TransferData> {
         requires goes { GoesBy t to }
         requires errno { IsErrno errno }
         ensures ticket { IfOk result (λ p. p ≡ length (tickets (state self.old).past)) }
-        ensures fresh { OnOk result ((state self.old).owner (length (tickets (state self.old).past)) ≡ None) }
+        ensures fresh { OnOk result
+            ((state self.old).owner (length (tickets (state self.old).past)) ≡ None) }
         ensures state { OnOk result (IsRefused (state self.old) (state self.new) to t.held errno) }
         ensures left { OnOk result ((state self.new).left ≤ (state self.old).left) }
         ensures ok { OnOk result (self.new ≡ refused self.old to t errno) }
@@ -88,22 +94,26 @@ pub trait Bus: Slots<TransferData> {
     /// Discards the ticket where it is not finished. Its endpoint holds it all the same.
     fn discard(&mut self, p: &Pending<TransferData>)
         requires stands { IsTrue (Self.stands self.old p.now) }
-        ensures state { state self.new ≡ record (state self.old) { past = after_discard (state self.old).past p.now; left = (state self.new).left } }
+        ensures state { state self.new ≡ record (state self.old)
+            { past = after_discard (state self.old).past p.now; left = (state self.new).left } }
         ensures ok { self.new ≡ discarded self.old p.now };
 
     /// Gives up a ticket: it is dropped where it is reaped, and else reclaimed when it is.
     fn abandon(&mut self, p: Pending<TransferData>)
         requires stands { IsTrue (Self.stands self.old p) }
-        ensures state { state self.new ≡ record (state self.old) { owner = without (state self.old).owner p } }
+        ensures state { state self.new
+            ≡ record (state self.old) { owner = without (state self.old).owner p } }
         ensures ok { self.new ≡ abandoned self.old p };
 
     /// The endpoint of this key, which must be open, is gone.
     fn leave(&mut self, endpoint_key: usize)
         requires key { (state self.old).keys endpoint_key ≡ true }
-        ensures state { state self.new ≡ record (state self.old) { keys = without_key (state self.old).keys endpoint_key } }
+        ensures state { state self.new
+            ≡ record (state self.old) { keys = without_key (state self.old).keys endpoint_key } }
         ensures ok { self.new ≡ closed self.old endpoint_key };
 
-    /// Goes on by one step. Time is up only where no ticket is finished and unreaped, and then nothing has changed.
+    /// Goes on by one step. Time is up only where no ticket is finished and unreaped, and then
+    /// nothing has changed.
     fn turn(&mut self) -> Turn
         ensures state { IsLater (state self.old) (state self.new) }
         ensures falls { Falls result (state self.old).left (state self.new).left }
@@ -112,17 +122,21 @@ pub trait Bus: Slots<TransferData> {
         ensures turn { result ≡ turn_of self.old }
         ensures ok { self.new ≡ turned self.old };
 
-    /// Raises the clock to a time in nanoseconds, where that is later.
+    /// Raises the clock to a time in nanoseconds, where that is later, and then gives the timer its
+    /// turn.
     fn idle(&mut self, until: u64)
         ensures state { IsLater (state self.old) (state self.new) }
         ensures clock { (state self.new).clock ≡ max (state self.old).clock until }
+        ensures timer { (state self.new).past
+            ≡ timer_turned (state self.new).clock (state self.old).past }
         ensures ok { self.new ≡ idled self.old until };
 
     /// The clock in nanoseconds.
     fn now(&self) -> u64
         ensures clock { result ≡ (state self.now).clock };
 
-    /// Clears the halt of an endpoint of a device (USB 2.0, section 9.4.1). An `Err` is the kernel's errno. It brings no event.
+    /// Clears the halt of an endpoint of a device (USB 2.0, section 9.4.1). An `Err` is the
+    /// kernel's errno. It brings no event.
     fn clear_halt(&mut self, device: u8, endpoint: u8) -> Result<(), u16>
         ensures result { result ≡ halt_result self.old device endpoint }
         ensures state { state self.new ≡ state self.old }
@@ -131,9 +145,12 @@ pub trait Bus: Slots<TransferData> {
     // A ticket stands in the slots as long as an endpoint holds it.
     ghost stands_is: { (x : Self) (t : ℕ) → Self.stands x t ≡ is_some ((state x).owner t) };
 
-    // The value of a ticket that stands has come exactly where the ticket is reaped, and holds the journal's completion of it.
-    ghost value_is: { (x : Self) (t : ℕ) → IsSome ((state x).owner t) → HoldsCompletion (state x).past t (Self.value x t) };
+    // The value of a ticket that stands has come exactly where the ticket is reaped, and holds the
+    // journal's completion of it.
+    ghost value_is: { (x : Self) (t : ℕ) → IsSome ((state x).owner t)
+        → HoldsCompletion (state x).past t (Self.value x t) };
 
     // To take it ends the ticket, and changes nothing else.
-    ghost state_taken: { (x : Self) (t : ℕ) → state (Self.taken x t) ≡ record (state x) { owner = without (state x).owner t } };
+    ghost state_taken: { (x : Self) (t : ℕ) → state (Self.taken x t)
+        ≡ record (state x) { owner = without (state x).owner t } };
 }

@@ -6,8 +6,8 @@ ghost use Rattle.usb_bus.specs.Completions.{completion_of};
 use usb_kernel::Done;
 use usb_xfer::{Completion, transfer_status};
 
-/// The completion of a transfer that the kernel is done with: its buffer, the count of bytes that went over, and its status by
-/// the errno.
+/// The completion of a transfer that the kernel is done with: its buffer, the count of bytes that
+/// went over, and its status by the errno.
 pub fn completion_from(done: Done) -> Completion
     ensures completion { result ≡ completion_of done }
 {

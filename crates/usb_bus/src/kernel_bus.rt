@@ -1,13 +1,15 @@
 //! The bus over a kernel alone.
 
-ghost use Rattle.std.specs.Prelude.{◌≡◌, ◌≤◌, ◌<◌, ◌*◌, ◌^◌, ◌++◌, ◌∷◌, [], true, false, max, length, Some, None, is_some, IsSome, IsTrue, IfOk, OnOk, OnErr, IfErr, refl};
+ghost use Rattle.std.specs.Prelude.{◌≡◌, ◌≤◌, ◌<◌, ◌*◌, ◌^◌, ◌++◌, ◌∷◌, [], true, false, max, length, Some, None, is_some, IsSome, IsTrue, IfOk, OnOk, OnErr, IfErr, IfSome, refl};
 ghost use Rattle.usb_kernel.specs.Tickets.{tickets};
 ghost use Rattle.usb_kernel.specs.Steps.{HasErrno};
 ghost use Rattle.usb_kernel.specs.Submissions.{IsErrno};
+ghost use Rattle.usb_kernel.specs.Submits.{submit_refusal};
 ghost use Rattle.usb_xfer.specs.Transfers.{IsFilled};
 ghost use Rattle.usb_bus.specs.KernelBusState.{KernelBusState};
-ghost use Rattle.usb_bus.specs.KernelBusCalls.{bus_of, owner_at, key_at, kernel_value, kernel_submitted, kernel_refused, kernel_discarded, kernel_without, kernel_closed, kernel_turned, kernel_turn, kernel_idled, kernel_halt_cleared, kernel_halt_result, kernel_stepped, bus_of-without, kernel_value-holds};
-ghost use Rattle.usb_bus.specs.Routes.{AsksWhole, submission_of};
+ghost use Rattle.usb_bus.specs.KernelBusCalls.{bus_of, owner_at, key_at, bus_value, bus_submitted, bus_refused, bus_discarded, bus_without, bus_closed, bus_turned, bus_turn, bus_idled, bus_halt_cleared, bus_halt_result, bus_stepped};
+ghost use Rattle.usb_bus.specs.KernelBusLaws.{bus_of-without, bus_value-holds};
+ghost use Rattle.usb_bus.specs.Routes.{AsksWhole};
 
 use crate::bus::Bus;
 use crate::kernel_slots::{Slot, add_slot, has_come, store, take_slot};
@@ -15,11 +17,11 @@ use crate::route::{Route, Turn};
 use std::alloc::Global;
 use std::marker::Model;
 use usb_desc::NoMemory;
-use usb_kernel::{Kernel, KernelStep, Submission};
-use usb_xfer::{Buffer, Idle, Pending, Slots, TransferData};
+use usb_kernel::{Kernel, KernelStep};
+use usb_xfer::{Idle, Pending, Slots, TransferData};
 
-/// A kernel, and what endpoints hold there: the least bus. It goes on by itself only by reaps; the steps of a simulation are
-/// applied to it between two calls.
+/// A kernel, and what endpoints hold there: the least bus. It goes on by itself only by reaps; the
+/// steps of a simulation are applied to it between two calls.
 #[derive(Drop)]
 pub struct KernelBus {
     kernel: Kernel,
@@ -32,33 +34,19 @@ impl Model for KernelBus {
 
     ghost Value = { KernelBusState };
 
-    ghost use Rattle.usb_bus.specs.KernelBusFacts.{places_of, IsMatched};
+    ghost use Rattle.usb_bus.specs.KernelBusFacts.{holds_of, IsMatched};
 
-    ghost view = { λ h. record { kernel = h.kernel; places = places_of h.slots.items; keys = h.keys.items } };
+    ghost view = { λ h.
+        record { kernel = h.kernel; holds = holds_of h.slots.items; keys = h.keys.items } };
 
     ghost invariant = { IsMatched };
-}
-
-/// A buffer as it is submitted by a route.
-fn submission_by(to: Route, buffer: Buffer) -> Submission
-    ensures submission { result ≡ submission_of to buffer }
-{
-    Submission {
-        device: to.device,
-        endpoint: to.endpoint,
-        kind: to.kind,
-        maximum: to.maximum,
-        deadline: None,
-        setup: None,
-        buffer,
-    }
 }
 
 impl KernelBus {
     /// A bus over a kernel that has no ticket yet.
     pub fn new(alloc: Global, kernel: Kernel) -> KernelBus
         requires none { tickets kernel.past ≡ [] }
-        ensures bus { result ≡ record { kernel = kernel; places = []; keys = [] } }
+        ensures bus { result ≡ record { kernel = kernel; holds = []; keys = [] } }
     {
         KernelBus {
             kernel,
@@ -70,7 +58,8 @@ impl KernelBus {
     /// The key of a new endpoint. An `Err` is want of memory, and then nothing has changed.
     pub fn open(&mut self) -> Result<usize, NoMemory>
         ensures key { IfOk result (λ key. key ≡ length self.old.keys) }
-        ensures bus { OnOk result (self.new ≡ record self.old { keys = self.old.keys ++ true ∷ [] }) }
+        ensures bus { OnOk result
+            (self.new ≡ record self.old { keys = self.old.keys ++ true ∷ [] }) }
         ensures fresh { key_at self.old.keys (length self.old.keys) ≡ false }
         ensures open { IfOk result (λ key. key_at self.new.keys key ≡ true) }
         ensures err { OnErr result (self.new ≡ self.old) }
@@ -92,7 +81,9 @@ impl KernelBus {
     /// Makes room for at least n steps. An `Err` is want of memory, and then nothing has changed.
     pub fn reserve(&mut self, n: usize) -> Result<(), NoMemory>
         ensures ok { OnOk result (n ≤ self.new.kernel.spare) }
-        ensures bus { OnOk result (self.new ≡ record self.old { kernel = record self.old.kernel { spare = max self.old.kernel.spare n } }) }
+        ensures bus { OnOk result
+            (self.new ≡ record self.old
+            { kernel = record self.old.kernel { spare = max self.old.kernel.spare n } }) }
         ensures err { OnErr result (self.new ≡ self.old) }
     {
         self.kernel.reserve(n)
@@ -102,7 +93,7 @@ impl KernelBus {
     pub fn step(&mut self, step: KernelStep)
         requires spare { 1 ≤ self.old.kernel.spare }
         requires errno { HasErrno step }
-        ensures bus { self.new ≡ kernel_stepped self.old step }
+        ensures bus { self.new ≡ bus_stepped self.old step }
     {
         let done = self.kernel.step(step);
         store(&mut self.slots, done);
@@ -113,8 +104,11 @@ impl KernelBus {
         requires filled { IsFilled t }
         requires whole { AsksWhole t to }
         ensures ticket { IfOk result (λ n. n ≡ length (tickets self.old.kernel.past)) }
-        ensures ok { OnOk result (self.new ≡ kernel_submitted self.old to t) }
-        ensures places { length self.old.places ≡ length (tickets self.old.kernel.past) }
+        ensures ok { OnOk result (self.new ≡ bus_submitted self.old to t) }
+        ensures known { OnOk result
+            (IfSome (submit_refusal self.old.kernel.devices self.old.kernel.armed to.device)
+            IsErrno) }
+        ensures holds { length self.old.holds ≡ length (tickets self.old.kernel.past) }
         ensures err { OnErr result (self.new ≡ self.old) }
         ensures back { IfErr result (λ back. back ≡ t) }
     {
@@ -123,7 +117,7 @@ impl KernelBus {
             return Err(data);
         }
         let buffer = data.take_buffer();
-        match self.kernel.submit(submission_by(to, buffer)) {
+        match self.kernel.submit(to.submission(buffer)) {
             Ok(submitted) => Ok(add_slot(&mut self.slots, to.key, data, submitted)),
             Err(back) => {
                 data.set_buffer(back.buffer);
@@ -142,8 +136,8 @@ impl KernelBus {
         requires filled { IsFilled t }
         requires errno { IsErrno errno }
         ensures ticket { IfOk result (λ n. n ≡ length (tickets self.old.kernel.past)) }
-        ensures ok { OnOk result (self.new ≡ kernel_refused self.old to t errno) }
-        ensures places { length self.old.places ≡ length (tickets self.old.kernel.past) }
+        ensures ok { OnOk result (self.new ≡ bus_refused self.old to t errno) }
+        ensures holds { length self.old.holds ≡ length (tickets self.old.kernel.past) }
         ensures err { OnErr result (self.new ≡ self.old) }
         ensures back { IfErr result (λ back. back ≡ t) }
     {
@@ -152,7 +146,7 @@ impl KernelBus {
             return Err(data);
         }
         let buffer = data.take_buffer();
-        match self.kernel.refuse(submission_by(to, buffer), errno) {
+        match self.kernel.refuse(to.submission(buffer), errno) {
             Ok(submitted) => Ok(add_slot(&mut self.slots, to.key, data, submitted)),
             Err(back) => {
                 data.set_buffer(back.buffer);
@@ -163,16 +157,17 @@ impl KernelBus {
 
     /// A ticket that is held ends: its transfer, as far as it has come.
     fn end_ticket(&mut self, ticket: u64) -> TransferData
-        requires held { IsSome (owner_at self.old.places ticket) }
-        ensures rest { self.new ≡ kernel_without self.old ticket }
-        ensures value { IsSome (kernel_value self.old ticket) → kernel_value self.old ticket ≡ Some result }
+        requires held { IsSome (owner_at self.old.holds ticket) }
+        ensures rest { self.new ≡ bus_without self.old ticket }
+        ensures value { IsSome (bus_value self.old ticket)
+            → bus_value self.old ticket ≡ Some result }
     {
         take_slot(&mut self.slots, ticket)
     }
 
     /// Discards a ticket that is not finished.
     fn discard_ticket(&mut self, ticket: u64)
-        ensures bus { self.new ≡ kernel_discarded self.old ticket }
+        ensures bus { self.new ≡ bus_discarded self.old ticket }
     {
         self.kernel.discard(ticket);
     }
@@ -180,15 +175,15 @@ impl KernelBus {
     /// A key is that of an open endpoint no more.
     fn close_key(&mut self, key: usize)
         requires key { key_at self.old.keys key ≡ true }
-        ensures bus { self.new ≡ kernel_closed self.old key }
+        ensures bus { self.new ≡ bus_closed self.old key }
     {
         self.keys[key] = false;
     }
 
     /// Reaps the lowest ticket that is finished and not reaped.
     fn take_turn(&mut self) -> Turn
-        ensures turn { result ≡ kernel_turn self.old }
-        ensures bus { self.new ≡ kernel_turned self.old }
+        ensures turn { result ≡ bus_turn self.old }
+        ensures bus { self.new ≡ bus_turned self.old }
     {
         match self.kernel.lowest_finished() {
             Some(ticket) => {
@@ -200,30 +195,31 @@ impl KernelBus {
         }
     }
 
-    /// Raises the clock.
+    /// Raises the clock, and gives the timer its turn.
     fn raise_clock(&mut self, until: u64)
-        ensures bus { self.new ≡ kernel_idled self.old until }
+        ensures bus { self.new ≡ bus_idled self.old until }
     {
         self.kernel.idle(until);
+        self.kernel.timer_turn();
     }
 }
 
 impl Slots<TransferData> for KernelBus {
-    ghost stands = { λ h t. is_some (owner_at h.places t) };
+    ghost stands = { λ h t. is_some (owner_at h.holds t) };
 
-    ghost value = { kernel_value };
+    ghost value = { bus_value };
 
-    ghost taken = { kernel_without };
+    ghost taken = { bus_without };
 
     fn is_complete(&self, p: &Pending<TransferData>) -> bool {
         has_come(&self.slots, p.ticket())
     }
 
     fn into_idle(&mut self, p: Pending<TransferData>) -> Idle<TransferData>
-        requires stands { IsTrue (is_some (owner_at self.old.places p)) }
-        requires complete { IsSome (kernel_value self.old p) }
-        ensures value { kernel_value self.old p ≡ Some result }
-        ensures rest { self.new ≡ kernel_without self.old p }
+        requires stands { IsTrue (is_some (owner_at self.old.holds p)) }
+        requires complete { IsSome (bus_value self.old p) }
+        ensures value { bus_value self.old p ≡ Some result }
+        ensures rest { self.new ≡ bus_without self.old p }
     {
         let transfer = self.end_ticket(p.spend());
         Idle::new(transfer)
@@ -233,25 +229,25 @@ impl Slots<TransferData> for KernelBus {
 impl Bus for KernelBus {
     ghost state = { bus_of };
 
-    ghost submitted = { kernel_submitted };
+    ghost submitted = { bus_submitted };
 
-    ghost refused = { kernel_refused };
+    ghost refused = { bus_refused };
 
-    ghost discarded = { kernel_discarded };
+    ghost discarded = { bus_discarded };
 
-    ghost abandoned = { kernel_without };
+    ghost abandoned = { bus_without };
 
-    ghost closed = { kernel_closed };
+    ghost closed = { bus_closed };
 
-    ghost turned = { kernel_turned };
+    ghost turned = { bus_turned };
 
-    ghost turn_of = { kernel_turn };
+    ghost turn_of = { bus_turn };
 
-    ghost idled = { kernel_idled };
+    ghost idled = { bus_idled };
 
-    ghost halt_cleared = { kernel_halt_cleared };
+    ghost halt_cleared = { bus_halt_cleared };
 
-    ghost halt_result = { kernel_halt_result };
+    ghost halt_result = { bus_halt_result };
 
     fn submit(
         &mut self,
@@ -306,7 +302,7 @@ impl Bus for KernelBus {
 
     ghost stands_is = { λ x t. refl };
 
-    ghost value_is = { kernel_value-holds };
+    ghost value_is = { bus_value-holds };
 
     ghost state_taken = { bus_of-without };
 }

@@ -5,17 +5,18 @@ ghost use Rattle.usb_xfer.specs.declared.transfer.Held.{Held};
 ghost use Rattle.usb_xfer.specs.Transfers.{completion_held};
 ghost use Rattle.usb_kernel.specs.declared.event.Event.{Event};
 ghost use Rattle.usb_kernel.specs.Submits.{number_of};
-ghost use Rattle.usb_bus.specs.Completions.{transfer_completion};
-ghost use Rattle.usb_bus.specs.KernelBusCalls.{owner_at, place_at, value_for};
-ghost use Rattle.usb_bus.specs.KernelBusFacts.{Agree, CompletesOnly, places_of, with_completion, ended_slot, with_answer};
+ghost use Rattle.usb_bus.specs.Completions.{transfer_completion, CompletesOnly};
+ghost use Rattle.usb_bus.specs.Holds.{held_at_once, value_for};
+ghost use Rattle.usb_bus.specs.KernelBusCalls.{owner_at, hold_at};
+ghost use Rattle.usb_bus.specs.KernelBusFacts.{Agree, holds_of, holding, with_completion, ended_slot};
 
 use crate::completion::completion_from;
 use std::mem;
 use usb_kernel::{Done, Submitted};
 use usb_xfer::{Completion, Held, TransferData};
 
-/// What is kept of a ticket: the key of the endpoint that holds it, while it has no end, and the transfer, which holds nothing
-/// while the kernel has its buffer.
+/// What is kept of a ticket: the key of the endpoint that holds it, while it has no end, and the
+/// transfer, which holds nothing while the kernel has its buffer.
 #[derive(Drop)]
 pub struct Slot {
     pub owner: Option<usize>,
@@ -56,8 +57,9 @@ impl Slot {
 
 /// Keeps a completion that came.
 pub fn store(slots: &mut Vec<Slot>, came: Option<Done>)
-    ensures places { places_of slots.new.items ≡ places_of slots.old.items }
-    ensures agree { (past next : List Event) → Agree past slots.old.items → CompletesOnly past next came → Agree next slots.new.items }
+    ensures holds { holds_of slots.new.items ≡ holds_of slots.old.items }
+    ensures agree { (past next : List Event) → Agree past slots.old.items
+        → CompletesOnly past next came → Agree next slots.new.items }
 {
     let Some(done) = came else {
         return;
@@ -73,10 +75,15 @@ pub fn store(slots: &mut Vec<Slot>, came: Option<Done>)
 
 /// The transfer of a ticket that is held, which ends.
 pub fn take_slot(slots: &mut Vec<Slot>, ticket: u64) -> TransferData
-    requires held { IsSome (owner_at (places_of slots.old.items) ticket) }
-    ensures places { places_of slots.new.items ≡ set (places_of slots.old.items) ticket None }
-    ensures agree { (past : List Event) → Agree past slots.old.items → Agree past slots.new.items }
-    ensures value { (past : List Event) → Agree past slots.old.items → IsSome (value_for (transfer_completion past ticket) (place_at (places_of slots.old.items) ticket)) → value_for (transfer_completion past ticket) (place_at (places_of slots.old.items) ticket) ≡ Some result }
+    requires held { IsSome (owner_at (holds_of slots.old.items) ticket) }
+    ensures holds { holds_of slots.new.items ≡ set (holds_of slots.old.items) ticket None }
+    ensures agree { (past : List Event) → Agree past slots.old.items
+        → Agree past slots.new.items }
+    ensures value { (past : List Event) → Agree past slots.old.items
+        → IsSome (value_for (transfer_completion past ticket)
+        (hold_at (holds_of slots.old.items) ticket))
+        → value_for (transfer_completion past ticket) (hold_at (holds_of slots.old.items) ticket)
+        ≡ Some result }
 {
     let slot = &mut slots[ticket as usize];
     slot.end()
@@ -84,14 +91,17 @@ pub fn take_slot(slots: &mut Vec<Slot>, ticket: u64) -> TransferData
 
 /// Whether the transfer of a ticket that is held is complete.
 pub fn has_come(slots: &[Slot], ticket: u64) -> bool
-    requires held { IsSome (owner_at (places_of slots.now) ticket) }
-    ensures come { (past : List Event) → Agree past slots.now → result ≡ is_some (value_for (transfer_completion past ticket) (place_at (places_of slots.now) ticket)) }
+    requires held { IsSome (owner_at (holds_of slots.now) ticket) }
+    ensures come { (past : List Event) → Agree past slots.now
+        → result ≡ is_some
+        (value_for (transfer_completion past ticket) (hold_at (holds_of slots.now) ticket)) }
 {
     let slot = &slots[ticket as usize];
     slot.is_complete()
 }
 
-/// A slot for a new ticket of this key, whose completion is there at once where it was refused. The answer is its number.
+/// A slot for a new ticket of this key, whose completion is there at once where it was refused. The
+/// answer is its number.
 pub fn add_slot(
     slots: &mut Vec<Slot>,
     key: usize,
@@ -101,7 +111,8 @@ pub fn add_slot(
     requires room { vec_len slots.old < vec_capacity slots.old }
     requires empty { transfer.held ≡ Held.Nothing }
     ensures number { result ≡ number_of submitted }
-    ensures items { slots.new.items ≡ slots.old.items ++ record { owner = Some key; transfer = with_answer transfer submitted } ∷ [] }
+    ensures items { slots.new.items ≡ slots.old.items ++ record
+        { owner = Some key; transfer = holding transfer (held_at_once submitted) } ∷ [] }
 {
     let ticket = match submitted {
         Submitted::Queued(ticket) => ticket,

@@ -1,4 +1,5 @@
-//! The bus: what endpoints ask of the host below them, as a trait whose clauses are its whole meaning.
+//! The bus: what endpoints ask of the host below them, as a trait whose clauses are its whole
+//! meaning.
 #![tactic(auto)]
 
 mod bus;

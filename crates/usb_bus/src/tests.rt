@@ -66,7 +66,7 @@ fn packet(alloc: Global, endpoint: u8) -> Result<KernelStep, NoMemory>
 /// Makes room for a step, and applies it.
 fn apply(bus: &mut KernelBus, step: KernelStep) -> Result<(), NoMemory>
     requires errno { HasErrno step }
-    ensures places { bus.new.places ≡ bus.old.places }
+    ensures holds { bus.new.holds ≡ bus.old.holds }
     ensures keys { bus.new.keys ≡ bus.old.keys }
 {
     bus.reserve(1)?;
@@ -109,7 +109,8 @@ fn a_packet_completes_a_transfer(rt: HostRuntime) -> Result<(), Fail> {
     Ok(())
 }
 
-/// A transfer to which nothing comes: whether it is complete before it is discarded, and its completion then.
+/// A transfer to which nothing comes: whether it is complete before it is discarded, and its
+/// completion then.
 fn without_packet(alloc: Global) -> Result<(bool, Option<Completion>), NoMemory> {
     let mut bus = new_bus(alloc)?;
     let key = bus.open()?;
@@ -167,7 +168,8 @@ fn a_refused_transfer_is_complete_at_once(rt: HostRuntime) -> Result<(), Fail> {
     Ok(())
 }
 
-/// Two endpoints: a packet comes to the second, which is left then. What it got, and whether the first has got anything.
+/// Two endpoints: a packet comes to the second, which is left then. What it got, and whether the
+/// first has got anything.
 fn two_endpoints(alloc: Global) -> Result<(Option<Completion>, bool), NoMemory> {
     let mut bus = new_bus(alloc)?;
     let first = bus.open()?;

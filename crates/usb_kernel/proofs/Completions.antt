@@ -19,6 +19,7 @@ use Rattle.usb_kernel.specs.Journal.{fate, oldest, at_ticket, at_oldest, change}
 use Rattle.usb_kernel.specs.Submissions.{refuse_event, refused_of}
 use Rattle.usb_kernel.specs.Completions.{refused_done, completion, completion_if, completion_for, completed, done_if, reapable}
 use Rattle.usb_kernel.specs.Steps.{after_packet, after_ack, after_fail, after_unplug, after_reap, after_reap_of, reapable_of, reaped_by, after_discard, is_unfinished, stepped, step_done}
+use Rattle.usb_kernel.specs.Timers.{due, all_discarded, timer_turned}
 use Rattle.usb_kernel.specs.Devices.{plugged_device}
 use Rattle.usb_kernel.proofs.Places.{slice_get-append_left, slice_get-append_seam}
 use Rattle.usb_kernel.proofs.Fresh.{fate-fresh}
@@ -119,35 +120,55 @@ pub completion-reap_of : (past : List Event) (ticket : Option ℕ) (u : ℕ) →
 completion-reap_of past None u = refl
 completion-reap_of past (Some t) u = completion-reap past t u
 
--- what a step makes of the completions
-pub completion-step : (devices : List DeviceState) (past : List Event) (s : KernelStep) (u : ℕ) → completion (stepped devices past s) u ≡ completed (step_done past s) (completion past) u
-completion-step devices past (step.Packet d e b) u = completion-packet past d e b u
-completion-step devices past (step.Ack d e) u = completion-ack past d e u
-completion-step devices past (step.Fail d e errno) u = completion-fail past d e errno u
-completion-step devices past (step.Unplug d) u = completion-unplug devices past d u
-completion-step devices past (step.Clock to) u = refl
-completion-step devices past (step.Reap ticket) u = completion-reap_of past (reaped_by past ticket) u
-completion-step devices past (step.Refuse d call errno) u = refl
-
--- a step submits nothing
 pub tickets-reap : (past : List Event) (t : ℕ) → tickets (after_reap past t) ≡ tickets past
 tickets-reap past t = elim (is_some (reapable past t)) as (λ v. tickets (cond v (Reap t ∷ past) past) ≡ tickets past) [ true ↦ refl | false ↦ refl ]
 
 pub tickets-discard : (past : List Event) (t : ℕ) → tickets (after_discard past t) ≡ tickets past
 tickets-discard past t = elim (is_unfinished past t) as (λ v. tickets (cond v (Discard t ∷ past) past) ≡ tickets past) [ true ↦ refl | false ↦ refl ]
 
+-- the turn of the timer submits nothing
+tickets-all_discarded : (past : List Event) (ts : List ℕ) → tickets (all_discarded past ts) ≡ tickets past
+tickets-all_discarded past [] = refl
+tickets-all_discarded past (t ∷ ts) = tickets-all_discarded (after_discard past t) ts ∙ tickets-discard past t
+
+pub tickets-turned : (clock : ℕ) (past : List Event) → tickets (timer_turned clock past) ≡ tickets past
+unfolding timer_turned
+tickets-turned clock past = tickets-all_discarded past (due past clock)
+
+-- and reaps nothing
+completion-all_discarded : (past : List Event) (ts : List ℕ) (u : ℕ) → completion (all_discarded past ts) u ≡ completion past u
+completion-all_discarded past [] u = refl
+completion-all_discarded past (t ∷ ts) u = completion-all_discarded (after_discard past t) ts u ∙ completion-discard past t u
+
+pub completion-turned : (clock : ℕ) (past : List Event) (u : ℕ) → completion (timer_turned clock past) u ≡ completion past u
+unfolding timer_turned
+completion-turned clock past u = completion-all_discarded past (due past clock) u
+
+-- what a step makes of the completions
+pub completion-step : (devices : List DeviceState) (clock : ℕ) (past : List Event) (s : KernelStep) (u : ℕ) → completion (stepped devices clock past s) u ≡ completed (step_done past s) (completion past) u
+completion-step devices clock past (step.Packet d e b) u = completion-packet past d e b u
+completion-step devices clock past (step.Ack d e) u = completion-ack past d e u
+completion-step devices clock past (step.Fail d e errno) u = completion-fail past d e errno u
+completion-step devices clock past (step.Unplug d) u = completion-unplug devices past d u
+completion-step devices clock past (step.Clock to) u = refl
+completion-step devices clock past step.Timer u = completion-turned clock past u
+completion-step devices clock past (step.Reap ticket) u = completion-reap_of past (reaped_by past ticket) u
+completion-step devices clock past (step.Refuse d call errno) u = refl
+
+-- a step submits nothing
 pub tickets-reap_of : (past : List Event) (ticket : Option ℕ) → tickets (after_reap_of past ticket) ≡ tickets past
 tickets-reap_of past None = refl
 tickets-reap_of past (Some t) = tickets-reap past t
 
-pub tickets-step : (devices : List DeviceState) (past : List Event) (s : KernelStep) → tickets (stepped devices past s) ≡ tickets past
-tickets-step devices past (step.Packet d e b) = elim (nat_le 128 e && is_some (oldest past d e)) as (λ v. tickets (cond v (Packet d e b ∷ past) past) ≡ tickets past) [ true ↦ refl | false ↦ refl ]
-tickets-step devices past (step.Ack d e) = elim (nat_lt e 128 && is_some (oldest past d e)) as (λ v. tickets (cond v (Ack d e ∷ past) past) ≡ tickets past) [ true ↦ refl | false ↦ refl ]
-tickets-step devices past (step.Fail d e errno) = elim (is_some (oldest past d e)) as (λ v. tickets (cond v (Fail d e errno ∷ past) past) ≡ tickets past) [ true ↦ refl | false ↦ refl ]
-tickets-step devices past (step.Unplug d) = elim (is_some (plugged_device devices d)) as (λ v. tickets (cond v (Unplug d ∷ past) past) ≡ tickets past) [ true ↦ refl | false ↦ refl ]
-tickets-step devices past (step.Clock to) = refl
-tickets-step devices past (step.Reap ticket) = tickets-reap_of past (reaped_by past ticket)
-tickets-step devices past (step.Refuse d call errno) = refl
+pub tickets-step : (devices : List DeviceState) (clock : ℕ) (past : List Event) (s : KernelStep) → tickets (stepped devices clock past s) ≡ tickets past
+tickets-step devices clock past (step.Packet d e b) = elim (nat_le 128 e && is_some (oldest past d e)) as (λ v. tickets (cond v (Packet d e b ∷ past) past) ≡ tickets past) [ true ↦ refl | false ↦ refl ]
+tickets-step devices clock past (step.Ack d e) = elim (nat_lt e 128 && is_some (oldest past d e)) as (λ v. tickets (cond v (Ack d e ∷ past) past) ≡ tickets past) [ true ↦ refl | false ↦ refl ]
+tickets-step devices clock past (step.Fail d e errno) = elim (is_some (oldest past d e)) as (λ v. tickets (cond v (Fail d e errno ∷ past) past) ≡ tickets past) [ true ↦ refl | false ↦ refl ]
+tickets-step devices clock past (step.Unplug d) = elim (is_some (plugged_device devices d)) as (λ v. tickets (cond v (Unplug d ∷ past) past) ≡ tickets past) [ true ↦ refl | false ↦ refl ]
+tickets-step devices clock past (step.Clock to) = refl
+tickets-step devices clock past step.Timer = tickets-turned clock past
+tickets-step devices clock past (step.Reap ticket) = tickets-reap_of past (reaped_by past ticket)
+tickets-step devices clock past (step.Refuse d call errno) = refl
 
 reapable-within : (past : List Event) (t : ℕ) (o : Option Ticket) (done : Done) → slice_get (tickets past) t ≡ o → reapable past t ≡ Some done → (done.ticket ≡ t) × (t < length (tickets past))
 reapable-within past t None done at some = let no_ : None ≡ Some done = rw at at some in cc

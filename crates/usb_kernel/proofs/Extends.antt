@@ -4,7 +4,7 @@ use Rattle.std.specs.Prelude.{is_some, nat_le, nat_lt, ◌&&◌}
 use Rattle.std.proofs.lemmas.Option.{none-some}
 use Rattle.std.proofs.lemmas.Bool.{cases_Bool, cases_lt}
 use Rattle.usb_kernel.specs.declared.event.Event.{Event}
-use Rattle.usb_kernel.specs.declared.event.Event.TheVariants.{Packet, Ack, Fail, Reap, Unplug}
+use Rattle.usb_kernel.specs.declared.event.Event.TheVariants.{Packet, Ack, Fail, Discard, Reap, Unplug}
 use Rattle.usb_kernel.specs.declared.devices.DeviceState.{DeviceState}
 use Rattle.usb_kernel.specs.declared.step.KernelStep.{KernelStep}
 use Rattle.usb_kernel.specs.declared.step.KernelStep.TheVariants as step
@@ -14,7 +14,8 @@ use Rattle.usb_kernel.specs.Fates.{Fate, finish, reap}
 use Rattle.usb_kernel.specs.Journal.{fate, oldest}
 use Rattle.usb_kernel.specs.Completions.{completion, completion_if, reapable}
 use Rattle.usb_kernel.specs.Devices.{plugged_device}
-use Rattle.usb_kernel.specs.Steps.{stepped, after_reap_of, reaped_by}
+use Rattle.usb_kernel.specs.Steps.{stepped, after_reap_of, reaped_by, after_discard, is_unfinished}
+use Rattle.usb_kernel.specs.Timers.{due, all_discarded, timer_turned}
 use Rattle.usb_kernel.specs.Extends.{Extends}
 use Rattle.usb_kernel.proofs.Final.{reaped_is_final}
 use Rattle.usb_kernel.proofs.Fresh.{fate-fresh}
@@ -35,18 +36,30 @@ extends-reap_of : (past : List Event) (o : Option ℕ) → Extends past (after_r
 extends-reap_of past None = extends-same past
 extends-reap_of past (Some t) = extends-if (is_some (reapable past t)) past (Reap t)
 
-pub extends-step : (devices : List DeviceState) (past : List Event) (s : KernelStep) → Extends past (stepped devices past s)
-extends-step devices past (step.Packet d e b) = extends-if (nat_le 128 e && is_some (oldest past d e)) past (Packet d e b)
-extends-step devices past (step.Ack d e) = extends-if (nat_lt e 128 && is_some (oldest past d e)) past (Ack d e)
-extends-step devices past (step.Fail d e errno) = extends-if (is_some (oldest past d e)) past (Fail d e errno)
-extends-step devices past (step.Unplug d) = extends-if (is_some (plugged_device devices d)) past (Unplug d)
-extends-step devices past (step.Clock to) = extends-same past
-extends-step devices past (step.Reap ticket) = extends-reap_of past (reaped_by past ticket)
-extends-step devices past (step.Refuse d call errno) = extends-same past
-
 pub extends-trans : (a b c : List Event) → Extends a b → Extends b c → Extends a c
 extends-trans a b c first second =
     record { more = second.more ++ first.more; is = second.is ∙ (ap (λ past. second.more ++ past) first.is ∙ sym (append_assoc second.more first.more a)) }
+
+pub extends-discard : (past : List Event) (t : ℕ) → Extends past (after_discard past t)
+extends-discard past t = extends-if (is_unfinished past t) past (Discard t)
+
+pub extends-all_discarded : (past : List Event) (ts : List ℕ) → Extends past (all_discarded past ts)
+extends-all_discarded past [] = extends-same past
+extends-all_discarded past (t ∷ ts) = extends-trans past (after_discard past t) (all_discarded (after_discard past t) ts) (extends-discard past t) (extends-all_discarded (after_discard past t) ts)
+
+pub extends-turned : (clock : ℕ) (past : List Event) → Extends past (timer_turned clock past)
+unfolding timer_turned
+extends-turned clock past = extends-all_discarded past (due past clock)
+
+pub extends-step : (devices : List DeviceState) (clock : ℕ) (past : List Event) (s : KernelStep) → Extends past (stepped devices clock past s)
+extends-step devices clock past (step.Packet d e b) = extends-if (nat_le 128 e && is_some (oldest past d e)) past (Packet d e b)
+extends-step devices clock past (step.Ack d e) = extends-if (nat_lt e 128 && is_some (oldest past d e)) past (Ack d e)
+extends-step devices clock past (step.Fail d e errno) = extends-if (is_some (oldest past d e)) past (Fail d e errno)
+extends-step devices clock past (step.Unplug d) = extends-if (is_some (plugged_device devices d)) past (Unplug d)
+extends-step devices clock past (step.Clock to) = extends-same past
+extends-step devices clock past step.Timer = extends-turned clock past
+extends-step devices clock past (step.Reap ticket) = extends-reap_of past (reaped_by past ticket)
+extends-step devices clock past (step.Refuse d call errno) = extends-same past
 
 -- what each event keeps, stays
 pub kept-along : (Q : List Event → Type 0) → ((past : List Event) (event : Event) → Q past → Q (event ∷ past)) → (old new : List Event) → Extends old new → Q old → Q new

@@ -10,9 +10,9 @@ use Rattle.usb_kernel.specs.declared.event.Event.TheVariants.{Submit, Refuse, Pa
 use Rattle.usb_kernel.specs.declared.slot.Slot.{Slot}
 use Rattle.usb_kernel.specs.declared.submission.Submission.{Submission}
 use Rattle.usb_kernel.specs.Tickets.{Ticket, tickets}
-use Rattle.usb_kernel.specs.Fates.{Fate, fresh, with_packet, with_ack, finish, reap}
+use Rattle.usb_kernel.specs.Fates.{Fate, fresh, refused_fate, with_packet, with_ack, finish, reap}
 use Rattle.usb_kernel.specs.Journal.{fate, oldest_among, at_ticket, at_oldest, echo_comes, ack_comes, taken_of, oldest}
-use Rattle.usb_kernel.specs.Submissions.{ticket_of, submit_event, refused_of, refused_fate, refuse_event}
+use Rattle.usb_kernel.specs.Submissions.{ticket_of, submit_event, refused_of, refuse_event}
 use Rattle.usb_kernel.specs.Rows.{row_of, rows_from, Agrees, HasItsBody, IsRoomy}
 use Rattle.usb_kernel.proofs.TableLemmas.{rows_from-append, rows_from-same, length-rows_from}
 

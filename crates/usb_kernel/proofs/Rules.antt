@@ -7,9 +7,8 @@ use Rattle.usb_kernel.specs.declared.event.Event.{Event}
 use Rattle.usb_kernel.specs.declared.event.Event.TheVariants.{Submit, Refuse, Packet, Ack, Echo, Fail, Discard, Reap, Unplug}
 use Rattle.usb_kernel.specs.declared.event.Body.{Body}
 use Rattle.usb_kernel.specs.Tickets.{Ticket, tickets}
-use Rattle.usb_kernel.specs.Fates.{Fate, fresh, with_packet, with_ack, finish, reap, unplug}
+use Rattle.usb_kernel.specs.Fates.{Fate, fresh, refused_fate, with_packet, with_ack, finish, reap, unplug}
 use Rattle.usb_kernel.specs.Journal.{fate, at_ticket, at_oldest, change, oldest, echo_comes, taken_of}
-use Rattle.usb_kernel.specs.Submissions.{refused_fate}
 use Rattle.usb_kernel.specs.Legal.{IsLegal, IsLawful}
 use Rattle.usb_kernel.proofs.Final.{oldest-unfinished}
 use Rattle.usb_kernel.proofs.Fresh.{fate-fresh}

@@ -1,6 +1,6 @@
 -- The tickets that are finished and not reaped.
-use Rattle.std.proofs.Common.{◌≡◌, ◌≢◌, ◌∙◌, ℕ, ◌+◌, ◌<◌, ◌≤◌, arith, Bool, true, false, cond, List, ◌∷◌, length, Option, Some, None, refl, ap, sym, slice_get, inl, inr}
-use Rattle.std.specs.Prelude.{is_some, is_none, IsSome, ◌==◌, ◌&&◌, not}
+use Rattle.std.proofs.Common.{◌≡◌, ◌≢◌, ◌∙◌, ℕ, ◌+◌, ◌<◌, ◌≤◌, arith, true, false, cond, List, ◌∷◌, length, Option, Some, None, refl, ap, sym, slice_get, inl, inr}
+use Rattle.std.specs.Prelude.{is_some, is_none, IsSome, ◌==◌, not}
 use Rattle.std.proofs.lemmas.Option.{slice_get_within}
 use Rattle.std.proofs.lemmas.Bool.{cases_Bool, cases_eq, eq-eqb, ne_eqb, lt-ltb, and_parts, and_from}
 use Rattle.std.proofs.lemmas.Grind.{common_steps}
@@ -8,7 +8,7 @@ use Rattle.usb_kernel.specs.declared.event.Event.{Event}
 use Rattle.usb_kernel.specs.declared.event.Event.TheVariants.{Submit, Refuse, Packet, Ack, Echo, Fail, Discard, Reap, Unplug}
 use Rattle.usb_kernel.specs.declared.event.Body.{Body}
 use Rattle.usb_kernel.specs.Tickets.{Ticket, tickets}
-use Rattle.usb_kernel.specs.Fates.{Fate, with_packet, with_ack, finish, reap, unplug}
+use Rattle.usb_kernel.specs.Fates.{Fate, waits, with_packet, with_ack, finish, reap, unplug}
 use Rattle.usb_kernel.specs.Journal.{fate, oldest}
 use Rattle.usb_kernel.specs.Completions.{is_reapable, waiting, lowest, reapable, done_if}
 use Rattle.usb_kernel.specs.Steps.{after_discard}
@@ -16,10 +16,6 @@ use Rattle.usb_kernel.specs.Waits.{reaps}
 use Rattle.usb_kernel.proofs.Fresh.{fate-fresh}
 use Rattle.usb_kernel.proofs.Rules.{KeepsAlways, event-keeps-always, at_oldest-keeps, at_ticket-keeps, change-keeps, echo-cases, slice_get-here}
 use Rattle.usb_kernel.proofs.Selections.{without_number, numbers-same, numbers-without, numbers-push_fails, numbers-some, numbers-more, numbers-is_first, numbers-least, length-numbers, length-without}
-
--- whether a fate is finished and not reaped
-abbrev waits : Fate → Bool
-waits f = is_some f.status && not f.reaped
 
 pub waiting-submit : (past : List Event) (t d e m : ℕ) (body : Body) (room : ℕ) (deadline : Option ℕ) → waiting (Submit t d e m body room deadline ∷ past) ≡ waiting past
 waiting-submit past t d e m body room deadline =

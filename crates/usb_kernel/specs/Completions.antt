@@ -1,5 +1,5 @@
 -- The completion of a ticket.
-use Rattle.std.specs.Prelude.{ℕ, Bool, List, length, Option, Some, None, is_some, slice_get, option_and_then, not, map, filter, ◌==◌, ◌&&◌, if◌then◌else◌}
+use Rattle.std.specs.Prelude.{ℕ, Bool, List, length, Option, Some, None, slice_get, option_and_then, map, filter, ◌==◌, if◌then◌else◌}
 use Rattle.std.specs.List.{enumerate_from}
 use Rattle.std.specs.Option.{option_map}
 use Rattle.usb_xfer.specs.BufferState.{BufferState}
@@ -9,9 +9,9 @@ use Rattle.usb_kernel.specs.declared.event.Body.TheVariants.{Wanted, Sent}
 use Rattle.usb_kernel.specs.declared.submission.Done.{Done}
 use Rattle.usb_kernel.specs.declared.submission.Submission.{Submission}
 use Rattle.usb_kernel.specs.Tickets.{Ticket, tickets}
-use Rattle.usb_kernel.specs.Fates.{Fate, count_of, received}
+use Rattle.usb_kernel.specs.Fates.{Fate, refused_fate, waits, count_of, received}
 use Rattle.usb_kernel.specs.Journal.{fate}
-use Rattle.usb_kernel.specs.Submissions.{refused_of, refused_fate}
+use Rattle.usb_kernel.specs.Submissions.{refused_of}
 
 -- the buffer of a ticket: an IN buffer has the received bytes and keeps its requested length, an OUT buffer has the submitted ones and asks for them
 abbrev pub buffer_for : Body → ℕ → List ℕ → BufferState
@@ -26,16 +26,20 @@ done_of t s f errno =
 abbrev pub refused_done : ℕ → Submission → ℕ → Done
 refused_done t s errno = done_of t (refused_of s) (refused_fate errno) errno
 
+-- the completion that a finished ticket has, or will have at its reap
+abbrev pub finished : ℕ → Ticket → Fate → Option Done
+finished t s f = option_map (λ errno. done_of t s f errno) f.status
+
 -- the completion of a ticket that is finished and not reaped
 abbrev pub done_if : ℕ → Fate → Ticket → Option Done
-done_if t f s = if f.reaped then None else option_and_then (λ errno. Some (done_of t s f errno)) f.status
+done_if t f s = if waits f then finished t s f else None
 
 abbrev pub reapable : List Event → ℕ → Option Done
 reapable past t = option_and_then (done_if t (fate past t)) (slice_get (tickets past) t)
 
 -- the tickets that are finished and not reaped, ascending
 abbrev pub is_reapable : (ℕ → Fate) → (ℕ × Ticket) → Bool
-is_reapable fates p = is_some (fates p.0).status && not (fates p.0).reaped
+is_reapable fates p = waits (fates p.0)
 
 abbrev pub waiting : List Event → List ℕ
 waiting past = map (λ p. p.0) (filter (is_reapable (fate past)) (enumerate_from 0 (tickets past)))
@@ -45,7 +49,7 @@ lowest past = slice_get (waiting past) 0
 
 -- the completion of a reaped ticket
 abbrev pub completion_for : ℕ → Ticket → Fate → Option Done
-completion_for t s f = if f.reaped then option_map (λ errno. done_of t s f errno) f.status else None
+completion_for t s f = if f.reaped then finished t s f else None
 
 abbrev pub completion_if : ℕ → Option Ticket → Fate → Option Done
 completion_if t None f = None

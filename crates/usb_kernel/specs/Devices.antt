@@ -2,7 +2,7 @@
 use Rattle.std.specs.Prelude.{ℕ, Bool, true, false, List, [], ◌∷◌, Option, Some, None, find, option_and_then, ◌==◌, if◌then◌else◌}
 use Rattle.usb_kernel.specs.declared.devices.SimDevice.{SimDevice}
 use Rattle.usb_kernel.specs.declared.devices.DeviceState.{DeviceState}
-use Rattle.usb_kernel.specs.Interfaces.{no_interfaces, interfaces_of}
+use Rattle.usb_kernel.specs.Interfaces.{set_of}
 
 -- a device at the start: plugged, with no interface claimed
 abbrev pub fresh_device : (ℕ × SimDevice) → DeviceState
@@ -15,8 +15,8 @@ fresh_device p =
       configuration = p.1.config;
       bytes = p.1.bytes;
       plugged = true;
-      claimed = no_interfaces;
-      bound = interfaces_of p.1.drivers;
+      claimed = [];
+      bound = set_of p.1.drivers;
     }
 
 abbrev pub has_device_number : ℕ → DeviceState → Bool

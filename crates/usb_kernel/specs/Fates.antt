@@ -1,5 +1,5 @@
 -- What can become of one ticket.
-use Rattle.std.specs.Prelude.{ℕ, ◌+◌, ◌*◌, Bool, true, false, List, [], ◌∷◌, ◌++◌, length, min, Option, Some, None, is_none, is_some, ◌==◌, nat_lt, nat_le, ◌||◌, if◌then◌else◌}
+use Rattle.std.specs.Prelude.{ℕ, ◌+◌, ◌*◌, Bool, true, false, List, [], ◌∷◌, ◌++◌, length, min, Option, Some, None, is_none, is_some, ◌==◌, nat_lt, nat_le, not, ◌&&◌, ◌||◌, if◌then◌else◌}
 use Rattle.std.specs.List.{concat}
 use Rattle.usb_kernel.specs.declared.event.Body.{Body}
 use Rattle.usb_kernel.specs.declared.event.Body.TheVariants.{Wanted, Sent}
@@ -14,6 +14,14 @@ pub record Fate : Type 0 where
 
 abbrev pub fresh : Fate
 fresh = record { packets = []; acks = 0; status = None; reaped = false }
+
+-- a refused ticket counts as finished and reaped at once, with no bytes
+abbrev pub refused_fate : ℕ → Fate
+refused_fate errno = record { packets = []; acks = 0; status = Some errno; reaped = true }
+
+-- a ticket waits for its reap: it is finished and not reaped
+abbrev pub waits : Fate → Bool
+waits f = is_some f.status && not f.reaped
 
 -- the bytes of the accepted packets, joined
 abbrev pub received : Fate → List ℕ
@@ -42,7 +50,7 @@ accept s b f =
     let g : Fate = record f { packets = f.packets ++ b ∷ [] } in
     if nat_lt (length b) s.maximum || nat_le (wanted_of s.body) (length (received g)) then finish 0 g else g
 
--- a packet that is longer than the maximum finishes the ticket with 75, and none of its bytes are kept
+-- a packet that is longer than the maximum finishes the ticket with 75 (EOVERFLOW), and none of its bytes are kept
 abbrev pub with_packet : Ticket → List ℕ → Fate → Fate
 with_packet s b f = if nat_lt s.maximum (length b) then finish 75 f else accept s b f
 
@@ -56,6 +64,6 @@ with_ack s f =
 abbrev pub reap : Ticket → Fate → Fate
 reap s f = if is_some f.status then record f { reaped = true } else f
 
--- an unplug finishes the tickets of its device
+-- an unplug finishes the tickets of its device with 108 (ESHUTDOWN)
 abbrev pub unplug : ℕ → Ticket → Fate → Fate
 unplug d s f = if s.device == d then finish 108 f else f

@@ -1,15 +1,17 @@
--- Sets of interface numbers, as one flag for each number below 256.
-use Rattle.std.specs.Prelude.{ℕ, Bool, true, false, List, [], ◌∷◌, set, replicate, slice_get, unwrap_or}
+-- Sets of interface numbers. A set is the list of its numbers, ascending.
+use Rattle.std.specs.Prelude.{ℕ, Bool, List, [], ◌∷◌, filter, not, ◌==◌, nat_lt, if◌then◌else◌}
+use Rattle.std.specs.List.{list_any, fold}
 
--- whether a number is in the set
-abbrev pub is_in : List Bool → ℕ → Bool
-is_in flags number = unwrap_or (slice_get flags number) false
+abbrev pub contains : List ℕ → ℕ → Bool
+contains numbers i = list_any (λ n. n == i) numbers
 
--- the empty set
-unfoldable pub no_interfaces : List Bool
-no_interfaces = replicate 256 false
+abbrev pub insert : List ℕ → ℕ → List ℕ
+insert [] i = i ∷ []
+insert (n ∷ ns) i = if nat_lt i n then i ∷ n ∷ ns else if n == i then n ∷ ns else n ∷ insert ns i
 
--- the set of these numbers
-unfoldable pub interfaces_of : List ℕ → List Bool
-interfaces_of [] = no_interfaces
-interfaces_of (number ∷ numbers) = set (interfaces_of numbers) number true
+abbrev pub remove : List ℕ → ℕ → List ℕ
+remove numbers i = filter (λ n. not (n == i)) numbers
+
+-- the set of these numbers, in whatever order they stand
+abbrev pub set_of : List ℕ → List ℕ
+set_of numbers = fold insert [] numbers

@@ -1,12 +1,12 @@
 -- What a journal makes of its tickets, event by event. A journal is read from its latest event.
-use Rattle.std.specs.Prelude.{ℕ, ◌-◌, take, drop, Bool, true, List, [], ◌∷◌, length, Option, Some, None, is_none, slice_get, map, filter, ◌==◌, ◌&&◌, if◌then◌else◌}
+use Rattle.std.specs.Prelude.{ℕ, ◌-◌, take, drop, Bool, List, [], ◌∷◌, length, Option, Some, None, is_none, slice_get, map, filter, ◌==◌, ◌&&◌, if◌then◌else◌}
 use Rattle.std.specs.List.{enumerate_from}
 use Rattle.usb_kernel.specs.declared.event.Event.{Event}
 use Rattle.usb_kernel.specs.declared.event.Event.TheVariants.{Submit, Refuse, Packet, Ack, Echo, Fail, Discard, Reap, Unplug}
 use Rattle.usb_kernel.specs.declared.event.Body.{Body}
 use Rattle.usb_kernel.specs.declared.event.Body.TheVariants.{Wanted, Sent}
 use Rattle.usb_kernel.specs.Tickets.{Ticket, tickets}
-use Rattle.usb_kernel.specs.Fates.{Fate, fresh, count_of, finish, with_packet, with_ack, reap, unplug}
+use Rattle.usb_kernel.specs.Fates.{Fate, fresh, refused_fate, count_of, finish, with_packet, with_ack, reap, unplug}
 
 -- the open tickets of an endpoint, ascending
 abbrev pub is_open : (ℕ → Fate) → ℕ → ℕ → (ℕ × Ticket) → Bool
@@ -56,7 +56,7 @@ echo_comes (Some t) (Some j) d o i ts fates u = packet_comes d i (taken_of (slic
 abbrev pub after : Event → List Ticket → (ℕ → Fate) → ℕ → Fate
 after (Submit t d e m body room deadline) ts fates u = fates u
 after (Refuse t d e m body room errno) ts fates u =
-    if length ts == u then record { packets = []; acks = 0; status = Some errno; reaped = true } else fates u
+    if length ts == u then refused_fate errno else fates u
 after (Packet d e b) ts fates u = packet_comes d e b ts fates u
 after (Ack d e) ts fates u = ack_comes d e ts fates u
 after (Echo d o i) ts fates u = echo_comes (oldest_among ts fates d o) (oldest_among ts fates d i) d o i ts fates u

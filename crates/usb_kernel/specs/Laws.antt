@@ -13,6 +13,7 @@ use Rattle.usb_kernel.specs.Journal.{fate, oldest, open_tickets, taken_of}
 use Rattle.usb_kernel.specs.Completions.{completion, reapable, waiting, lowest}
 use Rattle.usb_kernel.specs.Submits.{after_submit, after_refuse}
 use Rattle.usb_kernel.specs.Steps.{after_discard, after_reap, stepped}
+use Rattle.usb_kernel.specs.Timers.{timer_turned}
 use Rattle.usb_kernel.specs.Extends.{Extends}
 use Rattle.usb_kernel.specs.Ahead.{IsAhead, IsUntouched}
 use Rattle.usb_kernel.specs.Openings.{IsOtherEndpoint, open_after_service}
@@ -34,7 +35,10 @@ abbrev pub SubmitExtends : Type 0
 SubmitExtends = (devices : List DeviceState) (armed : List Armed) (past : List Event) (s : Submission) → Extends past (after_submit devices armed past s)
 
 abbrev pub StepExtends : Type 0
-StepExtends = (devices : List DeviceState) (past : List Event) (step : KernelStep) → Extends past (stepped devices past step)
+StepExtends = (devices : List DeviceState) (clock : ℕ) (past : List Event) (step : KernelStep) → Extends past (stepped devices clock past step)
+
+abbrev pub TimerExtends : Type 0
+TimerExtends = (clock : ℕ) (past : List Event) → Extends past (timer_turned clock past)
 
 abbrev pub RefuseExtends : Type 0
 RefuseExtends = (past : List Event) (s : Submission) (errno : ℕ) → Extends past (after_refuse past s errno)

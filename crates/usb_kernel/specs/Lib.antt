@@ -4,12 +4,19 @@ pub mod Journal
 pub mod Submissions
 pub mod Completions
 pub mod Interfaces
+pub mod Flags
 pub mod Devices
 pub mod Claims
 pub mod Refusals
+pub mod RefusalsState
+pub mod Queues
 pub mod Submits
 pub mod Value
+pub mod Discards
+pub mod Timers
+pub mod Calls
 pub mod Steps
+pub mod Deadlines
 pub mod Legal
 pub mod Info
 pub mod Rows
@@ -20,3 +27,4 @@ pub mod Ahead
 pub mod Openings
 pub mod Waits
 pub mod Laws
+pub mod ClaimLaws

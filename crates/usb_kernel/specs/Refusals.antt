@@ -3,13 +3,25 @@ use Rattle.std.specs.Prelude.{ℕ, Bool, List, [], ◌∷◌, Option, Some, is_s
 use Rattle.usb_kernel.specs.declared.devices.DeviceState.{DeviceState}
 use Rattle.usb_kernel.specs.declared.step.Armed.{Armed}
 use Rattle.usb_kernel.specs.declared.step.KernelCall.{KernelCall}
-use Rattle.usb_kernel.specs.declared.step.KernelCall.TheVariants.{Submit}
+use Rattle.usb_kernel.specs.declared.step.KernelCall.TheVariants.{OpenDevice, ReadDesc, GetConfig, SetConfig, Reset, Claim, DetachClaim, Detach, Attach, Alt, Halt, Speed, Submit}
 use Rattle.usb_kernel.specs.Submissions.{IsErrno}
 use Rattle.usb_kernel.specs.Devices.{plugged_device}
 
 -- the calls that can be refused, numbered
 abbrev pub call_number : KernelCall → ℕ
-call_number Submit = 0
+call_number OpenDevice = 0
+call_number ReadDesc = 1
+call_number GetConfig = 2
+call_number SetConfig = 3
+call_number Reset = 4
+call_number Claim = 5
+call_number DetachClaim = 6
+call_number Detach = 7
+call_number Attach = 8
+call_number Alt = 9
+call_number Halt = 10
+call_number Speed = 11
+call_number Submit = 12
 
 -- whether a refusal is armed for a call on a device
 abbrev pub is_armed_for : ℕ → KernelCall → Armed → Bool

@@ -23,6 +23,7 @@ row_of s f =
       refused = s.refused;
       count = count_of s f;
       status = f.status;
+      deadline = s.deadline;
       buffer = if f.reaped then None else Some (buffer_for s.body s.capacity (received f));
     }
 

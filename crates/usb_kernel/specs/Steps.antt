@@ -1,17 +1,18 @@
 -- What a step makes of a kernel. A step with nothing to act on leaves no event.
-use Rattle.std.specs.Prelude.{ℕ, ◌-◌, Bool, List, [], ◌∷◌, ◌++◌, length, max, Option, Some, None, is_none, is_some, nat_le, nat_lt, ◌&&◌, if◌then◌else◌}
+pub use Rattle.usb_kernel.specs.Discards.{is_unfinished, after_discard}
+use Rattle.std.specs.Prelude.{ℕ, ◌-◌, List, [], ◌∷◌, ◌++◌, max, Option, Some, None, is_some, nat_le, nat_lt, ◌&&◌, if◌then◌else◌}
 use Rattle.usb_kernel.specs.declared.event.Event.{Event}
-use Rattle.usb_kernel.specs.declared.event.Event.TheVariants.{Packet, Ack, Fail, Discard, Reap, Unplug}
+use Rattle.usb_kernel.specs.declared.event.Event.TheVariants.{Packet, Ack, Fail, Reap, Unplug}
 use Rattle.usb_kernel.specs.declared.devices.DeviceState.{DeviceState}
 use Rattle.usb_kernel.specs.declared.submission.Done.{Done}
 use Rattle.usb_kernel.specs.declared.step.Armed.{Armed}
 use Rattle.usb_kernel.specs.declared.step.KernelStep.{KernelStep}
 use Rattle.usb_kernel.specs.declared.step.KernelStep.TheVariants as step
-use Rattle.usb_kernel.specs.Tickets.{tickets}
-use Rattle.usb_kernel.specs.Journal.{fate, oldest}
+use Rattle.usb_kernel.specs.Journal.{oldest}
 use Rattle.usb_kernel.specs.Submissions.{IsErrno}
 use Rattle.usb_kernel.specs.Completions.{reapable, lowest}
 use Rattle.usb_kernel.specs.Devices.{plugged_device, devices_unplugged}
+use Rattle.usb_kernel.specs.Timers.{timer_turned}
 use Rattle.usb_kernel.specs.Value.{KernelState}
 
 -- a packet goes to the oldest IN ticket of its endpoint
@@ -34,13 +35,6 @@ after_unplug devices past d = if is_some (plugged_device devices d) then Unplug 
 abbrev pub after_reap : List Event → ℕ → List Event
 after_reap past t = if is_some (reapable past t) then Reap t ∷ past else past
 
--- a discard is of a ticket that is not finished
-abbrev pub is_unfinished : List Event → ℕ → Bool
-is_unfinished past t = nat_lt t (length (tickets past)) && is_none (fate past t).status
-
-abbrev pub after_discard : List Event → ℕ → List Event
-after_discard past t = if is_unfinished past t then Discard t ∷ past else past
-
 -- a step that reaps names its ticket, or takes the lowest that is finished and not reaped
 abbrev pub reaped_by : List Event → Option ℕ → Option ℕ
 reaped_by past None = lowest past
@@ -55,14 +49,15 @@ reapable_of past None = None
 reapable_of past (Some t) = reapable past t
 
 -- the journal after a step
-abbrev pub stepped : List DeviceState → List Event → KernelStep → List Event
-stepped devices past (step.Packet d e b) = after_packet past d e b
-stepped devices past (step.Ack d e) = after_ack past d e
-stepped devices past (step.Fail d e errno) = after_fail past d e errno
-stepped devices past (step.Unplug d) = after_unplug devices past d
-stepped devices past (step.Clock to) = past
-stepped devices past (step.Reap ticket) = after_reap_of past (reaped_by past ticket)
-stepped devices past (step.Refuse d call errno) = past
+abbrev pub stepped : List DeviceState → ℕ → List Event → KernelStep → List Event
+stepped devices clock past (step.Packet d e b) = after_packet past d e b
+stepped devices clock past (step.Ack d e) = after_ack past d e
+stepped devices clock past (step.Fail d e errno) = after_fail past d e errno
+stepped devices clock past (step.Unplug d) = after_unplug devices past d
+stepped devices clock past (step.Clock to) = past
+stepped devices clock past step.Timer = timer_turned clock past
+stepped devices clock past (step.Reap ticket) = after_reap_of past (reaped_by past ticket)
+stepped devices clock past (step.Refuse d call errno) = past
 
 -- a step gives a completion exactly at a reap that acts
 abbrev pub step_done : List Event → KernelStep → Option Done
@@ -88,7 +83,7 @@ armed_stepped armed _ = armed
 abbrev pub after_step : KernelState → KernelStep → KernelState
 after_step k s =
     record {
-      past = stepped k.devices k.past s;
+      past = stepped k.devices k.clock k.past s;
       devices = devices_stepped k.devices s;
       clock = clock_stepped k.clock s;
       armed = armed_stepped k.armed s;

@@ -1,5 +1,5 @@
 -- What a submission is as an event and as a ticket.
-use Rattle.std.specs.Prelude.{ℕ, ◌+◌, ◌*◌, ◌≤◌, ◌≡◌, true, false, [], Some, None, nat_le, if◌then◌else◌}
+use Rattle.std.specs.Prelude.{ℕ, ◌+◌, ◌*◌, ◌≤◌, ◌≡◌, true, false, None, nat_le, if◌then◌else◌}
 use Rattle.usb_xfer.specs.BufferState.{BufferState}
 use Rattle.usb_kernel.specs.declared.event.Event.{Event}
 use Rattle.usb_kernel.specs.declared.event.Event.TheVariants.{Submit, Refuse}
@@ -7,7 +7,6 @@ use Rattle.usb_kernel.specs.declared.event.Body.{Body}
 use Rattle.usb_kernel.specs.declared.event.Body.TheVariants.{Wanted, Sent}
 use Rattle.usb_kernel.specs.declared.submission.Submission.{Submission}
 use Rattle.usb_kernel.specs.Tickets.{Ticket}
-use Rattle.usb_kernel.specs.Fates.{Fate}
 
 -- an IN endpoint, which has bit 7, wants a length. An OUT endpoint sends bytes
 abbrev pub body_of : ℕ → BufferState → Body
@@ -34,13 +33,13 @@ ticket_of s =
 abbrev pub refused_of : Submission → Ticket
 refused_of s = record (ticket_of s) { refused = true; deadline = None }
 
--- a refused ticket counts as finished and reaped at once, with no bytes
-abbrev pub refused_fate : ℕ → Fate
-refused_fate errno = record { packets = []; acks = 0; status = Some errno; reaped = true }
+-- an IN transfer wants its maximum, or a multiple of it that is not 0
+abbrev pub WantsWhole : ℕ → Body → Type 0
+WantsWhole m (Wanted n) = (more : ℕ) × ((more + 1) * m ≡ n)
+WantsWhole m (Sent bytes) = Unit {0}
 
--- an IN endpoint is asked for its maximum, or for a multiple of it that is not 0
 abbrev pub IsWhole : Submission → Type 0
-IsWhole s = 128 ≤ s.endpoint → (more : ℕ) × ((more + 1) * s.maximum ≡ s.buffer.requested)
+IsWhole s = WantsWhole s.maximum (body_of s.endpoint s.buffer)
 
 -- the numbers of errors
 abbrev pub IsErrno : ℕ → Type 0

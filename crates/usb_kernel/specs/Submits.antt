@@ -11,6 +11,7 @@ use Rattle.usb_kernel.specs.Tickets.{tickets}
 use Rattle.usb_kernel.specs.Submissions.{submit_event, refuse_event}
 use Rattle.usb_kernel.specs.Completions.{refused_done}
 use Rattle.usb_kernel.specs.Refusals.{call_refusal, armed_left}
+use Rattle.usb_kernel.specs.Value.{KernelState}
 
 -- the errno with which a submission to a device is refused: 19 where it is not plugged, else that of an armed refusal
 abbrev pub submit_refusal : List DeviceState → List Armed → ℕ → Option ℕ
@@ -35,12 +36,23 @@ after_submit devices armed past s = submit_or_refuse (length (tickets past)) s (
 abbrev pub armed_after_submit : List DeviceState → List Armed → Submission → List Armed
 armed_after_submit devices armed s = armed_left devices armed s.device call.Submit
 
+-- the kernel after a submission
+abbrev pub kernel_submitted : KernelState → Submission → KernelState
+kernel_submitted k s =
+    record k {
+      past = after_submit k.devices k.armed k.past s;
+      armed = armed_after_submit k.devices k.armed s;
+    }
+
 -- a submission that is refused whatever the device is
 abbrev pub refuse_result : List Event → Submission → ℕ → Submitted
 refuse_result past s errno = Refused (refused_done (length (tickets past)) s errno)
 
 abbrev pub after_refuse : List Event → Submission → ℕ → List Event
 after_refuse past s errno = refuse_event (length (tickets past)) s errno ∷ past
+
+abbrev pub kernel_refused : KernelState → Submission → ℕ → KernelState
+kernel_refused k s errno = record k { past = after_refuse k.past s errno }
 
 -- the number that a submission got
 abbrev pub number_of : Submitted → ℕ

@@ -38,13 +38,21 @@ impl Bytes {
         }
     }
 
-    /// The same bytes once more.
-    pub fn clone(&self, alloc: Global) -> Result<Bytes, NoMemory>
-        ensures copy { IfOk result (λ b. b ≡ self.now) }
+    /// The bytes, given back.
+    pub fn into_vec(self) -> Vec<u8>
+        ensures bytes { result.items ≡ self }
     {
-        Bytes::from_slice(alloc, self.as_slice())
+        self.items
     }
 
+    /// The same bytes once more.
+    pub fn clone(&self) -> Result<Bytes, NoMemory>
+        ensures copy { IfOk result (λ b. b ≡ self.now) }
+    {
+        Bytes::from_slice(*self.items.allocator(), self.as_slice())
+    }
+
+    /// The bytes.
     pub fn as_slice(&self) -> &[u8]
         ensures bytes { result.now ≡ self.now }
     {

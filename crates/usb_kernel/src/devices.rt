@@ -1,16 +1,18 @@
 //! Simulated devices.
 
-ghost use Rattle.std.specs.Prelude.{◌≡◌, ◌+◌, ◌<◌, map, IfOk, position, find, option_copied, is_some};
+ghost use Rattle.std.specs.Prelude.{◌≡◌, ◌+◌, ◌<◌, map, IfOk, OnOk, OnErr, position, find, option_copied, is_some};
 ghost use Rattle.usb_kernel.specs.Devices.{fresh_device, has_device_number, device_of, if_plugged, plugged_device, unplugged, devices_unplugged};
-ghost use Rattle.usb_kernel.specs.Claims.{is_at, open_result, result_by, has_interface, claim_rows, claim_result, with_claim, after_claim, release_rows, release_result, without_claim, after_release};
+ghost use Rattle.usb_kernel.specs.Claims.{is_at, open_result, result_by, has_interface, claim_rows, claim_result, with_claim, after_claim, no_rows, release_result, without_claim, after_release};
 
 use crate::bytes::Bytes;
+use crate::errno;
 use crate::interfaces::InterfaceSet;
 use std::alloc::Global;
 use usb_desc::{NoMemory, find_configuration};
 
-/// A simulated device: its place on a bus, its speed's code, the value of its active configuration, its descriptors (the device
-/// descriptor, then its configurations, USB 2.0, 9.6), and the numbers of the interfaces that have a kernel driver.
+/// A simulated device: its place on a bus, its speed's code, the value of its active configuration,
+/// its descriptors (the device descriptor, then its configurations, USB 2.0, 9.6), and the numbers
+/// of the interfaces that have a kernel driver.
 #[derive(Drop)]
 pub struct SimDevice {
     pub bus: u8,
@@ -69,10 +71,10 @@ impl DeviceState {
         ensures errno { result ≡ claim_rows interface self.now }
     {
         if !self.has_interface(interface) {
-            return Some(2);
+            return Some(errno::NOENT);
         }
         if self.claimed.contains(interface) || self.bound.contains(interface) {
-            return Some(16);
+            return Some(errno::BUSY);
         }
         None
     }
@@ -80,10 +82,11 @@ impl DeviceState {
     /// Claims an interface.
     fn claim(&mut self, interface: u8) -> Result<(), u16>
         ensures result { result ≡ result_by (claim_rows interface) (if_plugged self.old) }
-        ensures device { self.new ≡ with_claim interface self.old }
+        ensures ok { OnOk result (self.new ≡ with_claim interface self.old) }
+        ensures err { OnErr result (self.new ≡ self.old) }
     {
         if !self.plugged {
-            return Err(19);
+            return Err(errno::NODEV);
         }
         if let Some(errno) = self.claim_refusal(interface) {
             return Err(errno);
@@ -94,11 +97,15 @@ impl DeviceState {
 
     /// Ends the claim of an interface. The answer is errno 19 where the device is unplugged.
     fn release(&mut self, interface: u8) -> Result<(), u16>
-        ensures result { result ≡ result_by release_rows (if_plugged self.old) }
+        ensures result { result ≡ result_by no_rows (if_plugged self.old) }
         ensures device { self.new ≡ without_claim interface self.old }
     {
         self.claimed.remove(interface);
-        if self.plugged { Ok(()) } else { Err(19) }
+        if self.plugged {
+            Ok(())
+        } else {
+            Err(errno::NODEV)
+        }
     }
 
     /// Pulls it out. It answers whether it was plugged.
@@ -169,7 +176,7 @@ pub(crate) fn number_at(devices: &[DeviceState], bus: u8, address: u8) -> Result
 {
     match first_at(devices, bus, address) {
         Some(device) => Ok(device.number),
-        None => Err(2),
+        None => Err(errno::NOENT),
     }
 }
 
@@ -183,7 +190,7 @@ pub(crate) fn claim_interface(
     ensures devices { devices.new.items ≡ after_claim devices.old.items number interface }
 {
     let Some(at) = place_of(devices, number) else {
-        return Err(19);
+        return Err(errno::NODEV);
     };
     let device = &mut devices[at];
     device.claim(interface)
@@ -199,7 +206,7 @@ pub(crate) fn release_interface(
     ensures devices { devices.new.items ≡ after_release devices.old.items number interface }
 {
     let Some(at) = place_of(devices, number) else {
-        return Err(19);
+        return Err(errno::NODEV);
     };
     let device = &mut devices[at];
     device.release(interface)

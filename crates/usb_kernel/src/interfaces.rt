@@ -1,7 +1,7 @@
 //! Sets of interface numbers.
 
-ghost use Rattle.std.specs.Prelude.{◌≡◌, set, true, false};
-ghost use Rattle.usb_kernel.specs.Interfaces.{is_in, no_interfaces, interfaces_of};
+ghost use Rattle.std.specs.Prelude.{◌≡◌, []};
+ghost use Rattle.usb_kernel.specs.Interfaces.{contains, insert, remove, set_of};
 
 use std::marker::Model;
 
@@ -12,17 +12,18 @@ pub struct InterfaceSet {
 }
 
 impl Model for InterfaceSet {
-    ghost use Rattle.std.specs.Prelude.{Bool, List};
+    ghost use Rattle.std.specs.Prelude.{ℕ, List};
+    ghost use Rattle.usb_kernel.specs.Flags.{numbers_from};
 
-    ghost Value = { List Bool };
+    ghost Value = { List ℕ };
 
-    ghost view = { λ s. s.flags };
+    ghost view = { λ s. numbers_from 0 s.flags };
 }
 
 impl InterfaceSet {
     /// The empty set.
     pub fn new() -> InterfaceSet
-        ensures none { result ≡ no_interfaces }
+        ensures none { result ≡ [] }
     {
         InterfaceSet {
             flags: [false; 256],
@@ -31,7 +32,7 @@ impl InterfaceSet {
 
     /// The set of these numbers.
     pub fn from_slice(numbers: &[u8]) -> InterfaceSet
-        ensures numbers { result ≡ interfaces_of numbers.now }
+        ensures numbers { result ≡ set_of numbers.now }
     {
         let mut interfaces = InterfaceSet::new();
         for number in numbers {
@@ -40,20 +41,23 @@ impl InterfaceSet {
         interfaces
     }
 
+    /// Whether a number is in the set.
     pub fn contains(&self, number: u8) -> bool
-        ensures contains { result ≡ is_in self.now number }
+        ensures contains { result ≡ contains self.now number }
     {
         self.flags[number as usize]
     }
 
+    /// Puts a number in. One that is there stays there.
     pub fn insert(&mut self, number: u8)
-        ensures flags { self.new ≡ set self.old number true }
+        ensures numbers { self.new ≡ insert self.old number }
     {
         self.flags[number as usize] = true;
     }
 
+    /// Takes a number out, if it is there.
     pub fn remove(&mut self, number: u8)
-        ensures flags { self.new ≡ set self.old number false }
+        ensures numbers { self.new ≡ remove self.old number }
     {
         self.flags[number as usize] = false;
     }

@@ -1,6 +1,6 @@
 //! The kernel: devices, tickets and a journal.
 
-ghost use Rattle.std.specs.Prelude.{◌≡◌, ℕ, ◌+◌, ◌*◌, ◌^◌, ◌<◌, ◌≤◌, ◌++◌, ◌∷◌, [], length, map, max, reverse, IsSome, vec_len, vec_capacity, Some, OnOk, OnErr, IfOk, IfErr};
+ghost use Rattle.std.specs.Prelude.{◌≡◌, ℕ, ◌+◌, ◌*◌, ◌^◌, ◌<◌, ◌≤◌, ◌++◌, ◌∷◌, [], length, map, max, reverse, IsSome, vec_len, vec_capacity, Some, OnOk, OnErr, IfOk, IfErr, IfSome};
 ghost use Rattle.usb_desc.specs.declared.types.TransferType.{TransferType};
 ghost use Rattle.usb_kernel.specs.Tickets.{tickets};
 ghost use Rattle.usb_kernel.specs.Submissions.{submit_event, IsWhole, IsErrno};
@@ -8,37 +8,46 @@ ghost use Rattle.usb_kernel.specs.Legal.{IsLegal, IsLawful};
 ghost use Rattle.usb_kernel.specs.Completions.{reapable, lowest};
 ghost use Rattle.usb_kernel.specs.Devices.{fresh_device, devices_unplugged};
 ghost use Rattle.usb_kernel.specs.Claims.{open_result, descriptors_result, configuration_result, claim_result, after_claim, release_result, after_release, clear_halt_result};
-ghost use Rattle.usb_kernel.specs.Submits.{submit_result, after_submit, armed_after_submit, refuse_result, after_refuse, number_of};
+ghost use Rattle.usb_kernel.specs.Submits.{submit_refusal, submit_result, after_submit, armed_after_submit, refuse_result, after_refuse, number_of};
 ghost use Rattle.usb_kernel.specs.Steps.{after_packet, after_ack, after_fail, after_unplug, after_reap, after_discard, reaped_by, after_reap_of, reapable_of, stepped, step_done, devices_stepped, clock_stepped, armed_stepped, HasErrno};
+ghost use Rattle.usb_kernel.specs.Timers.{timer_turned};
 ghost use Rattle.usb_kernel.specs.Info.{info_of, unreaped};
+ghost use Rattle.std.specs.Borrow.{sem};
+ghost use Rattle.std.specs.Io.BufRead.{Rests};
+ghost use Rattle.usb_kernel.specs.contracts.kernel.Kernel.{the_row};
 
 use crate::bytes::Bytes;
 use crate::devices::{
     DeviceState, SimDevice, claim_interface, fresh_devices, number_at, plugged, release_interface,
     unplug_device,
 };
+use crate::errno;
 use crate::event::Event;
-use crate::refusals::{arm, armed_for, disarm};
+use crate::journal::put;
+use crate::refusals::Refusals;
 use crate::slot::Slot;
 use crate::step::{Armed, KernelCall, KernelStep};
 use crate::submission::{Done, Submission, Submitted, TicketInfo};
 use crate::table::{
-    add, add_refused, drop_open, fail_oldest, first_number, forget_place, give_ack, give_packet,
-    info_at, push_place, take_finished, unplug_tickets,
+    add, add_refused, fail_oldest, first_number, forget_place, give_ack, give_packet, info_at,
+    push_place, take_finished, unplug_tickets,
 };
+use crate::timer::{add_deadline, deadline_of, discard_due, discard_ticket, forget_deadline};
 use std::alloc::Global;
+use std::collections::BTreeSet;
 use std::marker::Model;
 use usb_desc::NoMemory;
 
-/// A simulated kernel. It keeps its events in a journal, and beside it the table of tickets that the journal means, and the places of
-/// the tickets that are not reaped, ascending.
+/// A simulated kernel. It keeps its events in a journal, and beside it the table of tickets that
+/// the journal means, and the places of the tickets that are not reaped, ascending.
 #[derive(Drop)]
 pub struct Kernel {
     journal: Vec<Event>,
     tickets: Vec<Slot>,
     devices: Vec<DeviceState>,
     clock: u64,
-    armed: Vec<Armed>,
+    armed: Refusals,
+    deadlines: BTreeSet<(u64, u64)>,
     spare: usize,
     owed: usize,
     unreaped: Vec<usize>,
@@ -50,32 +59,18 @@ impl Model for Kernel {
 
     ghost Value = { KernelState };
 
-    ghost view = { λ k. record { past = reverse k.journal.items; devices = k.devices.items; clock = k.clock; armed = k.armed.items; spare = k.spare } };
+    ghost view = { λ k.
+        record {
+          past = reverse k.journal.items;
+          devices = k.devices.items;
+          clock = k.clock;
+          armed = k.armed.armed;
+          spare = k.spare;
+        } };
 
     ghost use Rattle.usb_kernel.specs.KernelFacts.{IsKept};
 
     ghost invariant = { IsKept };
-}
-
-/// Appends an event for which there is room.
-fn push_event(journal: &mut Vec<Event>, event: Event)
-    requires room { vec_len journal.old < vec_capacity journal.old }
-    ensures items { reverse journal.new.items ≡ event ∷ reverse journal.old.items }
-    ensures len { vec_len journal.new ≡ vec_len journal.old + 1 }
-    ensures capacity { vec_capacity journal.old ≤ vec_capacity journal.new }
-{
-    let _ = journal.push(event);
-}
-
-/// The same. A lawful journal stays lawful.
-fn put(journal: &mut Vec<Event>, event: Event)
-    requires room { vec_len journal.old < vec_capacity journal.old }
-    ensures items { reverse journal.new.items ≡ event ∷ reverse journal.old.items }
-    ensures lawful { IsLegal event → IsLawful (reverse journal.old.items) → IsLawful (reverse journal.new.items) }
-    ensures len { vec_len journal.new ≡ vec_len journal.old + 1 }
-    ensures capacity { vec_capacity journal.old ≤ vec_capacity journal.new }
-{
-    push_event(journal, event);
 }
 
 /// Makes room for these places and three more, and for four places per ticket with one more ticket.
@@ -104,7 +99,8 @@ fn make_room(journal: &mut Vec<Event>, places: usize, count: usize) -> Result<()
 }
 
 impl Kernel {
-    /// A kernel with these devices, by number, no event, clock 0 and no armed refusal. Where two devices share a number the first counts.
+    /// A kernel with these devices, by number, no event, clock 0 and no armed refusal. Where two
+    /// devices share a number the first counts.
     pub fn new(alloc: Global, devices: Vec<(u8, SimDevice)>) -> Result<Kernel, NoMemory>
         ensures past { IfOk result (λ kernel. kernel.past ≡ []) }
         ensures devices { IfOk result (λ kernel. kernel.devices ≡ map fresh_device devices.items) }
@@ -118,7 +114,8 @@ impl Kernel {
             tickets: Vec::new(alloc),
             devices,
             clock: 0,
-            armed: Vec::new(alloc),
+            armed: Refusals::new(alloc)?,
+            deadlines: BTreeSet::new(alloc),
             spare: 0,
             owed: 0,
             unreaped: Vec::new(alloc),
@@ -187,28 +184,34 @@ impl Kernel {
         Ok(())
     }
 
-    /// A submission becomes the next ticket, which is refused with 19 where no plugged device has the number, and else by the first
-    /// refusal that is armed for it, which is used up. An `Err` is want of memory, and then nothing has changed.
+    /// A submission becomes the next ticket, which is refused with 19 where no plugged device has
+    /// the number, and else by the first refusal that is armed for it, which is used up. An `Err`
+    /// is want of memory, and then nothing has changed.
     pub fn submit(&mut self, s: Submission) -> Result<Submitted, Submission>
         requires whole { IsWhole s }
         requires deadline { IsSome s.deadline → s.kind ≡ TransferType.Control }
-        ensures submitted { IfOk result (λ r. r ≡ submit_result self.old.devices self.old.armed self.old.past s) }
+        ensures submitted { IfOk result
+            (λ r. r ≡ submit_result self.old.devices self.old.armed self.old.past s) }
         ensures number { IfOk result (λ r. 4 * number_of r + 3 < 2 ^ 64) }
-        ensures past { OnOk result (self.new.past ≡ after_submit self.old.devices self.old.armed self.old.past s) }
-        ensures armed { OnOk result (self.new.armed ≡ armed_after_submit self.old.devices self.old.armed s) }
+        ensures past { OnOk result
+            (self.new.past ≡ after_submit self.old.devices self.old.armed self.old.past s) }
+        ensures armed { OnOk result
+            (self.new.armed ≡ armed_after_submit self.old.devices self.old.armed s) }
+        ensures known { OnOk result
+            (IfSome (submit_refusal self.old.devices self.old.armed s.device) IsErrno) }
         ensures rest { self.new ≡ record self.old { past = self.new.past; armed = self.new.armed } }
         ensures err { OnErr result (self.new ≡ self.old) }
         ensures back { IfErr result (λ back. back ≡ s) }
     {
         if plugged(&self.devices, s.device).is_none() {
-            return self.refuse(s, 19);
+            return self.refuse(s, errno::NODEV);
         }
         let device = s.device;
-        match armed_for(&self.armed, device, KernelCall::Submit) {
+        match self.armed.errno(device, KernelCall::Submit) {
             None => self.queue(s),
             Some(errno) => {
                 let submitted = self.refuse(s, errno)?;
-                disarm(&mut self.armed, device, KernelCall::Submit);
+                self.armed.disarm(device, KernelCall::Submit);
                 Ok(submitted)
             }
         }
@@ -217,9 +220,11 @@ impl Kernel {
     /// A submission becomes the next ticket.
     fn queue(&mut self, s: Submission) -> Result<Submitted, Submission>
         requires whole { IsWhole s }
-        ensures submitted { IfOk result (λ r. r ≡ Submitted.Queued (length (tickets self.old.past))) }
+        ensures submitted { IfOk result
+            (λ r. r ≡ Submitted.Queued (length (tickets self.old.past))) }
         ensures number { IfOk result (λ r. 4 * number_of r + 3 < 2 ^ 64) }
-        ensures past { OnOk result (self.new.past ≡ submit_event (length (tickets self.old.past)) s ∷ self.old.past) }
+        ensures past { OnOk result
+            (self.new.past ≡ submit_event (length (tickets self.old.past)) s ∷ self.old.past) }
         ensures rest { self.new ≡ record self.old { past = self.new.past } }
         ensures err { OnErr result (self.new ≡ self.old) }
         ensures back { IfErr result (λ back. back ≡ s) }
@@ -239,6 +244,10 @@ impl Kernel {
         let maximum = s.maximum;
         let capacity = s.buffer.capacity();
         let deadline = s.deadline;
+        let next = self.tickets.len() as u64;
+        let Ok(()) = add_deadline(&mut self.deadlines, deadline, next) else {
+            return Err(s);
+        };
         let ticket = add(&mut self.tickets, s);
         push_place(&mut self.unreaped, ticket as usize);
         self.owed += 2;
@@ -257,7 +266,8 @@ impl Kernel {
         Ok(Submitted::Queued(ticket))
     }
 
-    /// A submission becomes the next ticket, and is refused at once. An `Err` is want of memory, and then nothing has changed.
+    /// A submission becomes the next ticket, and is refused at once. An `Err` is want of memory,
+    /// and then nothing has changed.
     pub fn refuse(&mut self, s: Submission, errno: u16) -> Result<Submitted, Submission>
         requires errno { IsErrno errno }
         ensures submitted { IfOk result (λ r. r ≡ refuse_result self.old.past s errno) }
@@ -302,7 +312,7 @@ impl Kernel {
     pub fn step(&mut self, step: KernelStep) -> Option<Done>
         requires spare { 1 ≤ self.old.spare }
         requires errno { HasErrno step }
-        ensures past { self.new.past ≡ stepped self.old.devices self.old.past step }
+        ensures past { self.new.past ≡ stepped self.old.devices self.old.clock self.old.past step }
         ensures done { result ≡ step_done self.old.past step }
         ensures devices { self.new.devices ≡ devices_stepped self.old.devices step }
         ensures clock { self.new.clock ≡ clock_stepped self.old.clock step }
@@ -323,6 +333,7 @@ impl Kernel {
             } => self.fail(device, endpoint, errno),
             KernelStep::Unplug { device } => self.unplug(device),
             KernelStep::Clock { to } => self.clock(to),
+            KernelStep::Timer => self.timer(),
             KernelStep::Reap { ticket } => return self.reap_step(ticket),
             KernelStep::Refuse {
                 device,
@@ -406,7 +417,8 @@ impl Kernel {
         ensures past { self.new.past ≡ after_unplug self.old.devices self.old.past device }
         ensures devices { self.new.devices ≡ devices_unplugged self.old.devices device }
         ensures spare { self.new.spare + 1 ≡ self.old.spare }
-        ensures rest { self.new ≡ record self.old { past = self.new.past; devices = self.new.devices; spare = self.new.spare } }
+        ensures rest { self.new ≡ record self.old
+            { past = self.new.past; devices = self.new.devices; spare = self.new.spare } }
     {
         self.spare -= 1;
         if unplug_device(&mut self.devices, device) {
@@ -420,10 +432,22 @@ impl Kernel {
         requires spare { 1 ≤ self.old.spare }
         ensures clock { self.new.clock ≡ max self.old.clock to }
         ensures spare { self.new.spare + 1 ≡ self.old.spare }
-        ensures rest { self.new ≡ record self.old { clock = self.new.clock; spare = self.new.spare } }
+        ensures rest { self.new
+            ≡ record self.old { clock = self.new.clock; spare = self.new.spare } }
     {
         self.spare -= 1;
         self.idle(to);
+    }
+
+    /// The timer has its turn.
+    fn timer(&mut self)
+        requires spare { 1 ≤ self.old.spare }
+        ensures past { self.new.past ≡ timer_turned self.old.clock self.old.past }
+        ensures spare { self.new.spare + 1 ≡ self.old.spare }
+        ensures rest { self.new ≡ record self.old { past = self.new.past; spare = self.new.spare } }
+    {
+        self.spare -= 1;
+        self.timer_turn();
     }
 
     /// Arms a refusal.
@@ -432,13 +456,15 @@ impl Kernel {
         requires errno { IsErrno refusal.errno }
         ensures armed { self.new.armed ≡ self.old.armed ++ refusal ∷ [] }
         ensures spare { self.new.spare + 1 ≡ self.old.spare }
-        ensures rest { self.new ≡ record self.old { armed = self.new.armed; spare = self.new.spare } }
+        ensures rest { self.new
+            ≡ record self.old { armed = self.new.armed; spare = self.new.spare } }
     {
         self.spare -= 1;
-        arm(&mut self.armed, refusal);
+        self.armed.arm(refusal);
     }
 
-    /// The ticket that a step reaps: the one that is named, or the lowest that is finished and not reaped.
+    /// The ticket that a step reaps: the one that is named, or the lowest that is finished and not
+    /// reaped.
     fn ticket_to_reap(&self, ticket: Option<u64>) -> Option<u64>
         ensures ticket { result ≡ reaped_by self.now.past ticket }
     {
@@ -452,7 +478,8 @@ impl Kernel {
     /// The step that reaps.
     fn reap_step(&mut self, ticket: Option<u64>) -> Option<Done>
         requires spare { 1 ≤ self.old.spare }
-        ensures past { self.new.past ≡ after_reap_of self.old.past (reaped_by self.old.past ticket) }
+        ensures past { self.new.past
+            ≡ after_reap_of self.old.past (reaped_by self.old.past ticket) }
         ensures done { result ≡ reapable_of self.old.past (reaped_by self.old.past ticket) }
         ensures spare { self.new.spare + 1 ≡ self.old.spare }
         ensures rest { self.new ≡ record self.old { past = self.new.past; spare = self.new.spare } }
@@ -467,10 +494,22 @@ impl Kernel {
         ensures past { self.new.past ≡ after_discard self.old.past ticket }
         ensures rest { self.new ≡ record self.old { past = self.new.past } }
     {
-        if drop_open(&mut self.tickets, ticket) {
-            self.owed -= 1;
-            put(&mut self.journal, Event::Discard { ticket });
-        }
+        self.owed -= discard_ticket(&mut self.journal, &mut self.tickets, ticket);
+    }
+
+    /// The turn of the timer: it discards the tickets that are not finished and whose deadline is
+    /// at most the clock, in the order of their deadlines and then of their numbers. It takes no
+    /// memory.
+    pub fn timer_turn(&mut self)
+        ensures past { self.new.past ≡ timer_turned self.old.clock self.old.past }
+        ensures rest { self.new ≡ record self.old { past = self.new.past } }
+    {
+        self.owed -= discard_due(
+            &mut self.journal,
+            &mut self.tickets,
+            &mut self.deadlines,
+            self.clock,
+        );
     }
 
     /// The completion of a ticket that is finished and not reaped.
@@ -481,6 +520,8 @@ impl Kernel {
     {
         let done = take_finished(&mut self.tickets, ticket)?;
         forget_place(&mut self.unreaped, ticket);
+        let deadline = deadline_of(&self.tickets, ticket);
+        forget_deadline(&mut self.deadlines, deadline, ticket);
         self.owed -= 1;
         put(&mut self.journal, Event::Reap { ticket });
         Some(done)
@@ -495,18 +536,22 @@ impl Kernel {
     }
 
     /// The descriptors of a device, else errno 19.
-    pub fn read_descriptors(&self, device: u8) -> Result<&[u8], u16>
-        ensures bytes { IfOk result (λ bytes. descriptors_result self.now.devices device ≡ Ok bytes.now) }
-        ensures err { IfErr result (λ errno. descriptors_result self.now.devices device ≡ Err errno) }
+    pub fn read_descriptors(&mut self, device: u8) -> Result<&[u8], u16>
+        ensures bytes { IfOk result
+            (λ bytes. descriptors_result self.old.devices device ≡ Ok bytes.now) }
+        ensures err { IfErr result
+            (λ errno. descriptors_result self.old.devices device ≡ Err errno) }
+        ensures* rest { sem 𝓛 (Rests the_row self.entry (λ kernel. kernel ≡ self.old)) }
     {
         match plugged(&self.devices, device) {
             Some(device) => Ok(device.bytes.as_slice()),
-            None => Err(19),
+            None => Err(errno::NODEV),
         }
     }
 
-    /// Claims an interface. The errno is 19 where no plugged device has the number, 2 where its active configuration does not
-    /// have the interface, and 16 where the interface is claimed or has a kernel driver.
+    /// Claims an interface. The errno is 19 where no plugged device has the number, 2 where its
+    /// active configuration does not have the interface, and 16 where the interface is claimed or
+    /// has a kernel driver.
     pub fn claim(&mut self, device: u8, interface: u8) -> Result<(), u16>
         ensures result { result ≡ claim_result self.old.devices device interface }
         ensures devices { self.new.devices ≡ after_claim self.old.devices device interface }
@@ -531,7 +576,7 @@ impl Kernel {
     {
         match plugged(&self.devices, device) {
             Some(device) => Ok(device.configuration),
-            None => Err(19),
+            None => Err(errno::NODEV),
         }
     }
 
@@ -542,7 +587,7 @@ impl Kernel {
     {
         match plugged(&self.devices, device) {
             Some(_) => Ok(()),
-            None => Err(19),
+            None => Err(errno::NODEV),
         }
     }
 

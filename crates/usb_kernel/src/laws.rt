@@ -1,8 +1,9 @@
 //! Laws of journals. Each is the contract of a function that does nothing.
 
-ghost use Rattle.usb_kernel.specs.Laws.{ReapedIsFinal, CompletionIsFinal, EventExtends, SubmitExtends, RefuseExtends, StepExtends, DiscardExtends, ReapExtends, ExtendsItself, ExtendsInTurn, TicketStays, StatusStays, ReapedStays, CompletionStays, LaterAreUntouched};
+ghost use Rattle.usb_kernel.specs.Laws.{ReapedIsFinal, CompletionIsFinal, EventExtends, SubmitExtends, RefuseExtends, StepExtends, TimerExtends, DiscardExtends, ReapExtends, ExtendsItself, ExtendsInTurn, TicketStays, StatusStays, ReapedStays, CompletionStays, LaterAreUntouched};
 ghost use Rattle.usb_kernel.specs.Laws.{SubmitOpens, SubmitSparesOthers, RefuseOpensNone, PacketServesOldest, PacketSparesOthers, AckServesOldest, AckSparesOthers, FailTakesOldest, FailSparesOthers, DiscardCloses, ReapClosesNone, UnplugCloses, UnplugSparesOthers, EchoIsAckAndPacket, EchoClosesAsBoth, EchoNeedsBoth, EchoClosesNone};
 ghost use Rattle.usb_kernel.specs.Laws.{DiscardFinishes, FinishedIsReapable, ReapableHasLowest, LowestIsReapable, LowestIsLeast, WaitingAreTickets, ReapEndsWaiting, ReapLeavesOneLess, SubmitLeavesWaiting, RefuseLeavesWaiting, OthersAddWaiting};
+ghost use Rattle.usb_kernel.specs.ClaimLaws.{ClaimedIsBusy, ClaimMakesClaimed, SecondClaimIsBusy, ClaimsKeep, ReleasesKeep, StepsKeep, ReleaseEnds, ReleaseUndoes, RefusedClaims};
 
 /// Whatever comes after its reap, a ticket's fate stays, and its completion with it.
 pub fn reaped_is_final()
@@ -16,6 +17,7 @@ pub fn calls_extend_journals()
     ensures submit { SubmitExtends }
     ensures refuse { RefuseExtends }
     ensures step { StepExtends }
+    ensures timer { TimerExtends }
     ensures discard { DiscardExtends }
     ensures reap { ReapExtends }
 {}
@@ -46,7 +48,8 @@ pub fn submissions_open_tickets()
     ensures refused { RefuseOpensNone }
 {}
 
-/// A packet or an acknowledgement closes the oldest open ticket of its endpoint where it finishes it, and a failure closes it always.
+/// A packet or an acknowledgement closes the oldest open ticket of its endpoint where it finishes
+/// it, and a failure closes it always.
 pub fn oldest_is_served()
     ensures packet { PacketServesOldest }
     ensures packet_others { PacketSparesOthers }
@@ -89,4 +92,17 @@ pub fn waiting_tickets_are_counted()
     ensures submit { SubmitLeavesWaiting }
     ensures refuse { RefuseLeavesWaiting }
     ensures others { OthersAddWaiting }
+{}
+
+/// An interface that is claimed is refused a second claim with errno 16, until it is released.
+pub fn claimed_once()
+    ensures busy { ClaimedIsBusy }
+    ensures claimed { ClaimMakesClaimed }
+    ensures second { SecondClaimIsBusy }
+    ensures claims { ClaimsKeep }
+    ensures releases { ReleasesKeep }
+    ensures steps { StepsKeep }
+    ensures ends { ReleaseEnds }
+    ensures undoes { ReleaseUndoes }
+    ensures refused { RefusedClaims }
 {}

@@ -1,10 +1,13 @@
-//! A simulated kernel: devices, tickets of submitted transfers, and the journal of what came to them.
+//! A simulated kernel: devices, tickets of submitted transfers, and the journal of what came to
+//! them.
 #![tactic(auto)]
 
 mod bytes;
 mod devices;
+pub mod errno;
 mod event;
 mod interfaces;
+mod journal;
 mod kernel;
 mod laws;
 mod refusals;
@@ -12,6 +15,7 @@ mod slot;
 mod step;
 mod submission;
 mod table;
+mod timer;
 
 pub use bytes::Bytes;
 pub use devices::{DeviceState, SimDevice};
@@ -19,9 +23,9 @@ pub use event::{Body, Event};
 pub use interfaces::InterfaceSet;
 pub use kernel::{Kernel, is_send_and_sync};
 pub use laws::{
-    calls_extend_journals, echo_is_two_events, extensions_compose, extensions_keep_tickets,
-    finished_can_be_reaped, later_are_untouched, oldest_is_served, reaped_is_final,
-    submissions_open_tickets, tickets_are_closed, waiting_tickets_are_counted,
+    calls_extend_journals, claimed_once, echo_is_two_events, extensions_compose,
+    extensions_keep_tickets, finished_can_be_reaped, later_are_untouched, oldest_is_served,
+    reaped_is_final, submissions_open_tickets, tickets_are_closed, waiting_tickets_are_counted,
 };
 pub use step::{Armed, KernelCall, KernelStep};
 pub use submission::{Done, Submission, Submitted, TicketInfo};

@@ -1,11 +1,12 @@
 //! A ticket as the kernel keeps it.
 
 ghost use Rattle.std.specs.Prelude.{◌≡◌, ◌+◌, ◌<◌, ◌≤◌, IsSome, Some, None, []};
-ghost use Rattle.usb_kernel.specs.Fates.{fresh};
-ghost use Rattle.usb_kernel.specs.Submissions.{body_of, ticket_of, refused_of, refused_fate, IsWhole};
+ghost use Rattle.usb_kernel.specs.Fates.{fresh, refused_fate};
+ghost use Rattle.usb_kernel.specs.Submissions.{body_of, ticket_of, refused_of, IsWhole};
 ghost use Rattle.usb_kernel.specs.Completions.{buffer_for, refused_done};
 ghost use Rattle.usb_kernel.specs.Rows.{IsRoomy, is_open_row, is_reapable_row, is_unreaped_row, row_info, owed, row_with_packet, row_with_ack, row_unplugged, row_done, row_of};
 
+use crate::errno;
 use crate::submission::{Done, Submission, TicketInfo};
 use usb_xfer::Buffer;
 
@@ -18,10 +19,12 @@ pub(crate) struct Slot {
     pub(crate) refused: bool,
     pub(crate) count: usize,
     pub(crate) status: Option<u16>,
+    pub(crate) deadline: Option<u64>,
     pub(crate) buffer: Option<Buffer>,
 }
 
-/// A submitted buffer as its ticket begins with it: for IN it is empty, for OUT it asks for its own bytes.
+/// A submitted buffer as its ticket begins with it: for IN it is empty, for OUT it asks for its own
+/// bytes.
 fn prepared(endpoint: u8, mut buffer: Buffer) -> Buffer
     ensures buffer { result ≡ buffer_for (body_of endpoint buffer) buffer.room [] }
 {
@@ -49,6 +52,7 @@ impl Slot {
             refused: false,
             count: 0,
             status: None,
+            deadline: s.deadline,
             buffer: Some(prepared(s.endpoint, s.buffer)),
         }
     }
@@ -66,6 +70,7 @@ impl Slot {
             refused: true,
             count: 0,
             status: Some(errno),
+            deadline: None,
             buffer: None,
         };
         let done = Done {
@@ -134,7 +139,7 @@ impl Slot {
         ensures unreaped { is_unreaped_row self.new ≡ is_unreaped_row self.old }
     {
         if bytes.len() > self.maximum {
-            self.status = Some(75);
+            self.status = Some(errno::OVERFLOW);
             return;
         }
         if let Some(buffer) = &mut self.buffer {
@@ -185,7 +190,7 @@ impl Slot {
     {
         let before = self.places();
         if self.device == device && self.status.is_none() {
-            self.status = Some(108);
+            self.status = Some(errno::SHUTDOWN);
         }
         before - self.places()
     }

@@ -1,15 +1,26 @@
 //! The steps of a simulation.
 
-ghost use Rattle.std.specs.Prelude.{◌≡◌, ◌==◌, IfOk};
+ghost use Rattle.std.specs.Prelude.{◌≡◌, ◌<◌, IfOk};
 ghost use Rattle.usb_kernel.specs.Refusals.{call_number};
 
 use crate::bytes::Bytes;
-use std::alloc::Global;
 use usb_desc::NoMemory;
 
 /// A call that an armed refusal can be for.
 #[derive(Clone, Copy)]
 pub enum KernelCall {
+    OpenDevice,
+    ReadDesc,
+    GetConfig,
+    SetConfig,
+    Reset,
+    Claim,
+    DetachClaim,
+    Detach,
+    Attach,
+    Alt,
+    Halt,
+    Speed,
     Submit,
 }
 
@@ -49,7 +60,11 @@ pub enum KernelStep {
     Clock {
         to: u64,
     },
-    /// A ticket is reaped, where it is finished and not reaped: the one that is named, or the lowest such.
+    /// The turn of the timer: the tickets that are not finished and whose deadline is at most the
+    /// clock are discarded.
+    Timer,
+    /// A ticket is reaped, where it is finished and not reaped: the one that is named, or the
+    /// lowest such.
     Reap {
         ticket: Option<u64>,
     },
@@ -63,25 +78,31 @@ pub enum KernelStep {
 
 impl KernelCall {
     /// The number of the call.
-    fn number(self) -> u8
+    pub(crate) fn number(self) -> u8
         ensures number { result ≡ call_number self }
+        ensures small { result < 13 }
     {
         match self {
-            KernelCall::Submit => 0,
+            KernelCall::OpenDevice => 0,
+            KernelCall::ReadDesc => 1,
+            KernelCall::GetConfig => 2,
+            KernelCall::SetConfig => 3,
+            KernelCall::Reset => 4,
+            KernelCall::Claim => 5,
+            KernelCall::DetachClaim => 6,
+            KernelCall::Detach => 7,
+            KernelCall::Attach => 8,
+            KernelCall::Alt => 9,
+            KernelCall::Halt => 10,
+            KernelCall::Speed => 11,
+            KernelCall::Submit => 12,
         }
-    }
-
-    /// Whether it is this call.
-    pub(crate) fn is(self, other: KernelCall) -> bool
-        ensures same { result ≡ (call_number self == call_number other) }
-    {
-        self.number() == other.number()
     }
 }
 
 impl KernelStep {
     /// The same step once more.
-    pub fn clone(&self, alloc: Global) -> Result<KernelStep, NoMemory>
+    pub fn clone(&self) -> Result<KernelStep, NoMemory>
         ensures copy { IfOk result (λ step. step ≡ self.now) }
     {
         match self {
@@ -90,7 +111,7 @@ impl KernelStep {
                 endpoint,
                 bytes,
             } => {
-                let bytes = bytes.clone(alloc)?;
+                let bytes = bytes.clone()?;
                 Ok(KernelStep::Packet {
                     device: *device,
                     endpoint: *endpoint,
@@ -112,6 +133,7 @@ impl KernelStep {
             }),
             KernelStep::Unplug { device } => Ok(KernelStep::Unplug { device: *device }),
             KernelStep::Clock { to } => Ok(KernelStep::Clock { to: *to }),
+            KernelStep::Timer => Ok(KernelStep::Timer),
             KernelStep::Reap { ticket } => Ok(KernelStep::Reap { ticket: *ticket }),
             KernelStep::Refuse {
                 device,

@@ -9,7 +9,8 @@ use std::alloc::Global;
 use usb_desc::{NoMemory, TransferType};
 use usb_xfer::Buffer;
 
-/// A transfer that is handed in. A control transfer uses endpoint 0x00 or 0x80 and has its setup packet (USB 2.0, 9.3).
+/// A transfer that is handed in. A control transfer uses endpoint 0x00 or 0x80 and has its setup
+/// packet (USB 2.0, 9.3).
 #[derive(Drop)]
 pub struct Submission {
     pub device: u8,
@@ -21,7 +22,8 @@ pub struct Submission {
     pub buffer: Buffer,
 }
 
-/// A completion. The status is an errno, 0 where all went well; the count is that of the bytes received or acknowledged.
+/// A completion. The status is an errno, 0 where all went well; the count is that of the bytes
+/// received or acknowledged.
 #[derive(Drop)]
 pub struct Done {
     pub ticket: u64,

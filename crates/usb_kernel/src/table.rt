@@ -1,4 +1,5 @@
-//! The table of tickets, one row for each. Each change of it is one event of the journal that the table agrees with.
+//! The table of tickets, one row for each. Each change of it is one event of the journal that the
+//! table agrees with.
 
 ghost use Rattle.std.specs.Prelude.{◌≡◌, ◌+◌, ◌<◌, ◌++◌, ◌∷◌, [], length, map, List, position, vec_len, vec_capacity, is_some, unwrap_or, ◌==◌, Some, if◌then◌else◌};
 ghost use Rattle.std.specs.List.{All, sum_by};
@@ -11,6 +12,7 @@ ghost use Rattle.usb_kernel.specs.Info.{info_of};
 ghost use Rattle.usb_kernel.specs.Rows.{IsRoomy, is_open_row, is_reapable_row, row_unplugged, owed, Agrees};
 ghost use Rattle.usb_kernel.specs.Unreaped.{unreaped_places, without};
 
+use crate::errno;
 use crate::slot::Slot;
 use crate::submission::{Done, Submission, TicketInfo};
 
@@ -27,10 +29,13 @@ pub(crate) fn add(rows: &mut Vec<Slot>, s: Submission) -> u64
     requires room { vec_len rows.old < vec_capacity rows.old }
     requires whole { IsWhole s }
     ensures long { result ≡ vec_len rows.old }
-    ensures number { (past : List Event) → Agrees past rows.old.items → result ≡ length (tickets past) }
-    ensures agrees { (past : List Event) → Agrees past rows.old.items → Agrees (submit_event (length (tickets past)) s ∷ past) rows.new.items }
+    ensures number { (past : List Event) → Agrees past rows.old.items
+        → result ≡ length (tickets past) }
+    ensures agrees { (past : List Event) → Agrees past rows.old.items
+        → Agrees (submit_event (length (tickets past)) s ∷ past) rows.new.items }
     ensures places { sum_by owed rows.new.items ≡ sum_by owed rows.old.items + 2 }
-    ensures unreaped { unreaped_places rows.new.items ≡ unreaped_places rows.old.items ++ result ∷ [] }
+    ensures unreaped { unreaped_places rows.new.items
+        ≡ unreaped_places rows.old.items ++ result ∷ [] }
 {
     let number = rows.len() as u64;
     push_slot(rows, Slot::queued(s));
@@ -41,8 +46,10 @@ pub(crate) fn add(rows: &mut Vec<Slot>, s: Submission) -> u64
 pub(crate) fn add_refused(rows: &mut Vec<Slot>, s: Submission, errno: u16) -> Done
     requires room { vec_len rows.old < vec_capacity rows.old }
     ensures long { result.ticket ≡ vec_len rows.old }
-    ensures number { (past : List Event) → Agrees past rows.old.items → result ≡ refused_done (length (tickets past)) s errno }
-    ensures agrees { (past : List Event) → Agrees past rows.old.items → Agrees (refuse_event (length (tickets past)) s errno ∷ past) rows.new.items }
+    ensures number { (past : List Event) → Agrees past rows.old.items
+        → result ≡ refused_done (length (tickets past)) s errno }
+    ensures agrees { (past : List Event) → Agrees past rows.old.items
+        → Agrees (refuse_event (length (tickets past)) s errno ∷ past) rows.new.items }
     ensures places { sum_by owed rows.new.items ≡ sum_by owed rows.old.items }
     ensures unreaped { unreaped_places rows.new.items ≡ unreaped_places rows.old.items }
 {
@@ -90,7 +97,8 @@ fn open_among(rows: &[Slot], unreaped: &[usize], device: u8, endpoint: u8) -> Op
     None
 }
 
-/// The number of the first ticket that is finished and not reaped. It is sought among the places that are not reaped.
+/// The number of the first ticket that is finished and not reaped. It is sought among the places
+/// that are not reaped.
 pub(crate) fn first_number(rows: &[Slot], unreaped: &[usize]) -> Option<u64>
     requires listed { unreaped.now ≡ unreaped_places rows.now }
     ensures number { result ≡ position is_reapable_row rows.now }
@@ -114,8 +122,11 @@ pub(crate) fn give_packet(
 ) -> Option<usize>
     requires listed { unreaped.now ≡ unreaped_places rows.old.items }
     requires roomy { All IsRoomy rows.old.items }
-    ensures agrees { (past : List Event) → Agrees past rows.old.items → Agrees (after_packet past device endpoint bytes.now) rows.new.items }
-    ensures acts { (past : List Event) → Agrees past rows.old.items → after_packet past device endpoint bytes.now ≡ (if is_some result then Event.Packet device endpoint bytes.now ∷ past else past) }
+    ensures agrees { (past : List Event) → Agrees past rows.old.items
+        → Agrees (after_packet past device endpoint bytes.now) rows.new.items }
+    ensures acts { (past : List Event) → Agrees past rows.old.items
+        → after_packet past device endpoint bytes.now
+        ≡ (if is_some result then Event.Packet device endpoint bytes.now ∷ past else past) }
     ensures places { sum_by owed rows.new.items + unwrap_or result 0 ≡ sum_by owed rows.old.items }
     ensures unreaped { unreaped_places rows.new.items ≡ unreaped_places rows.old.items }
 {
@@ -131,7 +142,8 @@ pub(crate) fn give_packet(
     Some(before - slot.places())
 }
 
-/// Acknowledges a packet of the oldest OUT ticket of an endpoint. It answers how many places that freed.
+/// Acknowledges a packet of the oldest OUT ticket of an endpoint. It answers how many places that
+/// freed.
 pub(crate) fn give_ack(
     rows: &mut Vec<Slot>,
     unreaped: &[usize],
@@ -140,8 +152,11 @@ pub(crate) fn give_ack(
 ) -> Option<usize>
     requires listed { unreaped.now ≡ unreaped_places rows.old.items }
     requires roomy { All IsRoomy rows.old.items }
-    ensures agrees { (past : List Event) → Agrees past rows.old.items → Agrees (after_ack past device endpoint) rows.new.items }
-    ensures acts { (past : List Event) → Agrees past rows.old.items → after_ack past device endpoint ≡ (if is_some result then Event.Ack device endpoint ∷ past else past) }
+    ensures agrees { (past : List Event) → Agrees past rows.old.items
+        → Agrees (after_ack past device endpoint) rows.new.items }
+    ensures acts { (past : List Event) → Agrees past rows.old.items
+        → after_ack past device endpoint
+        ≡ (if is_some result then Event.Ack device endpoint ∷ past else past) }
     ensures places { sum_by owed rows.new.items + unwrap_or result 0 ≡ sum_by owed rows.old.items }
     ensures unreaped { unreaped_places rows.new.items ≡ unreaped_places rows.old.items }
 {
@@ -167,9 +182,13 @@ pub(crate) fn fail_oldest(
 ) -> bool
     requires listed { unreaped.now ≡ unreaped_places rows.old.items }
     requires roomy { All IsRoomy rows.old.items }
-    ensures agrees { (past : List Event) → Agrees past rows.old.items → Agrees (after_fail past device endpoint errno) rows.new.items }
-    ensures acts { (past : List Event) → Agrees past rows.old.items → after_fail past device endpoint errno ≡ (if result then Event.Fail device endpoint errno ∷ past else past) }
-    ensures places { sum_by owed rows.new.items + (if result then 1 else 0) ≡ sum_by owed rows.old.items }
+    ensures agrees { (past : List Event) → Agrees past rows.old.items
+        → Agrees (after_fail past device endpoint errno) rows.new.items }
+    ensures acts { (past : List Event) → Agrees past rows.old.items
+        → after_fail past device endpoint errno
+        ≡ (if result then Event.Fail device endpoint errno ∷ past else past) }
+    ensures places { sum_by owed rows.new.items + (if result then 1 else 0)
+        ≡ sum_by owed rows.old.items }
     ensures unreaped { unreaped_places rows.new.items ≡ unreaped_places rows.old.items }
 {
     let Some(at) = open_among(rows, unreaped, device, endpoint) else {
@@ -196,7 +215,8 @@ fn unplug_rows(rows: &mut Vec<Slot>, device: u8) -> usize
 
 /// The same, as the journal sees it.
 pub(crate) fn unplug_tickets(rows: &mut Vec<Slot>, device: u8) -> usize
-    ensures agrees { (past : List Event) → Agrees past rows.old.items → Agrees (Event.Unplug device ∷ past) rows.new.items }
+    ensures agrees { (past : List Event) → Agrees past rows.old.items
+        → Agrees (Event.Unplug device ∷ past) rows.new.items }
     ensures places { sum_by owed rows.new.items + result ≡ sum_by owed rows.old.items }
     ensures unreaped { unreaped_places rows.new.items ≡ unreaped_places rows.old.items }
 {
@@ -205,10 +225,15 @@ pub(crate) fn unplug_tickets(rows: &mut Vec<Slot>, device: u8) -> usize
 
 /// Takes the completion of a ticket that is finished and not reaped.
 pub(crate) fn take_finished(rows: &mut Vec<Slot>, ticket: u64) -> Option<Done>
-    ensures agrees { (past : List Event) → Agrees past rows.old.items → Agrees (after_reap past ticket) rows.new.items }
-    ensures done { (past : List Event) → Agrees past rows.old.items → reapable past ticket ≡ result }
-    ensures places { sum_by owed rows.new.items + (if is_some result then 1 else 0) ≡ sum_by owed rows.old.items }
-    ensures unreaped { unreaped_places rows.new.items ≡ (if is_some result then without ticket (unreaped_places rows.old.items) else unreaped_places rows.old.items) }
+    ensures agrees { (past : List Event) → Agrees past rows.old.items
+        → Agrees (after_reap past ticket) rows.new.items }
+    ensures done { (past : List Event) → Agrees past rows.old.items
+        → reapable past ticket ≡ result }
+    ensures places { sum_by owed rows.new.items + (if is_some result then 1 else 0)
+        ≡ sum_by owed rows.old.items }
+    ensures unreaped { unreaped_places rows.new.items
+        ≡ (if is_some result then without ticket (unreaped_places rows.old.items)
+        else unreaped_places rows.old.items) }
 {
     if ticket >= rows.len() as u64 {
         return None;
@@ -223,9 +248,12 @@ pub(crate) fn take_finished(rows: &mut Vec<Slot>, ticket: u64) -> Option<Done>
 /// Finishes a ticket that is not finished, with errno 2. It answers whether there was one.
 pub(crate) fn drop_open(rows: &mut Vec<Slot>, ticket: u64) -> bool
     requires roomy { All IsRoomy rows.old.items }
-    ensures agrees { (past : List Event) → Agrees past rows.old.items → Agrees (after_discard past ticket) rows.new.items }
-    ensures acts { (past : List Event) → Agrees past rows.old.items → after_discard past ticket ≡ (if result then Event.Discard ticket ∷ past else past) }
-    ensures places { sum_by owed rows.new.items + (if result then 1 else 0) ≡ sum_by owed rows.old.items }
+    ensures agrees { (past : List Event) → Agrees past rows.old.items
+        → Agrees (after_discard past ticket) rows.new.items }
+    ensures acts { (past : List Event) → Agrees past rows.old.items
+        → after_discard past ticket ≡ (if result then Event.Discard ticket ∷ past else past) }
+    ensures places { sum_by owed rows.new.items + (if result then 1 else 0)
+        ≡ sum_by owed rows.old.items }
     ensures unreaped { unreaped_places rows.new.items ≡ unreaped_places rows.old.items }
 {
     if ticket >= rows.len() as u64 {
@@ -235,7 +263,7 @@ pub(crate) fn drop_open(rows: &mut Vec<Slot>, ticket: u64) -> bool
         return false;
     }
     let slot = &mut rows[ticket as usize];
-    slot.status = Some(2);
+    slot.status = Some(errno::NOENT);
     true
 }
 

@@ -1,6 +1,8 @@
-//! Worked rows: expected values from the rules of the simulation, and one run of each call that allocates.
+//! Worked rows: expected values from the rules of the simulation, and one run of each call that
+//! allocates.
 
 ghost use Rattle.std.specs.Prelude.{◌≡◌, ◌+◌, ◌≤◌, IfOk, None};
+ghost use Rattle.usb_desc.specs.declared.types.TransferType.{TransferType};
 ghost use Rattle.usb_kernel.specs.Submissions.{IsWhole, IsErrno};
 ghost use Rattle.usb_kernel.specs.Steps.{HasErrno};
 
@@ -10,7 +12,8 @@ use std::test::Fail;
 use usb_desc::{NoMemory, TransferType};
 use usb_xfer::Buffer;
 
-/// A device of one configuration of value 1, with interface 0, bulk IN endpoint 0x81 and bulk OUT endpoint 0x02.
+/// A device of one configuration of value 1, with interface 0, bulk IN endpoint 0x81 and bulk OUT
+/// endpoint 0x02.
 const DEVICE: [u8; 50] = [
     0x12, 0x01, 0x00, 0x02, 0x00, 0x00, 0x00, 0x40, 0xaa, 0xaa, 0xbb, 0xbb, 0x00, 0x01, 0x00, 0x00,
     0x00, 0x01, 0x09, 0x02, 0x20, 0x00, 0x01, 0x01, 0x00, 0x80, 0x32, 0x09, 0x04, 0x00, 0x00, 0x02,
@@ -93,22 +96,47 @@ fn sending(alloc: Global, device: u8, len: u8) -> Result<Submission, NoMemory>
     })
 }
 
+/// A control transfer that reads 18 bytes of descriptors until a deadline (USB 2.0, 9.4.3).
+fn control(alloc: Global, deadline: u64) -> Result<Submission, NoMemory>
+    ensures whole { IfOk result IsWhole }
+    ensures kind { IfOk result (λ s. s.kind ≡ TransferType.Control) }
+{
+    let buffer = Buffer::new(alloc, 18)?;
+    Ok(Submission {
+        device: 0,
+        endpoint: 0x80,
+        kind: TransferType::Control,
+        maximum: 18,
+        deadline: Some(deadline),
+        setup: Some([0x80, 6, 0, 1, 0, 0, 18, 0]),
+        buffer,
+    })
+}
+
 /// An acknowledgement on endpoint 0x02 of device 0.
 const ACK: KernelStep = KernelStep::Ack {
     device: 0,
     endpoint: 0x02,
 };
 
-/// The device's next submission is to be refused.
-fn refuse_submit(device: u8, errno: u16) -> KernelStep
+/// The device's next call of a kind is to be refused.
+fn refuse_call(device: u8, call: KernelCall, errno: u16) -> KernelStep
     requires errno { IsErrno errno }
     ensures errno { HasErrno result }
 {
     KernelStep::Refuse {
         device,
-        call: KernelCall::Submit,
+        call,
         errno,
     }
+}
+
+/// The device's next submission is to be refused.
+fn refuse_submit(device: u8, errno: u16) -> KernelStep
+    requires errno { IsErrno errno }
+    ensures errno { HasErrno result }
+{
+    refuse_call(device, KernelCall::Submit, errno)
 }
 
 /// How many events the journal has after a step that gives no completion.
@@ -132,6 +160,16 @@ fn packet(alloc: Global, bytes: &[u8]) -> Result<KernelStep, NoMemory>
         endpoint: 0x81,
         bytes: Bytes::from_slice(alloc, bytes)?,
     })
+}
+
+/// How many bytes the descriptors of a device have, read without a change of the kernel.
+fn descriptors_len(kernel: &mut Kernel, device: u8) -> Option<usize>
+    ensures rest { kernel.new ≡ kernel.old }
+{
+    match kernel.read_descriptors(device) {
+        Ok(bytes) => Some(bytes.len()),
+        Err(_) => None,
+    }
 }
 
 fn queued(submitted: Result<Submitted, Submission>) -> Option<u64> {
@@ -255,6 +293,7 @@ fn devices_answer_in_the_order_of_their_rows(rt: HostRuntime) -> Result<(), Fail
     );
     assert_eq!(rt; kernel.read_descriptors(0), Ok(DEVICE.as_slice()));
     assert_eq!(rt; kernel.read_descriptors(2), Err(19));
+    assert_eq!(rt; descriptors_len(&mut kernel, 1), Some(50));
     for (device, interface, claimed) in [
         (2, 0, Err(19)),
         (0, 1, Err(2)),
@@ -377,6 +416,44 @@ fn armed_refusals_are_used_in_order_and_once(rt: HostRuntime) -> Result<(), Fail
 }
 
 #[test]
+fn a_refusal_waits_for_its_own_call(rt: HostRuntime) -> Result<(), Fail> {
+    let mut kernel = kernel(rt.alloc())?;
+    kernel.reserve(5)?;
+    kernel.step(refuse_call(0, KernelCall::OpenDevice, 5));
+    kernel.step(refuse_call(0, KernelCall::Speed, 6));
+    kernel.step(refuse_call(0, KernelCall::Submit, 7));
+    kernel.step(refuse_call(0, KernelCall::Claim, 8));
+    kernel.step(refuse_call(0, KernelCall::Submit, 9));
+    for status in [Some(7), Some(9), None] {
+        let done = refused(kernel.submit(wanting(rt.alloc(), 0)?));
+        assert_eq!(rt; done.map(|done| done.status), status);
+    }
+    Ok(())
+}
+
+#[test]
+fn a_turn_of_the_timer_discards_what_is_due(rt: HostRuntime) -> Result<(), Fail> {
+    let mut kernel = kernel(rt.alloc())?;
+    kernel.reserve(3)?;
+    assert_eq!(rt; queued(kernel.submit(control(rt.alloc(), 100)?)), Some(0));
+    assert_eq!(rt; queued(kernel.submit(control(rt.alloc(), 200)?)), Some(1));
+    assert_eq!(rt; queued(kernel.submit(wanting(rt.alloc(), 0)?)), Some(2));
+    kernel.idle(99);
+    kernel.step(KernelStep::Timer);
+    assert_eq!(rt; kernel.lowest_finished(), None);
+    kernel.step(KernelStep::Clock { to: 100 });
+    kernel.step(KernelStep::Timer);
+    let first = kernel.reap(0).ok_or("no completion")?;
+    assert_eq!(rt; (first.status, first.refused, first.count), (2, false, 0));
+    assert_eq!(rt; kernel.lowest_finished(), None);
+    kernel.idle(1000);
+    kernel.timer_turn();
+    assert_eq!(rt; kernel.reap(1).map(|done| done.status), Some(2));
+    assert_eq!(rt; kernel.lowest_finished(), None);
+    Ok(())
+}
+
+#[test]
 fn the_clock_never_falls(rt: HostRuntime) -> Result<(), Fail> {
     let mut kernel = kernel(rt.alloc())?;
     kernel.reserve(2)?;
@@ -447,8 +524,9 @@ fn a_step_with_nothing_to_act_on_leaves_no_event(rt: HostRuntime) -> Result<(), 
 #[test]
 fn copies_are_equal(rt: HostRuntime) -> Result<(), Fail> {
     let bytes = Bytes::from_slice(rt.alloc(), &[5, 6])?;
-    assert_eq!(rt; bytes.clone(rt.alloc())?.as_slice(), [5, 6].as_slice());
-    match packet(rt.alloc(), &[8, 9])?.clone(rt.alloc())? {
+    assert_eq!(rt; bytes.clone()?.as_slice(), [5, 6].as_slice());
+    assert_eq!(rt; bytes.into_vec().as_slice(), [5, 6].as_slice());
+    match packet(rt.alloc(), &[8, 9])?.clone()? {
         KernelStep::Packet {
             device,
             endpoint,
@@ -460,11 +538,6 @@ fn copies_are_equal(rt: HostRuntime) -> Result<(), Fail> {
         _ => assert!(rt; false),
     }
     let reap = KernelStep::Reap { ticket: Some(4) };
-    assert!(rt;
-        matches!(
-            reap.clone(rt.alloc())?,
-            KernelStep::Reap { ticket: Some(4) }
-        )
-    );
+    assert!(rt; matches!(reap.clone()?, KernelStep::Reap { ticket: Some(4) }));
     Ok(())
 }

@@ -2,7 +2,7 @@ use Rattle.std.proofs.Common.{arith, ap, ◌≡◌, ◌∙◌}
 use Rattle.usb_xfer.specs.declared.transfer.Completion.{Completion}
 use Rattle.usb_bus.specs.Completions.{completion_of}
 use Rattle.usb_bus.specs.KernelBusFacts.{with_completion}
-use Rattle.usb_bus.proofs.SlotLemmas.{slot_at, places_of-kept, Agree-none, Agree-beyond, Agree-store}
+use Rattle.usb_bus.proofs.SlotLemmas.{slot_at, holds_of-kept, Agree-none, Agree-beyond, Agree-store}
 use Rattle.usb_bus.proofs.kernel_slots.store.Goals as goal
 
 pub returns-in_default-clause-agree : goal.returns-in_default-clause-agree
@@ -12,10 +12,10 @@ pub returns-then-ticket-len-clause-agree : goal.returns-then-ticket-len-clause-a
 returns-then-ticket-len-clause-agree c =
     λ past next agree only. Agree-beyond past next c.args.slots.now.items c.in-Some.done c.args.came agree only c.in-Some.is (omega arith)
 
-pub returns-clause-places : goal.returns-clause-places
-returns-clause-places c =
+pub returns-clause-holds : goal.returns-clause-holds
+returns-clause-holds c =
     let at = slot_at c.args.slots.now.items c.in-Some.done.ticket c.index_mut-slot.result.now (omega arith) c.index_mut-slot.ensures.value in
-    places_of-kept c.args.slots.now.items c.in-Some.done.ticket c.index_mut-slot.result.now c.keep.new.self _ at c.keep.ensures.slot
+    holds_of-kept c.args.slots.now.items c.in-Some.done.ticket c.index_mut-slot.result.now c.keep.new.self _ at c.keep.ensures.slot
 
 pub returns-clause-agree : goal.returns-clause-agree
 returns-clause-agree c =

@@ -1,10 +1,10 @@
 use Rattle.std.proofs.Common.{ap, sym, ◌∙◌, Some}
 use Rattle.usb_xfer.specs.declared.transfer.TransferData.{TransferData}
-use Rattle.usb_bus.proofs.SlotLemmas.{owner-within, slot_at, places_of-ended, Agree-end, held-value}
+use Rattle.usb_bus.proofs.SlotLemmas.{owner-within, slot_at, holds_of-ended, Agree-end, held-value}
 use Rattle.usb_bus.proofs.kernel_slots.take_slot.Goals as goal
 
-pub returns-clause-places : goal.returns-clause-places
-returns-clause-places c = places_of-ended c.args.slots.now.items c.args.ticket c.index_mut-slot.result.now c.end.new.self c.end.ensures.slot
+pub returns-clause-holds : goal.returns-clause-holds
+returns-clause-holds c = holds_of-ended c.args.slots.now.items c.args.ticket c.index_mut-slot.result.now c.end.new.self c.end.ensures.slot
 
 pub returns-clause-agree : goal.returns-clause-agree
 returns-clause-agree c = λ past agree. Agree-end past c.args.slots.now.items c.args.ticket c.index_mut-slot.result.now c.end.new.self agree c.end.ensures.slot

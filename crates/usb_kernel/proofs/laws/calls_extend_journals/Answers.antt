@@ -1,4 +1,4 @@
-use Rattle.usb_kernel.proofs.Extends.{extends-event, extends-if, extends-step}
+use Rattle.usb_kernel.proofs.Extends.{extends-event, extends-if, extends-step, extends-turned}
 use Rattle.usb_kernel.proofs.laws.calls_extend_journals.Goals as goal
 
 pub returns : goal.returns
@@ -7,6 +7,7 @@ returns c = record {
   submit = λ devices armed past s. extends-event past _;
   refuse = λ past s errno. extends-event past _;
   step = extends-step;
+  timer = extends-turned;
   discard = λ past t. extends-if _ past _;
   reap = λ past t. extends-if _ past _;
 }

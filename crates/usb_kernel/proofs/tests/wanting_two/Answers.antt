@@ -3,4 +3,4 @@ use Rattle.usb_xfer.specs.BufferState.{BufferState}
 use Rattle.usb_kernel.proofs.tests.wanting_two.Goals as goal
 
 pub returns-clause-whole : goal.returns-clause-whole
-returns-clause-whole c = λ input. (1, sym (ap (λ (b : BufferState). b.requested) c.in_ok-buffer.ensures.empty))
+returns-clause-whole c = (1, sym (ap (λ (b : BufferState). b.requested) c.in_ok-buffer.ensures.empty))

@@ -1,5 +1,3 @@
-use Rattle.std.proofs.Common.{ap}
-use Rattle.usb_xfer.specs.declared.transfer.TransferData.{TransferData}
 use Rattle.usb_kernel.specs.Submits.{submit_refusal}
 use Rattle.usb_bus.proofs.SlotLemmas.{Agree-entered}
 use Rattle.usb_bus.proofs.kernel_bus.KernelBus.submit_transfer.Goals as goal
@@ -7,8 +5,7 @@ use Rattle.usb_bus.proofs.kernel_bus.KernelBus.submit_transfer.Goals as goal
 pub invariant_of-self-in-Ok : goal.invariant_of-self-in-Ok
 invariant_of-self-in-Ok c =
     let kernel = c.self.inside.kernel in
-    let sub = c.submission_by.result in
-    let empty = ap (λ (t : TransferData). t.held) c.take_buffer-buffer.ensures.rest in
+    let sub = c.submission.result in
     record {
-      slots = Agree-entered kernel.past c.submit.new.self.past c.self.inside.slots.items c.reserve.new.self.items c.add_slot.new.slots.items sub (submit_refusal kernel.devices kernel.armed sub.device) c.args.to.key c.take_buffer-buffer.new.self c.in-Ok.submitted c.self.invariant.slots empty c.in-Ok.ensures.past c.reserve.ensures.items c.in-Ok.ensures.submitted c.add_slot.ensures.items;
+      slots = Agree-entered kernel.past c.submit.new.self.past c.self.inside.slots.items c.reserve.new.self.items c.add_slot.new.slots.items sub (submit_refusal kernel.devices kernel.armed sub.device) c.args.to.key c.take_buffer-buffer.new.self c.in-Ok.submitted c.self.invariant.slots c.in-Ok.ensures.past c.reserve.ensures.items c.in-Ok.ensures.submitted c.add_slot.ensures.items;
     }

@@ -7,7 +7,7 @@ use Rattle.usb_bus.proofs.kernel_bus.KernelBusBus.refuse.Goals as goal
 pub returns-in-Ok-clause-state : goal.returns-in-Ok-clause-state
 returns-in-Ok-clause-state c =
     λ b some.
-    refused-state c.args.self.now c.refuse_transfer.new.self c.args.to c.into_inner.result c.args.errno b c.refuse_transfer.ensures.places c.in-Ok.ensures.ok (ap (λ (t : TransferData). buffer_held t.held) c.into_inner.ensures.value ∙ some)
+    refused-state c.args.self.now c.refuse_transfer.new.self c.args.to c.into_inner.result c.args.errno b c.refuse_transfer.ensures.holds c.in-Ok.ensures.ok (ap (λ (t : TransferData). buffer_held t.held) c.into_inner.ensures.value ∙ some) c.requires.errno
 
 pub returns-in-Ok-clause-left : goal.returns-in-Ok-clause-left
 returns-in-Ok-clause-left c = refused-left c.args.self.now c.refuse_transfer.new.self c.args.to c.into_inner.result c.args.errno _ refl c.in-Ok.ensures.ok

@@ -1,4 +1,4 @@
-use Rattle.std.proofs.Common.{◌≡◌, ◌∷◌, arith, ◌∙◌, ap, sym, length, reverse, List}
+use Rattle.std.proofs.Common.{◌≡◌, ◌∷◌, arith, ◌∙◌, ap, sym, refl, length, reverse, List}
 use Rattle.usb_kernel.specs.declared.submission.Done.{Done}
 use Rattle.usb_kernel.specs.declared.event.Event.{Event}
 use Rattle.usb_kernel.specs.Tickets.{tickets}
@@ -20,6 +20,7 @@ invariant_of-self-2 c =
       lawful = rw journal (c.requires.errno, c.self.invariant.lawful);
       agrees = rw journal (c.add_refused-done.ensures.agrees past agrees);
       listed = c.self.invariant.listed ∙ ap unreaped_places (sym c.reserve.ensures.items) ∙ sym c.add_refused-done.ensures.unreaped;
+      timed = c.put.ensures.timed c.self.inside.deadlines.keys refl (rw before c.self.invariant.timed);
       owes = c.self.invariant.owes ∙ ap (sum_by owed) (sym c.reserve.ensures.items) ∙ sym c.add_refused-done.ensures.places;
       space = omega (arith, c.in-Ok-make_room.ensures.room);
       four = rw (journal, tickets-refuse past c.args.s (length (tickets past)) c.args.errno) (omega (arith, c.in-Ok-make_room.ensures.four, length-rows past c.self.inside.tickets.items c.self.invariant.agrees));

@@ -1,0 +1,34 @@
+-- What an endpoint holds of a ticket.
+use Rattle.std.specs.Prelude.{ℕ, Option, Some, None, option_and_then}
+use Rattle.std.specs.Option.{option_map}
+use Rattle.usb_desc.specs.declared.types.TransferType.{TransferType}
+use Rattle.usb_xfer.specs.declared.transfer.Completion.{Completion}
+use Rattle.usb_xfer.specs.declared.transfer.Held.{Held}
+use Rattle.usb_xfer.specs.declared.transfer.Held.TheVariants.{Nothing, Complete}
+use Rattle.usb_xfer.specs.declared.transfer.TransferData.{TransferData}
+use Rattle.usb_kernel.specs.declared.submission.Submitted.{Submitted}
+use Rattle.usb_kernel.specs.declared.submission.Submitted.TheVariants.{Queued, Refused}
+use Rattle.usb_bus.specs.Completions.{completion_of}
+
+-- the endpoint's key, and the address and the type of the transfer
+pub record Hold : Type 0 where
+  pub key : ℕ
+  pub endpoint : ℕ
+  pub kind : TransferType
+
+-- what the transfer holds when it was submitted: a refused one is complete at once
+abbrev pub held_at_once : Submitted → Held
+held_at_once (Queued ticket) = Nothing
+held_at_once (Refused done) = Complete (completion_of done)
+
+-- what it holds before and after its completion
+abbrev pub held_of : Option Completion → Held
+held_of None = Nothing
+held_of (Some c) = Complete c
+
+-- the transfer, once its completion has come
+abbrev pub transfer_with : Hold → Completion → TransferData
+transfer_with hold c = record { endpoint = hold.endpoint; kind = hold.kind; held = Complete c }
+
+abbrev pub value_for : Option Completion → Option Hold → Option TransferData
+value_for come hold = option_and_then (λ h. option_map (transfer_with h) come) hold

@@ -1,0 +1,301 @@
+-- Deadlines while a journal goes on.
+use Rattle.std.proofs.Common.{◌≡◌, ℕ, ◌+◌, ◌<◌, ◌≤◌, arith, List, [], ◌∷◌, length, Option, Some, None, Bool, true, false, cond, refl, ap, sym, ◌∙◌, inl, inr, slice_get, ◌⊎◌, Ordering, IsSome}
+use Rattle.std.specs.Prelude.{filter, map, is_some, nat_lt, ◌&&◌}
+use Rattle.std.specs.List.{All}
+use Rattle.std.specs.List.Sorted.{IsStrictlySortedBy}
+use Rattle.std.specs.Cmp.{IsTotalOrder}
+use Rattle.std.specs.declared.cmp.Ordering.TheVariants.{Less, Equal, Greater}
+use Rattle.std.specs.Ordering.{match_ordering}
+use Rattle.std.proofs.lemmas.Option.{none-some, same_Some, slice_get_within}
+use Rattle.usb_kernel.proofs.Rules.{slice_get-push}
+use Rattle.std.specs.BTreeSet.{insert_key}
+use Rattle.std.proofs.Common.{length-append}
+use Rattle.std.proofs.lemmas.Cmp.{then_total, on_total, nat_cmp_total}
+use Rattle.std.proofs.lemmas.List.Elements.{All-weaker}
+use Rattle.std.proofs.lemmas.Map.Views.{All-insert_key}
+use Rattle.usb_kernel.specs.declared.event.Body.{Body}
+use Rattle.usb_kernel.specs.declared.submission.Submission.{Submission}
+use Rattle.usb_kernel.specs.Submissions.{submit_event, body_of}
+use Rattle.std.specs.BTreeMap.{is_at}
+use Rattle.std.specs.BTreeMap.Range.{IsLeBy}
+use Rattle.std.specs.Set.{remove_key}
+use Rattle.std.proofs.lemmas.List.Elements.{All-head, All-tail}
+use Rattle.std.proofs.lemmas.Map.Views.{All-remove_key}
+use Rattle.std.proofs.lemmas.Bool.{le-leb}
+use Rattle.usb_kernel.proofs.Waiting.{discard-finishes}
+use Rattle.usb_kernel.proofs.Completions.{tickets-discard}
+use Rattle.usb_kernel.proofs.Fresh.{fate-fresh}
+use Rattle.usb_kernel.proofs.InOrder.{sorted-insert, filter-insert}
+use Rattle.std.proofs.lemmas.Grind.{common_steps}
+use Rattle.std.proofs.lemmas.Bool.{cases_Bool}
+use Rattle.usb_kernel.specs.declared.event.Event.{Event}
+use Rattle.usb_kernel.specs.declared.event.Event.TheVariants.{Submit, Refuse, Packet, Ack, Echo, Fail, Discard, Reap, Unplug}
+use Rattle.usb_kernel.specs.Tickets.{Ticket, tickets}
+use Rattle.usb_kernel.specs.Journal.{fate}
+use Rattle.usb_kernel.specs.Steps.{after_discard, is_unfinished}
+use Rattle.usb_kernel.specs.Timers.{by_deadline, with_deadline, deadlines, is_open_entry, is_up, all_discarded, timer_turned}
+use Rattle.usb_kernel.specs.Deadlines.{KeepsDeadlines, submits}
+use Rattle.usb_kernel.specs.Extends.{Extends}
+use Rattle.usb_kernel.proofs.Extends.{extends-event, extends-same, extends-discard, extends-all_discarded, extends-trans, status-stays}
+
+-- a filter that lets less through needs to see only what a wider one lets through
+filter-twice : {X : Type 0} (p q : X → Bool) (xs : List X) → ((x : X) → p x ≡ false → q x ≡ false) → filter q (filter p xs) ≡ filter q xs
+filter-twice p q [] less = refl
+filter-twice p q (x ∷ xs) less =
+    elim (cases_Bool (p x)) [
+      | inl yes_ ↦ rw yes_ (elim (q x) as (λ v. cond v (x ∷ filter q (filter p xs)) (filter q (filter p xs)) ≡ cond v (x ∷ filter q xs) (filter q xs)) [ true ↦ ap (λ ys. x ∷ ys) (filter-twice p q xs less) | false ↦ filter-twice p q xs less ])
+      | inr no_ ↦ rw (no_, less x no_) (filter-twice p q xs less)
+    ]
+
+filter-narrow : {X : Type 0} (p q : X → Bool) (xs ys : List X) → ((x : X) → p x ≡ false → q x ≡ false) → filter p xs ≡ filter p ys → filter q xs ≡ filter q ys
+filter-narrow p q xs ys less same = sym (filter-twice p q xs less) ∙ (ap (filter q) same ∙ filter-twice p q ys less)
+
+-- what is finished stays so
+closed-stays : (old new : List Event) (p : ℕ × ℕ) → Extends old new → is_open_entry old p ≡ false → is_open_entry new p ≡ false
+closed-stays old new p goes closed = closed-by (fate old p.1).status refl
+  where
+    closed-by : (o : Option ℕ) → (fate old p.1).status ≡ o → is_open_entry new p ≡ false
+    closed-by None is = let no_ : true ≡ false = rw is at closed in cc
+    closed-by (Some errno) is = rw (status-stays old new p.1 errno goes is) refl
+
+deadlines-event : (past : List Event) (event : Event) → submits event ≡ false → deadlines (event ∷ past) ≡ deadlines past
+deadlines-event past (Submit t d e m body room deadline) none = cc
+deadlines-event past (Refuse t d e m body room errno) none = refl
+deadlines-event past (Packet d e b) none = refl
+deadlines-event past (Ack d e) none = refl
+deadlines-event past (Echo d o i) none = refl
+deadlines-event past (Fail d e errno) none = refl
+deadlines-event past (Discard t) none = refl
+deadlines-event past (Reap t) none = refl
+deadlines-event past (Unplug d) none = refl
+
+tickets-longer : (past : List Event) (event : Event) → length (tickets past) ≤ length (tickets (event ∷ past))
+tickets-longer past (Submit t d e m body room deadline) = omega (arith, length-append {A = Ticket})
+tickets-longer past (Refuse t d e m body room errno) = omega (arith, length-append {A = Ticket})
+tickets-longer past (Packet d e b) = omega arith
+tickets-longer past (Ack d e) = omega arith
+tickets-longer past (Echo d o i) = omega arith
+tickets-longer past (Fail d e errno) = omega arith
+tickets-longer past (Discard t) = omega arith
+tickets-longer past (Reap t) = omega arith
+tickets-longer past (Unplug d) = omega arith
+
+still-below : (old new : List Event) (ds : List (ℕ × ℕ)) → length (tickets old) ≤ length (tickets new) → All (λ p. p.1 < length (tickets old)) ds → All (λ p. p.1 < length (tickets new)) ds
+still-below old new ds longer below = All-weaker (λ (p : ℕ × ℕ). p.1 < length (tickets old)) (λ p. p.1 < length (tickets new)) (λ p l. omega arith) ds below
+
+-- an event that submits nothing leaves the deadlines as they were
+pub keeps-event : (past : List Event) (event : Event) (ds : List (ℕ × ℕ)) → submits event ≡ false → KeepsDeadlines past ds → KeepsDeadlines (event ∷ past) ds
+keeps-event past event ds none kept =
+    record {
+      same = rw (deadlines-event past event none) (filter-narrow (is_open_entry past) (is_open_entry (event ∷ past)) ds (deadlines past) (λ p closed. closed-stays past (event ∷ past) p (extends-event past event) closed) kept.same);
+      below = still-below past (event ∷ past) ds (tickets-longer past event) kept.below;
+    }
+
+by_deadline-total : IsTotalOrder by_deadline
+by_deadline-total = then_total (on_total (λ (p : ℕ × ℕ). p.0) nat_cmp_total) (on_total (λ (p : ℕ × ℕ). p.1) nat_cmp_total)
+
+same_number : (a b : ℕ × ℕ) → by_deadline a b ≡ Equal → a.1 ≡ b.1
+same_number a b same = grind (arith, common_steps)
+
+deadlines-sorted-with : (ds : List (ℕ × ℕ)) (o : Option ℕ) (t : ℕ) → IsStrictlySortedBy by_deadline ds → IsStrictlySortedBy by_deadline (with_deadline ds o t)
+deadlines-sorted-with ds None t up = up
+deadlines-sorted-with ds (Some n) t up = sorted-insert by_deadline by_deadline-total (n, t) ds up
+
+pub deadlines-sorted : (past : List Event) → IsStrictlySortedBy by_deadline (deadlines past)
+unfolding IsStrictlySortedBy
+deadlines-sorted [] = tt
+deadlines-sorted (Submit t d e m body room deadline ∷ past) = deadlines-sorted-with (deadlines past) deadline (length (tickets past)) (deadlines-sorted past)
+deadlines-sorted (Refuse t d e m body room errno ∷ past) = deadlines-sorted past
+deadlines-sorted (Packet d e b ∷ past) = deadlines-sorted past
+deadlines-sorted (Ack d e ∷ past) = deadlines-sorted past
+deadlines-sorted (Echo d o i ∷ past) = deadlines-sorted past
+deadlines-sorted (Fail d e errno ∷ past) = deadlines-sorted past
+deadlines-sorted (Discard t ∷ past) = deadlines-sorted past
+deadlines-sorted (Reap t ∷ past) = deadlines-sorted past
+deadlines-sorted (Unplug d ∷ past) = deadlines-sorted past
+
+-- the new ticket is open
+open-new : (past : List Event) (n : ℕ) → is_open_entry past (n, length (tickets past)) ≡ true
+open-new past n = rw (fate-fresh past (length (tickets past)) (omega arith)) refl
+
+open-same : (past : List Event) (a b : ℕ × ℕ) → is_open_entry past a ≡ true → by_deadline a b ≡ Equal → is_open_entry past b ≡ true
+open-same past a b here same = rw (sym (same_number a b same)) here
+
+-- a submission with a deadline adds it at its place
+pub keeps-submit : (past : List Event) (t d e m : ℕ) (body : Body) (room : ℕ) (deadline : Option ℕ) (ds : List (ℕ × ℕ)) → IsStrictlySortedBy by_deadline ds → KeepsDeadlines past ds → KeepsDeadlines (Submit t d e m body room deadline ∷ past) (with_deadline ds deadline (length (tickets past)))
+keeps-submit past t d e m body room None ds up kept =
+    record { same = kept.same; below = still-below past (Submit t d e m body room None ∷ past) ds (omega (arith, length-append {A = Ticket})) kept.below }
+keeps-submit past t d e m body room (Some n) ds up kept =
+    let place = filter-insert by_deadline by_deadline-total (is_open_entry past) (n, length (tickets past)) in
+    let same = λ (x : ℕ × ℕ) (h : by_deadline (n, length (tickets past)) x ≡ Equal). open-same past (n, length (tickets past)) x (open-new past n) h in
+    record {
+      same = place ds (open-new past n) same up ∙ (ap (λ xs. insert_key by_deadline xs (n, length (tickets past))) kept.same ∙ sym (place (deadlines past) (open-new past n) same (deadlines-sorted past)));
+      below = All-insert_key by_deadline (n, length (tickets past)) (λ p. p.1 < length (tickets (Submit t d e m body room (Some n) ∷ past))) ds (still-below past (Submit t d e m body room (Some n) ∷ past) ds (omega (arith, length-append {A = Ticket})) kept.below) (omega (arith, length-append {A = Ticket}));
+    }
+
+-- a discard of a ticket that is finished leaves no event
+discard-finished : (past : List Event) (t : ℕ) → is_open_entry past (0, t) ≡ false → after_discard past t ≡ past
+discard-finished past t closed = rw closed (elim (nat_lt t (length (tickets past))) as (λ v. cond (v && false) (Discard t ∷ past) past ≡ past) [ true ↦ refl | false ↦ refl ])
+
+-- tickets that are finished may be passed over
+pub passes-finished : (past now : List Event) (xs : List (ℕ × ℕ)) → Extends past now → all_discarded now (map (λ p. p.1) (filter (is_open_entry past) xs)) ≡ all_discarded now (map (λ p. p.1) xs)
+passes-finished past now [] goes = refl
+passes-finished past now (x ∷ xs) goes =
+    elim (cases_Bool (is_open_entry past x)) [
+      | inl yes_ ↦ rw yes_ (passes-finished past (after_discard now x.1) xs (extends-trans past now (after_discard now x.1) goes (extends-discard now x.1)))
+      | inr no_ ↦ rw no_ (passes-finished past now xs goes ∙ ap (λ (then : List Event). all_discarded then (map (λ p. p.1) xs)) (sym (discard-finished now x.1 (closed-stays past now x goes no_))))
+    ]
+
+filter-swap : {X : Type 0} (p q : X → Bool) (xs : List X) → filter p (filter q xs) ≡ filter q (filter p xs)
+filter-swap p q [] = refl
+filter-swap p q (x ∷ xs) =
+    elim (cases_Bool (p x)) [
+      | inl yes_ ↦ elim (cases_Bool (q x)) [ inl also ↦ rw (also, yes_, also) (ap (λ ys. x ∷ ys) (filter-swap p q xs)) | inr no_ ↦ rw (no_, yes_, no_) (filter-swap p q xs) ]
+      | inr no_ ↦ elim (cases_Bool (q x)) [ inl yes_ ↦ rw (yes_, no_) (filter-swap p q xs) | inr neither ↦ rw (neither, no_) (filter-swap p q xs) ]
+    ]
+
+-- the turn is a discard of each ticket whose kept deadline is up
+pub turned-kept : (past : List Event) (clock : ℕ) (ds : List (ℕ × ℕ)) → KeepsDeadlines past ds → timer_turned clock past ≡ all_discarded past (map (λ p. p.1) (filter (is_up clock) ds))
+unfolding timer_turned
+turned-kept past clock ds kept =
+    ap (λ xs. all_discarded past (map (λ p. p.1) (filter (is_up clock) xs))) (sym kept.same)
+    ∙ (ap (λ xs. all_discarded past (map (λ p. p.1) xs)) (filter-swap (is_up clock) (is_open_entry past) ds)
+    ∙ passes-finished past past (filter (is_up clock) ds) (extends-same past))
+
+-- what a submission adds
+pub keeps-added : (past : List Event) (s : Submission) (deadline : Option ℕ) (t : ℕ) (old new : List (ℕ × ℕ)) → IsStrictlySortedBy by_deadline old → new ≡ with_deadline old deadline t → s.deadline ≡ deadline → t ≡ length (tickets past) → KeepsDeadlines past old → KeepsDeadlines (submit_event (length (tickets past)) s ∷ past) new
+keeps-added past s deadline t old new up is has number kept =
+    let same : new ≡ with_deadline old s.deadline (length (tickets past)) = is ∙ (ap (with_deadline old deadline) number ∙ ap (λ o. with_deadline old o (length (tickets past))) (sym has)) in
+    rw same (keeps-submit past (length (tickets past)) s.device s.endpoint s.maximum (body_of s.endpoint s.buffer) s.buffer.room s.deadline old up kept)
+
+-- what is taken out with a ticket that is finished
+filter-removed : {X : Type 0} (p q : X → Bool) (xs : List X) → ((x : X) → p x ≡ true → q x ≡ false) → filter q (remove_key p xs) ≡ filter q xs
+filter-removed p q [] apart = refl
+filter-removed p q (x ∷ xs) apart =
+    elim (cases_Bool (p x)) [
+      | inl yes_ ↦ rw (yes_, apart x yes_) refl
+      | inr no_ ↦ rw no_ (elim (q x) as (λ v. cond v (x ∷ filter q (remove_key p xs)) (filter q (remove_key p xs)) ≡ cond v (x ∷ filter q xs) (filter q xs)) [ true ↦ ap (λ ys. x ∷ ys) (filter-removed p q xs apart) | false ↦ filter-removed p q xs apart ])
+    ]
+
+closed-same : (past : List Event) (a b : ℕ × ℕ) → is_open_entry past (0, a.1) ≡ false → is_at (by_deadline a) b ≡ true → is_open_entry past b ≡ false
+closed-same past a b closed at = let number : b.1 ≡ a.1 = grind (arith, common_steps) in rw number closed
+
+pub keeps-forgotten : (past : List Event) (n t : ℕ) (old new : List (ℕ × ℕ)) → new ≡ remove_key (is_at (by_deadline (n, t))) old → is_open_entry past (0, t) ≡ false → KeepsDeadlines past old → KeepsDeadlines past new
+keeps-forgotten past n t old new is closed kept =
+    rw is (record {
+      same = filter-removed (is_at (by_deadline (n, t))) (is_open_entry past) old (λ x at. closed-same past (n, t) x closed at) ∙ kept.same;
+      below = All-remove_key (is_at (by_deadline (n, t))) (λ (p : ℕ × ℕ). p.1 < length (tickets past)) old kept.below;
+    })
+
+-- a ticket that was discarded is finished
+closed-discarded : (past : List Event) (n t : ℕ) → t < length (tickets past) → is_open_entry (after_discard past t) (n, t) ≡ false
+closed-discarded past n t within = grind (arith, common_steps, discard-finishes past t within)
+
+-- and is taken out
+pub keeps-discarded : (past : List Event) (n t : ℕ) (old new : List (ℕ × ℕ)) → old ≡ (n, t) ∷ new → KeepsDeadlines past old → KeepsDeadlines (after_discard past t) new
+keeps-discarded past n t old new is kept =
+    let later : KeepsDeadlines (after_discard past t) old = keeps-discard past t old kept in
+    let first : KeepsDeadlines (after_discard past t) ((n, t) ∷ new) = rw is at later in
+    let within : t < length (tickets past) = All-head (λ (p : ℕ × ℕ). p.1 < length (tickets past)) (n, t) new (rw is at kept.below) in
+    record {
+      same = sym (ap (λ v. cond v ((n, t) ∷ filter (is_open_entry (after_discard past t)) new) (filter (is_open_entry (after_discard past t)) new)) (closed-discarded past n t within)) ∙ first.same;
+      below = All-tail (λ (p : ℕ × ℕ). p.1 < length (tickets (after_discard past t))) (n, t) new first.below;
+    }
+  where
+    keeps-discard : (past : List Event) (t : ℕ) (ds : List (ℕ × ℕ)) → KeepsDeadlines past ds → KeepsDeadlines (after_discard past t) ds
+    keeps-discard past t ds kept = elim (is_unfinished past t) as (λ v. KeepsDeadlines (cond v (Discard t ∷ past) past) ds) [ true ↦ keeps-event past (Discard t) ds refl kept | false ↦ kept ]
+
+-- where the first deadline is not up, none is
+pub none-up : (clock : ℕ) (first : ℕ × ℕ) (ds : List (ℕ × ℕ)) → clock < first.0 → All (IsLeBy by_deadline first) ds → filter (is_up clock) ds ≡ []
+none-up clock first [] later all = refl
+none-up clock first (x ∷ xs) later all =
+    let here : IsLeBy by_deadline first x = All-head (IsLeBy by_deadline first) x xs all in
+    let closed : is_up clock x ≡ false = grind (arith, common_steps) in
+    rw closed (none-up clock first xs later (All-tail (IsLeBy by_deadline first) x xs all))
+
+-- a turn goes on with the first deadline that is up
+pub turn-goes_on : (past : List Event) (clock n t : ℕ) (old new : List (ℕ × ℕ)) → old ≡ (n, t) ∷ new → n ≤ clock → all_discarded past (map (λ p. p.1) (filter (is_up clock) old)) ≡ all_discarded (after_discard past t) (map (λ p. p.1) (filter (is_up clock) new))
+turn-goes_on past clock n t old new is up = rw (is, le-leb n clock up) refl
+
+pub tickets-submit : (past : List Event) (s : Submission) (t : ℕ) → length (tickets (submit_event t s ∷ past)) ≡ length (tickets past) + 1
+tickets-submit past s t = omega (arith, length-append {A = Ticket})
+
+-- a ticket with a deadline is among the deadlines
+abbrev Has : ℕ × ℕ → List (ℕ × ℕ) → Type 0
+Has k [] = ⊥
+Has k (x ∷ xs) = (x ≡ k) ⊎ Has k xs
+
+same_pair : (a b : ℕ × ℕ) → by_deadline a b ≡ Equal → b ≡ a
+same_pair a b same =
+    let first : b.0 ≡ a.0 = grind (arith, common_steps) in
+    let second : b.1 ≡ a.1 = sym (same_number a b same) in
+    ap (λ n. (n, b.1)) first ∙ ap (λ t. (a.0, t)) second
+
+has-inserted-by : (k x : ℕ × ℕ) (xs : List (ℕ × ℕ)) (v : Ordering) → by_deadline k x ≡ v → Has k (insert_key by_deadline xs k) → Has k (match_ordering v (k ∷ x ∷ xs) (x ∷ xs) (x ∷ insert_key by_deadline xs k))
+has-inserted-by k x xs Less is further = inl refl
+has-inserted-by k x xs Equal is further = inl (same_pair k x is)
+has-inserted-by k x xs Greater is further = inr further
+
+has-inserted : (k : ℕ × ℕ) (xs : List (ℕ × ℕ)) → Has k (insert_key by_deadline xs k)
+has-inserted k [] = inl refl
+has-inserted k (x ∷ xs) = has-inserted-by k x xs (by_deadline k x) refl (has-inserted k xs)
+
+has-still : (y k : ℕ × ℕ) (xs : List (ℕ × ℕ)) → Has y xs → Has y (insert_key by_deadline xs k)
+has-still y k [] has = elim has [ ]
+has-still y k (x ∷ xs) (inl here) =
+    elim (by_deadline k x) as (λ v. Has y (match_ordering v (k ∷ x ∷ xs) (x ∷ xs) (x ∷ insert_key by_deadline xs k))) [ Less ↦ inr (inl here) | Equal ↦ inl here | Greater ↦ inl here ]
+has-still y k (x ∷ xs) (inr there) =
+    elim (by_deadline k x) as (λ v. Has y (match_ordering v (k ∷ x ∷ xs) (x ∷ xs) (x ∷ insert_key by_deadline xs k))) [ Less ↦ inr (inr there) | Equal ↦ inr there | Greater ↦ inr (has-still y k xs there) ]
+
+has-with : (y : ℕ × ℕ) (ds : List (ℕ × ℕ)) (o : Option ℕ) (t : ℕ) → Has y ds → Has y (with_deadline ds o t)
+has-with y ds None t has = has
+has-with y ds (Some n) t has = has-still y (n, t) ds has
+
+pub has-deadline : (past : List Event) (t n : ℕ) (s : Ticket) → slice_get (tickets past) t ≡ Some s → s.deadline ≡ Some n → Has (n, t) (deadlines past)
+has-deadline [] t n s at is = absurd (none-some s at)
+has-deadline (Submit u d e m body room deadline ∷ past) t n s at is =
+    elim (slice_get-push (tickets past) _ t s at) [
+      | inl before ↦ has-with (n, t) (deadlines past) deadline (length (tickets past)) (has-deadline past t n s before is)
+      | inr last ↦ has-new deadline (ap (λ (x : Ticket). x.deadline) last.1 ∙ is) last.0
+    ]
+  where
+    has-new : (o : Option ℕ) → o ≡ Some n → t ≡ length (tickets past) → Has (n, t) (with_deadline (deadlines past) o (length (tickets past)))
+    has-new None some at = absurd (none-some n some)
+    has-new (Some m) some at = rw (same_Some m n some, at) (has-inserted (n, length (tickets past)) (deadlines past))
+has-deadline (Refuse u d e m body room errno ∷ past) t n s at is =
+    elim (slice_get-push (tickets past) _ t s at) [
+      | inl before ↦ has-deadline past t n s before is
+      | inr last ↦ absurd (none-some n (ap (λ (x : Ticket). x.deadline) last.1 ∙ is))
+    ]
+has-deadline (Packet d e b ∷ past) t n s at is = has-deadline past t n s at is
+has-deadline (Ack d e ∷ past) t n s at is = has-deadline past t n s at is
+has-deadline (Echo d o i ∷ past) t n s at is = has-deadline past t n s at is
+has-deadline (Fail d e b ∷ past) t n s at is = has-deadline past t n s at is
+has-deadline (Discard u ∷ past) t n s at is = has-deadline past t n s at is
+has-deadline (Reap u ∷ past) t n s at is = has-deadline past t n s at is
+has-deadline (Unplug d ∷ past) t n s at is = has-deadline past t n s at is
+
+pub stays-finished : (old new : List Event) (t : ℕ) → Extends old new → IsSome (fate old t).status → IsSome (fate new t).status
+stays-finished old new t goes some = finished-by (fate old t).status refl some
+  where
+    finished-by : (o : Option ℕ) → (fate old t).status ≡ o → IsSome o → IsSome (fate new t).status
+    finished-by (Some errno) is some = ap is_some (status-stays old new t errno goes is)
+    finished-by None is some = cc
+
+finishes-in : (past : List Event) (clock n t : ℕ) (ds : List (ℕ × ℕ)) → n ≤ clock → t < length (tickets past) → Has (n, t) ds → IsSome (fate (all_discarded past (map (λ p. p.1) (filter (is_up clock) ds))) t).status
+finishes-in past clock n t [] up within has = elim has [ ]
+finishes-in past clock n t (x ∷ xs) up within (inl here) =
+    rw (here, le-leb n clock up)
+    (stays-finished (after_discard past t) (all_discarded (after_discard past t) (map (λ p. p.1) (filter (is_up clock) xs))) t (extends-all_discarded (after_discard past t) (map (λ p. p.1) (filter (is_up clock) xs))) (discard-finishes past t within))
+finishes-in past clock n t (x ∷ xs) up within (inr there) =
+    elim (is_up clock x) as (λ v. IsSome (fate (all_discarded past (map (λ p. p.1) (cond v (x ∷ filter (is_up clock) xs) (filter (is_up clock) xs)))) t).status) [
+      | true ↦ finishes-in (after_discard past x.1) clock n t xs up (rw (tickets-discard past x.1) within) there
+      | false ↦ finishes-in past clock n t xs up within there
+    ]
+
+-- after the turn of the timer a ticket whose deadline is at most the clock is finished
+pub timer-finishes : (past : List Event) (clock t n : ℕ) (s : Ticket) → slice_get (tickets past) t ≡ Some s → s.deadline ≡ Some n → n ≤ clock → IsSome (fate (timer_turned clock past) t).status
+unfolding timer_turned
+timer-finishes past clock t n s at is up =
+    rw (filter-swap (is_up clock) (is_open_entry past) (deadlines past), passes-finished past past (filter (is_up clock) (deadlines past)) (extends-same past))
+    (finishes-in past clock n t (deadlines past) up (slice_get_within (tickets past) t s at) (has-deadline past t n s at is))

@@ -1,0 +1,33 @@
+-- Turns of the timer, computed.
+use Rattle.std.proofs.Common.{◌≡◌, List, [], ◌∷◌, Some, None, refl}
+use Rattle.usb_kernel.specs.declared.event.Event.{Event}
+use Rattle.usb_kernel.specs.declared.event.Event.TheVariants.{Submit, Refuse, Discard, Reap, Packet}
+use Rattle.usb_kernel.specs.declared.event.Body.TheVariants.{Wanted}
+use Rattle.usb_kernel.specs.Timers.{timer_turned}
+
+-- two control transfers of 64 bytes, with the deadlines 100 and 200
+pub two : List Event
+two = Submit 1 0 128 64 (Wanted 64) 64 (Some 200) ∷ Submit 0 0 128 64 (Wanted 64) 64 (Some 100) ∷ []
+
+pub none_is_due : timer_turned 99 two ≡ two
+unfolding timer_turned two
+none_is_due = refl
+
+pub first_is_due : timer_turned 100 two ≡ Discard 0 ∷ two
+unfolding timer_turned two
+first_is_due = refl
+
+-- a later turn discards the other alone
+pub other_is_due : timer_turned 200 (Reap 0 ∷ Discard 0 ∷ two) ≡ Discard 1 ∷ Reap 0 ∷ Discard 0 ∷ two
+unfolding timer_turned two
+other_is_due = refl
+
+-- by deadline, and then by number; not those without a deadline, the refused and the finished ones
+pub many : List Event
+many =
+    Packet 0 129 (7 ∷ []) ∷ Submit 5 0 129 64 (Wanted 64) 64 (Some 1) ∷ Submit 4 0 128 8 (Wanted 8) 8 (Some 5) ∷ Refuse 3 0 128 8 (Wanted 8) 8 12
+    ∷ Submit 2 0 128 8 (Wanted 8) 8 (Some 5) ∷ Submit 1 0 130 64 (Wanted 64) 64 None ∷ Submit 0 0 128 8 (Wanted 8) 8 (Some 9) ∷ []
+
+pub in_order : timer_turned 9 many ≡ Discard 0 ∷ Discard 4 ∷ Discard 2 ∷ many
+unfolding timer_turned many
+in_order = refl

@@ -1,0 +1,19 @@
+use Rattle.std.proofs.Common.{arith, reverse, ◌∙◌, sym}
+use Rattle.usb_kernel.proofs.Completions.{tickets-turned}
+use Rattle.usb_kernel.proofs.kernel.Kernel.timer_turn.Goals as goal
+
+pub invariant_of-self : goal.invariant_of-self
+invariant_of-self c =
+    let inv = c.self.invariant in
+    let past = reverse c.self.inside.journal.items in
+    record {
+      lawful = c.discard_due.ensures.lawful inv.lawful;
+      agrees = c.discard_due.ensures.agrees;
+      listed = inv.listed ∙ sym c.discard_due.ensures.unreaped;
+      timed = c.discard_due.ensures.kept;
+      owes = omega (arith, c.discard_due.ensures.places, inv.owes);
+      space = omega (arith, c.discard_due.ensures.places, c.discard_due.ensures.len, c.discard_due.ensures.capacity, inv.owes, inv.space);
+      four = rw (c.discard_due.ensures.journal, tickets-turned c.self.inside.clock past) (omega (arith, c.discard_due.ensures.capacity, inv.four));
+      errnos = inv.errnos;
+      places = inv.places;
+    }

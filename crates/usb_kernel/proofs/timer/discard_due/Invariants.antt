@@ -1,0 +1,22 @@
+use Rattle.std.proofs.Common.{◌≡◌, ◌+◌, ◌≤◌, length, map, filter, reverse, sum_by, vec_len, vec_capacity}
+use Rattle.usb_kernel.specs.Legal.{IsLawful}
+use Rattle.usb_kernel.specs.Rows.{Agrees, owed}
+use Rattle.usb_kernel.specs.Unreaped.{unreaped_places}
+use Rattle.usb_kernel.specs.Timers.{is_up, all_discarded}
+use Rattle.usb_kernel.specs.Deadlines.{KeepsDeadlines}
+use Rattle.usb_kernel.proofs.timer.discard_due.Given as goal
+
+abbrev pub invariant-due : goal.invariant-due
+invariant-due l = record {
+  agrees : Agrees (reverse l.journal.items) l.rows.items;
+  kept : KeepsDeadlines (reverse l.journal.items) l.deadlines.keys;
+  goes : all_discarded (reverse l.journal.items) (map (λ p. p.1) (filter (is_up l.clock) l.deadlines.keys)) ≡ all_discarded (reverse l.initial.journal.items) (map (λ p. p.1) (filter (is_up l.clock) l.initial.deadlines.keys));
+  lawful : IsLawful (reverse l.initial.journal.items) → IsLawful (reverse l.journal.items);
+  places : sum_by owed l.rows.items + l.freed ≡ sum_by owed l.initial.rows.items;
+  len : vec_len l.journal ≡ vec_len l.initial.journal + l.freed;
+  capacity : vec_capacity l.initial.journal ≤ vec_capacity l.journal;
+  unreaped : unreaped_places l.rows.items ≡ unreaped_places l.initial.rows.items;
+}
+
+abbrev pub decreases-due : goal.decreases-due
+decreases-due l = length l.deadlines.keys

@@ -1,0 +1,43 @@
+-- Deadlines, and the turn of the timer.
+use Rattle.std.specs.Prelude.{ℕ, Bool, List, [], ◌∷◌, length, map, filter, Option, Some, None, is_none, nat_le}
+use Rattle.std.specs.declared.cmp.Ordering.{Ordering}
+use Rattle.std.specs.Ordering.{nat_cmp, ordering_then}
+use Rattle.std.specs.BTreeSet.{insert_key}
+use Rattle.usb_kernel.specs.declared.event.Event.{Event}
+use Rattle.usb_kernel.specs.declared.event.Event.TheVariants.{Submit}
+use Rattle.usb_kernel.specs.Tickets.{tickets}
+use Rattle.usb_kernel.specs.Journal.{fate}
+use Rattle.usb_kernel.specs.Discards.{after_discard}
+
+-- a deadline and its ticket: the earlier deadline comes first, and of two tickets with one deadline the lower number
+abbrev pub by_deadline : ℕ × ℕ → ℕ × ℕ → Ordering
+by_deadline a b = ordering_then (nat_cmp a.0 b.0) (nat_cmp a.1 b.1)
+
+abbrev pub with_deadline : List (ℕ × ℕ) → Option ℕ → ℕ → List (ℕ × ℕ)
+with_deadline ds None t = ds
+with_deadline ds (Some n) t = insert_key by_deadline ds (n, t)
+
+-- the deadlines of all tickets that were submitted with one, in this order. A refused ticket has none
+abbrev pub deadlines : List Event → List (ℕ × ℕ)
+deadlines [] = []
+deadlines (Submit t d e m body room deadline ∷ before) = with_deadline (deadlines before) deadline (length (tickets before))
+deadlines (_ ∷ before) = deadlines before
+
+-- the tickets that are not finished and whose deadline is at most the clock, in this order
+abbrev pub is_open_entry : List Event → ℕ × ℕ → Bool
+is_open_entry past p = is_none (fate past p.1).status
+
+abbrev pub is_up : ℕ → ℕ × ℕ → Bool
+is_up clock p = nat_le p.0 clock
+
+abbrev pub due : List Event → ℕ → List ℕ
+due past clock = map (λ p. p.1) (filter (is_up clock) (filter (is_open_entry past) (deadlines past)))
+
+-- a discard of each of these tickets, in their order
+abbrev pub all_discarded : List Event → List ℕ → List Event
+all_discarded past [] = past
+all_discarded past (t ∷ ts) = all_discarded (after_discard past t) ts
+
+-- the turn of the timer discards the tickets that are due
+unfoldable pub timer_turned : ℕ → List Event → List Event
+timer_turned clock past = all_discarded past (due past clock)
