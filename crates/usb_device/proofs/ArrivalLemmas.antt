@@ -9,16 +9,18 @@ use Rattle.usb_kernel.specs.declared.submission.Done.{Done}
 use Rattle.usb_kernel.specs.declared.devices.DeviceState.{DeviceState}
 use Rattle.usb_kernel.specs.Value.{KernelState}
 use Rattle.usb_kernel.specs.Completions.{completion, reapable}
+use Rattle.usb_kernel.specs.Timers.{timer_turned}
 use Rattle.usb_kernel.specs.Steps.{stepped, step_done, after_reap, after_discard}
-use Rattle.usb_kernel.proofs.Completions.{completion-step, tickets-step, completion-reap, tickets-reap, completion-discard, tickets-discard}
+use Rattle.usb_kernel.proofs.Completions.{tickets-turned, completion-turned, completion-step, tickets-step, completion-reap, tickets-reap, completion-discard, tickets-discard}
 use Rattle.usb_bus.specs.Completions.{transfer_completion}
+use Rattle.usb_bus.specs.Completions.{CompletesOnly}
 use Rattle.usb_device.specs.declared.ends.TicketEnd.TheVariants.{Reclaimed}
 use Rattle.usb_device.specs.declared.opened.OpenDevice.{OpenDevice}
 use Rattle.usb_device.specs.declared.owners.EndedClaim.{EndedClaim}
 use Rattle.usb_device.specs.declared.slot.Slot.{Slot}
 use Rattle.usb_device.specs.declared.slot.Slot.TheVariants as slot
 use Rattle.usb_device.specs.HostState.{HostState, Ended}
-use Rattle.usb_device.specs.HostFacts.{Agree, Comes, Fits, host_made}
+use Rattle.usb_device.specs.HostFacts.{Agree, Fits, host_made}
 use Rattle.usb_device.specs.LedgerState.{LedgerState, ticket_of, slot_with, abandoned_key, ended_with}
 use Rattle.usb_device.specs.Releases.{without_ended, settled}
 use Rattle.usb_device.specs.TicketEnds.{came, host_ended}
@@ -37,11 +39,11 @@ Fits-with next done t (slot.Held key transfer) has = rw has refl
 Fits-with next done t (slot.Abandoned key) has = tt
 Fits-with next done t (slot.Ended end) has = tt
 
-pub Agree-none : (past next : List Event) (slots : List Slot) → Agree past slots → Comes past next None → Agree next slots
+pub Agree-none : (past next : List Event) (slots : List Slot) → Agree past slots → CompletesOnly past next None → Agree next slots
 Agree-none past next slots agree comes =
     record { count = agree.count ∙ sym comes.count; each = λ t s at. Fits-same past next t s (comes.each t) (agree.each t s at) }
 
-pub Agree-some : (past next : List Event) (slots : List Slot) (done : Done) (s : Slot) → Agree past slots → Comes past next (Some done) → slice_get slots done.ticket ≡ Some s → Agree next (set slots done.ticket (slot_with done s))
+pub Agree-some : (past next : List Event) (slots : List Slot) (done : Done) (s : Slot) → Agree past slots → CompletesOnly past next (Some done) → slice_get slots done.ticket ≡ Some s → Agree next (set slots done.ticket (slot_with done s))
 Agree-some past next slots done s agree comes at =
     record {
       count = length-set slots done.ticket (slot_with done s) ∙ agree.count ∙ sym comes.count;
@@ -95,14 +97,17 @@ kernel-same a b past devices clock armed spare =
     ∙ ap (λ x. record b { spare = x }) spare
 
 -- the completions of a step, of a reap and of a discard
-pub Comes-step : (devices : List DeviceState) (past : List Event) (s : KernelStep) → Comes past (stepped devices past s) (step_done past s)
-Comes-step devices past s = record { count = ap length (tickets-step devices past s); each = completion-step devices past s }
+pub CompletesOnly-step : (devices : List DeviceState) (clock : ℕ) (past : List Event) (s : KernelStep) → CompletesOnly past (stepped devices clock past s) (step_done past s)
+CompletesOnly-step devices clock past s = record { count = ap length (tickets-step devices clock past s); each = completion-step devices clock past s }
 
-pub Comes-reap : (past : List Event) (t : ℕ) → Comes past (after_reap past t) (reapable past t)
-Comes-reap past t = record { count = ap length (tickets-reap past t); each = completion-reap past t }
+pub CompletesOnly-timer : (clock : ℕ) (past : List Event) → CompletesOnly past (timer_turned clock past) None
+CompletesOnly-timer clock past = record { count = ap length (tickets-turned clock past); each = completion-turned clock past }
 
-pub Comes-discard : (past : List Event) (t : ℕ) → Comes past (after_discard past t) None
-Comes-discard past t = record { count = ap length (tickets-discard past t); each = completion-discard past t }
+pub CompletesOnly-reap : (past : List Event) (t : ℕ) → CompletesOnly past (after_reap past t) (reapable past t)
+CompletesOnly-reap past t = record { count = ap length (tickets-reap past t); each = completion-reap past t }
+
+pub CompletesOnly-discard : (past : List Event) (t : ℕ) → CompletesOnly past (after_discard past t) None
+CompletesOnly-discard past t = record { count = ap length (tickets-discard past t); each = completion-discard past t }
 
 pub Agree-at : (past next : List Event) (slots : List Slot) → next ≡ past → Agree past slots → Agree next slots
 Agree-at past next slots same agree = rw same agree

@@ -1,34 +1,36 @@
 -- A host as a bus.
 use Rattle.std.proofs.Common.{ℕ, zero, suc, arith, ◌≡◌, ◌≤◌, ◌<◌, ◌+◌, ◌*◌, ◌^◌, Bool, true, false, cond, List, [], ◌∷◌, ◌++◌, length, set, slice_get, Option, Some, None, inl, inr, refl, sym, ◌∙◌, ap}
-use Rattle.std.specs.Prelude.{is_some, IsSome, nat_le, nat_lt, ◌&&◌, ◌==◌, option_and_then}
+use Rattle.std.specs.Prelude.{is_some, IsSome, IfSome, ◌==◌, option_and_then}
 use Rattle.std.specs.Option.{option_map}
 use Rattle.std.proofs.Math.Path.{fun_ext}
 use Rattle.std.proofs.Math.Dec.{eqb-suc-zero, eqb-zero-suc, eqb-suc-suc}
 use Rattle.std.proofs.lemmas.Bool.{cases_Bool}
-use Rattle.std.proofs.lemmas.Option.{slice_get_past}
 use Rattle.usb_xfer.specs.BufferState.{BufferState}
 use Rattle.usb_xfer.specs.Transfers.{buffer_held, IsFilled}
 use Rattle.usb_xfer.specs.declared.transfer.TransferData.{TransferData}
 use Rattle.usb_kernel.specs.declared.event.Event.{Event}
-use Rattle.usb_kernel.specs.declared.event.Event.TheVariants.{Packet, Ack, Fail, Reap, Unplug}
-use Rattle.usb_kernel.specs.declared.devices.DeviceState.{DeviceState}
+use Rattle.usb_kernel.specs.declared.event.Event.TheVariants.{Reap}
 use Rattle.usb_kernel.specs.declared.step.KernelStep.{KernelStep}
 use Rattle.usb_kernel.specs.declared.step.KernelStep.TheVariants as step
 use Rattle.usb_kernel.specs.declared.submission.Done.{Done}
 use Rattle.usb_kernel.specs.Tickets.{tickets}
-use Rattle.usb_kernel.specs.Journal.{fate, oldest}
 use Rattle.usb_kernel.specs.Completions.{completion, waiting, lowest, reapable}
-use Rattle.usb_kernel.specs.Devices.{plugged_device}
-use Rattle.usb_kernel.specs.Steps.{stepped, clock_stepped, after_step, after_reap, after_reap_of, reaped_by, step_done, after_discard}
+use Rattle.usb_kernel.specs.Steps.{stepped, clock_stepped, after_step, after_reap, step_done, after_discard}
 use Rattle.usb_kernel.specs.Submits.{submit_refusal}
+use Rattle.usb_kernel.specs.Submissions.{IsErrno}
 use Rattle.usb_bus.specs.declared.route.Route.{Route}
 use Rattle.usb_bus.specs.declared.route.Turn.{Turn}
 use Rattle.usb_bus.specs.declared.route.Turn.TheVariants.{TimeUp}
 use Rattle.usb_bus.specs.BusState.{BusState, with_owner, without, without_key}
-use Rattle.usb_bus.specs.Later.{Extends, IsLater}
+use Rattle.usb_bus.specs.Later.{IsLater}
+use Rattle.usb_kernel.proofs.Extends.{extends-same, extends-if, extends-step}
+use Rattle.usb_kernel.proofs.Waiting.{waiting-submit, waiting-refuse, waiting-one_less, waiting-few, lowest-reapable}
+use Rattle.usb_kernel.specs.Submits.{submit_or_refuse}
+use Rattle.usb_kernel.specs.declared.submission.Submission.{Submission}
 use Rattle.usb_bus.specs.Routes.{submission_of}
 use Rattle.usb_bus.specs.Submitted.{Entered}
 use Rattle.usb_bus.specs.Turns.{Falls}
+use Rattle.usb_bus.specs.Turns.{reap_turn}
 use Rattle.usb_device.specs.declared.ends.TicketEnd.TheVariants.{Dropped, Reclaimed}
 use Rattle.usb_device.specs.HostState.{HostState, HostTicket, HostEndpoint, Hold, Held, Abandoned, Ended}
 use Rattle.usb_device.specs.HostBus.{bus_of, owner_at, held_as, key_at, turns_left}
@@ -36,8 +38,7 @@ use Rattle.usb_device.specs.HostBusFacts.{owner_at-set, bus_of-ended, bus_of-set
 use Rattle.usb_device.specs.HostCalls.{host_submitted, host_refused, host_left, host_discarded, submitted_with, refused_with}
 use Rattle.usb_device.specs.Releases.{settled}
 use Rattle.usb_device.proofs.HostCallLemmas.{open-at}
-use Rattle.usb_device.proofs.WaitingLemmas.{waiting-less, waiting-few, reapable-some, waiting-entered}
-use Rattle.usb_device.specs.HostTurns.{host_turned, host_turn, turned_of, reaped_of, turn_for, end_of, host_stepped, host_reaped}
+use Rattle.usb_device.specs.HostTurns.{host_turned, host_turn, turned_of, reaped_of, turn_for, host_stepped, host_reaped}
 use Rattle.usb_device.specs.TicketEnds.{host_abandoned, given_up, reclaimed_if, came}
 
 -- what comes to a host leaves the bus
@@ -63,42 +64,22 @@ pub bus_of-reaped : (h : HostState) (t : ℕ) → bus_of (host_reaped h t) ≡ b
 unfolding host_reaped
 bus_of-reaped h t = bus_of-came (record h { kernel = record h.kernel { past = after_reap h.kernel.past t } }) (reapable h.kernel.past t)
 
--- the old journal is the tail
-Extends-same : (past : List Event) → Extends past past
-Extends-same past = record { more = []; is = refl }
-
-Extends-if : (b : Bool) (past : List Event) (e : Event) → Extends past (cond b (e ∷ past) past)
-Extends-if true past e = record { more = e ∷ []; is = refl }
-Extends-if false past e = Extends-same past
-
-Extends-reap : (past : List Event) (o : Option ℕ) → Extends past (after_reap_of past o)
-Extends-reap past None = Extends-same past
-Extends-reap past (Some t) = Extends-if (is_some (reapable past t)) past (Reap t)
-
-stepped-extends : (devices : List DeviceState) (past : List Event) (s : KernelStep) → Extends past (stepped devices past s)
-stepped-extends devices past (step.Packet d e b) = Extends-if (nat_le 128 e && is_some (oldest past d e)) past (Packet d e b)
-stepped-extends devices past (step.Ack d e) = Extends-if (nat_lt e 128 && is_some (oldest past d e)) past (Ack d e)
-stepped-extends devices past (step.Fail d e errno) = Extends-if (is_some (oldest past d e)) past (Fail d e errno)
-stepped-extends devices past (step.Unplug d) = Extends-if (is_some (plugged_device devices d)) past (Unplug d)
-stepped-extends devices past (step.Clock to) = Extends-same past
-stepped-extends devices past (step.Reap ticket) = Extends-reap past (reaped_by past ticket)
-stepped-extends devices past (step.Refuse d call errno) = Extends-same past
-
 clock-later : (now : ℕ) (s : KernelStep) → now ≤ clock_stepped now s
 clock-later now (step.Packet d e b) = omega arith
 clock-later now (step.Ack d e) = omega arith
 clock-later now (step.Fail d e errno) = omega arith
 clock-later now (step.Unplug d) = omega arith
 clock-later now (step.Clock to) = omega arith
+clock-later now step.Timer = omega arith
 clock-later now (step.Reap ticket) = omega arith
 clock-later now (step.Refuse d call errno) = omega arith
 
 later-reaped : (h : HostState) (o : Option ℕ) → IsLater (bus_of h) (bus_of (reaped_of h o))
-later-reaped h None = record { past = Extends-same h.kernel.past; clock = omega arith; owner = refl; keys = refl }
-later-reaped h (Some t) = rw (bus_of-reaped h t) (record { past = Extends-if (is_some (reapable h.kernel.past t)) h.kernel.past (Reap t); clock = omega arith; owner = refl; keys = refl })
+later-reaped h None = record { past = extends-same h.kernel.past; clock = omega arith; owner = refl; keys = refl }
+later-reaped h (Some t) = rw (bus_of-reaped h t) (record { past = extends-if (is_some (reapable h.kernel.past t)) h.kernel.past (Reap t); clock = omega arith; owner = refl; keys = refl })
 
 later-stepped : (h : HostState) (s : KernelStep) → IsLater (bus_of h) (bus_of (host_stepped h s))
-later-stepped h s = rw (bus_of-stepped h s) (record { past = stepped-extends h.kernel.devices h.kernel.past s; clock = clock-later h.kernel.clock s; owner = refl; keys = refl })
+later-stepped h s = rw (bus_of-stepped h s) (record { past = extends-step h.kernel.devices h.kernel.clock h.kernel.past s; clock = clock-later h.kernel.clock s; owner = refl; keys = refl })
 
 later-turned_of : (h : HostState) (steps : List KernelStep) → IsLater (bus_of h) (bus_of (turned_of h steps))
 later-turned_of h [] = later-reaped h (lowest h.kernel.past)
@@ -109,20 +90,20 @@ unfolding host_turned
 later-turned old new is = rw is (later-turned_of old old.steps)
 
 -- the number of turns falls
-falls-reaped : (h : HostState) (o : Option ℕ) → lowest h.kernel.past ≡ o → Falls (end_of o) (turns_left h) (turns_left (reaped_of h o))
+falls-reaped : (h : HostState) (o : Option ℕ) → lowest h.kernel.past ≡ o → Falls (reap_turn o) (turns_left h) (turns_left (reaped_of h o))
 falls-reaped h None is = omega arith
 falls-reaped h (Some t) is =
-    let l = waiting-less h.kernel.past t is in
+    let l = waiting-one_less h.kernel.past t (lowest-reapable h.kernel.past t is) in
     let left : turns_left (host_reaped h t) ≡ length h.steps * 2 ^ 64 + length (waiting (after_reap h.kernel.past t)) = ap (λ (b : BusState). b.left) (bus_of-reaped h t) in
-    let acts : after_reap h.kernel.past t ≡ Reap t ∷ h.kernel.past = rw (reapable-some h.kernel.past t is) refl in
+    let acts : after_reap h.kernel.past t ≡ Reap t ∷ h.kernel.past = rw (lowest-reapable h.kernel.past t is) refl in
     rw (left, acts) (omega arith)
 
 falls-stepped : (h : HostState) (s : KernelStep) (ss : List KernelStep) → length h.steps ≡ length ss + 1 → length (tickets (host_stepped (record h { steps = ss }) s).kernel.past) < 2 ^ 64 → turns_left (host_stepped (record h { steps = ss }) s) < turns_left h
 falls-stepped h s ss len few =
-    let w = waiting-few (fate (stepped h.kernel.devices h.kernel.past s)) 0 (tickets (stepped h.kernel.devices h.kernel.past s)) in
-    let past : (host_stepped (record h { steps = ss }) s).kernel.past ≡ stepped h.kernel.devices h.kernel.past s = ap (λ (b : BusState). b.past) (bus_of-stepped (record h { steps = ss }) s) in
-    let left : turns_left (host_stepped (record h { steps = ss }) s) ≡ length ss * 2 ^ 64 + length (waiting (stepped h.kernel.devices h.kernel.past s)) = ap (λ (b : BusState). b.left) (bus_of-stepped (record h { steps = ss }) s) in
-    let few' : length (tickets (stepped h.kernel.devices h.kernel.past s)) < 2 ^ 64 = rw past at few in
+    let w = waiting-few (stepped h.kernel.devices h.kernel.clock h.kernel.past s) in
+    let past : (host_stepped (record h { steps = ss }) s).kernel.past ≡ stepped h.kernel.devices h.kernel.clock h.kernel.past s = ap (λ (b : BusState). b.past) (bus_of-stepped (record h { steps = ss }) s) in
+    let left : turns_left (host_stepped (record h { steps = ss }) s) ≡ length ss * 2 ^ 64 + length (waiting (stepped h.kernel.devices h.kernel.clock h.kernel.past s)) = ap (λ (b : BusState). b.left) (bus_of-stepped (record h { steps = ss }) s) in
+    let few' : length (tickets (stepped h.kernel.devices h.kernel.clock h.kernel.past s)) < 2 ^ 64 = rw past at few in
     rw left (omega arith)
 
 falls-steps : (h : HostState) (steps : List KernelStep) → h.steps ≡ steps → length (tickets (turned_of h steps).kernel.past) < 2 ^ 64 → Falls (turn_for h.kernel.past steps) (turns_left h) (turns_left (turned_of h steps))
@@ -136,7 +117,7 @@ falls-turned old new turn is gives few =
     rw (is, gives) (falls-steps old old.steps refl few')
 
 -- when time is up no ticket waits
-end-none : (o : Option ℕ) → end_of o ≡ TimeUp → o ≡ None
+end-none : (o : Option ℕ) → reap_turn o ≡ TimeUp → o ≡ None
 end-none None is = refl
 end-none (Some t) is = absurd (cc)
 
@@ -194,9 +175,6 @@ owner-append [] hold (suc u) = rw (eqb-zero-suc u) refl
 owner-append (x ∷ xs) hold zero = rw (eqb-suc-zero (length xs)) refl
 owner-append (x ∷ xs) hold (suc u) = rw (eqb-suc-suc (length xs) u) (owner-append xs hold u)
 
-pub fresh-owner : (tickets : List HostTicket) (n : ℕ) → length tickets ≡ n → owner_at tickets n ≡ None
-fresh-owner tickets n count = ap (λ o. option_map (λ (hold : Hold). hold.key) (option_and_then held_as o)) (slice_get_past tickets n (omega arith))
-
 submitted-some : (h : HostState) (to : Route) (t : TransferData) (b : BufferState) → buffer_held t.held ≡ Some b → host_submitted h to t ≡ submitted_with h to t (Some b)
 unfolding host_submitted
 submitted-some h to t b some = rw some refl
@@ -208,26 +186,30 @@ refused-some h to t errno b some = rw some refl
 owner-new : (old : HostState) (hold : Hold) → length old.tickets ≡ length (tickets old.kernel.past) → owner_at (old.tickets ++ Held hold ∷ []) ≡ with_owner (owner_at old.tickets) (length (tickets old.kernel.past)) hold.key
 owner-new old hold count = rw (← count) (fun_ext (owner-append old.tickets hold))
 
-pub submitted-state : (old new : HostState) (to : Route) (t : TransferData) (b : BufferState) → length old.tickets ≡ length (tickets old.kernel.past) → new ≡ host_submitted old to t → buffer_held t.held ≡ Some b
+pub submitted-state : (old new : HostState) (to : Route) (t : TransferData) (b : BufferState) → length old.tickets ≡ length (tickets old.kernel.past) → new ≡ host_submitted old to t → buffer_held t.held ≡ Some b → IfSome (submit_refusal old.kernel.devices old.kernel.armed to.device) IsErrno
     → Entered (bus_of old) (bus_of new) to b (submit_refusal old.kernel.devices old.kernel.armed to.device)
-submitted-state old new to t b count is some =
-    rw (is ∙ submitted-some old to t b some) (record { past = refl; clock = refl; owner = owner-new old (record { key = to.key; endpoint = t.endpoint; kind = t.kind }) count; keys = refl })
+submitted-state old new to t b count is some known =
+    rw (is ∙ submitted-some old to t b some) (record { past = refl; clock = refl; owner = owner-new old (record { key = to.key; endpoint = t.endpoint; kind = t.kind }) count; keys = refl; errno = known })
 
-pub refused-state : (old new : HostState) (to : Route) (t : TransferData) (errno : ℕ) (b : BufferState) → length old.tickets ≡ length (tickets old.kernel.past) → new ≡ host_refused old to t errno → buffer_held t.held ≡ Some b
+pub refused-state : (old new : HostState) (to : Route) (t : TransferData) (errno : ℕ) (b : BufferState) → length old.tickets ≡ length (tickets old.kernel.past) → new ≡ host_refused old to t errno → buffer_held t.held ≡ Some b → IsErrno errno
     → Entered (bus_of old) (bus_of new) to b (Some errno)
-refused-state old new to t errno b count is some =
-    rw (is ∙ refused-some old to t errno b some) (record { past = refl; clock = refl; owner = owner-new old (record { key = to.key; endpoint = t.endpoint; kind = t.kind }) count; keys = refl })
+refused-state old new to t errno b count is some known =
+    rw (is ∙ refused-some old to t errno b some) (record { past = refl; clock = refl; owner = owner-new old (record { key = to.key; endpoint = t.endpoint; kind = t.kind }) count; keys = refl; errno = known })
 
 -- and no turn more
+waiting-entered : (past : List Event) (s : Submission) (refusal : Option ℕ) → waiting (submit_or_refuse (length (tickets past)) s refusal ∷ past) ≡ waiting past
+waiting-entered past s None = waiting-submit past (length (tickets past)) s.device s.endpoint s.maximum _ s.buffer.room s.deadline
+waiting-entered past s (Some errno) = waiting-refuse past (length (tickets past)) s.device s.endpoint s.maximum _ s.buffer.room errno
+
 pub submitted-left : (old new : HostState) (to : Route) (t : TransferData) (b : BufferState) → new ≡ host_submitted old to t → buffer_held t.held ≡ Some b → turns_left new ≡ turns_left old
 submitted-left old new to t b is some =
     let w = waiting-entered old.kernel.past (submission_of to b) (submit_refusal old.kernel.devices old.kernel.armed to.device) in
-    rw (is ∙ submitted-some old to t b some) (ap (λ n. length old.steps * 2 ^ 64 + n) w)
+    rw (is ∙ submitted-some old to t b some) (ap (λ (ts : List ℕ). length old.steps * 2 ^ 64 + length ts) w)
 
 pub refused-left : (old new : HostState) (to : Route) (t : TransferData) (errno : ℕ) (b : BufferState) → new ≡ host_refused old to t errno → buffer_held t.held ≡ Some b → turns_left new ≡ turns_left old
 refused-left old new to t errno b is some =
     let w = waiting-entered old.kernel.past (submission_of to b) (Some errno) in
-    rw (is ∙ refused-some old to t errno b some) (ap (λ n. length old.steps * 2 ^ 64 + n) w)
+    rw (is ∙ refused-some old to t errno b some) (ap (λ (ts : List ℕ). length old.steps * 2 ^ 64 + length ts) w)
 
 pub some-buffer : (t : TransferData) → IsFilled t → (b : BufferState) × (buffer_held t.held ≡ Some b)
 some-buffer t filled = some-of (buffer_held t.held) filled

@@ -10,9 +10,8 @@ use Rattle.usb_xfer.specs.declared.transfer.TransferData.{TransferData}
 use Rattle.usb_xfer.specs.Transfers.{buffer_held}
 use Rattle.usb_kernel.specs.Completions.{completion}
 use Rattle.usb_bus.specs.declared.route.Route.{Route}
-use Rattle.usb_bus.specs.BusState.{BusState, without, without_key}
-use Rattle.usb_endpoint.specs.Handles.{KeepsOthers}
-use Rattle.usb_endpoint.proofs.HandleLemmas.{without-other, KeepsOthers-end}
+use Rattle.usb_bus.specs.BusState.{without, without_key}
+use Rattle.usb_endpoint.proofs.HandleLemmas.{without-other}
 use Rattle.usb_device.specs.declared.ends.TicketEnd.{TicketEnd}
 use Rattle.usb_device.specs.declared.ends.TicketEnd.TheVariants.{Taken, Dropped}
 use Rattle.usb_device.specs.HostState.{HostState, HostTicket, HostEndpoint, Hold, Held, Abandoned, Ended}
@@ -50,30 +49,6 @@ owner-push : (ts : List HostTicket) (x : HostTicket) (t k : ℕ) → owner_at ts
 owner-push [] x t k own = absurd (none-some k own)
 owner-push (y ∷ ys) x zero k own = own
 owner-push (y ∷ ys) x (suc t) k own = owner-push ys x t k own
-
-submitted_with-others : (h : HostState) (to : Route) (t : TransferData) (key : ℕ) (o : Option BufferState) → KeepsOthers (bus_of h) (bus_of (submitted_with h to t o)) key
-submitted_with-others h to t key None = record { tickets = λ u k other own. own; keys = λ k other is. is }
-submitted_with-others h to t key (Some b) =
-    record {
-      tickets = λ u k other own. owner-push h.tickets (Held (record { key = to.key; endpoint = t.endpoint; kind = t.kind })) u k own;
-      keys = λ k other is. is;
-    }
-
-pub others-submitted : (h : HostState) (to : Route) (t : TransferData) (key : ℕ) → KeepsOthers (bus_of h) (bus_of (host_submitted h to t)) key
-unfolding host_submitted
-others-submitted h to t key = submitted_with-others h to t key (buffer_held t.held)
-
-refused_with-others : (h : HostState) (to : Route) (t : TransferData) (errno key : ℕ) (o : Option BufferState) → KeepsOthers (bus_of h) (bus_of (refused_with h to t errno o)) key
-refused_with-others h to t errno key None = record { tickets = λ u k other own. own; keys = λ k other is. is }
-refused_with-others h to t errno key (Some b) =
-    record {
-      tickets = λ u k other own. owner-push h.tickets (Held (record { key = to.key; endpoint = t.endpoint; kind = t.kind })) u k own;
-      keys = λ k other is. is;
-    }
-
-pub others-refused : (h : HostState) (to : Route) (t : TransferData) (errno key : ℕ) → KeepsOthers (bus_of h) (bus_of (host_refused h to t errno)) key
-unfolding host_refused
-others-refused h to t errno key = refused_with-others h to t errno key (buffer_held t.held)
 
 -- the owners without one
 without-at : (owner owner' : ℕ → Option ℕ) (t : ℕ) → owner' t ≡ None → ((u : ℕ) → t ≢ u → owner' u ≡ owner u) → (u : ℕ) → owner' u ≡ without owner t u
@@ -132,13 +107,6 @@ unfolding host_abandoned
 bus-abandoned h t =
     of_two (λ g. bus_of g ≡ record (bus_of h) { owner = without (owner_at h.tickets) t }) (is_some (completion h.kernel.past t)) (host_ended h t Dropped) (given_up h t (slice_get h.tickets t))
     (bus-ended h t Dropped) (given_up-bus h t (slice_get h.tickets t) refl)
-
--- an endpoint that has a ticket ends it alone
-pub others-taken : (h : HostState) (t key : ℕ) → owner_at h.tickets t ≡ Some key → KeepsOthers (bus_of h) (bus_of (host_taken h t)) key
-others-taken h t key own = KeepsOthers-end (bus_of h) (bus_of h) (bus_of (host_taken h t)) key t (record { tickets = λ u k other held. held; keys = λ k other is. is }) own (bus-taken h t)
-
-pub others-abandoned : (h : HostState) (t key : ℕ) → owner_at h.tickets t ≡ Some key → KeepsOthers (bus_of h) (bus_of (host_abandoned h t)) key
-others-abandoned h t key own = KeepsOthers-end (bus_of h) (bus_of h) (bus_of (host_abandoned h t)) key t (record { tickets = λ u k other held. held; keys = λ k other is. is }) own (bus-abandoned h t)
 
 -- what ends a ticket keeps what is open
 pub keeps-ended : (h : HostState) (t : ℕ) (end : TicketEnd) → KeepsOpen h (host_ended h t end)
@@ -216,16 +184,3 @@ line-left h k =
 pub interfaces-left : (h : HostState) (k : ℕ) → (host_left h k).interfaces ≡ h.interfaces
 unfolding host_left
 interfaces-left h k = ap (λ (g : HostState). g.interfaces) (closed_if-is h k (slice_get h.endpoints k))
-
-without_key-other : (keys : ℕ → Bool) (key k : ℕ) → k ≢ key → without_key keys key k ≡ keys k
-without_key-other keys key k ne = rw (ne_eqb key k (λ z. ne (sym z))) refl
-
-others-without : (old new : BusState) (key : ℕ) → new ≡ record old { keys = without_key old.keys key } → KeepsOthers old new key
-others-without old new key is =
-    record {
-      tickets = λ t k other own. ap (λ (b : BusState). b.owner t) is ∙ own;
-      keys = λ k other open_. ap (λ (b : BusState). b.keys k) is ∙ (without_key-other old.keys key k other ∙ open_);
-    }
-
-pub others-left : (h : HostState) (key : ℕ) → KeepsOthers (bus_of h) (bus_of (host_left h key)) key
-others-left h key = others-without (bus_of h) (bus_of (host_left h key)) key (bus-left h key)

@@ -20,25 +20,25 @@ use Rattle.usb_device.specs.Releases.{settled}
 use Rattle.usb_device.specs.TicketEnds.{ended_as, host_ended, given_up, host_abandoned}
 
 -- discards leave the tickets, and what is reaped
-discards-tickets : (h : HostState) (ts : List ℕ) → (all_discarded host_discarded h ts).tickets ≡ h.tickets
+pub discards-tickets : (h : HostState) (ts : List ℕ) → (all_discarded host_discarded h ts).tickets ≡ h.tickets
 unfolding host_discarded
 discards-tickets h [] = refl
 discards-tickets h (t ∷ ts) = discards-tickets h ts
 
-discards-completion : (h : HostState) (ts : List ℕ) (u : ℕ) → completion (all_discarded host_discarded h ts).kernel.past u ≡ completion h.kernel.past u
+pub discards-completion : (h : HostState) (ts : List ℕ) (u : ℕ) → completion (all_discarded host_discarded h ts).kernel.past u ≡ completion h.kernel.past u
 unfolding host_discarded
 discards-completion h [] u = refl
 discards-completion h (t ∷ ts) u = completion-discard (all_discarded host_discarded h ts).kernel.past t u ∙ discards-completion h ts u
 
 -- the end of one ticket leaves the journal and the others
-ended-past : (h : HostState) (t : ℕ) (end : TicketEnd) (o : Option HostTicket) → (ended_as h t end o).kernel.past ≡ h.kernel.past
+pub ended-past : (h : HostState) (t : ℕ) (end : TicketEnd) (o : Option HostTicket) → (ended_as h t end o).kernel.past ≡ h.kernel.past
 unfolding settled
 ended-past h t end None = refl
 ended-past h t end (Some (Held hold)) = refl
 ended-past h t end (Some (Abandoned key)) = refl
 ended-past h t end (Some (Ended before)) = refl
 
-ended-others : (h : HostState) (t u : ℕ) (end : TicketEnd) (o : Option HostTicket) → u ≢ t → slice_get (ended_as h t end o).tickets u ≡ slice_get h.tickets u
+pub ended-others : (h : HostState) (t u : ℕ) (end : TicketEnd) (o : Option HostTicket) → u ≢ t → slice_get (ended_as h t end o).tickets u ≡ slice_get h.tickets u
 unfolding settled
 ended-others h t u end None apart = refl
 ended-others h t u end (Some (Held hold)) apart = slice_get-set_other h.tickets t u (Ended end) apart
@@ -58,7 +58,7 @@ given_up-others h t u (Some (Abandoned key)) apart = refl
 given_up-others h t u (Some (Ended end)) apart = refl
 
 -- so does one that is given up
-abandoned-past : (h : HostState) (t : ℕ) → (host_abandoned h t).kernel.past ≡ h.kernel.past
+pub abandoned-past : (h : HostState) (t : ℕ) → (host_abandoned h t).kernel.past ≡ h.kernel.past
 unfolding host_abandoned host_ended
 abandoned-past h t =
     elim (is_some (completion h.kernel.past t)) as (λ b. (cond b (host_ended h t Dropped) (given_up h t (slice_get h.tickets t))).kernel.past ≡ h.kernel.past) [
@@ -66,7 +66,7 @@ abandoned-past h t =
       | false ↦ given_up-past h t (slice_get h.tickets t)
     ]
 
-abandoned-others : (h : HostState) (t u : ℕ) → u ≢ t → slice_get (host_abandoned h t).tickets u ≡ slice_get h.tickets u
+pub abandoned-others : (h : HostState) (t u : ℕ) → u ≢ t → slice_get (host_abandoned h t).tickets u ≡ slice_get h.tickets u
 unfolding host_abandoned host_ended
 abandoned-others h t u apart =
     elim (is_some (completion h.kernel.past t)) as (λ b. slice_get (cond b (host_ended h t Dropped) (given_up h t (slice_get h.tickets t))).tickets u ≡ slice_get h.tickets u) [
@@ -74,7 +74,7 @@ abandoned-others h t u apart =
       | false ↦ given_up-others h t u (slice_get h.tickets t) apart
     ]
 
-by_set : (ts : List HostTicket) (t : ℕ) (was new : HostTicket) → slice_get ts t ≡ Some was → slice_get (set ts t new) t ≡ Some new
+pub by_set : (ts : List HostTicket) (t : ℕ) (was new : HostTicket) → slice_get ts t ≡ Some was → slice_get (set ts t new) t ≡ Some new
 by_set [] t was new at = absurd (none-some was at)
 by_set (x ∷ xs) zero was new at = refl
 by_set (x ∷ xs) (suc t) was new at = by_set xs t was new at
@@ -122,7 +122,7 @@ abandons-end g (u ∷ us) key (suc i) t held at =
     ∙ ap (λ (past : List Event). dropped_if (is_some (completion past t))) (abandoned-past g u)
 
 -- the endpoint leaves the tickets
-left-tickets : (h : HostState) (key : ℕ) (o : Option HostEndpoint) → (closed_if h key o).tickets ≡ h.tickets
+pub left-tickets : (h : HostState) (key : ℕ) (o : Option HostEndpoint) → (closed_if h key o).tickets ≡ h.tickets
 unfolding settled
 left-tickets h key None = refl
 left-tickets h key (Some e) = refl

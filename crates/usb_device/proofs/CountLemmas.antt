@@ -95,7 +95,7 @@ unfolding host_stepped
 stepped-count h s =
     let mid = record h { kernel = after_step h.kernel s } in
     count-trans h mid (came mid (step_done h.kernel.past s))
-    (record { count = refl; past = ap (λ (ts : List Ticket). length ts) (tickets-step h.kernel.devices h.kernel.past s) })
+    (record { count = refl; past = ap (λ (ts : List Ticket). length ts) (tickets-step h.kernel.devices h.kernel.clock h.kernel.past s) })
     (came-count mid (step_done h.kernel.past s))
 
 pub reaped-count : (h : HostState) (t : ℕ) → KeepsCount h (host_reaped h t)

@@ -1,26 +1,16 @@
--- The calls of an endpoint at a host.
-use Rattle.std.proofs.Common.{ℕ, ◌≡◌, Bool, true, false, cond, List, [], ◌∷◌, length, Some, refl, sym, ◌∙◌, ap}
+-- What the calls of an endpoint leave as it was at a host.
+use Rattle.std.proofs.Common.{ℕ, ◌≡◌, true, false, cond, List, [], ◌∷◌, refl, ◌∙◌}
 use Rattle.usb_xfer.specs.BufferState.{BufferState}
-use Rattle.usb_xfer.specs.declared.transfer.Completion.{Completion}
-use Rattle.usb_kernel.specs.Tickets.{tickets}
-use Rattle.usb_bus.specs.Completions.{transfer_completion}
 use Rattle.usb_endpoint.specs.EndpointState.{EndpointState, route_of}
 use Rattle.usb_endpoint.specs.Submits.{is_valid, transfer_by, entered}
-use Rattle.usb_endpoint.specs.Waits.{front_of, WaitedNext, WaitedInVain}
-use Rattle.usb_endpoint.specs.Blocking.{Transferred}
 use Rattle.usb_endpoint.specs.Closes.{all_discarded, all_abandoned, after_close}
 use Rattle.usb_device.specs.HostState.{HostState}
-use Rattle.usb_device.specs.HostBus.{bus_of}
-use Rattle.usb_device.specs.TicketEnds.{host_taken, host_abandoned}
-use Rattle.usb_device.specs.HostTurns.{host_turned, host_turn}
+use Rattle.usb_device.specs.TicketEnds.{host_abandoned}
 use Rattle.usb_device.specs.HostCalls.{host_submitted, host_refused, host_discarded, host_left}
-use Rattle.usb_device.specs.HostWaits.{host_waited}
-use Rattle.usb_device.specs.HostBlocking.{host_blocked}
-use Rattle.usb_device.specs.HostFrames.{LineGoesOn, WentOn, KeepsLine, KeepsOpen}
-use Rattle.usb_device.proofs.CallFrames.{keeps-open, keeps-submitted, keeps-refused, keeps-taken, keeps-abandoned, line-left, interfaces-left}
+use Rattle.usb_device.specs.HostFrames.{WentOn, KeepsLine, KeepsOpen}
+use Rattle.usb_device.proofs.CallFrames.{keeps-open, keeps-submitted, keeps-refused, keeps-abandoned, line-left, interfaces-left}
 use Rattle.usb_device.proofs.HostFrames.{uses-discarded}
-use Rattle.usb_device.proofs.WaitFrames.{line-trans, line-keeps, went-uses, went-nowhere, went-trans, went-waited, went-blocked}
-use Rattle.usb_device.proofs.HostBlockingLemmas.{waited-now, blocking-by_steps}
+use Rattle.usb_device.proofs.WaitFrames.{went-uses, went-nowhere, went-trans}
 
 -- a submission keeps what is open, valid or not
 pub keeps-entered : (h : HostState) (e : EndpointState) (b : BufferState) → KeepsOpen h (entered host_submitted host_refused h e b)
@@ -29,64 +19,6 @@ keeps-entered h e b =
       | true ↦ keeps-submitted h (route_of e) (transfer_by (route_of e) b)
       | false ↦ keeps-refused h (route_of e) (transfer_by (route_of e) b) 22
     ]
-
--- the next of the queue is at its front
-front-is : (pending : List ℕ) (t : ℕ) (others : List ℕ) → pending ≡ t ∷ others → t ≡ front_of pending
-front-is pending t others was = sym (ap front_of was)
-
--- what a wait found that took the front
-pub record FoundAt (timeout t : ℕ) (c : Completion) (old new : HostState) : Type 0 where
-  pub found : (host_waited old t timeout).0 ≡ true
-  pub completion_is : transfer_completion (host_waited old t timeout).1.kernel.past t ≡ Some c
-  pub rest : new ≡ host_taken (host_waited old t timeout).1 t
-
-pub waited-next : (timeout : ℕ) (h g : HostState) (e next : EndpointState) (c : Completion) → WaitedNext bus_of host_turned host_turn host_taken timeout h e c g next → FoundAt timeout (front_of e.pending) c h g
-waited-next timeout h g e next c waits =
-    let is : (true, waits.mid) ≡ host_waited h (front_of e.pending) timeout = waited-now (front_of e.pending) timeout waits.looks h (true, waits.mid) waits.found in
-    let first = front-is e.pending waits.took.front waits.took.others waits.took.was in
-    record {
-      found = sym (ap (λ (p : Bool × HostState). p.0) is);
-      completion_is = sym (ap (λ (p : Bool × HostState). transfer_completion p.1.kernel.past (front_of e.pending)) is) ∙ (sym (ap (λ (t : ℕ). transfer_completion waits.mid.kernel.past t) first) ∙ waits.took.completion_is);
-      rest = waits.took.rest ∙ (ap (λ (t : ℕ). host_taken waits.mid t) first ∙ ap (λ (p : Bool × HostState). host_taken p.1 (front_of e.pending)) is);
-    }
-
-pub waited-in_vain : (timeout : ℕ) (h g : HostState) (e next : EndpointState) → WaitedInVain bus_of host_turned host_turn timeout h e g next → host_waited h (front_of e.pending) timeout ≡ (false, g)
-waited-in_vain timeout h g e next waits = sym (waited-now (front_of e.pending) timeout waits.looks h (false, g) waits.ended)
-
--- what a blocking transfer is at a host
-pub record TransferredAt (timeout : ℕ) (e : EndpointState) (b : BufferState) (c : Completion) (old new : HostState) : Type 0 where
-  pub completion_is :
-      transfer_completion (host_blocked (entered host_submitted host_refused old e b) (length (tickets old.kernel.past)) timeout).kernel.past (length (tickets old.kernel.past)) ≡ Some c
-  pub rest : new ≡ host_taken (host_blocked (entered host_submitted host_refused old e b) (length (tickets old.kernel.past)) timeout) (length (tickets old.kernel.past))
-
-pub transferred-at : (timeout : ℕ) (h g : HostState) (e : EndpointState) (b : BufferState) (c : Completion)
-    → Transferred bus_of host_submitted host_refused host_turned host_turn host_discarded host_taken timeout h e b c g → TransferredAt timeout e b c h g
-transferred-at timeout h g e b c went =
-    let t = length (tickets h.kernel.past) in
-    let is : went.mid ≡ host_blocked (entered host_submitted host_refused h e b) t timeout = blocking-by_steps t timeout went.looks went.more (entered host_submitted host_refused h e b) went.mid went.found in
-    record {
-      completion_is = sym (ap (λ (x : HostState). transfer_completion x.kernel.past t) is) ∙ went.completion_is;
-      rest = went.rest ∙ ap (λ (x : HostState). host_taken x t) is;
-    }
-
--- a wait, and the front that it found
-pub line-found : (timeout t : ℕ) (c : Completion) (h g : HostState) → FoundAt timeout t c h g → LineGoesOn h g
-line-found timeout t c h g found =
-    let mid = (host_waited h t timeout).1 in
-    let goes : LineGoesOn h (host_taken mid t) = line-trans h mid (host_taken mid t) (went-waited h t timeout).line (line-keeps mid (host_taken mid t) (keeps-taken mid t)) in
-    rw found.rest goes
-
-pub line-in_vain : (timeout t : ℕ) (h g : HostState) → host_waited h t timeout ≡ (false, g) → LineGoesOn h g
-line-in_vain timeout t h g is = rw is at (went-waited h t timeout).line
-
-pub line-transferred : (timeout : ℕ) (e : EndpointState) (b : BufferState) (c : Completion) (h g : HostState) → TransferredAt timeout e b c h g → LineGoesOn h g
-line-transferred timeout e b c h g went =
-    let t = length (tickets h.kernel.past) in
-    let sent = entered host_submitted host_refused h e b in
-    let mid = host_blocked sent t timeout in
-    let goes : LineGoesOn h (host_taken mid t) =
-    line-trans h sent (host_taken mid t) (line-keeps h sent (keeps-entered h e b)) (line-trans sent mid (host_taken mid t) (went-blocked sent t timeout).line (line-keeps mid (host_taken mid t) (keeps-taken mid t))) in
-    rw went.rest goes
 
 -- the discards of a queue
 pub went-all_discarded : (h : HostState) (ts : List ℕ) → WentOn h (all_discarded host_discarded h ts)

@@ -102,7 +102,7 @@ asked-endpoints h key = ap (λ (x : HostState). x.endpoints) (asked-made h key)
 
 pub endpoint-stands : (h new : HostState) (device i address : ℕ) (n : EndpointState) → new ≡ with_endpoint (host_asked h device) i address → n.key ≡ length h.endpoints → n.pending ≡ [] → Stands (bus_of new) n
 endpoint-stands h new device i address n is key none =
-    let e : HostEndpoint = record { interface = i; address = address; is_open = true } in
+    let e : HostEndpoint = record { interface = Some i; address = address; is_open = true } in
     let endpoints : new.endpoints ≡ h.endpoints ++ e ∷ [] = ap (λ (x : HostState). x.endpoints) is ∙ ap (λ (es : List HostEndpoint). es ++ e ∷ []) (asked-endpoints h device) in
     record {
       key_is_open = ap (key_at new.endpoints) key ∙ ap (λ (es : List HostEndpoint). key_at es (length h.endpoints)) endpoints ∙ key-new h.endpoints e refl;
@@ -111,7 +111,7 @@ endpoint-stands h new device i address n is key none =
 
 pub endpoint-others : (h new : HostState) (device i address key : ℕ) → new ≡ with_endpoint (host_asked h device) i address → KeepsOthers (bus_of h) (bus_of new) key
 endpoint-others h new device i address key is =
-    let e : HostEndpoint = record { interface = i; address = address; is_open = true } in
+    let e : HostEndpoint = record { interface = Some i; address = address; is_open = true } in
     let endpoints : new.endpoints ≡ h.endpoints ++ e ∷ [] = ap (λ (x : HostState). x.endpoints) is ∙ ap (λ (es : List HostEndpoint). es ++ e ∷ []) (asked-endpoints h device) in
     let tickets : new.tickets ≡ h.tickets = ap (λ (x : HostState). x.tickets) is ∙ ap (λ (x : HostState). x.tickets) (asked-made h device) in
     record {

@@ -18,11 +18,13 @@ use Rattle.usb_kernel.proofs.Completions.{completion-submit, completion-fresh, c
 use Rattle.usb_bus.specs.declared.route.Route.{Route}
 use Rattle.usb_bus.specs.Routes.{submission_of}
 use Rattle.usb_bus.specs.Completions.{transfer_completion}
+use Rattle.usb_bus.specs.Holds.{held_of}
+use Rattle.usb_bus.specs.Holds.{held_at_once}
 use Rattle.usb_device.specs.declared.opened.OpenDevice.{OpenDevice}
 use Rattle.usb_device.specs.declared.slot.Slot.{Slot}
 use Rattle.usb_device.specs.declared.slot.Slot.TheVariants as slot
 use Rattle.usb_device.specs.HostCalls.{host_submitted, host_refused}
-use Rattle.usb_device.specs.HostFacts.{Agree, host_made, held_with, held_at_once}
+use Rattle.usb_device.specs.HostFacts.{Agree, host_made}
 use Rattle.usb_device.specs.LedgerState.{LedgerState}
 use Rattle.usb_device.proofs.ListLemmas.{slice_get-push}
 use Rattle.usb_device.proofs.ArrivalLemmas.{Fits-same}
@@ -35,7 +37,7 @@ entered-others : (past : List Event) (s : Submission) (refusal : Option ℕ) (t 
 entered-others past s None t within = completion-submit past (length (tickets past)) s.device s.endpoint s.maximum (body_of s.endpoint s.buffer) s.buffer.room s.deadline t
 entered-others past s (Some errno) t within = completion-refuse past s (length (tickets past)) errno t within
 
-entered-held : (past : List Event) (s : Submission) (refusal : Option ℕ) → held_at_once (queued_or_refused (length (tickets past)) s refusal) ≡ held_with (transfer_completion (submit_or_refuse (length (tickets past)) s refusal ∷ past) (length (tickets past)))
+entered-held : (past : List Event) (s : Submission) (refusal : Option ℕ) → held_at_once (queued_or_refused (length (tickets past)) s refusal) ≡ held_of (transfer_completion (submit_or_refuse (length (tickets past)) s refusal ∷ past) (length (tickets past)))
 unfolding transfer_completion
 entered-held past s None =
     let none : completion (submit_or_refuse (length (tickets past)) s None ∷ past) (length (tickets past)) ≡ None = completion-submit past (length (tickets past)) s.device s.endpoint s.maximum (body_of s.endpoint s.buffer) s.buffer.room s.deadline (length (tickets past)) ∙ completion-fresh past (length (tickets past)) (omega arith) in

@@ -36,7 +36,7 @@ use Rattle.usb_device.specs.declared.slot.Slot.TheVariants as slot
 use Rattle.usb_device.specs.HostFacts.{Agree, Fits, host_made}
 use Rattle.usb_device.specs.LedgerState.{LedgerState, ticket_of}
 
-some-of : {X : Type 0} (o : Option X) → IsSome o → (x : X) × (o ≡ Some x)
+pub some-of : {X : Type 0} (o : Option X) → IsSome o → (x : X) × (o ≡ Some x)
 some-of None is = absurd (cc)
 some-of (Some x) is = (x, refl)
 
@@ -73,7 +73,7 @@ reaped-extends : (g : HostState) (k : ℕ) → Extends g.kernel.past (reaped_bel
 reaped-extends g zero = extends-same g.kernel.past
 reaped-extends g (suc k) = rw (reaped-past (reaped_below g k) k) (extends-trans g.kernel.past (reaped_below g k).kernel.past (after_reap (reaped_below g k).kernel.past k) (reaped-extends g k) (extends-reap (reaped_below g k).kernel.past k))
 
-completion-some : (past : List Event) (t : ℕ) → t < length (tickets past) → (fate past t).reaped ≡ true → IsSome (fate past t).status → IsSome (completion past t)
+pub completion-some : (past : List Event) (t : ℕ) → t < length (tickets past) → (fate past t).reaped ≡ true → IsSome (fate past t).status → IsSome (completion past t)
 unfolding completion
 completion-some past t within reaped some =
     let s = some-at (tickets past) t within in

@@ -1,5 +1,5 @@
 -- The keys of what is opened last.
-use Rattle.std.proofs.Common.{ℕ, zero, suc, arith, ◌≡◌, ◌<◌, ◌+◌, true, false, List, [], ◌∷◌, ◌++◌, length, length-append, slice_get, Result, Ok, Option, Some, refl, ◌∙◌, ap}
+use Rattle.std.proofs.Common.{ℕ, zero, suc, arith, ◌≡◌, ◌<◌, ◌+◌, true, false, List, [], ◌∷◌, ◌++◌, length, length-append, slice_get, Result, Ok, Some, refl, ◌∙◌, ap}
 use Rattle.std.proofs.lemmas.Option.{slice_get_within}
 use Rattle.usb_error.specs.ErrorState.{ErrorState}
 use Rattle.usb_endpoint.specs.EndpointState.{EndpointState}
@@ -8,8 +8,6 @@ use Rattle.usb_device.specs.declared.opened.OpenDevice.{OpenDevice}
 use Rattle.usb_device.specs.HostState.{HostState, HostEndpoint}
 use Rattle.usb_device.specs.HostBus.{key_at, bus_of}
 use Rattle.usb_device.specs.Opens.{open_tried, opened_by, host_opened}
-use Rattle.usb_device.specs.InterfaceClaims.{fresh_interface, claimed_on, host_claimed}
-use Rattle.usb_device.specs.EndpointOpens.{with_endpoint}
 use Rattle.usb_device.specs.HandleStates.{InterfaceState, StandsInterface}
 
 get-last : {A : Type 0} (xs : List A) (x : A) → slice_get (xs ++ x ∷ []) (length xs) ≡ Some x
@@ -27,20 +25,6 @@ opened-more h bus address o is =
 pub stands-within : (h : HostState) (f : InterfaceState) → StandsInterface h f → f.key < length h.interfaces
 stands-within h f stands = slice_get_within h.interfaces f.key stands.claim stands.at
 
--- and a claim makes one that stands at that
-pub stands-fresh : (h : HostState) (key number : ℕ) (o : OpenDevice) → slice_get h.devices key ≡ Some o → StandsInterface (host_claimed h key number) (record { key = length h.interfaces; number = number })
-unfolding host_claimed
-stands-fresh h key number o at =
-    record {
-      claim = fresh_interface key o number;
-      at = ap (λ (o : Option OpenDevice). slice_get (claimed_on h key number o).interfaces (length h.interfaces)) at ∙ get-last h.interfaces (fresh_interface key o number);
-      number = refl;
-      open_handle = omega arith;
-      device =
-          (let same : length (claimed_on h key number (slice_get h.devices key)).devices ≡ length h.devices = ap (λ (o : Option OpenDevice). length (claimed_on h key number o).devices) at in
-          omega (arith, same, slice_get_within h.devices key o at));
-    }
-
 -- an endpoint that is open has a key below the next one
 pub key-within : (es : List HostEndpoint) (k : ℕ) → key_at es k ≡ true → k < length es
 key-within [] k is = let no_ : false ≡ true = is in absurd (cc)
@@ -53,11 +37,3 @@ endpoint-within h e stands = key-within h.endpoints e.key stands.key_is_open
 key-last : (es : List HostEndpoint) (e : HostEndpoint) → e.is_open ≡ true → key_at (es ++ e ∷ []) (length es) ≡ true
 key-last [] e is = is
 key-last (x ∷ xs) e is = key-last xs e is
-
--- and one that is opened, with no ticket, stands at that
-pub endpoint-fresh : (h : HostState) (i address : ℕ) (e : EndpointState) → e.key ≡ length h.endpoints → e.pending ≡ [] → Stands (bus_of (with_endpoint h i address)) e
-endpoint-fresh h i address e key pending =
-    record {
-      key_is_open = ap (key_at (with_endpoint h i address).endpoints) key ∙ key-last h.endpoints (record { interface = i; address = address; is_open = true }) refl;
-      held = rw pending tt;
-    }

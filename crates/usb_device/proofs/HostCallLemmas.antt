@@ -16,6 +16,9 @@ use Rattle.usb_kernel.specs.Completions.{completion, lowest}
 use Rattle.usb_kernel.specs.Steps.{after_step, step_done}
 use Rattle.usb_bus.specs.declared.route.Turn.TheVariants.{Stepped}
 use Rattle.usb_bus.specs.Completions.{completion_of, transfer_completion}
+use Rattle.usb_bus.specs.Holds.{held_of}
+use Rattle.usb_bus.specs.Holds.{transfer_with}
+use Rattle.usb_bus.specs.Turns.{reap_turn}
 use Rattle.usb_device.specs.declared.ends.TicketEnd.{TicketEnd}
 use Rattle.usb_device.specs.declared.ends.TicketEnd.TheVariants.{Dropped}
 use Rattle.usb_device.specs.declared.opened.OpenDevice.{OpenDevice}
@@ -23,12 +26,12 @@ use Rattle.usb_device.specs.declared.owners.EndedClaim.{EndedClaim}
 use Rattle.usb_device.specs.declared.slot.Slot.{Slot}
 use Rattle.usb_device.specs.declared.slot.Slot.TheVariants as slot
 use Rattle.usb_device.specs.HostState.{HostState, HostTicket, HostEndpoint, Hold, Held, Abandoned, Ended}
-use Rattle.usb_device.specs.HostBus.{hold_at, held_as, host_value, transfer_with, key_at}
-use Rattle.usb_device.specs.HostFacts.{Agree, host_made, held_with}
+use Rattle.usb_device.specs.HostBus.{hold_at, held_as, host_value, key_at}
+use Rattle.usb_device.specs.HostFacts.{Agree, host_made}
 use Rattle.usb_device.specs.HostCalls.{host_left}
 use Rattle.usb_device.specs.LedgerState.{LedgerState, ticket_of, slot_data, is_complete, ended_with}
 use Rattle.usb_device.specs.Releases.{without_ended, settled, claim_of}
-use Rattle.usb_device.specs.HostTurns.{host_turned, host_turn, turned_of, reaped_of, turn_for, end_of, host_stepped, host_rest, all_stepped}
+use Rattle.usb_device.specs.HostTurns.{host_turned, host_turn, turned_of, reaped_of, turn_for, host_stepped, host_rest, all_stepped}
 use Rattle.usb_device.specs.TicketEnds.{host_ended, host_abandoned, reclaimed_if, came}
 use Rattle.usb_device.proofs.ListLemmas.{slice_get-set}
 use Rattle.usb_device.proofs.LedgerLemmas.{ticket-at}
@@ -49,7 +52,7 @@ held-slot (s ∷ ss) (suc t) some = let w = held-slot ss t some in record { key 
 pub held-within : (slots : List Slot) (t : ℕ) → IsSome (hold_at (map ticket_of slots) t) → t < length slots
 held-within slots t some = let w = held-slot slots t some in slice_get_within slots t (slot.Held w.key w.transfer) w.at
 
-some-held : (o : Option Completion) → is_some (completion_held (held_with o)) ≡ is_some o
+some-held : (o : Option Completion) → is_some (completion_held (held_of o)) ≡ is_some o
 some-held None = refl
 some-held (Some c) = refl
 
@@ -61,7 +64,7 @@ some-transfer (Some done) = refl
 pub come-reaped : (past : List Event) (slots : List Slot) (t : ℕ) (w : HeldSlot slots t) → Agree past slots → is_complete (slot.Held w.key w.transfer) ≡ is_some (completion past t)
 unfolding transfer_completion
 come-reaped past slots t w agree =
-    let fits : w.transfer.held ≡ held_with (transfer_completion past t) = agree.each t (slot.Held w.key w.transfer) w.at in
+    let fits : w.transfer.held ≡ held_of (transfer_completion past t) = agree.each t (slot.Held w.key w.transfer) w.at in
     ap (λ h. is_some (completion_held h)) fits ∙ some-held (transfer_completion past t) ∙ some-transfer (completion past t)
 
 value-some : (hold : Hold) (o : Option Completion) → is_some (option_map (transfer_with hold) o) ≡ is_some o
@@ -79,7 +82,7 @@ come-value k devices l steps t w agree =
     come-reaped k.past l.slots t w agree ∙ sym (ap (λ o. is_some (option_and_then (λ (hold : Hold). option_map (transfer_with hold) (transfer_completion k.past t)) o)) (hold-of l.slots t w) ∙ value-some hold (transfer_completion k.past t) ∙ some-transfer (completion k.past t))
 
 -- the transfer that is given back
-value-at : (transfer : TransferData) (key : ℕ) (o : Option Completion) → transfer.held ≡ held_with o → IsSome (option_map (transfer_with (record { key = key; endpoint = transfer.endpoint; kind = transfer.kind })) o)
+value-at : (transfer : TransferData) (key : ℕ) (o : Option Completion) → transfer.held ≡ held_of o → IsSome (option_map (transfer_with (record { key = key; endpoint = transfer.endpoint; kind = transfer.kind })) o)
     → Some transfer ≡ option_map (transfer_with (record { key = key; endpoint = transfer.endpoint; kind = transfer.kind })) o
 value-at transfer key None held some = absurd (cc)
 value-at transfer key (Some c) held some = ap (λ (h : HeldData). Some (record transfer { held = h })) held
@@ -87,7 +90,7 @@ value-at transfer key (Some c) held some = ap (λ (h : HeldData). Some (record t
 pub value-slot : (k : KernelState) (devices : List OpenDevice) (l : LedgerState) (steps : List KernelStep) (t : ℕ) (w : HeldSlot l.slots t) → Agree k.past l.slots → IsSome (host_value (host_made k devices l steps) t)
     → slot_data (slot.Held w.key w.transfer) ≡ host_value (host_made k devices l steps) t
 value-slot k devices l steps t w agree some =
-    let fits : w.transfer.held ≡ held_with (transfer_completion k.past t) = agree.each t (slot.Held w.key w.transfer) w.at in
+    let fits : w.transfer.held ≡ held_of (transfer_completion k.past t) = agree.each t (slot.Held w.key w.transfer) w.at in
     let here = ap (option_and_then (λ (hold : Hold). option_map (transfer_with hold) (transfer_completion k.past t))) (hold-of l.slots t w) in
     value-at w.transfer w.key (transfer_completion k.past t) fits (rw here at some) ∙ sym here
 
@@ -102,21 +105,10 @@ module _ (k : KernelState) (devices : List OpenDevice) (l : LedgerState) (steps 
   unfolding settled
   ended-slot end l' ended k' is claim kernel = rw (ended-made end, kernel, claim, is, map-set ticket_of l.slots t (slot.Ended end)) refl
 
-  -- it is dropped, or given up
-  pub dropped-slot : is_some (completion k.past t) ≡ true → host_abandoned (host_made k devices l steps) t ≡ host_ended (host_made k devices l steps) t Dropped
-  unfolding host_abandoned
-  dropped-slot reaped = rw reaped refl
-
+  -- it is given up
   pub abandoned-slot : (l' : LedgerState) → is_some (completion k.past t) ≡ false → l' ≡ record l { slots = set l.slots t (slot.Abandoned w.key) } → host_made k devices l' steps ≡ host_abandoned (host_made k devices l steps) t
   unfolding host_abandoned
   abandoned-slot l' open_ is = rw (open_, ticket-at l.slots t (slot.Held w.key w.transfer) w.at, is, map-set ticket_of l.slots t (slot.Abandoned w.key)) refl
-
-pub Agree-end : (past : List Event) (slots : List Slot) (t : ℕ) (end : TicketEnd) → Agree past slots → Agree past (set slots t (slot.Ended end))
-Agree-end past slots t end agree =
-    record {
-      count = length-set slots t (slot.Ended end) ∙ agree.count;
-      each = λ u x here. elim (slice_get-set slots t u (slot.Ended end) x here) [ inl w ↦ rw w.1 tt | inr w ↦ agree.each u x w.1 ];
-    }
 
 pub Agree-abandon : (past : List Event) (slots : List Slot) (t key : ℕ) → Agree past slots → completion past t ≡ None → Agree past (set slots t (slot.Abandoned key))
 Agree-abandon past slots t key agree none =
@@ -163,9 +155,9 @@ pub turn-more : (h : HostState) (s : KernelStep) (ss : List KernelStep) → h.st
 unfolding host_turn
 turn-more h s ss is = ap (turn_for h.kernel.past) is
 
-pub turn-none : (h : HostState) (o : Option ℕ) → h.steps ≡ [] → lowest h.kernel.past ≡ o → host_turn h ≡ end_of o
+pub turn-none : (h : HostState) (o : Option ℕ) → h.steps ≡ [] → lowest h.kernel.past ≡ o → host_turn h ≡ reap_turn o
 unfolding host_turn
-turn-none h o nil is = ap (turn_for h.kernel.past) nil ∙ ap end_of is
+turn-none h o nil is = ap (turn_for h.kernel.past) nil ∙ ap reap_turn is
 
 -- a step leaves the steps that are left
 reclaimed-steps : (h : HostState) (t : ℕ) (o : Option HostTicket) (ss : List KernelStep) → slice_get h.tickets t ≡ o → record (reclaimed_if h t o) { steps = ss } ≡ reclaimed_if (record h { steps = ss }) t o

@@ -11,17 +11,20 @@ use Rattle.usb_kernel.specs.declared.step.KernelStep.TheVariants as step
 use Rattle.usb_kernel.specs.declared.submission.Done.{Done}
 use Rattle.usb_kernel.specs.Extends as journal
 use Rattle.usb_kernel.specs.Completions.{reapable, lowest}
+use Rattle.std.specs.Prelude.{max}
+use Rattle.usb_kernel.specs.Timers.{timer_turned}
 use Rattle.usb_kernel.specs.Steps.{after_step, after_reap, after_discard, is_unfinished, step_done, clock_stepped, stepped}
-use Rattle.usb_kernel.proofs.Extends.{extends-same, extends-if, extends-step, extends-trans}
+use Rattle.usb_kernel.proofs.Extends.{extends-turned, extends-same, extends-if, extends-step, extends-trans}
 use Rattle.usb_bus.specs.BusState.{BusState}
 use Rattle.usb_bus.specs.Later.{Extends, IsLater}
+use Rattle.usb_bus.specs.Turns.{reap_turn}
 use Rattle.usb_device.specs.declared.ends.TicketEnd.{TicketEnd}
 use Rattle.usb_device.specs.declared.ends.TicketEnd.TheVariants.{Reclaimed}
 use Rattle.usb_device.specs.HostState.{HostState, HostTicket, Hold, Held, Abandoned, Ended}
 use Rattle.usb_device.specs.Releases.{settled}
 use Rattle.usb_device.specs.TicketEnds.{ended_as, host_ended, reclaimed_if, came}
 use Rattle.usb_bus.specs.declared.route.Turn.TheVariants.{TimeUp}
-use Rattle.usb_device.specs.HostTurns.{with_past, host_stepped, host_reaped, all_stepped, end_of, turn_for, reaped_of, turned_of, host_turn, host_turned}
+use Rattle.usb_device.specs.HostTurns.{with_past, host_stepped, host_reaped, all_stepped, turn_for, reaped_of, turned_of, host_turn, host_turned}
 use Rattle.usb_device.specs.HostCalls.{host_discarded, host_idled}
 use Rattle.usb_device.specs.HostBus.{held_as, owner_at, key_at, bus_of}
 use Rattle.usb_device.specs.HostFrames.{UsesPlaces}
@@ -115,6 +118,7 @@ clock-later now (step.Ack d e) = omega arith
 clock-later now (step.Fail d e errno) = omega arith
 clock-later now (step.Unplug d) = omega arith
 clock-later now (step.Clock to) = omega arith
+clock-later now step.Timer = omega arith
 clock-later now (step.Reap ticket) = omega arith
 clock-later now (step.Refuse d call errno) = omega arith
 
@@ -130,7 +134,7 @@ uses-stepped h s =
       interfaces = refl;
       endpoints = refl;
       later = record {
-        past = goes-on h.kernel.past (stepped h.kernel.devices h.kernel.past s) (extends-step h.kernel.devices h.kernel.past s);
+        past = goes-on h.kernel.past (stepped h.kernel.devices h.kernel.clock h.kernel.past s) (extends-step h.kernel.devices h.kernel.clock h.kernel.past s);
         clock = clock-later h.kernel.clock s;
         owner = refl;
         keys = refl;
@@ -166,7 +170,13 @@ uses-idled h until =
       devices = refl;
       interfaces = refl;
       endpoints = refl;
-      later = record { past = goes-on h.kernel.past h.kernel.past (extends-same h.kernel.past); clock = omega arith; owner = refl; keys = refl };
+      later =
+          record {
+            past = goes-on h.kernel.past (timer_turned (max h.kernel.clock until) h.kernel.past) (extends-turned (max h.kernel.clock until) h.kernel.past);
+            clock = omega arith;
+            owner = refl;
+            keys = refl;
+          };
     }
 
 pub later-trans : (a b c : BusState) → IsLater a b → IsLater b c → IsLater a c
@@ -192,7 +202,7 @@ uses-all h (s ∷ ss) =
     }
 
 -- a turn at which time is up leaves the host as it was
-reaps-still : (h : HostState) (o : Option ℕ) → end_of o ≡ TimeUp → reaped_of h o ≡ h
+reaps-still : (h : HostState) (o : Option ℕ) → reap_turn o ≡ TimeUp → reaped_of h o ≡ h
 reaps-still h None up = refl
 reaps-still h (Some t) up = cc
 

@@ -10,9 +10,10 @@ use Rattle.usb_kernel.specs.Steps.{after_reap}
 use Rattle.usb_kernel.proofs.Waiting.{lowest-reapable, waiting-one_less}
 use Rattle.usb_endpoint.specs.Waits.{waited, time_is_up}
 use Rattle.usb_endpoint.proofs.WaitLemmas.{waited-eq_found, waited-eq_late, waited-eq_up, waited-eq_more}
+use Rattle.usb_bus.specs.Turns.{reap_turn}
 use Rattle.usb_device.specs.HostState.{HostState}
 use Rattle.usb_device.specs.HostBus.{bus_of}
-use Rattle.usb_device.specs.HostTurns.{with_past, turned_of, turn_for, reaped_of, end_of, host_stepped, host_reaped, host_turned, host_turn}
+use Rattle.usb_device.specs.HostTurns.{with_past, turned_of, turn_for, reaped_of, host_stepped, host_reaped, host_turned, host_turn}
 use Rattle.usb_device.specs.HostWaits.{is_found, is_late, wait_reaps, wait_steps}
 use Rattle.usb_device.specs.WaitLaws.{WaitIsBySteps}
 use Rattle.usb_device.proofs.HostFrames.{came-is, uses-reaped, uses-stepped}
@@ -38,20 +39,20 @@ pub reaped-fewer : (h : HostState) (u : ℕ) → lowest h.kernel.past ≡ Some u
 reaped-fewer h u is = rw (reaped-past h u) (fewer-waiting h.kernel.past u is)
 
 -- turns with no step left
-turn-nil : (h : HostState) (o : Option ℕ) → h.steps ≡ [] → lowest h.kernel.past ≡ o → time_is_up (host_turn h) ≡ time_is_up (end_of o)
+pub turn-nil : (h : HostState) (o : Option ℕ) → h.steps ≡ [] → lowest h.kernel.past ≡ o → time_is_up (host_turn h) ≡ time_is_up (reap_turn o)
 unfolding host_turn
-turn-nil h o nil is = ap time_is_up (ap (turn_for h.kernel.past) nil ∙ ap end_of is)
+turn-nil h o nil is = ap time_is_up (ap (turn_for h.kernel.past) nil ∙ ap reap_turn is)
 
-turned-nil : (h : HostState) (o : Option ℕ) → h.steps ≡ [] → lowest h.kernel.past ≡ o → host_turned h ≡ reaped_of h o
+pub turned-nil : (h : HostState) (o : Option ℕ) → h.steps ≡ [] → lowest h.kernel.past ≡ o → host_turned h ≡ reaped_of h o
 unfolding host_turned
 turned-nil h o nil is = ap (turned_of h) nil ∙ ap (reaped_of h) is
 
 -- turns at a step
-turn-step : (h : HostState) (s : KernelStep) (ss : List KernelStep) → h.steps ≡ s ∷ ss → time_is_up (host_turn h) ≡ false
+pub turn-step : (h : HostState) (s : KernelStep) (ss : List KernelStep) → h.steps ≡ s ∷ ss → time_is_up (host_turn h) ≡ false
 unfolding host_turn
 turn-step h s ss same = ap time_is_up (ap (turn_for h.kernel.past) same)
 
-turned-step : (h : HostState) (s : KernelStep) (ss : List KernelStep) → h.steps ≡ s ∷ ss → host_turned h ≡ host_stepped (record h { steps = ss }) s
+pub turned-step : (h : HostState) (s : KernelStep) (ss : List KernelStep) → h.steps ≡ s ∷ ss → host_turned h ≡ host_stepped (record h { steps = ss }) s
 unfolding host_turned
 turned-step h s ss same = ap (turned_of h) same
 

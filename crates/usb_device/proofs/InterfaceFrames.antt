@@ -1,14 +1,14 @@
 -- The handles of interfaces over the calls of a host.
 use Rattle.std.proofs.Common.{ℕ, zero, suc, ◌≡◌, ◌≢◌, ◌-◌, true, false, List, [], ◌∷◌, ◌++◌, length, length-set, set, slice_get, Option, Some, None, refl, ◌∙◌, ap, ◌≤◌, arith, Result, Ok, Err, length-append}
 use Rattle.std.proofs.lemmas.Option.{none-some}
-use Rattle.usb_endpoint.specs.Handles.{KeepsOthers}
 use Rattle.usb_device.specs.declared.opened.OpenDevice.{OpenDevice}
 use Rattle.usb_device.specs.HostState.{HostState, HostEndpoint, ClaimedInterface}
 use Rattle.usb_device.specs.HostBus.{key_at, bus_of}
 use Rattle.usb_device.specs.Releases.{owner_gone}
 use Rattle.usb_device.specs.Handles.{handle_gone, handle_closed}
-use Rattle.usb_device.specs.InterfaceClaims.{fresh_interface, claimed_on, host_claimed}
-use Rattle.usb_device.specs.EndpointOpens.{asked_on, host_asked, with_endpoint}
+use Rattle.usb_device.specs.InterfaceClaims.{claimed_on, host_claimed}
+use Rattle.usb_device.specs.HostState.{fresh_interface}
+use Rattle.usb_device.specs.EndpointOpens.{asked_on, host_asked}
 use Rattle.usb_device.specs.HandleStates.{InterfaceState, StandsInterface}
 use Rattle.usb_error.specs.ErrorState.{ErrorState}
 use Rattle.usb_device.specs.Opens.{open_tried, opened_by, host_opened}
@@ -40,19 +40,6 @@ unfolding handle_closed
 line-handle_closed h i =
     let is = handle_gone-is h i (slice_get h.interfaces i) in
     record { steps = ap (λ (g : HostState). g.steps) is; spare = ap (λ (g : HostState). g.kernel.spare) is; devices = ap (λ (g : HostState). g.devices) is }
-
-pub endpoints-handle_closed : (h : HostState) (i : ℕ) → (handle_closed h i).endpoints ≡ h.endpoints
-unfolding handle_closed
-endpoints-handle_closed h i = ap (λ (g : HostState). g.endpoints) (handle_gone-is h i (slice_get h.interfaces i))
-
-handle_gone-length : (h : HostState) (i : ℕ) (o : Option ClaimedInterface) → length (handle_gone h i o).interfaces ≡ length h.interfaces
-unfolding owner_gone
-handle_gone-length h i None = refl
-handle_gone-length h i (Some c) = length-set h.interfaces i (record c { handles = c.handles - 1 })
-
-pub interfaces-handle_closed : (h : HostState) (i : ℕ) → length (handle_closed h i).interfaces ≡ length h.interfaces
-unfolding handle_closed
-interfaces-handle_closed h i = handle_gone-length h i (slice_get h.interfaces i)
 
 set-other : {A : Type 0} (xs : List A) (i k : ℕ) (x : A) → i ≢ k → slice_get (set xs i x) k ≡ slice_get xs k
 set-other [] i k x ne = refl
@@ -94,10 +81,6 @@ line-claimed h key number =
     let is = claimed_on-is h key number (slice_get h.devices key) in
     record { steps = ap (λ (g : HostState). g.steps) is; spare = ap (λ (g : HostState). g.kernel.spare) is; devices = ap (λ (g : HostState). g.devices) is }
 
-pub endpoints-claimed : (h : HostState) (key number : ℕ) → (host_claimed h key number).endpoints ≡ h.endpoints
-unfolding host_claimed
-endpoints-claimed h key number = ap (λ (g : HostState). g.endpoints) (claimed_on-is h key number (slice_get h.devices key))
-
 get-push : {A : Type 0} (xs : List A) (y x : A) (k : ℕ) → slice_get xs k ≡ Some x → slice_get (xs ++ y ∷ []) k ≡ Some x
 get-push [] y x k at = absurd (none-some x at)
 get-push (z ∷ zs) y x zero at = at
@@ -105,7 +88,7 @@ get-push (z ∷ zs) y x (suc k) at = get-push zs y x k at
 
 claimed_on-stays : (h : HostState) (key number k : ℕ) (c : ClaimedInterface) (o : Option OpenDevice) → slice_get h.interfaces k ≡ Some c → slice_get (claimed_on h key number o).interfaces k ≡ Some c
 claimed_on-stays h key number k c None at = at
-claimed_on-stays h key number k c (Some o) at = get-push h.interfaces (fresh_interface key o number) c k at
+claimed_on-stays h key number k c (Some o) at = get-push h.interfaces (fresh_interface key o.device number) c k at
 
 -- each handle stands over a claim
 pub StandsInterface-claimed : (h : HostState) (key number : ℕ) (f : InterfaceState) → StandsInterface h f → StandsInterface (host_claimed h key number) f
@@ -124,14 +107,6 @@ key-push : (es : List HostEndpoint) (e : HostEndpoint) (k : ℕ) → key_at es k
 key-push [] e k is = let no_ : false ≡ true = is in absurd (cc)
 key-push (x ∷ xs) e zero is = is
 key-push (x ∷ xs) e (suc k) is = key-push xs e k is
-
--- one more endpoint takes nothing from the others
-pub others-with_endpoint : (h : HostState) (i address key : ℕ) → KeepsOthers (bus_of h) (bus_of (with_endpoint h i address)) key
-others-with_endpoint h i address key =
-    record {
-      tickets = λ t k other own. own;
-      keys = λ k other is. key-push h.endpoints (record { interface = i; address = address; is_open = true }) k is;
-    }
 
 -- a look at the active configuration keeps all but what the open device keeps of it
 asked_on-is : (h : HostState) (key : ℕ) (o : Option OpenDevice) → asked_on h key o ≡ record h { devices = (asked_on h key o).devices }

@@ -1,6 +1,6 @@
 -- The rows of endpoints and their tickets.
 use Rattle.std.proofs.Common.{ℕ, zero, suc, arith, ◌≡◌, ◌<◌, ◌+◌, ◌-◌, Bool, true, false, cond, List, [], ◌∷◌, ◌++◌, length, map, set, get_or, slice_get, Option, Some, None, inl, inr, refl, sym, ◌∙◌, ap, length-set, length-append}
-use Rattle.std.specs.Prelude.{◌||◌, ◌&&◌, ◌==◌, nat_lt, Result, Ok, Err, OnOk, OnErr, IsSome}
+use Rattle.std.specs.Prelude.{◌||◌, ◌&&◌, ◌==◌, nat_lt, option_and_then, Result, Ok, Err, OnOk, OnErr, IsSome}
 use Rattle.std.specs.List.{count_by, list_any, enumerate_from, All}
 use Rattle.std.specs.Option.{option_map}
 use Rattle.std.proofs.lemmas.Bool.{eq-eqb, ne_eqb}
@@ -9,10 +9,11 @@ use Rattle.std.proofs.lemmas.List.Elements.{All-set, All-get_or, All-append}
 use Rattle.std.proofs.lemmas.List.Sums.{sum_by-cons}
 use Rattle.usb_device.specs.declared.ends.TicketEnd.{TicketEnd}
 use Rattle.usb_device.specs.declared.owners.Row.{Row}
+use Rattle.usb_device.specs.declared.owners.EndedClaim.{EndedClaim}
 use Rattle.usb_device.specs.HostState.{HostTicket, HostEndpoint, ClaimedInterface, Held, Abandoned, Ended}
-use Rattle.usb_device.specs.Owners.{is_ticket_of, lives, lives_on, uses_bit, shares_bit, is_used_among, is_owned_among}
-use Rattle.usb_device.specs.Releases.{claim_left, claim_ended, claim_settled, claim_of}
-use Rattle.usb_device.specs.OwnerRows.{endpoint_of, is_alive, is_alive_on, uses_row, one_if, is_counted, left_by, gone_by, row_gone, claim_gone}
+use Rattle.usb_device.specs.Owners.{is_of, is_ticket_of, lives, lives_on, uses_bit, shares_bit, is_used_among, is_owned_among}
+use Rattle.usb_device.specs.Releases.{claim_ended, claim_of}
+use Rattle.usb_device.specs.OwnerRows.{endpoint_of, is_alive, is_alive_on, uses_row, one_if, is_counted, row_gone, claim_gone}
 use Rattle.usb_device.specs.declared.slot.Slot.{Slot}
 use Rattle.usb_device.specs.declared.slot.Slot.TheVariants as slot
 use Rattle.usb_kernel.specs.declared.submission.Done.{Done}
@@ -142,13 +143,16 @@ Tied-open rows tickets e tied none =
       keys = λ k d l. rw more (below-more (length rows) (get_or tickets k d) (tied.keys k d l));
     }
 
+abbrev ended : ClaimedInterface → EndedClaim
+ended c = record { device = c.device; number = c.number }
+
 -- what the rows count is what the tickets say
 module _ (rows : List Row) (tickets : List HostTicket) (tied : Tied rows tickets) where
   pub lives-row : (k : ℕ) (e : Row) → slice_get rows k ≡ Some e → lives tickets (k, endpoint_of e) ≡ is_alive e
   lives-row k e at = ap (λ b. e.is_open || b) (any-count (is_ticket_of k) tickets ∙ ap (nat_lt 0) (sym (tied.counts k e at)))
 
   lives_on-row : (i k : ℕ) (e : Row) → slice_get rows k ≡ Some e → lives_on tickets i (k, endpoint_of e) ≡ is_alive_on i e
-  lives_on-row i k e at = ap (λ b. e.interface == i && b) (lives-row k e at)
+  lives_on-row i k e at = ap (λ b. is_of i e.interface && b) (lives-row k e at)
 
   uses-row : (i address k : ℕ) (e : Row) → slice_get rows k ≡ Some e → uses_bit tickets i address (k, endpoint_of e) ≡ uses_row i address e
   uses-row i address k e at = ap (λ b. b && shares_bit e.address address) (lives_on-row i k e at)
@@ -167,30 +171,25 @@ module _ (rows : List Row) (tickets : List HostTicket) (tied : Tied rows tickets
   unfolding is_owned_among
   is_owned-rows i c = ap (λ b. nat_lt 0 c.handles || b) (any-rows (lives_on tickets i) (is_alive_on i) (lives_on-row i) ∙ any-count (is_alive_on i) rows)
 
-  claim_left-rows : (i : ℕ) (o : Option ClaimedInterface) → claim_left tickets (map endpoint_of rows) i o ≡ left_by rows i o
-  claim_left-rows i None = refl
-  claim_left-rows i (Some c) = rw (is_owned-rows i c) refl
-
-  pub claim_ended-rows : (interfaces : List ClaimedInterface) (i : ℕ) → claim_ended interfaces tickets (map endpoint_of rows) i ≡ claim_gone (record { interfaces = interfaces; rows = rows }) i
+  pub claim_ended-rows : (interfaces : List ClaimedInterface) (i : ℕ) → claim_ended interfaces tickets (map endpoint_of rows) i ≡ claim_gone interfaces rows i
   unfolding claim_ended claim_gone
-  claim_ended-rows interfaces i = claim_left-rows i (slice_get interfaces i)
+  claim_ended-rows interfaces i = by (slice_get interfaces i)
+    where
+      by : (o : Option ClaimedInterface) → option_and_then (λ (c : ClaimedInterface). cond (is_owned_among tickets (map endpoint_of rows) i c) None (Some (ended c))) o ≡ option_and_then (λ (c : ClaimedInterface). cond (is_counted rows i c) None (Some (ended c))) o
+      by None = refl
+      by (Some c) = rw (is_owned-rows i c) refl
 
-  abbrev option_endpoint : Option Row → Option HostEndpoint
-  option_endpoint None = None
-  option_endpoint (Some e) = Some (endpoint_of e)
-
-  mapped : (o : Option Row) → option_map endpoint_of o ≡ option_endpoint o
-  mapped None = refl
-  mapped (Some e) = refl
-
-  claim_settled-rows : (interfaces : List ClaimedInterface) (k : ℕ) (o : Option Row) → slice_get rows k ≡ o → slice_get (map endpoint_of rows) k ≡ option_endpoint o → claim_settled interfaces tickets (map endpoint_of rows) k (slice_get (map endpoint_of rows) k) ≡ gone_by interfaces rows o
-  unfolding claim_ended
-  claim_settled-rows interfaces k None at there = rw there refl
-  claim_settled-rows interfaces k (Some e) at there = rw (there, lives-row k e at, claim_left-rows e.interface (slice_get interfaces e.interface)) refl
-
-  pub claim_of-rows : (interfaces : List ClaimedInterface) (k : ℕ) → claim_of interfaces tickets (map endpoint_of rows) k ≡ row_gone (record { interfaces = interfaces; rows = rows }) k
+  pub claim_of-rows : (interfaces : List ClaimedInterface) (k : ℕ) → claim_of interfaces tickets (map endpoint_of rows) k ≡ row_gone interfaces rows k
   unfolding claim_of row_gone
-  claim_of-rows interfaces k = claim_settled-rows interfaces k (slice_get rows k) refl (slice_get-map endpoint_of rows k ∙ mapped (slice_get rows k))
+  claim_of-rows interfaces k = rw (slice_get-map endpoint_of rows k) (by (slice_get rows k))
+    where
+      at : (o : Option ℕ) → option_and_then (claim_ended interfaces tickets (map endpoint_of rows)) o ≡ option_and_then (claim_gone interfaces rows) o
+      at None = refl
+      at (Some i) = claim_ended-rows interfaces i
+
+      by : (o : Option Row) → option_and_then (claim_ended interfaces tickets (map endpoint_of rows)) (option_and_then (λ (e : HostEndpoint). e.interface) (option_map endpoint_of o)) ≡ option_and_then (claim_gone interfaces rows) (option_and_then (λ (e : Row). e.interface) o)
+      by None = refl
+      by (Some e) = at e.interface
 
 pub some-at : {X : Type 0} (xs : List X) (i : ℕ) → i < length xs → (x : X) × (slice_get xs i ≡ Some x)
 some-at [] i within = absurd (omega arith)

@@ -12,9 +12,6 @@ use Rattle.usb_device.specs.HostBlocking.{or_then, waited_by_seconds, host_block
 use Rattle.usb_device.specs.HostFrames.{UsesPlaces, LineGoesOn, WentOn, KeepsOpen}
 use Rattle.usb_device.proofs.HostFrames.{uses-none, uses-stepped, uses-reaped, uses-discarded, uses-all, later-trans}
 
-pub line-nowhere : (h : HostState) → LineGoesOn h h
-line-nowhere h = record { front = []; steps = refl; spare = omega arith; devices = refl; interfaces = refl; endpoints = refl }
-
 pub line-trans : (a b c : HostState) → LineGoesOn a b → LineGoesOn b c → LineGoesOn a c
 line-trans a b c first second =
     record {
@@ -151,9 +148,6 @@ pub line-spare : (old new : HostState) → LineGoesOn old new → length old.ste
 line-spare old new goes room =
     let all : length old.steps ≡ length goes.front + length new.steps = ap (λ (ss : List KernelStep). length ss) goes.steps ∙ length-append goes.front new.steps in
     omega (arith, goes.spare, all, room)
-
-pub line-room : (old new : HostState) → LineGoesOn old new → length old.steps ≤ old.kernel.spare → length new.steps ≤ new.kernel.spare
-line-room old new goes room = omega (arith, line-spare old new goes room, room)
 
 -- at the end of the line a place is used for each step
 pub rest-steps : (h : HostState) → (host_rest h).steps ≡ []

@@ -7,7 +7,7 @@ use Rattle.usb_kernel.specs.declared.event.Body.TheVariants.{Wanted}
 use Rattle.usb_kernel.specs.declared.devices.DeviceState.{DeviceState}
 use Rattle.usb_kernel.specs.Completions.{completion}
 use Rattle.usb_kernel.specs.Steps.{after_packet, after_reap}
-use Rattle.usb_kernel.specs.Interfaces.{is_in}
+use Rattle.usb_kernel.specs.Interfaces.{contains}
 use Rattle.usb_device.specs.declared.ends.TicketEnd.TheVariants.{Dropped, Reclaimed}
 use Rattle.usb_device.specs.HostState.{HostState, HostTicket, Held, Abandoned, Ended}
 use Rattle.usb_device.specs.Owners.{is_in_use, is_used_among, is_owned_among}
@@ -37,7 +37,7 @@ device =
       configuration = 1;
       bytes = [];
       plugged = true;
-      claimed = false ∷ true ∷ [];
+      claimed = 1 ∷ [];
       bound = [];
     }
 
@@ -51,7 +51,7 @@ open_endpoint =
       kernel = record { past = past; devices = device ∷ []; clock = 0; armed = []; spare = 0 };
       devices = [];
       interfaces = record { opened = 0; device = 0; number = 1; setting = 0; handles = 1 } ∷ [];
-      endpoints = record { interface = 0; address = 129; is_open = true } ∷ [];
+      endpoints = record { interface = Some 0; address = 129; is_open = true } ∷ [];
       tickets = held ∷ held ∷ held ∷ [];
       steps = [];
     }
@@ -66,7 +66,7 @@ closed = host_left (host_abandoned (host_abandoned (host_abandoned cancelled 0) 
 -- whether the interface is claimed at the kernel
 abbrev claimed_of : Option DeviceState → Bool
 claimed_of None = false
-claimed_of (Some d) = is_in d.claimed 1
+claimed_of (Some d) = contains d.claimed 1
 
 abbrev is_claimed : HostState → Bool
 is_claimed h = claimed_of (slice_get h.kernel.devices 0)

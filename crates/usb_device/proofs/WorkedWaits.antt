@@ -1,5 +1,5 @@
 -- Waits and blocking transfers at a small host, computed.
-use Rattle.std.specs.Prelude.{◌≡◌, refl, true, false, List, [], ◌∷◌, None}
+use Rattle.std.specs.Prelude.{Some, ◌≡◌, refl, true, false, List, [], ◌∷◌, None}
 use Rattle.usb_desc.specs.declared.types.TransferType.TheVariants.{Bulk}
 use Rattle.usb_kernel.specs.declared.event.Event.{Event}
 use Rattle.usb_kernel.specs.declared.event.Event.TheVariants.{Submit, Packet, Discard, Reap}
@@ -26,7 +26,7 @@ with_steps steps =
       kernel = record { past = submitted ∷ []; devices = []; clock = 0; armed = []; spare = 9 };
       devices = [];
       interfaces = [];
-      endpoints = record { interface = 0; address = 129; is_open = true } ∷ [];
+      endpoints = record { interface = Some 0; address = 129; is_open = true } ∷ [];
       tickets = Held (record { key = 0; endpoint = 129; kind = Bulk }) ∷ [];
       steps = steps;
     }

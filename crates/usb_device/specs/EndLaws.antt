@@ -22,7 +22,8 @@ use Rattle.usb_device.specs.EndpointOpens.{host_asked, with_endpoint}
 
 -- a ticket that has an end keeps it
 abbrev pub KeepsEnds : HostState → HostState → Type 0
-KeepsEnds old new = (t : ℕ) (end : TicketEnd) → end_at old.tickets t ≡ Some end → end_at new.tickets t ≡ Some end
+KeepsEnds old new =
+    (t : ℕ) (end : TicketEnd) → end_at old.tickets t ≡ Some end → end_at new.tickets t ≡ Some end
 
 -- over each call: so a ticket has at most one end
 pub record EndsStay : Type 0 where
@@ -31,7 +32,8 @@ pub record EndsStay : Type 0 where
   pub turn : (h : HostState) → KeepsEnds h (host_turned h)
   pub idle : (h : HostState) (until : ℕ) → KeepsEnds h (host_idled h until)
   pub submit : (h : HostState) (to : Route) (t : TransferData) → KeepsEnds h (host_submitted h to t)
-  pub refuse : (h : HostState) (to : Route) (t : TransferData) (errno : ℕ) → KeepsEnds h (host_refused h to t errno)
+  pub refuse : (h : HostState) (to : Route) (t : TransferData) (errno : ℕ) →
+      KeepsEnds h (host_refused h to t errno)
   pub discard : (h : HostState) (t : ℕ) → KeepsEnds h (host_discarded h t)
   pub take : (h : HostState) (t : ℕ) → KeepsEnds h (host_taken h t)
   pub abandon : (h : HostState) (t : ℕ) → KeepsEnds h (host_abandoned h t)
@@ -40,11 +42,15 @@ pub record EndsStay : Type 0 where
   pub claim : (h : HostState) (device number : ℕ) → KeepsEnds h (host_claimed h device number)
   pub close_handle : (h : HostState) (interface : ℕ) → KeepsEnds h (handle_closed h interface)
   pub ask : (h : HostState) (device : ℕ) → KeepsEnds h (host_asked h device)
-  pub open_endpoint : (h : HostState) (interface address : ℕ) → KeepsEnds h (with_endpoint h interface address)
+  pub open_endpoint : (h : HostState) (interface address : ℕ) →
+      KeepsEnds h (with_endpoint h interface address)
   pub finish : (h : HostState) → KeepsEnds h (finished h)
 
--- of an endpoint that is closed a pending ticket is dropped exactly where it was reaped, and else has no end yet
+-- of an endpoint that is closed a pending ticket is dropped exactly where it was reaped, and else
+-- has no end yet
 abbrev pub DroppedWhereReaped : Type 0
 DroppedWhereReaped =
-    (h : HostState) (e : EndpointState) (i t : ℕ) → Stands (bus_of h) e → slice_get e.pending i ≡ Some t →
-    end_at (after_close host_discarded host_abandoned host_left h e).tickets t ≡ (if is_some (completion h.kernel.past t) then Some Dropped else None)
+    (h : HostState) (e : EndpointState) (i t : ℕ) → Stands (bus_of h) e →
+    slice_get e.pending i ≡ Some t →
+    end_at (after_close host_discarded host_abandoned host_left h e).tickets t ≡
+    (if is_some (completion h.kernel.past t) then Some Dropped else None)

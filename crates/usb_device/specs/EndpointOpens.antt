@@ -16,7 +16,8 @@ use Rattle.usb_device.specs.HostState.{HostState, ClaimedInterface}
 use Rattle.usb_device.specs.Owners.{is_in_use}
 use Rattle.usb_device.specs.EndpointRefusals.{endpoint_tried}
 
--- the value of the active configuration: the kernel's, or the one that the open device keeps where the kernel refuses
+-- the value of the active configuration: the kernel's, or the one that the open device keeps where
+-- the kernel refuses
 abbrev pub active_value : List DeviceState → OpenDevice → ℕ
 active_value devices o = result_unwrap_or (configuration_result devices o.device) o.configuration
 
@@ -24,7 +25,9 @@ active_value devices o = result_unwrap_or (configuration_result devices o.device
 abbrev pub asked_on : HostState → ℕ → Option OpenDevice → HostState
 asked_on h key None = h
 asked_on h key (Some o) =
-    record h { devices = set h.devices key (record o { configuration = active_value h.kernel.devices o }) }
+    record h {
+      devices = set h.devices key (record o { configuration = active_value h.kernel.devices o });
+    }
 
 unfoldable pub host_asked : HostState → ℕ → HostState
 host_asked h key = asked_on h key (slice_get h.devices key)
@@ -32,13 +35,16 @@ host_asked h key = asked_on h key (slice_get h.devices key)
 -- the descriptors of a setting of an interface, in the configuration that the open device keeps
 abbrev pub setting_in : OpenDevice → ℕ → ℕ → Option (List ℕ)
 setting_in o number setting =
-    option_and_then (λ configuration. find (has_setting number setting) (alt_settings configuration))
+    option_and_then
+    (λ configuration. find (has_setting number setting) (alt_settings configuration))
     (find (has_value o.configuration) (configurations o.descriptors))
 
 -- the descriptor of an endpoint there
 unfoldable pub endpoint_of_setting : OpenDevice → ℕ → ℕ → ℕ → Option (List ℕ)
 endpoint_of_setting o number setting address =
-    option_and_then (λ setting. find (has_address address) (endpoints setting)) (setting_in o number setting)
+    option_and_then
+    (λ setting. find (has_address address) (endpoints setting))
+    (setting_in o number setting)
 
 -- that of an endpoint of a claimed interface, in its current setting
 abbrev pub endpoint_in : ClaimedInterface → ℕ → Option OpenDevice → Option (List ℕ)
@@ -46,17 +52,24 @@ endpoint_in c address None = None
 endpoint_in c address (Some o) = endpoint_of_setting o c.number c.setting address
 
 -- the maximum packet size of an endpoint that may be opened, or why it may not
-unfoldable pub host_tries : HostState → ℕ → ClaimedInterface → ℕ → TransferType → Direction → Result ℕ ErrorState
+unfoldable pub host_tries : HostState → ℕ → ClaimedInterface → ℕ → TransferType → Direction →
+    Result ℕ ErrorState
 host_tries h i c address kind direction =
-    endpoint_tried (endpoint_in c address (slice_get h.devices c.opened)) address kind direction (is_in_use h i address)
+    endpoint_tried (endpoint_in c address (slice_get h.devices c.opened)) address kind direction
+    (is_in_use h i address)
 
 -- one more endpoint is open
 abbrev pub with_endpoint : HostState → ℕ → ℕ → HostState
-with_endpoint h i address = record h { endpoints = h.endpoints ++ record { interface = i; address = address; is_open = true } ∷ [] }
+with_endpoint h i address =
+    record h {
+      endpoints =
+          h.endpoints ++ record { interface = Some i; address = address; is_open = true } ∷ [];
+    }
 
 -- the route of its transfers
 abbrev pub route_of : ClaimedInterface → ℕ → TransferType → ℕ → ℕ → Route
-route_of c address kind maximum key = record { device = c.device; endpoint = address; kind = kind; maximum = maximum; key = key }
+route_of c address kind maximum key =
+    record { device = c.device; endpoint = address; kind = kind; maximum = maximum; key = key }
 
 abbrev pub maximum_tried : Result Route (Fail ErrorState) → Result ℕ (Fail ErrorState)
 maximum_tried (Ok route) = Ok route.maximum
@@ -64,4 +77,12 @@ maximum_tried (Err error) = Err error
 
 -- a handle of the endpoint, with nothing pending
 abbrev pub fresh_endpoint : ClaimedInterface → ℕ → TransferType → ℕ → ℕ → EndpointState
-fresh_endpoint c address kind maximum key = record { device = c.device; address = address; kind = kind; maximum = maximum; key = key; pending = [] }
+fresh_endpoint c address kind maximum key =
+    record {
+      device = c.device;
+      address = address;
+      kind = kind;
+      maximum = maximum;
+      key = key;
+      pending = [];
+    }

@@ -22,7 +22,8 @@ is_type Interrupt Interrupt = true
 is_type a b = false
 
 -- the maximum packet size of the endpoint whose descriptor was found, or the first of these errors
-abbrev pub endpoint_tried : Option (List ℕ) → ℕ → TransferType → Direction → Bool → Result ℕ ErrorState
+abbrev pub endpoint_tried : Option (List ℕ) → ℕ → TransferType → Direction → Bool →
+    Result ℕ ErrorState
 endpoint_tried None address kind direction used = Err no_endpoint_error
 endpoint_tried (Some endpoint) address kind direction used =
     if not (same_direction (direction_of_address address) direction) then Err wrong_direction_error

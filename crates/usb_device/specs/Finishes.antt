@@ -17,7 +17,9 @@ reaped_below h zero = h
 reaped_below h (suc k) = host_reaped (reaped_below h k) k
 
 unfoldable pub finished : HostState → HostState
-finished h = reaped_below (discarded_below h (length (tickets h.kernel.past))) (length (tickets h.kernel.past))
+finished h =
+    reaped_below (discarded_below h (length (tickets h.kernel.past)))
+    (length (tickets h.kernel.past))
 
 -- each ticket has an end
 abbrev pub HasEnds : List HostTicket → Type 0

@@ -11,7 +11,8 @@ pub record InterfaceState : Type 0 where
 abbrev pub StandsDevice : HostState → ℕ → Type 0
 StandsDevice h key = key < length h.devices
 
--- a handle of an interface stands where the host has an interface of this key and number with an open handle, and its device
+-- a handle of an interface stands where the host has an interface of this key and number with an
+-- open handle, and its device
 pub record StandsInterface (h : HostState) (i : InterfaceState) : Type 0 where
   pub claim : ClaimedInterface
   pub at : slice_get h.interfaces i.key ≡ Some claim

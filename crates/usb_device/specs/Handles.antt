@@ -6,7 +6,9 @@ use Rattle.usb_device.specs.Releases.{owner_gone}
 -- a handle of an interface is closed
 abbrev pub handle_gone : HostState → ℕ → Option ClaimedInterface → HostState
 handle_gone h i None = h
-handle_gone h i (Some c) = owner_gone (record h { interfaces = set h.interfaces i (record c { handles = c.handles - 1 }) }) i
+handle_gone h i (Some c) =
+    owner_gone
+    (record h { interfaces = set h.interfaces i (record c { handles = c.handles - 1 }) }) i
 
 unfoldable pub handle_closed : HostState → ℕ → HostState
 handle_closed h i = handle_gone h i (slice_get h.interfaces i)

@@ -13,7 +13,9 @@ abbrev pub waited_by_seconds : ℕ → HostState → ℕ → HostState
 waited_by_seconds zero h t = h
 waited_by_seconds (suc n) h t = or_then (host_waited h t 1000000000) (λ g. waited_by_seconds n g t)
 
--- A wait for a ticket; after one in vain the ticket is discarded, and waited for by seconds. Each of these waits that is in vain has taken a step of the line
+-- A wait for a ticket; after one in vain the ticket is discarded, and waited for by seconds. Each
+-- of these waits that is in vain has taken a step of the line
 unfoldable pub host_blocked : HostState → ℕ → ℕ → HostState
 host_blocked h t timeout =
-    or_then (host_waited h t timeout) (λ g. waited_by_seconds (suc (length g.steps)) (host_discarded g t) t)
+    or_then (host_waited h t timeout) (λ g.
+    waited_by_seconds (suc (length g.steps)) (host_discarded g t) t)

@@ -1,12 +1,11 @@
 -- What a host is as a bus.
 use Rattle.std.specs.Prelude.{ℕ, ◌+◌, ◌*◌, ◌^◌, Bool, false, List, length, Option, Some, None, slice_get, option_and_then}
 use Rattle.std.specs.Option.{option_map, option_map_or}
-use Rattle.usb_xfer.specs.declared.transfer.Completion.{Completion}
-use Rattle.usb_xfer.specs.declared.transfer.Held.TheVariants.{Complete}
 use Rattle.usb_xfer.specs.declared.transfer.TransferData.{TransferData}
 use Rattle.usb_kernel.specs.Completions.{waiting}
 use Rattle.usb_bus.specs.BusState.{BusState}
 use Rattle.usb_bus.specs.Completions.{transfer_completion}
+use Rattle.usb_bus.specs.Holds.{value_for}
 use Rattle.usb_device.specs.declared.ends.TicketEnd.{TicketEnd}
 use Rattle.usb_device.specs.HostState.{HostState, Hold, HostTicket, HostEndpoint, Held, Abandoned, Ended}
 
@@ -33,14 +32,17 @@ turns_left h = length h.steps * 2 ^ 64 + length (waiting h.kernel.past)
 
 abbrev pub bus_of : HostState → BusState
 bus_of h =
-    record { past = h.kernel.past; clock = h.kernel.clock; owner = owner_at h.tickets; keys = key_at h.endpoints; left = turns_left h }
+    record {
+      past = h.kernel.past;
+      clock = h.kernel.clock;
+      owner = owner_at h.tickets;
+      keys = key_at h.endpoints;
+      left = turns_left h;
+    }
 
 -- the transfer of a ticket that an endpoint holds, once its completion has come
-abbrev pub transfer_with : Hold → Completion → TransferData
-transfer_with hold c = record { endpoint = hold.endpoint; kind = hold.kind; held = Complete c }
-
 abbrev pub host_value : HostState → ℕ → Option TransferData
-host_value h t = option_and_then (λ hold. option_map (transfer_with hold) (transfer_completion h.kernel.past t)) (hold_at h.tickets t)
+host_value h t = value_for (transfer_completion h.kernel.past t) (hold_at h.tickets t)
 
 -- the end of a ticket that has one
 abbrev pub ended_at : HostTicket → Option TicketEnd

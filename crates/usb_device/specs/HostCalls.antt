@@ -5,7 +5,8 @@ use Rattle.usb_xfer.specs.declared.transfer.TransferData.{TransferData}
 use Rattle.usb_xfer.specs.Transfers.{buffer_held}
 use Rattle.usb_kernel.specs.Value.{KernelState}
 use Rattle.usb_kernel.specs.Claims.{clear_halt_result}
-use Rattle.usb_kernel.specs.Submits.{after_submit, armed_after_submit, after_refuse}
+use Rattle.usb_kernel.specs.Submits.{kernel_submitted, kernel_refused}
+use Rattle.usb_kernel.specs.Timers.{timer_turned}
 use Rattle.usb_kernel.specs.Steps.{after_discard}
 use Rattle.usb_bus.specs.declared.route.Route.{Route}
 use Rattle.usb_bus.specs.Routes.{submission_of}
@@ -16,17 +17,16 @@ use Rattle.usb_device.specs.HostTurns.{with_past}
 -- the endpoint of a route holds the next ticket
 abbrev pub with_held : HostState → Route → TransferData → KernelState → HostState
 with_held h to t kernel =
-    record h { kernel = kernel; tickets = h.tickets ++ Held (record { key = to.key; endpoint = t.endpoint; kind = t.kind }) ∷ [] }
+    record h {
+      kernel = kernel;
+      tickets =
+          h.tickets ++ Held (record { key = to.key; endpoint = t.endpoint; kind = t.kind }) ∷ [];
+    }
 
 -- the buffer of a transfer was submitted, refused or not
 abbrev pub submitted_with : HostState → Route → TransferData → Option BufferState → HostState
 submitted_with h to t None = h
-submitted_with h to t (Some b) =
-    with_held h to t
-    (record h.kernel {
-      past = after_submit h.kernel.devices h.kernel.armed h.kernel.past (submission_of to b);
-      armed = armed_after_submit h.kernel.devices h.kernel.armed (submission_of to b);
-    })
+submitted_with h to t (Some b) = with_held h to t (kernel_submitted h.kernel (submission_of to b))
 
 unfoldable pub host_submitted : HostState → Route → TransferData → HostState
 host_submitted h to t = submitted_with h to t (buffer_held t.held)
@@ -34,7 +34,8 @@ host_submitted h to t = submitted_with h to t (buffer_held t.held)
 -- it was refused with an errno, whatever the kernel would have answered
 abbrev pub refused_with : HostState → Route → TransferData → ℕ → Option BufferState → HostState
 refused_with h to t errno None = h
-refused_with h to t errno (Some b) = with_held h to t (record h.kernel { past = after_refuse h.kernel.past (submission_of to b) errno })
+refused_with h to t errno (Some b) =
+    with_held h to t (kernel_refused h.kernel (submission_of to b) errno)
 
 unfoldable pub host_refused : HostState → Route → TransferData → ℕ → HostState
 host_refused h to t errno = refused_with h to t errno (buffer_held t.held)
@@ -46,14 +47,21 @@ host_discarded h t = with_past h (after_discard h.kernel.past t)
 -- the handle of an endpoint is open no more. Without a ticket that has no end the endpoint has gone
 abbrev pub closed_if : HostState → ℕ → Option HostEndpoint → HostState
 closed_if h k None = h
-closed_if h k (Some e) = settled (record h { endpoints = set h.endpoints k (record e { is_open = false }) }) k
+closed_if h k (Some e) =
+    settled (record h { endpoints = set h.endpoints k (record e { is_open = false }) }) k
 
 unfoldable pub host_left : HostState → ℕ → HostState
 host_left h k = closed_if h k (slice_get h.endpoints k)
 
--- the clock was raised
+-- the clock was raised, and the timer had its turn
 abbrev pub host_idled : HostState → ℕ → HostState
-host_idled h until = record h { kernel = record h.kernel { clock = max h.kernel.clock until } }
+host_idled h until =
+    record h {
+      kernel = record h.kernel {
+        clock = max h.kernel.clock until;
+        past = timer_turned (max h.kernel.clock until) h.kernel.past;
+      };
+    }
 
 -- the kernel's answer to a clear_halt, which changes nothing
 abbrev pub host_halt_result : HostState → ℕ → ℕ → Result (Unit {0}) ℕ

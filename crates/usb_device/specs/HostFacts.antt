@@ -1,20 +1,15 @@
 -- What is true of all hosts.
-use Rattle.std.specs.Prelude.{ℕ, ◌≡◌, ◌≤◌, List, map, length, Option, Some, None, slice_get}
+use Rattle.std.specs.Prelude.{ℕ, ◌≡◌, ◌≤◌, List, map, length, Some, None, slice_get}
 use Rattle.std.specs.List.{All}
 use Rattle.std.specs.VecDeque.{deque_len}
-use Rattle.usb_xfer.specs.declared.transfer.Completion.{Completion}
-use Rattle.usb_xfer.specs.declared.transfer.Held.{Held}
-use Rattle.usb_xfer.specs.declared.transfer.Held.TheVariants.{Nothing, Complete}
 use Rattle.usb_kernel.specs.declared.event.Event.{Event}
 use Rattle.usb_kernel.specs.declared.step.KernelStep.{KernelStep}
-use Rattle.usb_kernel.specs.declared.submission.Done.{Done}
-use Rattle.usb_kernel.specs.declared.submission.Submitted.{Submitted}
-use Rattle.usb_kernel.specs.declared.submission.Submitted.TheVariants.{Queued, Refused}
 use Rattle.usb_kernel.specs.Value.{KernelState}
 use Rattle.usb_kernel.specs.Tickets.{tickets}
-use Rattle.usb_kernel.specs.Completions.{completion, completed}
+use Rattle.usb_kernel.specs.Completions.{completion}
 use Rattle.usb_kernel.specs.Steps.{HasErrno}
-use Rattle.usb_bus.specs.Completions.{completion_of, transfer_completion}
+use Rattle.usb_bus.specs.Completions.{transfer_completion}
+use Rattle.usb_bus.specs.Holds.{held_of}
 use Rattle.usb_device.specs.declared.opened.OpenDevice.{OpenDevice}
 use Rattle.usb_device.specs.declared.slot.Slot.{Slot}
 use Rattle.usb_device.specs.declared.slot.Slot.TheVariants as slot
@@ -25,22 +20,19 @@ use Rattle.usb_device.specs.LedgerState.{LedgerState, ticket_of}
 -- a host by its parts
 abbrev pub host_made : KernelState → List OpenDevice → LedgerState → List KernelStep → HostState
 host_made kernel devices l steps =
-    record { kernel = kernel; devices = devices; interfaces = l.interfaces; endpoints = l.endpoints; tickets = map ticket_of l.slots; steps = steps }
+    record {
+      kernel = kernel;
+      devices = devices;
+      interfaces = l.interfaces;
+      endpoints = l.endpoints;
+      tickets = map ticket_of l.slots;
+      steps = steps;
+    }
 
--- what a transfer holds before and after its completion
-abbrev pub held_with : Option Completion → Held
-held_with None = Nothing
-held_with (Some c) = Complete c
-
--- what it holds when it was submitted
-abbrev pub held_at_once : Submitted → Held
-held_at_once (Queued ticket) = Nothing
-held_at_once (Refused done) = Complete (completion_of done)
-
--- a slot is what the journal says: a transfer that an endpoint holds has its completion as soon as the ticket is reaped, and a
--- ticket that was given up and has no end is not reaped
+-- a slot is what the journal says: a transfer that an endpoint holds has its completion as soon as
+-- the ticket is reaped, and a ticket that was given up and has no end is not reaped
 abbrev pub Fits : List Event → ℕ → Slot → Type 0
-Fits past t (slot.Held key transfer) = transfer.held ≡ held_with (transfer_completion past t)
+Fits past t (slot.Held key transfer) = transfer.held ≡ held_of (transfer_completion past t)
 Fits past t (slot.Abandoned key) = completion past t ≡ None
 Fits past t (slot.Ended end) = Unit {0}
 
@@ -48,11 +40,6 @@ Fits past t (slot.Ended end) = Unit {0}
 pub record Agree (past : List Event) (slots : List Slot) : Type 0 where
   pub count : length slots ≡ length (tickets past)
   pub each : (t : ℕ) (s : Slot) → slice_get slots t ≡ Some s → Fits past t s
-
--- the tickets are the same, and no other completion came than this one
-pub record Comes (past next : List Event) (arrived : Option Done) : Type 0 where
-  pub count : length (tickets next) ≡ length (tickets past)
-  pub each : (t : ℕ) → completion next t ≡ completed arrived (completion past) t
 
 pub record IsMatched (h : Inside) : Type 0 where
   pub agree : Agree h.kernel.past h.ledger.slots

@@ -14,7 +14,8 @@ pub record UsesPlaces (places : ℕ) (old new : HostState) : Type 0 where
   pub endpoints : new.endpoints ≡ old.endpoints
   pub later : IsLater (bus_of old) (bus_of new)
 
--- steps were taken from the front of the line, each of which used a place of the kernel, and what is open stays open
+-- steps were taken from the front of the line, each of which used a place of the kernel, and what
+-- is open stays open
 pub record LineGoesOn (old new : HostState) : Type 0 where
   pub front : List KernelStep
   pub steps : old.steps ≡ front ++ new.steps

@@ -6,11 +6,13 @@ use Rattle.usb_xfer.specs.declared.transfer.TransferData.{TransferData}
 use Rattle.usb_xfer.specs.Transfers.{completion_held}
 use Rattle.usb_bus.specs.Completions.{transfer_completion}
 use Rattle.usb_bus.specs.Values.{HoldsCompletion}
+use Rattle.usb_bus.specs.Holds.{transfer_with}
 use Rattle.usb_device.specs.HostState.{HostState, Hold}
-use Rattle.usb_device.specs.HostBus.{owner_at, hold_at, host_value, transfer_with}
+use Rattle.usb_device.specs.HostBus.{owner_at, hold_at, host_value}
 
 -- a ticket is held exactly where it has an owner
-pub held-owned : (h : HostState) (t : ℕ) → is_some (hold_at h.tickets t) ≡ is_some (owner_at h.tickets t)
+pub held-owned : (h : HostState) (t : ℕ) →
+    is_some (hold_at h.tickets t) ≡ is_some (owner_at h.tickets t)
 held-owned h t = some-map (hold_at h.tickets t)
   where
     some-map : (o : Option Hold) → is_some o ≡ is_some (option_map (λ (hold : Hold). hold.key) o)
@@ -18,10 +20,14 @@ held-owned h t = some-map (hold_at h.tickets t)
     some-map (Some hold) = refl
 
 -- and holds its completion once it is reaped
-pub value-held : (h : HostState) (t : ℕ) → IsSome (owner_at h.tickets t) → HoldsCompletion h.kernel.past t (host_value h t)
+pub value-held : (h : HostState) (t : ℕ) → IsSome (owner_at h.tickets t) →
+    HoldsCompletion h.kernel.past t (host_value h t)
 value-held h t some = by (hold_at h.tickets t) (transfer_completion h.kernel.past t) some
   where
-    by : (o : Option Hold) (c : Option Completion) → IsSome (option_map (λ (hold : Hold). hold.key) o) → option_map (λ (v : TransferData). completion_held v.held) (option_and_then (λ hold. option_map (transfer_with hold) c) o) ≡ option_map Some c
+    by : (o : Option Hold) (c : Option Completion) →
+        IsSome (option_map (λ (hold : Hold). hold.key) o) →
+        option_map (λ (v : TransferData). completion_held v.held)
+        (option_and_then (λ hold. option_map (transfer_with hold) c) o) ≡ option_map Some c
     by None c some = absurd (cc)
     by (Some hold) None some = refl
     by (Some hold) (Some c) some = refl

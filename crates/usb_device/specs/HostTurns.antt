@@ -5,7 +5,8 @@ use Rattle.usb_kernel.specs.declared.step.KernelStep.{KernelStep}
 use Rattle.usb_kernel.specs.Completions.{reapable, lowest}
 use Rattle.usb_kernel.specs.Steps.{after_step, after_reap, step_done}
 use Rattle.usb_bus.specs.declared.route.Turn.{Turn}
-use Rattle.usb_bus.specs.declared.route.Turn.TheVariants.{Stepped, Reaped, TimeUp}
+use Rattle.usb_bus.specs.declared.route.Turn.TheVariants.{Stepped}
+use Rattle.usb_bus.specs.Turns.{reap_turn}
 use Rattle.usb_device.specs.HostState.{HostState}
 use Rattle.usb_device.specs.TicketEnds.{came}
 
@@ -20,7 +21,8 @@ host_stepped h s = came (record h { kernel = after_step h.kernel s }) (step_done
 unfoldable pub host_reaped : HostState → ℕ → HostState
 host_reaped h t = came (with_past h (after_reap h.kernel.past t)) (reapable h.kernel.past t)
 
--- a turn: the next step of the line; with none left, the reap of the lowest ticket that is finished and not reaped; else time is up
+-- a turn: the next step of the line; with none left, the reap of the lowest ticket that is finished
+-- and not reaped; else time is up
 abbrev pub reaped_of : HostState → Option ℕ → HostState
 reaped_of h None = h
 reaped_of h (Some t) = host_reaped h t
@@ -33,12 +35,8 @@ unfoldable pub host_turned : HostState → HostState
 host_turned h = turned_of h h.steps
 
 -- what the turn was
-abbrev pub end_of : Option ℕ → Turn
-end_of None = TimeUp
-end_of (Some t) = Reaped
-
 abbrev pub turn_for : List Event → List KernelStep → Turn
-turn_for past [] = end_of (lowest past)
+turn_for past [] = reap_turn (lowest past)
 turn_for past (s ∷ ss) = Stepped
 
 unfoldable pub host_turn : HostState → Turn

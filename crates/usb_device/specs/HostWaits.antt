@@ -17,7 +17,8 @@ abbrev pub reap_and : Option ℕ → HostState → (HostState → Bool × HostSt
 reap_and None h further = (false, h)
 reap_and (Some u) h further = further (host_reaped h u)
 
--- with no step left the lowest ticket that is finished and not reaped is reaped, again and again, at most this often; time is up where there is none
+-- with no step left the lowest ticket that is finished and not reaped is reaped, again and again,
+-- at most this often; time is up where there is none
 abbrev pub wait_reaps : ℕ → HostState → ℕ → ℕ → ℕ → Bool × HostState
 wait_reaps zero h t timeout start = (is_found h t, h)
 wait_reaps (suc n) h t timeout start =
@@ -25,7 +26,8 @@ wait_reaps (suc n) h t timeout start =
     else if is_late h timeout start then (false, h)
     else reap_and (lowest h.kernel.past) h (λ g. wait_reaps n g t timeout start)
 
--- whether the ticket was found reaped, and what is left then: a look at the ticket, a look at the clock, the next of these steps, and so on
+-- whether the ticket was found reaped, and what is left then: a look at the ticket, a look at the
+-- clock, the next of these steps, and so on
 abbrev pub wait_steps : List KernelStep → HostState → ℕ → ℕ → ℕ → Bool × HostState
 wait_steps [] h t timeout start = wait_reaps (length (waiting h.kernel.past)) h t timeout start
 wait_steps (s ∷ ss) h t timeout start =

@@ -4,13 +4,9 @@ use Rattle.usb_kernel.specs.Claims.{claim_result, after_claim}
 use Rattle.usb_error.specs.ErrorState.{ErrorState}
 use Rattle.usb_error.specs.Errors.{claim_error}
 use Rattle.usb_device.specs.declared.opened.OpenDevice.{OpenDevice}
-use Rattle.usb_device.specs.HostState.{HostState, ClaimedInterface}
+use Rattle.usb_device.specs.HostState.{HostState, fresh_interface}
 use Rattle.usb_device.specs.Releases.{with_devices}
 use Rattle.usb_device.specs.Tried.{or_error}
-
--- a fresh claim has the setting 0 and one open handle
-abbrev pub fresh_interface : ℕ → OpenDevice → ℕ → ClaimedInterface
-fresh_interface key o number = record { opened = key; device = o.device; number = number; setting = 0; handles = 1 }
 
 -- the kernel's answer to the claim
 abbrev pub claim_tried : HostState → OpenDevice → ℕ → Result (Unit {0}) ErrorState
@@ -21,7 +17,7 @@ abbrev pub claimed_on : HostState → ℕ → ℕ → Option OpenDevice → Host
 claimed_on h key number None = h
 claimed_on h key number (Some o) =
     record (with_devices h (after_claim h.kernel.devices o.device number)) {
-      interfaces = h.interfaces ++ fresh_interface key o number ∷ [];
+      interfaces = h.interfaces ++ fresh_interface key o.device number ∷ [];
     }
 
 unfoldable pub host_claimed : HostState → ℕ → ℕ → HostState

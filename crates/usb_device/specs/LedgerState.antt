@@ -1,4 +1,5 @@
--- The claimed interfaces, their endpoints, and the tickets of these, with the data of their transfers.
+-- The claimed interfaces, their endpoints, and the tickets of these, with the data of their
+-- transfers.
 use Rattle.std.specs.Prelude.{ℕ, Bool, true, false, ◌≡◌, ◌<◌, List, length, map, Option, Some, None, is_some, slice_get}
 use Rattle.std.specs.List.{All, count_by}
 use Rattle.usb_xfer.specs.declared.transfer.TransferData.{TransferData}
@@ -17,16 +18,18 @@ use Rattle.usb_device.specs.Releases.{claim_of}
 
 -- what became of the ticket of a slot
 abbrev pub ticket_of : Slot → HostTicket
-ticket_of (slot.Held key transfer) = Held (record { key = key; endpoint = transfer.endpoint; kind = transfer.kind })
+ticket_of (slot.Held key transfer) =
+    Held (record { key = key; endpoint = transfer.endpoint; kind = transfer.kind })
 ticket_of (slot.Abandoned key) = Abandoned key
 ticket_of (slot.Ended end) = Ended end
 
--- room: how many more tickets there is a place for
+-- room and claim_room: how many more tickets and interfaces there is a place for
 pub record LedgerState : Type 0 where
   pub interfaces : List ClaimedInterface
   pub endpoints : List HostEndpoint
   pub slots : List Slot
   pub room : ℕ
+  pub claim_room : ℕ
 
 abbrev pub tickets_in : LedgerState → List HostTicket
 tickets_in l = map ticket_of l.slots
@@ -45,13 +48,15 @@ slot_data (slot.Ended end) = None
 
 -- a slot whose ticket has its completion: that of a ticket that was given up is reclaimed
 abbrev pub slot_with : Done → Slot → Slot
-slot_with done (slot.Held key transfer) = slot.Held key (record transfer { held = Complete (completion_of done) })
+slot_with done (slot.Held key transfer) =
+    slot.Held key (record transfer { held = Complete (completion_of done) })
 slot_with done (slot.Abandoned key) = slot.Ended Reclaimed
 slot_with done (slot.Ended end) = slot.Ended end
 
 -- a slot that keeps the completion, where an endpoint holds the ticket
 abbrev pub slot_kept : Done → Slot → Slot
-slot_kept done (slot.Held key transfer) = slot.Held key (record transfer { held = Complete (completion_of done) })
+slot_kept done (slot.Held key transfer) =
+    slot.Held key (record transfer { held = Complete (completion_of done) })
 slot_kept done (slot.Abandoned key) = slot.Abandoned key
 slot_kept done (slot.Ended end) = slot.Ended end
 
@@ -91,5 +96,6 @@ HasKeyBelow n (Ended end) = Unit {0}
 
 -- the rows count the tickets without an end
 pub record Tied (rows : List Row) (tickets : List HostTicket) : Type 0 where
-  pub counts : (k : ℕ) (e : Row) → slice_get rows k ≡ Some e → e.tickets ≡ count_by (is_ticket_of k) tickets
+  pub counts : (k : ℕ) (e : Row) → slice_get rows k ≡ Some e →
+      e.tickets ≡ count_by (is_ticket_of k) tickets
   pub keys : All (HasKeyBelow (length rows)) tickets

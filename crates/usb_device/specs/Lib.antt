@@ -22,6 +22,8 @@ pub mod HostLaws
 pub mod HandleStates
 pub mod HostWaits
 pub mod HostBlocking
+pub mod HostAwaits
+pub mod Futures
 pub mod HostFrames
 pub mod WaitLaws
 pub mod EndLaws

@@ -11,17 +11,23 @@ use Rattle.usb_device.specs.Tried.{◌>>=◌, or_error, or_missing}
 
 -- all descriptors of a device, as the kernel gives them
 unfoldable pub descriptors_tried : List DeviceState → ℕ → Result (List ℕ) ErrorState
-descriptors_tried devices device = or_error read_descriptors_error (descriptors_result devices device)
+descriptors_tried devices device =
+    or_error read_descriptors_error (descriptors_result devices device)
 
--- the kernel opens the device and gives its descriptors, of which the first has to be a device descriptor, and its active
--- configuration
+-- the kernel opens the device and gives its descriptors, of which the first has to be a device
+-- descriptor, and its active configuration
 unfoldable pub open_tried : List DeviceState → ℕ → ℕ → Result OpenDevice ErrorState
 open_tried devices bus address = do
   device ← or_error open_error (open_result devices bus address)
   bytes ← descriptors_tried devices device
   device_descriptor ← or_missing invalid_device_descriptor_error (device_of bytes)
   value ← or_error (λ errno. configuration_error) (configuration_result devices device)
-  Ok (record { device = device; configuration = value; device_descriptor = device_descriptor; descriptors = bytes })
+  Ok (record {
+    device = device;
+    configuration = value;
+    device_descriptor = device_descriptor;
+    descriptors = bytes;
+  })
 
 -- one more device is open
 abbrev pub with_opened : HostState → OpenDevice → HostState

@@ -1,5 +1,5 @@
 -- How the owners of interfaces are counted.
-use Rattle.std.specs.Prelude.{ℕ, ◌≡◌, ◌<◌, ◌==◌, ◌&&◌, ◌||◌, Bool, List, length, set, Option, Some, None, slice_get, nat_lt, if◌then◌else◌}
+use Rattle.std.specs.Prelude.{ℕ, ◌≡◌, ◌<◌, ◌==◌, ◌&&◌, ◌||◌, Bool, List, length, set, Option, Some, None, slice_get, option_and_then, nat_lt, if◌then◌else◌}
 use Rattle.std.specs.List.{All, count_by}
 use Rattle.std.specs.FinSet as bits
 use Rattle.usb_desc.specs.BitSet.{bit_of, members}
@@ -7,7 +7,8 @@ use Rattle.usb_device.specs.declared.owners.Claim.{Claim}
 use Rattle.usb_device.specs.declared.owners.Row.{Row}
 use Rattle.usb_device.specs.declared.owners.EndedClaim.{EndedClaim}
 use Rattle.usb_device.specs.HostState.{ClaimedInterface, HostEndpoint}
-use Rattle.usb_device.specs.Owners.{shares_bit}
+use Rattle.std.specs.Option.{ForSome}
+use Rattle.usb_device.specs.Owners.{shares_bit, is_of}
 
 -- an endpoint with a count of its tickets that have no end
 abbrev pub endpoint_of : Row → HostEndpoint
@@ -17,7 +18,7 @@ abbrev pub is_alive : Row → Bool
 is_alive e = e.is_open || nat_lt 0 e.tickets
 
 abbrev pub is_alive_on : ℕ → Row → Bool
-is_alive_on i e = e.interface == i && is_alive e
+is_alive_on i e = is_of i e.interface && is_alive e
 
 abbrev pub is_alive_with : ℕ → ℕ → Row → Bool
 is_alive_with i bit e = is_alive_on i e && bit_of e.address == bit
@@ -30,42 +31,53 @@ abbrev pub one_if : Bool → ℕ
 one_if b = if b then 1 else 0
 
 abbrev pub claim_state : Claim → ClaimedInterface
-claim_state c = record { opened = c.opened; device = c.device; number = c.number; setting = c.setting; handles = c.handles }
+claim_state c =
+    record {
+      opened = c.opened;
+      device = c.device;
+      number = c.number;
+      setting = c.setting;
+      handles = c.handles;
+    }
 
--- what the owners are to the host
+-- what the owners are to the host. claim_room: how many more interfaces there is a place for
 pub record OwnersState : Type 0 where
   pub interfaces : List ClaimedInterface
   pub rows : List Row
+  pub claim_room : ℕ
 
 -- the rows when one has another count or is closed
 abbrev pub rows_by : List Row → ℕ → Bool → ℕ → Option Row → List Row
 rows_by rows k is_open tickets None = rows
-rows_by rows k is_open tickets (Some e) = set rows k (record e { is_open = is_open; tickets = tickets })
+rows_by rows k is_open tickets (Some e) =
+    set rows k (record e { is_open = is_open; tickets = tickets })
 
 unfoldable pub with_row : List Row → ℕ → Bool → ℕ → List Row
 with_row rows k is_open tickets = rows_by rows k is_open tickets (slice_get rows k)
 
--- the claim that ends where an interface is left, by the counts
+-- the claim that ends where an owner of an interface has gone, by the counts
 abbrev pub is_counted : List Row → ℕ → ClaimedInterface → Bool
 is_counted rows i c = nat_lt 0 c.handles || nat_lt 0 (count_by (is_alive_on i) rows)
 
-abbrev pub left_by : List Row → ℕ → Option ClaimedInterface → Option EndedClaim
-left_by rows i None = None
-left_by rows i (Some c) = if is_counted rows i c then None else Some (record { device = c.device; number = c.number })
+unfoldable pub claim_gone : List ClaimedInterface → List Row → ℕ → Option EndedClaim
+claim_gone interfaces rows i =
+    option_and_then
+    (λ (c : ClaimedInterface).
+    if is_counted rows i c then None else Some (record { device = c.device; number = c.number }))
+    (slice_get interfaces i)
 
-abbrev pub gone_by : List ClaimedInterface → List Row → Option Row → Option EndedClaim
-gone_by interfaces rows None = None
-gone_by interfaces rows (Some e) = if is_alive e then None else left_by rows e.interface (slice_get interfaces e.interface)
+-- and where an endpoint may have gone
+unfoldable pub row_gone : List ClaimedInterface → List Row → ℕ → Option EndedClaim
+row_gone interfaces rows k =
+    option_and_then (claim_gone interfaces rows)
+    (option_and_then (λ (e : Row). e.interface) (slice_get rows k))
 
-unfoldable pub row_gone : OwnersState → ℕ → Option EndedClaim
-row_gone s k = gone_by s.interfaces s.rows (slice_get s.rows k)
-
-unfoldable pub claim_gone : OwnersState → ℕ → Option EndedClaim
-claim_gone s i = left_by s.rows i (slice_get s.interfaces i)
-
--- the counts and the bits of each interface are those of its endpoints that live, of which no two share a bit
+-- the counts and the bits of each interface are those of its endpoints that live, of which no two
+-- share a bit
 pub record CountsOf (claims : List Claim) (rows : List Row) : Type 0 where
-  pub living : (i : ℕ) (c : Claim) → slice_get claims i ≡ Some c → c.living ≡ count_by (is_alive_on i) rows
-  pub used : (i : ℕ) (c : Claim) (bit : ℕ) → slice_get claims i ≡ Some c → count_by (is_alive_with i bit) rows ≡ one_if (bits.contains (members c.bits) bit)
-  pub placed : All (λ (e : Row). e.interface < length claims) rows
+  pub living : (i : ℕ) (c : Claim) → slice_get claims i ≡ Some c →
+      c.living ≡ count_by (is_alive_on i) rows
+  pub used : (i : ℕ) (c : Claim) (bit : ℕ) → slice_get claims i ≡ Some c →
+      count_by (is_alive_with i bit) rows ≡ one_if (bits.contains (members c.bits) bit)
+  pub placed : All (λ (e : Row). ForSome e.interface (λ i. i < length claims)) rows
   pub small : All (λ (e : Row). e.address < 256) rows

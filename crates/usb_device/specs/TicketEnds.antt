@@ -31,7 +31,9 @@ given_up h t _ = h
 
 -- an endpoint gives a ticket up: one that is reaped is dropped
 unfoldable pub host_abandoned : HostState → ℕ → HostState
-host_abandoned h t = if is_some (completion h.kernel.past t) then host_ended h t Dropped else given_up h t (slice_get h.tickets t)
+host_abandoned h t =
+    if is_some (completion h.kernel.past t) then host_ended h t Dropped
+    else given_up h t (slice_get h.tickets t)
 
 -- a completion has come: one that was given up is reclaimed
 abbrev pub reclaimed_if : HostState → ℕ → Option HostTicket → HostState

@@ -5,7 +5,8 @@ use Rattle.usb_desc.specs.declared.error.Fail.TheVariants.{Cause, Memory}
 use Rattle.usb_error.specs.ErrorState.{ErrorState}
 
 infixl 10 ◌>>=◌
-abbrev pub ◌>>=◌ : {A B : Type 0} → Result A ErrorState → (A → Result B ErrorState) → Result B ErrorState
+abbrev pub ◌>>=◌ : {A B : Type 0} → Result A ErrorState → (A → Result B ErrorState) →
+    Result B ErrorState
 Ok x >>= f = f x
 Err e >>= f = Err e
 
@@ -26,6 +27,7 @@ Tried (Err (Cause error)) tried = tried ≡ Err error
 Tried (Err Memory) tried = Unit {0}
 
 -- what a call answered, by a part of it
-abbrev pub mapped : {X Y : Type 0} → (X → Y) → Result X (Fail ErrorState) → Result Y (Fail ErrorState)
+abbrev pub mapped : {X Y : Type 0} → (X → Y) → Result X (Fail ErrorState) →
+    Result Y (Fail ErrorState)
 mapped f (Ok x) = Ok (f x)
 mapped f (Err error) = Err error

@@ -14,15 +14,18 @@ use Rattle.usb_device.specs.HostFrames.{LineGoesOn, WentOn}
 abbrev pub WaitIsBySteps : Type 0
 WaitIsBySteps =
     (n : ℕ) (h : HostState) (t timeout start : ℕ) (x : Bool × HostState) →
-    waited bus_of host_turned host_turn t timeout start n h ≡ Some x → x ≡ wait_steps h.steps h t timeout start
+    waited bus_of host_turned host_turn t timeout start n h ≡ Some x →
+    x ≡ wait_steps h.steps h t timeout start
 
 -- and so does a blocking transfer, whatever bounds its waits had
 abbrev pub BlockingIsBySteps : Type 0
 BlockingIsBySteps =
     (t timeout looks : ℕ) (more : List ℕ) (h g : HostState) →
-    blocked bus_of host_turned host_turn host_discarded t timeout looks more h ≡ Some g → g ≡ host_blocked h t timeout
+    blocked bus_of host_turned host_turn host_discarded t timeout looks more h ≡ Some g →
+    g ≡ host_blocked h t timeout
 
--- a turn, a wait and a blocking transfer take steps only from the front of the line, and end nothing that endpoints hold
+-- a turn, a wait and a blocking transfer take steps only from the front of the line, and end
+-- nothing that endpoints hold
 abbrev pub TurnGoesOn : Type 0
 TurnGoesOn = (h : HostState) → WentOn h (host_turned h)
 
@@ -42,4 +45,5 @@ RestLeavesNone = (h : HostState) → (host_rest h).steps ≡ []
 -- and each step of it, taken by a call before or not, has used a place of the kernel
 abbrev pub LineUsesPlaces : Type 0
 LineUsesPlaces =
-    (old new : HostState) → LineGoesOn old new → length old.steps ≤ old.kernel.spare → (host_rest new).kernel.spare + length old.steps ≡ old.kernel.spare
+    (old new : HostState) → LineGoesOn old new → length old.steps ≤ old.kernel.spare →
+    (host_rest new).kernel.spare + length old.steps ≡ old.kernel.spare

@@ -12,24 +12,23 @@ use usb_desc::Fail;
 use usb_error::Error;
 
 impl Host {
-    /// Claims an interface of an open device. It has the next key, and one handle.
+    /// Claims an interface of an open device. It has the next key, and one handle. Its memory is
+    /// taken before the kernel is asked.
     pub(crate) fn claim(&mut self, device: usize, number: u8) -> Result<usize, Fail<Error>>
         requires device { device < length self.old.devices }
-        ensures tried { Tried result (claim_key self.old number (slice_get self.old.devices device)) }
+        ensures tried { Tried result
+            (claim_key self.old number (slice_get self.old.devices device)) }
         ensures ok { OnOk result (self.new ≡ host_claimed self.old device number) }
         ensures err { OnErr result (self.new ≡ self.old) }
     {
         let at_kernel = self.devices[device].device;
+        if self.ledger.reserve_claim().is_err() {
+            return Err(Fail::Memory);
+        }
         if let Err(errno) = self.kernel.claim(at_kernel, number) {
             return Err(Fail::Cause(Error::claim(errno)));
         }
-        match self.ledger.open_interface(device, at_kernel, number) {
-            Ok(key) => Ok(key),
-            Err(_) => {
-                let _ = self.kernel.release(at_kernel, number);
-                Err(Fail::Memory)
-            }
-        }
+        Ok(self.ledger.open_interface(device, at_kernel, number))
     }
 
     /// A handle of a claimed interface is closed. With the last owner the claim ends.

@@ -3,6 +3,7 @@
 ghost use Rattle.std.specs.Prelude.{◌≡◌, ◌+◌, ◌<◌, length, slice_get, Some, OnOk, OnErr, IfOk};
 ghost use Rattle.std.specs.Option.{ForSome, option_copied};
 ghost use Rattle.usb_desc.specs.Configurations as spec;
+ghost use Rattle.usb_desc.specs.Fields.{direction_of_address};
 ghost use Rattle.usb_device.specs.HostState.{HostState};
 ghost use Rattle.usb_device.specs.HandleStates.{InterfaceState, StandsDevice, StandsInterface};
 ghost use Rattle.usb_endpoint.specs.EndpointState.{EndpointState};
@@ -16,6 +17,7 @@ ghost use Rattle.usb_device.specs.Tried.{Tried, mapped};
 
 use crate::host::Host;
 use std::alloc::Global;
+use std::fmt;
 use std::marker::Model;
 use usb_desc::{Configurations, DeviceDescriptor, Fail, concatenated};
 use usb_endpoint::Endpoint;
@@ -35,6 +37,12 @@ impl Model for Device {
     ghost view = { λ device. device.key };
 }
 
+impl fmt::Debug for Device {
+    fn fmt<W: fmt::Write>(&self, f: &mut fmt::Formatter<W>) -> fmt::Result {
+        f.debug_struct("Device").finish()
+    }
+}
+
 /// A handle of an interface that is claimed at a host (USB 2.0, section 9.2.3). `close` spends it.
 pub struct Interface {
     key: usize,
@@ -49,10 +57,19 @@ impl Model for Interface {
     ghost view = { λ i. record { key = i.key; number = i.number } };
 }
 
+impl fmt::Debug for Interface {
+    fn fmt<W: fmt::Write>(&self, f: &mut fmt::Formatter<W>) -> fmt::Result {
+        f.debug_struct("Interface")
+            .field("number", &self.number)
+            .finish()
+    }
+}
+
 impl Device {
-    /// Opens the first plugged device at an address of a bus. The kernel opens it, then gives its descriptors, of which the
-    /// first must be a device descriptor (USB 2.0, section 9.6.1), and then its active configuration. What is refused first is
-    /// the error, and then nothing has changed.
+    /// Opens the first plugged device at an address of a bus. The kernel opens it, then gives its
+    /// descriptors, of which the first must be a device descriptor (USB 2.0, section 9.6.1), and
+    /// then its active configuration. What is refused first is the error, and then nothing has
+    /// changed.
     pub fn open_at(
         alloc: Global,
         host: &mut Host,
@@ -82,7 +99,8 @@ impl Device {
     /// Its device descriptor.
     pub fn device_descriptor<'h>(&self, host: &'h Host) -> &'h DeviceDescriptor
         requires stands { StandsDevice host.now self.now }
-        ensures descriptor { ForSome (slice_get host.now.devices self.now) (λ o. result.now ≡ o.device_descriptor) }
+        ensures descriptor { ForSome (slice_get host.now.devices self.now) (λ o.
+            result.now ≡ o.device_descriptor) }
     {
         host.device_descriptor(self.key)
     }
@@ -90,7 +108,8 @@ impl Device {
     /// All descriptors that it gave, of which the first is the device descriptor.
     pub fn descriptors<'h>(&self, host: &'h Host) -> &'h [u8]
         requires stands { StandsDevice host.now self.now }
-        ensures descriptors { ForSome (slice_get host.now.devices self.now) (λ o. result.now ≡ o.descriptors) }
+        ensures descriptors { ForSome (slice_get host.now.devices self.now) (λ o.
+            result.now ≡ o.descriptors) }
     {
         host.descriptors(self.key)
     }
@@ -98,19 +117,23 @@ impl Device {
     /// Its configurations, in the order in which it gave them.
     pub fn configurations<'h>(&self, host: &'h Host) -> Configurations<'h>
         requires stands { StandsDevice host.now self.now }
-        ensures configurations { ForSome (slice_get host.now.devices self.now) (λ o. result ≡ spec.configurations o.descriptors) }
+        ensures configurations { ForSome (slice_get host.now.devices self.now) (λ o.
+            result ≡ spec.configurations o.descriptors) }
     {
         host.configurations(self.key)
     }
 
-    /// Claims an interface, which has the setting 0 then. Where the kernel refuses, or memory is wanting, nothing has changed.
+    /// Claims an interface, which has the setting 0 then. Where the kernel refuses, or memory is
+    /// wanting, nothing has changed.
     pub fn claim_interface(&self, host: &mut Host, interface: u8) -> Result<Interface, Fail<Error>>
         requires stands { StandsDevice host.old self.now }
-        ensures tried { Tried (mapped (λ (i : InterfaceState). i.key) result) (claim_key host.old interface (slice_get host.old.devices self.now)) }
+        ensures tried { Tried (mapped (λ (i : InterfaceState). i.key) result)
+            (claim_key host.old interface (slice_get host.old.devices self.now)) }
         ensures number { IfOk result (λ i. i.number ≡ interface) }
         ensures ok { OnOk result (host.new ≡ host_claimed host.old self.now interface) }
         ensures err { OnErr result (host.new ≡ host.old) }
         ensures stands { IfOk result (StandsInterface host.new) }
+        ensures device { StandsDevice host.new self.now }
     {
         match host.claim(self.key, interface) {
             Ok(key) => Ok(Interface {
@@ -139,23 +162,32 @@ impl Interface {
         host.close_handle(key);
     }
 
-    /// Opens an endpoint (USB 2.0, section 9.6.6) of the interface in its current alternate setting. The kernel is asked for the
-    /// active configuration first; the open device keeps what it gives, and else the last value counts.
+    /// Opens an endpoint (USB 2.0, section 9.6.6) of the interface in its current alternate
+    /// setting. The kernel is asked for the active configuration first; the open device keeps what
+    /// it gives, and else the last value counts.
     ///
     /// # Errors
     ///
-    /// The first of these: no such endpoint, its direction or its type is another, its maximum packet size is 0, its bit is in
-    /// use, memory is wanting. Nothing else has changed then.
+    /// The first of these: no such endpoint, its direction or its type is another, its maximum
+    /// packet size is 0, its bit is in use, memory is wanting. Nothing else has changed then.
     pub fn endpoint<T: EndpointType, D: EndpointDirection>(
         &self,
         host: &mut Host,
         address: u8,
     ) -> Result<Endpoint<T, D>, Fail<Error>>
         requires stands { StandsInterface host.old self.now }
-        ensures tried { ForSome (slice_get host.old.interfaces self.now.key) (λ c. Tried (mapped (λ (e : EndpointState). e.maximum) result) (host_tries (host_asked host.old c.opened) self.now.key c address T.TYPE D.DIR)) }
-        ensures endpoint { ForSome (slice_get host.old.interfaces self.now.key) (λ c. IfOk result (λ e. e ≡ fresh_endpoint c address T.TYPE e.maximum (length host.old.endpoints))) }
-        ensures ok { ForSome (slice_get host.old.interfaces self.now.key) (λ c. OnOk result (host.new ≡ with_endpoint (host_asked host.old c.opened) self.now.key address)) }
-        ensures err { ForSome (slice_get host.old.interfaces self.now.key) (λ c. OnErr result (host.new ≡ host_asked host.old c.opened)) }
+        ensures tried { ForSome (slice_get host.old.interfaces self.now.key) (λ c.
+            Tried (mapped (λ (e : EndpointState). e.maximum) result)
+            (host_tries (host_asked host.old c.opened) self.now.key c address T.TYPE D.DIR)) }
+        ensures endpoint { ForSome (slice_get host.old.interfaces self.now.key) (λ c.
+            IfOk result (λ e. e ≡ fresh_endpoint c address T.TYPE e.maximum
+            (length host.old.endpoints))) }
+        ensures ok { ForSome (slice_get host.old.interfaces self.now.key) (λ c.
+            OnOk result (host.new ≡ with_endpoint (host_asked host.old c.opened)
+            self.now.key address)) }
+        ensures err { ForSome (slice_get host.old.interfaces self.now.key) (λ c.
+            OnErr result (host.new ≡ host_asked host.old c.opened)) }
+        ensures direction { IfOk result (λ e. direction_of_address e.address ≡ D.DIR) }
         ensures stands { IfOk result (Stands (bus_of host.new)) }
         ensures others { IfOk result (λ e. KeepsOthers (bus_of host.old) (bus_of host.new) e.key) }
         ensures interface { StandsInterface host.new self.now }

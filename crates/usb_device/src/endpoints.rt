@@ -2,6 +2,7 @@
 
 ghost use Rattle.std.specs.Prelude.{◌≡◌, ◌<◌, length, slice_get, set, OnOk, OnErr, IfOk};
 ghost use Rattle.std.specs.Option.{ForSome, option_copied};
+ghost use Rattle.usb_desc.specs.Fields.{direction_of_address};
 ghost use Rattle.usb_device.specs.HostState.{HostState, ClaimedInterface};
 ghost use Rattle.usb_device.specs.OwnerRows.{claim_state};
 ghost use Rattle.usb_device.specs.EndpointRefusals.{endpoint_tried};
@@ -15,7 +16,8 @@ use usb_desc::{Direction, EndpointDescriptor, Fail, TransferType, find_configura
 use usb_error::Error;
 use usb_kernel::Kernel;
 
-/// The descriptor of an endpoint of an interface in a setting, in the configuration that the open device keeps.
+/// The descriptor of an endpoint of an interface in a setting, in the configuration that the open
+/// device keeps.
 #[tactic(auto, unfolding(crate::specs::EndpointOpens::endpoint_of_setting))]
 fn find_endpoint(
     opened: &OpenDevice,
@@ -39,6 +41,7 @@ fn maximum_of(
     is_used: bool,
 ) -> Result<usize, Error>
     ensures tried { result ≡ endpoint_tried found.entry address kind direction is_used }
+    ensures direction { OnOk result (direction_of_address address ≡ direction) }
 {
     let Some(endpoint) = found else {
         return Err(Error::no_endpoint());
@@ -58,7 +61,8 @@ fn maximum_of(
     Ok(endpoint.max_packet_size())
 }
 
-/// The value of the active configuration: the kernel's, or where the kernel refuses the one that the open device keeps.
+/// The value of the active configuration: the kernel's, or where the kernel refuses the one that
+/// the open device keeps.
 fn active_value(kernel: &mut Kernel, opened: &OpenDevice) -> u8
     ensures value { result ≡ active_value kernel.old.devices opened.now }
     ensures kernel { kernel.new ≡ kernel.old }
@@ -70,7 +74,8 @@ fn active_value(kernel: &mut Kernel, opened: &OpenDevice) -> u8
 }
 
 impl Host {
-    /// Asks the kernel for the value of a device's active configuration, which the open device keeps.
+    /// Asks the kernel for the value of a device's active configuration, which the open device
+    /// keeps.
     fn ask_configuration(&mut self, device: usize)
         requires device { device < length self.old.devices }
         ensures asked { self.new ≡ host_asked self.old device }
@@ -89,8 +94,11 @@ impl Host {
         direction: Direction,
     ) -> Result<usize, Error>
         requires interface { interface < length self.now.interfaces }
-        requires device { ForSome (slice_get self.now.interfaces interface) (λ c. c.opened < length self.now.devices) }
-        ensures tried { ForSome (slice_get self.now.interfaces interface) (λ c. result ≡ host_tries self.now interface c address kind direction) }
+        requires device { ForSome (slice_get self.now.interfaces interface) (λ c.
+            c.opened < length self.now.devices) }
+        ensures tried { ForSome (slice_get self.now.interfaces interface) (λ c.
+            result ≡ host_tries self.now interface c address kind direction) }
+        ensures direction { OnOk result (direction_of_address address ≡ direction) }
     {
         let claim = self.ledger.interface(interface);
         let is_used = self.ledger.is_used(interface, address);
@@ -99,8 +107,9 @@ impl Host {
         maximum_of(found, address, kind, direction, is_used)
     }
 
-    /// Opens an endpoint of a claimed interface. It has the next key. The kernel is asked for the active configuration first;
-    /// the open device keeps what it gives, also where the endpoint is not opened.
+    /// Opens an endpoint of a claimed interface. It has the next key. The kernel is asked for the
+    /// active configuration first; the open device keeps what it gives, also where the endpoint is
+    /// not opened.
     pub(crate) fn open_endpoint(
         &mut self,
         interface: usize,
@@ -109,12 +118,21 @@ impl Host {
         direction: Direction,
     ) -> Result<Route, Fail<Error>>
         requires interface { interface < length self.old.interfaces }
-        requires device { ForSome (slice_get self.old.interfaces interface) (λ c. c.opened < length self.old.devices) }
-        ensures tried { ForSome (slice_get self.old.interfaces interface) (λ c. Tried (maximum_tried result) (host_tries (host_asked self.old c.opened) interface c address kind direction)) }
+        requires device { ForSome (slice_get self.old.interfaces interface) (λ c.
+            c.opened < length self.old.devices) }
+        ensures tried { ForSome (slice_get self.old.interfaces interface) (λ c.
+            Tried (maximum_tried result)
+            (host_tries (host_asked self.old c.opened) interface c address kind direction)) }
         ensures packets { IfOk result (λ route. 0 < route.maximum) }
-        ensures route { ForSome (slice_get self.old.interfaces interface) (λ c. IfOk result (λ route. route ≡ route_of c address kind route.maximum (length self.old.endpoints))) }
-        ensures ok { ForSome (slice_get self.old.interfaces interface) (λ c. OnOk result (self.new ≡ with_endpoint (host_asked self.old c.opened) interface address)) }
-        ensures err { ForSome (slice_get self.old.interfaces interface) (λ c. OnErr result (self.new ≡ host_asked self.old c.opened)) }
+        ensures direction { OnOk result (direction_of_address address ≡ direction) }
+        ensures route { ForSome (slice_get self.old.interfaces interface) (λ c.
+            IfOk result (λ route.
+            route ≡ route_of c address kind route.maximum (length self.old.endpoints))) }
+        ensures ok { ForSome (slice_get self.old.interfaces interface) (λ c.
+            OnOk result (self.new ≡ with_endpoint (host_asked self.old c.opened)
+            interface address)) }
+        ensures err { ForSome (slice_get self.old.interfaces interface) (λ c.
+            OnErr result (self.new ≡ host_asked self.old c.opened)) }
     {
         let device = self.ledger.device(interface);
         let opened = self.ledger.opened(interface);

@@ -1,6 +1,6 @@
 //! The host: a kernel, and what is open on it.
 
-ghost use Rattle.std.specs.Prelude.{◌≡◌, ◌+◌, ◌<◌, ◌≤◌, ◌++◌, ◌∷◌, [], ℕ, List, length, set, true, false, IsSome, is_some, IsTrue, OnOk, OnErr, IfOk, IfErr, slice_get, option_and_then, Some, None, refl};
+ghost use Rattle.std.specs.Prelude.{◌≡◌, ◌+◌, ◌<◌, ◌≤◌, ◌++◌, ◌∷◌, [], ℕ, List, length, set, true, false, IsSome, is_some, IsTrue, OnOk, OnErr, IfOk, IfErr, IfSome, slice_get, option_and_then, Some, None, refl};
 ghost use Rattle.std.specs.Option.{ForSome};
 ghost use Rattle.std.specs.List.{All};
 ghost use Rattle.usb_xfer.specs.declared.transfer.Held.{Held};
@@ -9,16 +9,18 @@ ghost use Rattle.usb_kernel.specs.declared.step.KernelStep.{KernelStep};
 ghost use Rattle.usb_kernel.specs.Tickets.{tickets};
 ghost use Rattle.usb_kernel.specs.Completions.{completion};
 ghost use Rattle.usb_kernel.specs.Submissions.{IsErrno};
-ghost use Rattle.usb_kernel.specs.Submits.{number_of};
+ghost use Rattle.usb_kernel.specs.Submits.{number_of, submit_refusal};
 ghost use Rattle.usb_kernel.specs.Steps.{HasErrno};
-ghost use Rattle.usb_bus.specs.Routes.{GoesBy, AsksWhole, submission_of};
+ghost use Rattle.usb_bus.specs.Routes.{GoesBy, AsksWhole};
+ghost use Rattle.usb_bus.specs.Holds.{held_at_once};
+ghost use Rattle.usb_bus.specs.Completions.{CompletesOnly};
 ghost use Rattle.usb_device.specs.declared.opened.OpenDevice.{OpenDevice};
 ghost use Rattle.usb_device.specs.HostState.{HostState, host_of};
 ghost use Rattle.usb_device.specs.HostBus.{bus_of, hold_at, owner_at, key_at, host_value, end_at};
 ghost use Rattle.usb_device.specs.HostBusFacts.{bus_of-taken};
 ghost use Rattle.usb_device.specs.HostCalls.{host_submitted, host_refused, host_discarded, host_left, host_idled, host_halt_result, host_halt_cleared};
 ghost use Rattle.usb_device.specs.Finishes.{finished, HasEnds, HasCompletions};
-ghost use Rattle.usb_device.specs.HostFacts.{Agree, Comes, host_made, held_at_once};
+ghost use Rattle.usb_device.specs.HostFacts.{Agree, host_made};
 ghost use Rattle.usb_device.specs.HostLaws.{held-owned, value-held};
 ghost use Rattle.usb_device.specs.HostTurns.{host_stepped, host_reaped, host_turned, host_turn, host_rest};
 ghost use Rattle.usb_device.specs.LedgerState.{ticket_key, ticket_of};
@@ -34,8 +36,8 @@ use std::alloc::Global;
 use std::collections::VecDeque;
 use std::marker::Model;
 use usb_bus::{Bus, Route, Turn, completion_from};
-use usb_kernel::{Done, Kernel, KernelStep, Submission, Submitted};
-use usb_xfer::{Buffer, Held, Idle, Pending, Slots, TransferData};
+use usb_kernel::{Done, Kernel, KernelStep, Submitted};
+use usb_xfer::{Held, Idle, Pending, Slots, TransferData};
 
 /// A kernel, what is open on it, and the steps of a line that are left.
 #[derive(Drop)]
@@ -70,8 +72,11 @@ pub(crate) fn release(kernel: &mut Kernel, ended: Option<EndedClaim>)
 /// A completion has come, or none.
 fn complete(kernel: &mut Kernel, ledger: &mut Ledger, arrived: Option<Done>)
     requires within { ForSome arrived (λ done. done.ticket < length ledger.old.slots) }
-    ensures host { (devices : List OpenDevice) (steps : List KernelStep) → host_made kernel.new devices ledger.new steps ≡ came (host_made kernel.old devices ledger.old steps) arrived }
-    ensures agree { (past : List Event) → Agree past ledger.old.slots → Comes past kernel.old.past arrived → Agree kernel.new.past ledger.new.slots }
+    ensures host { (devices : List OpenDevice) (steps : List KernelStep) →
+        host_made kernel.new devices ledger.new steps ≡
+        came (host_made kernel.old devices ledger.old steps) arrived }
+    ensures agree { (past : List Event) → Agree past ledger.old.slots →
+        CompletesOnly past kernel.old.past arrived → Agree kernel.new.past ledger.new.slots }
     ensures spare { kernel.new.spare ≡ kernel.old.spare }
 {
     let Some(done) = arrived else {
@@ -102,21 +107,6 @@ fn entry_of(submitted: Submitted) -> Entry
             ticket: done.ticket,
             held: Held::Complete(completion_from(done)),
         },
-    }
-}
-
-/// A buffer by a route.
-fn submission(to: Route, buffer: Buffer) -> Submission
-    ensures submission { result ≡ submission_of to buffer }
-{
-    Submission {
-        device: to.device,
-        endpoint: to.endpoint,
-        kind: to.kind,
-        maximum: to.maximum,
-        deadline: None,
-        setup: None,
-        buffer,
     }
 }
 
@@ -172,7 +162,8 @@ impl Host {
         self.steps = VecDeque::from_vec(steps);
     }
 
-    /// A step between the lines. The kernel must have a place for it beside those of the steps that are left.
+    /// A step between the lines. The kernel must have a place for it beside those of the steps that
+    /// are left.
     pub fn step(&mut self, step: KernelStep)
         requires room { length self.old.steps < self.old.kernel.spare }
         requires errno { HasErrno step }
@@ -206,7 +197,8 @@ impl Host {
         self.ledger.end_of(ticket)
     }
 
-    /// Discards the tickets that are not finished, by number, and then reaps those that are not reaped, by number.
+    /// Discards the tickets that are not finished, by number, and then reaps those that are not
+    /// reaped, by number.
     pub fn finish(&mut self)
         ensures finished { self.new ≡ finished self.old }
         ensures ended { ((t : ℕ) → owner_at self.old.tickets t ≡ None) → HasEnds self.new.tickets }
@@ -221,7 +213,8 @@ impl Host {
         }
     }
 
-    /// A transfer becomes the next ticket, refused or not, which the endpoint of the route's key holds.
+    /// A transfer becomes the next ticket, refused or not, which the endpoint of the route's key
+    /// holds.
     fn submit_transfer(&mut self, to: Route, t: TransferData) -> Result<u64, TransferData>
         requires key { key_at self.old.endpoints to.key ≡ true }
         requires goes { GoesBy t to }
@@ -229,6 +222,9 @@ impl Host {
         ensures ticket { IfOk result (λ n. n ≡ length (tickets self.old.kernel.past)) }
         ensures count { length self.old.tickets ≡ length (tickets self.old.kernel.past) }
         ensures ok { OnOk result (self.new ≡ host_submitted self.old to t) }
+        ensures known { OnOk result
+            (IfSome (submit_refusal self.old.kernel.devices self.old.kernel.armed to.device)
+            IsErrno) }
         ensures err { OnErr result (self.new ≡ self.old) }
         ensures back { IfErr result (λ back. back ≡ t) }
     {
@@ -237,7 +233,7 @@ impl Host {
             return Err(transfer);
         }
         let buffer = transfer.take_buffer();
-        match self.kernel.submit(submission(to, buffer)) {
+        match self.kernel.submit(to.submission(buffer)) {
             Ok(submitted) => {
                 let entry = entry_of(submitted);
                 transfer.held = entry.held;
@@ -251,7 +247,8 @@ impl Host {
         }
     }
 
-    /// A transfer becomes the next ticket, refused with this errno, which the endpoint of the route's key holds.
+    /// A transfer becomes the next ticket, refused with this errno, which the endpoint of the
+    /// route's key holds.
     fn refuse_transfer(
         &mut self,
         to: Route,
@@ -272,7 +269,7 @@ impl Host {
             return Err(transfer);
         }
         let buffer = transfer.take_buffer();
-        match self.kernel.refuse(submission(to, buffer), errno) {
+        match self.kernel.refuse(to.submission(buffer), errno) {
             Ok(submitted) => {
                 let entry = entry_of(submitted);
                 transfer.held = entry.held;
@@ -287,7 +284,7 @@ impl Host {
     }
 
     /// Whether the completion of a ticket that an endpoint holds has come.
-    fn has_come(&self, ticket: u64) -> bool
+    pub(crate) fn has_come(&self, ticket: u64) -> bool
         requires held { IsSome (hold_at self.now.tickets ticket) }
         ensures come { result ≡ is_some (host_value self.now ticket) }
         ensures reaped { result ≡ is_some (completion self.now.kernel.past ticket) }
@@ -297,7 +294,7 @@ impl Host {
     }
 
     /// A ticket that an endpoint holds has its end.
-    fn end_ticket(&mut self, ticket: u64, end: TicketEnd) -> Option<TransferData>
+    pub(crate) fn end_ticket(&mut self, ticket: u64, end: TicketEnd) -> Option<TransferData>
         requires held { IsSome (hold_at self.old.tickets ticket) }
         ensures ended { self.new ≡ host_ended self.old ticket end }
         ensures value { IsSome (host_value self.old ticket) → result ≡ host_value self.old ticket }
@@ -308,7 +305,7 @@ impl Host {
     }
 
     /// An endpoint gives a ticket up that it holds.
-    fn abandon_ticket(&mut self, ticket: u64)
+    pub(crate) fn abandon_ticket(&mut self, ticket: u64)
         requires held { IsSome (hold_at self.old.tickets ticket) }
         ensures abandoned { self.new ≡ host_abandoned self.old ticket }
     {
@@ -327,7 +324,7 @@ impl Host {
     }
 
     /// The handle of an endpoint is closed.
-    fn leave_endpoint(&mut self, key: usize)
+    pub(crate) fn leave_endpoint(&mut self, key: usize)
         requires key { key_at self.old.endpoints key ≡ true }
         ensures left { self.new ≡ host_left self.old key }
     {
@@ -336,7 +333,7 @@ impl Host {
     }
 
     /// Goes on by a step, or by a reap.
-    fn take_turn(&mut self) -> Turn
+    pub(crate) fn take_turn(&mut self) -> Turn
         ensures turn { result ≡ host_turn self.old }
         ensures next { self.new ≡ host_turned self.old }
     {
@@ -353,11 +350,12 @@ impl Host {
         }
     }
 
-    /// Raises the clock.
-    fn raise_clock(&mut self, until: u64)
+    /// Raises the clock, and gives the timer its turn.
+    pub(crate) fn raise_clock(&mut self, until: u64)
         ensures idled { self.new ≡ host_idled self.old until }
     {
         self.kernel.idle(until);
+        self.kernel.timer_turn();
     }
 
     /// Clears the halt of an endpoint at the kernel, which keeps none.

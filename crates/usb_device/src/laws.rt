@@ -8,13 +8,14 @@ pub fn wait_is_by_steps()
     ensures { WaitIsBySteps }
 {}
 
-/// A blocking transfer is a wait, and where that is in vain a discard and waits of a second (10^9 nanoseconds), each of which has
-/// taken a step of the line if it is in vain too.
+/// A blocking transfer is a wait, and where that is in vain a discard and waits of a second (10^9
+/// nanoseconds), each of which has taken a step of the line if it is in vain too.
 pub fn blocking_is_by_steps()
     ensures { BlockingIsBySteps }
 {}
 
-/// What takes steps of a line takes them from its front. At the line's end all are taken, and each has used a place of the kernel.
+/// What takes steps of a line takes them from its front. At the line's end all are taken, and each
+/// has used a place of the kernel.
 pub fn lines_go_on()
     ensures turn { TurnGoesOn }
     ensures wait { WaitGoesOn }
@@ -29,8 +30,8 @@ pub fn tickets_end_once()
     ensures stay { EndsStay }
 {}
 
-/// A transfer that was not taken is dropped exactly where it was reaped when its endpoint is closed. Else it is reclaimed at its
-/// reap.
+/// A transfer that was not taken is dropped exactly where it was reaped when its endpoint is
+/// closed. Else it is reclaimed at its reap.
 pub fn what_is_reaped_is_dropped()
     ensures dropped { DroppedWhereReaped }
 {}

@@ -6,6 +6,7 @@ ghost use Rattle.usb_device.specs.OwnerRows.{claim_state};
 ghost use Rattle.usb_device.specs.Owners.{is_used_among};
 ghost use Rattle.usb_device.specs.Releases.{claim_of, claim_ended};
 ghost use Rattle.usb_device.specs.HostBus.{end_at};
+ghost use Rattle.usb_device.specs.HostState.{fresh_interface};
 ghost use Rattle.usb_device.specs.LedgerState.{ticket_of, tickets_in, ticket_key, slot_data, slot_with, slot_without, ended_with, abandoned_key};
 
 use crate::ends::TicketEnd;
@@ -18,7 +19,8 @@ use usb_desc::NoMemory;
 use usb_kernel::Done;
 use usb_xfer::TransferData;
 
-/// What a ticket leaves when it ends: its transfer, where its endpoint had it, and the claim that ends with it.
+/// What a ticket leaves when it ends: its transfer, where its endpoint had it, and the claim that
+/// ends with it.
 #[derive(Drop)]
 pub(crate) struct Ending {
     pub transfer: Option<TransferData>,
@@ -40,25 +42,29 @@ impl Model for Ledger {
 
     ghost Value = { LedgerState };
 
-    ghost view = { λ l. record { interfaces = l.owners.interfaces; endpoints = map endpoint_of l.owners.rows; slots = l.slots.items; room = vec_capacity l.slots - vec_len l.slots } };
+    ghost view = { λ l. record {
+      interfaces = l.owners.interfaces;
+      endpoints = map endpoint_of l.owners.rows;
+      slots = l.slots.items;
+      room = vec_capacity l.slots - vec_len l.slots;
+      claim_room = l.owners.claim_room;
+    } };
 
     ghost use Rattle.usb_device.specs.LedgerFacts.{IsTied};
 
     ghost invariant = { IsTied };
 }
 
-/// Appends a slot for which there is room.
-fn put(slots: &mut Vec<Slot>, slot: Slot)
-    requires room { vec_len slots.old < vec_capacity slots.old }
-    ensures items { slots.new.items ≡ slots.old.items ++ slot ∷ [] }
-{
-    let _ = slots.push(slot);
-}
-
 impl Ledger {
     /// Nothing is claimed, and there is no ticket.
     pub fn new(alloc: Global) -> Ledger
-        ensures empty { result ≡ record { interfaces = []; endpoints = []; slots = []; room = result.room } }
+        ensures empty { result ≡ record {
+          interfaces = [];
+          endpoints = [];
+          slots = [];
+          room = result.room;
+          claim_room = result.claim_room;
+        } }
     {
         Ledger {
             owners: Owners::new(alloc),
@@ -69,10 +75,15 @@ impl Ledger {
     /// A ticket that has no end gets this one.
     pub fn end(&mut self, ticket: usize, end: TicketEnd) -> Ending
         requires within { ticket < length self.old.slots }
-        requires key { ForSome (slice_get self.old.slots ticket) (λ s. IsSome (ticket_key (ticket_of s))) }
-        ensures slots { self.new ≡ record self.old { slots = set self.old.slots ticket (Slot.Ended end) } }
-        ensures transfer { ForSome (slice_get self.old.slots ticket) (λ s. result.transfer ≡ slot_data s) }
-        ensures claim { ForSome (slice_get self.old.slots ticket) (λ s. result.claim ≡ ended_with self.new (ticket_key (ticket_of s))) }
+        requires key { ForSome (slice_get self.old.slots ticket) (λ s.
+            IsSome (ticket_key (ticket_of s))) }
+        ensures slots { self.new ≡ record self.old {
+          slots = set self.old.slots ticket (Slot.Ended end);
+        } }
+        ensures transfer { ForSome (slice_get self.old.slots ticket) (λ s.
+            result.transfer ≡ slot_data s) }
+        ensures claim { ForSome (slice_get self.old.slots ticket) (λ s.
+            result.claim ≡ ended_with self.new (ticket_key (ticket_of s))) }
     {
         let slot = mem::replace(&mut self.slots[ticket], Slot::Ended(end));
         let parts = slot.into_parts();
@@ -83,11 +94,16 @@ impl Ledger {
         }
     }
 
-    /// The completion of a ticket has come. A ticket that was given up is reclaimed, and the claim may end with it.
+    /// The completion of a ticket has come. A ticket that was given up is reclaimed, and the claim
+    /// may end with it.
     pub fn complete(&mut self, done: Done) -> Option<EndedClaim>
         requires within { done.ticket < length self.old.slots }
-        ensures slots { ForSome (slice_get self.old.slots done.ticket) (λ s. self.new ≡ record self.old { slots = set self.old.slots done.ticket (slot_with done s) }) }
-        ensures claim { ForSome (slice_get self.old.slots done.ticket) (λ s. result ≡ ended_with self.new (abandoned_key s)) }
+        ensures slots { ForSome (slice_get self.old.slots done.ticket) (λ s.
+            self.new ≡ record self.old {
+              slots = set self.old.slots done.ticket (slot_with done s);
+            }) }
+        ensures claim { ForSome (slice_get self.old.slots done.ticket) (λ s.
+            result ≡ ended_with self.new (abandoned_key s)) }
     {
         let ticket = done.ticket as usize;
         let slot = &mut self.slots[ticket];
@@ -100,8 +116,10 @@ impl Ledger {
     /// The endpoint of a ticket that has no end gives it up.
     pub fn give_up(&mut self, ticket: usize)
         requires within { ticket < length self.old.slots }
-        requires key { ForSome (slice_get self.old.slots ticket) (λ s. IsSome (ticket_key (ticket_of s))) }
-        ensures slots { ForSome (slice_get self.old.slots ticket) (λ s. self.new ≡ record self.old { slots = set self.old.slots ticket (slot_without s) }) }
+        requires key { ForSome (slice_get self.old.slots ticket) (λ s.
+            IsSome (ticket_key (ticket_of s))) }
+        ensures slots { ForSome (slice_get self.old.slots ticket) (λ s.
+            self.new ≡ record self.old { slots = set self.old.slots ticket (slot_without s) }) }
     {
         let slot = &mut self.slots[ticket];
         slot.give_up();
@@ -123,9 +141,12 @@ impl Ledger {
         requires room { 1 ≤ self.old.room }
         requires key { key < length self.old.endpoints }
         requires open { ForSome (slice_get self.old.endpoints key) (λ e. e.is_open ≡ true) }
-        ensures slots { self.new ≡ record self.old { slots = self.old.slots ++ Slot.Held key transfer ∷ []; room = self.new.room } }
+        ensures slots { self.new ≡ record self.old {
+          slots = self.old.slots ++ Slot.Held key transfer ∷ [];
+          room = self.new.room;
+        } }
     {
-        put(&mut self.slots, Slot::Held { key, transfer });
+        self.slots.push_reserved(Slot::Held { key, transfer });
         self.owners.add_ticket(key);
     }
 
@@ -133,8 +154,12 @@ impl Ledger {
     pub fn leave(&mut self, key: usize) -> Option<EndedClaim>
         requires key { key < length self.old.endpoints }
         requires open { ForSome (slice_get self.old.endpoints key) (λ e. e.is_open ≡ true) }
-        ensures endpoints { ForSome (slice_get self.old.endpoints key) (λ e. self.new ≡ record self.old { endpoints = set self.old.endpoints key (record e { is_open = false }) }) }
-        ensures claim { result ≡ claim_of self.new.interfaces (tickets_in self.new) self.new.endpoints key }
+        ensures endpoints { ForSome (slice_get self.old.endpoints key) (λ e.
+            self.new ≡ record self.old {
+              endpoints = set self.old.endpoints key (record e { is_open = false });
+            }) }
+        ensures claim { result ≡ claim_of self.new.interfaces (tickets_in self.new)
+            self.new.endpoints key }
     {
         self.owners.close_endpoint(key)
     }
@@ -143,8 +168,13 @@ impl Ledger {
     pub fn close_handle(&mut self, interface: usize) -> Option<EndedClaim>
         requires key { interface < length self.old.interfaces }
         requires some { ForSome (slice_get self.old.interfaces interface) (λ c. 0 < c.handles) }
-        ensures interfaces { ForSome (slice_get self.old.interfaces interface) (λ c. self.new ≡ record self.old { interfaces = set self.old.interfaces interface (record c { handles = c.handles - 1 }) }) }
-        ensures claim { result ≡ claim_ended self.new.interfaces (tickets_in self.new) self.new.endpoints interface }
+        ensures interfaces { ForSome (slice_get self.old.interfaces interface) (λ c.
+            self.new ≡ record self.old {
+              interfaces = set self.old.interfaces interface
+                  (record c { handles = c.handles - 1 });
+            }) }
+        ensures claim { result ≡ claim_ended self.new.interfaces (tickets_in self.new)
+            self.new.endpoints interface }
     {
         self.owners.close_handle(interface)
     }
@@ -160,7 +190,8 @@ impl Ledger {
     /// The key of the open device of an interface.
     pub fn opened(&self, interface: usize) -> usize
         requires key { interface < length self.now.interfaces }
-        ensures opened { ForSome (slice_get self.now.interfaces interface) (λ c. result ≡ c.opened) }
+        ensures opened { ForSome (slice_get self.now.interfaces interface) (λ c.
+            result ≡ c.opened) }
     {
         self.owners.interface(interface).opened
     }
@@ -168,7 +199,8 @@ impl Ledger {
     /// The number of the device of an interface at the kernel.
     pub fn device(&self, interface: usize) -> u8
         requires key { interface < length self.now.interfaces }
-        ensures device { ForSome (slice_get self.now.interfaces interface) (λ c. result ≡ c.device) }
+        ensures device { ForSome (slice_get self.now.interfaces interface) (λ c.
+            result ≡ c.device) }
     {
         self.owners.interface(interface).device
     }
@@ -176,21 +208,28 @@ impl Ledger {
     /// Whether the bit of an address is in use at an interface.
     pub fn is_used(&self, interface: usize, address: u8) -> bool
         requires key { interface < length self.now.interfaces }
-        ensures used { result ≡ is_used_among (tickets_in self.now) self.now.endpoints interface address }
+        ensures used { result ≡ is_used_among (tickets_in self.now) self.now.endpoints
+            interface address }
     {
         self.owners.is_used(interface, address)
     }
 
+    /// Makes room for one more claimed interface.
+    pub fn reserve_claim(&mut self) -> Result<(), NoMemory>
+        ensures room { OnOk result (1 ≤ self.new.claim_room) }
+        ensures rest { self.new ≡ record self.old { claim_room = self.new.claim_room } }
+    {
+        self.owners.reserve_claim()
+    }
+
     /// One more interface is claimed, with one handle.
-    pub fn open_interface(
-        &mut self,
-        opened: usize,
-        device: u8,
-        number: u8,
-    ) -> Result<usize, NoMemory>
-        ensures key { IfOk result (λ key. key ≡ length self.old.interfaces) }
-        ensures interfaces { OnOk result (self.new ≡ record self.old { interfaces = self.old.interfaces ++ record { opened = opened; device = device; number = number; setting = 0; handles = 1 } ∷ [] }) }
-        ensures err { OnErr result (self.new ≡ self.old) }
+    pub fn open_interface(&mut self, opened: usize, device: u8, number: u8) -> usize
+        requires room { 1 ≤ self.old.claim_room }
+        ensures key { result ≡ length self.old.interfaces }
+        ensures interfaces { self.new ≡ record self.old {
+          interfaces = self.old.interfaces ++ fresh_interface opened device number ∷ [];
+          claim_room = self.new.claim_room;
+        } }
     {
         self.owners.open_interface(opened, device, number)
     }
@@ -198,12 +237,34 @@ impl Ledger {
     /// One more endpoint of an interface is open. Its bit must not be in use.
     pub fn open_endpoint(&mut self, interface: usize, address: u8) -> Result<usize, NoMemory>
         requires key { interface < length self.old.interfaces }
-        requires unused { is_used_among (tickets_in self.old) self.old.endpoints interface address ≡ false }
+        requires unused { is_used_among (tickets_in self.old) self.old.endpoints interface address ≡
+            false }
         ensures key { IfOk result (λ key. key ≡ length self.old.endpoints) }
-        ensures endpoints { OnOk result (self.new ≡ record self.old { endpoints = self.old.endpoints ++ record { interface = interface; address = address; is_open = true } ∷ [] }) }
+        ensures endpoints { OnOk result (self.new ≡ record self.old {
+          endpoints = self.old.endpoints ++ record {
+            interface = Some interface;
+            address = address;
+            is_open = true;
+          } ∷ [];
+        }) }
         ensures err { OnErr result (self.new ≡ self.old) }
     {
         self.owners.open_endpoint(interface, address)
+    }
+
+    /// One more control endpoint is open.
+    pub fn open_control(&mut self, address: u8) -> Result<usize, NoMemory>
+        ensures key { IfOk result (λ key. key ≡ length self.old.endpoints) }
+        ensures endpoints { OnOk result (self.new ≡ record self.old {
+          endpoints = self.old.endpoints ++ record {
+            interface = None;
+            address = address;
+            is_open = true;
+          } ∷ [];
+        }) }
+        ensures err { OnErr result (self.new ≡ self.old) }
+    {
+        self.owners.open_control(address)
     }
 
     /// A slot.

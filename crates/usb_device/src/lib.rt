@@ -1,10 +1,16 @@
-//! The host: devices that are open at the kernel, their claimed interfaces, and the endpoints that stand on them.
+//! The host: devices that are open at the kernel, their claimed interfaces, and the endpoints that
+//! stand on them.
+//!
+//! What its calls speak of is found here too: endpoints and the bus that they stand on, buffers and
+//! completions, and errors.
 #![tactic(auto)]
 
+mod awaiting;
 mod claiming;
 mod device;
 mod endpoints;
 mod ends;
+mod future;
 mod host;
 mod laws;
 mod ledger;
@@ -15,12 +21,22 @@ mod slot;
 
 pub use device::{Device, Interface};
 pub use ends::TicketEnd;
+pub use future::TransferFuture;
 pub use host::Host;
 pub use laws::{
     blocking_is_by_steps, lines_go_on, tickets_end_once, wait_is_by_steps,
     what_is_reaped_is_dropped,
 };
 pub use opened::OpenDevice;
+pub use usb_bus::{Bus, Route, Turn};
+pub use usb_desc::{Configurations, DeviceDescriptor, Fail, NoMemory};
+pub use usb_endpoint::{AnyEndpoint, Endpoint, NextComplete};
+pub use usb_error::{Error, ErrorKind};
+pub use usb_kernel::{Kernel, KernelStep};
+pub use usb_xfer::{
+    Buffer, Bulk, BulkOrInterrupt, Completion, EndpointDirection, EndpointType, In, Interrupt, Out,
+    TransferError,
+};
 
 #[cfg(test)]
 mod tests;

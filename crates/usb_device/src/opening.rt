@@ -16,8 +16,9 @@ use usb_kernel::{Bytes, Kernel};
 
 /// All descriptors of a device.
 #[tactic(auto, unfolding(crate::specs::Opens::descriptors_tried))]
-fn read_descriptors(kernel: &Kernel, alloc: Global, device: u8) -> Result<Bytes, Fail<Error>>
-    ensures tried { Tried result (descriptors_tried kernel.now.devices device) }
+fn read_descriptors(kernel: &mut Kernel, alloc: Global, device: u8) -> Result<Bytes, Fail<Error>>
+    ensures tried { Tried result (descriptors_tried kernel.old.devices device) }
+    ensures kernel { kernel.new ≡ kernel.old }
 {
     let bytes = match kernel.read_descriptors(device) {
         Ok(bytes) => bytes,
@@ -29,8 +30,8 @@ fn read_descriptors(kernel: &Kernel, alloc: Global, device: u8) -> Result<Bytes,
     }
 }
 
-/// Opens the device at a bus and an address: the kernel's open, its descriptors, the device descriptor among them, and
-/// its active configuration, in this order.
+/// Opens the device at a bus and an address: the kernel's open, its descriptors, the device
+/// descriptor among them, and its active configuration, in this order.
 #[tactic(auto, unfolding(crate::specs::Opens::open_tried))]
 fn open_at(
     kernel: &mut Kernel,
@@ -98,7 +99,8 @@ impl Host {
     /// The device descriptor of an open device.
     pub(crate) fn device_descriptor(&self, device: usize) -> &DeviceDescriptor
         requires device { device < length self.now.devices }
-        ensures descriptor { ForSome (slice_get self.now.devices device) (λ o. result.now ≡ o.device_descriptor) }
+        ensures descriptor { ForSome (slice_get self.now.devices device) (λ o.
+            result.now ≡ o.device_descriptor) }
     {
         let opened = &self.devices[device];
         &opened.device_descriptor
@@ -107,7 +109,8 @@ impl Host {
     /// All descriptors of an open device.
     pub(crate) fn descriptors(&self, device: usize) -> &[u8]
         requires device { device < length self.now.devices }
-        ensures descriptors { ForSome (slice_get self.now.devices device) (λ o. result.now ≡ o.descriptors) }
+        ensures descriptors { ForSome (slice_get self.now.devices device) (λ o.
+            result.now ≡ o.descriptors) }
     {
         let opened = &self.devices[device];
         opened.descriptors.as_slice()
@@ -116,7 +119,8 @@ impl Host {
     /// The configurations of an open device.
     pub(crate) fn configurations(&self, device: usize) -> Configurations<'_>
         requires device { device < length self.now.devices }
-        ensures configurations { ForSome (slice_get self.now.devices device) (λ o. result ≡ spec.configurations o.descriptors) }
+        ensures configurations { ForSome (slice_get self.now.devices device) (λ o.
+            result ≡ spec.configurations o.descriptors) }
     {
         let opened = &self.devices[device];
         configurations_in(opened.descriptors.as_slice())

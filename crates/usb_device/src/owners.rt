@@ -1,10 +1,12 @@
-//! Who owns the claimed interfaces, and which of their endpoints are in use, kept as counts and bits.
+//! Who owns the claimed interfaces, and which of their endpoints are in use, kept as counts and
+//! bits.
 
-ghost use Rattle.std.specs.Prelude.{◌≡◌, ◌+◌, ◌-◌, ◌^◌, ◌<◌, ◌++◌, ◌∷◌, [], ◌||◌, length, set, true, false, IfSome, nat_lt, slice_get, Some, None, OnOk, OnErr, IfOk, if◌then◌else◌, vec_len, vec_capacity};
+ghost use Rattle.std.specs.Prelude.{◌≡◌, ◌+◌, ◌-◌, ◌^◌, ◌<◌, ◌≤◌, ◌++◌, ◌∷◌, [], ◌||◌, length, set, true, false, IfSome, nat_lt, slice_get, Some, None, OnOk, OnErr, IfOk, if◌then◌else◌, vec_len, vec_capacity};
 ghost use Rattle.std.specs.Option.{ForSome};
 ghost use Rattle.std.specs.List.{list_any};
 ghost use Rattle.std.specs.FinSet as bits;
 ghost use Rattle.usb_desc.specs.BitSet.{bit_of, members};
+ghost use Rattle.usb_device.specs.HostState.{fresh_interface};
 ghost use Rattle.usb_device.specs.OwnerRows.{OwnersState, claim_state, is_alive, uses_row, with_row, row_gone, claim_gone};
 
 use std::alloc::Global;
@@ -18,8 +20,9 @@ pub(crate) struct EndedClaim {
     pub number: u8,
 }
 
-/// A claimed interface: the key of its open device, the device's number at the kernel, its own number and alternate setting,
-/// how many handles of it are open, how many of its endpoints live, and their bits.
+/// A claimed interface: the key of its open device, the device's number at the kernel, its own
+/// number and alternate setting, how many handles of it are open, how many of its endpoints live,
+/// and their bits.
 #[derive(Drop)]
 pub(crate) struct Claim {
     pub opened: usize,
@@ -31,10 +34,11 @@ pub(crate) struct Claim {
     bits: EndpointBitSet,
 }
 
-/// An endpoint: the key of its interface, its address, whether its handle is open, and how many of its tickets have no end.
+/// An endpoint: the key of its interface (a control endpoint has none), its address, whether its
+/// handle is open, and how many of its tickets have no end.
 #[derive(Drop)]
 pub(crate) struct Row {
-    pub interface: usize,
+    pub interface: Option<usize>,
     pub address: u8,
     pub is_open: bool,
     pub tickets: usize,
@@ -48,12 +52,16 @@ pub(crate) struct Owners {
 }
 
 impl Model for Owners {
-    ghost use Rattle.std.specs.Prelude.{map};
+    ghost use Rattle.std.specs.Prelude.{map, ◌-◌, vec_len, vec_capacity};
     ghost use Rattle.usb_device.specs.OwnerRows.{OwnersState, claim_state};
 
     ghost Value = { OwnersState };
 
-    ghost view = { λ o. record { interfaces = map claim_state o.claims.items; rows = o.rows.items } };
+    ghost view = { λ o. record {
+      interfaces = map claim_state o.claims.items;
+      rows = o.rows.items;
+      claim_room = vec_capacity o.claims - vec_len o.claims;
+    } };
 
     ghost use Rattle.usb_device.specs.OwnerFacts.{AreCounted};
 
@@ -72,7 +80,8 @@ impl Row {
 impl Claim {
     /// The claim, where the interface has no owner.
     fn if_left(&self) -> Option<EndedClaim>
-        ensures left { result ≡ (if nat_lt 0 self.now.handles || nat_lt 0 self.now.living then None else Some (record { device = self.now.device; number = self.now.number })) }
+        ensures left { result ≡ (if nat_lt 0 self.now.handles || nat_lt 0 self.now.living then None
+            else Some (record { device = self.now.device; number = self.now.number })) }
     {
         if self.handles > 0 || self.living > 0 {
             return None;
@@ -86,8 +95,12 @@ impl Claim {
     /// An endpoint of the interface lives no more.
     fn lose(&mut self, address: u8)
         requires some { 0 < self.old.living }
-        ensures rest { self.new ≡ record self.old { living = self.old.living - 1; bits = self.new.bits } }
-        ensures bits { members self.new.bits ≡ bits.remove (members self.old.bits) (bit_of address) }
+        ensures rest { self.new ≡ record self.old {
+          living = self.old.living - 1;
+          bits = self.new.bits;
+        } }
+        ensures bits { members self.new.bits ≡ bits.remove (members self.old.bits)
+            (bit_of address) }
     {
         self.living -= 1;
         self.bits.clear(address);
@@ -98,8 +111,12 @@ impl Claim {
     /// An endpoint of the interface lives.
     fn gain(&mut self, address: u8)
         requires small { self.old.living + 1 < 2 ^ 64 }
-        ensures rest { self.new ≡ record self.old { living = self.old.living + 1; bits = self.new.bits } }
-        ensures bits { members self.new.bits ≡ bits.insert (members self.old.bits) (bit_of address) }
+        ensures rest { self.new ≡ record self.old {
+          living = self.old.living + 1;
+          bits = self.new.bits;
+        } }
+        ensures bits { members self.new.bits ≡ bits.insert (members self.old.bits)
+            (bit_of address) }
     {
         self.living += 1;
         self.bits.set(address);
@@ -107,13 +124,15 @@ impl Claim {
 }
 
 impl Owners {
-    /// An endpoint that lives is open or not, and has this many tickets without an end. The claim of its interface ends where it
-    /// was the last owner and lives no more.
+    /// An endpoint that lives is open or not, and has this many tickets without an end. The claim
+    /// of its interface ends where it was the last owner and lives no more.
     fn change(&mut self, key: usize, is_open: bool, tickets: usize) -> Option<EndedClaim>
         requires key { key < length self.old.rows }
         requires alive { ForSome (slice_get self.old.rows key) (λ e. is_alive e ≡ true) }
-        ensures rows { self.new ≡ record self.old { rows = with_row self.old.rows key is_open tickets } }
-        ensures gone { result ≡ row_gone self.new key }
+        ensures rows { self.new ≡ record self.old {
+          rows = with_row self.old.rows key is_open tickets;
+        } }
+        ensures gone { result ≡ row_gone self.new.interfaces self.new.rows key }
     {
         let row = &mut self.rows[key];
         row.is_open = is_open;
@@ -121,8 +140,10 @@ impl Owners {
         if row.is_alive() {
             return None;
         }
-        let interface = row.interface;
         let address = row.address;
+        let Some(interface) = row.interface else {
+            return None;
+        };
         let claim = &mut self.claims[interface];
         claim.lose(address);
         claim.if_left()
@@ -130,7 +151,11 @@ impl Owners {
 
     /// No interface, and no endpoint.
     pub fn new(alloc: Global) -> Owners
-        ensures empty { result ≡ record { interfaces = []; rows = [] } }
+        ensures empty { result ≡ record {
+          interfaces = [];
+          rows = [];
+          claim_room = result.claim_room;
+        } }
     {
         Owners {
             claims: Vec::new(alloc),
@@ -143,7 +168,8 @@ impl Owners {
         requires key { key < length self.old.rows }
         requires open { ForSome (slice_get self.old.rows key) (λ e. e.is_open ≡ true) }
         requires small { ForSome (slice_get self.old.rows key) (λ e. e.tickets + 1 < 2 ^ 64) }
-        ensures rows { ForSome (slice_get self.old.rows key) (λ e. self.new ≡ record self.old { rows = with_row self.old.rows key true (e.tickets + 1) }) }
+        ensures rows { ForSome (slice_get self.old.rows key) (λ e.
+            self.new ≡ record self.old { rows = with_row self.old.rows key true (e.tickets + 1) }) }
     {
         let row = &self.rows[key];
         let tickets = row.tickets + 1;
@@ -154,8 +180,11 @@ impl Owners {
     pub fn end_ticket(&mut self, key: usize) -> Option<EndedClaim>
         requires key { key < length self.old.rows }
         requires some { ForSome (slice_get self.old.rows key) (λ e. 0 < e.tickets) }
-        ensures rows { ForSome (slice_get self.old.rows key) (λ e. self.new ≡ record self.old { rows = with_row self.old.rows key e.is_open (e.tickets - 1) }) }
-        ensures gone { result ≡ row_gone self.new key }
+        ensures rows { ForSome (slice_get self.old.rows key) (λ e.
+            self.new ≡ record self.old {
+              rows = with_row self.old.rows key e.is_open (e.tickets - 1);
+            }) }
+        ensures gone { result ≡ row_gone self.new.interfaces self.new.rows key }
     {
         let row = &self.rows[key];
         let is_open = row.is_open;
@@ -167,8 +196,9 @@ impl Owners {
     pub fn close_endpoint(&mut self, key: usize) -> Option<EndedClaim>
         requires key { key < length self.old.rows }
         requires open { ForSome (slice_get self.old.rows key) (λ e. e.is_open ≡ true) }
-        ensures rows { ForSome (slice_get self.old.rows key) (λ e. self.new ≡ record self.old { rows = with_row self.old.rows key false e.tickets }) }
-        ensures gone { result ≡ row_gone self.new key }
+        ensures rows { ForSome (slice_get self.old.rows key) (λ e.
+            self.new ≡ record self.old { rows = with_row self.old.rows key false e.tickets }) }
+        ensures gone { result ≡ row_gone self.new.interfaces self.new.rows key }
     {
         let row = &self.rows[key];
         let tickets = row.tickets;
@@ -179,8 +209,12 @@ impl Owners {
     pub fn close_handle(&mut self, interface: usize) -> Option<EndedClaim>
         requires key { interface < length self.old.interfaces }
         requires some { ForSome (slice_get self.old.interfaces interface) (λ c. 0 < c.handles) }
-        ensures interfaces { ForSome (slice_get self.old.interfaces interface) (λ c. self.new ≡ record self.old { interfaces = set self.old.interfaces interface (record c { handles = c.handles - 1 }) }) }
-        ensures gone { result ≡ claim_gone self.new interface }
+        ensures interfaces { ForSome (slice_get self.old.interfaces interface) (λ c.
+            self.new ≡ record self.old {
+              interfaces = set self.old.interfaces interface
+                  (record c { handles = c.handles - 1 });
+            }) }
+        ensures gone { result ≡ claim_gone self.new.interfaces self.new.rows interface }
     {
         let claim = &mut self.claims[interface];
         claim.handles -= 1;
@@ -204,19 +238,28 @@ impl Owners {
         claim.bits.is_set(address)
     }
 
+    /// Makes room for one more claimed interface.
+    pub fn reserve_claim(&mut self) -> Result<(), NoMemory>
+        ensures room { OnOk result (1 ≤ self.new.claim_room) }
+        ensures rest { self.new ≡ record self.old { claim_room = self.new.claim_room } }
+    {
+        if self.claims.reserve(1).is_err() {
+            return Err(NoMemory);
+        }
+        Ok(())
+    }
+
     /// One more interface is claimed, with one handle.
-    pub fn open_interface(
-        &mut self,
-        opened: usize,
-        device: u8,
-        number: u8,
-    ) -> Result<usize, NoMemory>
-        ensures key { IfOk result (λ key. key ≡ length self.old.interfaces) }
-        ensures interfaces { OnOk result (self.new ≡ record self.old { interfaces = self.old.interfaces ++ record { opened = opened; device = device; number = number; setting = 0; handles = 1 } ∷ [] }) }
-        ensures err { OnErr result (self.new ≡ self.old) }
+    pub fn open_interface(&mut self, opened: usize, device: u8, number: u8) -> usize
+        requires room { 1 ≤ self.old.claim_room }
+        ensures key { result ≡ length self.old.interfaces }
+        ensures interfaces { self.new ≡ record self.old {
+          interfaces = self.old.interfaces ++ fresh_interface opened device number ∷ [];
+          claim_room = self.new.claim_room;
+        } }
     {
         let key = self.claims.len();
-        let claim = Claim {
+        self.claims.push_reserved(Claim {
             opened,
             device,
             number,
@@ -224,11 +267,8 @@ impl Owners {
             handles: 1,
             living: 0,
             bits: EndpointBitSet::new(),
-        };
-        if self.claims.push(claim).is_err() {
-            return Err(NoMemory);
-        }
-        Ok(key)
+        });
+        key
     }
 
     /// One more endpoint of an interface is open. Its bit must not be in use.
@@ -236,12 +276,19 @@ impl Owners {
         requires key { interface < length self.old.interfaces }
         requires unused { list_any (uses_row interface address) self.old.rows ≡ false }
         ensures key { IfOk result (λ key. key ≡ length self.old.rows) }
-        ensures rows { OnOk result (self.new ≡ record self.old { rows = self.old.rows ++ record { interface = interface; address = address; is_open = true; tickets = 0 } ∷ [] }) }
+        ensures rows { OnOk result (self.new ≡ record self.old {
+          rows = self.old.rows ++ record {
+            interface = Some interface;
+            address = address;
+            is_open = true;
+            tickets = 0;
+          } ∷ [];
+        }) }
         ensures err { OnErr result (self.new ≡ self.old) }
     {
         let key = self.rows.len();
         let row = Row {
-            interface,
+            interface: Some(interface),
             address,
             is_open: true,
             tickets: 0,
@@ -251,6 +298,32 @@ impl Owners {
         }
         let claim = &mut self.claims[interface];
         claim.gain(address);
+        Ok(key)
+    }
+
+    /// One more control endpoint is open, which is of no interface.
+    pub fn open_control(&mut self, address: u8) -> Result<usize, NoMemory>
+        ensures key { IfOk result (λ key. key ≡ length self.old.rows) }
+        ensures rows { OnOk result (self.new ≡ record self.old {
+          rows = self.old.rows ++ record {
+            interface = None;
+            address = address;
+            is_open = true;
+            tickets = 0;
+          } ∷ [];
+        }) }
+        ensures err { OnErr result (self.new ≡ self.old) }
+    {
+        let key = self.rows.len();
+        let row = Row {
+            interface: None,
+            address,
+            is_open: true,
+            tickets: 0,
+        };
+        if self.rows.push(row).is_err() {
+            return Err(NoMemory);
+        }
         Ok(key)
     }
 }

@@ -9,8 +9,9 @@ use usb_bus::completion_from;
 use usb_kernel::Done;
 use usb_xfer::{Held, TransferData};
 
-/// A ticket: its endpoint's key and its transfer while the endpoint holds it, its endpoint's key when that gave it up before
-/// its reap, or its end. The transfer has no buffer while the kernel has it, and then its completion.
+/// A ticket: its endpoint's key and its transfer while the endpoint holds it, its endpoint's key
+/// when that gave it up before its reap, or its end. The transfer has no buffer while the kernel
+/// has it, and then its completion.
 #[derive(Drop)]
 pub(crate) enum Slot {
     Held { key: usize, transfer: TransferData },
@@ -47,8 +48,8 @@ impl Slot {
         }
     }
 
-    /// The completion of the ticket has come: the slot keeps it, where an endpoint holds the ticket. Whether the ticket was given
-    /// up.
+    /// The completion of the ticket has come: the slot keeps it, where an endpoint holds the
+    /// ticket. Whether the ticket was given up.
     pub fn keep(&mut self, done: Done) -> bool
         ensures slot { self.new ≡ slot_kept done self.old }
         ensures given_up { result ≡ is_given_up self.old }

@@ -11,15 +11,11 @@ ghost use Rattle.usb_device.specs.HostBus.{bus_of};
 use super::*;
 use futures::task::Poll;
 use std::alloc::Global;
-use usb_bus::Bus;
-use usb_desc::{Fail, NoMemory};
-use usb_endpoint::Endpoint;
-use usb_error::{Error, Message};
-use usb_kernel::{Bytes, Kernel, KernelStep, SimDevice};
-use usb_xfer::{Bulk, Completion, In, TransferError};
+use usb_error::Message;
+use usb_kernel::{Bytes, SimDevice};
 
-/// A device of one configuration of value 1 with interface 0, which has bulk IN endpoint 0x81 and bulk OUT endpoint 0x02 of
-/// packets of 64 bytes.
+/// A device of one configuration of value 1 with interface 0, which has bulk IN endpoint 0x81 and
+/// bulk OUT endpoint 0x02 of packets of 64 bytes.
 const DEVICE: [u8; 50] = [
     0x12, 0x01, 0x00, 0x02, 0x00, 0x00, 0x00, 0x40, 0xaa, 0xaa, 0xbb, 0xbb, 0x00, 0x01, 0x00, 0x00,
     0x00, 0x01, 0x09, 0x02, 0x20, 0x00, 0x01, 0x01, 0x00, 0x80, 0x32, 0x09, 0x04, 0x00, 0x00, 0x02,
@@ -27,7 +23,8 @@ const DEVICE: [u8; 50] = [
     0x00, 0x00,
 ];
 
-/// A host of a kernel with device 0 at address 6 of bus 1, which has these descriptors, and the steps of a line.
+/// A host of a kernel with device 0 at address 6 of bus 1, which has these descriptors, and the
+/// steps of a line.
 fn host(alloc: Global, bytes: &[u8], steps: Vec<KernelStep>) -> Result<Host, NoMemory>
     requires errnos { All HasErrno steps.items }
 {
@@ -102,6 +99,21 @@ fn opens_the_device_of_an_address(rt: HostRuntime) -> Result<(), std::test::Fail
     Ok(())
 }
 
+#[test]
+fn debug_texts_name_the_handles(rt: HostRuntime) -> Result<(), std::test::Fail> {
+    let mut host = host(rt.alloc(), &DEVICE, Vec::new(rt.alloc()))?;
+    let device = Device::open_at(rt.alloc(), &mut host, 1, 6)?;
+    let device_text = format!(in rt.alloc(); "{device:?}");
+    let claimed = device.claim_interface(&mut host, 0);
+    device.close(&mut host);
+    let interface = claimed?;
+    let interface_text = format!(in rt.alloc(); "{interface:?}");
+    interface.close(&mut host);
+    assert_eq!(rt; device_text?.as_str(), "Device");
+    assert_eq!(rt; interface_text?.as_str(), "Interface { number: 0 }");
+    Ok(())
+}
+
 /// Claims interface 0 of the device, which is opened for that.
 fn claim(alloc: Global, host: &mut Host) -> Result<Interface, Fail<Error>>
     ensures bus { bus_of host.new ≡ bus_of host.old }
@@ -127,7 +139,8 @@ fn open(alloc: Global, host: &mut Host) -> Result<Endpoint<Bulk, In>, Fail<Error
 fn submit(host: &mut Host, endpoint: &mut Endpoint<Bulk, In>) -> Result<(), NoMemory>
     requires stands { Stands (bus_of host.old) endpoint.old }
     ensures stands { Stands (bus_of host.new) endpoint.new }
-    ensures interfaces { (i : InterfaceState) → StandsInterface host.old i → StandsInterface host.new i }
+    ensures interfaces { (i : InterfaceState) → StandsInterface host.old i →
+        StandsInterface host.new i }
 {
     if endpoint.pending() >= 64 {
         return Err(NoMemory);
@@ -141,8 +154,10 @@ fn submit(host: &mut Host, endpoint: &mut Endpoint<Bulk, In>) -> Result<(), NoMe
 
 /// Applies the next step of the line.
 fn go_on(host: &mut Host)
-    ensures endpoints { (e : EndpointState) → Stands (bus_of host.old) e → Stands (bus_of host.new) e }
-    ensures interfaces { (i : InterfaceState) → StandsInterface host.old i → StandsInterface host.new i }
+    ensures endpoints { (e : EndpointState) → Stands (bus_of host.old) e →
+        Stands (bus_of host.new) e }
+    ensures interfaces { (i : InterfaceState) → StandsInterface host.old i →
+        StandsInterface host.new i }
 {
     let _ = host.turn();
 }
@@ -182,7 +197,8 @@ fn length_of(completion: Option<Completion>) -> usize {
 fn submit_three(host: &mut Host, endpoint: &mut Endpoint<Bulk, In>) -> Result<(), NoMemory>
     requires stands { Stands (bus_of host.old) endpoint.old }
     ensures stands { Stands (bus_of host.new) endpoint.new }
-    ensures interfaces { (i : InterfaceState) → StandsInterface host.old i → StandsInterface host.new i }
+    ensures interfaces { (i : InterfaceState) → StandsInterface host.old i →
+        StandsInterface host.new i }
 {
     submit(host, endpoint)?;
     submit(host, endpoint)?;
@@ -193,7 +209,8 @@ fn submit_three(host: &mut Host, endpoint: &mut Endpoint<Bulk, In>) -> Result<()
     Ok(())
 }
 
-/// What the polls give of three transfers that three steps finish: one after each of the next three steps, and two at the end.
+/// What the polls give of three transfers that three steps finish: one after each of the next three
+/// steps, and two at the end.
 fn polls_of(host: &mut Host, endpoint: &mut Endpoint<Bulk, In>) -> Result<[usize; 5], NoMemory>
     requires stands { Stands (bus_of host.old) endpoint.old }
     ensures stands { Stands (bus_of host.new) endpoint.new }
@@ -245,7 +262,8 @@ fn completions_come_in_order_of_submission(rt: HostRuntime) -> Result<(), std::t
     Ok(())
 }
 
-/// Packets for the first two of three transfers, and then reaps: that of the first, and the others in an order.
+/// Packets for the first two of three transfers, and then reaps: that of the first, and the others
+/// in an order.
 fn two_packets(alloc: Global, order: [u64; 2]) -> Result<Vec<KernelStep>, NoMemory>
     ensures errnos { IfOk result (λ steps. All HasErrno steps.items) }
 {
@@ -276,7 +294,8 @@ fn endpoint_refusal(host: &mut Host, interface: &Interface) -> Result<Option<Mes
     }
 }
 
-/// Opens endpoint 0x81 of an interface, submits three transfers, applies three steps and closes the endpoint.
+/// Opens endpoint 0x81 of an interface, submits three transfers, applies three steps and closes the
+/// endpoint.
 fn close_three(host: &mut Host, interface: &Interface) -> Result<(), Fail<Error>>
     requires stands { StandsInterface host.old interface.now }
     ensures stands { StandsInterface host.new interface.now }
@@ -290,7 +309,8 @@ fn close_three(host: &mut Host, interface: &Interface) -> Result<(), Fail<Error>
     }
 }
 
-/// Why endpoint 0x81 is not opened again after its close, and then after each of the next two steps.
+/// Why endpoint 0x81 is not opened again after its close, and then after each of the next two
+/// steps.
 fn refusals_of(host: &mut Host, interface: &Interface) -> Result<[Option<Message>; 3], Fail<Error>>
     requires stands { StandsInterface host.old interface.now }
     ensures stands { StandsInterface host.new interface.now }
@@ -304,7 +324,8 @@ fn refusals_of(host: &mut Host, interface: &Interface) -> Result<[Option<Message
     Ok([at_once, after_one, after_both])
 }
 
-/// The first of three transfers is reaped, the second finished and the third open when their endpoint is closed.
+/// The first of three transfers is reaped, the second finished and the third open when their
+/// endpoint is closed.
 #[test]
 fn a_closed_endpoint_is_busy_until_its_tickets_are_reaped(
     rt: HostRuntime,
@@ -459,7 +480,8 @@ fn an_unplug_finishes_what_is_open(rt: HostRuntime) -> Result<(), std::test::Fai
 
 /// Why interface 0 is not claimed. Its handle is closed again where it is.
 fn claim_refusal(alloc: Global, host: &mut Host) -> Result<Option<Message>, Fail<Error>>
-    ensures endpoints { (e : EndpointState) → Stands (bus_of host.old) e → Stands (bus_of host.new) e }
+    ensures endpoints { (e : EndpointState) → Stands (bus_of host.old) e →
+        Stands (bus_of host.new) e }
 {
     match claim(alloc, host) {
         Ok(interface) => {

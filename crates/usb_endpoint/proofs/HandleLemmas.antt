@@ -1,15 +1,8 @@
 -- What a handle holds stays held.
 use Rattle.std.proofs.Common.{ℕ, zero, suc, arith, ◌<◌, get_or, ◌≡◌, ◌≢◌, List, [], ◌∷◌, length, Option, Some, None, refl, sym, ◌∙◌, ap, subst}
 use Rattle.std.proofs.lemmas.Bool.{eq-eqb, ne_eqb}
-use Rattle.std.proofs.lemmas.Option.{none-some, same_Some}
-use Rattle.std.specs.Option.{option_map}
-use Rattle.usb_xfer.specs.declared.transfer.TransferData.{TransferData}
-use Rattle.usb_xfer.specs.declared.transfer.Completion.{Completion}
-use Rattle.usb_xfer.specs.Transfers.{completion_held}
-use Rattle.usb_kernel.specs.declared.event.Event.{Event}
+use Rattle.std.proofs.lemmas.Option.{same_Some}
 use Rattle.usb_bus.specs.BusState.{BusState, with_owner, without}
-use Rattle.usb_bus.specs.Completions.{transfer_completion}
-use Rattle.usb_bus.specs.Values.{HoldsCompletion}
 use Rattle.usb_endpoint.specs.EndpointState.{EndpointState}
 use Rattle.usb_endpoint.specs.Handles.{IsApart, AreHeld, Stands, KeepsOthers}
 
@@ -52,24 +45,6 @@ KeepsOthers-end old mid new key t kept own after =
           without-other mid.owner t u ne ∙ now;
       keys = kept.keys;
     })
-
--- a slot of a ticket whose value has come holds the journal's completion of it
-mapped_some : (o : Option Completion) (c : Option Completion) → Some c ≡ option_map Some o → c ≡ o
-mapped_some None c is = absurd (none-some c (sym is))
-mapped_some (Some d) c is = same_Some c (Some d) is
-
-pub value-completion : (past : List Event) (t : ℕ) (value : Option TransferData) (v : TransferData) → HoldsCompletion past t value → value ≡ Some v → completion_held v.held ≡ transfer_completion past t
-value-completion past t value v holds is =
-    mapped_some (transfer_completion past t) (completion_held v.held) (sym (ap (λ (o : Option TransferData). option_map (λ (x : TransferData). completion_held x.held) o) is) ∙ holds)
-
-mapped_none : (o : Option Completion) → (let none : Option (Option Completion) = None in none) ≡ option_map Some o → o ≡ None
-mapped_none None is = refl
-mapped_none (Some c) is = absurd (none-some _ is)
-
--- and where it has not come, there is none
-pub value-none : (past : List Event) (t : ℕ) (value : Option TransferData) → HoldsCompletion past t value → value ≡ None → transfer_completion past t ≡ None
-value-none past t value holds is =
-    mapped_none (transfer_completion past t) (sym (ap (λ (o : Option TransferData). option_map (λ (x : TransferData). completion_held x.held) o) is) ∙ holds)
 
 -- nothing of what a handle stands on has changed
 pub Stands-left : (old new : BusState) (e next : EndpointState) → Stands old e → new ≡ old → next.key ≡ e.key → next.pending ≡ e.pending → Stands new next

@@ -5,13 +5,14 @@ use Rattle.std.specs.Prelude.{nat_lt, nat_le, ◌&&◌, ◌==◌}
 use Rattle.std.proofs.lemmas.Bool.{and_parts, eqb-true, ltb-true, le-leb}
 use Rattle.usb_xfer.specs.declared.transfer.Held.{Held}
 use Rattle.usb_kernel.specs.Submissions.{IsWhole}
+use Rattle.usb_kernel.proofs.Wholes.{whole-in}
 use Rattle.usb_bus.specs.Routes.{submission_of}
 use Rattle.usb_kernel.specs.Tickets.{tickets}
 use Rattle.usb_bus.specs.declared.route.Route.{Route}
 use Rattle.usb_bus.specs.BusState.{BusState, with_owner}
 use Rattle.usb_bus.specs.Submitted.{Entered, IsRefused}
 use Rattle.usb_endpoint.specs.EndpointState.{EndpointState, route_of}
-use Rattle.usb_endpoint.specs.Handles.{IsApart, AreHeld, Stands, KeepsOthers}
+use Rattle.usb_endpoint.specs.Handles.{IsApart, AreHeld, Stands}
 use Rattle.usb_endpoint.specs.Submits.{HandsOver, is_whole, is_valid}
 use Rattle.usb_endpoint.proofs.HandleLemmas.{free-ne, with_owner-other, with_owner-same}
 
@@ -38,13 +39,6 @@ Stands-entered old new e next b refusal stands free done after =
       held = subst (λ (f : ℕ → Option ℕ). AreHeld f e.key (e.pending ++ length (tickets old.past) ∷ [])) (sym done.owner) (AreHeld-append old.owner e.key (length (tickets old.past)) e.pending free stands.held);
     })
 
-pub KeepsOthers-entered : (old new : BusState) (to : Route) (b : BufferState) (refusal : Option ℕ) (key : ℕ) → old.owner (length (tickets old.past)) ≡ None → Entered old new to b refusal → KeepsOthers old new key
-KeepsOthers-entered old new to b refusal key free done =
-    record {
-      tickets = λ t k other own. ap (λ (f : ℕ → Option ℕ). f t) done.owner ∙ with_owner-other old.owner (length (tickets old.past)) to.key t (free-ne old.owner (length (tickets old.past)) t k free own) ∙ own;
-      keys = λ k other is. ap (λ (f : ℕ → Bool). f k) done.keys ∙ is;
-    }
-
 -- a valid length is a multiple of the maximum that is not 0
 times : (m n q : ℕ) → n ≡ m * q → 0 < q → ((q - 1) + 1) * m ≡ n
 times m n q is some = let e : (q - 1) + 1 ≡ q = omega arith in rw (e, is) (mul_comm q m)
@@ -68,4 +62,4 @@ valid-in e b valid le = let in_ : nat_le 128 e.address ≡ true = le-leb 128 e.a
 
 -- what the bus asks of a submission
 pub IsWhole-valid : (e : EndpointState) (b : BufferState) → is_valid e b ≡ true → IsWhole (submission_of (route_of e) b)
-IsWhole-valid e b valid = λ le. whole-times e.maximum b.requested (valid-in e b valid le)
+IsWhole-valid e b valid = whole-in (submission_of (route_of e) b) (λ le. whole-times e.maximum b.requested (valid-in e b valid le))

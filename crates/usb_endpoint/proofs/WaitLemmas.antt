@@ -62,10 +62,6 @@ GoesOn-trans a b c x y =
 pub GoesOn-same : (a : BusState) → GoesOn a a
 GoesOn-same a = record { past = record { more = []; is = refl }; clock = omega arith; left = omega arith }
 
--- the same journal, clock and number
-pub GoesOn-at : (old new : BusState) → new.past ≡ old.past → new.clock ≡ old.clock → new.left ≡ old.left → GoesOn old new
-GoesOn-at old new past clock left = record { past = record { more = []; is = past }; clock = omega arith; left = omega arith }
-
 Falls-le : (turn : Turn) (old new : ℕ) → Falls turn old new → new ≤ old
 Falls-le Stepped old new less = omega arith
 Falls-le Reaped old new less = omega arith

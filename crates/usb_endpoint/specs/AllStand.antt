@@ -7,4 +7,5 @@ use Rattle.usb_endpoint.specs.Handles.{Stands}
 -- each endpoint stands in the bus, and no two have one key
 pub record AllStand (b : BusState) (es : List EndpointState) : Type 0 where
   pub each : (j : ℕ) (e : EndpointState) → slice_get es j ≡ Some e → Stands b e
-  pub apart : (j k : ℕ) (e f : EndpointState) → slice_get es j ≡ Some e → slice_get es k ≡ Some f → j ≢ k → e.key ≢ f.key
+  pub apart : (j k : ℕ) (e f : EndpointState) → slice_get es j ≡ Some e → slice_get es k ≡ Some f →
+      j ≢ k → e.key ≢ f.key

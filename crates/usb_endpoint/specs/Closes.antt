@@ -13,5 +13,7 @@ all_abandoned abandoned s [] = s
 all_abandoned abandoned s (t ∷ ts) = all_abandoned abandoned (abandoned s t) ts
 
 -- a closed endpoint has discarded its tickets, given them up, and left the bus
-abbrev pub after_close : {S : Type 0} → (S → ℕ → S) → (S → ℕ → S) → (S → ℕ → S) → S → EndpointState → S
-after_close discarded abandoned closed s e = closed (all_abandoned abandoned (all_discarded discarded s e.pending) e.pending) e.key
+abbrev pub after_close : {S : Type 0} → (S → ℕ → S) → (S → ℕ → S) → (S → ℕ → S) → S →
+    EndpointState → S
+after_close discarded abandoned closed s e =
+    closed (all_abandoned abandoned (all_discarded discarded s e.pending) e.pending) e.key

@@ -1,10 +1,13 @@
 -- What an endpoint is to its users.
-use Rattle.std.specs.Prelude.{ℕ, List}
+use Rattle.std.specs.Prelude.{ℕ, ◌<◌, ◌≡◌, List}
+use Rattle.usb_desc.specs.Fields.{direction_of_address}
+use Rattle.usb_desc.specs.declared.types.Direction.{Direction}
 use Rattle.usb_desc.specs.declared.types.TransferType.{TransferType}
 use Rattle.usb_bus.specs.declared.route.Route.{Route}
 
--- the device's number at the kernel, the address, the transfer type and the maximum packet size of the endpoint, the key by
--- which a bus knows it, and its pending tickets in the order of their submission
+-- the device's number at the kernel, the address, the transfer type and the maximum packet size of
+-- the endpoint, the key by which a bus knows it, and its pending tickets in the order of their
+-- submission
 pub record EndpointState : Type 0 where
   pub device : ℕ
   pub address : ℕ
@@ -15,4 +18,16 @@ pub record EndpointState : Type 0 where
 
 -- where its submissions go
 abbrev pub route_of : EndpointState → Route
-route_of e = record { device = e.device; endpoint = e.address; kind = e.kind; maximum = e.maximum; key = e.key }
+route_of e =
+    record {
+      device = e.device;
+      endpoint = e.address;
+      kind = e.kind;
+      maximum = e.maximum;
+      key = e.key;
+    }
+
+-- packets have a size, and the address is one of the direction
+pub record HasPackets (direction : Direction) (address maximum : ℕ) : Type 0 where
+  pub some : 0 < maximum
+  pub direction_is : direction_of_address address ≡ direction

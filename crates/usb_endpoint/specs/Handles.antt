@@ -26,7 +26,8 @@ pub record KeepsOthers (old new : BusState) (key : ℕ) : Type 0 where
   pub keys : (k : ℕ) → k ≢ key → old.keys k ≡ true → new.keys k ≡ true
 
 -- the front is reaped: it was taken, with the completion that the journal has for it
-pub record TookNext {S : Type 0} (state : S → BusState) (taken : S → ℕ → S) (old : S) (e : EndpointState) (c : Completion) (new : S) (next : EndpointState) : Type 0 where
+pub record TookNext {S : Type 0} (state : S → BusState) (taken : S → ℕ → S) (old : S)
+    (e : EndpointState) (c : Completion) (new : S) (next : EndpointState) : Type 0 where
   pub front : ℕ
   pub others : List ℕ
   pub was : e.pending ≡ front ∷ others
@@ -35,7 +36,8 @@ pub record TookNext {S : Type 0} (state : S → BusState) (taken : S → ℕ →
   pub rest : new ≡ taken old front
 
 -- the front is not reaped, and nothing changed
-pub record LeftNext {S : Type 0} (state : S → BusState) (old : S) (e : EndpointState) (new : S) (next : EndpointState) : Type 0 where
+pub record LeftNext {S : Type 0} (state : S → BusState) (old : S) (e : EndpointState) (new : S)
+    (next : EndpointState) : Type 0 where
   pub front : ℕ
   pub others : List ℕ
   pub was : e.pending ≡ front ∷ others

@@ -21,4 +21,5 @@ taken_by (Taken t ∷ calls) = t ∷ taken_by calls
 abbrev pub Leads : List ℕ → List HandleCall → List ℕ → Type 0
 Leads pending [] next = pending ≡ next
 Leads pending (Submitted t ∷ calls) next = Leads (pending ++ t ∷ []) calls next
-Leads pending (Taken t ∷ calls) next = (others : List ℕ) × (pending ≡ t ∷ others) × Leads others calls next
+Leads pending (Taken t ∷ calls) next =
+    (others : List ℕ) × (pending ≡ t ∷ others) × Leads others calls next

@@ -21,13 +21,18 @@ is_valid e b = if nat_le 128 e.address then is_whole e.maximum b.requested else 
 abbrev pub transfer_by : Route → BufferState → TransferData
 transfer_by to b = filled_transfer to.endpoint to.kind b
 
--- a transfer that is valid is submitted. Another one is refused with 22 (EINVAL), whatever the kernel would answer
-abbrev pub handed_over : {S : Type 0} → (S → Route → TransferData → S) → (S → Route → TransferData → ℕ → S) → S → Route → TransferData → Bool → S
-handed_over submitted refused old to transfer valid = if valid then submitted old to transfer else refused old to transfer 22
+-- a transfer that is valid is submitted. Another one is refused with 22 (EINVAL), whatever the
+-- kernel would answer
+abbrev pub handed_over : {S : Type 0} → (S → Route → TransferData → S) →
+    (S → Route → TransferData → ℕ → S) → S → Route → TransferData → Bool → S
+handed_over submitted refused old to transfer valid =
+    if valid then submitted old to transfer else refused old to transfer 22
 
 -- what is left of a bus after an endpoint's submission
-abbrev pub entered : {S : Type 0} → (S → Route → TransferData → S) → (S → Route → TransferData → ℕ → S) → S → EndpointState → BufferState → S
-entered submitted refused old e b = handed_over submitted refused old (route_of e) (transfer_by (route_of e) b) (is_valid e b)
+abbrev pub entered : {S : Type 0} → (S → Route → TransferData → S) →
+    (S → Route → TransferData → ℕ → S) → S → EndpointState → BufferState → S
+entered submitted refused old e b =
+    handed_over submitted refused old (route_of e) (transfer_by (route_of e) b) (is_valid e b)
 
 -- a buffer became the next ticket, which is refused with 22 where it is not valid
 pub record Enters (old new : BusState) (to : Route) (b : BufferState) (valid : Bool) : Type 0 where
@@ -37,4 +42,5 @@ pub record Enters (old new : BusState) (to : Route) (b : BufferState) (valid : B
 
 -- so did the buffer that a transfer holds
 abbrev pub HandsOver : BusState → BusState → Route → Held → Bool → Type 0
-HandsOver old new to held valid = (b : BufferState) → buffer_held held ≡ Some b → Enters old new to b valid
+HandsOver old new to held valid =
+    (b : BufferState) → buffer_held held ≡ Some b → Enters old new to b valid

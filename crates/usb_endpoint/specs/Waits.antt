@@ -19,9 +19,11 @@ time_is_up Stepped = false
 time_is_up Reaped = false
 time_is_up TimeUp = true
 
--- A look at the ticket, then at the clock, then a turn, and so on: whether the ticket was found reaped, and what is left then.
--- The number bounds the looks: with too small a number there is no answer.
-abbrev pub waited : {S : Type 0} → (S → BusState) → (S → S) → (S → Turn) → ℕ → ℕ → ℕ → ℕ → S → Option (Bool × S)
+-- A look at the ticket, then at the clock, then a turn, and so on: whether the ticket was found
+-- reaped, and what is left then. The number bounds the looks: with too small a number there is no
+-- answer.
+abbrev pub waited : {S : Type 0} → (S → BusState) → (S → S) → (S → Turn) → ℕ → ℕ → ℕ → ℕ → S →
+    Option (Bool × S)
 waited state turned turn_of t timeout start zero s = None
 waited state turned turn_of t timeout start (suc n) s =
     if is_some (transfer_completion (state s).past t) then Some (true, s)
@@ -30,16 +32,21 @@ waited state turned turn_of t timeout start (suc n) s =
     else waited state turned turn_of t timeout start n (turned s)
 
 -- a wait that found the front and took it
-pub record WaitedNext {S : Type 0} (state : S → BusState) (turned : S → S) (turn_of : S → Turn) (taken : S → ℕ → S) (timeout : ℕ) (old : S) (e : EndpointState) (c : Completion) (new : S) (next : EndpointState) : Type 0 where
+pub record WaitedNext {S : Type 0} (state : S → BusState) (turned : S → S) (turn_of : S → Turn)
+    (taken : S → ℕ → S) (timeout : ℕ) (old : S) (e : EndpointState) (c : Completion) (new : S)
+    (next : EndpointState) : Type 0 where
   pub looks : ℕ
   pub mid : S
-  pub found : waited state turned turn_of (front_of e.pending) timeout (state old).clock looks old ≡ Some (true, mid)
+  pub found : waited state turned turn_of (front_of e.pending) timeout (state old).clock looks old ≡
+      Some (true, mid)
   pub took : TookNext state taken mid e c new next
 
 -- a wait that ended without it
-pub record WaitedInVain {S : Type 0} (state : S → BusState) (turned : S → S) (turn_of : S → Turn) (timeout : ℕ) (old : S) (e : EndpointState) (new : S) (next : EndpointState) : Type 0 where
+pub record WaitedInVain {S : Type 0} (state : S → BusState) (turned : S → S) (turn_of : S → Turn)
+    (timeout : ℕ) (old : S) (e : EndpointState) (new : S) (next : EndpointState) : Type 0 where
   pub looks : ℕ
-  pub ended : waited state turned turn_of (front_of e.pending) timeout (state old).clock looks old ≡ Some (false, new)
+  pub ended : waited state turned turn_of (front_of e.pending) timeout (state old).clock looks old ≡
+      Some (false, new)
   pub next_is : next ≡ e
 
 -- at some moment the ticket was not reaped, and no ticket was finished and not reaped

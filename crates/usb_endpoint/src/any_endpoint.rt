@@ -1,12 +1,13 @@
 //! Endpoints of any type and direction, side by side.
 
-ghost use Rattle.std.specs.Prelude.{◌≡◌, ◌<◌, ◌++◌, ◌∷◌, [], length, IfOk, OnOk, OnErr, IfErr, IfSome, IfNone};
+ghost use Rattle.std.specs.Prelude.{◌≡◌, ◌<◌, ◌++◌, ◌∷◌, [], None, length, IfOk, OnOk, OnErr, IfErr, IfSome, IfNone};
 ghost use Rattle.usb_kernel.specs.Tickets.{tickets};
+ghost use Rattle.usb_bus.specs.Completions.{transfer_completion};
 ghost use Rattle.usb_endpoint.specs.AnyEndpoints.{state_of};
 ghost use Rattle.usb_endpoint.specs.Submits.{entered};
 ghost use Rattle.usb_endpoint.specs.Polls.{IfReady, IfPending};
 ghost use Rattle.usb_endpoint.specs.Handles.{TookNext, LeftNext, Stands, KeepsOthers};
-ghost use Rattle.usb_endpoint.specs.Waits.{WaitedNext, WaitedInVain};
+ghost use Rattle.usb_endpoint.specs.Waits.{WaitedNext, WaitedInVain, front_of};
 ghost use Rattle.usb_endpoint.specs.Blocking.{Transferred};
 ghost use Rattle.usb_endpoint.specs.Closes.{all_discarded, after_close};
 
@@ -50,15 +51,21 @@ impl AnyEndpoint {
         }
     }
 
-    /// Submits a buffer. An `Err` is want of memory: the buffer comes back, and nothing has changed.
+    /// Submits a buffer. An `Err` is want of memory: the buffer comes back, and nothing has
+    /// changed.
     pub fn submit<B: Bus>(&mut self, bus: &mut B, buf: Buffer) -> Result<(), Buffer>
         requires few { length (state_of self.old).pending < 64 }
         requires stands { Stands (B.state bus.old) (state_of self.old) }
-        ensures pending { OnOk result (state_of self.new ≡ record (state_of self.old) { pending = (state_of self.old).pending ++ length (tickets (B.state bus.old).past) ∷ [] }) }
-        ensures bus { OnOk result (bus.new ≡ entered B.submitted B.refused bus.old (state_of self.old) buf) }
+        ensures pending { OnOk result (state_of self.new ≡ record (state_of self.old) {
+          pending = (state_of self.old).pending ++ length
+              (tickets (B.state bus.old).past) ∷ [];
+        }) }
+        ensures bus { OnOk result
+            (bus.new ≡ entered B.submitted B.refused bus.old (state_of self.old) buf) }
         ensures stands { Stands (B.state bus.new) (state_of self.new) }
         ensures others { KeepsOthers (B.state bus.old) (B.state bus.new) (state_of self.old).key }
         ensures err { OnErr result ((state_of self.new ≡ state_of self.old) × (bus.new ≡ bus.old)) }
+        ensures back { IfErr result (λ back. back ≡ buf) }
     {
         match self {
             AnyEndpoint::BulkIn(endpoint) => endpoint.submit(bus, buf),
@@ -72,8 +79,10 @@ impl AnyEndpoint {
     pub fn poll_next_complete<B: Bus>(&mut self, bus: &mut B) -> Poll<Completion>
         requires some { 0 < length (state_of self.old).pending }
         requires stands { Stands (B.state bus.old) (state_of self.old) }
-        ensures ready { IfReady result (λ c. TookNext B.state B.taken bus.old (state_of self.old) c bus.new (state_of self.new)) }
-        ensures pending { IfPending result (LeftNext B.state bus.old (state_of self.old) bus.new (state_of self.new)) }
+        ensures ready { IfReady result (λ c.
+            TookNext B.state B.taken bus.old (state_of self.old) c bus.new (state_of self.new)) }
+        ensures pending { IfPending result
+            (LeftNext B.state bus.old (state_of self.old) bus.new (state_of self.new)) }
         ensures stands { Stands (B.state bus.new) (state_of self.new) }
         ensures others { KeepsOthers (B.state bus.old) (B.state bus.new) (state_of self.old).key }
     {
@@ -85,12 +94,20 @@ impl AnyEndpoint {
         }
     }
 
-    /// Waits for the first pending transfer and takes its completion, at most `timeout` nanoseconds of the bus's clock.
+    /// Waits for the first pending transfer and takes its completion, at most `timeout` nanoseconds
+    /// of the bus's clock.
     pub fn wait_next_complete<B: Bus>(&mut self, bus: &mut B, timeout: u64) -> Option<Completion>
         requires some { 0 < length (state_of self.old).pending }
         requires stands { Stands (B.state bus.old) (state_of self.old) }
-        ensures found { IfSome result (λ c. WaitedNext B.state B.turned B.turn_of B.taken timeout bus.old (state_of self.old) c bus.new (state_of self.new)) }
-        ensures ended { IfNone result (WaitedInVain B.state B.turned B.turn_of timeout bus.old (state_of self.old) bus.new (state_of self.new)) }
+        ensures found { IfSome result (λ c.
+            WaitedNext B.state B.turned B.turn_of B.taken timeout bus.old (state_of self.old) c
+            bus.new (state_of self.new)) }
+        ensures ended { IfNone result
+            (WaitedInVain B.state B.turned B.turn_of timeout bus.old (state_of self.old) bus.new
+            (state_of self.new)) }
+        ensures unreaped { IfNone result
+            (transfer_completion (B.state bus.new).past (front_of (state_of self.old).pending) ≡
+            None) }
         ensures stands { Stands (B.state bus.new) (state_of self.new) }
         ensures others { KeepsOthers (B.state bus.old) (B.state bus.new) (state_of self.old).key }
     {
@@ -102,8 +119,8 @@ impl AnyEndpoint {
         }
     }
 
-    /// Submits a buffer, waits for its completion and takes it. An `Err` is want of memory: the buffer comes back, and nothing
-    /// has changed.
+    /// Submits a buffer, waits for its completion and takes it. An `Err` is want of memory: the
+    /// buffer comes back, and nothing has changed.
     pub fn transfer_blocking<B: Bus>(
         &mut self,
         bus: &mut B,
@@ -112,11 +129,14 @@ impl AnyEndpoint {
     ) -> Result<Completion, Buffer>
         requires none { (state_of self.old).pending ≡ [] }
         requires stands { Stands (B.state bus.old) (state_of self.old) }
-        ensures transferred { IfOk result (λ c. Transferred B.state B.submitted B.refused B.turned B.turn_of B.discarded B.taken timeout bus.old (state_of self.old) buf c bus.new) }
+        ensures transferred { IfOk result (λ c.
+            Transferred B.state B.submitted B.refused B.turned B.turn_of B.discarded B.taken timeout
+            bus.old (state_of self.old) buf c bus.new) }
         ensures stands { Stands (B.state bus.new) (state_of self.new) }
         ensures others { KeepsOthers (B.state bus.old) (B.state bus.new) (state_of self.old).key }
         ensures rest { state_of self.new ≡ state_of self.old }
         ensures err { OnErr result (bus.new ≡ bus.old) }
+        ensures back { IfErr result (λ back. back ≡ buf) }
     {
         match self {
             AnyEndpoint::BulkIn(endpoint) => endpoint.transfer_blocking(bus, buf, timeout),
@@ -145,7 +165,8 @@ impl AnyEndpoint {
     /// Cancels the pending transfers, gives them up and leaves the bus.
     pub fn close<B: Bus>(self, bus: &mut B)
         requires stands { Stands (B.state bus.old) (state_of self) }
-        ensures bus { bus.new ≡ after_close B.discarded B.abandoned B.closed bus.old (state_of self) }
+        ensures bus { bus.new ≡ after_close B.discarded B.abandoned B.closed bus.old
+            (state_of self) }
         ensures others { KeepsOthers (B.state bus.old) (B.state bus.new) (state_of self).key }
     {
         match self {

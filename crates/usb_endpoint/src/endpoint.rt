@@ -1,6 +1,7 @@
 //! The queue of an endpoint.
 
 ghost use Rattle.std.specs.Prelude.{◌≡◌, ◌<◌, ◌≤◌, ◌^◌, ◌++◌, ◌∷◌, [], length, IfOk, OnOk, OnErr, IfErr};
+ghost use Rattle.usb_desc.specs.Fields.{direction_of_address};
 ghost use Rattle.usb_kernel.specs.Tickets.{tickets};
 ghost use Rattle.usb_kernel.specs.Steps.{after_discard};
 ghost use Rattle.usb_bus.specs.BusState.{without, without_key};
@@ -15,6 +16,7 @@ use crate::enter::{completion_in, enter, is_whole_length};
 use futures::task::Poll;
 use std::alloc::Global;
 use std::collections::VecDeque;
+use std::fmt;
 use std::marker::{Model, PhantomData};
 use usb_bus::{Bus, Route};
 use usb_desc::NoMemory;
@@ -23,7 +25,8 @@ use usb_xfer::{
     take_completed_from_queue,
 };
 
-/// An open endpoint of type `T` and direction `D` (USB 2.0, section 9.6.6), with the transfers that were submitted to it.
+/// An open endpoint of type `T` and direction `D` (USB 2.0, section 9.6.6), with the transfers that
+/// were submitted to it.
 ///
 /// It is never dropped: `close` spends it.
 pub struct Endpoint<T: EndpointType, D: EndpointDirection> {
@@ -36,8 +39,7 @@ pub struct Endpoint<T: EndpointType, D: EndpointDirection> {
 }
 
 impl<T: EndpointType, D: EndpointDirection> Model for Endpoint<T, D> {
-    ghost use Rattle.std.specs.Prelude.{◌<◌};
-    ghost use Rattle.usb_endpoint.specs.EndpointState.{EndpointState};
+    ghost use Rattle.usb_endpoint.specs.EndpointState.{EndpointState, HasPackets};
 
     ghost Value = { EndpointState };
 
@@ -50,14 +52,25 @@ impl<T: EndpointType, D: EndpointDirection> Model for Endpoint<T, D> {
       pending = e.pending.items;
     } };
 
-    // packets have a size
-    ghost invariant = { λ e. 0 < e.maximum };
+    // packets have a size, and the address is one of the direction
+    ghost invariant = { λ e. HasPackets D.DIR e.address e.maximum };
+}
+
+impl<T: EndpointType, D: EndpointDirection> fmt::Debug for Endpoint<T, D> {
+    fn fmt<W: fmt::Write>(&self, f: &mut fmt::Formatter<W>) -> fmt::Result {
+        f.debug_struct("Endpoint")
+            .field("address", &format_args!("0x{:02x}", self.address))
+            .field("type", &T::TYPE)
+            .field("direction", &D::DIR)
+            .finish()
+    }
 }
 
 impl<T: EndpointType, D: EndpointDirection> Endpoint<T, D> {
     /// An endpoint with nothing pending. The maximum packet size is in bytes.
     pub fn new(alloc: Global, device: u8, address: u8, maximum: usize, key: usize) -> Self
         requires packets { 0 < maximum }
+        requires direction { direction_of_address address ≡ D.DIR }
         ensures fresh { result ≡ record {
           device = device;
           address = address;
@@ -80,6 +93,7 @@ impl<T: EndpointType, D: EndpointDirection> Endpoint<T, D> {
     /// The address: USB 2.0, table 9-13, `bEndpointAddress`.
     pub fn endpoint_address(&self) -> u8
         ensures address { result ≡ self.now.address }
+        ensures direction { direction_of_address result ≡ D.DIR }
     {
         self.address
     }
@@ -127,8 +141,9 @@ impl<T: EndpointType, D: EndpointDirection> Endpoint<T, D> {
         self.address < 128 || is_whole_length(self.maximum, buf.requested_len())
     }
 
-    /// Submits a buffer, which becomes a pending transfer. An IN endpoint is asked for whole packets, at least one; any other
-    /// requested length is refused with 22 (EINVAL), and the completion says so.
+    /// Submits a buffer, which becomes a pending transfer. An IN endpoint is asked for whole
+    /// packets, at least one; any other requested length is refused with 22 (EINVAL), and the
+    /// completion says so.
     ///
     /// # Errors
     ///
@@ -136,9 +151,13 @@ impl<T: EndpointType, D: EndpointDirection> Endpoint<T, D> {
     pub fn submit<B: Bus>(&mut self, bus: &mut B, buf: Buffer) -> Result<(), Buffer>
         requires few { length self.old.pending < 64 }
         requires stands { Stands (B.state bus.old) self.old }
-        ensures pending { OnOk result (self.new ≡ record self.old { pending = self.old.pending ++ length (tickets (B.state bus.old).past) ∷ [] }) }
+        ensures pending { OnOk result (self.new ≡ record self.old {
+          pending = self.old.pending ++ length (tickets (B.state bus.old).past) ∷ [];
+        }) }
         ensures bus { OnOk result (bus.new ≡ entered B.submitted B.refused bus.old self.old buf) }
-        ensures enters { OnOk result (Enters (B.state bus.old) (B.state bus.new) (route_of self.old) buf (is_valid self.old buf)) }
+        ensures enters { OnOk result
+            (Enters (B.state bus.old) (B.state bus.new) (route_of self.old) buf
+            (is_valid self.old buf)) }
         ensures left { 128 ≤ self.old.address → (B.state bus.new).left ≤ (B.state bus.old).left }
         ensures stands { Stands (B.state bus.new) self.new }
         ensures others { KeepsOthers (B.state bus.old) (B.state bus.new) self.old.key }
@@ -160,12 +179,13 @@ impl<T: EndpointType, D: EndpointDirection> Endpoint<T, D> {
         }
     }
 
-    /// The completion of the first pending transfer, which is taken, where it is there. The transfers behind it wait, also
-    /// those that were finished before it.
+    /// The completion of the first pending transfer, which is taken, where it is there. The
+    /// transfers behind it wait, also those that were finished before it.
     pub fn poll_next_complete<B: Bus>(&mut self, bus: &mut B) -> Poll<Completion>
         requires some { 0 < length self.old.pending }
         requires stands { Stands (B.state bus.old) self.old }
-        ensures ready { IfReady result (λ c. TookNext B.state B.taken bus.old self.old c bus.new self.new) }
+        ensures ready { IfReady result (λ c.
+            TookNext B.state B.taken bus.old self.old c bus.new self.new) }
         ensures pending { IfPending result (LeftNext B.state bus.old self.old bus.new self.new) }
         ensures goes_on { GoesOn (B.state bus.old) (B.state bus.new) }
         ensures stands { Stands (B.state bus.new) self.new }
@@ -178,7 +198,8 @@ impl<T: EndpointType, D: EndpointDirection> Endpoint<T, D> {
         }
     }
 
-    /// Discards the pending transfers that are not finished, from the last to the first. They stay pending.
+    /// Discards the pending transfers that are not finished, from the last to the first. They stay
+    /// pending.
     pub fn cancel_all<B: Bus>(&mut self, bus: &mut B)
         requires stands { Stands (B.state bus.old) self.old }
         ensures bus { bus.new ≡ all_discarded B.discarded bus.old self.old.pending }

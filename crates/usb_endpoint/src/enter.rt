@@ -37,8 +37,8 @@ fn buffer_in(transfer: Idle<TransferData>) -> Buffer
     transfer.into_inner().take_buffer()
 }
 
-/// Submits a transfer, or has it refused where it is not valid. An `Err` is want of memory: the transfer comes back and nothing
-/// has changed.
+/// Submits a transfer, or has it refused where it is not valid. An `Err` is want of memory: the
+/// transfer comes back and nothing has changed.
 fn hand_over<B: Bus>(
     bus: &mut B,
     to: Route,
@@ -49,10 +49,14 @@ fn hand_over<B: Bus>(
     requires goes { GoesBy transfer to }
     requires whole { is_valid ≡ true → AsksWhole transfer to }
     ensures ticket { IfOk result (λ p. p ≡ length (tickets (B.state bus.old).past)) }
-    ensures fresh { OnOk result ((B.state bus.old).owner (length (tickets (B.state bus.old).past)) ≡ None) }
-    ensures state { OnOk result (HandsOver (B.state bus.old) (B.state bus.new) to transfer.held is_valid) }
-    ensures left { OnOk result (128 ≤ to.endpoint → (B.state bus.new).left ≤ (B.state bus.old).left) }
-    ensures ok { OnOk result (bus.new ≡ handed_over B.submitted B.refused bus.old to transfer is_valid) }
+    ensures fresh { OnOk result
+        ((B.state bus.old).owner (length (tickets (B.state bus.old).past)) ≡ None) }
+    ensures state { OnOk result
+        (HandsOver (B.state bus.old) (B.state bus.new) to transfer.held is_valid) }
+    ensures left { OnOk result
+        (128 ≤ to.endpoint → (B.state bus.new).left ≤ (B.state bus.old).left) }
+    ensures ok { OnOk result
+        (bus.new ≡ handed_over B.submitted B.refused bus.old to transfer is_valid) }
     ensures err { OnErr result (bus.new ≡ bus.old) }
     ensures back { IfErr result (λ back. back ≡ transfer) }
 {
@@ -63,8 +67,8 @@ fn hand_over<B: Bus>(
     }
 }
 
-/// Makes a buffer the next ticket, which is refused where it is not valid. An `Err` is want of memory: the buffer comes back and
-/// nothing has changed.
+/// Makes a buffer the next ticket, which is refused where it is not valid. An `Err` is want of
+/// memory: the buffer comes back and nothing has changed.
 pub(crate) fn enter<B: Bus>(
     bus: &mut B,
     to: Route,
@@ -74,10 +78,13 @@ pub(crate) fn enter<B: Bus>(
     requires key { (B.state bus.old).keys to.key ≡ true }
     requires whole { is_valid ≡ true → IsWhole (submission_of to buf) }
     ensures ticket { IfOk result (λ p. p ≡ length (tickets (B.state bus.old).past)) }
-    ensures fresh { OnOk result ((B.state bus.old).owner (length (tickets (B.state bus.old).past)) ≡ None) }
+    ensures fresh { OnOk result
+        ((B.state bus.old).owner (length (tickets (B.state bus.old).past)) ≡ None) }
     ensures state { OnOk result (Enters (B.state bus.old) (B.state bus.new) to buf is_valid) }
-    ensures left { OnOk result (128 ≤ to.endpoint → (B.state bus.new).left ≤ (B.state bus.old).left) }
-    ensures ok { OnOk result (bus.new ≡ handed_over B.submitted B.refused bus.old to (transfer_by to buf) is_valid) }
+    ensures left { OnOk result
+        (128 ≤ to.endpoint → (B.state bus.new).left ≤ (B.state bus.old).left) }
+    ensures ok { OnOk result
+        (bus.new ≡ handed_over B.submitted B.refused bus.old to (transfer_by to buf) is_valid) }
     ensures err { OnErr result (bus.new ≡ bus.old) }
     ensures back { IfErr result (λ back. back ≡ buf) }
 {

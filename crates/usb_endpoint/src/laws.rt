@@ -29,10 +29,13 @@ pub fn tickets_end_once()
 pub fn waits_have_one_outcome<B: Bus>()
     ensures wait { (ticket timeout start looks more : ℕ) (s : B) (first second : Bool × B) →
         waited B.state B.turned B.turn_of ticket timeout start looks s ≡ Some first →
-        waited B.state B.turned B.turn_of ticket timeout start more s ≡ Some second → first ≡ second }
-    ensures transfer { (ticket timeout looks more : ℕ) (seconds others : List ℕ) (s first second : B) →
+        waited B.state B.turned B.turn_of ticket timeout start more s ≡ Some second →
+        first ≡ second }
+    ensures transfer { (ticket timeout looks more : ℕ) (seconds others : List ℕ)
+        (s first second : B) →
         blocked B.state B.turned B.turn_of B.discarded ticket timeout looks seconds s ≡ Some first →
-        blocked B.state B.turned B.turn_of B.discarded ticket timeout more others s ≡ Some second → first ≡ second }
+        blocked B.state B.turned B.turn_of B.discarded ticket timeout more others s ≡ Some second →
+        first ≡ second }
 {}
 
 /// A call on one endpoint leaves the others standing.

@@ -10,7 +10,8 @@ use futures::task::Poll;
 use usb_bus::Bus;
 use usb_xfer::{Completion, EndpointDirection, EndpointType};
 
-/// The next completion of an endpoint. It keeps nothing but the endpoint: each poll is one of the endpoint.
+/// The next completion of an endpoint. It keeps nothing but the endpoint: each poll is one of the
+/// endpoint.
 #[derive(Drop)]
 pub struct NextComplete<'a, T: EndpointType, D: EndpointDirection> {
     /// The endpoint that is polled.
@@ -23,12 +24,17 @@ impl<'a, T: EndpointType, D: EndpointDirection> NextComplete<'a, T, D> {
         requires some { 0 < length self.old.endpoint.now.pending }
         requires stands { Stands (B.state bus.old) self.old.endpoint.now }
         ensures same_endpoint { self.new.endpoint.ghost_name ≡ self.old.endpoint.ghost_name }
-        ensures ready { IfReady result (λ c. TookNext B.state B.taken bus.old self.old.endpoint.now c bus.new self.new.endpoint.now) }
-        ensures pending { IfPending result (LeftNext B.state bus.old self.old.endpoint.now bus.new self.new.endpoint.now) }
+        ensures ready { IfReady result (λ c.
+            TookNext B.state B.taken bus.old self.old.endpoint.now c
+            bus.new self.new.endpoint.now) }
+        ensures pending { IfPending result
+            (LeftNext B.state bus.old self.old.endpoint.now bus.new self.new.endpoint.now) }
         ensures goes_on { GoesOn (B.state bus.old) (B.state bus.new) }
         ensures stands { Stands (B.state bus.new) self.new.endpoint.now }
         ensures others { KeepsOthers (B.state bus.old) (B.state bus.new) self.old.endpoint.now.key }
-        ensures rest { self.new.endpoint.now ≡ record self.old.endpoint.now { pending = self.new.endpoint.now.pending } }
+        ensures rest { self.new.endpoint.now ≡ record self.old.endpoint.now {
+          pending = self.new.endpoint.now.pending;
+        } }
     {
         self.endpoint.poll_next_complete(bus)
     }

@@ -142,7 +142,8 @@ fn length_of(completion: Option<Completion>) -> usize {
     }
 }
 
-/// What the polls give of three finished transfers that are reaped in an order: one after each reap, and two at the end.
+/// What the polls give of three finished transfers that are reaped in an order: one after each
+/// reap, and two at the end.
 fn polls_of(
     alloc: Global,
     bus: &mut KernelBus,
@@ -265,7 +266,8 @@ fn a_wait_of_time_zero_only_looks(rt: HostRuntime) -> Result<(), Fail> {
     Ok(())
 }
 
-/// The completion of a transfer that asks for this many bytes, as the next one of its endpoint, before anything comes.
+/// The completion of a transfer that asks for this many bytes, as the next one of its endpoint,
+/// before anything comes.
 fn submitted(
     bus: &mut KernelBus,
     endpoint: &mut Endpoint<Bulk, In>,
@@ -306,5 +308,18 @@ fn an_invalid_length_is_refused(rt: HostRuntime) -> Result<(), Fail> {
         let expected = is_refused.then_some(Err(TransferError::InvalidArgument));
         assert_eq!(rt; status, expected, "of {len}");
     }
+    Ok(())
+}
+
+#[test]
+fn the_debug_text_names_address_type_and_direction(rt: HostRuntime) -> Result<(), Fail> {
+    let mut bus = new_bus(rt.alloc())?;
+    let endpoint = open(rt.alloc(), &mut bus)?;
+    let text = format!(in rt.alloc(); "{endpoint:?}");
+    endpoint.close(&mut bus);
+    assert_eq!(rt;
+        text?.as_str(),
+        "Endpoint { address: 0x81, type: Bulk, direction: In }"
+    );
     Ok(())
 }

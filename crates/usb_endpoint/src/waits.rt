@@ -1,6 +1,7 @@
 //! Waits for the completions of an endpoint.
 
-ghost use Rattle.std.specs.Prelude.{◌≡◌, ◌<◌, [], length, IfSome, IfNone, IfOk, OnErr, IfErr};
+ghost use Rattle.std.specs.Prelude.{◌≡◌, ◌<◌, [], None, length, IfSome, IfNone, IfOk, OnErr, IfErr};
+ghost use Rattle.usb_bus.specs.Completions.{transfer_completion};
 ghost use Rattle.usb_bus.specs.Later.{GoesOn};
 ghost use Rattle.usb_endpoint.specs.Handles.{Stands, KeepsOthers};
 ghost use Rattle.usb_endpoint.specs.Waits.{WaitedNext, WaitedInVain, EndedWhy, FoundWhy, front_of, time_is_up};
@@ -22,15 +23,23 @@ fn is_time_up(turn: Turn) -> bool
 }
 
 impl<T: EndpointType, D: EndpointDirection> Endpoint<T, D> {
-    /// Waits for the first pending transfer and takes its completion. None where it is not there after `timeout` nanoseconds of
-    /// the bus's clock, or where time is up: the bus has nothing more to do.
+    /// Waits for the first pending transfer and takes its completion. None where it is not there
+    /// after `timeout` nanoseconds of the bus's clock, or where time is up: the bus has nothing
+    /// more to do.
     pub fn wait_next_complete<B: Bus>(&mut self, bus: &mut B, timeout: u64) -> Option<Completion>
         requires some { 0 < length self.old.pending }
         requires stands { Stands (B.state bus.old) self.old }
-        ensures found { IfSome result (λ c. WaitedNext B.state B.turned B.turn_of B.taken timeout bus.old self.old c bus.new self.new) }
-        ensures ended { IfNone result (WaitedInVain B.state B.turned B.turn_of timeout bus.old self.old bus.new self.new) }
-        ensures found_why { IfSome result (λ _. FoundWhy (B.state bus.old) (B.state bus.new) (front_of self.old.pending)) }
-        ensures why { IfNone result (EndedWhy (B.state bus.old) (B.state bus.new) (front_of self.old.pending) timeout) }
+        ensures found { IfSome result (λ c.
+            WaitedNext B.state B.turned B.turn_of B.taken timeout bus.old self.old c
+            bus.new self.new) }
+        ensures ended { IfNone result
+            (WaitedInVain B.state B.turned B.turn_of timeout bus.old self.old bus.new self.new) }
+        ensures found_why { IfSome result (λ _.
+            FoundWhy (B.state bus.old) (B.state bus.new) (front_of self.old.pending)) }
+        ensures why { IfNone result
+            (EndedWhy (B.state bus.old) (B.state bus.new) (front_of self.old.pending) timeout) }
+        ensures unreaped { IfNone result
+            (transfer_completion (B.state bus.new).past (front_of self.old.pending) ≡ None) }
         ensures goes_on { GoesOn (B.state bus.old) (B.state bus.new) }
         ensures stands { Stands (B.state bus.new) self.new }
         ensures others { KeepsOthers (B.state bus.old) (B.state bus.new) self.old.key }
@@ -50,12 +59,14 @@ impl<T: EndpointType, D: EndpointDirection> Endpoint<T, D> {
         }
     }
 
-    /// Waits for the first pending transfer, which is finished, by seconds, and takes its completion.
+    /// Waits for the first pending transfer, which is finished, by seconds, and takes its
+    /// completion.
     fn wait_finished<B: Bus>(&mut self, bus: &mut B) -> Completion
         requires some { 0 < length self.old.pending }
         requires stands { Stands (B.state bus.old) self.old }
         requires finished { IsFinished (B.state bus.old).past (front_of self.old.pending) }
-        ensures found { WaitedOn B.state B.turned B.turn_of B.taken bus.old self.old result bus.new self.new }
+        ensures found { WaitedOn B.state B.turned B.turn_of B.taken bus.old self.old result
+            bus.new self.new }
         ensures stands { Stands (B.state bus.new) self.new }
         ensures others { KeepsOthers (B.state bus.old) (B.state bus.new) self.old.key }
     {
@@ -68,8 +79,8 @@ impl<T: EndpointType, D: EndpointDirection> Endpoint<T, D> {
         }
     }
 
-    /// Submits a buffer, waits for its completion and takes it. After `timeout` nanoseconds of the bus's clock the transfer is
-    /// cancelled, and then waited for until it is there.
+    /// Submits a buffer, waits for its completion and takes it. After `timeout` nanoseconds of the
+    /// bus's clock the transfer is cancelled, and then waited for until it is there.
     ///
     /// # Errors
     ///
@@ -83,7 +94,9 @@ impl<T: EndpointType, D: EndpointDirection> Endpoint<T, D> {
     ) -> Result<Completion, Buffer>
         requires none { self.old.pending ≡ [] }
         requires stands { Stands (B.state bus.old) self.old }
-        ensures transferred { IfOk result (λ c. Transferred B.state B.submitted B.refused B.turned B.turn_of B.discarded B.taken timeout bus.old self.old buf c bus.new) }
+        ensures transferred { IfOk result (λ c.
+            Transferred B.state B.submitted B.refused B.turned B.turn_of B.discarded B.taken timeout
+            bus.old self.old buf c bus.new) }
         ensures stands { Stands (B.state bus.new) self.new }
         ensures others { KeepsOthers (B.state bus.old) (B.state bus.new) self.old.key }
         ensures rest { self.new ≡ self.old }

@@ -1,15 +1,15 @@
 use Rattle.std.proofs.Common.{◌≡◌, ◌∙◌, ap, refl, arith}
 use Rattle.usb_kernel.specs.Value.{KernelState}
 use Rattle.usb_kernel.specs.Steps.{after_reap}
-use Rattle.usb_device.specs.HostFacts.{Comes}
+use Rattle.usb_bus.specs.Completions.{CompletesOnly}
 use Rattle.usb_device.specs.HostTurns.{host_reaped}
-use Rattle.usb_device.proofs.ArrivalLemmas.{Comes-reap}
+use Rattle.usb_device.proofs.ArrivalLemmas.{CompletesOnly-reap}
 use Rattle.usb_device.proofs.host.Host.reap.Goals as goal
 
 pub invariant_of-self : goal.invariant_of-self
 invariant_of-self c =
     let k = c.self.inside.kernel in
-    let comes : Comes k.past c.reap-arrived.new.self.past c.reap-arrived.result = rw (c.reap-arrived.ensures.past, c.reap-arrived.ensures.done) (Comes-reap k.past c.args.ticket) in
+    let comes : CompletesOnly k.past c.reap-arrived.new.self.past c.reap-arrived.result = rw (c.reap-arrived.ensures.past, c.reap-arrived.ensures.done) (CompletesOnly-reap k.past c.args.ticket) in
     record {
       agree = c.complete.ensures.agree k.past c.self.invariant.agree comes;
       room = omega (arith, c.complete.ensures.spare, ap (λ (x : KernelState). x.spare) c.reap-arrived.ensures.rest, c.self.invariant.room);

@@ -1,14 +1,14 @@
 use Rattle.std.proofs.Common.{◌≡◌, ◌<◌, ◌∙◌, refl, arith, length}
 use Rattle.usb_kernel.specs.Steps.{after_step}
-use Rattle.usb_device.specs.HostFacts.{Comes}
+use Rattle.usb_bus.specs.Completions.{CompletesOnly}
 use Rattle.usb_device.specs.HostTurns.{host_stepped}
-use Rattle.usb_device.proofs.ArrivalLemmas.{kernel-same, Comes-step}
+use Rattle.usb_device.proofs.ArrivalLemmas.{kernel-same, CompletesOnly-step}
 use Rattle.usb_device.proofs.host.Host.step.Goals as goal
 
 pub invariant_of-self : goal.invariant_of-self
 invariant_of-self c =
     let k = c.self.inside.kernel in
-    let comes : Comes k.past c.step-arrived.new.self.past c.step-arrived.result = rw (c.step-arrived.ensures.past, c.step-arrived.ensures.done) (Comes-step k.devices k.past c.args.step) in
+    let comes : CompletesOnly k.past c.step-arrived.new.self.past c.step-arrived.result = rw (c.step-arrived.ensures.past, c.step-arrived.ensures.done) (CompletesOnly-step k.devices k.clock k.past c.args.step) in
     let room : length c.self.inside.steps.items < k.spare = rw (← c.self.view_is) at c.requires.room in
     record {
       agree = c.complete.ensures.agree k.past c.self.invariant.agree comes;

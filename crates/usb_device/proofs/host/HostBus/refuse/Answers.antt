@@ -7,7 +7,7 @@ pub returns-in-Ok-clause-state : goal.returns-in-Ok-clause-state
 returns-in-Ok-clause-state c = λ b some.
     let old = c.args.self.now in
     let made = c.in-Ok.ensures.ok ∙ ap (λ t. host_refused old c.args.to t c.args.errno) c.into_inner.ensures.value in
-    refused-state old c.refuse_transfer.new.self c.args.to c.args.t c.args.errno b c.refuse_transfer.ensures.count made some
+    refused-state old c.refuse_transfer.new.self c.args.to c.args.t c.args.errno b c.refuse_transfer.ensures.count made some c.requires.errno
 
 pub returns-in-Ok-clause-left : goal.returns-in-Ok-clause-left
 returns-in-Ok-clause-left c =

@@ -8,7 +8,7 @@ pub returns-in-Ok-clause-state : goal.returns-in-Ok-clause-state
 returns-in-Ok-clause-state c = λ b some.
     let old = c.args.self.now in
     let made = c.in-Ok.ensures.ok ∙ ap (host_submitted old c.args.to) c.into_inner.ensures.value in
-    (submit_refusal old.kernel.devices old.kernel.armed c.args.to.device, submitted-state old c.submit_transfer.new.self c.args.to c.args.t b c.submit_transfer.ensures.count made some)
+    (submit_refusal old.kernel.devices old.kernel.armed c.args.to.device, submitted-state old c.submit_transfer.new.self c.args.to c.args.t b c.submit_transfer.ensures.count made some c.in-Ok.ensures.known)
 
 pub returns-in-Ok-clause-left : goal.returns-in-Ok-clause-left
 returns-in-Ok-clause-left c = λ input.

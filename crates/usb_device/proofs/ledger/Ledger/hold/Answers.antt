@@ -19,7 +19,7 @@ invariant_of-self c =
     let e = there.0 in
     let next : Row = record e { is_open = true; tickets = e.tickets + 1 } in
     let owners = c.add_ticket.ensures.rows e there.1 in
-    rw (owners, c.put.ensures.items, with_row-at rows c.args.key e true (e.tickets + 1) there.1, map-append) (Tied-add rows tickets (ticket_of (slot.Held c.args.key c.args.transfer)) c.args.key e next c.self.invariant refl there.1 refl)
+    rw (owners, c.push_reserved.ensures.items, with_row-at rows c.args.key e true (e.tickets + 1) there.1, map-append) (Tied-add rows tickets (ticket_of (slot.Held c.args.key c.args.transfer)) c.args.key e next c.self.invariant refl there.1 refl)
 
 pub returns : goal.returns
 returns c =
@@ -31,4 +31,4 @@ returns c =
     let owners = c.add_ticket.ensures.rows e there.1 in
     let is_open : e.is_open ≡ true = c.requires.open (endpoint_of e) (ap (λ (l : LedgerState). slice_get l.endpoints c.args.key) (sym c.self.view_is) ∙ endpoint-at rows c.args.key e there.1) in
     let kept : map endpoint_of (set rows c.args.key next) ≡ map endpoint_of rows = endpoints-kept rows c.args.key e next there.1 (rw is_open refl) in
-    record { slots = rw (← c.self.view_is, owners, c.put.ensures.items, with_row-at rows c.args.key e true (e.tickets + 1) there.1, kept) refl }
+    record { slots = rw (← c.self.view_is, owners, c.push_reserved.ensures.items, with_row-at rows c.args.key e true (e.tickets + 1) there.1, kept) refl }

@@ -1,4 +1,4 @@
-use Rattle.std.proofs.Common.{map, true, sym, refl, ◌∙◌}
+use Rattle.std.proofs.Common.{Some, map, true, sym, refl, ◌∙◌}
 use Rattle.usb_device.specs.declared.owners.Row.{Row}
 use Rattle.usb_device.specs.LedgerState.{ticket_of}
 use Rattle.usb_device.proofs.LedgerLemmas.{Tied-open, is_used-rows, either}
@@ -12,7 +12,7 @@ open_endpoint-requires-clause-unused c =
 pub invariant_of-self : goal.invariant_of-self
 invariant_of-self c =
     let rows = c.self.inside.owners.rows in
-    let e : Row = record { interface = c.args.interface; address = c.args.address; is_open = true; tickets = 0 } in
+    let e : Row = record { interface = Some c.args.interface; address = c.args.address; is_open = true; tickets = 0 } in
     either c.open_endpoint.result _ _ c.open_endpoint.ensures.rows c.open_endpoint.ensures.err
     (λ ok. rw ok (Tied-open rows (map ticket_of c.self.inside.slots.items) e c.self.invariant refl))
     (λ err. rw err c.self.invariant)

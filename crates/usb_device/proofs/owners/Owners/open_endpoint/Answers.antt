@@ -1,4 +1,4 @@
-use Rattle.std.proofs.Common.{◌≡◌, ◌<◌, ◌++◌, ◌∷◌, [], true, ap, length, map, set, get_or, ◌∙◌, arith, refl, length-append}
+use Rattle.std.proofs.Common.{Some, ◌≡◌, ◌<◌, ◌++◌, ◌∷◌, [], true, ap, length, map, set, get_or, ◌∙◌, arith, refl, length-append}
 use Rattle.std.specs.List.{count_by}
 use Rattle.std.proofs.Math.Seq.{map-set_same}
 use Rattle.std.proofs.lemmas.List.{length-map}
@@ -16,7 +16,7 @@ gain-requires c =
     let claims = c.self.inside.claims.items in
     let rows = c.self.inside.rows.items in
     let claim = c.index_mut-claim.result.now in
-    let row : Row = record { interface = c.args.interface; address = c.args.address; is_open = true; tickets = 0 } in
+    let row : Row = record { interface = Some c.args.interface; address = c.args.address; is_open = true; tickets = 0 } in
     let same : rows ≡ c.args.self.now.rows = ap (λ (s : OwnersState). s.rows) c.self.view_is in
     let within : c.args.interface < length claims = omega (arith, ap (λ (s : OwnersState). length s.interfaces) c.self.view_is, length-map claims claim_state, c.requires.key) in
     let pushed : c.push.new.self.items ≡ rows ++ row ∷ [] = rw (c.if-is_err.ensures.negation) at c.push.ensures.items in
@@ -28,19 +28,19 @@ invariant_of-self-2 c =
     let claims = c.self.inside.claims.items in
     let rows = c.self.inside.rows.items in
     let claim = c.index_mut-claim.result.now in
-    let row : Row = record { interface = c.args.interface; address = c.args.address; is_open = true; tickets = 0 } in
+    let row : Row = record { interface = Some c.args.interface; address = c.args.address; is_open = true; tickets = 0 } in
     let same : rows ≡ c.args.self.now.rows = ap (λ (s : OwnersState). s.rows) c.self.view_is in
     let within : c.args.interface < length claims = omega (arith, ap (λ (s : OwnersState). length s.interfaces) c.self.view_is, length-map claims claim_state, c.requires.key) in
     let pushed : c.push.new.self.items ≡ rows ++ row ∷ [] = rw (c.if-is_err.ensures.negation) at c.push.ensures.items in
     let unused : count_by (is_alive_with c.args.interface (bit_of c.args.address)) rows ≡ 0 = rows-unused rows c.args.interface c.args.address c.self.invariant.small (omega (arith, c.ranges.address.fits)) (rw same c.requires.unused) in
-    rw pushed (CountsOf-row claims rows row claim c.gain.new.self c.self.invariant within c.index_mut-claim.ensures.value refl (omega (arith, c.ranges.address.fits)) (ap (λ (x : Claim). x.living) c.gain.ensures.rest) c.gain.ensures.bits unused)
+    rw pushed (CountsOf-row claims rows row c.args.interface refl claim c.gain.new.self c.self.invariant within c.index_mut-claim.ensures.value refl (omega (arith, c.ranges.address.fits)) (ap (λ (x : Claim). x.living) c.gain.ensures.rest) c.gain.ensures.bits unused)
 
 pub returns-clause-rows : goal.returns-clause-rows
 returns-clause-rows c =
     let claims = c.self.inside.claims.items in
     let rows = c.self.inside.rows.items in
     let claim = c.index_mut-claim.result.now in
-    let row : Row = record { interface = c.args.interface; address = c.args.address; is_open = true; tickets = 0 } in
+    let row : Row = record { interface = Some c.args.interface; address = c.args.address; is_open = true; tickets = 0 } in
     let same : rows ≡ c.args.self.now.rows = ap (λ (s : OwnersState). s.rows) c.self.view_is in
     let within : c.args.interface < length claims = omega (arith, ap (λ (s : OwnersState). length s.interfaces) c.self.view_is, length-map claims claim_state, c.requires.key) in
     let pushed : c.push.new.self.items ≡ rows ++ row ∷ [] = rw (c.if-is_err.ensures.negation) at c.push.ensures.items in

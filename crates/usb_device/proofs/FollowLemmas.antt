@@ -1,0 +1,304 @@
+-- What becomes of tickets while nothing is taken and no endpoint is closed.
+use Rattle.std.proofs.Common.{ℕ, zero, suc, arith, ◌≡◌, ◌≢◌, ◌<◌, ◌⊎◌, Bool, true, false, List, [], ◌∷◌, ◌++◌, length, set, slice_get, Option, Some, None, inl, inr, refl, ◌∙◌, ap}
+use Rattle.std.specs.Prelude.{if◌then◌else◌, is_some}
+use Rattle.std.proofs.lemmas.Bool.{cases_eq, cases_Bool, cond_both}
+use Rattle.std.proofs.lemmas.Option.{none-some}
+use Rattle.usb_xfer.specs.BufferState.{BufferState}
+use Rattle.usb_kernel.specs.declared.event.Event.{Event}
+use Rattle.usb_kernel.specs.declared.step.KernelStep.{KernelStep}
+use Rattle.usb_kernel.specs.declared.submission.Done.{Done}
+use Rattle.usb_kernel.specs.declared.submission.Submission.{Submission}
+use Rattle.usb_kernel.specs.Extends.{Extends}
+use Rattle.usb_kernel.specs.Tickets.{tickets}
+use Rattle.usb_kernel.specs.Completions.{completion, lowest, reapable, waiting}
+use Rattle.usb_kernel.specs.Steps.{after_step, after_reap, step_done}
+use Rattle.usb_kernel.specs.Submits.{submit_refusal, submit_or_refuse}
+use Rattle.usb_kernel.proofs.Extends.{extends-same, extends-event, extends-trans}
+use Rattle.usb_kernel.proofs.Places.{slice_get-append_left, slice_get-append_seam, slice_get-set_same, slice_get-set_other}
+use Rattle.usb_bus.specs.declared.route.Route.{Route}
+use Rattle.usb_bus.specs.Routes.{submission_of}
+use Rattle.usb_endpoint.specs.EndpointState.{EndpointState, route_of}
+use Rattle.usb_endpoint.specs.Submits.{is_valid, transfer_by, entered}
+use Rattle.usb_endpoint.specs.Closes.{all_discarded}
+use Rattle.usb_device.specs.declared.ends.TicketEnd.TheVariants.{Taken, Dropped, Reclaimed}
+use Rattle.usb_device.specs.declared.opened.OpenDevice.{OpenDevice}
+use Rattle.usb_device.specs.HostState.{HostState, HostTicket, HostEndpoint, ClaimedInterface, Hold, Held, Abandoned, Ended}
+use Rattle.usb_device.specs.Releases.{settled, owner_gone}
+use Rattle.usb_device.specs.TicketEnds.{host_ended, host_taken, host_abandoned, reclaimed_if, came}
+use Rattle.usb_device.specs.HostTurns.{host_stepped, host_reaped, all_stepped, host_rest}
+use Rattle.usb_device.specs.HostCalls.{host_submitted, host_refused, host_discarded, closed_if, host_left}
+use Rattle.usb_device.specs.HostWaits.{is_found, is_late, reap_and, wait_reaps, wait_steps, host_waited}
+use Rattle.usb_device.specs.HostBlocking.{or_then, waited_by_seconds, host_blocked}
+use Rattle.usb_device.specs.Finishes.{discarded_below, reaped_below, finished}
+use Rattle.usb_device.specs.Handles.{handle_gone, handle_closed}
+use Rattle.usb_device.specs.InterfaceClaims.{claimed_on, host_claimed}
+use Rattle.usb_device.specs.EndpointOpens.{asked_on, host_asked}
+use Rattle.usb_device.proofs.CloseLemmas.{ended-past, ended-others, by_set}
+use Rattle.usb_device.proofs.HostFrames.{uses-stepped, uses-reaped, uses-discarded}
+
+-- a ticket that is held or has its end stays so; one that was given up may be reclaimed
+abbrev pub Follows : Option HostTicket → Option HostTicket → Type 0
+Follows None now = Unit {0}
+Follows (Some (Held hold)) now = now ≡ Some (Held hold)
+Follows (Some (Abandoned key)) now = (now ≡ Some (Abandoned key)) ⊎ (now ≡ Some (Ended Reclaimed))
+Follows (Some (Ended end)) now = now ≡ Some (Ended end)
+
+-- so does each ticket of a host, and the journal goes on
+pub record KeepsTickets (old new : HostState) : Type 0 where
+  pub past : Extends old.kernel.past new.kernel.past
+  pub tickets : (t : ℕ) → Follows (slice_get old.tickets t) (slice_get new.tickets t)
+
+follows-same : (o : Option HostTicket) → Follows o o
+follows-same None = tt
+follows-same (Some (Held hold)) = refl
+follows-same (Some (Abandoned key)) = inl refl
+follows-same (Some (Ended end)) = refl
+
+follows-is : (o now : Option HostTicket) → now ≡ o → Follows o now
+follows-is None now is = tt
+follows-is (Some (Held hold)) now is = is
+follows-is (Some (Abandoned key)) now is = inl is
+follows-is (Some (Ended end)) now is = is
+
+follows-then : (a b c : Option HostTicket) → Follows a b → Follows b c → Follows a c
+follows-then None b c first second = tt
+follows-then (Some (Held hold)) b c first second = rw first at second
+follows-then (Some (Ended end)) b c first second = rw first at second
+follows-then (Some (Abandoned key)) b c first second = elim first [ inl still ↦ rw still at second | inr gone ↦ inr (rw gone at second) ]
+
+pub on-same : (h : HostState) → KeepsTickets h h
+on-same h = record { past = extends-same h.kernel.past; tickets = λ t. follows-same (slice_get h.tickets t) }
+
+pub on-then : (a b c : HostState) → KeepsTickets a b → KeepsTickets b c → KeepsTickets a c
+on-then a b c first second =
+    record {
+      past = extends-trans a.kernel.past b.kernel.past c.kernel.past first.past second.past;
+      tickets = λ t. follows-then (slice_get a.tickets t) (slice_get b.tickets t) (slice_get c.tickets t) (first.tickets t) (second.tickets t);
+    }
+
+-- where journal and tickets are as they were
+pub on-kept : (old new : HostState) → new.kernel.past ≡ old.kernel.past → new.tickets ≡ old.tickets → KeepsTickets old new
+on-kept old new past same =
+    record {
+      past = record { more = []; is = past };
+      tickets = λ t. follows-is (slice_get old.tickets t) (slice_get new.tickets t) (ap (λ (l : List HostTicket). slice_get l t) same);
+    }
+
+-- a completion comes
+within : {X : Type 0} (xs : List X) (t : ℕ) (x : X) → slice_get xs t ≡ Some x → t < length xs
+within [] t x at = absurd (none-some x at)
+within (y ∷ ys) zero x at = omega arith
+within (y ∷ ys) (suc t) x at = let IH = within ys t x at in omega arith
+
+reclaims : (ts : List HostTicket) (u key t : ℕ) → slice_get ts u ≡ Some (Abandoned key) → Follows (slice_get ts t) (slice_get (set ts u (Ended Reclaimed)) t)
+reclaims ts u key t at =
+    elim (cases_eq t u) [
+      | inl same ↦ rw (same, at) (inr (slice_get-set_same ts u (Ended Reclaimed) (within ts u (Abandoned key) at)))
+      | inr apart ↦ follows-is (slice_get ts t) (slice_get (set ts u (Ended Reclaimed)) t) (slice_get-set_other ts u t (Ended Reclaimed) apart)
+    ]
+
+reclaimed-follows : (h : HostState) (u t : ℕ) (o : Option HostTicket) → slice_get h.tickets u ≡ o → Follows (slice_get h.tickets t) (slice_get (reclaimed_if h u o).tickets t)
+unfolding host_ended settled
+reclaimed-follows h u t None at = follows-same (slice_get h.tickets t)
+reclaimed-follows h u t (Some (Held hold)) at = follows-same (slice_get h.tickets t)
+reclaimed-follows h u t (Some (Abandoned key)) at = rw at (reclaims h.tickets u key t at)
+reclaimed-follows h u t (Some (Ended end)) at = follows-same (slice_get h.tickets t)
+
+came-follows : (h : HostState) (o : Option Done) (t : ℕ) → Follows (slice_get h.tickets t) (slice_get (came h o).tickets t)
+unfolding came
+came-follows h None t = follows-same (slice_get h.tickets t)
+came-follows h (Some done) t = reclaimed-follows h done.ticket t (slice_get h.tickets done.ticket) refl
+
+pub on-stepped : (h : HostState) (s : KernelStep) → KeepsTickets h (host_stepped h s)
+unfolding host_stepped
+on-stepped h s =
+    let uses = uses-stepped h s in
+    record { past = uses.later.past; tickets = λ t. came-follows (record h { kernel = after_step h.kernel s }) (step_done h.kernel.past s) t }
+
+pub on-reaped : (h : HostState) (u : ℕ) → KeepsTickets h (host_reaped h u)
+unfolding host_reaped
+on-reaped h u =
+    let uses = uses-reaped h u in
+    record { past = uses.later.past; tickets = λ t. came-follows (record h { kernel = record h.kernel { past = after_reap h.kernel.past u } }) (reapable h.kernel.past u) t }
+
+pub on-discarded : (h : HostState) (u : ℕ) → KeepsTickets h (host_discarded h u)
+unfolding host_discarded
+on-discarded h u =
+    let uses = uses-discarded h u in
+    record { past = uses.later.past; tickets = λ t. follows-same (slice_get h.tickets t) }
+
+on-all_stepped : (h : HostState) (ss : List KernelStep) → KeepsTickets h (all_stepped h ss)
+on-all_stepped h [] = on-same h
+on-all_stepped h (s ∷ ss) = on-then h (host_stepped h s) (all_stepped (host_stepped h s) ss) (on-stepped h s) (on-all_stepped (host_stepped h s) ss)
+
+pub on-rest : (h : HostState) → KeepsTickets h (host_rest h)
+on-rest h = let all = on-all_stepped (record h { steps = [] }) h.steps in record { past = all.past; tickets = all.tickets }
+
+-- waits and blocking transfers
+module _ (t timeout start : ℕ) where
+  on-reap_and : (h : HostState) (o : Option ℕ) (further : HostState → Bool × HostState) → ((g : HostState) → KeepsTickets g (further g).1) → KeepsTickets h (reap_and o h further).1
+  on-reap_and h None further goes = on-same h
+  on-reap_and h (Some u) further goes = on-then h (host_reaped h u) (further (host_reaped h u)).1 (on-reaped h u) (goes (host_reaped h u))
+
+  on-looks : (h : HostState) (next : Bool × HostState) → KeepsTickets h next.1 → KeepsTickets h (if is_found h t then (true, h) else if is_late h timeout start then (false, h) else next).1
+  on-looks h next goes =
+      cond_both (is_found h t) (true, h) (if is_late h timeout start then (false, h) else next) (λ (p : Bool × HostState). KeepsTickets h p.1)
+      (λ yes_. on-same h)
+      (λ no_. cond_both (is_late h timeout start) (false, h) next (λ (p : Bool × HostState). KeepsTickets h p.1) (λ late. on-same h) (λ early. goes))
+
+  on-reaps : (n : ℕ) (h : HostState) → KeepsTickets h (wait_reaps n h t timeout start).1
+  on-reaps zero h = on-same h
+  on-reaps (suc n) h =
+      on-looks h (reap_and (lowest h.kernel.past) h (λ g. wait_reaps n g t timeout start))
+      (on-reap_and h (lowest h.kernel.past) (λ g. wait_reaps n g t timeout start) (λ g. on-reaps n g))
+
+  pub on-steps : (ss : List KernelStep) (h : HostState) → KeepsTickets h (wait_steps ss h t timeout start).1
+  on-steps [] h = on-reaps (length (waiting h.kernel.past)) h
+  on-steps (s ∷ ss) h =
+      let next = host_stepped (record h { steps = ss }) s in
+      let one = on-stepped (record h { steps = ss }) s in
+      on-looks h (wait_steps ss next t timeout start)
+      (on-then h next (wait_steps ss next t timeout start).1 (record { past = one.past; tickets = one.tickets }) (on-steps ss next))
+
+pub on-waited : (h : HostState) (t timeout : ℕ) → KeepsTickets h (host_waited h t timeout).1
+unfolding host_waited
+on-waited h t timeout = on-steps t timeout h.kernel.clock h.steps h
+
+on-or_then : (h : HostState) (p : Bool × HostState) (next : HostState → HostState) → KeepsTickets h p.1 → ((g : HostState) → KeepsTickets g (next g)) → KeepsTickets h (or_then p next)
+on-or_then h p next goes further =
+    cond_both p.0 p.1 (next p.1) (KeepsTickets h) (λ yes_. goes) (λ no_. on-then h p.1 (next p.1) goes (further p.1))
+
+on-by_seconds : (n : ℕ) (h : HostState) (t : ℕ) → KeepsTickets h (waited_by_seconds n h t)
+on-by_seconds zero h t = on-same h
+on-by_seconds (suc n) h t = on-or_then h (host_waited h t 1000000000) (λ g. waited_by_seconds n g t) (on-waited h t 1000000000) (λ g. on-by_seconds n g t)
+
+pub on-blocked : (h : HostState) (t timeout : ℕ) → KeepsTickets h (host_blocked h t timeout)
+unfolding host_blocked
+on-blocked h t timeout =
+    on-or_then h (host_waited h t timeout) (λ g. waited_by_seconds (suc (length g.steps)) (host_discarded g t) t) (on-waited h t timeout)
+    (λ g. on-then g (host_discarded g t) (waited_by_seconds (suc (length g.steps)) (host_discarded g t) t) (on-discarded g t)
+    (on-by_seconds (suc (length g.steps)) (host_discarded g t) t))
+
+pub on-all_discarded : (h : HostState) (ts : List ℕ) → KeepsTickets h (all_discarded host_discarded h ts)
+on-all_discarded h [] = on-same h
+on-all_discarded h (t ∷ ts) =
+    let mid = all_discarded host_discarded h ts in on-then h mid (host_discarded mid t) (on-all_discarded h ts) (on-discarded mid t)
+
+-- the end
+on-discarded_below : (h : HostState) (n : ℕ) → KeepsTickets h (discarded_below h n)
+on-discarded_below h zero = on-same h
+on-discarded_below h (suc n) = on-then h (discarded_below h n) (host_discarded (discarded_below h n) n) (on-discarded_below h n) (on-discarded (discarded_below h n) n)
+
+on-reaped_below : (h : HostState) (n : ℕ) → KeepsTickets h (reaped_below h n)
+on-reaped_below h zero = on-same h
+on-reaped_below h (suc n) = on-then h (reaped_below h n) (host_reaped (reaped_below h n) n) (on-reaped_below h n) (on-reaped (reaped_below h n) n)
+
+pub on-finished : (h : HostState) → KeepsTickets h (finished h)
+unfolding finished
+on-finished h =
+    let n = length (tickets h.kernel.past) in
+    on-then h (discarded_below h n) (reaped_below (discarded_below h n) n) (on-discarded_below h n) (on-reaped_below (discarded_below h n) n)
+
+-- endpoints, devices and interfaces
+closed_if-on : (h : HostState) (k : ℕ) (o : Option HostEndpoint) → KeepsTickets h (closed_if h k o)
+unfolding settled
+closed_if-on h k None = on-same h
+closed_if-on h k (Some e) = on-kept h (closed_if h k (Some e)) refl refl
+
+pub on-left : (h : HostState) (k : ℕ) → KeepsTickets h (host_left h k)
+unfolding host_left
+on-left h k = closed_if-on h k (slice_get h.endpoints k)
+
+handle_gone-on : (h : HostState) (i : ℕ) (o : Option ClaimedInterface) → KeepsTickets h (handle_gone h i o)
+unfolding owner_gone
+handle_gone-on h i None = on-same h
+handle_gone-on h i (Some c) = on-kept h (handle_gone h i (Some c)) refl refl
+
+pub on-handle_closed : (h : HostState) (i : ℕ) → KeepsTickets h (handle_closed h i)
+unfolding handle_closed
+on-handle_closed h i = handle_gone-on h i (slice_get h.interfaces i)
+
+claimed_on-on : (h : HostState) (key number : ℕ) (o : Option OpenDevice) → KeepsTickets h (claimed_on h key number o)
+claimed_on-on h key number None = on-same h
+claimed_on-on h key number (Some o) = on-kept h (claimed_on h key number (Some o)) refl refl
+
+pub on-claimed : (h : HostState) (key number : ℕ) → KeepsTickets h (host_claimed h key number)
+unfolding host_claimed
+on-claimed h key number = claimed_on-on h key number (slice_get h.devices key)
+
+asked_on-on : (h : HostState) (key : ℕ) (o : Option OpenDevice) → KeepsTickets h (asked_on h key o)
+asked_on-on h key None = on-same h
+asked_on-on h key (Some o) = on-kept h (asked_on h key (Some o)) refl refl
+
+pub on-asked : (h : HostState) (key : ℕ) → KeepsTickets h (host_asked h key)
+unfolding host_asked
+on-asked h key = asked_on-on h key (slice_get h.devices key)
+
+-- a submission adds a ticket, which its endpoint holds
+follows-push : (ts : List HostTicket) (x : HostTicket) (t : ℕ) (o : Option HostTicket) → slice_get ts t ≡ o → Follows o (slice_get (ts ++ x ∷ []) t)
+follows-push ts x t None at = tt
+follows-push ts x t (Some y) at = follows-is (Some y) (slice_get (ts ++ x ∷ []) t) (slice_get-append_left ts (x ∷ []) t (within ts t y at) ∙ at)
+
+-- one more ticket, which an endpoint holds
+pub record Adds (old new : HostState) : Type 0 where
+  pub goes : KeepsTickets old new
+  pub hold : Hold
+  pub last : slice_get new.tickets (length old.tickets) ≡ Some (Held hold)
+
+submit_event-on : (past : List Event) (t : ℕ) (s : Submission) (o : Option ℕ) → Extends past (submit_or_refuse t s o ∷ past)
+submit_event-on past t s o = extends-event past (submit_or_refuse t s o)
+
+adds-submitted : (h : HostState) (to : Route) (b : BufferState) → Adds h (host_submitted h to (transfer_by to b))
+unfolding host_submitted
+adds-submitted h to b =
+    record {
+      goes = record {
+        past = submit_event-on h.kernel.past (length (tickets h.kernel.past)) (submission_of to b) (submit_refusal h.kernel.devices h.kernel.armed (submission_of to b).device);
+        tickets = λ t. follows-push h.tickets _ t (slice_get h.tickets t) refl;
+      };
+      hold = _;
+      last = slice_get-append_seam h.tickets _;
+    }
+
+adds-refused : (h : HostState) (to : Route) (b : BufferState) (errno : ℕ) → Adds h (host_refused h to (transfer_by to b) errno)
+unfolding host_refused
+adds-refused h to b errno =
+    record {
+      goes = record {
+        past = submit_event-on h.kernel.past (length (tickets h.kernel.past)) (submission_of to b) (Some errno);
+        tickets = λ t. follows-push h.tickets _ t (slice_get h.tickets t) refl;
+      };
+      hold = _;
+      last = slice_get-append_seam h.tickets _;
+    }
+
+pub adds-entered : (h : HostState) (e : EndpointState) (b : BufferState) → Adds h (entered host_submitted host_refused h e b)
+adds-entered h e b =
+    cond_both (is_valid e b) (host_submitted h (route_of e) (transfer_by (route_of e) b)) (host_refused h (route_of e) (transfer_by (route_of e) b) 22) (Adds h)
+    (λ yes_. adds-submitted h (route_of e) b) (λ no_. adds-refused h (route_of e) b 22)
+
+-- a ticket is taken
+pub taken-past : (h : HostState) (t : ℕ) → (host_taken h t).kernel.past ≡ h.kernel.past
+unfolding host_taken host_ended
+taken-past h t = ended-past h t Taken (slice_get h.tickets t)
+
+pub taken-others : (h : HostState) (t u : ℕ) → u ≢ t → slice_get (host_taken h t).tickets u ≡ slice_get h.tickets u
+unfolding host_taken host_ended
+taken-others h t u apart = ended-others h t u Taken (slice_get h.tickets t) apart
+
+pub taken-here : (h : HostState) (t : ℕ) (hold : Hold) → slice_get h.tickets t ≡ Some (Held hold) → slice_get (host_taken h t).tickets t ≡ Some (Ended Taken)
+unfolding host_taken host_ended settled
+taken-here h t hold at = rw at (by_set h.tickets t (Held hold) (Ended Taken) at)
+
+-- a ticket is given up: it is dropped where it is reaped
+pub data GivenUp (past : List Event) (t : ℕ) (o : Option HostTicket) : Type 0 where
+  dropped : is_some (completion past t) ≡ true → o ≡ Some (Ended Dropped) → GivenUp past t o
+  waits : (key : ℕ) → is_some (completion past t) ≡ false → o ≡ Some (Abandoned key) → GivenUp past t o
+
+pub abandoned-here : (h : HostState) (t : ℕ) (hold : Hold) → slice_get h.tickets t ≡ Some (Held hold) → GivenUp h.kernel.past t (slice_get (host_abandoned h t).tickets t)
+unfolding host_abandoned host_ended settled
+abandoned-here h t hold at =
+    elim (cases_Bool (is_some (completion h.kernel.past t))) [
+      | inl reaped ↦ rw (reaped, at) (dropped reaped (by_set h.tickets t (Held hold) (Ended Dropped) at))
+      | inr open_ ↦ rw (open_, at) (waits hold.key open_ (by_set h.tickets t (Held hold) (Abandoned hold.key) at))
+    ]
