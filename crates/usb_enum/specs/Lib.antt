@@ -1,0 +1,10 @@
+pub mod Announcements
+pub mod Buses
+pub mod Controllers
+pub mod Devices
+pub mod Hotplug
+pub mod Listing
+pub mod Probing
+pub mod Selectors
+pub mod StringDescriptors
+pub mod Udev

@@ -1,0 +1,151 @@
+//! Buses, by their root hubs.
+
+ghost use Rattle.std.specs.Prelude.{◌≡◌, IfOk, codes};
+ghost use Rattle.std.specs.List.{filter_map};
+ghost use Rattle.std.specs.Option.{option_map, option_copied};
+ghost use Rattle.usb_error.specs.Outcomes.{Tried, result_map};
+ghost use Rattle.usb_enum.specs.Buses.{buses, bus_of, driver_of, bus_under};
+
+use crate::controller::UsbControllerType;
+use crate::device::DeviceInfo;
+use crate::enumeration::list_root_hubs;
+use std::alloc::Global;
+use std::marker::Model;
+use std::path::Path;
+use usb_desc::{Fail, NoMemory};
+use usb_error::Error;
+use usb_sysfs::{AttrTree, Text, path_in};
+
+/// A bus: its root hub and its controller.
+#[derive(Debug, Drop)]
+pub struct BusInfo {
+    hub: DeviceInfo,
+    driver: Option<Text>,
+    controller: Option<UsbControllerType>,
+}
+
+impl Model for BusInfo {
+    ghost use Rattle.usb_enum.specs.Buses.{BusFacts};
+
+    ghost Value = { BusFacts };
+
+    ghost view = { λ b. record { hub = b.hub; driver = b.driver; controller = b.controller } };
+}
+
+impl BusInfo {
+    /// The path of the root hub's folder, which is the bus's own.
+    pub fn sysfs_path(&self) -> &str
+        ensures path { result.now ≡ self.now.hub.path }
+    {
+        self.hub.sysfs_path()
+    }
+
+    /// The number of the bus.
+    pub fn busnum(&self) -> u8
+        ensures number { result ≡ self.now.hub.numbers.busnum }
+    {
+        self.hub.busnum()
+    }
+
+    /// The same in three decimal digits.
+    pub fn bus_id(&self) -> &str
+        ensures id { result.now ≡ self.now.hub.bus_id }
+    {
+        self.hub.bus_id()
+    }
+
+    /// The root hub.
+    pub fn root_hub(&self) -> &DeviceInfo
+        ensures hub { result.now ≡ self.now.hub }
+    {
+        &self.hub
+    }
+
+    /// The kind of the controller, where the name of its driver tells it.
+    pub fn controller_type(&self) -> Option<UsbControllerType>
+        ensures controller { result ≡ self.now.controller }
+    {
+        self.controller
+    }
+
+    /// The name of the controller's driver.
+    pub fn driver(&self) -> Option<&str>
+        ensures driver { option_map (λ t. t.now) result ≡ self.now.driver }
+    {
+        self.driver.as_ref().map(|text| text.as_str())
+    }
+
+    /// The product string of the root hub.
+    pub fn system_name(&self) -> Option<&str>
+        ensures name { option_map (λ t. t.now) result ≡ self.now.hub.product }
+    {
+        self.hub.product_string()
+    }
+}
+
+/// The buses, in the order of the listing of their root hubs.
+pub fn list_buses(alloc: Global, tree: &AttrTree) -> Result<Vec<BusInfo>, Fail<Error>>
+    ensures tried { Tried (result_map (λ v. v.items) result) (buses tree.now) }
+{
+    match list_root_hubs(alloc, tree) {
+        Ok(hubs) => {
+            match find_buses(alloc, tree, hubs) {
+                Ok(buses) => Ok(buses),
+                Err(_) => Err(Fail::Memory),
+            }
+        }
+        Err(error) => Err(error),
+    }
+}
+
+/// The buses of these root hubs.
+fn find_buses(
+    alloc: Global,
+    tree: &AttrTree,
+    hubs: Vec<DeviceInfo>,
+) -> Result<Vec<BusInfo>, NoMemory>
+    ensures buses { IfOk result (λ v. v.items ≡ filter_map (bus_of tree.now) hubs.items) }
+{
+    let mut found = Vec::new(alloc);
+    for hub in hubs {
+        if let Some(bus) = bus_of(alloc, tree, hub)? {
+            let Ok(()) = found.push(bus) else {
+                return Err(NoMemory);
+            };
+        }
+    }
+    Ok(found)
+}
+
+/// The bus of a root hub, whose controller is the parent of the hub's folder.
+fn bus_of(alloc: Global, tree: &AttrTree, hub: DeviceInfo) -> Result<Option<BusInfo>, NoMemory>
+    ensures bus { IfOk result (λ b. b ≡ bus_of tree.now hub) }
+{
+    let driver = match Path::new(hub.sysfs_path()).parent() {
+        None => return Ok(None),
+        Some(parent) => driver_of(alloc, tree, parent.as_str())?,
+    };
+    let controller = match &driver {
+        Some(name) => UsbControllerType::from_str(name.as_str()),
+        None => None,
+    };
+    Ok(Some(BusInfo {
+        hub,
+        driver,
+        controller,
+    }))
+}
+
+/// The name of a folder's driver: the file name of the target of its link.
+fn driver_of(alloc: Global, tree: &AttrTree, folder: &str) -> Result<Option<Text>, NoMemory>
+    ensures driver { IfOk result (λ d. d ≡ driver_of tree.now folder.now) }
+{
+    let path = path_in(alloc, folder, "driver")?;
+    let Some(target) = tree.target(path.as_str()) else {
+        return Ok(None);
+    };
+    match Path::new(target.as_str()).file_name() {
+        Some(name) => Ok(Some(Text::from_str(alloc, name)?)),
+        None => Ok(None),
+    }
+}

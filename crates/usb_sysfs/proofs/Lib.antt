@@ -1,0 +1,5 @@
+pub mod HexLemmas
+pub mod MapLemmas
+pub mod NumberLemmas
+pub mod PortLemmas
+mod WorkedReads
