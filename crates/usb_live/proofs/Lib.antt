@@ -4,6 +4,7 @@ pub mod OwnerSteps
 pub mod HandlerSteps
 pub mod StepFacts
 pub mod Queue
+pub mod Turns
 pub mod Reaped
 pub mod Whole
 pub mod Rounds

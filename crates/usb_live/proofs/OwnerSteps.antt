@@ -1,5 +1,5 @@
 -- Each step of the owner keeps the rule.
-use Rattle.std.proofs.Common.{◌≡◌, ℕ, ◌+◌, ◌*◌, ◌/◌, ◌%◌, ◌<◌, ◌⊎◌, List, ◌∷◌, Bool, true, false, ◌||◌, eqb, Option, Some, None, sym, refl, ap, ◌∙◌, subst, inl, inr, ⊎_elim, arith}
+use Rattle.std.proofs.Common.{◌≡◌, ℕ, ◌+◌, ◌*◌, ◌/◌, ◌%◌, ◌<◌, ◌⊎◌, List, ◌∷◌, Bool, true, false, ◌||◌, eqb, get_or, Option, Some, None, sym, refl, ap, ◌∙◌, subst, inl, inr, ⊎_elim, arith}
 use Rattle.std.proofs.lemmas.List.{set-get_or, set-set, get_or-set_same}
 use mathlib.Core.Option.{some, none}
 use prog.Atomic.{either}
@@ -17,13 +17,10 @@ use Rattle.usb_live.specs.declared.view.View.{View}
 use Rattle.usb_live.specs.declared.view.Side.TheVariants.{Owner}
 use Rattle.usb_live.specs.Cells.{Slot, Home, Cell, Agrees, AtHome, Holds, HoldsDone, HoldsLast, OwnerTakes, is_out}
 use Rattle.usb_live.specs.Rows.{Rowed, owner_cell, free_cell}
-use Rattle.usb_live.specs.Steps.{Sat, owning, looked, owner_took_out, filled, refused, published, owner_looked, abandoned, owner_took}
+use Rattle.usb_live.specs.Steps.{Sat, owning, looked, with_own, found_in, slot_completion, completion_in, owner_took_out, filled, refused, published, owner_looked, abandoned, owner_took}
 use Rattle.usb_live.specs.Seats.{IsOwner}
 use Rattle.usb_live.proofs.Kept.{OwnerGoes, owner_step}
 use Rattle.usb_live.proofs.CellFacts.{not_out, with_idle, leaves_home, owner_finds, in_home, handler_has_not}
-
-abbrev stage_of : OwnerCell → Owned
-stage_of c = c.stage
 
 pub takes_out : (n id i : ℕ) (m : Sat) → i < 64 → m.0.side ≡ Owner → (owner_cell m.0 i).out ≡ false → OwnerTakes (owner_cell m.0 i).stage
     → Allows Rowed n id m i (λ y. y) (owner_took_out (step n i 0 0 none) m)
@@ -35,7 +32,7 @@ takes_out n id i m near side at_home takes_it = let o : OwnerCell = owner_cell m
     let idle = with_idle w home o.stage h.stage h.last takes_it c.agrees in
     let here : Agrees w (some x.0) o.stage Idle h.last = subst (λ (s : Handled). Agrees w (some x.0) o.stage s h.last) idle (subst (λ (y : Home). Agrees w y o.stage h.stage h.last) x.1 c.agrees) in
     record {
-      to = owning m.0 i o.stage true;
+      to = owning (with_own m.0 (found_in o.stage x.0 m.0.own)) i o.stage true;
       cell = record { stage = o.stage; out = true };
       act = takes i x.0;
       home_to = none;
@@ -77,7 +74,7 @@ pub refuses : (n id i new t : ℕ) (m : Sat) (x : Transfer) (d : Completion) →
 refuses n id i new t m x d near side takes_it has ticket done is = let o : OwnerCell = owner_cell m.0 i in let u : ℕ = new / 4 in
     owner_step n id i m (λ _. new) (refused (step n i new 0 none) m) near side
     (λ w home h c. record {
-      to = owning m.0 i (Mine u) false;
+      to = owning (with_own m.0 (completion_in m.1)) i (Mine u) false;
       cell = record { stage = Mine u; out = false };
       act = gives;
       home_to = some (Some x);
@@ -255,6 +252,17 @@ put_in i v s x y r m n e f = f ∙ ap (λ (z : Sat). (z.0, (i, y) ∷ rest z.1))
 pub rested : (i : ℕ) (v : View) (s t : Owned) (x : Slot) (r : List (ℕ × Slot)) (m n : Sat) → Has i v s x r m → n ≡ (owning m.0 i t false, rest m.1) → n ≡ (owning v i t false, r)
 rested i v s t x r m n e f =
     f ∙ (ap (λ (z : Sat). (owning z.0 i t false, rest z.1)) e ∙ ap (λ (l : List OwnerCell). (record v { owner = l }, r)) (set-set v.owner i (record { stage = s; out = true }) (record { stage = t; out = false })))
+
+-- the same, where the value is a completion that the owner put in
+pub rested_own : (i : ℕ) (v : View) (s t : Owned) (x : Slot) (r : List (ℕ × Slot)) (m n : Sat) → Has i v s x r m → n ≡ (owning (with_own m.0 (completion_in m.1)) i t false, rest m.1)
+    → n ≡ (owning (with_own v (slot_completion x)) i t false, r)
+rested_own i v s t x r m n e f =
+    f ∙ (ap (λ (z : Sat). (owning (with_own z.0 (completion_in z.1)) i t false, rest z.1)) e
+    ∙ ap (λ (l : List OwnerCell). (record v { owner = l; own = slot_completion x }, r)) (set-set v.owner i (record { stage = s; out = true }) (record { stage = t; out = false })))
+
+-- the value that is carried is the one that was taken out
+pub found : (i : ℕ) (v : View) (s : Owned) (x y : Slot) (r : List (ℕ × Slot)) (m : Sat) → Has i v s x r m → m.1 ≡ (i, y) ∷ rest m.1 → y ≡ x
+found i v s x y r m e f = ap (λ (l : List (ℕ × Slot)). (get_or l 0 (i, y)).1) (sym f ∙ ap (λ (z : Sat). z.1) e)
 
 pub fills_out : (n id i new : ℕ) (m : Sat) (v : View) (r : List (ℕ × Slot)) (s : Owned) (x : Transfer) → Has i v s (Some x) r m → i < 64 → IsOwner v → OwnerTakes s → new ≡ 4 * x.ticket
     → Allows Rowed n id m i (λ _. new) (filled (step n i new 0 none) m)

@@ -8,20 +8,20 @@ use Rattle.usb_live.specs.declared.view.Owned.TheVariants.{Free, Mine, Pending, 
 use Rattle.usb_live.specs.declared.view.OwnerCell.{OwnerCell}
 use Rattle.usb_live.specs.declared.view.View.{View}
 use Rattle.usb_live.specs.declared.entry.Entry.{Entry}
-use Rattle.usb_live.specs.Rows.{owner_cell, free_cell, stage_at}
+use Rattle.usb_live.specs.Rows.{free_cell, stage_at}
 use Rattle.usb_live.specs.Rests.{AllFree}
-use Rattle.usb_live.specs.Steps.{owning, looked}
-use Rattle.usb_live.specs.Live.{stage_of, Off, In, Stands, Queued, IsLeft, Accounted, Orderly, Live}
-use Rattle.usb_live.specs.Calls.{IsTaken, IsShut, is_free, freed, up_to_end}
+use Rattle.usb_live.specs.Seats.{OwnerState, owns, owner_looks, has_own}
+use Rattle.usb_live.specs.Live.{stage_of, placed, emptied, IsDropped, Off, In, Stands, Queued, IsLeft, Accounted, Orderly, Live}
+use Rattle.usb_live.specs.Calls.{IsTaken, is_free, freed, up_to_end}
+use Rattle.usb_xfer.specs.declared.transfer.Completion.{Completion}
+use Rattle.usb_kernel.specs.declared.submission.Submitted.{Submitted}
+use Rattle.usb_kernel.specs.declared.submission.Submitted.TheVariants as submission
+use Rattle.usb_live.specs.Submits.{entry_of}
 use Rattle.usb_live.specs.declared.entry.Receipt.{Receipt}
 use Rattle.usb_live.specs.declared.entry.Tally.{Tally}
 
 pub popped : (q es : List Entry) (o : Option Entry) (e : Entry) → q ≡ option_to_list o ++ es → o ≡ Some (get_or q 0 e) → e ≡ get_or q 0 e → q ≡ e ∷ es
 popped q es o e p r s = p ∙ ap (λ (z : Option Entry). option_to_list z ++ es) (r ∙ ap (λ (x : Entry). Some x) (sym s))
-
-pub front_stands : (cells : List OwnerCell) (q : List Entry) (e : Entry) → 0 < length q → e ≡ get_or q 0 e → Queued cells q → Stands cells e
-front_stands cells [] e h p ok = absurd (omega arith)
-front_stands cells (x ∷ xs) e h p ok = subst (Stands cells) (sym p) ok.0
 
 -- a cell that is in no entry may change
 pub queue_keeps : (cells : List OwnerCell) (q : List Entry) (i : ℕ) (c : OwnerCell) → Off i q → Queued cells q → Queued (set cells i c) q
@@ -57,30 +57,29 @@ pops v w q es e used now ok is cells marks =
           (ok'.accounted j l))));
     }
 
--- the front's cell, once the owner has it
-abbrev pub had : View → Entry → View
-had v e = cond e.refused v (looked (owning v e.cell (Mine e.ticket) false) e.cell (4 * e.ticket))
+-- two changes of one cell
+pub owns_twice : (s : OwnerState) (i : ℕ) (a b : Owned) → owns (owns s i a) i b ≡ owns s i b
+owns_twice s i a b = ap (λ (cs : List OwnerCell). record s { view = record s.view { owner = cs } }) (set-set s.view.owner i (record { stage = a; out = false }) (record { stage = b; out = false }))
 
-pub had_mine : (v : View) (e : Entry) (b : Bool) → e.refused ≡ b → length v.owner ≡ 64 → Stands v.owner e → (owner_cell (cond b v (looked (owning v e.cell (Mine e.ticket) false) e.cell (4 * e.ticket))) e.cell).stage ≡ Mine e.ticket
-had_mine v e true is wide s = s.2 ∙ ap (λ (b : Bool). cond b (Mine e.ticket) (Pending e.ticket)) is
-had_mine v e false is wide s = let near : e.cell < 64 = s.0 in ap (λ (x : OwnerCell). x.stage) (get_or-set_same v.owner e.cell (record { stage = Mine e.ticket; out = false }) free_cell (omega (arith, wide)))
+pub owner_is : (a b : OwnerState) → a.row ≡ b.row → a.view ≡ b.view → a.source ≡ b.source → a.ready ≡ b.ready → a.heard ≡ b.heard → a ≡ b
+owner_is a b p q o r s = λ k. record { row = p k; view = q k; source = o k; ready = r k; heard = s k }
 
-pub cell_freed : (v : View) (e : Entry) (b : Bool) → owning (cond b v (looked (owning v e.cell (Mine e.ticket) false) e.cell (4 * e.ticket))) e.cell Free false
-    ≡ cond b (owning v e.cell Free false) (looked (owning v e.cell Free false) e.cell (4 * e.ticket))
-cell_freed v e true = refl
-cell_freed v e false = ap (λ (cs : List OwnerCell). looked (record v { owner = cs }) e.cell (4 * e.ticket)) (set-set v.owner e.cell (record { stage = Mine e.ticket; out = false }) free_cell)
+pub cell_freed : (s : OwnerState) (e : Entry) (b : Bool) (done : Completion) → has_own (owns (cond b s (owner_looks (owns s e.cell (Mine e.ticket)) e.cell (4 * e.ticket))) e.cell Free) done
+    ≡ has_own (cond b (owns s e.cell Free) (owner_looks (owns s e.cell Free) e.cell (4 * e.ticket))) done
+cell_freed s e true done = refl
+cell_freed s e false done = ap (λ (z : OwnerState). has_own (owner_looks z e.cell (4 * e.ticket)) done) (owns_twice s e.cell (Mine e.ticket) Free)
 
-pub freed_cells : (v : View) (e : Entry) (b : Bool) → (cond b (owning v e.cell Free false) (looked (owning v e.cell Free false) e.cell (4 * e.ticket))).owner ≡ set v.owner e.cell free_cell
-freed_cells v e true = refl
-freed_cells v e false = refl
+pub freed_cells : (s : OwnerState) (e : Entry) (b : Bool) → (cond b (owns s e.cell Free) (owner_looks (owns s e.cell Free) e.cell (4 * e.ticket))).view.owner ≡ set s.view.owner e.cell free_cell
+freed_cells s e true = refl
+freed_cells s e false = refl
 
-pub live_is : (a b : Live) → a.seat ≡ b.seat → a.route ≡ b.route → a.source ≡ b.source → a.queue ≡ b.queue → a.tally ≡ b.tally → a ≡ b
-live_is a b p q r s t = λ k. record { seat = p k; route = q k; source = r k; queue = s k; tally = t k }
+pub live_is : (a b : Live) → a.seat ≡ b.seat → a.route ≡ b.route → a.queue ≡ b.queue → a.tally ≡ b.tally → a ≡ b
+live_is a b p q s t = λ k. record { seat = p k; route = q k; queue = s k; tally = t k }
 
 pub now_taken : (x y : Live) (es : List Entry) (e : Entry) (r : Receipt) → x.queue ≡ e ∷ es → r.ticket ≡ e.ticket → y.queue ≡ es
-    → y.seat ≡ cond e.refused (owning x.seat e.cell Free false) (looked (owning x.seat e.cell Free false) e.cell (4 * e.ticket))
-    → y.route ≡ x.route → y.source ≡ x.source → y.tally ≡ record x.tally { taken = up_to_end (x.tally.taken + 1) } → IsTaken x.queue r x y
-now_taken x y es e r a c d s o u t = subst (λ (z : List Entry). IsTaken z r x y) (sym a) (c, live_is y _ s o u d t)
+    → y.seat ≡ emptied x.seat e r.completion
+    → y.route ≡ x.route → y.tally ≡ record x.tally { taken = up_to_end (x.tally.taken + 1) } → IsTaken x.queue r x y
+now_taken x y es e r a c d s o t = subst (λ (z : List Entry). IsTaken z r x y) (sym a) (c, live_is y _ s o d t)
 
 pub pushed : (q r s : List Entry) (e f : Entry) → r ≡ s ++ f ∷ [] → s ≡ q → f ≡ e → r ≡ q ++ e ∷ []
 pushed q r s e f a b c = a ∙ (ap (λ (l : List Entry). l ++ f ∷ []) b ∙ ap (λ (x : Entry). q ++ x ∷ []) c)
@@ -202,10 +201,6 @@ freed_none (x ∷ xs) = freed_step (is_free x.stage) (freed xs xs) (freed_none x
 freed_more : (b : Bool) (n : ℕ) → b ≡ false → cond (not b && true) 1 0 + n ≡ n + 1
 freed_more b n e = subst (λ (c : Bool). cond (not c && true) 1 0 + n ≡ n + 1) (sym e) (omega arith)
 
-not_freed : (b c : Bool) (n m : ℕ) → c ≡ false → n ≡ m → cond (not b && false) 1 0 + n ≡ cond (not b && c) 1 0 + m
-not_freed true c n m e f = omega arith
-not_freed false c n m e f = subst (λ (d : Bool). cond (not false && false) 1 0 + n ≡ cond (not false && d) 1 0 + m) (sym e) (omega arith)
-
 was_not : (b c : Bool) (n : ℕ) → c ≡ false → cond (not b && c) 1 0 + n ≡ n
 was_not true c n e = omega arith
 was_not false c n e = subst (λ (d : Bool). cond (not false && d) 1 0 + n ≡ n) (sym e) (omega arith)
@@ -237,35 +232,55 @@ pub record Shutting (v0 : View) (d0 d : ℕ) (v : View) (q : List Entry) (used :
   pub dropped : d ≡ min (d0 + freed v0.owner v.owner) 18446744073709551615
 
 pub drops_one : (v0 v w : View) (d0 d k : ℕ) (q es : List Entry) (e : Entry) (used now : List Bool) → length v0.owner ≡ 64 → Shutting v0 d0 d v q used → q ≡ e ∷ es
-    → ((k ≡ 1) × (w ≡ owning v e.cell Free false) × (now ≡ set used e.cell false)) ⊎ ((k ≡ 0) × (w ≡ owning v e.cell (Left e.ticket) false) × (now ≡ used))
+    → ((k ≡ 1) × (w.owner ≡ set v.owner e.cell free_cell) × (now ≡ set used e.cell false)) ⊎ ((k ≡ 0) × (w.owner ≡ set v.owner e.cell (record { stage = Left e.ticket; out = false })) × (now ≡ used))
     → Shutting v0 d0 (min (d + k) 18446744073709551615) w es now
 drops_one v0 v w d0 d k q es e used now wide ok is did =
     let began : Queued v0.owner (e ∷ es) = subst (Queued v0.owner) is ok.began in
     let queued : Queued v.owner (e ∷ es) = subst (Queued v.owner) is ok.orderly.queued in
     let near : e.cell < 64 = queued.0.0 in let was = stands_held v.owner e queued.0 in let first = stands_held v0.owner e began.0 in
     ⊎_elim
-    (λ (p : (k ≡ 1) × (w ≡ owning v e.cell Free false) × (now ≡ set used e.cell false)). record {
-      orderly = pops v w q es e used now ok.orderly is (ap (λ (z : View). z.owner) p.1) p.2;
+    (λ (p : (k ≡ 1) × (w.owner ≡ set v.owner e.cell free_cell) × (now ≡ set used e.cell false)). record {
+      orderly = pops v w q es e used now ok.orderly is p.1 p.2;
       began = began.2;
       dropped = let more = freed_one v0.owner v.owner e.cell (omega (arith, wide)) (omega (arith, ok.orderly.wide)) first was in
-          let all : freed v0.owner w.owner ≡ freed v0.owner v.owner + 1 = ap (λ (z : View). freed v0.owner z.owner) p.1 ∙ more in
+          let all : freed v0.owner w.owner ≡ freed v0.owner v.owner + 1 = ap (freed v0.owner) p.1 ∙ more in
           let x : ℕ = freed v0.owner v.owner in let y : ℕ = freed v0.owner w.owner in let h : d ≡ min (d0 + x) 18446744073709551615 = ok.dropped in let k1 = p.0 in omega arith;
     })
-    (λ (p : (k ≡ 0) × (w ≡ owning v e.cell (Left e.ticket) false) × (now ≡ used)). record {
-      orderly = leaves v w q es e used now e.ticket ok.orderly is (ap (λ (z : View). z.owner) p.1) p.2;
+    (λ (p : (k ≡ 0) × (w.owner ≡ set v.owner e.cell (record { stage = Left e.ticket; out = false })) × (now ≡ used)). record {
+      orderly = leaves v w q es e used now e.ticket ok.orderly is p.1 p.2;
       began = began.2;
-      dropped = let all : freed v0.owner w.owner ≡ freed v0.owner v.owner = ap (λ (z : View). freed v0.owner z.owner) p.1 ∙ freed_not v0.owner v.owner e.cell (record { stage = Left e.ticket; out = false }) refl was in
+      dropped = let all : freed v0.owner w.owner ≡ freed v0.owner v.owner = ap (freed v0.owner) p.1 ∙ freed_not v0.owner v.owner e.cell (record { stage = Left e.ticket; out = false }) refl was in
           let x : ℕ = freed v0.owner v.owner in let y : ℕ = freed v0.owner w.owner in let h : d ≡ min (d0 + x) 18446744073709551615 = ok.dropped in let k0 = p.0 in omega arith;
     })
     did
 
+-- what giving up an entry tells of the cells, of the row and of the source
+abbrev pub GivenUp : OwnerState → OwnerState → ℕ → Entry → List Bool → List Bool → Type 0
+GivenUp s t k e used now =
+    ((k ≡ 1) × IsDropped e s t × (now ≡ set used e.cell false)) ⊎ ((k ≡ 0) × (t ≡ owns s e.cell (Left e.ticket)) × (now ≡ used))
+
+pub given_cells : (s t : OwnerState) (k : ℕ) (e : Entry) (used now : List Bool) → GivenUp s t k e used now
+    → ((k ≡ 1) × (t.view.owner ≡ set s.view.owner e.cell free_cell) × (now ≡ set used e.cell false))
+    ⊎ ((k ≡ 0) × (t.view.owner ≡ set s.view.owner e.cell (record { stage = Left e.ticket; out = false })) × (now ≡ used))
+given_cells s t k e used now did = ⊎_elim
+    (λ (p : (k ≡ 1) × IsDropped e s t × (now ≡ set used e.cell false)). inl (p.0, ap (λ (z : OwnerState). z.view.owner) p.1.1, p.2))
+    (λ (p : (k ≡ 0) × (t ≡ owns s e.cell (Left e.ticket)) × (now ≡ used)). inr (p.0, ap (λ (z : OwnerState). z.view.owner) p.1, p.2)) did
+
+pub same_row : (s t : OwnerState) (k : ℕ) (e : Entry) (used now : List Bool) → GivenUp s t k e used now → t.row ≡ s.row
+same_row s t k e used now did = ⊎_elim
+    (λ (p : (k ≡ 1) × IsDropped e s t × (now ≡ set used e.cell false)). ap (λ (z : OwnerState). z.row) p.1.1)
+    (λ (p : (k ≡ 0) × (t ≡ owns s e.cell (Left e.ticket)) × (now ≡ used)). ap (λ (z : OwnerState). z.row) p.1) did
+
+pub same_source : (s t : OwnerState) (k : ℕ) (e : Entry) (used now : List Bool) → GivenUp s t k e used now → t.source ≡ s.source
+same_source s t k e used now did = ⊎_elim
+    (λ (p : (k ≡ 1) × IsDropped e s t × (now ≡ set used e.cell false)). ap (λ (z : OwnerState). z.source) p.1.1)
+    (λ (p : (k ≡ 0) × (t ≡ owns s e.cell (Left e.ticket)) × (now ≡ used)). ap (λ (z : OwnerState). z.source) p.1) did
+
+-- the cell where a transfer was put
+pub placed_cells : (s : OwnerState) (x : Submitted) (i : ℕ) → (placed s x i).view.owner ≡ set s.view.owner i (record { stage = stage_of (entry_of x i); out = false })
+placed_cells s (submission.Queued t) i = refl
+placed_cells s (submission.Refused done) i = refl
+
 -- a tally with another number of dropped transfers
 pub tally_is : (a b : Tally) → a.submitted ≡ b.submitted → a.taken ≡ b.taken → a.dropped ≡ b.dropped → a.reclaimed ≡ b.reclaimed → a ≡ b
 tally_is a b p q r s = λ k. record { submitted = p k; taken = q k; dropped = r k; reclaimed = s k }
-
--- at the end no entry is left
-pub is_shut : (v : View) (q : List Entry) (used : List Bool) → Orderly v q used → q ≡ [] → IsShut v.owner
-is_shut v q used ok none i near = ⊎_elim
-    (λ (p : (get_or used i true ≡ false) × (stage_at v.owner i ≡ Free)). inl p.1)
-    (λ (p : (get_or used i true ≡ true) × (IsLeft (stage_at v.owner i) ⊎ In i q)). ⊎_elim (λ (x : IsLeft (stage_at v.owner i)). inr x) (λ (x : In i q). absurd (subst (In i) none x)) p.1)
-    (ok.accounted i near)

@@ -42,7 +42,3 @@ reaps k l t done c was kernel is =
       gives = ap (λ (s : KernelState). completion s.past t) kernel ∙ gives k.past t done (sym was);
       is = is;
     }
-
--- and where it answered none
-pub left_alone : (k l : KernelState) (t : ℕ) → reapable k.past t ≡ None → l ≡ record k { past = after_reap k.past t } → l ≡ k
-left_alone k l t none kernel = kernel ∙ ap (λ (o : Option Done). record k { past = cond (is_some o) (Reap t ∷ k.past) k.past }) none

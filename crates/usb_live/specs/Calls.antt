@@ -15,10 +15,10 @@ use Rattle.usb_live.specs.declared.entry.LiveError.TheVariants.{Full, Memory}
 use Rattle.usb_live.specs.declared.entry.Receipt.{Receipt}
 use Rattle.usb_live.specs.declared.entry.Tally.{Tally}
 use Rattle.usb_live.specs.Rows.{stage_at}
-use Rattle.usb_live.specs.Steps.{owning, looked}
+use Rattle.usb_live.specs.Seats.{owner_looks}
 use Rattle.usb_bus.specs.Routes.{submission_of}
 use Rattle.usb_live.specs.Submits.{submitted, after_submitted, entry_of}
-use Rattle.usb_live.specs.Live.{Live, IsLeft, stage_of}
+use Rattle.usb_live.specs.Live.{Live, IsLeft, placed, emptied}
 
 -- a number that stands still at the greatest `u64`
 abbrev pub up_to_end : ℕ → ℕ
@@ -28,10 +28,10 @@ up_to_end n = min n 18446744073709551615
 pub record IsSubmitted (s : Submitted) (t : ℕ) (x y : Live) : Type 0 where
   pub cell : ℕ
   pub below : cell < 64
-  pub free : stage_at x.seat.owner cell ≡ Free
+  pub free : stage_at x.seat.view.owner cell ≡ Free
   pub ticket : t ≡ (entry_of s cell).ticket
   pub after : y ≡ record x {
-    seat = owning x.seat cell (stage_of (entry_of s cell)) false;
+    seat = placed x.seat s cell;
     queue = x.queue ++ entry_of s cell ∷ [];
     tally = record x.tally { submitted = up_to_end (x.tally.submitted + 1) };
   }
@@ -41,21 +41,21 @@ pub record IsSubmitted (s : Submitted) (t : ℕ) (x y : Live) : Type 0 where
 abbrev pub SubmitTells : Result ℕ LiveError → BufferState → Live → KernelState → Live → KernelState → Type 0
 SubmitTells (Ok t) b x k y l =
     IsSubmitted (submitted k (submission_of x.route b)) t x y × (l ≡ after_submitted k (submission_of x.route b))
-SubmitTells (Err (Full c)) b x k y l = (c ≡ b) × (y ≡ x) × (l ≡ k) × ((i : ℕ) → i < 64 → stage_at x.seat.owner i ≢ Free)
-SubmitTells (Err (Memory c)) b x k y l = (c ≡ b) × (y ≡ x) × (l ≡ k) × ((i : ℕ) × (i < 64) × (stage_at x.seat.owner i ≡ Free))
+SubmitTells (Err (Full c)) b x k y l = (c ≡ b) × (y ≡ x) × (l ≡ k) × ((i : ℕ) → i < 64 → stage_at x.seat.view.owner i ≢ Free)
+SubmitTells (Err (Memory c)) b x k y l = (c ≡ b) × (y ≡ x) × (l ≡ k) × ((i : ℕ) × (i < 64) × (stage_at x.seat.view.owner i ≡ Free))
 
 -- no receipt: the last look was at the front's cell and read its word as pending
 abbrev pub StillPending : List Entry → Live → Live → Type 0
 StillPending [] x y = ⊥
-StillPending (e ∷ es) x y = (e.refused ≡ false) × (y ≡ record x { seat = looked x.seat e.cell (4 * e.ticket + 1) })
+StillPending (e ∷ es) x y = (e.refused ≡ false) × (y ≡ record x { seat = owner_looks x.seat e.cell (4 * e.ticket + 1) })
 
--- the front's receipt, and its cell is free. The last look was at that cell and read it as idle, unless the ticket was refused
+-- the front's receipt, with the completion that lay in its cell, which is free
 abbrev pub IsTaken : List Entry → Receipt → Live → Live → Type 0
 IsTaken [] r x y = ⊥
 IsTaken (e ∷ es) r x y =
     (r.ticket ≡ e.ticket)
     × (y ≡ record x {
-      seat = cond e.refused (owning x.seat e.cell Free false) (looked (owning x.seat e.cell Free false) e.cell (4 * e.ticket));
+      seat = emptied x.seat e r.completion;
       queue = es;
       tally = record x.tally { taken = up_to_end (x.tally.taken + 1) };
     })

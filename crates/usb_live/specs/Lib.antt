@@ -1,5 +1,6 @@
 pub mod Cells
 pub mod Rows
+pub mod Runs
 pub mod Steps
 pub mod Seats
 pub mod Rests
@@ -8,4 +9,5 @@ pub mod Rounds
 pub mod Submits
 pub mod Live
 pub mod Calls
+pub mod ErrorText
 pub mod Laws

@@ -1,5 +1,9 @@
 -- What an endpoint is to its caller, and how its queue stands to the cells.
-use Rattle.std.specs.Prelude.{◌≡◌, ◌≢◌, ◌⊎◌, ℕ, ◌^◌, ◌<◌, List, [], ◌∷◌, length, true, false, Bool, cond, slice_index_or}
+use Rattle.std.specs.Prelude.{◌≡◌, ◌≢◌, ◌⊎◌, ℕ, ◌^◌, ◌*◌, ◌<◌, List, [], ◌∷◌, length, true, false, Bool, cond, slice_index_or}
+use Rattle.usb_xfer.specs.declared.transfer.Completion.{Completion}
+use Rattle.usb_kernel.specs.declared.submission.Submitted.{Submitted}
+use Rattle.usb_kernel.specs.declared.submission.Submitted.TheVariants as submission
+use Rattle.usb_bus.specs.Completions.{completion_of}
 use Rattle.usb_live.specs.declared.view.View.{View}
 use Rattle.usb_live.specs.declared.view.Owned.{Owned}
 use Rattle.usb_live.specs.declared.view.Owned.TheVariants.{Free, Mine, Pending, Left}
@@ -8,19 +12,32 @@ use Rattle.usb_live.specs.declared.entry.Entry.{Entry}
 use Rattle.usb_live.specs.declared.entry.Tally.{Tally}
 use Rattle.usb_bus.specs.declared.route.Route.{Route}
 use Rattle.usb_live.specs.Rows.{stage_at}
+use Rattle.usb_live.specs.Seats.{OwnerState, owns, owner_looks, has_own}
 
--- what the owner knows of the cells, where transfers go, the source at which it hears of the handler's moves, the transfers on their
--- way, the oldest first, and how many there were
+-- the owner of the cells, where transfers go, the transfers on their way, the oldest first, and how many there were
 pub record Live : Type 0 where
-  pub seat : View
+  pub seat : OwnerState
   pub route : Route
-  pub source : ℕ
   pub queue : List Entry
   pub tally : Tally
 
 -- a transfer on its way lies in a cell that is pending, or that is the owner's where it was refused
 abbrev pub stage_of : Entry → Owned
 stage_of e = cond e.refused (Mine e.ticket) (Pending e.ticket)
+
+-- the owner once a transfer lies in the free cell i: for the handler to finish, or with its completion where it was refused
+abbrev pub placed : OwnerState → Submitted → ℕ → OwnerState
+placed s (submission.Queued t) i = owns s i (Pending t)
+placed s (submission.Refused done) i = has_own (owns s i (Mine done.ticket)) (completion_of done)
+
+-- the owner once it took this completion out of the cell of an entry, which is free. It looked there and read the word as idle, unless
+-- the ticket was refused
+abbrev pub emptied : OwnerState → Entry → Completion → OwnerState
+emptied s e done = has_own (cond e.refused (owns s e.cell Free) (owner_looks (owns s e.cell Free) e.cell (4 * e.ticket))) done
+
+-- the owner dropped the completion of an entry, whose cell is free
+abbrev pub IsDropped : Entry → OwnerState → OwnerState → Type 0
+IsDropped e s t = (done : Completion) × (t ≡ has_own (owns s e.cell Free) done)
 
 -- an entry stands at its cell
 abbrev pub Stands : List OwnerCell → Entry → Type 0

@@ -56,3 +56,8 @@ AllFree cells = (i : ℕ) → i < 64 → stage_at cells i ≡ Free
 pub record IsUnused (v : View) : Type 0 where
   pub wide : length v.owner ≡ 64
   pub free : AllFree v.owner
+
+-- the owner's seat before an endpoint takes it
+pub record IsUnusedSeat (id : TableId) (s : Seat Slot View) : Type 0 where
+  pub rests : OwnerRests id s
+  pub unused : IsUnused s.me.0

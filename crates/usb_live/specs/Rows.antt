@@ -33,14 +33,14 @@ stage_at cells i = (slice_index_or cells i free_cell).stage
 
 -- the first view, of the seat that is cut in two
 abbrev pub first : View
-first = record { side = Both; owner = []; handler = []; looks = 0; cell = 0; word = 0 }
+first = record { side = Both; owner = []; handler = []; looks = 0; cell = 0; word = 0; own = None }
 
 -- the first view of the owner, and that of the handler
 abbrev pub owner_first : View
-owner_first = record { side = Owner; owner = replicate 64 free_cell; handler = []; looks = 0; cell = 0; word = 0 }
+owner_first = record { side = Owner; owner = replicate 64 free_cell; handler = []; looks = 0; cell = 0; word = 0; own = None }
 
 abbrev pub handler_first : View
-handler_first = record { side = Handler; owner = []; handler = replicate 64 idle_cell; looks = 0; cell = 0; word = 0 }
+handler_first = record { side = Handler; owner = []; handler = replicate 64 idle_cell; looks = 0; cell = 0; word = 0; own = None }
 
 -- a row as its table has it: the words, the slots at home and the views of the seats
 abbrev pub St : Type 0

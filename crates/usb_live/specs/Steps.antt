@@ -30,6 +30,25 @@ handling v i stage out last = record v { handler = slice_set v.handler i (record
 abbrev pub looked : View → ℕ → ℕ → View
 looked v i w = record v { looks = v.looks + 1; cell = i; word = w }
 
+-- the completion in a slot
+abbrev pub slot_completion : Slot → Option Completion
+slot_completion None = None
+slot_completion (Some y) = y.completion
+
+-- the completion in the slot that was taken last
+abbrev pub completion_in : List (ℕ × Slot) → Option Completion
+completion_in [] = None
+completion_in (x ∷ xs) = slot_completion x.1
+
+-- the owner's view with the completion that it last put in or found
+abbrev pub with_own : View → Option Completion → View
+with_own v own = record v { own = own }
+
+-- that completion once the owner took a slot out: the one in the slot, where the transfer there has ended
+abbrev pub found_in : Owned → Slot → Option Completion → Option Completion
+found_in (Mine t) x own = slot_completion x
+found_in _ x own = own
+
 -- what the owner finds in a slot that it takes out
 abbrev pub OwnerFinds : Owned → Slot → Type 0
 OwnerFinds Free x = IsEmpty x
@@ -44,7 +63,8 @@ HandlerFinds _ last x = Unit {0}
 
 -- the owner has the slot out
 abbrev pub owner_took_out : Tells
-owner_took_out st m r n = (x : Slot) × (n ≡ (owning m.0 st.word (owner_cell m.0 st.word).stage true, (st.word, x) ∷ m.1)) × OwnerFinds (owner_cell m.0 st.word).stage x
+owner_took_out st m r n = let stage : Owned = (owner_cell m.0 st.word).stage in
+    (x : Slot) × (n ≡ (owning (with_own m.0 (found_in stage x m.0.own)) st.word stage true, (st.word, x) ∷ m.1)) × OwnerFinds stage x
 
 -- the slot went home with a transfer
 abbrev pub filled : Tells
@@ -52,7 +72,7 @@ filled st m r n = n ≡ (owning m.0 st.word (Filled (st.first / 4)) false, rest 
 
 -- the slot went home with a transfer that ended at once
 abbrev pub refused : Tells
-refused st m r n = n ≡ (owning m.0 st.word (Mine (st.first / 4)) false, rest m.1)
+refused st m r n = n ≡ (owning (with_own m.0 (completion_in m.1)) st.word (Mine (st.first / 4)) false, rest m.1)
 
 -- the filled cell is pending
 abbrev pub published : Tells
@@ -88,16 +108,6 @@ MayFind (Reclaimed t) r = r ≡ 4 * t
 abbrev pub handler_looked : Tells
 handler_looked st m r n = let c = handler_cell m.0 st.word in
     (r % 4 < 3) × MayFind c.stage r × (r % 4 ≡ 0 → n ≡ (looked m.0 st.word r, m.1)) × (r % 4 ≢ 0 → n ≡ (looked (handling m.0 st.word (Working (r / 4)) c.out c.last) st.word r, m.1))
-
--- the completion in a slot
-abbrev pub slot_completion : Slot → Option Completion
-slot_completion None = None
-slot_completion (Some y) = y.completion
-
--- the completion in the slot that was taken last
-abbrev pub completion_in : List (ℕ × Slot) → Option Completion
-completion_in [] = None
-completion_in (x ∷ xs) = slot_completion x.1
 
 -- the slot went home with its completion: the owner still waited for it, or had left it
 abbrev pub finished : Tells

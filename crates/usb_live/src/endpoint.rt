@@ -2,14 +2,13 @@
 ghost use Rattle.std.specs.Prelude.{◌≡◌, ℕ, ◌+◌, ◌*◌, ◌^◌, ◌<◌, true, false, [], List, None, IfOk, IfErr, OnOk, OnErr, MatchOption, MatchBool, length, slice_set, slice_index_or, cond, ◌⊎◌};
 ghost use Rattle.futures.specs.Task.{IsArmed, Hears, Keeps};
 ghost use Rattle.futures.specs.declared.task.Poll.TheVariants.{Ready};
-ghost use Rattle.usb_live.specs.declared.view.View.{View};
 ghost use Rattle.usb_kernel.specs.Submits.{number_of};
 ghost use Rattle.usb_live.specs.declared.view.Owned.TheVariants.{Free, Mine, Left};
-ghost use Rattle.usb_live.specs.Rows.{owner_cell, stage_at};
-ghost use Rattle.usb_live.specs.Steps.{owning, looked};
+ghost use Rattle.usb_live.specs.Rows.{owner_cell};
+ghost use Rattle.usb_live.specs.Seats.{OwnerState, owner_in, owns, owner_looks, has_own, hears};
 ghost use Rattle.usb_bus.specs.Routes.{submission_of};
-ghost use Rattle.usb_live.specs.Submits.{is_whole, submitted, after_submitted, entry_of};
-ghost use Rattle.usb_live.specs.Live.{Stands, stage_of};
+ghost use Rattle.usb_live.specs.Submits.{is_valid, submitted, after_submitted, entry_of};
+ghost use Rattle.usb_live.specs.Live.{Stands, IsDropped, placed};
 
 use crate::entry::{Entry, LiveError, Receipt, Tally};
 use crate::seats::{Owner, OwnerSeat};
@@ -22,14 +21,13 @@ use usb_bus::{Route, completion_from};
 use usb_kernel::{Kernel, Submission, Submitted};
 use usb_xfer::{Buffer, Notify};
 
-/// The errno of an invalid length.
+/// EINVAL, the errno of a submission that no device can serve.
 const INVALID: u16 = 22;
 
 /// A queue of transfers that lie in the cells of a row. `close` ends it: an endpoint is never dropped.
 pub struct LiveEndpoint<'a> {
-    notify: &'a Notify,
+    seat: Owner<'a>,
     to: Route,
-    seat: Owner,
     queue: VecDeque<Entry>,
     used: [bool; 64],
     tally: Tally,
@@ -40,9 +38,14 @@ impl<'a> Model for LiveEndpoint<'a> {
 
     ghost Value = { Live };
 
-    ghost view = { λ e. record { seat = e.seat; route = e.to; source = e.notify.now; queue = e.queue.items; tally = e.tally } };
+    ghost view = { λ e. record {
+      seat = e.seat;
+      route = e.to;
+      queue = e.queue.items;
+      tally = e.tally;
+    } };
 
-    ghost invariant = { λ e. Orderly e.seat e.queue.items e.used };
+    ghost invariant = { λ e. Orderly e.seat.view e.queue.items e.used };
 }
 
 /// What the route hands in for a buffer.
@@ -60,15 +63,15 @@ fn submission(to: Route, buffer: Buffer) -> Submission
     }
 }
 
-/// Whether the length is one that the endpoint may be asked for.
-fn has_whole_length(s: &Submission) -> bool
-    ensures whole { result ≡ is_whole s.now }
+/// Whether an IN endpoint is asked for whole packets, at least one. An OUT endpoint sends any bytes.
+fn is_valid(s: &Submission) -> bool
+    ensures valid { result ≡ is_valid s.now }
 {
     let len = s.buffer.requested_len();
     s.endpoint < 128 || (s.maximum > 0 && len > 0 && len % s.maximum == 0)
 }
 
-/// A submission goes to the kernel, or is refused where its length is invalid. An `Err` is want of memory.
+/// A submission goes to the kernel, or is refused where it is not valid. An `Err` is want of memory.
 fn enter(kernel: &mut Kernel, s: Submission) -> Result<Submitted, Submission>
     requires deadline { s.deadline ≡ None }
     ensures submitted { IfOk result (λ r. r ≡ submitted kernel.old s) }
@@ -77,7 +80,7 @@ fn enter(kernel: &mut Kernel, s: Submission) -> Result<Submitted, Submission>
     ensures err { OnErr result (kernel.new ≡ kernel.old) }
     ensures back { IfErr result (λ back. back ≡ s) }
 {
-    if has_whole_length(&s) {
+    if is_valid(&s) {
         kernel.submit(s)
     } else {
         kernel.refuse(s, INVALID)
@@ -85,11 +88,11 @@ fn enter(kernel: &mut Kernel, s: Submission) -> Result<Submitted, Submission>
 }
 
 /// Puts a submission into a free cell: for the handler to finish, or with its completion where it was refused.
-fn place(seat: &mut Owner, cell: usize, submitted: Submitted) -> Entry
-    requires cell { (cell < 64) × ((owner_cell seat.old cell).stage ≡ Free) }
+fn place(seat: &mut Owner<'_>, cell: usize, submitted: Submitted) -> Entry
+    requires cell { (cell < 64) × ((owner_cell seat.old.view cell).stage ≡ Free) }
     requires number { number_of submitted < 2 ^ 62 }
     ensures entry { result ≡ entry_of submitted cell }
-    ensures seat { seat.new ≡ owning seat.old cell (stage_of (entry_of submitted cell)) false }
+    ensures seat { seat.new ≡ placed seat.old submitted cell }
 {
     match submitted {
         Submitted::Queued(ticket) => {
@@ -113,11 +116,12 @@ fn place(seat: &mut Owner, cell: usize, submitted: Submitted) -> Entry
 }
 
 /// Whether the handler is done with an entry. A refused one was never its own.
-fn is_done(seat: &mut Owner, e: Entry) -> bool
-    requires stands { Stands seat.old.owner e }
+fn is_done(seat: &mut Owner<'_>, e: Entry) -> bool
+    requires stands { Stands seat.old.view.owner e }
     ensures looked { MatchBool result
-        (seat.new ≡ cond e.refused seat.old (looked (owning seat.old e.cell (Mine e.ticket) false) e.cell (4 * e.ticket)))
-        ((e.refused ≡ false) × (seat.new ≡ looked seat.old e.cell (4 * e.ticket + 1))) }
+        (seat.new ≡ cond e.refused seat.old
+        (owner_looks (owns seat.old e.cell (Mine e.ticket)) e.cell (4 * e.ticket)))
+        ((e.refused ≡ false) × (seat.new ≡ owner_looks seat.old e.cell (4 * e.ticket + 1))) }
 {
     if e.refused {
         return true;
@@ -126,11 +130,11 @@ fn is_done(seat: &mut Owner, e: Entry) -> bool
 }
 
 /// Takes the completion of the front entry, whose cell the owner has.
-fn take_front(seat: &mut Owner, used: &mut [bool; 64], e: Entry) -> Receipt
-    requires cell { (e.cell < 64) × ((owner_cell seat.old e.cell).stage ≡ Mine e.ticket) }
+fn take_front(seat: &mut Owner<'_>, used: &mut [bool; 64], e: Entry) -> Receipt
+    requires cell { (e.cell < 64) × ((owner_cell seat.old.view e.cell).stage ≡ Mine e.ticket) }
     requires used { length used.old ≡ 64 }
     ensures ticket { result.ticket ≡ e.ticket }
-    ensures seat { seat.new ≡ owning seat.old e.cell Free false }
+    ensures seat { seat.new ≡ has_own (owns seat.old e.cell Free) result.completion }
     ensures used { used.new ≡ slice_set used.old e.cell false }
 {
     let completion = seat.take(e.cell, e.ticket);
@@ -157,11 +161,13 @@ fn free_cell(used: &[bool; 64]) -> Option<usize>
 }
 
 /// Leaves an entry to the handler, or drops it where the handler is done with it. Says how many were dropped.
-fn give_up(seat: &mut Owner, used: &mut [bool; 64], e: Entry) -> u64
-    requires cell { Stands seat.old.owner e }
-    requires used { (length used.old ≡ 64) × (length seat.old.owner ≡ 64) }
-    ensures given_up { ((result ≡ 1) × (seat.new ≡ owning seat.old e.cell Free false) × (used.new ≡ slice_set used.old e.cell false))
-        ⊎ ((result ≡ 0) × (seat.new ≡ owning seat.old e.cell (Left e.ticket) false) × (used.new ≡ used.old)) }
+fn give_up(seat: &mut Owner<'_>, used: &mut [bool; 64], e: Entry) -> u64
+    requires cell { Stands seat.old.view.owner e }
+    requires used { (length used.old ≡ 64) × (length seat.old.view.owner ≡ 64) }
+    ensures given_up { ((result ≡ 1) × IsDropped e seat.old seat.new
+        × (used.new ≡ slice_set used.old e.cell false))
+        ⊎ ((result ≡ 0) × (seat.new ≡ owns seat.old e.cell (Left e.ticket))
+        × (used.new ≡ used.old)) }
 {
     if e.refused {
         drop(take_front(seat, used, e));
@@ -187,14 +193,18 @@ impl<'a> LiveEndpoint<'a> {
         notify: &'a Notify,
         tally: Tally,
     ) -> Result<LiveEndpoint<'a>, (OwnerSeat, Tally)>
-        ensures fresh { IfOk result (λ e. e ≡ record { seat = owner; route = to; source = notify.now; queue = []; tally = tally }) }
+        ensures fresh { IfOk result (λ e. e ≡ record {
+          seat = owner_in owner notify.now;
+          route = to;
+          queue = [];
+          tally = tally;
+        }) }
         ensures back { IfErr result (λ back. back ≡ (owner, tally)) }
     {
         match VecDeque::with_capacity(alloc, 64) {
             Ok(queue) => Ok(LiveEndpoint {
-                notify,
+                seat: owner.into_owner(notify),
                 to,
-                seat: owner.into_owner(),
                 queue,
                 used: [false; 64],
                 tally,
@@ -252,26 +262,30 @@ impl<'a> LiveEndpoint<'a> {
     /// Registers the task to be polled again at the handler's next move, and then does as `try_next_complete`.
     pub fn poll_next_complete(&mut self, rt: &impl Wait, cx: &mut Context<'_>) -> Poll<Receipt>
         requires pending { 0 < length self.old.queue }
-        ensures told { NextTells result self.old self.new }
+        ensures told { NextTells result (record self.old { seat = hears self.old.seat }) self.new }
         ensures armed { IsArmed cx.new }
-        ensures heard { Hears cx.new self.old.source }
+        ensures heard { Hears cx.new self.old.seat.source }
         ensures kept { Keeps cx.old cx.new }
     {
-        self.notify.subscribe(rt, cx);
+        self.seat.subscribe(rt, cx);
         self.try_next_complete()
     }
 
     /// Waits until the handler is done with the oldest transfer. Some transfer has to be on its way.
     pub fn wait_next_complete(&mut self, rt: &impl Wait) -> Receipt
         requires pending { 0 < length self.old.queue }
-        ensures told { (v : View) × (v.owner ≡ self.old.seat.owner) × NextTells (Ready result) (record self.old { seat = v }) self.new }
+        ensures told { (s : OwnerState)
+            × (s.row ≡ self.old.seat.row) × (s.source ≡ self.old.seat.source)
+            × (s.view.owner ≡ self.old.seat.view.owner)
+            × NextTells (Ready result) (record self.old { seat = s }) self.new }
     {
+        let notify = self.seat.notify();
         'rounds: for _ in rt.forever() {
-            let seen = self.notify.moves(rt);
+            let seen = notify.moves(rt);
             if let Poll::Ready(receipt) = self.try_next_complete() {
                 return receipt;
             }
-            self.notify.wait_past(rt, seen);
+            notify.wait_past(rt, seen);
         }
         unreachable!()
     }
@@ -290,11 +304,13 @@ impl<'a> LiveEndpoint<'a> {
     /// Discards what is on its way, leaves what is pending to the handler, and drops what the handler is done with.
     pub fn shut(&mut self, kernel: &mut Kernel)
         ensures kernel { kernel.new ≡ cancelled self.old.queue kernel.old }
-        ensures cells { IsShut self.new.seat.owner }
+        ensures cells { IsShut self.new.seat.view.owner }
+        ensures row { self.new.seat.row ≡ self.old.seat.row }
+        ensures source { self.new.seat.source ≡ self.old.seat.source }
         ensures rest { self.new ≡ record self.old {
           seat = self.new.seat;
           queue = [];
-          tally = with_dropped self.old.tally self.old.seat.owner self.new.seat.owner;
+          tally = with_dropped self.old.tally self.old.seat.view.owner self.new.seat.view.owner;
         } }
     {
         self.cancel_all(kernel);
@@ -308,13 +324,13 @@ impl<'a> LiveEndpoint<'a> {
     /// Shuts, gives the seat up, and answers the numbers.
     pub fn close(mut self, kernel: &mut Kernel) -> Tally
         ensures kernel { kernel.new ≡ cancelled self.entry.queue kernel.old }
-        ensures tally { (cells : List OwnerCell) × IsShut cells × (result ≡ with_dropped self.entry.tally self.entry.seat.owner cells) }
+        ensures tally { (cells : List OwnerCell) × IsShut cells
+            × (result ≡ with_dropped self.entry.tally self.entry.seat.view.owner cells) }
     {
         self.shut(kernel);
         let LiveEndpoint {
-            notify: _,
-            to: _,
             seat: _,
+            to: _,
             queue: _,
             used: _,
             tally,

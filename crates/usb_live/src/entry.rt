@@ -55,10 +55,15 @@ pub enum LiveError {
 }
 
 impl fmt::Display for LiveError {
+    ghost use Rattle.std.specs.Prelude.{Some};
+    ghost use Rattle.usb_live.specs.ErrorText.{error_text};
+
+    ghost output = { λ e. Some (error_text e) };
+
     fn fmt<W: fmt::Write>(&self, f: &mut fmt::Formatter<W>) -> fmt::Result {
         match self {
-            LiveError::Full(_) => f.write_str("all 64 cells are occupied"),
-            LiveError::Memory(_) => f.write_str("out of memory"),
+            LiveError::Full(_) => write!(f, "all 64 cells are occupied"),
+            LiveError::Memory(_) => write!(f, "out of memory"),
         }
     }
 }

@@ -47,10 +47,12 @@ impl HandlerSeat {
 
     /// One step on each cell, from the first to the last.
     pub fn round(&mut self, kernel: &mut Kernel) -> Round
-        ensures each { StepsOn 64 self.old kernel.old self.new kernel.new result }
+        ensures row { self.new.row ≡ self.old.row }
+        ensures each { StepsOn 64 self.old.view kernel.old self.new.view kernel.new result }
         ensures steps { steps_of result ≡ 64 }
-        ensures looks { self.new.looks ≡ self.old.looks + 64 }
-        ensures count { reclaimed_in self.new.handler ≡ reclaimed_in self.old.handler + result.reclaimed }
+        ensures looks { self.new.view.looks ≡ self.old.view.looks + 64 }
+        ensures count { reclaimed_in self.new.view.handler
+            ≡ reclaimed_in self.old.view.handler + result.reclaimed }
         ensures kernel { AppendsReaps (result.finished + result.reclaimed) kernel.old kernel.new }
     {
         let mut round = Round::new();

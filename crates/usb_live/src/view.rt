@@ -54,8 +54,8 @@ pub enum Side {
     Handler,
 }
 
-/// What a seat knows: its cells, how often it looked, and the cell and the word of its last look.
-/// A contract reads an array as a list, of any length.
+/// What a seat knows: its cells, how often it looked, the cell and the word of its last look, and the completion that the owner
+/// last put in or found. A contract reads an array as a list, of any length.
 pub struct View {
     pub side: Side,
     pub owner: [OwnerCell; 0],
@@ -63,4 +63,5 @@ pub struct View {
     pub looks: u64,
     pub cell: u64,
     pub word: u64,
+    pub own: Option<Completion>,
 }

@@ -4,5 +4,7 @@ use Rattle.usb_live.proofs.endpoint.LiveEndpoint.wait_next_complete.Given as goa
 abbrev pub invariant-rounds : goal.invariant-rounds
 invariant-rounds g l = record {
   rest : l.self ≡ record l.initial.self { seat = l.self.seat };
-  owner : l.self.seat.owner ≡ l.initial.self.seat.owner;
+  row : l.self.seat.row ≡ l.initial.self.seat.row;
+  source : l.self.seat.source ≡ l.initial.self.seat.source;
+  owner : l.self.seat.view.owner ≡ l.initial.self.seat.view.owner;
 }

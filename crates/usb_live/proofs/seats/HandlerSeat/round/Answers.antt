@@ -15,6 +15,7 @@ added n m k r s d so_far more is = omega arith
 
 pub loop-cell-init : goal.loop-cell-init
 loop-cell-init c = let none = c.new-round.ensures.none in record {
+  row = refl;
   each = no_step_yet _ _ _ none;
   steps = ap steps_of none;
   looks = plus_none _ 0 refl;
@@ -24,6 +25,7 @@ loop-cell-init c = let none = c.new-round.ensures.none in record {
 
 pub loop-cell-preserved : goal.loop-cell-preserved
 loop-cell-preserved c = let so_far = c.loop-cell.invariant in let step = c.step-step.ensures in let counted = c.count.ensures.counted in record {
+  row = step.row ∙ so_far.row;
   each = steps_on _ _ _ _ _ _ _ _ _ _ so_far.each step.answer counted;
   steps = one_step_more _ _ _ counted ∙ ap (λ (n : ℕ). n + 1) so_far.steps;
   looks = one_on _ _ _ _ so_far.looks step.look.0;

@@ -1,0 +1,251 @@
+//! A run on two threads: the event loop, and a caller that submits and takes transfers.
+ghost use Rattle.std.specs.Prelude.{◌≡◌, ◌+◌, ◌<◌, true, None, IfOk, OnOk, MatchOption, IsSome, length};
+ghost use Rattle.usb_live.specs.Rows.{owner_first};
+ghost use Rattle.usb_live.specs.Runs.{IsIdle, HasOne, OnlyLooked, TakesAfterLooks};
+
+use crate::endpoint::LiveEndpoint;
+use crate::entry::{LiveError, Receipt, Tally};
+use crate::gates::{Gate, Seen, StopGate};
+use crate::locked::LiveKernel;
+use crate::looping::event_loop;
+use crate::row::Row;
+use crate::seats::{HandlerSeat, OwnerSeat};
+use futures::task::Poll;
+use std::alloc::Global;
+use std::sync::Wait;
+use std::thread::{Threads, join, yield_now};
+use usb_bus::Route;
+use usb_desc::{NoMemory, TransferType};
+use usb_kernel::{Bytes, Kernel, KernelStep, SimDevice};
+use usb_xfer::{Buffer, Notify};
+
+/// The descriptors of the device: one configuration with one interface, a bulk IN endpoint 0x81 and a bulk OUT endpoint 0x02.
+const DESCRIPTORS: [u8; 50] = [
+    0x12, 0x01, 0x00, 0x02, 0x00, 0x00, 0x00, 0x40, 0xaa, 0xaa, 0xbb, 0xbb, 0x00, 0x01, 0x00, 0x00,
+    0x00, 0x01, 0x09, 0x02, 0x20, 0x00, 0x01, 0x01, 0x00, 0x80, 0x32, 0x09, 0x04, 0x00, 0x00, 0x02,
+    0xff, 0x00, 0x00, 0x00, 0x07, 0x05, 0x81, 0x02, 0x40, 0x00, 0x00, 0x07, 0x05, 0x02, 0x02, 0x40,
+    0x00, 0x00,
+];
+
+/// What a run gives: the numbers of its tallies, the receipts in the order in which they were taken, and the kernel that was locked.
+#[derive(Drop)]
+pub struct LiveRun {
+    pub submitted: u64,
+    pub taken: u64,
+    pub dropped: u64,
+    pub reclaimed: u64,
+    pub receipts: Vec<Receipt>,
+    pub kernel: Kernel,
+}
+
+/// A kernel with the device.
+fn one_device(alloc: Global) -> Result<Kernel, NoMemory> {
+    let device = SimDevice {
+        bus: 1,
+        address: 6,
+        speed: 3,
+        config: 1,
+        bytes: Bytes::from_slice(alloc, &DESCRIPTORS)?,
+        drivers: Bytes::from_vec(Vec::new(alloc)),
+    };
+    let mut devices = Vec::new(alloc);
+    if devices.push((0, device)).is_err() {
+        return Err(NoMemory);
+    }
+    Kernel::new(alloc, devices)
+}
+
+/// The device's bulk IN endpoint.
+fn route() -> Route {
+    Route {
+        device: 0,
+        endpoint: 0x81,
+        kind: TransferType::Bulk,
+        maximum: 64,
+        key: 0,
+    }
+}
+
+/// Submits a transfer, and applies the packet that ends it.
+fn feed(
+    alloc: Global,
+    kernel: &mut Kernel,
+    endpoint: &mut LiveEndpoint<'_>,
+    byte: u8,
+) -> Result<(), NoMemory>
+    requires idle { IsIdle endpoint.old }
+    ensures one { OnOk result (HasOne endpoint.old endpoint.new) }
+{
+    let buffer = Buffer::new(alloc, 64)?;
+    let bytes = Bytes::from_slice(alloc, &[byte])?;
+    kernel.reserve(1)?;
+    match endpoint.submit(kernel, buffer) {
+        Ok(_) => {}
+        Err(LiveError::Full(_)) => unreachable!(),
+        Err(LiveError::Memory(_)) => return Err(NoMemory),
+    }
+    let _ = kernel.step(KernelStep::Packet {
+        device: 0,
+        endpoint: 0x81,
+        bytes,
+    });
+    Ok(())
+}
+
+/// The receipt of the transfer on its way. Sets the flag where it is not there at once. With patience it polls at most so often, the
+/// first poll included, which is always made, and gives `None` where no receipt came. Without, it waits.
+fn next_receipt<R: Wait>(
+    rt: &R,
+    endpoint: &mut LiveEndpoint<'_>,
+    seen: &Seen,
+    patience: Option<u32>,
+) -> Option<Receipt>
+    requires pending { 0 < length endpoint.old.queue }
+    ensures told { MatchOption result
+        (OnlyLooked endpoint.old endpoint.new)
+        (λ r. TakesAfterLooks endpoint.old r endpoint.new) }
+    ensures patient { patience ≡ None → IsSome result }
+{
+    if let Poll::Ready(receipt) = endpoint.try_next_complete() {
+        return Some(receipt);
+    }
+    seen.set();
+    let Some(polls) = patience else {
+        return Some(endpoint.wait_next_complete(rt));
+    };
+    'polls: for _ in 1..polls {
+        yield_now();
+        if let Poll::Ready(receipt) = endpoint.try_next_complete() {
+            return Some(receipt);
+        }
+    }
+    None
+}
+
+/// Submits and takes up to n transfers, one at a time, and stops where patience runs out.
+fn transfers<R: Wait>(
+    rt: &R,
+    alloc: Global,
+    n: u32,
+    kernel: &LiveKernel,
+    endpoint: &mut LiveEndpoint<'_>,
+    seen: &Seen,
+    patience: Option<u32>,
+) -> Result<Vec<Receipt>, NoMemory>
+    requires idle { IsIdle endpoint.old }
+    requires fresh { (endpoint.old.tally.submitted ≡ 0) × (endpoint.old.tally.taken ≡ 0) }
+    ensures receipts { IfOk result (λ receipts. length receipts.items ≡ endpoint.new.tally.taken) }
+    ensures patient { OnOk result (patience ≡ None
+        → (endpoint.new.tally.submitted ≡ n) × (endpoint.new.tally.taken ≡ n)) }
+{
+    let mut receipts = Vec::new(alloc);
+    'transfers: for j in 0..n {
+        if receipts.reserve(1).is_err() {
+            return Err(NoMemory);
+        }
+        feed(alloc, &mut *kernel.lock(rt), endpoint, (j % 256) as u8)?;
+        let Some(receipt) = next_receipt(rt, endpoint, seen, patience) else {
+            return Ok(receipts);
+        };
+        receipts.push_reserved(receipt);
+    }
+    Ok(receipts)
+}
+
+/// The caller's part: submits and takes transfers, and closes the endpoint.
+fn call<R: Wait>(
+    rt: &R,
+    alloc: Global,
+    n: u32,
+    kernel: &LiveKernel,
+    notify: &Notify,
+    owner: OwnerSeat,
+    seen: &Seen,
+    patience: Option<u32>,
+) -> Result<(Tally, Vec<Receipt>), NoMemory>
+    requires first { owner.view ≡ owner_first }
+    ensures receipts { IfOk result (λ r. length r.1.items ≡ r.0.taken) }
+    ensures patient { IfOk result (λ r. patience ≡ None → (r.0.submitted ≡ n) × (r.0.taken ≡ n)) }
+{
+    let Ok(mut endpoint) = LiveEndpoint::new(alloc, owner, route(), notify, Tally::new()) else {
+        return Err(NoMemory);
+    };
+    let called = transfers(rt, alloc, n, kernel, &mut endpoint, seen, patience);
+    let tally = endpoint.close(&mut *kernel.lock(rt));
+    match called {
+        Ok(receipts) => Ok((tally, receipts)),
+        Err(e) => Err(e),
+    }
+}
+
+/// Whether each transfer was taken, dropped or reclaimed.
+fn is_settled(tally: Tally, reclaimed: u64) -> bool
+    ensures settled { result ≡ true → tally.submitted ≡ tally.taken + tally.dropped + reclaimed }
+{
+    let Some(ended) = tally.taken.checked_add(tally.dropped) else {
+        return false;
+    };
+    ended.checked_add(reclaimed) == Some(tally.submitted)
+}
+
+/// Makes rounds until each transfer was taken, dropped or reclaimed. Says how many were reclaimed, with those before.
+fn settle<R: Wait>(
+    rt: &R,
+    kernel: &LiveKernel,
+    mut handler: HandlerSeat,
+    tally: Tally,
+    mut reclaimed: u64,
+) -> u64
+    ensures settled { tally.submitted ≡ tally.taken + tally.dropped + result }
+{
+    'rounds: for _ in rt.forever() {
+        if is_settled(tally, reclaimed) {
+            return reclaimed;
+        }
+        let round = handler.round(&mut *kernel.lock(rt));
+        reclaimed = reclaimed.saturating_add(round.reclaimed);
+    }
+    unreachable!()
+}
+
+/// Runs n IN transfers of one packet each, with the event loop on one thread and their caller on another. The loop ends where the gate
+/// closes, or where the caller is done. Without patience the caller waits for each receipt, and with it gives up after so many polls.
+pub fn live_run<R: Threads + Wait + Sync, G: Gate + Send>(
+    rt: &R,
+    alloc: Global,
+    n: u32,
+    gate: G,
+    seen: &Seen,
+    patience: Option<u32>,
+) -> Result<LiveRun, NoMemory>
+    ensures each { IfOk result (λ run. run.submitted ≡ run.taken + run.dropped + run.reclaimed) }
+    ensures receipts { IfOk result (λ run. length run.receipts.items ≡ run.taken) }
+    ensures patient { IfOk result (λ run. patience ≡ None → (run.submitted ≡ n) × (run.taken ≡ n)) }
+{
+    let kernel = LiveKernel::new(one_device(alloc)?)?;
+    let (owner, handler) = Row::new(alloc)?;
+    let notify = Notify::new();
+    let stop = Seen::new();
+    let ((handler, looped), called) = join(
+        rt,
+        || {
+            let mut gate = StopGate::new(&stop, gate);
+            event_loop(rt, &kernel, handler, &notify, &mut gate, Tally::new())
+        },
+        || {
+            let called = call(rt, alloc, n, &kernel, &notify, owner, seen, patience);
+            stop.set();
+            called
+        },
+    );
+    let (tally, receipts) = called?;
+    let reclaimed = settle(rt, &kernel, handler, tally, looped.reclaimed);
+    Ok(LiveRun {
+        submitted: tally.submitted,
+        taken: tally.taken,
+        dropped: tally.dropped,
+        reclaimed,
+        receipts,
+        kernel: kernel.into_kernel(),
+    })
+}
