@@ -14,7 +14,7 @@ lines_of_at (b ∷ bytes) (suc i) within here before =
     rw (other, rest) refl
 
 -- a script with no LF
-pub lines_of_last : (b : ℕ) (bytes : List ℕ) → ((k : ℕ) → k < length (b ∷ bytes) → get_or (b ∷ bytes) k 0 ≡ 10 → ⊥) → lines_of (b ∷ bytes) ≡ (b ∷ bytes) ∷ []
+lines_of_last : (b : ℕ) (bytes : List ℕ) → ((k : ℕ) → k < length (b ∷ bytes) → get_or (b ∷ bytes) k 0 ≡ 10 → ⊥) → lines_of (b ∷ bytes) ≡ (b ∷ bytes) ∷ []
 lines_of_last b [] before =
     let other : eqb b 10 ≡ false = ne_eqb b 10 (before 0 (omega arith)) in rw other refl
 lines_of_last b (c ∷ bytes) before =

@@ -1,10 +1,8 @@
 -- The first word of a line.
-use Rattle.std.proofs.Common.{◌≡◌, ℕ, ◌^◌, ◌<◌, ◌≤◌, suc, zero, List, [], ◌∷◌, length, get_or, take, drop, eqb, false, refl, ap, ◌∙◌, sym, arith, filter, Some}
+use Rattle.std.proofs.Common.{◌≡◌, ℕ, ◌<◌, ◌≤◌, suc, zero, List, [], ◌∷◌, length, get_or, take, drop, eqb, false, refl, ap, ◌∙◌, sym, arith, filter}
 use Rattle.std.proofs.lemmas.Bool.{ne_eqb}
-use Rattle.std.proofs.Math.Nat.{pow-le-pow_right}
 use Rattle.std.specs.List.{slice_split}
 use Rattle.usb_script.specs.Lines.{words_of, is_space, is_word}
-use Rattle.usb_script.specs.Words.{word_at}
 
 -- what is left behind the first n bytes, which hold no space
 record Front (line : List ℕ) (n : ℕ) : Type 0 where
@@ -23,19 +21,15 @@ front_of (b ∷ bytes) (suc n) within before end =
     let rest : Front bytes n = front_of bytes n (omega arith) (λ k h. before (suc k) (omega arith)) (λ h. end (omega arith)) in
     record { parts = rest.parts; split = rw (letter, rest.split) refl; words = rest.words }
 
-pub words_of_at : (line : List ℕ) (n : ℕ) → 0 < n → n ≤ length line → ((k : ℕ) → k < n → get_or line k 0 ≡ 32 → ⊥) → (n < length line → get_or line n 0 ≡ 32) → words_of line ≡ take n line ∷ words_of (drop n line)
+words_of_at : (line : List ℕ) (n : ℕ) → 0 < n → n ≤ length line → ((k : ℕ) → k < n → get_or line k 0 ≡ 32 → ⊥) → (n < length line → get_or line n 0 ≡ 32) → words_of line ≡ take n line ∷ words_of (drop n line)
 words_of_at [] n some within before end = absurd (omega arith)
 words_of_at (b ∷ bytes) zero some within before end = absurd (omega arith)
 words_of_at (b ∷ bytes) (suc n) some within before end =
     let front : Front (b ∷ bytes) (suc n) = front_of (b ∷ bytes) (suc n) within before end in
     ap (filter is_word) front.split ∙ ap (λ (w : List (List ℕ)). (b ∷ take n bytes) ∷ w) front.words
 
--- the same, in the words of `next_word`
-pub word_at_front : (line rest : List ℕ) (n : ℕ) → words_of rest ≡ words_of line → 0 < length rest → (0 < length rest → get_or rest 0 0 ≡ 32 → ⊥) → n ≤ length rest → ((k : ℕ) → k < n → get_or rest k 0 ≡ 32 → ⊥) → (n < length rest → get_or rest n 0 ≡ 32) → word_at (words_of line) ≡ Some (take n rest, words_of (drop n rest))
-word_at_front line rest zero same some first within before end = absurd (first some (end some))
-word_at_front line rest (suc n) same some first within before end =
-    ap word_at (sym same ∙ words_of_at rest (suc n) (omega arith) within before end)
-
--- 18 digits are a number below 10 ^ 18
-pub power_le : (i : ℕ) → i ≤ 18 → 10 ^ i ≤ 1000000000000000000
-power_le i small = pow-le-pow_right {n = 10} (omega arith) {i = i} {j = 18} small
+-- the same, where these are the words of a longer line
+pub words_at_front : (line rest : List ℕ) (n : ℕ) → words_of rest ≡ words_of line → 0 < length rest → (0 < length rest → get_or rest 0 0 ≡ 32 → ⊥) → n ≤ length rest → ((k : ℕ) → k < n → get_or rest k 0 ≡ 32 → ⊥) → (n < length rest → get_or rest n 0 ≡ 32) → words_of line ≡ take n rest ∷ words_of (drop n rest)
+words_at_front line rest zero same some first within before end = absurd (first some (end some))
+words_at_front line rest (suc n) same some first within before end =
+    sym same ∙ words_of_at rest (suc n) (omega arith) within before end

@@ -1,5 +1,5 @@
 -- What parsing answers, from where the loop over the lines stands.
-use Rattle.std.proofs.Common.{◌≡◌, ℕ, ◌+◌, ◌<◌, ◌≤◌, List, [], ◌∷◌, length, Some, None, Result, Ok, Err, refl, ap, ◌∙◌, sym, arith}
+use Rattle.std.proofs.Common.{◌≡◌, ℕ, ◌<◌, ◌≤◌, List, [], ◌∷◌, length, None, Ok, Err, refl, ap, ◌∙◌, sym, arith}
 use Rattle.std.proofs.lemmas.Bool.Decides.{nat_tests}
 use Rattle.usb_script.specs.declared.item.Item.{Item}
 use Rattle.usb_script.specs.declared.error.SessionError.TheVariants as errors
@@ -19,12 +19,6 @@ pub script_of_refused : (bytes rest first after : List ℕ) (before : List Item)
 script_of_refused bytes rest first after before k small parsed lines refused =
     let here : parse_from before k (lines_of rest) ≡ Err k = rw (lines, refused) refl in
     script_of_small bytes small ∙ ap or_malformed (sym parsed ∙ here)
-
--- the next line gives these items
-pub parse_from_more : (rest first after : List ℕ) (before items : List Item) (k : ℕ) (whole : Result (List Item) ℕ) → parse_from before k (lines_of rest) ≡ whole → lines_of rest ≡ first ∷ lines_of after → with_line before first ≡ Some items → parse_from items (k + 1) (lines_of after) ≡ whole
-parse_from_more rest first after before items k whole parsed lines read =
-    let here : parse_from before k (lines_of rest) ≡ parse_from items (k + 1) (lines_of after) = rw (lines, read) refl in
-    sym here ∙ parsed
 
 -- no line is left
 pub script_of_read : (bytes rest : List ℕ) (items : List Item) (k : ℕ) → length bytes ≤ 1048576 → parse_from items k (lines_of rest) ≡ parse_from [] 1 (lines_of bytes) → length rest ≡ 0 → script_of bytes ≡ Ok items

@@ -5,7 +5,7 @@ use Rattle.usb_desc.specs.declared.types.TransferType.TheVariants.{Interrupt}
 use Rattle.usb_script.specs.declared.item.Item.TheVariants.{Endpoint, SubmitIn, Poll, Wait, TransferIn, TransferOut, Steps}
 use Rattle.usb_script.specs.declared.error.SessionError.TheVariants.{Malformed}
 use Rattle.usb_script.specs.declared.reading.Reading.TheVariants.{Skipped, Read}
-use Rattle.usb_kernel.specs.declared.step.KernelStep.TheVariants.{Packet, Ack, Fail, Unplug, Clock, Reap, Refuse}
+use Rattle.usb_kernel.specs.declared.step.KernelStep.TheVariants.{Packet, Ack, Fail, Unplug, Clock, Timer, Reap, Refuse}
 use Rattle.usb_kernel.specs.declared.step.KernelCall.TheVariants.{Submit}
 use Rattle.usb_script.specs.LineForms.{reading_of}
 use Rattle.usb_script.specs.Parse.{script_of}
@@ -85,6 +85,14 @@ unplug_and_clock = refl
 clock_has_no_max : reading_of (codes "! clock max") ≡ None
 unfolding script_on_literals
 clock_has_no_max = refl
+
+turn_of_the_timer : reading_of (codes "! clock 5 ; timer") ≡ Some (Read (Steps (Clock 5 ∷ Timer ∷ [])))
+unfolding script_on_literals
+turn_of_the_timer = refl
+
+timer_of_a_device : reading_of (codes "! timer k0") ≡ None
+unfolding script_on_literals
+timer_of_a_device = refl
 
 reap_alone : reading_of (codes "! reap ; reap 1") ≡ Some (Read (Steps (Reap None ∷ Reap (Some 1) ∷ [])))
 unfolding script_on_literals

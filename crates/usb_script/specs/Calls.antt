@@ -1,62 +1,36 @@
--- Calls on the bus, on devices and on interfaces: one definition for each form, over the words behind its first one.
-use Rattle.std.specs.Prelude.{ℕ, List, codes, Option, if◌then◌else◌}
+-- Calls by their first word: the fields behind it.
+use Rattle.std.specs.Prelude.{List, codes, Option, if◌then◌else◌}
 use Rattle.std.specs.Str.{bytes_eq}
 use Rattle.usb_script.specs.declared.item.Item.{Item}
-use Rattle.usb_script.specs.declared.item.Item.TheVariants.{Now, Open, DeviceDescriptor, Descriptors, Claim, Endpoint}
-use Rattle.usb_script.specs.Words.{◌>>=◌}
-use Rattle.usb_script.specs.Fields.{number_at, handle_at, hex_byte_at, kind_at}
+use Rattle.usb_script.specs.declared.item.Item.TheVariants.{Now, Open, DeviceDescriptor, Descriptors, Claim, Endpoint, SubmitIn, SubmitOut, Pending, Poll, Cancel, CloseEndpoint}
+use Rattle.usb_script.specs.Words.{number_of, handle_of, hex_byte_of, bytes_of, kind_of}
+use Rattle.usb_script.specs.Fields.{Word, none, one, two, three, four}
 use Rattle.usb_script.specs.Letters.{device_letter, interface_letter, endpoint_letter}
-use Rattle.usb_script.specs.LineEnd.{end_of_line}
-use Rattle.usb_script.specs.EndpointCalls.{endpoint_call_of}
+use Rattle.usb_script.specs.Waits.{wait_call_of}
 
--- `now`
-unfoldable pub now_of : List (List ℕ) → Option Item
-now_of words = end_of_line Now words
+-- `submitin e N`, `submitout e BYTES`, `pending e`, `poll e`, `cancel e`, `close e`
+unfoldable pub endpoint_call_of : Word → List Word → Option Item
+endpoint_call_of name words =
+    if bytes_eq name (codes "submitin") then two SubmitIn (handle_of endpoint_letter) (number_of 65536) words
+    else if bytes_eq name (codes "submitout") then two SubmitOut (handle_of endpoint_letter) bytes_of words
+    else if bytes_eq name (codes "pending") then one Pending (handle_of endpoint_letter) words
+    else if bytes_eq name (codes "poll") then one Poll (handle_of endpoint_letter) words
+    else if bytes_eq name (codes "cancel") then one Cancel (handle_of endpoint_letter) words
+    else if bytes_eq name (codes "close") then one CloseEndpoint (handle_of endpoint_letter) words
+    else wait_call_of name words
 
--- `open d B B`: bus and address
-unfoldable pub open_of : List (List ℕ) → Option Item
-open_of words = do
-  device ← handle_at device_letter words
-  bus ← number_at 255 device.1
-  address ← number_at 255 bus.1
-  end_of_line (Open device.0 bus.0 address.0) address.1
-
--- `devdesc d`
-unfoldable pub device_descriptor_of : List (List ℕ) → Option Item
-device_descriptor_of words = do
-  device ← handle_at device_letter words
-  end_of_line (DeviceDescriptor device.0) device.1
-
--- `descriptors d`
-unfoldable pub descriptors_of : List (List ℕ) → Option Item
-descriptors_of words = do
-  device ← handle_at device_letter words
-  end_of_line (Descriptors device.0) device.1
-
--- `claim d B i`: the interface's number, and its new name
-unfoldable pub claim_of : List (List ℕ) → Option Item
-claim_of words = do
-  device ← handle_at device_letter words
-  number ← number_at 255 device.1
-  interface ← handle_at interface_letter number.1
-  end_of_line (Claim device.0 number.0 interface.0) interface.1
-
--- `endpoint e i HH KIND`: its new name first
-unfoldable pub endpoint_of : List (List ℕ) → Option Item
-endpoint_of words = do
-  endpoint ← handle_at endpoint_letter words
-  interface ← handle_at interface_letter endpoint.1
-  address ← hex_byte_at interface.1
-  kind ← kind_at address.1
-  end_of_line (Endpoint endpoint.0 interface.0 address.0 kind.0.0 kind.0.1) kind.1
-
--- the calls on the bus, on devices and on interfaces, and further calls
-unfoldable pub device_call_of : List ℕ → List (List ℕ) → Option Item
-device_call_of name words =
-    if bytes_eq name (codes "now") then now_of words
-    else if bytes_eq name (codes "open") then open_of words
-    else if bytes_eq name (codes "devdesc") then device_descriptor_of words
-    else if bytes_eq name (codes "descriptors") then descriptors_of words
-    else if bytes_eq name (codes "claim") then claim_of words
-    else if bytes_eq name (codes "endpoint") then endpoint_of words
+-- `claim d B i`, `endpoint e i HH KIND`
+unfoldable pub interface_call_of : Word → List Word → Option Item
+interface_call_of name words =
+    if bytes_eq name (codes "claim") then three Claim (handle_of device_letter) (number_of 255) (handle_of interface_letter) words
+    else if bytes_eq name (codes "endpoint") then four (λ e i address kind. Endpoint e i address kind.0 kind.1) (handle_of endpoint_letter) (handle_of interface_letter) hex_byte_of kind_of words
     else endpoint_call_of name words
+
+-- `now`, `open d B B`, `devdesc d`, `descriptors d`
+unfoldable pub device_call_of : Word → List Word → Option Item
+device_call_of name words =
+    if bytes_eq name (codes "now") then none Now words
+    else if bytes_eq name (codes "open") then three Open (handle_of device_letter) (number_of 255) (number_of 255) words
+    else if bytes_eq name (codes "devdesc") then one DeviceDescriptor (handle_of device_letter) words
+    else if bytes_eq name (codes "descriptors") then one Descriptors (handle_of device_letter) words
+    else interface_call_of name words

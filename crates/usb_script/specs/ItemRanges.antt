@@ -4,7 +4,7 @@ use Rattle.std.specs.List.{All}
 use Rattle.usb_desc.specs.declared.types.TransferType.{TransferType}
 use Rattle.usb_desc.specs.declared.types.TransferType.TheVariants.{Control, Isochronous, Bulk, Interrupt}
 use Rattle.usb_kernel.specs.declared.step.KernelStep.{KernelStep}
-use Rattle.usb_kernel.specs.declared.step.KernelStep.TheVariants.{Packet, Ack, Fail, Unplug, Clock, Reap, Refuse}
+use Rattle.usb_kernel.specs.declared.step.KernelStep.TheVariants.{Packet, Ack, Fail, Unplug, Clock, Timer, Reap, Refuse}
 use Rattle.usb_kernel.specs.Steps.{HasErrno}
 use Rattle.usb_script.specs.declared.item.Item.{Item}
 use Rattle.usb_script.specs.declared.item.Item.TheVariants.{Device, Now, Open, DeviceDescriptor, Descriptors, Claim, Endpoint, SubmitIn, SubmitOut, Pending, Poll, Wait, TransferIn, TransferOut, Cancel, CloseEndpoint, Steps}
@@ -19,6 +19,7 @@ IsStepSized (Ack device endpoint) = device < 64
 IsStepSized (Fail device endpoint errno) = device < 64
 IsStepSized (Unplug device) = device < 64
 IsStepSized (Clock to) = to ≤ 1000000000000000000
+IsStepSized Timer = Unit {0}
 IsStepSized (Reap ticket) = IfSome ticket (λ t. t ≤ 4294967295)
 IsStepSized (Refuse device call errno) = device < 64
 

@@ -1,29 +1,37 @@
--- The steps of a line.
-use Rattle.std.specs.Prelude.{ℕ, zero, suc, List, [], ◌∷◌, length, codes, Option, Some, None, if◌then◌else◌}
+-- The steps of a line: what stands between its semicolons.
+use Rattle.std.specs.Prelude.{◌≡◌, List, [], ◌∷◌, codes, Bool, Option, Some, None, if◌then◌else◌}
+use Rattle.std.specs.List.{slice_split}
 use Rattle.std.specs.Str.{bytes_eq}
 use Rattle.usb_kernel.specs.declared.step.KernelStep.{KernelStep}
-use Rattle.usb_script.specs.Words.{◌>>=◌, word_at}
-use Rattle.usb_script.specs.StepForms.{step_named}
+use Rattle.usb_script.specs.Words.{◌>>=◌}
+use Rattle.usb_script.specs.Fields.{Word}
+use Rattle.usb_script.specs.StepForms.{step_of}
 
--- the first step, and the words after it
-unfoldable pub step_at : List (List ℕ) → Option (KernelStep × List (List ℕ))
-step_at words = do
-  name ← word_at words
-  step_named name.0 name.1
+-- all of these, or nothing
+abbrev pub each : {A B : Type 0} → (A → Option B) → List A → Option (List B)
+each read [] = Some []
+each read (x ∷ xs) = do
+  y ← read x
+  ys ← each read xs
+  Some (y ∷ ys)
 
--- what stands behind a step: nothing, or a semicolon and further steps
-abbrev pub after_step : (List (List ℕ) → Option (List KernelStep)) → List (List ℕ) → Option (List KernelStep)
-after_step further [] = Some []
-after_step further (word ∷ words) = if bytes_eq word (codes ";") then further words else None
+abbrev pub is_semicolon : Word → Bool
+is_semicolon word = bytes_eq word (codes ";")
 
--- at most this many steps, joined by semicolons, to the end of the line
-unfoldable pub steps_within : ℕ → List (List ℕ) → Option (List KernelStep)
-steps_within zero words = None
-steps_within (suc k) words = do
-  step ← step_at words
-  steps ← after_step (steps_within k) step.1
-  Some (step.0 ∷ steps)
+-- the parts between semicolons
+unfoldable pub parts_of : List Word → List (List Word)
+parts_of words = slice_split is_semicolon words
 
--- the steps of a line, at least one: each takes a word, so there are at most as many
-unfoldable pub steps_of : List (List ℕ) → Option (List KernelStep)
-steps_of words = steps_within (length words) words
+-- these words, cut before their first semicolon
+abbrev pub IsFirstPart : List Word → List Word → List Word → Type 0
+IsFirstPart words part [] = parts_of words ≡ part ∷ []
+IsFirstPart words part (semicolon ∷ more) = parts_of words ≡ part ∷ parts_of more
+
+-- one step for each part
+unfoldable pub steps_of : List Word → Option (List KernelStep)
+steps_of words = each step_of (parts_of words)
+
+-- the steps of a call: the line ends, or a colon and steps stand there
+unfoldable pub own_steps_of : List Word → Option (List KernelStep)
+own_steps_of [] = Some []
+own_steps_of (word ∷ words) = if bytes_eq word (codes ":") then steps_of words else None

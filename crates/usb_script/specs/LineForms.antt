@@ -1,35 +1,33 @@
 -- A line by its first word.
-use Rattle.std.specs.Prelude.{ℕ, List, codes, Option, Some, None, if◌then◌else◌}
+use Rattle.std.specs.Prelude.{ℕ, List, [], ◌∷◌, codes, Option, Some, None, if◌then◌else◌}
 use Rattle.std.specs.List.{list_all}
 use Rattle.std.specs.Str.{bytes_eq}
 use Rattle.usb_script.specs.declared.item.Item.{Item}
-use Rattle.usb_script.specs.declared.item.Item.TheVariants.{Steps}
+use Rattle.usb_script.specs.declared.item.Item.TheVariants.{Device, Steps}
 use Rattle.usb_script.specs.declared.reading.Reading.{Reading}
 use Rattle.usb_script.specs.declared.reading.Reading.TheVariants.{Skipped, Read}
 use Rattle.usb_script.specs.Lines.{words_of, is_printable, without_cr, is_skipped}
-use Rattle.usb_script.specs.Words.{◌>>=◌, word_at}
+use Rattle.usb_script.specs.Words.{◌>>=◌, number_of, handle_of, bytes_of}
+use Rattle.usb_script.specs.Fields.{Word, six}
+use Rattle.usb_script.specs.Letters.{simulated_letter}
 use Rattle.usb_script.specs.KernelSteps.{steps_of}
-use Rattle.usb_script.specs.SetupLines.{device_of}
 use Rattle.usb_script.specs.Calls.{device_call_of}
 
--- `!` and steps
-unfoldable pub steps_line_of : List (List ℕ) → Option Item
-steps_line_of words = do
-  steps ← steps_of words
-  Some (Steps steps)
-
--- the item with this first word and these further words
-unfoldable pub named_of : List ℕ → List (List ℕ) → Option Item
+-- `! STEP ; ..`, `device k B B B B BYTES`, and calls
+unfoldable pub named_of : Word → List Word → Option Item
 named_of name words =
-    if bytes_eq name (codes "!") then steps_line_of words
-    else if bytes_eq name (codes "device") then device_of words
+    if bytes_eq name (codes "!") then (steps_of words >>= λ steps. Some (Steps steps))
+    else if bytes_eq name (codes "device") then six Device (handle_of simulated_letter) (number_of 255) (number_of 255) (number_of 255) (number_of 255) bytes_of words
     else device_call_of name words
+
+-- the item of these words
+unfoldable pub form_of : List Word → Option Item
+form_of [] = None
+form_of (name ∷ words) = named_of name words
 
 -- the item of a line
 unfoldable pub item_of : List ℕ → Option Item
-item_of line = do
-  name ← word_at (words_of line)
-  named_of name.0 name.1
+item_of line = form_of (words_of line)
 
 -- a line that isn't skipped gives one item
 unfoldable pub item_reading_of : List ℕ → Option Reading

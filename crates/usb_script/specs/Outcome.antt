@@ -13,12 +13,8 @@ Gives view (Err line_error.Memory) read = Unit {0}
 
 -- this answer, or want of memory
 abbrev pub OrMemory : {X : Type 0} → Result X SessionError → Result X SessionError → Type 0
-OrMemory (Ok x) answer = answer ≡ Ok x
-OrMemory (Err (errors.Malformed line)) answer = answer ≡ Err (errors.Malformed line)
-OrMemory (Err errors.TooLong) answer = answer ≡ Err errors.TooLong
-OrMemory (Err errors.ReadFault) answer = answer ≡ Err errors.ReadFault
-OrMemory (Err errors.WriteFault) answer = answer ≡ Err errors.WriteFault
 OrMemory (Err errors.Memory) answer = Unit {0}
+OrMemory result answer = answer ≡ result
 
 -- what parsing may answer
 abbrev pub IsParsingError : SessionError → Type 0

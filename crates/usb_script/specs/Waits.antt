@@ -1,43 +1,35 @@
--- Calls that wait: one definition for each form, over the words behind its first one. Each may have steps of its own.
-use Rattle.std.specs.Prelude.{ℕ, List, codes, Option, Some, None, if◌then◌else◌}
+-- Calls that wait, which may have steps of their own, by their first word: the fields behind it.
+use Rattle.std.specs.Prelude.{List, codes, Option, Some, None, if◌then◌else◌}
 use Rattle.std.specs.Str.{bytes_eq}
+use Rattle.usb_kernel.specs.declared.step.KernelStep.{KernelStep}
 use Rattle.usb_script.specs.declared.item.Item.{Item}
 use Rattle.usb_script.specs.declared.item.Item.TheVariants.{Wait, TransferIn, TransferOut}
-use Rattle.usb_script.specs.Words.{◌>>=◌}
-use Rattle.usb_script.specs.Fields.{number_at, time_at, handle_at, bytes_at}
+use Rattle.usb_script.specs.Words.{◌>>=◌, number_of, time_of, handle_of, bytes_of}
+use Rattle.usb_script.specs.Fields.{Word, two_and_more, three_and_more}
+use Rattle.usb_script.specs.KernelSteps.{own_steps_of}
 use Rattle.usb_script.specs.Letters.{endpoint_letter}
-use Rattle.usb_script.specs.OwnSteps.{own_steps_at}
 
--- `wait e TIME`: for how long at most
-unfoldable pub wait_of : List (List ℕ) → Option Item
-wait_of words = do
-  endpoint ← handle_at endpoint_letter words
-  timeout ← time_at endpoint.1
-  steps ← own_steps_at timeout.1
-  Some (Wait endpoint.0 timeout.0 steps)
+abbrev pub two_with_steps : {A B : Type 0} → (A → B → List KernelStep → Item) → (Word → Option A) → (Word → Option B) → List Word → Option Item
+two_with_steps make first second words = do
+  w ← two_and_more words
+  a ← first w.0
+  b ← second w.1
+  steps ← own_steps_of w.2
+  Some (make a b steps)
 
--- `xferin e N TIME`: how many bytes are wanted, and for how long it waits at most
-unfoldable pub transfer_in_of : List (List ℕ) → Option Item
-transfer_in_of words = do
-  endpoint ← handle_at endpoint_letter words
-  length ← number_at 65536 endpoint.1
-  timeout ← time_at length.1
-  steps ← own_steps_at timeout.1
-  Some (TransferIn endpoint.0 length.0 timeout.0 steps)
+abbrev pub three_with_steps : {A B C : Type 0} → (A → B → C → List KernelStep → Item) → (Word → Option A) → (Word → Option B) → (Word → Option C) → List Word → Option Item
+three_with_steps make first second third words = do
+  w ← three_and_more words
+  a ← first w.0
+  b ← second w.1
+  c ← third w.2
+  steps ← own_steps_of w.3
+  Some (make a b c steps)
 
--- `xferout e BYTES TIME`: the bytes to send, and for how long it waits at most
-unfoldable pub transfer_out_of : List (List ℕ) → Option Item
-transfer_out_of words = do
-  endpoint ← handle_at endpoint_letter words
-  bytes ← bytes_at endpoint.1
-  timeout ← time_at bytes.1
-  steps ← own_steps_at timeout.1
-  Some (TransferOut endpoint.0 bytes.0 timeout.0 steps)
-
--- the calls that wait
-unfoldable pub wait_call_of : List ℕ → List (List ℕ) → Option Item
+-- `wait e TIME`, `xferin e N TIME`, `xferout e BYTES TIME`
+unfoldable pub wait_call_of : Word → List Word → Option Item
 wait_call_of name words =
-    if bytes_eq name (codes "wait") then wait_of words
-    else if bytes_eq name (codes "xferin") then transfer_in_of words
-    else if bytes_eq name (codes "xferout") then transfer_out_of words
+    if bytes_eq name (codes "wait") then two_with_steps Wait (handle_of endpoint_letter) time_of words
+    else if bytes_eq name (codes "xferin") then three_with_steps TransferIn (handle_of endpoint_letter) (number_of 65536) time_of words
+    else if bytes_eq name (codes "xferout") then three_with_steps TransferOut (handle_of endpoint_letter) bytes_of time_of words
     else None

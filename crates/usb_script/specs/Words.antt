@@ -1,5 +1,6 @@
 -- What a word spells: a number, a time, a name, a byte, some bytes, or a kind of endpoint or of call.
 use Rattle.std.specs.Prelude.{ℕ, ◌+◌, ◌*◌, ◌-◌, ◌==◌, ◌&&◌, nat_le, Bool, false, List, [], ◌∷◌, length, codes, Option, Some, None, Result, Ok, Err, if◌then◌else◌, option_and_then}
+use Rattle.std.specs.Char.{is_ascii_digit}
 use Rattle.std.specs.Str.{bytes_eq}
 use Rattle.hex.specs.Hex.{decode_of, hex_digit_value}
 use Rattle.hex.specs.declared.error.FromHexError.{FromHexError}
@@ -16,36 +17,36 @@ infixl 10 ◌>>=◌
 abbrev pub ◌>>=◌ : {A B : Type 0} → Option A → (A → Option B) → Option B
 o >>= f = option_and_then f o
 
--- the first word, and those after it
-abbrev pub word_at : List (List ℕ) → Option (List ℕ × List (List ℕ))
-word_at [] = None
-word_at (word ∷ words) = Some (word, words)
-
-abbrev pub is_digit : ℕ → Bool
-is_digit b = nat_le 48 b && nat_le b 57
-
 -- the number that decimal digits make behind those read so far
 abbrev pub digits_after : ℕ → List ℕ → Option ℕ
 digits_after n [] = Some n
-digits_after n (b ∷ bytes) = if is_digit b then digits_after (n * 10 + (b - 48)) bytes else None
+digits_after n (b ∷ bytes) = if is_ascii_digit b then digits_after (n * 10 + (b - 48)) bytes else None
 
 -- 1 to 19 decimal digits, of which the first may be zeros
 unfoldable pub decimal_of : List ℕ → Option ℕ
 decimal_of word = if is_word word && nat_le (length word) 19 then digits_after 0 word else None
 
 abbrev pub at_most : ℕ → ℕ → Option ℕ
-at_most top n = if nat_le n top then Some n else None
+at_most most n = if nat_le n most then Some n else None
 
 -- a decimal number up to this one
 unfoldable pub number_of : ℕ → List ℕ → Option ℕ
-number_of top word = do
+number_of most word = do
   n ← decimal_of word
-  at_most top n
+  at_most most n
+
+abbrev pub at_least : ℕ → ℕ → Option ℕ
+at_least least n = if nat_le least n then Some n else None
+
+-- a decimal number from this one up to that one
+unfoldable pub number_between : ℕ → ℕ → List ℕ → Option ℕ
+number_between least most word = do
+  n ← number_of most word
+  at_least least n
 
 abbrev pub has_leading_zero : List ℕ → Bool
-has_leading_zero [] = false
-has_leading_zero (digit ∷ []) = false
 has_leading_zero (digit ∷ next ∷ digits) = digit == 48
+has_leading_zero digits = false
 
 -- TIME: a number of nanoseconds up to 10 ^ 18, or `max`, the greatest one of 64 bits
 unfoldable pub time_of : List ℕ → Option ℕ
@@ -62,20 +63,18 @@ handle_of letter (b ∷ digits) = if b == letter then index_of digits else None
 
 -- HH: a byte as two hexadecimal digits, in either case
 unfoldable pub hex_byte_of : List ℕ → Option ℕ
-hex_byte_of [] = None
-hex_byte_of (high ∷ []) = None
 hex_byte_of (high ∷ low ∷ []) = do
   h ← hex_digit_value high
   l ← hex_digit_value low
   Some (h * 16 + l)
-hex_byte_of (high ∷ low ∷ digit ∷ digits) = None
+hex_byte_of word = None
 
 abbrev pub or_none : Result (List ℕ) FromHexError → Option (List ℕ)
 or_none (Ok bytes) = Some bytes
 or_none (Err e) = None
 
 abbrev pub at_most_bytes : ℕ → List ℕ → Option (List ℕ)
-at_most_bytes top bytes = if nat_le (length bytes) top then Some bytes else None
+at_most_bytes most bytes = if nat_le (length bytes) most then Some bytes else None
 
 -- BYTES: a dash for none, or pairs of hexadecimal digits in either case, at most 65536 of them
 unfoldable pub bytes_of : List ℕ → Option (List ℕ)
@@ -92,14 +91,9 @@ kind_of word =
     else if bytes_eq word (codes "int-out") then Some (Interrupt, Out)
     else None
 
-abbrev pub at_least : ℕ → ℕ → Option ℕ
-at_least least n = if nat_le least n then Some n else None
-
 -- ERRNO: the number of an error, from 1 to 4095
 unfoldable pub errno_of : List ℕ → Option ℕ
-errno_of word = do
-  n ← number_of 4095 word
-  at_least 1 n
+errno_of word = number_between 1 4095 word
 
 -- CALL: the kind of call that a refusal is for
 unfoldable pub call_of : List ℕ → Option KernelCall

@@ -1,140 +1,112 @@
-//! Calls on the bus, on devices and on interfaces.
+//! Calls by their first word.
 
-ghost use Rattle.std.specs.Prelude.{◌≡◌, ◌≤◌, length, IfOk};
-ghost use Rattle.usb_script.specs.Lines.{words_of};
-ghost use Rattle.usb_script.specs.LineEnd.{end_of_line};
+ghost use Rattle.std.specs.Prelude.{◌≤◌, length, IfOk};
+ghost use Rattle.usb_script.specs.Fields.{texts};
 ghost use Rattle.usb_script.specs.Outcome.{Gives};
-ghost use Rattle.usb_script.specs.Calls.{now_of, open_of, device_descriptor_of, descriptors_of, claim_of, endpoint_of, device_call_of};
+ghost use Rattle.usb_script.specs.Calls.{device_call_of, interface_call_of, endpoint_call_of};
 ghost use Rattle.usb_script.specs.ItemKinds.{steps_in};
 ghost use Rattle.usb_script.specs.ItemRanges.{IsInRange};
 
-use crate::endpoint_call::endpoint_call_line;
+use crate::fields::{four_words, no_word, one_word, three_words, two_words};
 use crate::item::Item;
 use crate::reading::LineError;
-use crate::words::{next_byte, next_handle, next_hex_byte, next_kind, next_word};
+use crate::wait::wait_call;
+use crate::words::{byte, bytes, handle, hex_byte, kind, length};
 use std::alloc::Global;
 
-/// The item, where no further word stands.
-pub fn end_of_line(item: Item, rest: &[u8]) -> Result<Item, LineError>
-    ensures value { Gives (λ i. i) result (end_of_line item (words_of rest.now)) }
-    ensures same { IfOk result (λ i. i ≡ item) }
+/// `now`, `open d B B`, `devdesc d`, `descriptors d`, or a further call
+#[tactic(auto, unfolding(crate::specs::Calls::device_call_of))]
+pub fn device_call(alloc: Global, name: &[u8], words: &[&[u8]]) -> Result<Item, LineError>
+    ensures value { Gives (λ i. i) result (device_call_of name.now (texts words.now)) }
+    ensures range { IfOk result IsInRange }
+    ensures few { IfOk result (λ item. steps_in item ≤ length words.now) }
 {
-    match next_word(rest) {
-        Ok(_) => Err(LineError::Malformed),
-        Err(LineError::Malformed) => Ok(item),
-        Err(LineError::Memory) => Err(LineError::Memory),
+    if name == b"now".as_slice() {
+        no_word(words)?;
+        Ok(Item::Now)
+    } else if name == b"open".as_slice() {
+        let (device, bus, address) = three_words(words)?;
+        Ok(Item::Open {
+            device: handle(b'd', device)?,
+            bus: byte(bus)?,
+            address: byte(address)?,
+        })
+    } else if name == b"devdesc".as_slice() {
+        let device = handle(b'd', one_word(words)?)?;
+        Ok(Item::DeviceDescriptor { device })
+    } else if name == b"descriptors".as_slice() {
+        let device = handle(b'd', one_word(words)?)?;
+        Ok(Item::Descriptors { device })
+    } else {
+        interface_call(alloc, name, words)
     }
 }
 
-/// `now`
-#[tactic(auto, unfolding(crate::specs::Calls::now_of))]
-fn now_line(rest: &[u8]) -> Result<Item, LineError>
-    ensures value { Gives (λ i. i) result (now_of (words_of rest.now)) }
+/// `claim d B i`, `endpoint e i HH KIND`, or a further call
+#[tactic(auto, unfolding(crate::specs::Calls::interface_call_of))]
+fn interface_call(alloc: Global, name: &[u8], words: &[&[u8]]) -> Result<Item, LineError>
+    ensures value { Gives (λ i. i) result (interface_call_of name.now (texts words.now)) }
     ensures range { IfOk result IsInRange }
-    ensures steps { IfOk result (λ item. steps_in item ≡ 0) }
+    ensures few { IfOk result (λ item. steps_in item ≤ length words.now) }
 {
-    end_of_line(Item::Now, rest)
-}
-
-/// `open d B B`
-#[tactic(auto, unfolding(crate::specs::Calls::open_of))]
-fn open_line(rest: &[u8]) -> Result<Item, LineError>
-    ensures value { Gives (λ i. i) result (open_of (words_of rest.now)) }
-    ensures range { IfOk result IsInRange }
-    ensures steps { IfOk result (λ item. steps_in item ≡ 0) }
-{
-    let (device, rest) = next_handle(b'd', rest)?;
-    let (bus, rest) = next_byte(rest)?;
-    let (address, rest) = next_byte(rest)?;
-    let item = Item::Open {
-        device,
-        bus,
-        address,
-    };
-    end_of_line(item, rest)
-}
-
-/// `devdesc d`
-#[tactic(auto, unfolding(crate::specs::Calls::device_descriptor_of))]
-fn device_descriptor_line(rest: &[u8]) -> Result<Item, LineError>
-    ensures value { Gives (λ i. i) result (device_descriptor_of (words_of rest.now)) }
-    ensures range { IfOk result IsInRange }
-    ensures steps { IfOk result (λ item. steps_in item ≡ 0) }
-{
-    let (device, rest) = next_handle(b'd', rest)?;
-    end_of_line(Item::DeviceDescriptor { device }, rest)
-}
-
-/// `descriptors d`
-#[tactic(auto, unfolding(crate::specs::Calls::descriptors_of))]
-fn descriptors_line(rest: &[u8]) -> Result<Item, LineError>
-    ensures value { Gives (λ i. i) result (descriptors_of (words_of rest.now)) }
-    ensures range { IfOk result IsInRange }
-    ensures steps { IfOk result (λ item. steps_in item ≡ 0) }
-{
-    let (device, rest) = next_handle(b'd', rest)?;
-    end_of_line(Item::Descriptors { device }, rest)
-}
-
-/// `claim d B i`
-#[tactic(auto, unfolding(crate::specs::Calls::claim_of))]
-fn claim_line(rest: &[u8]) -> Result<Item, LineError>
-    ensures value { Gives (λ i. i) result (claim_of (words_of rest.now)) }
-    ensures range { IfOk result IsInRange }
-    ensures steps { IfOk result (λ item. steps_in item ≡ 0) }
-{
-    let (device, rest) = next_handle(b'd', rest)?;
-    let (number, rest) = next_byte(rest)?;
-    let (interface, rest) = next_handle(b'i', rest)?;
-    let item = Item::Claim {
-        device,
-        number,
-        interface,
-    };
-    end_of_line(item, rest)
-}
-
-/// `endpoint e i HH KIND`
-#[tactic(auto, unfolding(crate::specs::Calls::endpoint_of))]
-fn endpoint_line(rest: &[u8]) -> Result<Item, LineError>
-    ensures value { Gives (λ i. i) result (endpoint_of (words_of rest.now)) }
-    ensures range { IfOk result IsInRange }
-    ensures steps { IfOk result (λ item. steps_in item ≡ 0) }
-{
-    let (endpoint, rest) = next_handle(b'e', rest)?;
-    let (interface, rest) = next_handle(b'i', rest)?;
-    let (address, rest) = next_hex_byte(rest)?;
-    let ((transfer_type, direction), rest) = next_kind(rest)?;
-    let item = Item::Endpoint {
-        endpoint,
-        interface,
-        address,
-        transfer_type,
-        direction,
-    };
-    end_of_line(item, rest)
-}
-
-/// A call on the bus, on a device or on an interface, or a further call, with this first word.
-#[tactic(auto, unfolding(crate::specs::Calls::device_call_of))]
-pub fn device_call_line(alloc: Global, name: &[u8], rest: &[u8]) -> Result<Item, LineError>
-    ensures value { Gives (λ i. i) result (device_call_of name.now (words_of rest.now)) }
-    ensures range { IfOk result IsInRange }
-    ensures few { IfOk result (λ item. steps_in item ≤ length rest.now) }
-{
-    if name == b"now".as_slice() {
-        now_line(rest)
-    } else if name == b"open".as_slice() {
-        open_line(rest)
-    } else if name == b"devdesc".as_slice() {
-        device_descriptor_line(rest)
-    } else if name == b"descriptors".as_slice() {
-        descriptors_line(rest)
-    } else if name == b"claim".as_slice() {
-        claim_line(rest)
+    if name == b"claim".as_slice() {
+        let (device, number, interface) = three_words(words)?;
+        Ok(Item::Claim {
+            device: handle(b'd', device)?,
+            number: byte(number)?,
+            interface: handle(b'i', interface)?,
+        })
     } else if name == b"endpoint".as_slice() {
-        endpoint_line(rest)
+        let (endpoint, interface, address, kind_word) = four_words(words)?;
+        let endpoint = handle(b'e', endpoint)?;
+        let interface = handle(b'i', interface)?;
+        let address = hex_byte(address)?;
+        let (transfer_type, direction) = kind(kind_word)?;
+        Ok(Item::Endpoint {
+            endpoint,
+            interface,
+            address,
+            transfer_type,
+            direction,
+        })
     } else {
-        endpoint_call_line(alloc, name, rest)
+        endpoint_call(alloc, name, words)
+    }
+}
+
+/// `submitin e N`, `submitout e BYTES`, `pending e`, `poll e`, `cancel e`, `close e`, or a further
+/// call
+#[tactic(auto, unfolding(crate::specs::Calls::endpoint_call_of))]
+fn endpoint_call(alloc: Global, name: &[u8], words: &[&[u8]]) -> Result<Item, LineError>
+    ensures value { Gives (λ i. i) result (endpoint_call_of name.now (texts words.now)) }
+    ensures range { IfOk result IsInRange }
+    ensures few { IfOk result (λ item. steps_in item ≤ length words.now) }
+{
+    if name == b"submitin".as_slice() {
+        let (endpoint, wanted) = two_words(words)?;
+        Ok(Item::SubmitIn {
+            endpoint: handle(b'e', endpoint)?,
+            length: length(wanted)?,
+        })
+    } else if name == b"submitout".as_slice() {
+        let (endpoint, sent) = two_words(words)?;
+        Ok(Item::SubmitOut {
+            endpoint: handle(b'e', endpoint)?,
+            bytes: bytes(alloc, sent)?,
+        })
+    } else if name == b"pending".as_slice() {
+        let endpoint = handle(b'e', one_word(words)?)?;
+        Ok(Item::Pending { endpoint })
+    } else if name == b"poll".as_slice() {
+        let endpoint = handle(b'e', one_word(words)?)?;
+        Ok(Item::Poll { endpoint })
+    } else if name == b"cancel".as_slice() {
+        let endpoint = handle(b'e', one_word(words)?)?;
+        Ok(Item::Cancel { endpoint })
+    } else if name == b"close".as_slice() {
+        let endpoint = handle(b'e', one_word(words)?)?;
+        Ok(Item::CloseEndpoint { endpoint })
+    } else {
+        wait_call(alloc, name, words)
     }
 }

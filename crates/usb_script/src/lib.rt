@@ -2,9 +2,8 @@
 #![tactic(auto)]
 
 mod call;
-mod device;
-mod endpoint_call;
 mod error;
+mod fields;
 mod item;
 mod line;
 mod order;
@@ -20,3 +19,4 @@ mod words;
 pub use error::SessionError;
 pub use item::{Item, Steps};
 pub use script::{MAX_SCRIPT, Script, parse_script};
+pub use words::number_between;

@@ -1,45 +1,57 @@
 //! The lines of a script, each by itself.
 
-ghost use Rattle.std.specs.Prelude.{◌≡◌, ◌≤◌, length, IfOk};
+ghost use Rattle.std.specs.Prelude.{◌≡◌, ◌≤◌, ◌+◌, length, IfOk};
 ghost use Rattle.std.specs.List.{list_all};
-ghost use Rattle.usb_script.specs.Lines.{words_of, is_printable, without_cr, is_skipped};
+ghost use Rattle.usb_script.specs.Lines.{is_printable, without_cr, is_skipped};
+ghost use Rattle.usb_script.specs.Fields.{texts};
 ghost use Rattle.usb_script.specs.Outcome.{Gives};
-ghost use Rattle.usb_script.specs.LineForms.{steps_line_of, named_of, item_of, item_reading_of, own_reading_of, reading_of};
+ghost use Rattle.usb_script.specs.LineForms.{named_of, form_of, item_of, item_reading_of, own_reading_of, reading_of};
 ghost use Rattle.usb_script.specs.ItemKinds.{steps_in};
 ghost use Rattle.usb_script.specs.ItemRanges.{IsInRange, IsReadingSized};
 
-use crate::call::device_call_line;
-use crate::device::device_line;
+use crate::call::device_call;
+use crate::fields::six_words;
 use crate::item::Item;
 use crate::reading::{LineError, Reading};
-use crate::steps::next_steps;
-use crate::words::{next_word, skip_spaces};
+use crate::steps::steps;
+use crate::words::{byte, bytes, handle, skip_spaces, split_words};
 use std::alloc::Global;
 
-/// `!` and steps
-#[tactic(auto, unfolding(crate::specs::LineForms::steps_line_of))]
-fn steps_line(alloc: Global, rest: &[u8]) -> Result<Item, LineError>
-    ensures value { Gives (λ i. i) result (steps_line_of (words_of rest.now)) }
-    ensures range { IfOk result IsInRange }
-    ensures few { IfOk result (λ item. steps_in item ≤ length rest.now) }
-{
-    let steps = next_steps(alloc, rest)?;
-    Ok(Item::Steps(steps))
-}
-
-/// The item with this first word.
+/// `! STEP ; ..`, `device k B B B B BYTES`, or a call
 #[tactic(auto, unfolding(crate::specs::LineForms::named_of))]
-fn named_line(alloc: Global, name: &[u8], rest: &[u8]) -> Result<Item, LineError>
-    ensures value { Gives (λ i. i) result (named_of name.now (words_of rest.now)) }
+fn named_line(alloc: Global, name: &[u8], words: &[&[u8]]) -> Result<Item, LineError>
+    ensures value { Gives (λ i. i) result (named_of name.now (texts words.now)) }
     ensures range { IfOk result IsInRange }
-    ensures few { IfOk result (λ item. steps_in item ≤ length rest.now) }
+    ensures few { IfOk result (λ item. steps_in item ≤ length words.now + 1) }
 {
     if name == b"!".as_slice() {
-        steps_line(alloc, rest)
+        let steps = steps(alloc, words)?;
+        Ok(Item::Steps(steps))
     } else if name == b"device".as_slice() {
-        device_line(alloc, rest)
+        let (device, bus, address, speed, configuration, descriptors) = six_words(words)?;
+        Ok(Item::Device {
+            device: handle(b'k', device)?,
+            bus: byte(bus)?,
+            address: byte(address)?,
+            speed: byte(speed)?,
+            configuration: byte(configuration)?,
+            descriptors: bytes(alloc, descriptors)?,
+        })
     } else {
-        device_call_line(alloc, name, rest)
+        device_call(alloc, name, words)
+    }
+}
+
+/// The item of these words.
+#[tactic(auto, unfolding(crate::specs::LineForms::form_of))]
+fn form(alloc: Global, words: &[&[u8]]) -> Result<Item, LineError>
+    ensures value { Gives (λ i. i) result (form_of (texts words.now)) }
+    ensures range { IfOk result IsInRange }
+    ensures few { IfOk result (λ item. steps_in item ≤ length words.now) }
+{
+    match words {
+        [name, rest @ ..] => named_line(alloc, *name, rest),
+        _ => Err(LineError::Malformed),
     }
 }
 
@@ -57,8 +69,8 @@ fn item_line(alloc: Global, line: &[u8]) -> Result<Item, LineError>
     ensures range { IfOk result IsInRange }
     ensures few { IfOk result (λ item. steps_in item ≤ length line.now) }
 {
-    let (name, rest) = next_word(line)?;
-    named_line(alloc, name, rest)
+    let words = split_words(alloc, line)?;
+    form(alloc, words.as_slice())
 }
 
 /// What a line gives that isn't skipped.

@@ -1,6 +1,10 @@
 //! What reading one line or one word gives.
 
+ghost use Rattle.std.specs.Prelude.{◌≡◌};
+ghost use Rattle.usb_script.specs.declared.reading.LineError.TheVariants.{Memory};
+
 use crate::item::Item;
+use std::alloc::AllocFailed;
 
 /// Why a line or a word is not read.
 #[derive(Clone, Copy, Debug, PartialEq, Eq)]
@@ -9,6 +13,14 @@ pub enum LineError {
     Malformed,
     /// There was no memory.
     Memory,
+}
+
+impl<T: Drop> From<AllocFailed<T>> for LineError {
+    ghost from_gives = { λ _ e. e ≡ Memory };
+
+    fn from(_refused: AllocFailed<T>) -> LineError {
+        LineError::Memory
+    }
 }
 
 /// What a line of the grammar gives.

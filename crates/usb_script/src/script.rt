@@ -93,10 +93,8 @@ fn add_item(items: &mut Vec<Item>, item: Item) -> Result<(), LineError>
     if !may_follow(items.as_slice(), &item) {
         return Err(LineError::Malformed);
     }
-    match items.push(item) {
-        Ok(()) => Ok(()),
-        Err(_) => Err(LineError::Memory),
-    }
+    items.push(item)?;
+    Ok(())
 }
 
 /// The items with those of one more line.
@@ -104,7 +102,8 @@ fn add_line(alloc: Global, items: &mut Vec<Item>, line: &[u8]) -> Result<(), Lin
     ensures value { Gives (λ _. items.new.items) result (with_line items.old.items line.now) }
     ensures few { OnOk result (length items.new.items ≤ length items.old.items + 1) }
     ensures range { All IsInRange items.old.items → OnOk result (All IsInRange items.new.items) }
-    ensures steps { OnOk result (step_count items.new.items ≤ step_count items.old.items + length line.now) }
+    ensures steps { OnOk result
+        (step_count items.new.items ≤ step_count items.old.items + length line.now) }
 {
     match read_line(alloc, line)? {
         Reading::Skipped => Ok(()),

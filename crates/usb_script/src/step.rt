@@ -1,187 +1,104 @@
-//! The forms of steps.
+//! Steps by their first word.
 
-ghost use Rattle.std.specs.Prelude.{◌≡◌, ◌≤◌, length, Some, IfOk};
-ghost use Rattle.usb_script.specs.Lines.{words_of};
+ghost use Rattle.std.specs.Prelude.{IfOk};
+ghost use Rattle.usb_script.specs.Fields.{texts};
 ghost use Rattle.usb_script.specs.Outcome.{Gives};
-ghost use Rattle.usb_script.specs.StepForms.{packet_at, ack_at, fail_at, unplug_at, clock_at, step_ends, reap_named_at, reap_at, refuse_at, endpoint_step_named, step_named};
+ghost use Rattle.usb_script.specs.StepForms.{reap_of, endpoint_step_of, step_named, step_of};
 ghost use Rattle.usb_script.specs.ItemRanges.{IsStepInRange};
 
+use crate::fields::{no_word, one_word, three_words, two_words};
 use crate::reading::LineError;
-use crate::words::{
-    MAX_TIME, next_bytes, next_call, next_errno, next_handle, next_hex_byte, next_number, next_word,
-};
+use crate::words::{MAX_TIME, bytes, call, errno, handle, hex_byte, number};
 use std::alloc::Global;
 use usb_kernel::KernelStep;
 
 /// The greatest number of a ticket that a script may name.
 const MAX_TICKET: u64 = 4294967295;
 
-/// `pkt k HH BYTES`
-#[tactic(auto, unfolding(crate::specs::StepForms::packet_at))]
-fn packet_step(alloc: Global, rest: &[u8]) -> Result<(KernelStep, &[u8]), LineError>
-    ensures value { Gives (λ x. (x.0, words_of x.1.now)) result (packet_at (words_of rest.now)) }
-    ensures range { IfOk result (λ x. IsStepInRange x.0) }
-    ensures shorter { IfOk result (λ x. length x.1.now ≤ length rest.now) }
+/// `reap`, `reap T`
+#[tactic(auto, unfolding(crate::specs::StepForms::reap_of))]
+fn reap_step(words: &[&[u8]]) -> Result<KernelStep, LineError>
+    ensures value { Gives (λ s. s) result (reap_of (texts words.now)) }
+    ensures range { IfOk result IsStepInRange }
 {
-    let (device, rest) = next_handle(b'k', rest)?;
-    let (endpoint, rest) = next_hex_byte(rest)?;
-    let (bytes, rest) = next_bytes(alloc, rest)?;
-    let step = KernelStep::Packet {
-        device,
-        endpoint,
-        bytes,
-    };
-    Ok((step, rest))
-}
-
-/// `ack k HH`
-#[tactic(auto, unfolding(crate::specs::StepForms::ack_at))]
-fn ack_step(rest: &[u8]) -> Result<(KernelStep, &[u8]), LineError>
-    ensures value { Gives (λ x. (x.0, words_of x.1.now)) result (ack_at (words_of rest.now)) }
-    ensures range { IfOk result (λ x. IsStepInRange x.0) }
-    ensures shorter { IfOk result (λ x. length x.1.now ≤ length rest.now) }
-{
-    let (device, rest) = next_handle(b'k', rest)?;
-    let (endpoint, rest) = next_hex_byte(rest)?;
-    Ok((KernelStep::Ack { device, endpoint }, rest))
-}
-
-/// `fail k HH ERRNO`
-#[tactic(auto, unfolding(crate::specs::StepForms::fail_at))]
-fn fail_step(rest: &[u8]) -> Result<(KernelStep, &[u8]), LineError>
-    ensures value { Gives (λ x. (x.0, words_of x.1.now)) result (fail_at (words_of rest.now)) }
-    ensures range { IfOk result (λ x. IsStepInRange x.0) }
-    ensures shorter { IfOk result (λ x. length x.1.now ≤ length rest.now) }
-{
-    let (device, rest) = next_handle(b'k', rest)?;
-    let (endpoint, rest) = next_hex_byte(rest)?;
-    let (errno, rest) = next_errno(rest)?;
-    let step = KernelStep::Fail {
-        device,
-        endpoint,
-        errno,
-    };
-    Ok((step, rest))
-}
-
-/// `unplug k`
-#[tactic(auto, unfolding(crate::specs::StepForms::unplug_at))]
-fn unplug_step(rest: &[u8]) -> Result<(KernelStep, &[u8]), LineError>
-    ensures value { Gives (λ x. (x.0, words_of x.1.now)) result (unplug_at (words_of rest.now)) }
-    ensures range { IfOk result (λ x. IsStepInRange x.0) }
-    ensures shorter { IfOk result (λ x. length x.1.now ≤ length rest.now) }
-{
-    let (device, rest) = next_handle(b'k', rest)?;
-    Ok((KernelStep::Unplug { device }, rest))
-}
-
-/// `clock TIME`
-#[tactic(auto, unfolding(crate::specs::StepForms::clock_at))]
-fn clock_step(rest: &[u8]) -> Result<(KernelStep, &[u8]), LineError>
-    ensures value { Gives (λ x. (x.0, words_of x.1.now)) result (clock_at (words_of rest.now)) }
-    ensures range { IfOk result (λ x. IsStepInRange x.0) }
-    ensures shorter { IfOk result (λ x. length x.1.now ≤ length rest.now) }
-{
-    let (to, rest) = next_number(MAX_TIME, rest)?;
-    Ok((KernelStep::Clock { to }, rest))
-}
-
-/// Whether no further word of a step stands here.
-fn step_ends(rest: &[u8]) -> Result<bool, LineError>
-    ensures value { Gives (λ ends. ends) result (Some (step_ends (words_of rest.now))) }
-{
-    match next_word(rest) {
-        Ok((word, _)) => Ok(word == b";".as_slice()),
-        Err(LineError::Malformed) => Ok(true),
-        Err(LineError::Memory) => Err(LineError::Memory),
+    if words.is_empty() {
+        return Ok(KernelStep::Reap { ticket: None });
     }
+    let ticket = number(MAX_TICKET, one_word(words)?)?;
+    Ok(KernelStep::Reap {
+        ticket: Some(ticket),
+    })
 }
 
-/// `reap T`
-#[tactic(auto, unfolding(crate::specs::StepForms::reap_named_at))]
-fn reap_named_step(rest: &[u8]) -> Result<(KernelStep, &[u8]), LineError>
-    ensures value { Gives (λ x. (x.0, words_of x.1.now)) result (reap_named_at (words_of rest.now)) }
-    ensures range { IfOk result (λ x. IsStepInRange x.0) }
-    ensures shorter { IfOk result (λ x. length x.1.now ≤ length rest.now) }
-{
-    let (ticket, rest) = next_number(MAX_TICKET, rest)?;
-    let ticket = Some(ticket);
-    Ok((KernelStep::Reap { ticket }, rest))
-}
-
-/// `reap T`, or `reap` alone
-#[tactic(auto, unfolding(crate::specs::StepForms::reap_at))]
-fn reap_step(rest: &[u8]) -> Result<(KernelStep, &[u8]), LineError>
-    ensures value { Gives (λ x. (x.0, words_of x.1.now)) result (reap_at (words_of rest.now)) }
-    ensures range { IfOk result (λ x. IsStepInRange x.0) }
-    ensures shorter { IfOk result (λ x. length x.1.now ≤ length rest.now) }
-{
-    if step_ends(rest)? {
-        return Ok((KernelStep::Reap { ticket: None }, rest));
-    }
-    reap_named_step(rest)
-}
-
-/// `refuse k CALL ERRNO`
-#[tactic(auto, unfolding(crate::specs::StepForms::refuse_at))]
-fn refuse_step(rest: &[u8]) -> Result<(KernelStep, &[u8]), LineError>
-    ensures value { Gives (λ x. (x.0, words_of x.1.now)) result (refuse_at (words_of rest.now)) }
-    ensures range { IfOk result (λ x. IsStepInRange x.0) }
-    ensures shorter { IfOk result (λ x. length x.1.now ≤ length rest.now) }
-{
-    let (device, rest) = next_handle(b'k', rest)?;
-    let (call, rest) = next_call(rest)?;
-    let (errno, rest) = next_errno(rest)?;
-    let step = KernelStep::Refuse {
-        device,
-        call,
-        errno,
-    };
-    Ok((step, rest))
-}
-
-/// A step that comes to an endpoint, with this first word, and what follows it.
-#[tactic(auto, unfolding(crate::specs::StepForms::endpoint_step_named))]
-fn endpoint_step<'a>(
-    alloc: Global,
-    name: &[u8],
-    rest: &'a [u8],
-) -> Result<(KernelStep, &'a [u8]), LineError>
-    ensures value { Gives (λ x. (x.0, words_of x.1.now)) result (endpoint_step_named name.now (words_of rest.now)) }
-    ensures range { IfOk result (λ x. IsStepInRange x.0) }
-    ensures shorter { IfOk result (λ x. length x.1.now ≤ length rest.now) }
+/// `pkt k HH BYTES`, `ack k HH`, `fail k HH ERRNO`
+#[tactic(auto, unfolding(crate::specs::StepForms::endpoint_step_of))]
+fn endpoint_step(alloc: Global, name: &[u8], words: &[&[u8]]) -> Result<KernelStep, LineError>
+    ensures value { Gives (λ s. s) result (endpoint_step_of name.now (texts words.now)) }
+    ensures range { IfOk result IsStepInRange }
 {
     if name == b"pkt".as_slice() {
-        packet_step(alloc, rest)
+        let (device, endpoint, sent) = three_words(words)?;
+        Ok(KernelStep::Packet {
+            device: handle(b'k', device)?,
+            endpoint: hex_byte(endpoint)?,
+            bytes: bytes(alloc, sent)?,
+        })
     } else if name == b"ack".as_slice() {
-        ack_step(rest)
+        let (device, endpoint) = two_words(words)?;
+        Ok(KernelStep::Ack {
+            device: handle(b'k', device)?,
+            endpoint: hex_byte(endpoint)?,
+        })
     } else if name == b"fail".as_slice() {
-        fail_step(rest)
+        let (device, endpoint, code) = three_words(words)?;
+        Ok(KernelStep::Fail {
+            device: handle(b'k', device)?,
+            endpoint: hex_byte(endpoint)?,
+            errno: errno(code)?,
+        })
     } else {
         Err(LineError::Malformed)
     }
 }
 
-/// The step with this first word, and what follows it.
+/// `unplug k`, `clock TIME`, `timer`, `reap`, `refuse k CALL ERRNO`, or a step that comes to an
+/// endpoint
 #[tactic(auto, unfolding(crate::specs::StepForms::step_named))]
-pub fn named_step<'a>(
-    alloc: Global,
-    name: &[u8],
-    rest: &'a [u8],
-) -> Result<(KernelStep, &'a [u8]), LineError>
-    ensures value { Gives (λ x. (x.0, words_of x.1.now)) result (step_named name.now (words_of rest.now)) }
-    ensures range { IfOk result (λ x. IsStepInRange x.0) }
-    ensures shorter { IfOk result (λ x. length x.1.now ≤ length rest.now) }
+fn named_step(alloc: Global, name: &[u8], words: &[&[u8]]) -> Result<KernelStep, LineError>
+    ensures value { Gives (λ s. s) result (step_named name.now (texts words.now)) }
+    ensures range { IfOk result IsStepInRange }
 {
     if name == b"unplug".as_slice() {
-        unplug_step(rest)
+        let device = handle(b'k', one_word(words)?)?;
+        Ok(KernelStep::Unplug { device })
     } else if name == b"clock".as_slice() {
-        clock_step(rest)
+        let to = number(MAX_TIME, one_word(words)?)?;
+        Ok(KernelStep::Clock { to })
+    } else if name == b"timer".as_slice() {
+        no_word(words)?;
+        Ok(KernelStep::Timer)
     } else if name == b"reap".as_slice() {
-        reap_step(rest)
+        reap_step(words)
     } else if name == b"refuse".as_slice() {
-        refuse_step(rest)
+        let (device, kind, code) = three_words(words)?;
+        Ok(KernelStep::Refuse {
+            device: handle(b'k', device)?,
+            call: call(kind)?,
+            errno: errno(code)?,
+        })
     } else {
-        endpoint_step(alloc, name, rest)
+        endpoint_step(alloc, name, words)
+    }
+}
+
+/// The step of these words.
+#[tactic(auto, unfolding(crate::specs::StepForms::step_of))]
+pub fn step(alloc: Global, words: &[&[u8]]) -> Result<KernelStep, LineError>
+    ensures value { Gives (λ s. s) result (step_of (texts words.now)) }
+    ensures range { IfOk result IsStepInRange }
+{
+    match words {
+        [name, rest @ ..] => named_step(alloc, *name, rest),
+        _ => Err(LineError::Malformed),
     }
 }

@@ -1,11 +1,12 @@
 //! Words of a line, and what each of them spells.
 
-ghost use Rattle.std.specs.Prelude.{◌≡◌, ◌<◌, ◌≤◌, ◌≢◌, ℕ, length, slice_index, IfOk};
+ghost use Rattle.std.specs.Prelude.{◌≡◌, ◌<◌, ◌≤◌, ◌≢◌, ℕ, length, slice_index, [], ◌∷◌, IfOk, IfErr, IfSome, IfNone};
+ghost use Rattle.usb_script.specs.declared.reading.LineError.TheVariants.{Memory};
+ghost use Rattle.usb_script.specs.Fields.{texts};
 ghost use Rattle.hex.specs.Hex.{hex_digit_value};
 ghost use Rattle.usb_script.specs.Lines.{words_of, is_skipped};
 ghost use Rattle.usb_script.specs.Outcome.{Gives};
-ghost use Rattle.usb_script.specs.Words.{word_at, digits_after, decimal_of, number_of, time_of, has_leading_zero, index_of, handle_of, hex_byte_of, bytes_of, kind_of, errno_of, call_of};
-ghost use Rattle.usb_script.specs.Fields.{number_at, time_at, handle_at, hex_byte_at, bytes_at, kind_at, errno_at, call_at};
+ghost use Rattle.usb_script.specs.Words.{digits_after, decimal_of, number_of, number_between, time_of, has_leading_zero, index_of, handle_of, hex_byte_of, bytes_of, kind_of, errno_of, call_of};
 ghost use Rattle.usb_kernel.specs.Submissions.{IsErrno};
 ghost use Rattle.usb_script.specs.ItemRanges.{IsTimeout, IsOpenable};
 
@@ -49,84 +50,108 @@ fn word_len(line: &[u8]) -> usize
 }
 
 /// The first word of a line, and what follows it.
-pub fn next_word(line: &[u8]) -> Result<(&[u8], &[u8]), LineError>
-    ensures value { Gives (λ x. (x.0.now, words_of x.1.now)) result (word_at (words_of line.now)) }
-    ensures shorter { IfOk result (λ x. length x.1.now < length line.now) }
+fn next_word(line: &[u8]) -> Option<(&[u8], &[u8])>
+    ensures some { IfSome result (λ x. words_of line.now ≡ x.0.now ∷ words_of x.1.now) }
+    ensures none { IfNone result (words_of line.now ≡ []) }
+    ensures shorter { IfSome result (λ x. length x.1.now < length line.now) }
 {
     let rest = skip_spaces(line);
     if rest.is_empty() {
-        return Err(LineError::Malformed);
+        return None;
     }
     let len = word_len(rest);
-    Ok(rest.split_at(len))
+    Some(rest.split_at(len))
+}
+
+/// The words of a line.
+pub fn split_words(alloc: Global, line: &[u8]) -> Result<Vec<&[u8]>, LineError>
+    ensures value { IfOk result (λ words. texts words.items ≡ words_of line.now) }
+    ensures few { IfOk result (λ words. length words.items ≤ length line.now) }
+    ensures only { IfErr result (λ e. e ≡ Memory) }
+{
+    let mut words = Vec::new(alloc);
+    let mut rest = line;
+    while let Some((word, after)) = next_word(rest) {
+        words.push(word)?;
+        rest = after;
+    }
+    Ok(words)
 }
 
 /// The number that the digits make.
-fn digits(word: &[u8]) -> Result<u64, LineError>
+fn digits(word: &[u8]) -> Option<u64>
     requires few { length word.now ≤ 19 }
-    ensures value { Gives (λ n. n) result (digits_after 0 word.now) }
+    ensures value { result ≡ digits_after 0 word.now }
 {
     let mut value = 0u64;
     for b in word {
-        if *b < b'0' || *b > b'9' {
-            return Err(LineError::Malformed);
+        if !b.is_ascii_digit() {
+            return None;
         }
         value = value * 10 + u64::from(*b - b'0');
     }
-    Ok(value)
+    Some(value)
 }
 
 /// A number of 1 to 19 decimal digits.
 #[tactic(auto, unfolding(crate::specs::Words::decimal_of))]
-fn decimal(word: &[u8]) -> Result<u64, LineError>
-    ensures value { Gives (λ n. n) result (decimal_of word.now) }
+fn decimal(word: &[u8]) -> Option<u64>
+    ensures value { result ≡ decimal_of word.now }
 {
-    if word.is_empty() {
-        return Err(LineError::Malformed);
-    }
-    if word.len() > 19 {
-        return Err(LineError::Malformed);
+    if word.is_empty() || word.len() > 19 {
+        return None;
     }
     digits(word)
 }
 
-/// A number up to this one.
-#[tactic(auto, unfolding(crate::specs::Words::number_of))]
-fn number(limit: u64, word: &[u8]) -> Result<u64, LineError>
-    ensures value { Gives (λ n. n) result (number_of limit word.now) }
-    ensures small { IfOk result (λ n. n ≤ limit) }
+/// A number of 1 to 19 decimal digits that is in the range.
+#[tactic(auto, unfolding(crate::specs::Words::number_of, crate::specs::Words::number_between))]
+pub fn number_between(least: u64, most: u64, word: &[u8]) -> Option<u64>
+    ensures value { result ≡ number_between least most word.now }
+    ensures range { IfSome result (λ n. (least ≤ n) × (n ≤ most)) }
 {
     let value = decimal(word)?;
-    if value > limit {
+    if !(least..=most).contains(&value) {
+        return None;
+    }
+    Some(value)
+}
+
+/// A number up to this one.
+#[tactic(auto, unfolding(crate::specs::Words::number_of))]
+pub fn number(most: u64, word: &[u8]) -> Result<u64, LineError>
+    ensures value { Gives (λ n. n) result (number_of most word.now) }
+    ensures small { IfOk result (λ n. n ≤ most) }
+{
+    let Some(value) = decimal(word) else {
+        return Err(LineError::Malformed);
+    };
+    if value > most {
         return Err(LineError::Malformed);
     }
     Ok(value)
 }
 
-/// The number up to this one that the first word is, and what follows it.
-#[tactic(auto, unfolding(crate::specs::Fields::number_at))]
-pub fn next_number(limit: u64, line: &[u8]) -> Result<(u64, &[u8]), LineError>
-    ensures value { Gives (λ x. (x.0, words_of x.1.now)) result (number_at limit (words_of line.now)) }
-    ensures small { IfOk result (λ x. x.0 ≤ limit) }
-    ensures shorter { IfOk result (λ x. length x.1.now < length line.now) }
+/// A byte in decimal.
+pub fn byte(word: &[u8]) -> Result<u8, LineError>
+    ensures value { Gives (λ n. n) result (number_of 255 word.now) }
 {
-    let (word, rest) = next_word(line)?;
-    let value = number(limit, word)?;
-    Ok((value, rest))
+    let value = number(255, word)?;
+    Ok(value as u8)
 }
 
-/// The byte that the first word is, in decimal, and what follows it.
-pub fn next_byte(line: &[u8]) -> Result<(u8, &[u8]), LineError>
-    ensures value { Gives (λ x. (x.0, words_of x.1.now)) result (number_at 255 (words_of line.now)) }
-    ensures shorter { IfOk result (λ x. length x.1.now < length line.now) }
+/// How many bytes are wanted, at most 65536.
+pub fn length(word: &[u8]) -> Result<u32, LineError>
+    ensures value { Gives (λ n. n) result (number_of 65536 word.now) }
+    ensures small { IfOk result (λ n. n ≤ 65536) }
 {
-    let (value, rest) = next_number(255, line)?;
-    Ok((value as u8, rest))
+    let value = number(65536, word)?;
+    Ok(value as u32)
 }
 
 /// A time in nanoseconds, where `max` is the greatest one.
 #[tactic(auto, unfolding(crate::specs::Words::time_of))]
-fn time(word: &[u8]) -> Result<u64, LineError>
+pub fn time(word: &[u8]) -> Result<u64, LineError>
     ensures value { Gives (λ n. n) result (time_of word.now) }
     ensures range { IfOk result IsTimeout }
 {
@@ -135,18 +160,6 @@ fn time(word: &[u8]) -> Result<u64, LineError>
     } else {
         number(MAX_TIME, word)
     }
-}
-
-/// The time that the first word is, and what follows it.
-#[tactic(auto, unfolding(crate::specs::Fields::time_at))]
-pub fn next_time(line: &[u8]) -> Result<(u64, &[u8]), LineError>
-    ensures value { Gives (λ x. (x.0, words_of x.1.now)) result (time_at (words_of line.now)) }
-    ensures range { IfOk result (λ x. IsTimeout x.0) }
-    ensures shorter { IfOk result (λ x. length x.1.now < length line.now) }
-{
-    let (word, rest) = next_word(line)?;
-    let time = time(word)?;
-    Ok((time, rest))
 }
 
 /// Whether a further digit follows a 0.
@@ -171,7 +184,7 @@ fn index(digits: &[u8]) -> Result<u8, LineError>
 
 /// The number of a name with this letter.
 #[tactic(auto, unfolding(crate::specs::Words::handle_of))]
-fn handle(letter: u8, word: &[u8]) -> Result<u8, LineError>
+pub fn handle(letter: u8, word: &[u8]) -> Result<u8, LineError>
     ensures value { Gives (λ n. n) result (handle_of letter word.now) }
     ensures small { IfOk result (λ n. n < 64) }
 {
@@ -181,34 +194,22 @@ fn handle(letter: u8, word: &[u8]) -> Result<u8, LineError>
     }
 }
 
-/// The number of the name that the first word is, and what follows it.
-#[tactic(auto, unfolding(crate::specs::Fields::handle_at))]
-pub fn next_handle(letter: u8, line: &[u8]) -> Result<(u8, &[u8]), LineError>
-    ensures value { Gives (λ x. (x.0, words_of x.1.now)) result (handle_at letter (words_of line.now)) }
-    ensures small { IfOk result (λ x. x.0 < 64) }
-    ensures shorter { IfOk result (λ x. length x.1.now < length line.now) }
-{
-    let (word, rest) = next_word(line)?;
-    let index = handle(letter, word)?;
-    Ok((index, rest))
-}
-
 /// The value of a hexadecimal digit, in either case.
 fn hex_digit(digit: u8) -> Result<u8, LineError>
     ensures value { Gives (λ n. n) result (hex_digit_value digit) }
     ensures small { IfOk result (λ n. n < 16) }
 {
     match digit {
-        b'A'..=b'F' => Ok(digit - 55),
-        b'a'..=b'f' => Ok(digit - 87),
-        b'0'..=b'9' => Ok(digit - 48),
+        b'A'..=b'F' => Ok(digit - b'A' + 10),
+        b'a'..=b'f' => Ok(digit - b'a' + 10),
+        b'0'..=b'9' => Ok(digit - b'0'),
         _ => Err(LineError::Malformed),
     }
 }
 
 /// A byte as two hexadecimal digits.
 #[tactic(auto, unfolding(crate::specs::Words::hex_byte_of))]
-fn hex_byte(word: &[u8]) -> Result<u8, LineError>
+pub fn hex_byte(word: &[u8]) -> Result<u8, LineError>
     ensures value { Gives (λ n. n) result (hex_byte_of word.now) }
 {
     match word {
@@ -221,20 +222,9 @@ fn hex_byte(word: &[u8]) -> Result<u8, LineError>
     }
 }
 
-/// The byte that the first word is, as two hexadecimal digits, and what follows it.
-#[tactic(auto, unfolding(crate::specs::Fields::hex_byte_at))]
-pub fn next_hex_byte(line: &[u8]) -> Result<(u8, &[u8]), LineError>
-    ensures value { Gives (λ x. (x.0, words_of x.1.now)) result (hex_byte_at (words_of line.now)) }
-    ensures shorter { IfOk result (λ x. length x.1.now < length line.now) }
-{
-    let (word, rest) = next_word(line)?;
-    let byte = hex_byte(word)?;
-    Ok((byte, rest))
-}
-
 /// The bytes of a word of hexadecimal digits, or of a dash.
 #[tactic(auto, unfolding(crate::specs::Words::bytes_of))]
-fn bytes(alloc: Global, word: &[u8]) -> Result<Bytes, LineError>
+pub fn bytes(alloc: Global, word: &[u8]) -> Result<Bytes, LineError>
     ensures value { Gives (λ b. b) result (bytes_of word.now) }
     ensures few { IfOk result (λ b. length b ≤ 65536) }
 {
@@ -248,21 +238,9 @@ fn bytes(alloc: Global, word: &[u8]) -> Result<Bytes, LineError>
     }
 }
 
-/// The bytes that the first word is, and what follows it.
-#[tactic(auto, unfolding(crate::specs::Fields::bytes_at))]
-pub fn next_bytes(alloc: Global, line: &[u8]) -> Result<(Bytes, &[u8]), LineError>
-    ensures value { Gives (λ x. (x.0, words_of x.1.now)) result (bytes_at (words_of line.now)) }
-    ensures few { IfOk result (λ x. length x.0 ≤ 65536) }
-    ensures shorter { IfOk result (λ x. length x.1.now < length line.now) }
-{
-    let (word, rest) = next_word(line)?;
-    let bytes = bytes(alloc, word)?;
-    Ok((bytes, rest))
-}
-
 /// The kind of an endpoint: its transfer type and its direction.
 #[tactic(auto, unfolding(crate::specs::Words::kind_of))]
-fn kind(word: &[u8]) -> Result<(TransferType, Direction), LineError>
+pub fn kind(word: &[u8]) -> Result<(TransferType, Direction), LineError>
     ensures value { Gives (λ k. k) result (kind_of word.now) }
     ensures openable { IfOk result (λ k. IsOpenable k.0) }
 {
@@ -279,46 +257,21 @@ fn kind(word: &[u8]) -> Result<(TransferType, Direction), LineError>
     }
 }
 
-/// The kind of an endpoint that the first word is, and what follows it.
-#[tactic(auto, unfolding(crate::specs::Fields::kind_at))]
-pub fn next_kind(line: &[u8]) -> Result<((TransferType, Direction), &[u8]), LineError>
-    ensures value { Gives (λ x. (x.0, words_of x.1.now)) result (kind_at (words_of line.now)) }
-    ensures openable { IfOk result (λ x. IsOpenable x.0.0) }
-    ensures shorter { IfOk result (λ x. length x.1.now < length line.now) }
-{
-    let (word, rest) = next_word(line)?;
-    let kind = kind(word)?;
-    Ok((kind, rest))
-}
-
 /// The number of an error, from 1 to 4095.
 #[tactic(auto, unfolding(crate::specs::Words::errno_of))]
-fn errno(word: &[u8]) -> Result<u16, LineError>
+pub fn errno(word: &[u8]) -> Result<u16, LineError>
     ensures value { Gives (λ n. n) result (errno_of word.now) }
     ensures errno { IfOk result IsErrno }
 {
-    let value = number(4095, word)?;
-    if value == 0 {
+    let Some(value) = number_between(1, 4095, word) else {
         return Err(LineError::Malformed);
-    }
+    };
     Ok(value as u16)
-}
-
-/// The number of an error that the first word is, and what follows it.
-#[tactic(auto, unfolding(crate::specs::Fields::errno_at))]
-pub fn next_errno(line: &[u8]) -> Result<(u16, &[u8]), LineError>
-    ensures value { Gives (λ x. (x.0, words_of x.1.now)) result (errno_at (words_of line.now)) }
-    ensures errno { IfOk result (λ x. IsErrno x.0) }
-    ensures shorter { IfOk result (λ x. length x.1.now < length line.now) }
-{
-    let (word, rest) = next_word(line)?;
-    let errno = errno(word)?;
-    Ok((errno, rest))
 }
 
 /// The kind of call that a refusal is for.
 #[tactic(auto, unfolding(crate::specs::Words::call_of))]
-fn call(word: &[u8]) -> Result<KernelCall, LineError>
+pub fn call(word: &[u8]) -> Result<KernelCall, LineError>
     ensures value { Gives (λ c. c) result (call_of word.now) }
 {
     if word == b"submit".as_slice() {
@@ -326,15 +279,4 @@ fn call(word: &[u8]) -> Result<KernelCall, LineError>
     } else {
         Err(LineError::Malformed)
     }
-}
-
-/// The kind of call that the first word is, and what follows it.
-#[tactic(auto, unfolding(crate::specs::Fields::call_at))]
-pub fn next_call(line: &[u8]) -> Result<(KernelCall, &[u8]), LineError>
-    ensures value { Gives (λ x. (x.0, words_of x.1.now)) result (call_at (words_of line.now)) }
-    ensures shorter { IfOk result (λ x. length x.1.now < length line.now) }
-{
-    let (word, rest) = next_word(line)?;
-    let call = call(word)?;
-    Ok((call, rest))
 }

@@ -11,7 +11,7 @@ use usb_kernel::{KernelCall, KernelStep};
 #[test]
 fn takes_each_step_within_its_bounds(rt: HostRuntime) {
     let malformed = Err(SessionError::Malformed { line: 1 });
-    let table: [(&str, Result<usize, SessionError>); 39] = [
+    let table: [(&str, Result<usize, SessionError>); 43] = [
         ("! pkt k0 81 01 ; pkt k0 81 0203 ; reap 1", Ok(1)),
         ("! pkt k63 81 -", Ok(1)),
         ("! reap 4294967295", Ok(1)),
@@ -39,6 +39,10 @@ fn takes_each_step_within_its_bounds(rt: HostRuntime) {
         ("! clock 1000000000000000001", malformed),
         ("! clock max", malformed),
         ("! clock", malformed),
+        ("! timer", Ok(1)),
+        ("! clock 5 ; timer ; timer", Ok(1)),
+        ("! timer k0", malformed),
+        ("! timer 5", malformed),
         ("! reap", Ok(1)),
         ("! reap ; reap 1", Ok(1)),
         ("! reap 1 ; reap", Ok(1)),
@@ -58,12 +62,12 @@ fn takes_each_step_within_its_bounds(rt: HostRuntime) {
 }
 
 const EACH_STEP: &str =
-    "! pkt k18 93 1415 ; ack k16 17 ; fail k19 20 21 ; unplug k22 ; clock 23 ; reap 24 ; reap ; refuse k25 submit 26";
+    "! pkt k18 93 1415 ; ack k16 17 ; fail k19 20 21 ; unplug k22 ; clock 23 ; timer ; reap 24 ; reap ; refuse k25 submit 26";
 
 #[test]
 fn reads_the_words_of_each_step(rt: HostRuntime) -> Result<(), Fail> {
     let script = parse_script(rt.alloc(), EACH_STEP.as_bytes())?;
-    assert_eq!(rt; script.step_count(), 8);
+    assert_eq!(rt; script.step_count(), 9);
     let [Item::Steps(steps)] = script.items() else {
         panic!(rt; "one line of steps");
     };
@@ -77,6 +81,7 @@ fn reads_the_words_of_each_step(rt: HostRuntime) -> Result<(), Fail> {
         "fail 19 32 21",
         "unplug 22",
         "clock 23",
+        "timer",
         "reap Some(24)",
         "reap None",
         "refuse 25 submit 26",
@@ -118,12 +123,14 @@ fn text_of(alloc: Global, step: &KernelStep) -> Result<String, Fail> {
         } => format!(in alloc; "fail {device} {endpoint} {errno}")?,
         KernelStep::Unplug { device } => format!(in alloc; "unplug {device}")?,
         KernelStep::Clock { to } => format!(in alloc; "clock {to}")?,
+        KernelStep::Timer => format!(in alloc; "timer")?,
         KernelStep::Reap { ticket } => format!(in alloc; "reap {ticket:?}")?,
         KernelStep::Refuse {
             device,
             call: KernelCall::Submit,
             errno,
         } => format!(in alloc; "refuse {device} submit {errno}")?,
+        KernelStep::Refuse { .. } => format!(in alloc; "refuse another call")?,
     };
     Ok(text)
 }
