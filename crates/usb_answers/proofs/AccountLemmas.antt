@@ -150,7 +150,7 @@ endpoint_on-accounted state e None address kind direction free a = a
 endpoint_on-accounted state e (Some f) address kind direction free a =
     endpoint_by-accounted state e f.key (slice_get state.host.interfaces f.key) address kind direction free a
 
-barred-free : (state : State) (e i : ℕ) → endpoint_barred state e i ≡ false → is_free state.endpoints e ≡ true
+pub barred-free : (state : State) (e i : ℕ) → endpoint_barred state e i ≡ false → is_free state.endpoints e ≡ true
 unfolding endpoint_barred
 barred-free state e i allowed = endpoint-free (is_free state.endpoints e) _ allowed
 
@@ -309,7 +309,7 @@ transfer_ended-accounted state e b timeout h here none a =
       count = takes.count ∙ waits.count ∙ one.count ∙ ap (λ m. m + 1) a.count ∙ sym (takes.past ∙ waits.past ∙ one.past);
     }
 
-transfer-free : (past : List Event) (direction : Direction) (h : EndpointState) → transfer_barred_by past direction (Some h) ≡ false → length h.pending ≡ 0
+pub transfer-free : (past : List Event) (direction : Direction) (h : EndpointState) → transfer_barred_by past direction (Some h) ≡ false → length h.pending ≡ 0
 transfer-free past direction h allowed =
     let others = or_parts _ (not (length h.pending == 0) || nat_le 1024 (unreaped past)) allowed in
     let none = or_parts (not (length h.pending == 0)) (nat_le 1024 (unreaped past)) others.1 in

@@ -27,7 +27,7 @@ map-change v f g [] n same = refl
 map-change v f g (x ∷ xs) zero same = let first = same x refl in cc
 map-change v f g (x ∷ xs) (suc n) same = let others = map-change v f g xs n same in cc
 
-change-change : {X : Type 0} (f g h : X → X) (xs : List X) (n : ℕ) → ((x : X) → slice_get xs n ≡ Some x → g (f x) ≡ h x) → change_at g (change_at f xs n) n ≡ change_at h xs n
+pub change-change : {X : Type 0} (f g h : X → X) (xs : List X) (n : ℕ) → ((x : X) → slice_get xs n ≡ Some x → g (f x) ≡ h x) → change_at g (change_at f xs n) n ≡ change_at h xs n
 change-change f g h [] n same = refl
 change-change f g h (x ∷ xs) zero same = let first = same x refl in cc
 change-change f g h (x ∷ xs) (suc n) same = let others = change-change f g h xs n same in cc

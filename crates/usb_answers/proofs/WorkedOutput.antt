@@ -11,7 +11,6 @@ use Rattle.usb_desc.specs.Configurations.{concatenated, configurations}
 use Rattle.usb_desc.specs.Interfaces.{interfaces_among}
 use Rattle.usb_kernel.specs.declared.step.KernelCall.TheVariants.{Submit}
 use Rattle.usb_kernel.specs.declared.step.KernelStep.TheVariants.{Packet, Ack, Fail, Unplug, Clock, Reap, Refuse}
-use Rattle.usb_kernel.specs.Interfaces.{no_interfaces, interfaces_of}
 use Rattle.usb_kernel.specs.Completions.{completion}
 use Rattle.usb_kernel.specs.Info.{unreaped}
 use Rattle.usb_bus.specs.Completions.{transfer_completion}
@@ -52,10 +51,11 @@ use Rattle.usb_answers.specs.Answers.{now_answer, open_answer, device_descriptor
 use Rattle.usb_answers.specs.Ends.{interface_closed, all_closed, ended}
 use Rattle.usb_answers.specs.Fates.{fate_line, fate_lines}
 use Rattle.usb_answers.specs.Output.{start, output}
+use Rattle.usb_answers.specs.Served.{Handle, handles}
 
 -- all that an output unfolds
 unfoldable output_on_literals : ⊤
-unfolding output start answer now_answer open_answer device_descriptor_answer descriptors_answer claim_answer endpoint_answer submit_answer pending_answer poll_answer wait_answer transfer_answer cancel_answer close_answer steps_answer open_barred opened claim_barred claimed endpoint_barred endpoint_opened submit_barred submitted poll_barred polled stepped_all waited transfer_barred transferred is_not_open cancelled closed interface_closed all_closed ended fate_line fate_lines named is_free change_named freed set_name is_used_among is_owned_among claim_ended claim_of owner_gone settled descriptors_tried open_tried host_claimed host_asked endpoint_of_setting host_tries host_submitted host_refused host_discarded host_left host_ended host_taken host_abandoned came host_stepped host_reaped host_waited host_blocked handle_closed finished transfer_completion completion unreaped no_interfaces interfaces_of chain groups concatenated configurations interfaces_among hex_word error_line done_line count_line now_line ticket_line device_line endpoint_words class_words setting_words configuration_words descriptors_line digits encode_with
+unfolding output start answer now_answer open_answer device_descriptor_answer descriptors_answer claim_answer endpoint_answer submit_answer pending_answer poll_answer wait_answer transfer_answer cancel_answer close_answer steps_answer open_barred opened claim_barred claimed endpoint_barred endpoint_opened submit_barred submitted poll_barred polled stepped_all waited transfer_barred transferred is_not_open cancelled closed interface_closed all_closed ended fate_line fate_lines named is_free change_named freed set_name is_used_among is_owned_among claim_ended claim_of owner_gone settled descriptors_tried open_tried host_claimed host_asked endpoint_of_setting host_tries host_submitted host_refused host_discarded host_left host_ended host_taken host_abandoned came host_stepped host_reaped host_waited host_blocked handle_closed finished transfer_completion completion unreaped chain groups concatenated configurations interfaces_among hex_word error_line done_line count_line now_line ticket_line device_line endpoint_words class_words setting_words configuration_words descriptors_line digits encode_with
 output_on_literals = tt
 
 -- a line of a script, the item that it is, and the line that it is answered, which is empty where it has no answer
@@ -432,6 +432,32 @@ acknowledgements : IsAnswered
     ∷ codes "ticket 1 k3 02 stall 4 taken" ∷ [])
 unfolding script_on_literals output_on_literals
 acknowledgements = (refl, refl)
+
+-- what became of each endpoint of a script: its tickets, how many of them were taken, and the lines that printed these
+abbrev endpoints_of : List Line → List (List ℕ × ℕ × List (List ℕ))
+endpoints_of lines = map (λ (h : Handle). (h.endpoint.tickets, h.endpoint.taken, h.lines)) (handles (items lines))
+
+-- two endpoints under one name, the first closed with two tickets; and one whose tickets are polled, cancelled and transferred
+one_name_twice : endpoints_of
+    (with_endpoint
+    ((codes "submitin e0 64", SubmitIn 0 64, codes "ok")
+    ∷ (codes "submitin e0 64", SubmitIn 0 64, codes "ok")
+    ∷ (codes "! pkt k0 81 01 ; reap", Steps (Packet 0 129 (1 ∷ []) ∷ Reap None ∷ []), [])
+    ∷ (codes "poll e0", Poll 0, codes "done ok 1 64 01")
+    ∷ (codes "poll e0", Poll 0, codes "pending")
+    ∷ (codes "close e0", CloseEndpoint 0, codes "ok")
+    ∷ (codes "! reap 1", Steps (Reap (Some 1) ∷ []), [])
+    ∷ (codes "endpoint e0 i0 81 bulk-in", Endpoint 0 0 129 Bulk In, codes "ok")
+    ∷ (codes "xferin e0 64 5", TransferIn 0 64 5 [], codes "done cancelled 0 64 -")
+    ∷ (codes "submitin e0 64", SubmitIn 0 64, codes "ok")
+    ∷ (codes "submitin e0 64", SubmitIn 0 64, codes "ok")
+    ∷ (codes "wait e0 9 : pkt k0 81 02 ; reap", Wait 0 9 (Packet 0 129 (2 ∷ []) ∷ Reap None ∷ []), codes "done ok 1 64 02")
+    ∷ []))
+    ≡ (0 ∷ 1 ∷ [], 1, with_end (codes "done ok 1 64 01") ∷ [])
+    ∷ (2 ∷ 3 ∷ 4 ∷ [], 2, with_end (codes "done cancelled 0 64 -") ∷ with_end (codes "done ok 1 64 02") ∷ [])
+    ∷ []
+unfolding output_on_literals handles
+one_name_twice = refl
 
 -- an endpoint with so many pending transfers
 abbrev endpoint_with : ℕ → EndpointState

@@ -1,5 +1,5 @@
 -- What each line of a script is answered.
-use Rattle.std.specs.Prelude.{ℕ, List, [], length, slice_get, Option, Some, None, option_and_then, if◌then◌else◌}
+use Rattle.std.specs.Prelude.{ℕ, Bool, List, [], length, slice_get, Option, Some, None, option_and_then, if◌then◌else◌}
 use Rattle.usb_desc.specs.declared.types.Direction.{Direction}
 use Rattle.usb_desc.specs.declared.types.Direction.TheVariants as direction
 use Rattle.usb_desc.specs.declared.types.TransferType.{TransferType}
@@ -14,7 +14,7 @@ use Rattle.usb_lines.specs.Completions.{polled_line, waited_line, count_line, no
 use Rattle.usb_lines.specs.Devices.{device_line}
 use Rattle.usb_lines.specs.Descriptors.{descriptors_line}
 use Rattle.usb_answers.specs.Names.{named}
-use Rattle.usb_answers.specs.State.{State, handle_of}
+use Rattle.usb_answers.specs.State.{State, Given, handle_of}
 use Rattle.usb_answers.specs.Opens.{open_barred, opened}
 use Rattle.usb_answers.specs.Claims.{claim_barred, claimed}
 use Rattle.usb_answers.specs.Endpoints.{endpoint_barred, endpoint_opened}
@@ -35,13 +35,16 @@ pub record Answer : Type 0 where
 abbrev pub barred : State → Answer
 barred state = record { state = state; line = condition_line }
 
+-- the answer of a call that may be barred: it does nothing then, and else what the call makes of the state, and the line of what it gives
+abbrev pub answered : {X : Type 0} → Answer → Bool → (X → List ℕ) → Given X → Answer
+answered nothing bars line given = if bars then nothing else record { state = given.state; line = line given.value }
+
 unfoldable pub now_answer : State → Answer
 now_answer state = record { state = state; line = now_line state.host.kernel.clock }
 
 unfoldable pub open_answer : State → ℕ → ℕ → ℕ → Answer
 open_answer state d bus address =
-    if open_barred state d then barred state
-    else record { state = (opened state d bus address).state; line = tried_line (opened state d bus address).value }
+    answered (barred state) (open_barred state d) tried_line (opened state d bus address)
 
 -- what an open device is asked: barred where it is not open, and nothing changes
 abbrev pub asked : State → (OpenDevice → List ℕ) → Option OpenDevice → Answer
@@ -59,16 +62,11 @@ descriptors_answer state d = asked state (λ o. descriptors_line o.descriptors) 
 
 unfoldable pub claim_answer : State → ℕ → ℕ → ℕ → Answer
 claim_answer state d number i =
-    if claim_barred state d i then barred state
-    else record { state = (claimed state d number i).state; line = tried_line (claimed state d number i).value }
+    answered (barred state) (claim_barred state d i) tried_line (claimed state d number i)
 
 unfoldable pub endpoint_answer : State → ℕ → ℕ → ℕ → TransferType → Direction → Answer
 endpoint_answer state e i address kind direction =
-    if endpoint_barred state e i then barred state
-    else record {
-      state = (endpoint_opened state e i address kind direction).state;
-      line = tried_line (endpoint_opened state e i address kind direction).value;
-    }
+    answered (barred state) (endpoint_barred state e i) tried_line (endpoint_opened state e i address kind direction)
 
 unfoldable pub submit_answer : State → Direction → ℕ → BufferState → Answer
 submit_answer state direction e b =
@@ -83,19 +81,16 @@ pending_answer state e = pending_at state (handle_of state e)
 
 unfoldable pub poll_answer : State → ℕ → Answer
 poll_answer state e =
-    if poll_barred state e then barred state
-    else record { state = (polled state e).state; line = polled_line (polled state e).value }
+    answered (barred state) (poll_barred state e) polled_line (polled state e)
 
 -- the steps of a barred call are applied all the same
 unfoldable pub wait_answer : State → ℕ → ℕ → List KernelStep → Answer
 wait_answer state e timeout steps =
-    if poll_barred state e then barred (stepped_all state steps)
-    else record { state = (waited state e timeout steps).state; line = waited_line (waited state e timeout steps).value }
+    answered (barred (stepped_all state steps)) (poll_barred state e) waited_line (waited state e timeout steps)
 
 unfoldable pub transfer_answer : State → Direction → ℕ → BufferState → ℕ → List KernelStep → Answer
 transfer_answer state direction e b timeout steps =
-    if transfer_barred state direction e then barred (stepped_all state steps)
-    else record { state = (transferred state e b timeout steps).state; line = waited_line (transferred state e b timeout steps).value }
+    answered (barred (stepped_all state steps)) (transfer_barred state direction e) waited_line (transferred state e b timeout steps)
 
 unfoldable pub cancel_answer : State → ℕ → Answer
 cancel_answer state e = if is_not_open state e then barred state else record { state = cancelled state e; line = ok_line }

@@ -1,5 +1,5 @@
 -- Fate lines that name a final status and an end.
-use Rattle.std.specs.Prelude.{ℕ, ◌≡◌, ◌<◌, true, length, Some}
+use Rattle.std.specs.Prelude.{ℕ, ◌≡◌, ◌<◌, true, List, length, Some}
 use Rattle.usb_kernel.specs.declared.submission.TicketInfo.{TicketInfo}
 use Rattle.usb_kernel.specs.Tickets.{tickets}
 use Rattle.usb_kernel.specs.Info.{info_of}
@@ -8,7 +8,10 @@ use Rattle.usb_device.specs.HostState.{HostState}
 use Rattle.usb_device.specs.HostBus.{end_at}
 use Rattle.usb_device.specs.Finishes.{HasEnds, HasCompletions}
 use Rattle.usb_lines.specs.Tickets.{ticket_line}
-use Rattle.usb_answers.specs.Fates.{end_word, fate_line}
+use Rattle.usb_script.specs.declared.item.Item.{Item}
+use Rattle.usb_answers.specs.Fates.{end_word, fate_line, fate_lines, fate_lines_from}
+use Rattle.usb_answers.specs.Output.{final_host}
+use Rattle.usb_answers.specs.Sums.{sum_of}
 
 -- the ticket is finished and reaped and has its end, and its line says so
 pub record IsFinal (h : HostState) (t : ℕ) : Type 0 where
@@ -25,3 +28,11 @@ pub record IsFinal (h : HostState) (t : ℕ) : Type 0 where
 abbrev pub FatesAreFinal : Type 0
 FatesAreFinal =
     (h : HostState) (t : ℕ) → HasEnds h.tickets → HasCompletions h.kernel.past → t < length h.tickets → t < length (tickets h.kernel.past) → IsFinal h t
+
+-- at the end of a script there is one fate line for each ticket of its summary, in order of number, and each names the ticket's final status and its end
+pub record HasFinalFates (items : List Item) : Type 0 where
+  pub lines : fate_lines (final_host items) ≡ fate_lines_from (final_host items) 0 (sum_of items).tickets
+  pub final : (t : ℕ) → t < (sum_of items).tickets → IsFinal (final_host items) t
+
+abbrev pub FatesOfScripts : Type 0
+FatesOfScripts = (items : List Item) → HasEnds (final_host items).tickets → HasCompletions (final_host items).kernel.past → HasFinalFates items

@@ -24,3 +24,6 @@ pub mod AnyOpened
 pub mod Kinds
 pub mod Accounts
 pub mod FinalFates
+pub mod Places
+pub mod Served
+pub mod Behind

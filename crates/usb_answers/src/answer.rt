@@ -4,7 +4,7 @@ ghost use Rattle.std.specs.Prelude.{◌≡◌, ◌≤◌, ◌+◌, IfOk, OnOk, I
 ghost use Rattle.usb_script.specs.ItemKinds.{steps_in};
 ghost use Rattle.usb_script.specs.ItemRanges.{IsInRange};
 ghost use Rattle.usb_answers.specs.State.{State};
-ghost use Rattle.usb_answers.specs.Answered.{Answered};
+ghost use Rattle.usb_answers.specs.Answered.{Answers};
 ghost use Rattle.usb_answers.specs.Answers.{answer};
 ghost use Rattle.usb_answers.specs.Kinds.{is_of_endpoint};
 ghost use Rattle.usb_answers.specs.Relation.{Represents};
@@ -21,7 +21,7 @@ impl Session {
         requires kind { IsTrue (is_of_endpoint item.now) }
         requires in_range { IsInRange item.now }
         requires spare { steps_in item.now ≤ self.old.host.kernel.spare }
-        ensures answered { IfOk result (λ line. (state : State) → Represents self.old state → Answered self.new (string_bytes line) (answer state item.now)) }
+        ensures answered { Answers self.old self.new result (λ state. answer state item.now) }
         ensures spare { OnOk result (self.new.host.kernel.spare + steps_in item.now ≡ self.old.host.kernel.spare) }
     {
         match item {
@@ -62,7 +62,7 @@ impl Session {
     pub fn answer(&mut self, alloc: Global, item: &Item) -> Result<String, NoMemory>
         requires in_range { IsInRange item.now }
         requires spare { steps_in item.now ≤ self.old.host.kernel.spare }
-        ensures answered { IfOk result (λ line. (state : State) → Represents self.old state → Answered self.new (string_bytes line) (answer state item.now)) }
+        ensures answered { Answers self.old self.new result (λ state. answer state item.now) }
         ensures spare { OnOk result (self.new.host.kernel.spare + steps_in item.now ≡ self.old.host.kernel.spare) }
     {
         match item {

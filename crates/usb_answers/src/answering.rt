@@ -6,9 +6,9 @@ ghost use Rattle.usb_script.specs.ItemKinds.{steps_in};
 ghost use Rattle.usb_script.specs.ItemRanges.{IsInRange, IsStepInRange, IsOpenable};
 ghost use Rattle.usb_answers.specs.State.{State};
 ghost use Rattle.usb_answers.specs.Buffers.{in_buffer, out_buffer};
-ghost use Rattle.usb_answers.specs.Answered.{Answered};
+ghost use Rattle.usb_answers.specs.Answered.{Answers};
 ghost use Rattle.usb_answers.specs.Steps.{stepped_all};
-ghost use Rattle.usb_answers.specs.Answers.{now_answer, open_answer, claim_answer, endpoint_answer, submit_answer, pending_answer, poll_answer, wait_answer, transfer_answer, cancel_answer, close_answer, steps_answer, barred};
+ghost use Rattle.usb_answers.specs.Answers.{now_answer, open_answer, claim_answer, endpoint_answer, submit_answer, pending_answer, wait_answer, transfer_answer, cancel_answer, close_answer, steps_answer, barred};
 ghost use Rattle.usb_answers.specs.Relation.{Represents};
 
 use crate::buffers::{in_buffer, out_buffer};
@@ -16,13 +16,13 @@ use crate::session::Session;
 use std::alloc::Global;
 use usb_desc::{Direction, NoMemory, TransferType};
 use usb_kernel::KernelStep;
-use usb_lines::{condition_line, count_line, now_line, polled_line, tried_line, waited_line};
+use usb_lines::{condition_line, count_line, now_line, tried_line, waited_line};
 use usb_script::Item;
 use usb_xfer::Buffer;
 
 impl Session {
     pub(crate) fn now_line(&self, alloc: Global) -> Result<String, NoMemory>
-        ensures answered { IfOk result (λ line. (state : State) → Represents self.now state → Answered self.now (string_bytes line) (now_answer state)) }
+        ensures answered { Answers self.now self.now result (λ state. now_answer state) }
     {
         let line = now_line(alloc, self.host.kernel().now())?;
         Ok(line)
@@ -35,7 +35,7 @@ impl Session {
         bus: u8,
         address: u8,
     ) -> Result<String, NoMemory>
-        ensures answered { IfOk result (λ line. (state : State) → Represents self.old state → Answered self.new (string_bytes line) (open_answer state name bus address)) }
+        ensures answered { Answers self.old self.new result (λ state. open_answer state name bus address) }
         ensures spare { self.new.host.kernel.spare ≡ self.old.host.kernel.spare }
     {
         if self.open_is_barred(name) {
@@ -54,7 +54,7 @@ impl Session {
         number: u8,
         name: u8,
     ) -> Result<String, NoMemory>
-        ensures answered { IfOk result (λ line. (state : State) → Represents self.old state → Answered self.new (string_bytes line) (claim_answer state opened number name)) }
+        ensures answered { Answers self.old self.new result (λ state. claim_answer state opened number name) }
         ensures spare { self.new.host.kernel.spare ≡ self.old.host.kernel.spare }
     {
         if self.claim_is_barred(opened, name) {
@@ -76,7 +76,7 @@ impl Session {
         direction: Direction,
     ) -> Result<String, NoMemory>
         requires openable { IsOpenable kind }
-        ensures answered { IfOk result (λ line. (state : State) → Represents self.old state → Answered self.new (string_bytes line) (endpoint_answer state name interface address kind direction)) }
+        ensures answered { Answers self.old self.new result (λ state. endpoint_answer state name interface address kind direction) }
         ensures spare { self.new.host.kernel.spare ≡ self.old.host.kernel.spare }
     {
         if self.endpoint_is_barred(name, interface) {
@@ -95,7 +95,7 @@ impl Session {
         endpoint: u8,
         buffer: Buffer,
     ) -> Result<String, NoMemory>
-        ensures answered { IfOk result (λ line. (state : State) → Represents self.old state → Answered self.new (string_bytes line) (submit_answer state direction endpoint buffer)) }
+        ensures answered { Answers self.old self.new result (λ state. submit_answer state direction endpoint buffer) }
         ensures spare { self.new.host.kernel.spare ≡ self.old.host.kernel.spare }
     {
         if self.submit_is_barred(direction, endpoint) {
@@ -114,7 +114,7 @@ impl Session {
         len: u32,
     ) -> Result<String, NoMemory>
         requires small { len ≤ 65536 }
-        ensures answered { IfOk result (λ line. (state : State) → Represents self.old state → Answered self.new (string_bytes line) (submit_answer state Direction.In endpoint (in_buffer len))) }
+        ensures answered { Answers self.old self.new result (λ state. submit_answer state Direction.In endpoint (in_buffer len)) }
         ensures spare { self.new.host.kernel.spare ≡ self.old.host.kernel.spare }
     {
         let buffer = in_buffer(alloc, len)?;
@@ -129,7 +129,7 @@ impl Session {
         bytes: &[u8],
     ) -> Result<String, NoMemory>
         requires small { length bytes.now ≤ 65536 }
-        ensures answered { IfOk result (λ line. (state : State) → Represents self.old state → Answered self.new (string_bytes line) (submit_answer state Direction.Out endpoint (out_buffer bytes.now))) }
+        ensures answered { Answers self.old self.new result (λ state. submit_answer state Direction.Out endpoint (out_buffer bytes.now)) }
         ensures spare { self.new.host.kernel.spare ≡ self.old.host.kernel.spare }
     {
         let buffer = out_buffer(alloc, bytes)?;
@@ -138,26 +138,13 @@ impl Session {
     }
 
     pub(crate) fn pending_line(&self, alloc: Global, endpoint: u8) -> Result<String, NoMemory>
-        ensures answered { IfOk result (λ line. (state : State) → Represents self.now state → Answered self.now (string_bytes line) (pending_answer state endpoint)) }
+        ensures answered { Answers self.now self.now result (λ state. pending_answer state endpoint) }
     {
         let Some(count) = self.pending(endpoint) else {
             let line = condition_line(alloc)?;
             return Ok(line);
         };
         let line = count_line(alloc, count)?;
-        Ok(line)
-    }
-
-    pub(crate) fn poll_line(&mut self, alloc: Global, endpoint: u8) -> Result<String, NoMemory>
-        ensures answered { IfOk result (λ line. (state : State) → Represents self.old state → Answered self.new (string_bytes line) (poll_answer state endpoint)) }
-        ensures spare { self.new.host.kernel.spare ≡ self.old.host.kernel.spare }
-    {
-        if self.poll_is_barred(endpoint) {
-            let line = condition_line(alloc)?;
-            return Ok(line);
-        }
-        let done = self.poll(endpoint);
-        let line = polled_line(alloc, &done)?;
         Ok(line)
     }
 
@@ -168,7 +155,7 @@ impl Session {
     ) -> Result<String, NoMemory>
         requires spare { length steps.now ≤ self.old.host.kernel.spare }
         requires in_range { All IsStepInRange steps.now }
-        ensures answered { IfOk result (λ line. (state : State) → Represents self.old state → Answered self.new (string_bytes line) (barred (stepped_all state steps.now))) }
+        ensures answered { Answers self.old self.new result (λ state. barred (stepped_all state steps.now)) }
         ensures spare { OnOk result (self.new.host.kernel.spare + length steps.now ≡ self.old.host.kernel.spare) }
     {
         self.step_all(alloc, steps)?;
@@ -185,7 +172,7 @@ impl Session {
     ) -> Result<String, NoMemory>
         requires spare { length steps.now ≤ self.old.host.kernel.spare }
         requires in_range { All IsStepInRange steps.now }
-        ensures answered { IfOk result (λ line. (state : State) → Represents self.old state → Answered self.new (string_bytes line) (wait_answer state endpoint timeout steps.now)) }
+        ensures answered { Answers self.old self.new result (λ state. wait_answer state endpoint timeout steps.now) }
         ensures spare { OnOk result (self.new.host.kernel.spare + length steps.now ≡ self.old.host.kernel.spare) }
     {
         if self.poll_is_barred(endpoint) {
@@ -208,7 +195,7 @@ impl Session {
     ) -> Result<String, NoMemory>
         requires spare { length steps.now ≤ self.old.host.kernel.spare }
         requires in_range { All IsStepInRange steps.now }
-        ensures answered { IfOk result (λ line. (state : State) → Represents self.old state → Answered self.new (string_bytes line) (transfer_answer state direction endpoint buffer timeout steps.now)) }
+        ensures answered { Answers self.old self.new result (λ state. transfer_answer state direction endpoint buffer timeout steps.now) }
         ensures spare { OnOk result (self.new.host.kernel.spare + length steps.now ≡ self.old.host.kernel.spare) }
     {
         if self.transfer_is_barred(direction, endpoint) {
@@ -231,7 +218,7 @@ impl Session {
         requires small { len ≤ 65536 }
         requires spare { length steps.now ≤ self.old.host.kernel.spare }
         requires in_range { All IsStepInRange steps.now }
-        ensures answered { IfOk result (λ line. (state : State) → Represents self.old state → Answered self.new (string_bytes line) (transfer_answer state Direction.In endpoint (in_buffer len) timeout steps.now)) }
+        ensures answered { Answers self.old self.new result (λ state. transfer_answer state Direction.In endpoint (in_buffer len) timeout steps.now) }
         ensures spare { OnOk result (self.new.host.kernel.spare + length steps.now ≡ self.old.host.kernel.spare) }
     {
         let buffer = in_buffer(alloc, len)?;
@@ -250,7 +237,7 @@ impl Session {
         requires small { length bytes.now ≤ 65536 }
         requires spare { length steps.now ≤ self.old.host.kernel.spare }
         requires in_range { All IsStepInRange steps.now }
-        ensures answered { IfOk result (λ line. (state : State) → Represents self.old state → Answered self.new (string_bytes line) (transfer_answer state Direction.Out endpoint (out_buffer bytes.now) timeout steps.now)) }
+        ensures answered { Answers self.old self.new result (λ state. transfer_answer state Direction.Out endpoint (out_buffer bytes.now) timeout steps.now) }
         ensures spare { OnOk result (self.new.host.kernel.spare + length steps.now ≡ self.old.host.kernel.spare) }
     {
         let buffer = out_buffer(alloc, bytes)?;
@@ -259,7 +246,7 @@ impl Session {
     }
 
     pub(crate) fn cancel_line(&mut self, alloc: Global, endpoint: u8) -> Result<String, NoMemory>
-        ensures answered { IfOk result (λ line. (state : State) → Represents self.old state → Answered self.new (string_bytes line) (cancel_answer state endpoint)) }
+        ensures answered { Answers self.old self.new result (λ state. cancel_answer state endpoint) }
         ensures spare { self.new.host.kernel.spare ≡ self.old.host.kernel.spare }
     {
         if self.is_not_open(endpoint) {
@@ -272,7 +259,7 @@ impl Session {
     }
 
     pub(crate) fn close_line(&mut self, alloc: Global, endpoint: u8) -> Result<String, NoMemory>
-        ensures answered { IfOk result (λ line. (state : State) → Represents self.old state → Answered self.new (string_bytes line) (close_answer state endpoint)) }
+        ensures answered { Answers self.old self.new result (λ state. close_answer state endpoint) }
         ensures spare { self.new.host.kernel.spare ≡ self.old.host.kernel.spare }
     {
         if self.is_not_open(endpoint) {
@@ -291,7 +278,7 @@ impl Session {
     ) -> Result<String, NoMemory>
         requires spare { length steps.now ≤ self.old.host.kernel.spare }
         requires in_range { All IsStepInRange steps.now }
-        ensures answered { IfOk result (λ line. (state : State) → Represents self.old state → Answered self.new (string_bytes line) (steps_answer state steps.now)) }
+        ensures answered { Answers self.old self.new result (λ state. steps_answer state steps.now) }
         ensures spare { OnOk result (self.new.host.kernel.spare + length steps.now ≡ self.old.host.kernel.spare) }
     {
         self.step_all(alloc, steps)?;

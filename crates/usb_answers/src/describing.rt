@@ -2,7 +2,7 @@
 
 ghost use Rattle.std.specs.Prelude.{◌≡◌, IfOk, string_bytes};
 ghost use Rattle.usb_answers.specs.State.{State};
-ghost use Rattle.usb_answers.specs.Answered.{Answered};
+ghost use Rattle.usb_answers.specs.Answered.{Answers};
 ghost use Rattle.usb_answers.specs.Answers.{device_descriptor_answer, descriptors_answer};
 ghost use Rattle.usb_answers.specs.Relation.{Represents};
 
@@ -15,7 +15,7 @@ use usb_lines::{condition_line, descriptors_line, device_line};
 impl Session {
     /// The device descriptor of an open device.
     pub fn device_descriptor_line(&self, alloc: Global, name: u8) -> Result<String, NoMemory>
-        ensures answered { IfOk result (λ line. (state : State) → Represents self.now state → Answered self.now (string_bytes line) (device_descriptor_answer state name)) }
+        ensures answered { Answers self.now self.now result (λ state. device_descriptor_answer state name) }
     {
         let Some(device) = open_at(&self.devices, name) else {
             let line = condition_line(alloc)?;
@@ -27,7 +27,7 @@ impl Session {
 
     /// The configurations of an open device, with their interfaces and endpoints.
     pub fn descriptors_line(&self, alloc: Global, name: u8) -> Result<String, NoMemory>
-        ensures answered { IfOk result (λ line. (state : State) → Represents self.now state → Answered self.now (string_bytes line) (descriptors_answer state name)) }
+        ensures answered { Answers self.now self.now result (λ state. descriptors_answer state name) }
     {
         let Some(device) = open_at(&self.devices, name) else {
             let line = condition_line(alloc)?;

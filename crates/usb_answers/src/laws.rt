@@ -1,7 +1,10 @@
 //! Laws of answers. Each is the contract of a function that does nothing.
 
 ghost use Rattle.usb_answers.specs.Accounts.{StartIsAccounted, AnswerKeepsAccounts, CloseKeepsAccounts};
-ghost use Rattle.usb_answers.specs.FinalFates.{FatesAreFinal};
+ghost use Rattle.usb_answers.specs.FinalFates.{FatesAreFinal, FatesOfScripts};
+ghost use Rattle.usb_answers.specs.Places.{PollsAnswerForTheirPlace, CompletionsAreTaken};
+ghost use Rattle.usb_answers.specs.Behind.{ScriptsGoOn};
+ghost use Rattle.usb_answers.specs.Served.{HandlesAreServedInOrder, ScriptsAreCounted};
 
 /// What an endpoint holds is pending at an endpoint that is open under a name, and the host has a place for each ticket of the
 /// journal: before the first line, behind each line, and when all is closed. So no ticket is held where no name is open.
@@ -12,7 +15,28 @@ pub fn each_ticket_is_accounted_for()
 {}
 
 /// Where each ticket of a host has its end and its completion, as at the end of a session, each fate line names the ticket's final
-/// status and its end.
+/// status and its end. At the end of a script there are as many as its summary counts tickets.
 pub fn fates_are_final()
     ensures lines { FatesAreFinal }
+    ensures scripts { FatesOfScripts }
+{}
+
+/// A poll answers for the ticket at the place of those that were taken: with the completion that the journal has of it, and
+/// `pending` exactly where the journal has none. A line with a completion is printed only where a ticket is taken.
+pub fn polls_answer_for_their_place()
+    ensures poll { PollsAnswerForTheirPlace }
+    ensures taken { CompletionsAreTaken }
+{}
+
+/// Each endpoint that a script opens is served in the order of its submissions: the tickets that were taken are the first, each was
+/// printed with the completion that the last journal has of it, and the others were given up when it was closed.
+pub fn handles_are_served_in_order()
+    ensures handles { HandlesAreServedInOrder }
+    ensures count { ScriptsAreCounted }
+{}
+
+/// Over each line of a script and over its end the journal goes on, and a ticket that has its end keeps it. So the completion that
+/// a line prints is the last journal's. Behind any lines what endpoints hold is accounted for.
+pub fn scripts_go_on()
+    ensures { ScriptsGoOn }
 {}

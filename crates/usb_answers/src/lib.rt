@@ -23,7 +23,9 @@ mod transferring;
 mod waiting;
 
 pub use fates::{fate_line, tickets};
-pub use laws::{each_ticket_is_accounted_for, fates_are_final};
+pub use laws::{
+    each_ticket_is_accounted_for, fates_are_final, handles_are_served_in_order, scripts_go_on,
+};
 pub use session::Session;
 pub use summary::Summary;
 pub use usb_device::Host;

@@ -1,14 +1,19 @@
 //! `poll`: the oldest pending transfer is taken.
 
-ghost use Rattle.std.specs.Prelude.{◌≡◌, false};
+ghost use Rattle.std.specs.Prelude.{◌≡◌, false, IfOk, string_bytes};
 ghost use Rattle.usb_answers.specs.State.{State};
 ghost use Rattle.usb_answers.specs.Names.{named};
 ghost use Rattle.usb_answers.specs.Polls.{poll_barred_by, polled};
+ghost use Rattle.usb_answers.specs.Answered.{Answers};
+ghost use Rattle.usb_answers.specs.Answers.{poll_answer};
 ghost use Rattle.usb_answers.specs.Relation.{Represents, Gave};
 
 use crate::names::{open_at, put_at, take_at};
 use crate::session::Session;
 use futures::task::Poll;
+use std::alloc::Global;
+use usb_desc::NoMemory;
+use usb_lines::{condition_line, polled_line};
 use usb_xfer::Completion;
 
 impl Session {
@@ -37,5 +42,19 @@ impl Session {
             Poll::Ready(completion) => Some(completion),
             Poll::Pending => None,
         }
+    }
+
+    /// The answer to `poll`.
+    pub(crate) fn poll_line(&mut self, alloc: Global, endpoint: u8) -> Result<String, NoMemory>
+        ensures answered { Answers self.old self.new result (λ state. poll_answer state endpoint) }
+        ensures spare { self.new.host.kernel.spare ≡ self.old.host.kernel.spare }
+    {
+        if self.poll_is_barred(endpoint) {
+            let line = condition_line(alloc)?;
+            return Ok(line);
+        }
+        let done = self.poll(endpoint);
+        let line = polled_line(alloc, &done)?;
+        Ok(line)
     }
 }

@@ -58,7 +58,7 @@ fn device_of_item(alloc: Global, item: &Item) -> Result<Option<(u8, SimDevice)>,
             configuration,
             descriptors,
         } => {
-            let bytes = descriptors.clone(alloc)?;
+            let bytes = descriptors.clone()?;
             let simulated = SimDevice {
                 bus: *bus,
                 address: *address,

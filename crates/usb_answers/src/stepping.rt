@@ -20,7 +20,7 @@ fn copy_of(alloc: Global, steps: &[KernelStep]) -> Result<Vec<KernelStep>, NoMem
 {
     let mut copy = Vec::new(alloc);
     for step in steps {
-        let Ok(()) = copy.push(step.clone(alloc)?) else {
+        let Ok(()) = copy.push(step.clone()?) else {
             return Err(NoMemory);
         };
     }

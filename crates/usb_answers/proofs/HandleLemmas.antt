@@ -1,0 +1,344 @@
+-- The endpoints of a whole script.
+use Rattle.std.proofs.Common.{◌≡◌, ◌≢◌, ℕ, ◌<◌, ◌+◌, suc, zero, arith, List, [], ◌∷◌, ◌++◌, length, map, take, replicate, slice_get, Option, Some, None, refl, ap, sym, ◌∙◌, inl, inr}
+use Rattle.std.specs.Prelude.{option_and_then, All, count_by, ◌==◌}
+use Rattle.std.specs.Option.{option_map}
+use Rattle.std.proofs.lemmas.Bool.{cases_eq}
+use Rattle.std.proofs.lemmas.List.{length-replicate}
+use Rattle.std.proofs.lemmas.List.Concat.{flat_map-append}
+use Rattle.std.proofs.lemmas.List.Elements.{All-append, All-nil, All-cons}
+use Rattle.std.proofs.lemmas.Option.{none-some}
+use Rattle.usb_kernel.specs.declared.event.Event.{Event}
+use Rattle.usb_kernel.specs.Extends.{Extends}
+use Rattle.usb_kernel.specs.Tickets.{tickets}
+use Rattle.usb_bus.specs.Completions.{transfer_completion}
+use Rattle.usb_lines.specs.Completions.{polled_line}
+use Rattle.usb_script.specs.declared.item.Item.{Item}
+use Rattle.usb_script.specs.declared.item.Item.TheVariants.{CloseEndpoint}
+use Rattle.usb_device.specs.declared.ends.TicketEnd.{TicketEnd}
+use Rattle.usb_device.specs.HostState.{HostState, HostTicket, Held, Abandoned, Ended}
+use Rattle.usb_device.specs.HostBus.{ended_at}
+use Rattle.usb_device.specs.Finishes.{discarded_below, reaped_below, finished, HasEnds}
+use Rattle.usb_device.specs.HostCalls.{host_discarded}
+use Rattle.usb_device.specs.HostTurns.{host_reaped}
+use Rattle.usb_device.proofs.CountLemmas.{KeepsCount, count-same, count-trans, discarded-count, reaped-count}
+use Rattle.usb_device.proofs.FollowLemmas.{on-finished}
+use Rattle.usb_answers.specs.Names.{named, freed}
+use Rattle.usb_answers.specs.State.{State, Endpoint, kept, tickets_of}
+use Rattle.usb_answers.specs.Closes.{closed_at, closed}
+use Rattle.usb_answers.specs.Answers.{answer}
+use Rattle.usb_answers.specs.Ends.{endpoints_closed, interfaces_closed, all_closed, ended, interface_closed, interface_closed_at}
+use Rattle.usb_answers.specs.Output.{start, last_host, final_host}
+use Rattle.usb_answers.specs.Accounts.{Accounted, TookFew}
+use Rattle.usb_answers.specs.Behind.{behind, GoesOnTo, ScriptsGoOn}
+use Rattle.usb_answers.specs.Served.{Handle, handles, IsServedInOrder, HandlesAreServedInOrder, ScriptsAreCounted, closed_as, tickets_of_all, closed_under, closed_by, closed_at_end, handles_from, lines_behind}
+use Rattle.usb_answers.specs.Fates.{fate_lines, fate_lines_from}
+use Rattle.usb_answers.specs.FinalFates.{FatesOfScripts}
+use Rattle.usb_answers.specs.Sums.{counts_of}
+use Rattle.usb_answers.proofs.FateLemmas.{fates-final}
+use Rattle.usb_answers.proofs.AccountLemmas.{accounted-start, accounted-answer}
+use Rattle.usb_answers.proofs.NameLemmas.{named-freed, named-freed_other, named-replicate}
+use Rattle.usb_answers.proofs.EndLemmas.{none-all}
+use Rattle.usb_answers.proofs.TimesLemmas.{times, times-append, counts-times, among, among-within, times_in, times_open}
+use Rattle.usb_answers.proofs.OrderLemmas.{order-few, Leaves, LeavesTickets, goes-keeps, goes-then, IsClosed, closed-goes, closed-few, closed-taken, closed-others}
+use Rattle.usb_answers.proofs.StepLemmas.{Inv, Step}
+use Rattle.usb_answers.proofs.PrintLemmas.{Prints, prints-stay, taken_of, AllPrint, all-print}
+use Rattle.usb_answers.proofs.TakeLemmas.{answer-takes}
+use Rattle.usb_answers.proofs.ServedLemmas.{step-same, closed-step, answer-step, interfaces-keep}
+
+abbrev pub Closes : HostState → Handle → Type 0
+Closes h c = IsClosed h c.endpoint c.past
+
+all-tickets : (t : ℕ) (xs ys : List Handle) → times t (tickets_of_all (xs ++ ys)) ≡ times t (tickets_of_all xs) + times t (tickets_of_all ys)
+all-tickets t xs ys = ap (times t) (flat_map-append (λ (h : Handle). h.endpoint.tickets) xs ys) ∙ times-append t (tickets_of_all xs) (tickets_of_all ys)
+
+closes-on : (old new : HostState) (xs : List Handle) → LeavesTickets old new → All (Closes old) xs → All (Closes new) xs
+closes-on old new xs goes all k d below = closed-goes old new _ _ goes (all k d below)
+
+both-steps : (a b c : State) (xs ys : List Handle) → Step a b xs → Step b c ys → Step a c (xs ++ ys)
+both-steps a b c xs ys first second =
+    record {
+      goes = goes-then a.host b.host c.host first.goes second.goes;
+      inv = second.inv;
+      adds = λ t. let one_ = first.adds t in let two = second.adds t in let parts = all-tickets t xs ys in omega arith;
+      closes = All-append (Closes c.host) xs ys (closes-on b.host c.host xs second.goes first.closes) second.closes;
+    }
+
+-- the end closes the endpoints by number
+pub ends-step : (state : State) (lines : ℕ → List (List ℕ)) (k : ℕ) → Inv state → Step state (endpoints_closed state k) (closed_at_end state lines k)
+ends-step state lines zero inv = step-same state inv
+ends-step state lines (suc k) inv =
+    let first = ends-step state lines k inv in
+    both-steps state (endpoints_closed state k) (closed (endpoints_closed state k) k) (closed_at_end state lines k) (closed_under (endpoints_closed state k) lines k)
+    first (closed-step (endpoints_closed state k) k lines first.inv)
+
+-- and leaves no name open
+closed_at-none : (state : State) (e n : ℕ) (o : Option Endpoint) → named state.endpoints e ≡ o → (n ≢ e → named state.endpoints n ≡ None) → named (closed_at state e (option_map kept o)).endpoints n ≡ None
+closed_at-none state e n None here others =
+    elim (cases_eq n e) [ inl same ↦ ap (named state.endpoints) same ∙ here | inr apart ↦ others apart ]
+closed_at-none state e n (Some h) here others =
+    elim (cases_eq n e) [
+      | inl same ↦ ap (named (freed state.endpoints e)) same ∙ named-freed state.endpoints e
+      | inr apart ↦ named-freed_other state.endpoints e n apart ∙ others apart
+    ]
+
+closed-none : (state : State) (e n : ℕ) → (n ≢ e → named state.endpoints n ≡ None) → named (closed state e).endpoints n ≡ None
+unfolding closed
+closed-none state e n others = closed_at-none state e n (named state.endpoints e) refl others
+
+none-below : (state : State) (k n : ℕ) → n < k → named (endpoints_closed state k).endpoints n ≡ None
+none-below state zero n below = absurd (omega arith)
+none-below state (suc k) n below = closed-none (endpoints_closed state k) k n (λ apart. none-below state k n (lower k n apart below))
+  where
+    lower : (k n : ℕ) → n ≢ k → n < suc k → n < k
+    lower k n apart small = omega arith
+
+times-none : (t : ℕ) (os : List (Option Endpoint)) → ((n : ℕ) → named os n ≡ None) → times_open t os ≡ 0
+unfolding named
+times-none t [] none = refl
+times-none t (o ∷ os) none =
+    let here : times_in t o ≡ 0 = ap (times_in t) (none 0) in
+    let IH = times-none t os (λ n. none (suc n)) in omega arith
+
+-- the discards and reaps at the end
+discarded_below-count : (h : HostState) (n : ℕ) → KeepsCount h (discarded_below h n)
+discarded_below-count h zero = count-same h
+discarded_below-count h (suc n) = count-trans h (discarded_below h n) (host_discarded (discarded_below h n) n) (discarded_below-count h n) (discarded-count (discarded_below h n) n)
+
+reaped_below-count : (h : HostState) (n : ℕ) → KeepsCount h (reaped_below h n)
+reaped_below-count h zero = count-same h
+reaped_below-count h (suc n) = count-trans h (reaped_below h n) (host_reaped (reaped_below h n) n) (reaped_below-count h n) (reaped-count (reaped_below h n) n)
+
+finished-count : (h : HostState) → KeepsCount h (finished h)
+unfolding finished
+finished-count h =
+    let n = length (tickets h.kernel.past) in
+    count-trans h (discarded_below h n) (reaped_below (discarded_below h n) n) (discarded_below-count h n) (reaped_below-count (discarded_below h n) n)
+
+-- what these items and the end of the session make
+pub record Runs (state : State) (lines : ℕ → List (List ℕ)) (items : List Item) : Type 0 where
+  pub goes : LeavesTickets state.host (last_host state items)
+  pub closes : All (Closes (last_host state items)) (handles_from state lines items)
+  pub adds : (t : ℕ) → times t (tickets_of_all (handles_from state lines items)) + among t (tickets_of state) ≡ times_open t state.endpoints + among t (length (tickets (last_host state items).kernel.past))
+  pub count : length (last_host state items).tickets ≡ length (tickets (last_host state items).kernel.past)
+
+interfaces-endpoints : (state : State) (k : ℕ) → (interfaces_closed state k).endpoints ≡ state.endpoints
+unfolding interface_closed
+interfaces-endpoints state zero = refl
+interfaces-endpoints state (suc k) = by (interfaces_closed state k) k (named (interfaces_closed state k).interfaces k) ∙ interfaces-endpoints state k
+  where
+    by : (state : State) (i : ℕ) (o : _) → (interface_closed_at state i o).endpoints ≡ state.endpoints
+    by state i None = refl
+    by state i (Some f) = refl
+
+runs-end : (state : State) (lines : ℕ → List (List ℕ)) → Inv state → Runs state lines []
+unfolding ended all_closed
+runs-end state lines inv =
+    let first = ends-step state lines 64 inv in
+    let mid = endpoints_closed state 64 in
+    let second = interfaces-keep mid 64 first.inv in
+    let last = interfaces_closed mid 64 in
+    let keeps = on-finished last.host in
+    let count = finished-count last.host in
+    let none : (t : ℕ) → times_open t last.endpoints ≡ 0 = λ t.
+    ap (times_open t) (interfaces-endpoints mid 64) ∙ times-none t mid.endpoints (none-all mid.endpoints first.inv.names (λ n below. none-below state 64 n below)) in
+    record {
+      goes = goes-then state.host mid.host (finished last.host) first.goes (goes-then mid.host last.host (finished last.host) second.goes (goes-keeps last.host (finished last.host) keeps));
+      closes = closes-on mid.host (finished last.host) (closed_at_end state lines 64) (goes-then mid.host last.host (finished last.host) second.goes (goes-keeps last.host (finished last.host) keeps)) first.closes;
+      adds = λ t.
+          let one_ = first.adds t in
+          let two = second.adds t in
+          let left = none t in
+          let same : among t (length (tickets (finished last.host).kernel.past)) ≡ among t (tickets_of last) = ap (among t) count.past in omega arith;
+      count = count.count ∙ second.inv.count ∙ sym count.past;
+    }
+
+pub runs : (state : State) (lines : ℕ → List (List ℕ)) (items : List Item) → Inv state → Runs state lines items
+runs state lines [] inv = runs-end state lines inv
+runs state lines (item ∷ items) inv =
+    let next = (answer state item).state in
+    let first = answer-step state lines item inv in
+    let rest = runs next (lines_behind state (answer state item) lines) items first.inv in
+    let last = last_host next items in
+    record {
+      goes = goes-then state.host next.host last first.goes rest.goes;
+      closes = All-append (Closes last) (closed_by state lines item) (handles_from next (lines_behind state (answer state item) lines) items) (closes-on next.host last (closed_by state lines item) rest.goes first.closes) rest.closes;
+      adds = λ t.
+          let one_ = first.adds t in
+          let two = rest.adds t in
+          let parts = all-tickets t (closed_by state lines item) (handles_from next (lines_behind state (answer state item) lines) items) in omega arith;
+      count = rest.count;
+    }
+
+-- the beginning
+times-replicate : (t n : ℕ) → times_open t (replicate n None) ≡ 0
+times-replicate t zero = refl
+times-replicate t (suc n) = let IH = times-replicate t n in omega arith
+
+pub inv-start : (items : List Item) → Inv (start items)
+unfolding start
+inv-start items =
+    record {
+      order = λ e h is. absurd (none-some h (sym (named-replicate 64 e) ∙ is));
+      once = λ t. let none = times-replicate t 64 in omega arith;
+      count = refl;
+      names = length-replicate {A = Option Endpoint} 64 None;
+    }
+
+pub nothing-open : (items : List Item) (t : ℕ) → (times_open t (start items).endpoints ≡ 0) × (tickets_of (start items) ≡ 0)
+unfolding start
+nothing-open items t = (times-replicate t 64, refl)
+
+-- what was printed of the endpoints that are closed
+abbrev Printed : List Event → Handle → Type 0
+Printed past c = Prints past (taken_of c.endpoint) c.lines
+
+printed-on : (old new : List Event) (xs : List Handle) → Extends old new → All (Printed old) xs → All (Printed new) xs
+printed-on old new xs extends all k d below = prints-stay old new _ _ extends (all k d below)
+
+closed_as-printed : (past : List Event) (lines : List (List ℕ)) (o : Option Endpoint) → ((h : Endpoint) → o ≡ Some h → Prints past (taken_of h) lines) → All (Printed past) (closed_as past lines o)
+closed_as-printed past lines None prints = All-nil (Printed past)
+closed_as-printed past lines (Some h) prints = All-cons (Printed past) (record { endpoint = h; past = past; lines = lines }) [] (prints h refl) (All-nil (Printed past))
+
+closed_under-printed : (state : State) (lines : ℕ → List (List ℕ)) (e : ℕ) → AllPrint state lines → All (Printed state.host.kernel.past) (closed_under state lines e)
+closed_under-printed state lines e prints = closed_as-printed state.host.kernel.past (lines e) (named state.endpoints e) (λ h is. prints e h is)
+
+closed_by-printed : (state : State) (lines : ℕ → List (List ℕ)) (item : Item) → AllPrint state lines → All (Printed state.host.kernel.past) (closed_by state lines item)
+closed_by-printed state lines (CloseEndpoint e) prints = closed_under-printed state lines e prints
+closed_by-printed state lines item prints = All-nil (Printed state.host.kernel.past)
+
+-- a close leaves what was printed of others
+closed_at-named : (state : State) (e d : ℕ) (g : Endpoint) (o : Option Endpoint) → named (closed_at state e (option_map kept o)).endpoints d ≡ Some g → named state.endpoints d ≡ Some g
+closed_at-named state e d g None is = is
+closed_at-named state e d g (Some h) is =
+    elim (cases_eq d e) [
+      | inl same ↦ absurd (none-some g (sym (named-freed state.endpoints e) ∙ (ap (named (freed state.endpoints e)) (sym same) ∙ is)))
+      | inr apart ↦ sym (named-freed_other state.endpoints e d apart) ∙ is
+    ]
+
+closed-named : (state : State) (e d : ℕ) (g : Endpoint) → named (closed state e).endpoints d ≡ Some g → named state.endpoints d ≡ Some g
+unfolding closed
+closed-named state e d g is = closed_at-named state e d g (named state.endpoints e) is
+
+closed-prints : (state : State) (e : ℕ) (lines : ℕ → List (List ℕ)) → Inv state → AllPrint state lines → AllPrint (closed state e) lines
+closed-prints state e lines inv prints d g is =
+    prints-stay state.host.kernel.past (closed state e).host.kernel.past (taken_of g) (lines d) (closed-step state e lines inv).goes.past (prints d g (closed-named state e d g is))
+
+record EndPrints (state : State) (lines : ℕ → List (List ℕ)) (k : ℕ) : Type 0 where
+  open_ : AllPrint (endpoints_closed state k) lines
+  shut : All (Printed (endpoints_closed state k).host.kernel.past) (closed_at_end state lines k)
+
+ends-print : (state : State) (lines : ℕ → List (List ℕ)) (k : ℕ) → Inv state → AllPrint state lines → EndPrints state lines k
+ends-print state lines zero inv prints = record { open_ = prints; shut = All-nil (Printed state.host.kernel.past) }
+ends-print state lines (suc k) inv prints =
+    let before = ends-print state lines k inv prints in
+    let mid = endpoints_closed state k in
+    let now = (ends-step state lines k inv).inv in
+    let extends = (closed-step mid k lines now).goes.past in
+    record {
+      open_ = closed-prints mid k lines now before.open_;
+      shut = printed-on mid.host.kernel.past (closed mid k).host.kernel.past (closed_at_end state lines k ++ closed_under mid lines k) extends
+          (All-append (Printed mid.host.kernel.past) (closed_at_end state lines k) (closed_under mid lines k) before.shut (closed_under-printed mid lines k before.open_));
+    }
+
+runs-print : (state : State) (lines : ℕ → List (List ℕ)) (items : List Item) → Inv state → AllPrint state lines → All (Printed (last_host state items).kernel.past) (handles_from state lines items)
+unfolding ended all_closed
+runs-print state lines [] inv prints =
+    let mid = endpoints_closed state 64 in
+    let first = ends-step state lines 64 inv in
+    let last = interfaces_closed mid 64 in
+    let goes = goes-then mid.host last.host (finished last.host) (interfaces-keep mid 64 first.inv).goes (goes-keeps last.host (finished last.host) (on-finished last.host)) in
+    printed-on mid.host.kernel.past (finished last.host).kernel.past (closed_at_end state lines 64) goes.past (ends-print state lines 64 inv prints).shut
+runs-print state lines (item ∷ items) inv prints =
+    let a = answer state item in
+    let first = answer-step state lines item inv in
+    let later = lines_behind state a lines in
+    let rest = runs a.state later items first.inv in
+    let last = last_host a.state items in
+    let goes = goes-then state.host a.state.host last first.goes rest.goes in
+    All-append (Printed last.kernel.past) (closed_by state lines item) (handles_from a.state later items)
+    (printed-on state.host.kernel.past last.kernel.past (closed_by state lines item) goes.past (closed_by-printed state lines item prints))
+    (runs-print a.state later items first.inv (all-print state a lines first.goes.past prints (answer-takes state item inv)))
+
+none-print : (items : List Item) (lines : ℕ → List (List ℕ)) → AllPrint (start items) lines
+unfolding start
+none-print items lines e h is = absurd (none-some h (sym (named-replicate 64 e) ∙ is))
+
+-- each ticket of the last host stands once
+handles-once : (state : State) (lines : ℕ → List (List ℕ)) (items : List Item) (t : ℕ) → times_open t state.endpoints ≡ 0 → tickets_of state ≡ 0 → Runs state lines items → t < length (last_host state items).tickets → count_by (λ u. u == t) (tickets_of_all (handles_from state lines items)) ≡ 1
+handles-once state lines items t none few run within =
+    let all = run.adds t in
+    let before : among t (tickets_of state) ≡ 0 = ap (among t) few in
+    let there : t < length (tickets (last_host state items).kernel.past) = omega (arith, run.count, within) in
+    let here = among-within t (length (tickets (last_host state items).kernel.past)) there in
+    let counts = counts-times t (tickets_of_all (handles_from state lines items)) in
+    omega arith
+
+served-one : (last : HostState) (c : Handle) → HasEnds last.tickets → Closes last c → c.lines ≡ map (λ t. polled_line (transfer_completion last.kernel.past t)) (take c.endpoint.taken c.endpoint.tickets) → IsServedInOrder last c
+served-one last c ends closes printed =
+    record {
+      rising = closes.rising;
+      few = closed-few last c.endpoint c.past closes;
+      printed = printed;
+      taken = closed-taken last c.endpoint c.past closes;
+      others = closed-others last c.endpoint c.past ends closes;
+    }
+
+pub served-handles : HandlesAreServedInOrder
+unfolding handles final_host
+served-handles items ends =
+    let lines : ℕ → List (List ℕ) = λ e. [] in
+    let run = runs (start items) lines items (inv-start items) in
+    let prints = runs-print (start items) lines items (inv-start items) (none-print items lines) in
+    record {
+      served = λ k d below. served-one (last_host (start items) items) _ ends (run.closes k d below) (prints k d below).are;
+      once = λ t within. let none = nothing-open items t in handles-once (start items) lines items t none.0 none.1 run within;
+    }
+
+-- the host has as many tickets as the journal
+pub final-counted : ScriptsAreCounted
+unfolding final_host
+final-counted items = (runs (start items) (λ e. []) items (inv-start items)).count
+
+-- one fate line for each ticket of the summary
+pub fates-of_scripts : FatesOfScripts
+unfolding fate_lines counts_of
+fates-of_scripts items ends reaped =
+    let counted = final-counted items in
+    record {
+      lines = ap (fate_lines_from (final_host items) 0) (sym counted);
+      final = λ t below. fates-final (final_host items) t ends reaped below (omega (arith, counted, below));
+    }
+
+-- what came before any line
+inv-behind : (state : State) (items : List Item) → Inv state → Inv (behind state items)
+inv-behind state [] inv = inv
+inv-behind state (item ∷ items) inv = inv-behind (answer state item).state items (answer-step state (λ e. []) item inv).inv
+
+few-taken : (state : State) → Inv state → TookFew state
+few-taken state inv e h is = order-few state.host h (inv.order e h is)
+
+accounted-behind : (state : State) (items : List Item) → Inv state → Accounted state → Accounted (behind state items)
+accounted-behind state [] inv a = a
+accounted-behind state (item ∷ items) inv a =
+    accounted-behind (answer state item).state items (answer-step state (λ e. []) item inv).inv (accounted-answer state item (few-taken state inv) a)
+
+leaves-end : (o p : Option HostTicket) (end : TicketEnd) → Leaves o p → option_and_then ended_at o ≡ Some end → option_and_then ended_at p ≡ Some end
+leaves-end None p end leaves is = absurd (none-some end is)
+leaves-end (Some (Held hold)) p end leaves is = absurd (none-some end is)
+leaves-end (Some (Abandoned key)) p end leaves is = absurd (none-some end is)
+leaves-end (Some (Ended was)) p end leaves is = ap (option_and_then ended_at) leaves ∙ is
+
+goes-to : (old new : HostState) → LeavesTickets old new → GoesOnTo old new
+goes-to old new goes = record { journal = goes.past; ends = λ t end is. leaves-end (slice_get old.tickets t) (slice_get new.tickets t) end (goes.tickets t) is }
+
+pub scripts-go_on : ScriptsGoOn
+scripts-go_on =
+    record {
+      line = λ items before item.
+          let state = behind (start items) before in
+          goes-to state.host (answer state item).state.host (answer-step state (λ e. []) item (inv-behind (start items) before (inv-start items))).goes;
+      end = λ items before.
+          let state = behind (start items) before in
+          goes-to state.host (ended state) (runs state (λ e. []) [] (inv-behind (start items) before (inv-start items))).goes;
+      accounted = λ items before. accounted-behind (start items) before (inv-start items) (accounted-start items);
+    }

@@ -1,0 +1,6 @@
+use Rattle.usb_answers.proofs.DoneLemmas.{completions-taken}
+use Rattle.usb_answers.proofs.PlaceLemmas.{polls-for_their_place}
+use Rattle.usb_answers.proofs.laws.polls_answer_for_their_place.Goals as goal
+
+pub returns : goal.returns
+returns c = record { poll = polls-for_their_place; taken = completions-taken }
