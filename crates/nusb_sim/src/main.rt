@@ -4,28 +4,41 @@
 #[cfg(test)]
 mod tests;
 
-use std::env;
 use std::process::ExitCode;
-use usb_session::{StdSink, StdSource, run_program};
+use std::{env, io};
+use usb_session::{OpenGate, Seen, StdSink, StdSource, lack_memory, refuse_words, run_program};
 
-/// The arguments couldn't be read: a faulty command line.
-const USAGE: u8 = 2;
-
-/// There was no memory for the arguments.
-const MEMORY: u8 = 7;
-
-fn main(rt: HostRuntime) -> ExitCode {
-    let Ok(args) = env::args(&rt) else {
-        return ExitCode::from(USAGE);
-    };
+/// The program's words, without its name.
+fn read_words(rt: &HostRuntime) -> io::Result<Vec<String>> {
     let mut words = Vec::new(rt.alloc());
-    for word in args.skip(1) {
+    for word in env::args(rt)?.skip(1) {
         if words.push(word).is_err() {
-            return ExitCode::from(MEMORY);
+            return Err(io::Error::from(io::ErrorKind::OutOfMemory));
         }
     }
+    Ok(words)
+}
+
+fn main(rt: HostRuntime) -> ExitCode {
     let mut source = StdSource::new(rt.stdin());
     let mut sink = StdSink::new(rt.stdout());
     let mut diag = StdSink::new(rt.stderr());
-    ExitCode::from(run_program(rt.alloc(), &words, &mut source, &mut sink, &mut diag))
+    let words = match read_words(&rt) {
+        Ok(words) => words,
+        Err(error) if matches!(error.kind(), io::ErrorKind::OutOfMemory) => {
+            return ExitCode::from(lack_memory(&mut diag));
+        }
+        Err(_) => return ExitCode::from(refuse_words(&mut diag)),
+    };
+    let status = run_program(
+        &rt,
+        rt.alloc(),
+        &words,
+        &mut source,
+        &mut sink,
+        &mut diag,
+        OpenGate,
+        &Seen::new(),
+    );
+    ExitCode::from(status)
 }

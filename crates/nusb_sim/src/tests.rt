@@ -3,12 +3,16 @@
 mod descriptors;
 mod endpoints;
 mod lines;
+mod live;
 
 use std::alloc::{AllocError, Global};
 use std::process::Abort;
+use std::sync::Wait;
 use std::test::Fail;
+use std::thread::Threads;
 use usb_session::{
-    MemSink, MemSource, StdSink, StdSource, SureSink, SureSource, run_program, run_session,
+    MemSink, MemSource, OpenGate, Seen, StdSink, StdSource, SureSink, SureSource, run_program,
+    run_session,
 };
 
 /// The lines that open a device with a bulk IN endpoint 81 of 64 bytes and a bulk OUT endpoint 02, and their answers.
@@ -32,7 +36,8 @@ fn joined(alloc: Global, front: &str, back: &str) -> Result<String, AllocError> 
 }
 
 /// Runs the program on words and a script, whose calls with these numbers fail.
-fn run_on(
+fn run_on<R: Threads + Wait + Sync>(
+    rt: &R,
     alloc: Global,
     word: Option<&str>,
     script: &[u8],
@@ -49,7 +54,16 @@ fn run_on(
     );
     let mut sink = MemSink::new(alloc, 65536, Vec::from_slice(alloc, failing_writes)?)?;
     let mut diag = MemSink::new(alloc, 65536, Vec::new(alloc))?;
-    let status = run_program(alloc, &words, &mut source, &mut sink, &mut diag);
+    let status = run_program(
+        rt,
+        alloc,
+        &words,
+        &mut source,
+        &mut sink,
+        &mut diag,
+        OpenGate,
+        &Seen::new(),
+    );
     Ok(Outcome { status, sink, diag })
 }
 
@@ -60,8 +74,8 @@ fn expect(rt: &impl Abort, name: &str, outcome: &Outcome, status: u8, output: &s
 }
 
 /// Runs scripts that go on behind the front, whose answers are written first. A row has a name, the script and what is written.
-fn expect_rows(
-    rt: &impl Abort,
+fn expect_rows<R: Abort + Threads + Wait + Sync>(
+    rt: &R,
     alloc: Global,
     word: Option<&str>,
     front: (&str, &str),
@@ -71,7 +85,7 @@ fn expect_rows(
         let (name, script, output) = *row;
         let script = joined(alloc, front.0, script)?;
         let output = joined(alloc, front.1, output)?;
-        let outcome = run_on(alloc, word, script.as_bytes(), &[], &[])?;
+        let outcome = run_on(rt, alloc, word, script.as_bytes(), &[], &[])?;
         expect(rt, name, &outcome, 0, output.as_str(), "");
     }
     Ok(())
@@ -161,10 +175,10 @@ const UNANSWERED: [(&str, &str, u8, &str, &str); 6] = [
 #[test]
 fn tells_why_nothing_was_answered(rt: HostRuntime) -> Result<(), Fail> {
     for (name, script, status, output, report) in UNANSWERED {
-        let outcome = run_on(rt.alloc(), None, script.as_bytes(), &[], &[])?;
+        let outcome = run_on(&rt, rt.alloc(), None, script.as_bytes(), &[], &[])?;
         expect(&rt, name, &outcome, status, output, report);
     }
-    let outcome = run_on(rt.alloc(), Some("--help"), b"", &[], &[])?;
+    let outcome = run_on(&rt, rt.alloc(), Some("--help"), b"", &[], &[])?;
     let usage = "usage: nusb_sim [session|generate N|live N]\n";
     expect(&rt, "an unknown word", &outcome, 2, "", usage);
     Ok(())
@@ -174,10 +188,10 @@ fn tells_why_nothing_was_answered(rt: HostRuntime) -> Result<(), Fail> {
 fn stops_at_the_longest_script(rt: HostRuntime) -> Result<(), Fail> {
     let mut script = Vec::from_slice(rt.alloc(), b"poll e0")?;
     script.resize(1048576, b' ')?;
-    let longest = run_on(rt.alloc(), None, script.as_slice(), &[], &[])?;
+    let longest = run_on(&rt, rt.alloc(), None, script.as_slice(), &[], &[])?;
     expect(&rt, "the longest script", &longest, 0, "condition\n", "");
     script.push(b' ')?;
-    let longer = run_on(rt.alloc(), None, script.as_slice(), &[], &[])?;
+    let longer = run_on(&rt, rt.alloc(), None, script.as_slice(), &[], &[])?;
     let report = "nusb_sim: script too long\n";
     expect(&rt, "one byte too long", &longer, 4, "", report);
     Ok(())
@@ -215,7 +229,7 @@ const FAULTS: [(&str, &[u64], &[u64], u8, &str, &str); 3] = [
 fn keeps_the_lines_before_a_fault(rt: HostRuntime) -> Result<(), Fail> {
     let script = joined(rt.alloc(), OPENED.0, "poll e0\n")?;
     for (name, reads, writes, status, output, report) in FAULTS {
-        let outcome = run_on(rt.alloc(), None, script.as_bytes(), reads, writes)?;
+        let outcome = run_on(&rt, rt.alloc(), None, script.as_bytes(), reads, writes)?;
         expect(&rt, name, &outcome, status, output, report);
     }
     Ok(())

@@ -1,3 +1,4 @@
+pub mod LiveLemmas
 pub mod MemoryLemmas
 pub mod OutsideLemmas
 pub mod RunLemmas

@@ -1,9 +1,9 @@
 -- What reads and writes, one after another, leave behind.
-use Rattle.std.proofs.Common.{◌≡◌, ℕ, List, [], ◌++◌, Some, None, refl, sym, ap, ◌∙◌, append_assoc}
+use Rattle.std.proofs.Common.{◌≡◌, ℕ, ◌+◌, ◌≤◌, List, [], ◌++◌, length, length-append, Some, None, refl, sym, ap, ◌∙◌, append_assoc, arith}
 use Rattle.std.specs.declared.option.Option.{Option}
 use Rattle.std.specs.Io.KnownBytes.{Appends, Keeps, Consumes}
 use Rattle.std.proofs.lemmas.List.{append-nil}
-use Rattle.usb_session.specs.Causes.{Wrote, WrotePrefix, ReadWhole}
+use Rattle.usb_session.specs.Causes.{Wrote, WrotePrefix, ReadWhole, TookAtMost}
 
 Appends_none : (o : Option (List ℕ)) → Appends o o []
 Appends_none None = tt
@@ -58,6 +58,16 @@ Consumes_kept None b c xs p q = tt
 Consumes_kept (Some xs1) None c xs p q = absurd p
 Consumes_kept (Some xs1) (Some xs2) None xs p q = absurd q
 Consumes_kept (Some xs1) (Some xs2) (Some xs3) xs p q = p ∙ ap (λ (x : List ℕ). xs ++ x) (sym q)
+
+-- what was taken, and then at most so many bytes more
+pub took-more : (a b c : Option (List ℕ)) (xs : List ℕ) (room most : ℕ) → Consumes a b xs → TookAtMost room b c → length xs + room ≤ most → TookAtMost most a c
+took-more a b c xs room most before more fits =
+    let count = more.count in
+    record {
+      bytes = xs ++ more.bytes;
+      taken = Consumes_more a b c xs more.bytes before more.taken;
+      count = rw (length-append xs more.bytes) (omega (arith, count, fits));
+    }
 
 -- what was read to the end of a source that tells its bytes is those bytes
 pub ReadWhole-known : (known bytes : List ℕ) (new : Option (List ℕ)) → ReadWhole (Some known) new bytes → known ≡ bytes

@@ -1,5 +1,5 @@
 -- Why a session fails.
-use Rattle.std.proofs.Common.{◌≡◌, count_by, ℕ, ◌+◌, ◌<◌, ◌≤◌, List, length, Ok, Err, Some, None, ap, sym, ◌∙◌, refl, arith, length-append, inl, Result, ltb, false}
+use Rattle.std.proofs.Common.{IfOk, IfErr, ◌≡◌, count_by, ℕ, ◌+◌, ◌<◌, ◌≤◌, List, length, Ok, Err, Some, None, ap, sym, ◌∙◌, refl, arith, length-append, ◌⊎◌, inl, inr, Result, ltb, false}
 use Rattle.std.specs.declared.option.Option.{Option}
 use Rattle.std.specs.Io.KnownBytes.{Consumes, Keeps}
 use Rattle.std.proofs.lemmas.Bool.Decides.{nat_tests}
@@ -13,7 +13,8 @@ use Rattle.usb_script.specs.ItemKinds.{is_call}
 use Rattle.usb_answers.specs.declared.summary.Summary.{Summary}
 use Rattle.usb_answers.specs.Output.{final_host}
 use Rattle.usb_answers.proofs.SumLemmas.{one_end_each}
-use Rattle.usb_session.specs.Session.{Seen, IsAnswered, HasReason, IsSmooth}
+use Rattle.usb_session.specs.Session.{Streams, IsAnswered, HasReason, IsSmooth, IsQuiet, IsExact}
+use Rattle.usb_session.specs.Program.{status_of, error_status}
 use Rattle.usb_session.proofs.OutsideLemmas.{ReadWhole-known}
 
 long_is_refused : (bytes : List ℕ) → 1048576 < length bytes → script_of bytes ≡ Err TooLong
@@ -34,7 +35,7 @@ whole_of_known (Some xs) new bytes read e r =
     let same : xs ≡ bytes = cc in sym same ∙ ReadWhole-known xs read new r
 
 -- where nothing fails, want of memory is the only error
-pub memory_alone : (s : Seen) (e : SessionError) → HasReason s e → IsSmooth s → e ≡ Memory
+pub memory_alone : (s : Streams) (e : SessionError) → HasReason s e → IsSmooth s → e ≡ Memory
 memory_alone s (Malformed line) reason smooth =
     let same = whole_of_known s.left s.left' smooth.bytes reason.0.bytes smooth.known reason.0.read in
     let here : script_of smooth.bytes ≡ Err (Malformed line) = ap script_of same ∙ reason.0.parsed in
@@ -63,7 +64,7 @@ small_is_malformed bytes e few same =
     only_malformed (parse bytes) e (rw small at same)
 
 -- what was read doesn't parse
-pub parsing_reason : (s : Seen) (e : SessionError) (bytes : List ℕ) → ReadWhole s.left s.left' bytes → length bytes < 1048577 → OrMemory {X = List Item} (Err e) (script_of bytes) → Keeps s.written s.written' → HasReason s e
+pub parsing_reason : (s : Streams) (e : SessionError) (bytes : List ℕ) → ReadWhole s.left s.left' bytes → length bytes < 1048577 → OrMemory {X = List Item} (Err e) (script_of bytes) → Keeps s.written s.written' → HasReason s e
 parsing_reason s (Malformed line) bytes read few parsed kept = (record { bytes = bytes; read = read; parsed = parsed }, kept)
 parsing_reason s TooLong bytes read few parsed kept = let m = small_is_malformed bytes TooLong few parsed in let e = m.1 in cc
 parsing_reason s ReadFault bytes read few parsed kept = let m = small_is_malformed bytes ReadFault few parsed in let e = m.1 in cc
@@ -71,6 +72,28 @@ parsing_reason s WriteFault bytes read few parsed kept = let m = small_is_malfor
 parsing_reason s Memory bytes read few parsed kept = inl kept
 
 -- each ticket of an answered script has one end
-pub answered-ends : (s : Seen) (summary : Summary) → IsAnswered s summary → summary.taken + summary.dropped + summary.reclaimed ≡ summary.tickets
+pub answered-ends : (s : Streams) (summary : Summary) → IsAnswered s summary → summary.taken + summary.dropped + summary.reclaimed ≡ summary.tickets
 answered-ends s summary answered =
     rw answered.summed (one_end_each (count_by is_call answered.items) (final_host answered.items) answered.ended)
+
+-- where nothing fails, the only errors are the parse's and want of memory
+parse_alone : (s : Streams) (bytes : List ℕ) (e : SessionError) → HasReason s e → IsQuiet s bytes → (e ≡ Memory) ⊎ (script_of bytes ≡ Err e)
+parse_alone s bytes (Malformed line) reason quiet =
+    inr (ap script_of (whole_of_known s.left s.left' bytes reason.0.bytes quiet.known reason.0.read) ∙ reason.0.parsed)
+parse_alone s bytes TooLong reason quiet =
+    let less = took_of_known s.left s.left' bytes reason.0.bytes quiet.known reason.0.taken in
+    let count = reason.0.count in
+    inr (long_is_refused bytes (omega arith))
+parse_alone s bytes ReadFault reason quiet = absurd (quiet.reads reason.0)
+parse_alone s bytes WriteFault reason quiet = absurd (quiet.writes reason.0)
+parse_alone s bytes Memory reason quiet = inl refl
+
+pub exact_of : (s : Streams) (bytes : List ℕ) (r : Result Summary SessionError) → IfOk r (IsAnswered s) → IfErr r (HasReason s) → IsQuiet s bytes → IsExact bytes r
+exact_of s bytes (Ok summary) ok err quiet =
+    (ok.items, ap script_of (whole_of_known s.left s.left' bytes ok.script.bytes quiet.known ok.script.read) ∙ ok.script.parsed)
+exact_of s bytes (Err e) ok err quiet = parse_alone s bytes e err quiet
+
+-- the status is then what the bytes parse to, or that of want of memory
+pub exact_status : {X : Type 0} (bytes : List ℕ) (r : Result X SessionError) → IsExact bytes r → (status_of r ≡ 7) ⊎ (status_of r ≡ status_of (script_of bytes))
+exact_status bytes (Ok x) exact = inr (sym (ap status_of exact.1))
+exact_status bytes (Err e) exact = elim exact [ inl is ↦ inl (ap error_status is) | inr is ↦ inr (sym (ap status_of is)) ]

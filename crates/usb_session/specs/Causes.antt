@@ -1,5 +1,5 @@
 -- What a call leaves behind at its source and its sink, and why it failed.
-use Rattle.std.specs.Prelude.{ℕ, ◌≡◌, ◌+◌, ◌-◌, ◌^◌, ◌≤◌, min, List, ◌++◌, length, OnErr}
+use Rattle.std.specs.Prelude.{ℕ, ◌≡◌, ◌+◌, ◌-◌, ◌^◌, ◌≤◌, min, List, ◌++◌, length, OnOk, OnErr}
 use Rattle.std.specs.declared.option.Option.{Option}
 use Rattle.std.specs.declared.result.Result.{Result}
 use Rattle.std.specs.Io.KnownBytes.{Appends, Consumes, IsAtEnd}
@@ -15,6 +15,17 @@ pub record HasCause {T E : Type 0} (before now : ℕ) (result : Result T E) : Ty
   pub later : before ≤ now
   pub failed : OnErr result (Rose before now)
 
+-- a count of faults never falls; it stays over a call that doesn't fail, and rises by one over a failure, up to the greatest `u64`
+pub record CountsFaults {T E : Type 0} (before now : ℕ) (result : Result T E) : Type 0 where
+  pub later : before ≤ now
+  pub none : OnOk result (now ≡ before)
+  pub one : OnErr result (now ≡ min (before + 1) (2 ^ 64 - 1))
+
+-- one read failed, and it was the last
+pub record FailedLast (before now : ℕ) (last : Type 0) : Type 0 where
+  pub one : now ≡ min (before + 1) (2 ^ 64 - 1)
+  pub failed : last
+
 -- the bytes written so far, and those that are left, make the whole
 pub record Wrote (old new : Option (List ℕ)) (whole left : List ℕ) : Type 0 where
   pub done : List ℕ
@@ -29,6 +40,12 @@ WrotePrefix old new whole = (left : List ℕ) × Wrote old new whole left
 pub record ReadWhole (old new : Option (List ℕ)) (bytes : List ℕ) : Type 0 where
   pub taken : Consumes old new bytes
   pub end : IsAtEnd new
+
+-- at most so many bytes were read
+pub record TookAtMost (most : ℕ) (old new : Option (List ℕ)) : Type 0 where
+  pub bytes : List ℕ
+  pub taken : Consumes old new bytes
+  pub count : length bytes ≤ most
 
 -- more bytes than a script has were read
 pub record TookTooMany (old new : Option (List ℕ)) : Type 0 where

@@ -1,4 +1,5 @@
 pub mod Causes
+pub mod Live
 pub mod Memory
 pub mod Program
 pub mod Session

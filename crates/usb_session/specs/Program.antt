@@ -1,5 +1,5 @@
 -- What the program answers to its words.
-use Rattle.std.specs.Prelude.{ℕ, ◌≡◌, ◌⊎◌, Bool, true, false, List, [], ◌∷◌, ◌++◌, codes, Result, Ok, Err}
+use Rattle.std.specs.Prelude.{ℕ, ◌≡◌, ◌⊎◌, Bool, true, false, not, ◌&&◌, is_none, List, [], ◌∷◌, ◌++◌, codes, Result, Ok, Err}
 use Rattle.std.specs.Fmt.{decimal}
 use Rattle.std.specs.Str.{bytes_eq}
 use Rattle.std.specs.declared.option.Option.{Option}
@@ -7,7 +7,8 @@ use Rattle.std.specs.Io.KnownBytes.{Appends}
 use Rattle.usb_script.specs.declared.error.SessionError.{SessionError}
 use Rattle.usb_script.specs.declared.error.SessionError.TheVariants.{Malformed, TooLong, ReadFault, WriteFault, Memory}
 use Rattle.usb_session.specs.Causes.{Rose, WrotePrefix}
-use Rattle.usb_session.specs.Session.{Seen, IsAnswered, HasReason}
+use Rattle.usb_session.specs.Live.{live_count, IsLive}
+use Rattle.usb_session.specs.Session.{Streams, IsAnswered, HasReason}
 use Rattle.usb_answers.specs.declared.summary.Summary.{Summary}
 
 -- whether the words ask for a session: there are none, or there is `session` alone
@@ -16,6 +17,10 @@ is_session [] = true
 is_session (word ∷ []) = bytes_eq word (codes "session")
 is_session (word ∷ next ∷ words) = false
 
+-- whether the words are none that the program knows
+abbrev pub is_usage : List (List ℕ) → Bool
+is_usage words = not (is_session words) && is_none (live_count words)
+
 abbrev pub error_status : SessionError → ℕ
 error_status (Malformed line) = 3
 error_status TooLong = 4
@@ -23,9 +28,9 @@ error_status ReadFault = 5
 error_status WriteFault = 6
 error_status Memory = 7
 
--- the status of a session
-abbrev pub status_of : Result Summary SessionError → ℕ
-status_of (Ok summary) = 0
+-- the status of an answer
+abbrev pub status_of : {X : Type 0} → Result X SessionError → ℕ
+status_of (Ok x) = 0
 status_of (Err e) = error_status e
 
 abbrev pub error_line : SessionError → List ℕ
@@ -35,9 +40,9 @@ error_line ReadFault = codes "nusb_sim: read fault\n"
 error_line WriteFault = codes "nusb_sim: write fault\n"
 error_line Memory = codes "nusb_sim: out of memory\n"
 
--- the line that a session's answer is reported by, which is empty where it is Ok
-abbrev pub report_of : Result Summary SessionError → List ℕ
-report_of (Ok summary) = []
+-- the line that an answer is reported by, which is empty where it is Ok
+abbrev pub report_of : {X : Type 0} → Result X SessionError → List ℕ
+report_of (Ok x) = []
 report_of (Err e) = error_line e
 
 abbrev pub usage_line : List ℕ
@@ -48,13 +53,20 @@ abbrev pub Reports : Option (List ℕ) → Option (List ℕ) → ℕ → ℕ →
 Reports old new before now line = Appends old new line ⊎ (Rose before now × WrotePrefix old new line)
 
 -- a session that gave this answer
-abbrev pub IsSession : Seen → Result Summary SessionError → Type 0
+abbrev pub IsSession : Streams → Result Summary SessionError → Type 0
 IsSession s (Ok summary) = IsAnswered s summary
 IsSession s (Err e) = HasReason s e
 
 -- what the call with words for a session answers
-pub record RunsSession (s : Seen) (told told' : Option (List ℕ)) (faults faults' status : ℕ) : Type 0 where
+pub record RunsSession (s : Streams) (told told' : Option (List ℕ)) (faults faults' status : ℕ) : Type 0 where
   pub answer : Result Summary SessionError
   pub session : IsSession s answer
+  pub status_is : status ≡ status_of answer
+  pub report : Reports told told' faults faults' (report_of answer)
+
+-- what the call with the words `live N` answers: of the sink, what is reported, and the status
+pub record RunsLive (n : ℕ) (old new : Option (List ℕ)) (before now : ℕ) (told told' : Option (List ℕ)) (faults faults' status : ℕ) : Type 0 where
+  pub answer : Result (Unit {0}) SessionError
+  pub live : IsLive n old new before now answer
   pub status_is : status ≡ status_of answer
   pub report : Reports told told' faults faults' (report_of answer)

@@ -10,10 +10,12 @@ use Rattle.usb_session.specs.Causes.{Rose, ReadWhole, WrotePrefix, TookTooMany}
 use Rattle.usb_device.specs.Finishes.{HasEnds, HasCompletions}
 use Rattle.usb_answers.specs.Output.{output, final_host}
 use Rattle.usb_answers.specs.Sums.{sum_of}
+use Rattle.usb_answers.specs.Served.{IsCounted, HandlesAreServed}
+use Rattle.usb_answers.specs.FinalFates.{HasFinalFates}
 use Rattle.usb_answers.specs.declared.summary.Summary.{Summary}
 
 -- what a source and a sink tell of themselves before a call and after it
-pub record Seen : Type 0 where
+pub record Streams : Type 0 where
   pub left : Option (List ℕ)
   pub left' : Option (List ℕ)
   pub read_faults : ℕ
@@ -23,48 +25,72 @@ pub record Seen : Type 0 where
   pub write_faults : ℕ
   pub write_faults' : ℕ
 
-abbrev pub seen : Option (List ℕ) → Option (List ℕ) → ℕ → ℕ → Option (List ℕ) → Option (List ℕ) → ℕ → ℕ → Seen
-seen left left' read_faults read_faults' written written' write_faults write_faults' =
-    record { left = left; left' = left'; read_faults = read_faults; read_faults' = read_faults'; written = written; written' = written'; write_faults = write_faults; write_faults' = write_faults' }
+abbrev pub streams : {S K : Type 0} → (S → Option (List ℕ)) → (S → ℕ) → (K → Option (List ℕ)) → (K → ℕ) → S → S → K → K → Streams
+streams left faults written counted source source' sink sink' =
+    record {
+      left = left source;
+      left' = left source';
+      read_faults = faults source;
+      read_faults' = faults source';
+      written = written sink;
+      written' = written sink';
+      write_faults = counted sink;
+      write_faults' = counted sink';
+    }
 
--- the source was read to its end, and its bytes are answered so
-pub record Answers (s : Seen) (answer : Result (List Item) SessionError) : Type 0 where
+-- the source was read to its end, and this is what its bytes parse to
+pub record ReadAs (s : Streams) (items : Result (List Item) SessionError) : Type 0 where
   pub bytes : List ℕ
   pub read : ReadWhole s.left s.left' bytes
-  pub parsed : script_of bytes ≡ answer
+  pub parsed : script_of bytes ≡ items
 
--- a valid script was read, its whole output was written, and at its end each ticket has its end and its completion
-pub record IsAnswered (s : Seen) (summary : Summary) : Type 0 where
+-- a valid script was read, and its whole output was written; at its end each ticket of the journal has its place at the host, its end
+-- and its completion, each endpoint was served in the order of its submissions, and there is one final fate line for each ticket
+pub record IsAnswered (s : Streams) (summary : Summary) : Type 0 where
   pub items : List Item
-  pub script : Answers s (Ok items)
+  pub script : ReadAs s (Ok items)
   pub wrote : Appends s.written s.written' (output items)
   pub summed : summary ≡ sum_of items
   pub ended : HasEnds (final_host items).tickets
   pub reaped : HasCompletions (final_host items).kernel.past
+  pub counted : IsCounted items
+  pub served : HandlesAreServed items
+  pub fates : HasFinalFates items
 
 -- a valid script was read, and a prefix of its output was written
-pub record IsCutOff (s : Seen) : Type 0 where
+pub record IsCutOff (s : Streams) : Type 0 where
   pub items : List Item
-  pub script : Answers s (Ok items)
+  pub script : ReadAs s (Ok items)
   pub wrote : WrotePrefix s.written s.written' (output items)
 
 -- why a session fails, and what it wrote
-abbrev pub HasReason : Seen → SessionError → Type 0
-HasReason s (Malformed line) = Answers s (Err (Malformed line)) × Keeps s.written s.written'
+abbrev pub HasReason : Streams → SessionError → Type 0
+HasReason s (Malformed line) = ReadAs s (Err (Malformed line)) × Keeps s.written s.written'
 HasReason s TooLong = TookTooMany s.left s.left' × Keeps s.written s.written'
 HasReason s ReadFault = Rose s.read_faults s.read_faults' × Keeps s.written s.written'
 HasReason s WriteFault = Rose s.write_faults s.write_faults' × IsCutOff s
 HasReason s Memory = Keeps s.written s.written' ⊎ IsCutOff s
 
 -- counts of faults never fall
-abbrev pub IsLater : Seen → Type 0
+abbrev pub IsLater : Streams → Type 0
 IsLater s = (s.read_faults ≤ s.read_faults') × (s.write_faults ≤ s.write_faults')
 
 -- a source that tells its bytes gave a valid script, and no count of faults rose
-pub record IsSmooth (s : Seen) : Type 0 where
+pub record IsSmooth (s : Streams) : Type 0 where
   pub bytes : List ℕ
   pub items : List Item
   pub known : s.left ≡ Some bytes
   pub valid : script_of bytes ≡ Ok items
   pub reads : Rose s.read_faults s.read_faults' → ⊥
   pub writes : Rose s.write_faults s.write_faults' → ⊥
+
+-- a source that tells its bytes gave these, and no count of faults rose
+pub record IsQuiet (s : Streams) (bytes : List ℕ) : Type 0 where
+  pub known : s.left ≡ Some bytes
+  pub reads : Rose s.read_faults s.read_faults' → ⊥
+  pub writes : Rose s.write_faults s.write_faults' → ⊥
+
+-- where the source's bytes are these and nothing failed: the answer is Ok where they parse, and else the parse's error; or memory was wanting
+abbrev pub IsExact : {X : Type 0} → List ℕ → Result X SessionError → Type 0
+IsExact bytes (Ok x) = (items : List Item) × (script_of bytes ≡ Ok items)
+IsExact bytes (Err e) = (e ≡ Memory) ⊎ (script_of bytes ≡ Err e)

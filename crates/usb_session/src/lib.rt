@@ -1,6 +1,7 @@
 //! A session: reads a script, answers it and writes the answers.
 #![tactic(auto)]
 
+mod live;
 mod memory;
 mod outside;
 mod program;
@@ -12,9 +13,10 @@ mod writing;
 
 pub use memory::{MemSink, MemSource};
 pub use outside::{Failed, Sink, Source};
-pub use program::run_program;
+pub use program::{lack_memory, refuse_words, run_program};
 pub use run::run_session;
 pub use standard::{StdSink, StdSource};
 pub use sure::{SureSink, SureSource};
 pub use usb_answers::Summary;
-pub use usb_script::{Item, Script, SessionError, parse_script};
+pub use usb_live::{Gate, OpenGate, Seen};
+pub use usb_script::{Item, Script, SessionError, Steps, parse_script};

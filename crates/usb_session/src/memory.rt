@@ -3,7 +3,7 @@
 ghost use Rattle.std.specs.Prelude.{◌≡◌, ◌<◌, ◌↔◌, ◌⊎◌, [], length, Some, IfOk, IsErr, Contains};
 ghost use Rattle.std.specs.Io.{ReadsAtMost, WritesAtMost};
 ghost use Rattle.std.specs.Io.KnownBytes.{ReadConsumes, WriteAppends};
-ghost use Rattle.usb_session.specs.Causes.{HasCause};
+ghost use Rattle.usb_session.specs.Causes.{HasCause, CountsFaults};
 ghost use Rattle.usb_session.specs.Memory.{next_call};
 
 use crate::outside::{Failed, Sink, Source};
@@ -51,14 +51,16 @@ impl Source for MemSource {
 
     ghost faults = { λ s. s.faults };
 
+    ghost has_failed = { λ s. Contains s.fail_at s.calls };
+
     // It fails exactly at the calls that were named.
     fn read(&mut self, buf: &mut [u8]) -> Result<usize, Failed>
         ensures bound { ReadsAtMost result buf.new }
         ensures bytes { ReadConsumes (Some self.old.rest) (Some self.new.rest) result buf.new }
-        ensures cause { HasCause self.old.faults self.new.faults result }
+        ensures cause { CountsFaults self.old.faults self.new.faults result }
+        ensures last { IsErr result ↔ Contains self.new.fail_at self.new.calls }
         ensures calls { self.new.calls ≡ next_call self.old.calls }
         ensures schedule { self.new.fail_at ≡ self.old.fail_at }
-        ensures fails { IsErr result ↔ Contains self.old.fail_at self.new.calls }
     {
         self.calls = self.calls.saturating_add(1);
         if self.fail_at.contains(&self.calls) {

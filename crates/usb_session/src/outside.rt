@@ -1,27 +1,42 @@
 //! Where a script comes from, and where its answers go.
 
-ghost use Rattle.std.specs.Prelude.{ℕ, List, ◌<◌, length, IfOk};
+ghost use Rattle.std.specs.Prelude.{ℕ, List, ◌<◌, ◌↔◌, length, IfOk, IsErr};
 ghost use Rattle.std.specs.declared.option.Option.{Option};
 ghost use Rattle.std.specs.Io.{ReadsAtMost, WritesAtMost};
 ghost use Rattle.std.specs.Io.KnownBytes.{ReadConsumes, WriteAppends};
-ghost use Rattle.usb_session.specs.Causes.{HasCause};
+ghost use Rattle.usb_session.specs.Causes.{HasCause, CountsFaults};
+
+use std::error::Error;
+use std::fmt;
 
 /// A call that failed.
 #[derive(Clone, Copy, Debug, PartialEq, Eq)]
 pub struct Failed;
+
+impl fmt::Display for Failed {
+    fn fmt<W: fmt::Write>(&self, f: &mut fmt::Formatter<W>) -> fmt::Result {
+        f.write_str("failed")
+    }
+}
+
+impl Error for Failed {}
 
 /// Where bytes come from.
 pub trait Source {
     // The bytes that reads will give from here on, where the source tells them.
     ghost left: { Self → Option (List ℕ) };
 
-    // How many calls failed.
+    // How many reads failed.
     ghost faults: { Self → ℕ };
+
+    // Whether the last read failed.
+    ghost has_failed: { Self → Type 0 };
 
     fn read(&mut self, buf: &mut [u8]) -> Result<usize, Failed>
         ensures bound { ReadsAtMost result buf.new }
         ensures bytes { ReadConsumes (left self.old) (left self.new) result buf.new }
-        ensures cause { HasCause (faults self.old) (faults self.new) result };
+        ensures cause { CountsFaults (faults self.old) (faults self.new) result }
+        ensures last { IsErr result ↔ has_failed self.new };
 }
 
 /// Where bytes go.
@@ -29,7 +44,7 @@ pub trait Sink {
     // The bytes taken so far, where the sink tells them.
     ghost written: { Self → Option (List ℕ) };
 
-    // How many calls failed.
+    // How many writes failed.
     ghost faults: { Self → ℕ };
 
     fn write(&mut self, bytes: &[u8]) -> Result<usize, Failed>

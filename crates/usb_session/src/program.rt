@@ -1,19 +1,25 @@
 //! The program.
 
-ghost use Rattle.std.specs.Prelude.{ℕ, ◌≡◌, ◌⊎◌, ◌↔◌, ◌++◌, false, true, map, string_bytes, decimal, OnOk, OnErr};
+ghost use Rattle.std.specs.Prelude.{ℕ, List, ◌≡◌, ◌⊎◌, ◌↔◌, ◌≤◌, ◌++◌, true, false, Some, map, string_bytes, decimal, IfSome, OnOk, OnErr};
 ghost use Rattle.std.specs.Io.KnownBytes.{Appends};
-ghost use Rattle.usb_session.specs.Causes.{HasCause, WrotePrefix};
-ghost use Rattle.usb_session.specs.Session.{seen, IsAnswered, HasReason, IsSmooth};
+ghost use Rattle.usb_session.specs.Causes.{HasCause, WrotePrefix, FailedLast, TookAtMost};
+ghost use Rattle.usb_script.specs.Parse.{script_of};
+ghost use Rattle.usb_session.specs.Session.{streams, IsAnswered, HasReason, IsSmooth, IsQuiet};
 ghost use Rattle.usb_answers.specs.declared.summary.Summary.{Summary};
-ghost use Rattle.usb_session.specs.Program.{is_session, status_of, report_of, error_line, usage_line, Reports, RunsSession};
+ghost use Rattle.usb_session.specs.Live.{live_count, IsLive};
+ghost use Rattle.usb_session.specs.Program.{is_session, is_usage, status_of, report_of, error_line, usage_line, Reports, RunsSession, RunsLive};
 
+use crate::live::live;
 use crate::outside::{Failed, Sink, Source};
 use crate::run::run_session;
 use crate::writing::offer;
 use itoa::Buffer;
 use std::alloc::Global;
+use std::sync::Wait;
+use std::thread::Threads;
 use usb_answers::Summary;
-use usb_script::SessionError;
+use usb_live::{Gate, Seen};
+use usb_script::{SessionError, number_between};
 
 const USAGE: u8 = 2;
 
@@ -28,8 +34,23 @@ fn is_session(words: &[String]) -> bool
     }
 }
 
-/// The status of a session's answer.
-fn status_of(answer: &Result<Summary, SessionError>) -> u8
+/// How many transfers the words ask for.
+fn live_count(words: &[String]) -> Option<u32>
+    ensures value { result ≡ live_count (map string_bytes words.now) }
+    ensures small { IfSome result (λ n. n ≤ 1000) }
+{
+    let [word, count] = words else {
+        return None;
+    };
+    if word.as_str() != "live" {
+        return None;
+    }
+    let n = number_between(1, 1000, count.as_bytes())?;
+    Some(n as u32)
+}
+
+/// The status of an answer.
+fn status_of<T>(answer: &Result<T, SessionError>) -> u8
     ensures status { result ≡ status_of answer.now }
 {
     match answer {
@@ -72,7 +93,7 @@ fn offer_error<G: Sink>(diag: &mut G, error: &SessionError) -> Result<(), Failed
 }
 
 /// Reports an answer, as far as the sink takes the line.
-fn report<G: Sink>(diag: &mut G, answer: &Result<Summary, SessionError>)
+fn report<G: Sink, T>(diag: &mut G, answer: &Result<T, SessionError>)
     ensures line { Reports (G.written diag.old) (G.written diag.new) (G.faults diag.old) (G.faults diag.new) (report_of answer.now) }
 {
     if let Err(error) = answer {
@@ -80,47 +101,83 @@ fn report<G: Sink>(diag: &mut G, answer: &Result<Summary, SessionError>)
     }
 }
 
+/// Writes the line on how the program is used.
 fn report_usage<G: Sink>(diag: &mut G)
     ensures line { Reports (G.written diag.old) (G.written diag.new) (G.faults diag.old) (G.faults diag.new) usage_line }
 {
     let _ = offer(diag, b"usage: nusb_sim [session|generate N|live N]\n");
 }
 
-/// Runs the program on its words, and answers its status.
-pub fn run_program<S: Source, K: Sink, G: Sink>(
+/// Reports words that couldn't be read as text, and answers the status of a faulty command line.
+pub fn refuse_words<D: Sink>(diag: &mut D) -> u8
+    ensures status { result ≡ 2 }
+    ensures line { Reports (D.written diag.old) (D.written diag.new) (D.faults diag.old) (D.faults diag.new) usage_line }
+{
+    report_usage(diag);
+    USAGE
+}
+
+/// Reports that there was no memory for the words, and answers the status of that.
+pub fn lack_memory<D: Sink>(diag: &mut D) -> u8
+    ensures status { result ≡ 7 }
+    ensures line { Reports (D.written diag.old) (D.written diag.new) (D.faults diag.old) (D.faults diag.new) (error_line SessionError.Memory) }
+{
+    let answer: Result<Summary, SessionError> = Err(SessionError::Memory);
+    report(diag, &answer);
+    status_of(&answer)
+}
+
+/// Runs the program on its words, and answers its status. The gate and the flag are for the word `live`.
+pub fn run_program<R: Threads + Wait + Sync, S: Source, K: Sink, D: Sink, G: Gate + Send>(
+    rt: &R,
     alloc: Global,
     words: &Vec<String>,
     source: &mut S,
     sink: &mut K,
-    diag: &mut G,
+    diag: &mut D,
+    gate: G,
+    seen: &Seen,
 ) -> u8
-    ensures usage { result ≡ 2 ↔ (is_session (map string_bytes words.now.items) ≡ false) }
-    ensures usage_line { result ≡ 2 → Reports (G.written diag.old) (G.written diag.new) (G.faults diag.old) (G.faults diag.new) usage_line }
-    ensures session { is_session (map string_bytes words.now.items) ≡ true → RunsSession (seen (S.left source.old) (S.left source.new) (S.faults source.old) (S.faults source.new)
-        (K.written sink.old) (K.written sink.new) (K.faults sink.old) (K.faults sink.new))
-        (G.written diag.old) (G.written diag.new) (G.faults diag.old) (G.faults diag.new) result }
-    // The whole output was written exactly where the status is 0.
-    ensures done { result ≡ 0 → (summary : Summary) × IsAnswered (seen (S.left source.old) (S.left source.new) (S.faults source.old) (S.faults source.new)
-        (K.written sink.old) (K.written sink.new) (K.faults sink.old) (K.faults sink.new)) summary }
-    ensures malformed { result ≡ 3 → (line : ℕ) × HasReason (seen (S.left source.old) (S.left source.new) (S.faults source.old) (S.faults source.new)
-        (K.written sink.old) (K.written sink.new) (K.faults sink.old) (K.faults sink.new)) (SessionError.Malformed line) }
-    ensures too_long { result ≡ 4 → HasReason (seen (S.left source.old) (S.left source.new) (S.faults source.old) (S.faults source.new)
-        (K.written sink.old) (K.written sink.new) (K.faults sink.old) (K.faults sink.new)) SessionError.TooLong }
-    ensures read_fault { result ≡ 5 → HasReason (seen (S.left source.old) (S.left source.new) (S.faults source.old) (S.faults source.new)
-        (K.written sink.old) (K.written sink.new) (K.faults sink.old) (K.faults sink.new)) SessionError.ReadFault }
-    ensures write_fault { result ≡ 6 → HasReason (seen (S.left source.old) (S.left source.new) (S.faults source.old) (S.faults source.new)
-        (K.written sink.old) (K.written sink.new) (K.faults sink.old) (K.faults sink.new)) SessionError.WriteFault }
-    ensures memory { result ≡ 7 → HasReason (seen (S.left source.old) (S.left source.new) (S.faults source.old) (S.faults source.new)
-        (K.written sink.old) (K.written sink.new) (K.faults sink.old) (K.faults sink.new)) SessionError.Memory }
+    ensures usage { result ≡ 2 ↔ (is_usage (map string_bytes words.now.items) ≡ true) }
+    ensures usage_line { result ≡ 2 → Reports (D.written diag.old) (D.written diag.new) (D.faults diag.old) (D.faults diag.new) usage_line }
+    // Nothing is read where no session is asked for, and nothing is written where the words ask for nothing.
+    ensures unread { is_session (map string_bytes words.now.items) ≡ false → source.new ≡ source.old }
+    ensures unwritten { is_usage (map string_bytes words.now.items) ≡ true → sink.new ≡ sink.old }
+    ensures session { is_session (map string_bytes words.now.items) ≡ true → RunsSession (streams S.left S.faults K.written K.faults source.old source.new sink.old sink.new)
+        (D.written diag.old) (D.written diag.new) (D.faults diag.old) (D.faults diag.new) result }
+    ensures live { (n : ℕ) → live_count (map string_bytes words.now.items) ≡ Some n → RunsLive n (K.written sink.old) (K.written sink.new) (K.faults sink.old) (K.faults sink.new)
+        (D.written diag.old) (D.written diag.new) (D.faults diag.old) (D.faults diag.new) result }
+    // Of a session: the whole output was written exactly where the status is 0.
+    ensures done { is_session (map string_bytes words.now.items) ≡ true → result ≡ 0 →
+        (summary : Summary) × IsAnswered (streams S.left S.faults K.written K.faults source.old source.new sink.old sink.new) summary }
+    ensures malformed { result ≡ 3 → (line : ℕ) × HasReason (streams S.left S.faults K.written K.faults source.old source.new sink.old sink.new) (SessionError.Malformed line) }
+    ensures too_long { result ≡ 4 → HasReason (streams S.left S.faults K.written K.faults source.old source.new sink.old sink.new) SessionError.TooLong }
+    ensures read_fault { result ≡ 5 → HasReason (streams S.left S.faults K.written K.faults source.old source.new sink.old sink.new) SessionError.ReadFault }
+    ensures write_fault { is_session (map string_bytes words.now.items) ≡ true → result ≡ 6 →
+        HasReason (streams S.left S.faults K.written K.faults source.old source.new sink.old sink.new) SessionError.WriteFault }
+    ensures memory { is_session (map string_bytes words.now.items) ≡ true → result ≡ 7 →
+        HasReason (streams S.left S.faults K.written K.faults source.old source.new sink.old sink.new) SessionError.Memory }
+    // Where nothing fails, the status is what the script's bytes parse to, or want of memory.
+    ensures exact { is_session (map string_bytes words.now.items) ≡ true →
+        (bytes : List ℕ) → IsQuiet (streams S.left S.faults K.written K.faults source.old source.new sink.old sink.new) bytes →
+        (result ≡ 7) ⊎ (result ≡ status_of (script_of bytes)) }
+    // After a read that failed nothing more is read, and never more than one byte past the longest script.
+    ensures stops { result ≡ 5 → FailedLast (S.faults source.old) (S.faults source.new) (S.has_failed source.new) }
+    ensures most { TookAtMost 1048577 (S.left source.old) (S.left source.new) }
     // A valid script is answered, unless memory runs out.
-    ensures complete { is_session (map string_bytes words.now.items) ≡ true → IsSmooth (seen (S.left source.old) (S.left source.new) (S.faults source.old) (S.faults source.new)
-        (K.written sink.old) (K.written sink.new) (K.faults sink.old) (K.faults sink.new)) → (result ≡ 0) ⊎ (result ≡ 7) }
+    ensures complete { is_session (map string_bytes words.now.items) ≡ true →
+        IsSmooth (streams S.left S.faults K.written K.faults source.old source.new sink.old sink.new) → (result ≡ 0) ⊎ (result ≡ 7) }
 {
-    if !is_session(words.as_slice()) {
+    if is_session(words.as_slice()) {
+        let answer = run_session(alloc, source, sink);
+        report(diag, &answer);
+        return status_of(&answer);
+    }
+    let Some(n) = live_count(words.as_slice()) else {
         report_usage(diag);
         return USAGE;
-    }
-    let answer = run_session(alloc, source, sink);
+    };
+    let answer = live(rt, alloc, n, sink, gate, seen);
     report(diag, &answer);
     status_of(&answer)
 }

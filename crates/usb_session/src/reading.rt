@@ -1,7 +1,7 @@
 //! Reading a script.
 
-ghost use Rattle.std.specs.Prelude.{◌≡◌, ◌<◌, ◌≤◌, vec_len, IfOk, IfErr, IsErrOf, IsTrue, ◌↔◌, length};
-ghost use Rattle.usb_session.specs.Causes.{Rose, ReadWhole, ReadPiece, TookTooMany, IsReadingError};
+ghost use Rattle.std.specs.Prelude.{◌≡◌, ◌≢◌, ◌<◌, ◌≤◌, vec_len, IfOk, IfErr, IsErrOf, IsTrue, ◌↔◌, length};
+ghost use Rattle.usb_session.specs.Causes.{FailedLast, ReadWhole, ReadPiece, TookAtMost, TookTooMany, IsReadingError};
 
 use crate::outside::Source;
 use std::alloc::Global;
@@ -19,7 +19,10 @@ fn read_piece<S: Source>(
     requires { 0 < length room.old }
     ensures ok { IfOk result (λ more. ReadPiece (S.left source.old) (S.left source.new) bytes.old.items bytes.new.items (length room.old)) }
     ensures more { IfOk result (λ more. IsTrue more ↔ (vec_len bytes.old < vec_len bytes.new)) }
-    ensures fault { IsErrOf result SessionError.ReadFault → Rose (S.faults source.old) (S.faults source.new) }
+    ensures fault { IsErrOf result SessionError.ReadFault → FailedLast (S.faults source.old) (S.faults source.new) (S.has_failed source.new) }
+    ensures none { IfErr result (λ e. e ≢ SessionError.ReadFault → S.faults source.new ≡ S.faults source.old) }
+    ensures quiet { IfOk result (λ more. S.faults source.new ≡ S.faults source.old) }
+    ensures few { TookAtMost (length room.old) (S.left source.old) (S.left source.new) }
     ensures later { S.faults source.old ≤ S.faults source.new }
     ensures only { IfErr result IsReadingError }
     ensures not_long { IsErrOf result SessionError.TooLong → ⊥ }
@@ -36,7 +39,10 @@ pub fn read_script<S: Source>(alloc: Global, source: &mut S) -> Result<Vec<u8>, 
     ensures ok { IfOk result (λ bytes. ReadWhole (S.left source.old) (S.left source.new) bytes.items) }
     ensures few { IfOk result (λ bytes. vec_len bytes < 1048577) }
     ensures long { IsErrOf result SessionError.TooLong → TookTooMany (S.left source.old) (S.left source.new) }
-    ensures fault { IsErrOf result SessionError.ReadFault → Rose (S.faults source.old) (S.faults source.new) }
+    ensures fault { IsErrOf result SessionError.ReadFault → FailedLast (S.faults source.old) (S.faults source.new) (S.has_failed source.new) }
+    ensures none { IfErr result (λ e. e ≢ SessionError.ReadFault → S.faults source.new ≡ S.faults source.old) }
+    ensures quiet { IfOk result (λ bytes. S.faults source.new ≡ S.faults source.old) }
+    ensures most { TookAtMost 1048577 (S.left source.old) (S.left source.new) }
     ensures later { S.faults source.old ≤ S.faults source.new }
     ensures only { IfErr result IsReadingError }
 {

@@ -1,6 +1,6 @@
 //! A whole session.
 
-ghost use Rattle.std.specs.Prelude.{◌≡◌, ◌≤◌, ◌<◌, ◌+◌, length, IfOk, IfErr, OnOk, OnErr, IsErrOf};
+ghost use Rattle.std.specs.Prelude.{◌≡◌, ◌≤◌, ◌<◌, ◌+◌, ℕ, List, length, IfOk, IfErr, OnOk, OnErr, IsErrOf};
 ghost use Rattle.std.specs.List.{All, count_by};
 ghost use Rattle.std.specs.Io.KnownBytes.{Appends};
 ghost use Rattle.usb_script.specs.declared.item.Item.{Item};
@@ -10,10 +10,12 @@ ghost use Rattle.usb_device.specs.Finishes.{HasEnds, HasCompletions};
 ghost use Rattle.usb_answers.specs.Fates.{fate_lines};
 ghost use Rattle.usb_answers.specs.Output.{output, start, final_host};
 ghost use Rattle.usb_answers.specs.Sums.{sum_of};
+ghost use Rattle.usb_answers.specs.Served.{IsCounted, HandlesAreServed};
+ghost use Rattle.usb_answers.specs.FinalFates.{HasFinalFates};
 ghost use Rattle.usb_answers.specs.Relation.{Represents};
 ghost use Rattle.usb_session.specs.Running.{AllAnswered};
-ghost use Rattle.usb_session.specs.Causes.{Rose, WrotePrefix, IsWritingError};
-ghost use Rattle.usb_session.specs.Session.{seen, IsAnswered, HasReason, IsLater, IsSmooth};
+ghost use Rattle.usb_session.specs.Causes.{Rose, WrotePrefix, FailedLast, TookAtMost, IsWritingError};
+ghost use Rattle.usb_session.specs.Session.{streams, IsAnswered, HasReason, IsLater, IsSmooth, IsQuiet, IsExact};
 
 use crate::outside::{Failed, Sink, Source};
 use crate::reading::read_script;
@@ -93,6 +95,9 @@ fn answer_items<K: Sink>(
     ensures summary { IfOk result (λ s. s ≡ sum_of items.now) }
     ensures ended { IfOk result (λ _. HasEnds (final_host items.now).tickets) }
     ensures reaped { IfOk result (λ _. HasCompletions (final_host items.now).kernel.past) }
+    ensures counted { IfOk result (λ _. IsCounted items.now) }
+    ensures served { IfOk result (λ _. HandlesAreServed items.now) }
+    ensures fates { IfOk result (λ _. HasFinalFates items.now) }
     ensures err { OnErr result (WrotePrefix (K.written sink.old) (K.written sink.new) (output items.now)) }
     ensures cause { IsErrOf result SessionError.WriteFault → Rose (K.faults sink.old) (K.faults sink.new) }
     ensures only { IfErr result IsWritingError }
@@ -112,12 +117,11 @@ fn answer_source<S: Source, K: Sink>(
     source: &mut S,
     sink: &mut K,
 ) -> Result<Summary, SessionError>
-    ensures ok { IfOk result (IsAnswered (seen (S.left source.old) (S.left source.new) (S.faults source.old) (S.faults source.new)
-        (K.written sink.old) (K.written sink.new) (K.faults sink.old) (K.faults sink.new))) }
-    ensures err { IfErr result (HasReason (seen (S.left source.old) (S.left source.new) (S.faults source.old) (S.faults source.new)
-        (K.written sink.old) (K.written sink.new) (K.faults sink.old) (K.faults sink.new))) }
-    ensures later { IsLater (seen (S.left source.old) (S.left source.new) (S.faults source.old) (S.faults source.new)
-        (K.written sink.old) (K.written sink.new) (K.faults sink.old) (K.faults sink.new)) }
+    ensures ok { IfOk result (IsAnswered (streams S.left S.faults K.written K.faults source.old source.new sink.old sink.new)) }
+    ensures err { IfErr result (HasReason (streams S.left S.faults K.written K.faults source.old source.new sink.old sink.new)) }
+    ensures later { IsLater (streams S.left S.faults K.written K.faults source.old source.new sink.old sink.new) }
+    ensures stops { IsErrOf result SessionError.ReadFault → FailedLast (S.faults source.old) (S.faults source.new) (S.has_failed source.new) }
+    ensures most { TookAtMost 1048577 (S.left source.old) (S.left source.new) }
 {
     let bytes = read_script(alloc, source)?;
     let script = parse_script(alloc, bytes.as_slice())?;
@@ -136,17 +140,18 @@ pub fn run_session<S: Source, K: Sink>(
     source: &mut S,
     sink: &mut K,
 ) -> Result<Summary, SessionError>
-    ensures ok { IfOk result (IsAnswered (seen (S.left source.old) (S.left source.new) (S.faults source.old) (S.faults source.new)
-        (K.written sink.old) (K.written sink.new) (K.faults sink.old) (K.faults sink.new))) }
-    ensures err { IfErr result (HasReason (seen (S.left source.old) (S.left source.new) (S.faults source.old) (S.faults source.new)
-        (K.written sink.old) (K.written sink.new) (K.faults sink.old) (K.faults sink.new))) }
-    ensures later { IsLater (seen (S.left source.old) (S.left source.new) (S.faults source.old) (S.faults source.new)
-        (K.written sink.old) (K.written sink.new) (K.faults sink.old) (K.faults sink.new)) }
+    ensures ok { IfOk result (IsAnswered (streams S.left S.faults K.written K.faults source.old source.new sink.old sink.new)) }
+    ensures err { IfErr result (HasReason (streams S.left S.faults K.written K.faults source.old source.new sink.old sink.new)) }
+    ensures later { IsLater (streams S.left S.faults K.written K.faults source.old source.new sink.old sink.new) }
     // Each ticket was taken, dropped or reclaimed.
     ensures ends { IfOk result (λ s. s.taken + s.dropped + s.reclaimed ≡ s.tickets) }
     // A valid script is answered, unless memory runs out.
-    ensures complete { IsSmooth (seen (S.left source.old) (S.left source.new) (S.faults source.old) (S.faults source.new)
-        (K.written sink.old) (K.written sink.new) (K.faults sink.old) (K.faults sink.new)) → IfErr result (λ e. e ≡ SessionError.Memory) }
+    ensures complete { IsSmooth (streams S.left S.faults K.written K.faults source.old source.new sink.old sink.new) → IfErr result (λ e. e ≡ SessionError.Memory) }
+    // Where nothing fails, the answer is what the script's bytes parse to, or want of memory.
+    ensures exact { (bytes : List ℕ) → IsQuiet (streams S.left S.faults K.written K.faults source.old source.new sink.old sink.new) bytes → IsExact bytes result }
+    // After a read that failed nothing more is read, and never more than one byte past the longest script.
+    ensures stops { IsErrOf result SessionError.ReadFault → FailedLast (S.faults source.old) (S.faults source.new) (S.has_failed source.new) }
+    ensures most { TookAtMost 1048577 (S.left source.old) (S.left source.new) }
 {
     answer_source(alloc, source, sink)
 }

@@ -1,6 +1,6 @@
 //! Standard input and output as a source and a sink.
 
-ghost use Rattle.std.specs.Prelude.{◌≡◌};
+ghost use Rattle.std.specs.Prelude.{◌≡◌, IsTrue};
 
 use crate::outside::{Failed, Sink, Source};
 use std::io::{Read, Write};
@@ -10,13 +10,18 @@ use std::io::{Read, Write};
 pub struct StdSource<R: Read> {
     input: R,
     faults: u64,
+    has_failed: bool,
 }
 
 impl<R: Read> StdSource<R> {
     pub fn new(input: R) -> StdSource<R>
         ensures input { result.input ≡ input }
     {
-        StdSource { input, faults: 0 }
+        StdSource {
+            input,
+            faults: 0,
+            has_failed: false,
+        }
     }
 }
 
@@ -25,10 +30,16 @@ impl<R: Read> Source for StdSource<R> {
 
     ghost faults = { λ s. s.faults };
 
+    ghost has_failed = { λ s. IsTrue s.has_failed };
+
     fn read(&mut self, buf: &mut [u8]) -> Result<usize, Failed> {
         match self.input.read(buf) {
-            Ok(count) => Ok(count),
+            Ok(count) => {
+                self.has_failed = false;
+                Ok(count)
+            }
             Err(_) => {
+                self.has_failed = true;
                 self.faults = self.faults.saturating_add(1);
                 Err(Failed)
             }

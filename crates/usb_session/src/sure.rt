@@ -1,9 +1,9 @@
 //! A source and a sink that never fail.
 
-ghost use Rattle.std.specs.Prelude.{◌≡◌, ◌<◌, [], length, Some, None, IfOk, IsOk, min, vec_len};
+ghost use Rattle.std.specs.Prelude.{◌≡◌, ◌<◌, ◌↔◌, [], length, Some, None, IfOk, IsOk, IsErr, min, vec_len};
 ghost use Rattle.std.specs.Io.{ReadsAtMost, WritesAtMost};
 ghost use Rattle.std.specs.Io.KnownBytes.{ReadConsumes, WriteAppends};
-ghost use Rattle.usb_session.specs.Causes.{HasCause};
+ghost use Rattle.usb_session.specs.Causes.{HasCause, CountsFaults};
 
 use crate::outside::{Failed, Sink, Source};
 use std::marker::Model;
@@ -39,10 +39,13 @@ impl Source for SureSource {
 
     ghost faults = { λ s. 0 };
 
+    ghost has_failed = { λ s. ⊥ };
+
     fn read(&mut self, buf: &mut [u8]) -> Result<usize, Failed>
         ensures bound { ReadsAtMost result buf.new }
         ensures bytes { ReadConsumes (Some self.old) (Some self.new) result buf.new }
-        ensures cause { HasCause 0 0 result }
+        ensures cause { CountsFaults 0 0 result }
+        ensures last { IsErr result ↔ ⊥ }
         ensures ok { IsOk result }
     {
         let rest = &self.bytes[self.at..];

@@ -63,7 +63,7 @@ fn writes_configurations_interfaces_and_endpoints(rt: HostRuntime) -> Result<(),
             "device k0 1 6 3 1 1201000200000040aaaabbbb000100000001{bytes}\nopen d0 1 6\ndescriptors d0\n"
         )?;
         let output = format!(in rt.alloc(); "ok\n{line}\n")?;
-        let outcome = run_on(rt.alloc(), None, script.as_bytes(), &[], &[])?;
+        let outcome = run_on(&rt, rt.alloc(), None, script.as_bytes(), &[], &[])?;
         expect(&rt, bytes, &outcome, 0, output.as_str(), "");
     }
     Ok(())
@@ -86,7 +86,7 @@ fn writes_device_descriptors(rt: HostRuntime) -> Result<(), Fail> {
             "device k0 1 6 3 1 {bytes}\nopen d0 1 6\ndevdesc d0\n"
         )?;
         let output = format!(in rt.alloc(); "ok\n{line}\n")?;
-        let outcome = run_on(rt.alloc(), None, script.as_bytes(), &[], &[])?;
+        let outcome = run_on(&rt, rt.alloc(), None, script.as_bytes(), &[], &[])?;
         expect(&rt, bytes, &outcome, 0, output.as_str(), "");
     }
     Ok(())
@@ -96,7 +96,7 @@ fn writes_device_descriptors(rt: HostRuntime) -> Result<(), Fail> {
 fn asks_nothing_of_a_closed_device(rt: HostRuntime) -> Result<(), Fail> {
     let script =
         b"device k0 1 6 3 1 1201000200000040aaaabbbb000100000001\ndevdesc d0\nopen d0 1 6\ndescriptors d1\ndescriptors d0\n";
-    let outcome = run_on(rt.alloc(), None, script, &[], &[])?;
+    let outcome = run_on(&rt, rt.alloc(), None, script, &[], &[])?;
     let output = "condition\nok\ncondition\ndesc\n";
     expect(&rt, "a closed device", &outcome, 0, output, "");
     Ok(())

@@ -3,6 +3,7 @@ use Rattle.std.proofs.lemmas.Result.{err_from_is_err_and}
 use Rattle.usb_device.specs.HostState.{HostState}
 use Rattle.usb_device.specs.Finishes.{HasEnds, HasCompletions}
 use Rattle.usb_answers.specs.Output.{output}
+use Rattle.usb_answers.proofs.HandleLemmas.{served-handles, final-counted, fates-of_scripts}
 use Rattle.usb_session.proofs.RunLemmas.{running-none, answered-end, answered-cut, answered-sum, host-final, host-ended}
 use Rattle.usb_session.proofs.run.answer_items.Goals as goal
 
@@ -36,3 +37,20 @@ returns-clause-ended g c =
 pub returns-clause-reaped : goal.returns-clause-reaped
 returns-clause-reaped g c =
     subst (λ (h : HostState). HasCompletions h.kernel.past) (host-final c.answer_each-answered.new.session c.end-host.result c.args.items.now c.in_ok-calls.ensures.ok c.end-host.ensures.host) c.end-host.ensures.reaped
+
+pub returns-clause-counted : goal.returns-clause-counted
+returns-clause-counted g c = final-counted c.args.items.now
+
+pub returns-clause-served : goal.returns-clause-served
+returns-clause-served g c =
+    served-handles c.args.items.now
+    (subst (λ (h : HostState). HasEnds h.tickets) (host-final c.answer_each-answered.new.session c.end-host.result c.args.items.now c.in_ok-calls.ensures.ok c.end-host.ensures.host)
+    (host-ended c.answer_each-answered.new.session c.end-host.result c.args.items.now c.in_ok-calls.ensures.ok c.end-host.ensures.ended))
+
+pub returns-clause-fates : goal.returns-clause-fates
+returns-clause-fates g c =
+    let final = host-final c.answer_each-answered.new.session c.end-host.result c.args.items.now c.in_ok-calls.ensures.ok c.end-host.ensures.host in
+    fates-of_scripts c.args.items.now
+    (subst (λ (h : HostState). HasEnds h.tickets) final
+    (host-ended c.answer_each-answered.new.session c.end-host.result c.args.items.now c.in_ok-calls.ensures.ok c.end-host.ensures.ended))
+    (subst (λ (h : HostState). HasCompletions h.kernel.past) final c.end-host.ensures.reaped)

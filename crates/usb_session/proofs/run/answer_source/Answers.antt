@@ -1,12 +1,12 @@
 use Rattle.std.proofs.Common.{◌<◌, length, arith}
 use Rattle.std.proofs.lemmas.Result.{err_from_is_err_and}
-use Rattle.usb_session.specs.Session.{seen}
+use Rattle.usb_session.specs.Session.{streams}
 use Rattle.usb_session.proofs.SessionLemmas.{parsing_reason, Keeps_self}
 use Rattle.usb_session.proofs.run.answer_source.Goals as goal
 
 pub returns-in_err-script-clause-err : goal.returns-in_err-script-clause-err
 returns-in_err-script-clause-err g c =
-    let s = seen (g.S.Source.left c.args.source.now) (g.S.Source.left c.read_script.new.source) (g.S.Source.faults c.args.source.now) (g.S.Source.faults c.read_script.new.source) (g.K.Sink.written c.args.sink.now) (g.K.Sink.written c.args.sink.now) (g.K.Sink.faults c.args.sink.now) (g.K.Sink.faults c.args.sink.now) in
+    let s = streams g.S.Source.left g.S.Source.faults g.K.Sink.written g.K.Sink.faults c.args.source.now c.read_script.new.source c.args.sink.now c.args.sink.now in
     let p = err_from_is_err_and c.from_residual-in_err-script.result c.from_residual-in_err-script.ensures.1 in
     let bytes = c.in_ok-bytes.bytes.items in
     let few : length bytes < 1048577 = omega (arith, c.in_ok-bytes.bytes.ok.0, c.in_ok-bytes.ensures.few) in

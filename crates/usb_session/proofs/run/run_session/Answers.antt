@@ -1,16 +1,21 @@
 use Rattle.std.proofs.Common.{◌≡◌, ◌+◌}
 use Rattle.std.proofs.lemmas.Result.{IfErr-weaker, IfOk-weaker}
 use Rattle.usb_script.specs.declared.error.SessionError.TheVariants.{Memory}
-use Rattle.usb_session.specs.Session.{seen, HasReason, IsAnswered}
-use Rattle.usb_session.proofs.SessionLemmas.{memory_alone, answered-ends}
+use Rattle.usb_session.specs.Session.{streams, HasReason, IsAnswered}
+use Rattle.usb_session.proofs.SessionLemmas.{memory_alone, answered-ends, exact_of}
 use Rattle.usb_session.proofs.run.run_session.Goals as goal
 
 pub returns-clause-complete : goal.returns-clause-complete
 returns-clause-complete g c =
-    let s = seen (g.S.Source.left c.args.source.now) (g.S.Source.left c.answer_source.new.source) (g.S.Source.faults c.args.source.now) (g.S.Source.faults c.answer_source.new.source) (g.K.Sink.written c.args.sink.now) (g.K.Sink.written c.answer_source.new.sink) (g.K.Sink.faults c.args.sink.now) (g.K.Sink.faults c.answer_source.new.sink) in
+    let s = streams g.S.Source.left g.S.Source.faults g.K.Sink.written g.K.Sink.faults c.args.source.now c.answer_source.new.source c.args.sink.now c.answer_source.new.sink in
     λ smooth. IfErr-weaker c.answer_source.result (HasReason s) (λ e. e ≡ Memory) (λ e reason. memory_alone s e reason smooth) c.answer_source.ensures.err
 
 pub returns-clause-ends : goal.returns-clause-ends
 returns-clause-ends g c =
-    let s = seen (g.S.Source.left c.args.source.now) (g.S.Source.left c.answer_source.new.source) (g.S.Source.faults c.args.source.now) (g.S.Source.faults c.answer_source.new.source) (g.K.Sink.written c.args.sink.now) (g.K.Sink.written c.answer_source.new.sink) (g.K.Sink.faults c.args.sink.now) (g.K.Sink.faults c.answer_source.new.sink) in
+    let s = streams g.S.Source.left g.S.Source.faults g.K.Sink.written g.K.Sink.faults c.args.source.now c.answer_source.new.source c.args.sink.now c.answer_source.new.sink in
     IfOk-weaker c.answer_source.result (IsAnswered s) (λ x. x.taken + x.dropped + x.reclaimed ≡ x.tickets) (answered-ends s) c.answer_source.ensures.ok
+
+pub returns-clause-exact : goal.returns-clause-exact
+returns-clause-exact g c =
+    let s = streams g.S.Source.left g.S.Source.faults g.K.Sink.written g.K.Sink.faults c.args.source.now c.answer_source.new.source c.args.sink.now c.answer_source.new.sink in
+    λ bytes quiet. exact_of s bytes c.answer_source.result c.answer_source.ensures.ok c.answer_source.ensures.err quiet
