@@ -48,6 +48,7 @@ pub struct Endpoint {
 
 pub struct Completion {
     pub status: u16,
+    pub refused: bool,
     pub count: usize,
     pub requested: usize,
     pub bytes: Vec<u8>,
@@ -224,6 +225,7 @@ impl Host {
             bytes,
             count: 0,
             status: None,
+            refused: false,
             reaped: false,
         };
         let number = if invalid { self.kernel.enter(ticket, Some(22)) } else { self.kernel.submit(ticket) };
@@ -242,6 +244,7 @@ impl Host {
         endpoint.pending.pop_front();
         let completion = Completion {
             status: ticket.status.unwrap_or(0),
+            refused: ticket.refused,
             count: ticket.count,
             requested: ticket.requested,
             bytes: std::mem::take(&mut ticket.bytes),

@@ -21,6 +21,8 @@ pub enum Step {
     Fail { device: u8, endpoint: u8, errno: u16 },
     Unplug { device: u8 },
     Clock { to: u64 },
+    /// Nothing has a deadline, so nothing is due.
+    Timer,
     Refuse { device: u8, errno: u16 },
     Reap { ticket: Option<u64> },
 }
@@ -36,6 +38,8 @@ pub struct Ticket {
     pub bytes: Vec<u8>,
     pub count: usize,
     pub status: Option<u16>,
+    /// Whether the kernel refused it, so that nobody can have cancelled it.
+    pub refused: bool,
     pub reaped: bool,
 }
 
@@ -110,6 +114,7 @@ impl Kernel {
     pub fn enter(&mut self, mut ticket: Ticket, refusal: Option<u16>) -> usize {
         let number = self.tickets.len();
         ticket.status = refusal;
+        ticket.refused = refusal.is_some();
         ticket.reaped = refusal.is_some();
         if refusal.is_none() {
             self.unreaped += 1;
@@ -216,6 +221,7 @@ impl Kernel {
             }
             Step::Unplug { device } => self.unplug(*device),
             Step::Clock { to } => self.clock = self.clock.max(*to),
+            Step::Timer => {}
             Step::Refuse { device, errno } => self.armed.push((*device, *errno)),
             Step::Reap { ticket } => {
                 let number = match ticket {

@@ -25,10 +25,11 @@ struct Session {
     endpoints: [Option<Endpoint>; 64],
 }
 
-fn status_word(errno: u16) -> String {
+/// A refusal is no cancel, whatever its errno.
+fn status_word(errno: u16, refused: bool) -> String {
     match errno {
         0 => "ok".into(),
-        2 | 104 | 110 => "cancelled".into(),
+        2 | 104 | 110 if !refused => "cancelled".into(),
         32 => "stall".into(),
         19 | 108 => "disconnected".into(),
         71 | 84 | 75 | 70 | 62 => "fault".into(),
@@ -49,7 +50,7 @@ fn hex(bytes: &[u8]) -> String {
 }
 
 fn done_line(c: &Completion) -> String {
-    format!("done {} {} {} {}\n", status_word(c.status), c.count, c.requested, hex(&c.bytes))
+    format!("done {} {} {} {}\n", status_word(c.status, c.refused), c.count, c.requested, hex(&c.bytes))
 }
 
 fn tried_line(tried: Result<(), Refusal>) -> String {
@@ -228,7 +229,7 @@ fn fate_line(host: &Host, number: usize) -> String {
         Fate::Ended(End::Reclaimed) => "reclaimed",
         _ => "",
     };
-    let status = status_word(ticket.status.unwrap_or(0));
+    let status = status_word(ticket.status.unwrap_or(0), ticket.refused);
     format!("ticket {number} k{} {:02x} {status} {} {end}\n", ticket.device, ticket.endpoint, ticket.count)
 }
 

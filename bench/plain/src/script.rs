@@ -89,6 +89,7 @@ fn step(words: &[&str]) -> Option<Step> {
         ["ack", k, hh] => Step::Ack { device: name(k, 'k')?, endpoint: address(hh)? },
         ["fail", k, hh, n] => Step::Fail { device: name(k, 'k')?, endpoint: address(hh)?, errno: errno(n)? },
         ["unplug", k] => Step::Unplug { device: name(k, 'k')? },
+        ["timer"] => Step::Timer,
         ["clock", to] => Step::Clock { to: time(to)? },
         ["refuse", k, "submit", n] => Step::Refuse { device: name(k, 'k')?, errno: errno(n)? },
         ["reap"] => Step::Reap { ticket: None },
