@@ -17,19 +17,19 @@ use Rattle.usb_kernel.proofs.Extends.{extends-same, extends-if}
 use Rattle.usb_kernel.proofs.Waiting.{waiting-submit, waiting-refuse, waiting-one_less, lowest-reapable}
 use Rattle.usb_bus.specs.declared.route.Route.{Route}
 use Rattle.usb_bus.specs.declared.route.Turn.{Turn}
-use Rattle.usb_bus.specs.BusState.{with_owner, without}
+use Rattle.usb_bus.specs.BusState.{with_owner, without_owner}
 use Rattle.usb_bus.specs.Routes.{submission_of}
 use Rattle.usb_bus.specs.Submitted.{Entered}
 use Rattle.usb_bus.specs.Later.{IsLater}
 use Rattle.usb_bus.specs.Turns.{Falls, reap_turn}
 use Rattle.usb_bus.specs.KernelBusState.{KernelBusState}
 use Rattle.usb_bus.specs.Holds.{Hold}
-use Rattle.usb_bus.specs.KernelBusCalls.{bus_of, owner_at, entered, hold_for, bus_submitted, bus_refused, bus_without, bus_turned, bus_turn, reaped_of}
-use Rattle.usb_bus.specs.KernelBusLaws.{bus_of-without}
+use Rattle.usb_bus.specs.KernelBusCalls.{bus_of, owner_at, bus_entered, hold_for, bus_submitted, bus_refused, bus_without, bus_turned, bus_turn, reaped_of}
+use Rattle.usb_bus.specs.KernelBusLaws.{bus_of-without_owner}
 
 -- nobody holds the ticket any more
-pub state-without : (old new : KernelBusState) (t u : ℕ) → new ≡ bus_without old t → t ≡ u → bus_of new ≡ record (bus_of old) { owner = without (owner_at old.holds) u }
-state-without old new t u is same = ap bus_of is ∙ (bus_of-without old t ∙ ap (λ (n : ℕ). record (bus_of old) { owner = without (owner_at old.holds) n }) same)
+pub state-without_owner : (old new : KernelBusState) (t u : ℕ) → new ≡ bus_without old t → t ≡ u → bus_of new ≡ record (bus_of old) { owner = without_owner (owner_at old.holds) u }
+state-without_owner old new t u is same = ap bus_of is ∙ (bus_of-without_owner old t ∙ ap (λ (n : ℕ). record (bus_of old) { owner = without_owner (owner_at old.holds) n }) same)
 
 -- a turn
 later-reaped : (h : KernelBusState) (o : Option ℕ) → IsLater (bus_of h) (bus_of (reaped_of h o))
@@ -64,7 +64,7 @@ waiting-entered : (past : List Event) (sub : Submission) (refusal : Option ℕ) 
 waiting-entered past sub None n = waiting-submit past n sub.device sub.endpoint sub.maximum _ sub.buffer.room sub.deadline
 waiting-entered past sub (Some errno) n = waiting-refuse past n sub.device sub.endpoint sub.maximum _ sub.buffer.room errno
 
-submitted-some : (h : KernelBusState) (to : Route) (t : TransferData) (b : BufferState) → buffer_held t.held ≡ Some b → bus_submitted h to t ≡ entered h (submission_of to b) (hold_for to t)
+submitted-some : (h : KernelBusState) (to : Route) (t : TransferData) (b : BufferState) → buffer_held t.held ≡ Some b → bus_submitted h to t ≡ bus_entered h (submission_of to b) (hold_for to t)
 submitted-some h to t b is = rw is refl
 
 refused-some : (h : KernelBusState) (to : Route) (t : TransferData) (errno : ℕ) (b : BufferState) → buffer_held t.held ≡ Some b → bus_refused h to t errno ≡ record h { kernel = kernel_refused h.kernel (submission_of to b) errno; holds = h.holds ++ Some (hold_for to t) ∷ [] }

@@ -22,7 +22,7 @@ use Rattle.usb_kernel.specs.Timers.{timer_turned}
 use Rattle.usb_kernel.specs.Steps.{stepped, step_done, after_reap, after_discard}
 use Rattle.usb_kernel.proofs.Completions.{tickets-turned, completion-turned, completion-submit, completion-fresh, completion-refuse, completion-refused, completion-step, completion-reap, completion-discard, tickets-step, tickets-reap, tickets-discard}
 use Rattle.usb_kernel.proofs.Rules.{slice_get-push}
-use Rattle.usb_bus.specs.declared.kernel_slots.Slot.{Slot}
+use Rattle.usb_bus.specs.declared.kernel_slots.OwnedTransfer.{OwnedTransfer}
 use Rattle.usb_bus.specs.Completions.{completion_of, transfer_completion, CompletesOnly}
 use Rattle.usb_bus.specs.Holds.{Hold, held_of, held_at_once, value_for}
 use Rattle.usb_bus.specs.KernelBusCalls.{hold_at, owner_at}
@@ -36,53 +36,53 @@ slice_get-set (y ∷ ys) zero (suc t) r x at = inr (λ z. absurd (omega arith), 
 slice_get-set (y ∷ ys) (suc i) zero r x at = inr (λ z. absurd (omega arith), at)
 slice_get-set (y ∷ ys) (suc i) (suc t) r x at = elim (slice_get-set ys i t r x at) [ inl w ↦ inl (ap suc w.0, w.1) | inr w ↦ inr (λ z. w.0 (omega arith), w.1) ]
 
-pub slot_at : (slots : List Slot) (i : ℕ) (s : Slot) → i < length slots → s ≡ get_or slots i s → slice_get slots i ≡ Some s
+pub slot_at : (slots : List OwnedTransfer) (i : ℕ) (s : OwnedTransfer) → i < length slots → s ≡ get_or slots i s → slice_get slots i ≡ Some s
 slot_at slots i s within at = slice_get-get_or slots i s within ∙ ap Some (sym at)
 
 -- the holds after a write
-holds_of-set : (slots : List Slot) (i : ℕ) (s : Slot) → holds_of (set slots i s) ≡ set (holds_of slots) i (hold_of s)
+holds_of-set : (slots : List OwnedTransfer) (i : ℕ) (s : OwnedTransfer) → holds_of (set slots i s) ≡ set (holds_of slots) i (hold_of s)
 holds_of-set [] i s = refl
 holds_of-set (x ∷ xs) zero s = refl
 holds_of-set (x ∷ xs) (suc i) s = ap (λ (l : List (Option Hold)). hold_of x ∷ l) (holds_of-set xs i s)
 
-pub holds_of-ended : (slots : List Slot) (i : ℕ) (s later : Slot) → later ≡ ended_slot s → holds_of (set slots i later) ≡ set (holds_of slots) i None
-holds_of-ended slots i s later is = holds_of-set slots i later ∙ ap (λ (x : Slot). set (holds_of slots) i (hold_of x)) is
+pub holds_of-ended : (slots : List OwnedTransfer) (i : ℕ) (s later : OwnedTransfer) → later ≡ ended_slot s → holds_of (set slots i later) ≡ set (holds_of slots) i None
+holds_of-ended slots i s later is = holds_of-set slots i later ∙ ap (λ (x : OwnedTransfer). set (holds_of slots) i (hold_of x)) is
 
-holds_of-same : (slots : List Slot) (i : ℕ) (s next : Slot) → slice_get slots i ≡ Some s → hold_of next ≡ hold_of s → holds_of (set slots i next) ≡ holds_of slots
+holds_of-same : (slots : List OwnedTransfer) (i : ℕ) (s next : OwnedTransfer) → slice_get slots i ≡ Some s → hold_of next ≡ hold_of s → holds_of (set slots i next) ≡ holds_of slots
 holds_of-same [] i s next at same = absurd (none-some s at)
 holds_of-same (x ∷ xs) zero s next at same = ap (λ (o : Option Hold). o ∷ holds_of xs) (same ∙ ap hold_of (sym (same_Some x s at)))
 holds_of-same (x ∷ xs) (suc i) s next at same = ap (λ (l : List (Option Hold)). hold_of x ∷ l) (holds_of-same xs i s next at same)
 
-hold_of-kept : (s : Slot) (c : Completion) → hold_of (with_completion s c) ≡ hold_of s
+hold_of-kept : (s : OwnedTransfer) (c : Completion) → hold_of (with_completion s c) ≡ hold_of s
 hold_of-kept s c = elim (is_some s.owner) as (λ v. hold_of (cond v (record s { transfer = holding s.transfer (Complete c) }) s) ≡ hold_of s) [ true ↦ refl | false ↦ refl ]
 
-pub holds_of-kept : (slots : List Slot) (i : ℕ) (s later : Slot) (c : Completion) → slice_get slots i ≡ Some s → later ≡ with_completion s c → holds_of (set slots i later) ≡ holds_of slots
+pub holds_of-kept : (slots : List OwnedTransfer) (i : ℕ) (s later : OwnedTransfer) (c : Completion) → slice_get slots i ≡ Some s → later ≡ with_completion s c → holds_of (set slots i later) ≡ holds_of slots
 holds_of-kept slots i s later c at is = holds_of-same slots i s later at (ap hold_of is ∙ hold_of-kept s c)
 
 -- the place of a ticket's slot
-hold_at-slot : (slots : List Slot) (i : ℕ) (s : Slot) → slice_get slots i ≡ Some s → hold_at (holds_of slots) i ≡ hold_of s
+hold_at-slot : (slots : List OwnedTransfer) (i : ℕ) (s : OwnedTransfer) → slice_get slots i ≡ Some s → hold_at (holds_of slots) i ≡ hold_of s
 hold_at-slot slots i s at =
     ap (λ (o : Option (Option Hold)). option_and_then (λ (p : Option Hold). p) o) (slice_get-map hold_of slots i ∙ ap (option_map hold_of) at)
 
-pub owner-within : (slots : List Slot) (i : ℕ) → IsSome (owner_at (holds_of slots) i) → i < length slots
+pub owner-within : (slots : List OwnedTransfer) (i : ℕ) → IsSome (owner_at (holds_of slots) i) → i < length slots
 owner-within [] i some = absurd (cc)
 owner-within (x ∷ xs) zero some = omega arith
 owner-within (x ∷ xs) (suc i) some = let IH = owner-within xs i some in omega arith
 
 -- what is known of a ticket that is held
-record HeldSlot (past : List Event) (slots : List Slot) (i : ℕ) (s : Slot) : Type 0 where
+record HeldSlot (past : List Event) (slots : List OwnedTransfer) (i : ℕ) (s : OwnedTransfer) : Type 0 where
   place : hold_at (holds_of slots) i ≡ hold_of s
   owned : is_some s.owner ≡ true
   held : s.transfer.held ≡ held_of (cond (is_some s.owner) (transfer_completion past i) None)
 
-owned-if : (s : Slot) → IsSome (option_map (λ (p : Hold). p.key) (hold_of s)) → is_some s.owner ≡ true
+owned-if : (s : OwnedTransfer) → IsSome (option_map (λ (p : Hold). p.key) (hold_of s)) → is_some s.owner ≡ true
 owned-if s some = by_owner s.owner s.transfer some
   where
     by_owner : (o : Option ℕ) (t : TransferData) → IsSome (option_map (λ (p : Hold). p.key) (hold_of (record { owner = o; transfer = t }))) → is_some o ≡ true
     by_owner None t some = some
     by_owner (Some k) t some = refl
 
-held_slot : (past : List Event) (slots : List Slot) (i : ℕ) (s : Slot) → Agree past slots → slice_get slots i ≡ Some s → IsSome (owner_at (holds_of slots) i) → HeldSlot past slots i s
+held_slot : (past : List Event) (slots : List OwnedTransfer) (i : ℕ) (s : OwnedTransfer) → Agree past slots → slice_get slots i ≡ Some s → IsSome (owner_at (holds_of slots) i) → HeldSlot past slots i s
 held_slot past slots i s agree at some =
     let place = hold_at-slot slots i s at in
     record {
@@ -97,7 +97,7 @@ come-if (Some k) t None owned held = rw held refl
 come-if (Some k) t (Some c) owned held = rw held refl
 
 -- whether its transfer is complete
-pub has-come : (past : List Event) (slots : List Slot) (i : ℕ) (s : Slot) → Agree past slots → slice_get slots i ≡ Some s → IsSome (owner_at (holds_of slots) i) → is_some (completion_held s.transfer.held) ≡ is_some (value_for (transfer_completion past i) (hold_at (holds_of slots) i))
+pub has-come : (past : List Event) (slots : List OwnedTransfer) (i : ℕ) (s : OwnedTransfer) → Agree past slots → slice_get slots i ≡ Some s → IsSome (owner_at (holds_of slots) i) → is_some (completion_held s.transfer.held) ≡ is_some (value_for (transfer_completion past i) (hold_at (holds_of slots) i))
 has-come past slots i s agree at some =
     let h = held_slot past slots i s agree at some in
     come-if s.owner s.transfer (transfer_completion past i) h.owned h.held ∙ ap (λ (p : Option Hold). is_some (value_for (transfer_completion past i) p)) (sym h.place)
@@ -108,13 +108,13 @@ value-if (Some k) t None owned some held = absurd (cc)
 value-if (Some k) t (Some c) owned some held = ap (λ (h : Held). Some (holding t h)) (sym held)
 
 -- and its value then
-pub held-value : (past : List Event) (slots : List Slot) (i : ℕ) (s : Slot) → Agree past slots → slice_get slots i ≡ Some s → IsSome (owner_at (holds_of slots) i) → IsSome (value_for (transfer_completion past i) (hold_at (holds_of slots) i)) → value_for (transfer_completion past i) (hold_at (holds_of slots) i) ≡ Some s.transfer
+pub held-value : (past : List Event) (slots : List OwnedTransfer) (i : ℕ) (s : OwnedTransfer) → Agree past slots → slice_get slots i ≡ Some s → IsSome (owner_at (holds_of slots) i) → IsSome (value_for (transfer_completion past i) (hold_at (holds_of slots) i)) → value_for (transfer_completion past i) (hold_at (holds_of slots) i) ≡ Some s.transfer
 held-value past slots i s agree at some come =
     let h = held_slot past slots i s agree at some in
     ap (value_for (transfer_completion past i)) h.place ∙ value-if s.owner s.transfer (transfer_completion past i) h.owned (rw h.place at come) h.held
 
 -- a ticket that ends
-pub Agree-end : (past : List Event) (slots : List Slot) (i : ℕ) (s later : Slot) → Agree past slots → later ≡ ended_slot s → Agree past (set slots i later)
+pub Agree-end : (past : List Event) (slots : List OwnedTransfer) (i : ℕ) (s later : OwnedTransfer) → Agree past slots → later ≡ ended_slot s → Agree past (set slots i later)
 Agree-end past slots i s later agree is =
     record {
       count = length-set slots i later ∙ agree.count;
@@ -137,7 +137,7 @@ unfolding transfer_completion
 transfer-is past t o is = ap (option_map completion_of) is
 
 -- where no completion came
-pub Agree-none : (past next : List Event) (slots : List Slot) (came : Option Done) → Agree past slots → CompletesOnly past next came → came ≡ None → Agree next slots
+pub Agree-none : (past next : List Event) (slots : List OwnedTransfer) (came : Option Done) → Agree past slots → CompletesOnly past next came → came ≡ None → Agree next slots
 Agree-none past next slots came agree only is =
     record {
       count = agree.count ∙ sym only.count;
@@ -147,7 +147,7 @@ Agree-none past next slots came agree only is =
     }
 
 -- where one came of a ticket that has no slot
-pub Agree-beyond : (past next : List Event) (slots : List Slot) (d : Done) (came : Option Done) → Agree past slots → CompletesOnly past next came → came ≡ Some d → length slots ≤ d.ticket → Agree next slots
+pub Agree-beyond : (past next : List Event) (slots : List OwnedTransfer) (d : Done) (came : Option Done) → Agree past slots → CompletesOnly past next came → came ≡ Some d → length slots ≤ d.ticket → Agree next slots
 Agree-beyond past next slots d came agree only is beyond =
     record {
       count = agree.count ∙ sym only.count;
@@ -164,7 +164,7 @@ kept-if None t c was come is old = old
 kept-if (Some k) t c was come is old = rw is refl
 
 -- where it came of one that has
-pub Agree-store : (past next : List Event) (slots : List Slot) (d : Done) (came : Option Done) (s later : Slot) → Agree past slots → CompletesOnly past next came → came ≡ Some d → slice_get slots d.ticket ≡ Some s → later ≡ with_completion s (completion_of d) → Agree next (set slots d.ticket later)
+pub Agree-store : (past next : List Event) (slots : List OwnedTransfer) (d : Done) (came : Option Done) (s later : OwnedTransfer) → Agree past slots → CompletesOnly past next came → came ≡ Some d → slice_get slots d.ticket ≡ Some s → later ≡ with_completion s (completion_of d) → Agree next (set slots d.ticket later)
 Agree-store past next slots d came s later agree only is at kept =
     record {
       count = length-set slots d.ticket later ∙ (agree.count ∙ sym only.count);
@@ -198,11 +198,11 @@ entered-count : (past : List Event) (sub : Submission) (refusal : Option ℕ) (n
 entered-count past sub None n = omega (arith, length-append {A = Ticket})
 entered-count past sub (Some errno) n = omega (arith, length-append {A = Ticket})
 
-pub Agree-enter : (past : List Event) (slots : List Slot) (sub : Submission) (refusal : Option ℕ) (key : ℕ) (transfer : TransferData) → Agree past slots
+pub Agree-enter : (past : List Event) (slots : List OwnedTransfer) (sub : Submission) (refusal : Option ℕ) (key : ℕ) (transfer : TransferData) → Agree past slots
     → Agree (submit_or_refuse (length (tickets past)) sub refusal ∷ past) (slots ++ record { owner = Some key; transfer = holding transfer (held_at_once (queued_or_refused (length (tickets past)) sub refusal)) } ∷ [])
 Agree-enter past slots sub refusal key transfer agree =
     let later = submit_or_refuse (length (tickets past)) sub refusal ∷ past in
-    let new : Slot = record { owner = Some key; transfer = holding transfer (held_at_once (queued_or_refused (length (tickets past)) sub refusal)) } in
+    let new : OwnedTransfer = record { owner = Some key; transfer = holding transfer (held_at_once (queued_or_refused (length (tickets past)) sub refusal)) } in
     let one : length (slots ++ new ∷ []) ≡ length slots + 1 = length-append slots (new ∷ []) in
     record {
       count = omega (arith, one, agree.count, entered-count past sub refusal (length (tickets past)));
@@ -219,7 +219,7 @@ Agree-enter past slots sub refusal key transfer agree =
     }
 
 -- the same, as the calls say it
-pub Agree-entered : (past later : List Event) (slots reserved after : List Slot) (sub : Submission) (refusal : Option ℕ) (key : ℕ) (transfer : TransferData) (submitted : Submitted) → Agree past slots
+pub Agree-entered : (past later : List Event) (slots reserved after : List OwnedTransfer) (sub : Submission) (refusal : Option ℕ) (key : ℕ) (transfer : TransferData) (submitted : Submitted) → Agree past slots
     → later ≡ submit_or_refuse (length (tickets past)) sub refusal ∷ past → reserved ≡ slots → submitted ≡ queued_or_refused (length (tickets past)) sub refusal
     → after ≡ reserved ++ record { owner = Some key; transfer = holding transfer (held_at_once submitted) } ∷ [] → Agree later after
 Agree-entered past later slots reserved after sub refusal key transfer submitted agree is same answer items =
@@ -240,5 +240,5 @@ completes-timer clock past = record { count = ap length (tickets-turned clock pa
 pub completes-discard : (past : List Event) (t : ℕ) → CompletesOnly past (after_discard past t) None
 completes-discard past t = record { count = ap length (tickets-discard past t); each = completion-discard past t }
 
-pub Agree-at : (past past' : List Event) (slots slots' : List Slot) → past' ≡ past → slots' ≡ slots → Agree past slots → Agree past' slots'
+pub Agree-at : (past past' : List Event) (slots slots' : List OwnedTransfer) → past' ≡ past → slots' ≡ slots → Agree past slots → Agree past' slots'
 Agree-at past past' slots slots' same same' agree = rw (same, same') agree

@@ -10,11 +10,11 @@ use Rattle.usb_kernel.proofs.Extends.{extends-same, extends-trans}
 use Rattle.usb_bus.specs.declared.route.Route.{Route}
 use Rattle.usb_bus.specs.declared.route.Turn.{Turn}
 use Rattle.usb_bus.specs.declared.route.Turn.TheVariants.{Stepped, Reaped, TimeUp}
-use Rattle.usb_bus.specs.BusState.{BusState, with_owner, without}
+use Rattle.usb_bus.specs.BusState.{BusState, with_owner, without_owner}
 use Rattle.usb_bus.specs.Submitted.{IsSubmitted, IsRefused}
 use Rattle.usb_bus.specs.Later.{Extends, IsLater, IsLaterWithout}
 use Rattle.usb_bus.specs.Turns.{Falls}
-use Rattle.usb_bus.specs.Transferred.{WentOn}
+use Rattle.usb_bus.specs.TransferOutcomes.{WentOn}
 
 -- where a ticket came to an endpoint, the others still hold theirs
 entered-others : (owner : ℕ → Option ℕ) (n key t k : ℕ) → owner n ≡ None → owner t ≡ Some k → with_owner owner n key t ≡ Some k
@@ -72,7 +72,7 @@ module _ (old mid : BusState) (to : Route) (b : BufferState) (t : ℕ) (number :
   went-on_held new later = went-on new (with_owner old.owner t to.key) later.past later.clock (later.owner ∙ entered-owner) later.keys
 
   -- or it was taken, and the owners are as before
-  owner-back : (u : ℕ) → old.owner t ≡ None → without (with_owner old.owner t to.key) t u ≡ old.owner u
+  owner-back : (u : ℕ) → old.owner t ≡ None → without_owner (with_owner old.owner t to.key) t u ≡ old.owner u
   owner-back u fresh =
       elim (cases_eq t u) [
         | inl same ↦ rw (eq-eqb t u same) (sym (ap old.owner (sym same) ∙ fresh))
@@ -81,8 +81,8 @@ module _ (old mid : BusState) (to : Route) (b : BufferState) (t : ℕ) (number :
 
   pub went-on_taken : (new : BusState) → old.owner t ≡ None → IsLaterWithout mid new t → WentOn old new to b old.owner
   went-on_taken new fresh later =
-      let back : without (with_owner old.owner t to.key) t ≡ old.owner = fun_ext (λ u. owner-back u fresh) in
-      went-on new old.owner later.past later.clock (later.owner ∙ (ap (λ (o : ℕ → Option ℕ). without o t) entered-owner ∙ back)) later.keys
+      let back : without_owner (with_owner old.owner t to.key) t ≡ old.owner = fun_ext (λ u. owner-back u fresh) in
+      went-on new old.owner later.past later.clock (later.owner ∙ (ap (λ (o : ℕ → Option ℕ). without_owner o t) entered-owner ∙ back)) later.keys
 
 -- a turn at which time is not up
 pub falls-strict : (turn : Turn) (old new : ℕ) → (turn ≡ TimeUp → ⊥) → Falls turn old new → new < old

@@ -9,14 +9,14 @@ pub record BusState : Type 0 where
   pub clock : ℕ
   pub owner : ℕ → Option ℕ
   pub keys : ℕ → Bool
-  pub left : ℕ
+  pub turns_left : ℕ
 
 -- the owners when a ticket has come to an endpoint, and when it has ended
 abbrev pub with_owner : (ℕ → Option ℕ) → ℕ → ℕ → ℕ → Option ℕ
 with_owner owner t k u = if t == u then Some k else owner u
 
-abbrev pub without : (ℕ → Option ℕ) → ℕ → ℕ → Option ℕ
-without owner t u = if t == u then None else owner u
+abbrev pub without_owner : (ℕ → Option ℕ) → ℕ → ℕ → Option ℕ
+without_owner owner t u = if t == u then None else owner u
 
 -- the open keys when an endpoint was left
 abbrev pub without_key : (ℕ → Bool) → ℕ → ℕ → Bool

@@ -39,7 +39,7 @@ bus_of h =
       clock = h.kernel.clock;
       owner = owner_at h.holds;
       keys = key_at h.keys;
-      left = length (waiting h.kernel.past);
+      turns_left = length (waiting h.kernel.past);
     }
 
 -- the transfer of a ticket that is held, once the journal gives its completion
@@ -53,8 +53,8 @@ with_past h past = record h { kernel = record h.kernel { past = past } }
 abbrev pub hold_for : Route → TransferData → Hold
 hold_for to t = record { key = to.key; endpoint = t.endpoint; kind = t.kind }
 
-abbrev pub entered : KernelBusState → Submission → Hold → KernelBusState
-entered h s place =
+abbrev pub bus_entered : KernelBusState → Submission → Hold → KernelBusState
+bus_entered h s place =
     record h {
       kernel = kernel_submitted h.kernel s;
       holds = h.holds ++ Some place ∷ [];
@@ -65,7 +65,7 @@ bus_submitted h to t = submitted_with h to t (buffer_held t.held)
   where
     submitted_with : KernelBusState → Route → TransferData → Option BufferState → KernelBusState
     submitted_with h to t None = h
-    submitted_with h to t (Some b) = entered h (submission_of to b) (hold_for to t)
+    submitted_with h to t (Some b) = bus_entered h (submission_of to b) (hold_for to t)
 
 -- and refused with this errno
 abbrev pub bus_refused : KernelBusState → Route → TransferData → ℕ → KernelBusState

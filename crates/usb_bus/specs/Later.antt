@@ -1,6 +1,6 @@
 -- How a bus goes on.
 use Rattle.std.specs.Prelude.{ℕ, ◌≡◌, ◌≤◌, Option}
-use Rattle.usb_bus.specs.BusState.{BusState, without}
+use Rattle.usb_bus.specs.BusState.{BusState, without_owner}
 -- the old journal is the beginning of the new one
 pub use Rattle.usb_kernel.specs.Extends.{Extends}
 
@@ -17,10 +17,10 @@ IsLater old new = LaterWith old new old.owner
 
 -- this ticket has ended: its endpoint holds it no more
 abbrev pub IsLaterWithout : BusState → BusState → ℕ → Type 0
-IsLaterWithout old new t = LaterWith old new (without old.owner t)
+IsLaterWithout old new t = LaterWith old new (without_owner old.owner t)
 
 -- the journal and the clock went on, and no turn was added
 pub record GoesOn (old new : BusState) : Type 0 where
   pub past : Extends old.past new.past
   pub clock : old.clock ≤ new.clock
-  pub left : new.left ≤ old.left
+  pub left : new.turns_left ≤ old.turns_left

@@ -5,7 +5,7 @@ pub mod Submitted
 pub mod Later
 pub mod Turns
 pub mod Values
-pub mod Transferred
+pub mod TransferOutcomes
 pub mod Holds
 pub mod KernelBusState
 pub mod KernelBusCalls

@@ -1,6 +1,6 @@
 //! The contract of a bus.
 
-ghost use Rattle.std.specs.Prelude.{◌≡◌, ◌≤◌, ℕ, true, max, length, Option, None, Some, Result, is_some, IsSome, IsTrue, IfOk, OnOk, OnErr, IfErr};
+ghost use Rattle.std.specs.Prelude.{◌≡◌, ◌≤◌, ℕ, true, max, length, None, Result, is_some, IsSome, IsTrue, IfOk, OnOk, OnErr, IfErr};
 ghost use Rattle.usb_kernel.specs.Tickets.{tickets};
 ghost use Rattle.usb_kernel.specs.Submissions.{IsErrno};
 ghost use Rattle.usb_kernel.specs.Completions.{lowest};
@@ -9,7 +9,7 @@ ghost use Rattle.usb_kernel.specs.Steps.{after_discard};
 ghost use Rattle.usb_xfer.specs.declared.transfer.TransferData.{TransferData};
 ghost use Rattle.usb_bus.specs.declared.route.Route.{Route};
 ghost use Rattle.usb_bus.specs.declared.route.Turn.{Turn};
-ghost use Rattle.usb_bus.specs.BusState.{BusState, without, without_key};
+ghost use Rattle.usb_bus.specs.BusState.{BusState, without_owner, without_key};
 ghost use Rattle.usb_bus.specs.Routes.{GoesBy, AsksWhole};
 ghost use Rattle.usb_bus.specs.Submitted.{IsSubmitted, IsRefused};
 ghost use Rattle.usb_bus.specs.Later.{IsLater};
@@ -65,7 +65,7 @@ pub trait Bus: Slots<TransferData> {
             ((state self.old).owner (length (tickets (state self.old).past)) ≡ None) }
         ensures state { OnOk result (IsSubmitted (state self.old) (state self.new) to t.held) }
         ensures left { OnOk result
-            (128 ≤ to.endpoint → (state self.new).left ≤ (state self.old).left) }
+            (128 ≤ to.endpoint → (state self.new).turns_left ≤ (state self.old).turns_left) }
         ensures ok { OnOk result (self.new ≡ submitted self.old to t) }
         ensures err { OnErr result (self.new ≡ self.old) }
         ensures back { IfErr result (λ back. back ≡ t) };
@@ -86,7 +86,7 @@ pub trait Bus: Slots<TransferData> {
         ensures fresh { OnOk result
             ((state self.old).owner (length (tickets (state self.old).past)) ≡ None) }
         ensures state { OnOk result (IsRefused (state self.old) (state self.new) to t.held errno) }
-        ensures left { OnOk result ((state self.new).left ≤ (state self.old).left) }
+        ensures left { OnOk result ((state self.new).turns_left ≤ (state self.old).turns_left) }
         ensures ok { OnOk result (self.new ≡ refused self.old to t errno) }
         ensures err { OnErr result (self.new ≡ self.old) }
         ensures back { IfErr result (λ back. back ≡ t) };
@@ -94,15 +94,17 @@ pub trait Bus: Slots<TransferData> {
     /// Discards the ticket where it is not finished. Its endpoint holds it all the same.
     fn discard(&mut self, p: &Pending<TransferData>)
         requires stands { IsTrue (Self.stands self.old p.now) }
-        ensures state { state self.new ≡ record (state self.old)
-            { past = after_discard (state self.old).past p.now; left = (state self.new).left } }
+        ensures state { state self.new ≡ record (state self.old) {
+          past = after_discard (state self.old).past p.now;
+          turns_left = (state self.new).turns_left;
+        } }
         ensures ok { self.new ≡ discarded self.old p.now };
 
     /// Gives up a ticket: it is dropped where it is reaped, and else reclaimed when it is.
     fn abandon(&mut self, p: Pending<TransferData>)
         requires stands { IsTrue (Self.stands self.old p) }
         ensures state { state self.new
-            ≡ record (state self.old) { owner = without (state self.old).owner p } }
+            ≡ record (state self.old) { owner = without_owner (state self.old).owner p } }
         ensures ok { self.new ≡ abandoned self.old p };
 
     /// The endpoint of this key, which must be open, is gone.
@@ -116,7 +118,7 @@ pub trait Bus: Slots<TransferData> {
     /// nothing has changed.
     fn turn(&mut self) -> Turn
         ensures state { IsLater (state self.old) (state self.new) }
-        ensures falls { Falls result (state self.old).left (state self.new).left }
+        ensures falls { Falls result (state self.old).turns_left (state self.new).turns_left }
         ensures time_up { result ≡ Turn.TimeUp → lowest (state self.old).past ≡ None }
         ensures still { result ≡ Turn.TimeUp → state self.new ≡ state self.old }
         ensures turn { result ≡ turn_of self.old }
@@ -152,5 +154,5 @@ pub trait Bus: Slots<TransferData> {
 
     // To take it ends the ticket, and changes nothing else.
     ghost state_taken: { (x : Self) (t : ℕ) → state (Self.taken x t)
-        ≡ record (state x) { owner = without (state x).owner t } };
+        ≡ record (state x) { owner = without_owner (state x).owner t } };
 }

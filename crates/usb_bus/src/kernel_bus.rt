@@ -8,11 +8,11 @@ ghost use Rattle.usb_kernel.specs.Submits.{submit_refusal};
 ghost use Rattle.usb_xfer.specs.Transfers.{IsFilled};
 ghost use Rattle.usb_bus.specs.KernelBusState.{KernelBusState};
 ghost use Rattle.usb_bus.specs.KernelBusCalls.{bus_of, owner_at, key_at, bus_value, bus_submitted, bus_refused, bus_discarded, bus_without, bus_closed, bus_turned, bus_turn, bus_idled, bus_halt_cleared, bus_halt_result, bus_stepped};
-ghost use Rattle.usb_bus.specs.KernelBusLaws.{bus_of-without, bus_value-holds};
+ghost use Rattle.usb_bus.specs.KernelBusLaws.{bus_of-without_owner, bus_value-holds};
 ghost use Rattle.usb_bus.specs.Routes.{AsksWhole};
 
 use crate::bus::Bus;
-use crate::kernel_slots::{Slot, add_slot, has_come, store, take_slot};
+use crate::kernel_slots::{OwnedTransfer, add_slot, has_come, store, take_slot};
 use crate::route::{Route, Turn};
 use std::alloc::Global;
 use std::marker::Model;
@@ -25,7 +25,7 @@ use usb_xfer::{Idle, Pending, Slots, TransferData};
 #[derive(Drop)]
 pub struct KernelBus {
     kernel: Kernel,
-    slots: Vec<Slot>,
+    slots: Vec<OwnedTransfer>,
     keys: Vec<bool>,
 }
 
@@ -304,5 +304,5 @@ impl Bus for KernelBus {
 
     ghost value_is = { bus_value-holds };
 
-    ghost state_taken = { bus_of-without };
+    ghost state_taken = { bus_of-without_owner };
 }

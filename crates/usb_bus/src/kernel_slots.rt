@@ -18,12 +18,12 @@ use usb_xfer::{Completion, Held, TransferData};
 /// What is kept of a ticket: the key of the endpoint that holds it, while it has no end, and the
 /// transfer, which holds nothing while the kernel has its buffer.
 #[derive(Drop)]
-pub struct Slot {
+pub struct OwnedTransfer {
     pub owner: Option<usize>,
     pub transfer: TransferData,
 }
 
-impl Slot {
+impl OwnedTransfer {
     /// Keeps the completion that came, where an endpoint waits for it.
     fn keep(&mut self, completion: Completion)
         ensures slot { self.new ≡ with_completion self.old completion }
@@ -56,7 +56,7 @@ impl Slot {
 }
 
 /// Keeps a completion that came.
-pub fn store(slots: &mut Vec<Slot>, came: Option<Done>)
+pub fn store(slots: &mut Vec<OwnedTransfer>, came: Option<Done>)
     ensures holds { holds_of slots.new.items ≡ holds_of slots.old.items }
     ensures agree { (past next : List Event) → Agree past slots.old.items
         → CompletesOnly past next came → Agree next slots.new.items }
@@ -74,7 +74,7 @@ pub fn store(slots: &mut Vec<Slot>, came: Option<Done>)
 }
 
 /// The transfer of a ticket that is held, which ends.
-pub fn take_slot(slots: &mut Vec<Slot>, ticket: u64) -> TransferData
+pub fn take_slot(slots: &mut Vec<OwnedTransfer>, ticket: u64) -> TransferData
     requires held { IsSome (owner_at (holds_of slots.old.items) ticket) }
     ensures holds { holds_of slots.new.items ≡ set (holds_of slots.old.items) ticket None }
     ensures agree { (past : List Event) → Agree past slots.old.items
@@ -90,7 +90,7 @@ pub fn take_slot(slots: &mut Vec<Slot>, ticket: u64) -> TransferData
 }
 
 /// Whether the transfer of a ticket that is held is complete.
-pub fn has_come(slots: &[Slot], ticket: u64) -> bool
+pub fn has_come(slots: &[OwnedTransfer], ticket: u64) -> bool
     requires held { IsSome (owner_at (holds_of slots.now) ticket) }
     ensures come { (past : List Event) → Agree past slots.now
         → result ≡ is_some
@@ -103,7 +103,7 @@ pub fn has_come(slots: &[Slot], ticket: u64) -> bool
 /// A slot for a new ticket of this key, whose completion is there at once where it was refused. The
 /// answer is its number.
 pub fn add_slot(
-    slots: &mut Vec<Slot>,
+    slots: &mut Vec<OwnedTransfer>,
     key: usize,
     mut transfer: TransferData,
     submitted: Submitted,
@@ -122,7 +122,7 @@ pub fn add_slot(
             ticket
         }
     };
-    let _ = slots.push(Slot {
+    let _ = slots.push(OwnedTransfer {
         owner: Some(key),
         transfer,
     });

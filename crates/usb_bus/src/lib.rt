@@ -13,7 +13,7 @@ pub use bus::Bus;
 pub use completion::completion_from;
 pub use kernel_bus::KernelBus;
 pub use route::{Route, Turn};
-pub use transfers::{Transferred, submit_buffer, transfer, turn_until_complete};
+pub use transfers::{TransferOutcome, submit_buffer, transfer, turn_until_complete};
 
 #[cfg(test)]
 mod tests;

@@ -116,13 +116,13 @@ fn without_packet(alloc: Global) -> Result<(bool, Option<Completion>), NoMemory>
     let key = bus.open()?;
     let to = route(0, 0x81, key);
     match transfer(&mut bus, to, wanting(alloc, to)?) {
-        Transferred::Complete(completion) => Ok((true, Some(completion))),
-        Transferred::TimeUp(pending) => {
+        TransferOutcome::Complete(completion) => Ok((true, Some(completion))),
+        TransferOutcome::TimeUp(pending) => {
             let early = bus.is_complete(&pending);
             bus.discard(&pending);
             Ok((early, completed(turn_until_complete(&mut bus, pending))))
         }
-        Transferred::NoMemory(_) => Err(NoMemory),
+        TransferOutcome::NoMemory(_) => Err(NoMemory),
     }
 }
 
@@ -144,9 +144,9 @@ fn refusals(alloc: Global) -> Result<[Option<Completion>; 2], NoMemory> {
     let key = bus.open()?;
     let to = route(9, 0x81, key);
     let gone = match transfer(&mut bus, to, wanting(alloc, to)?) {
-        Transferred::Complete(completion) => Some(completion),
-        Transferred::TimeUp(pending) => completed(Err(pending)),
-        Transferred::NoMemory(_) => return Err(NoMemory),
+        TransferOutcome::Complete(completion) => Some(completion),
+        TransferOutcome::TimeUp(pending) => completed(Err(pending)),
+        TransferOutcome::NoMemory(_) => return Err(NoMemory),
     };
     let key = bus.open()?;
     let to = route(0, 0x81, key);

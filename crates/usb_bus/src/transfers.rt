@@ -9,7 +9,7 @@ ghost use Rattle.usb_bus.specs.BusState.{with_owner};
 ghost use Rattle.usb_bus.specs.Completions.{transfer_completion};
 ghost use Rattle.usb_bus.specs.Routes.{submission_of};
 ghost use Rattle.usb_bus.specs.Submitted.{IsSubmitted};
-ghost use Rattle.usb_bus.specs.Transferred.{IfComplete, IfTimeUp, IfNoMemory, WentOn};
+ghost use Rattle.usb_bus.specs.TransferOutcomes.{IfComplete, IfTimeUp, IfNoMemory, WentOn};
 ghost use Rattle.usb_bus.specs.Later.{IsLater, IsLaterWithout};
 ghost use Rattle.usb_xfer.specs.declared.transfer.Held.{Held};
 
@@ -18,7 +18,7 @@ use crate::route::{Route, Turn};
 use usb_xfer::{Buffer, Completion, Idle, Pending, TransferData};
 
 /// What became of a transfer.
-pub enum Transferred {
+pub enum TransferOutcome {
     /// It is done.
     Complete(Completion),
     /// Time was up first. The endpoint of the route's key still holds the ticket.
@@ -103,7 +103,7 @@ pub fn turn_until_complete<B: Bus>(
 /// Submits a buffer, and turns the bus until the transfer is complete or time is up. The key of the
 /// route must be that of an open endpoint, and the buffer of an IN endpoint must ask for its
 /// maximum, or for a multiple of it that is not 0.
-pub fn transfer<B: Bus>(bus: &mut B, to: Route, buffer: Buffer) -> Transferred
+pub fn transfer<B: Bus>(bus: &mut B, to: Route, buffer: Buffer) -> TransferOutcome
     requires key { (B.state bus.old).keys to.key ≡ true }
     requires whole { IsWhole (submission_of to buffer) }
     ensures completion { IfComplete result
@@ -124,9 +124,9 @@ pub fn transfer<B: Bus>(bus: &mut B, to: Route, buffer: Buffer) -> Transferred
 {
     match submit_buffer(bus, to, buffer) {
         Ok(pending) => match turn_until_complete(bus, pending) {
-            Ok(completion) => Transferred::Complete(completion),
-            Err(pending) => Transferred::TimeUp(pending),
+            Ok(completion) => TransferOutcome::Complete(completion),
+            Err(pending) => TransferOutcome::TimeUp(pending),
         },
-        Err(buffer) => Transferred::NoMemory(buffer),
+        Err(buffer) => TransferOutcome::NoMemory(buffer),
     }
 }

@@ -17,34 +17,34 @@ use Rattle.usb_bus.specs.Completions.{CompletesOnly}
 use Rattle.usb_device.specs.declared.ends.TicketEnd.TheVariants.{Reclaimed}
 use Rattle.usb_device.specs.declared.opened.OpenDevice.{OpenDevice}
 use Rattle.usb_device.specs.declared.owners.EndedClaim.{EndedClaim}
-use Rattle.usb_device.specs.declared.slot.Slot.{Slot}
-use Rattle.usb_device.specs.declared.slot.Slot.TheVariants as slot
+use Rattle.usb_device.specs.declared.slot.TicketState.{TicketState}
+use Rattle.usb_device.specs.declared.slot.TicketState.TheVariants as slot
 use Rattle.usb_device.specs.HostState.{HostState, Ended}
-use Rattle.usb_device.specs.HostFacts.{Agree, Fits, host_made}
-use Rattle.usb_device.specs.LedgerState.{LedgerState, ticket_of, slot_with, abandoned_key, ended_with}
+use Rattle.usb_device.specs.HostFacts.{TicketsAgree, Fits, host_made}
+use Rattle.usb_device.specs.LedgerState.{LedgerState, host_ticket, slot_with, abandoned_key, ended_with}
 use Rattle.usb_device.specs.Releases.{without_ended, settled}
 use Rattle.usb_device.specs.TicketEnds.{came, host_ended}
 use Rattle.usb_device.proofs.ListLemmas.{slice_get-set}
 use Rattle.usb_device.proofs.LedgerLemmas.{ticket-at, tickets-same}
 
-pub Fits-same : (past next : List Event) (t : ℕ) (s : Slot) → completion next t ≡ completion past t → Fits past t s → Fits next t s
+pub Fits-same : (past next : List Event) (t : ℕ) (s : TicketState) → completion next t ≡ completion past t → Fits past t s → Fits next t s
 unfolding transfer_completion
-Fits-same past next t (slot.Held key transfer) same fits = rw same fits
+Fits-same past next t (slot.HeldBy key transfer) same fits = rw same fits
 Fits-same past next t (slot.Abandoned key) same fits = same ∙ fits
 Fits-same past next t (slot.Ended end) same fits = tt
 
-Fits-with : (next : List Event) (done : Done) (t : ℕ) (s : Slot) → completion next t ≡ Some done → Fits next t (slot_with done s)
+Fits-with : (next : List Event) (done : Done) (t : ℕ) (s : TicketState) → completion next t ≡ Some done → Fits next t (slot_with done s)
 unfolding transfer_completion
-Fits-with next done t (slot.Held key transfer) has = rw has refl
+Fits-with next done t (slot.HeldBy key transfer) has = rw has refl
 Fits-with next done t (slot.Abandoned key) has = tt
 Fits-with next done t (slot.Ended end) has = tt
 
-pub Agree-none : (past next : List Event) (slots : List Slot) → Agree past slots → CompletesOnly past next None → Agree next slots
-Agree-none past next slots agree comes =
+pub TicketsAgree-none : (past next : List Event) (slots : List TicketState) → TicketsAgree past slots → CompletesOnly past next None → TicketsAgree next slots
+TicketsAgree-none past next slots agree comes =
     record { count = agree.count ∙ sym comes.count; each = λ t s at. Fits-same past next t s (comes.each t) (agree.each t s at) }
 
-pub Agree-some : (past next : List Event) (slots : List Slot) (done : Done) (s : Slot) → Agree past slots → CompletesOnly past next (Some done) → slice_get slots done.ticket ≡ Some s → Agree next (set slots done.ticket (slot_with done s))
-Agree-some past next slots done s agree comes at =
+pub TicketsAgree-some : (past next : List Event) (slots : List TicketState) (done : Done) (s : TicketState) → TicketsAgree past slots → CompletesOnly past next (Some done) → slice_get slots done.ticket ≡ Some s → TicketsAgree next (set slots done.ticket (slot_with done s))
+TicketsAgree-some past next slots done s agree comes at =
     record {
       count = length-set slots done.ticket (slot_with done s) ∙ agree.count ∙ sym comes.count;
       each = λ t x here.
@@ -60,25 +60,25 @@ Agree-some past next slots done s agree comes at =
 
 -- a host at which a completion arrives
 module _ (k : KernelState) (devices : List OpenDevice) (l : LedgerState) (steps : List KernelStep) (done : Done) where
-  came-held : (key : ℕ) (s : Slot) → slice_get l.slots done.ticket ≡ Some s → abandoned_key s ≡ None → came (host_made k devices l steps) (Some done) ≡ host_made k devices l steps
+  came-held : (key : ℕ) (s : TicketState) → slice_get l.slots done.ticket ≡ Some s → abandoned_key s ≡ None → came (host_made k devices l steps) (Some done) ≡ host_made k devices l steps
   unfolding came
-  came-held key (slot.Held j transfer) at none = rw (ticket-at l.slots done.ticket (slot.Held j transfer) at) refl
+  came-held key (slot.HeldBy j transfer) at none = rw (ticket-at l.slots done.ticket (slot.HeldBy j transfer) at) refl
   came-held key (slot.Abandoned j) at none = absurd (none-some j (sym none))
   came-held key (slot.Ended end) at none = rw (ticket-at l.slots done.ticket (slot.Ended end) at) refl
 
   came-reclaimed : (key : ℕ) → slice_get l.slots done.ticket ≡ Some (slot.Abandoned key)
-      → came (host_made k devices l steps) (Some done) ≡ settled (record (host_made k devices l steps) { tickets = set (map ticket_of l.slots) done.ticket (Ended Reclaimed) }) key
+      → came (host_made k devices l steps) (Some done) ≡ settled (record (host_made k devices l steps) { tickets = set (map host_ticket l.slots) done.ticket (Ended Reclaimed) }) key
   unfolding came host_ended
   came-reclaimed key at = rw (ticket-at l.slots done.ticket (slot.Abandoned key) at, ticket-at l.slots done.ticket (slot.Abandoned key) at) refl
 
-  pub came-slot : (s : Slot) (l' : LedgerState) (ended : Option EndedClaim) (k' : KernelState) → slice_get l.slots done.ticket ≡ Some s → l' ≡ record l { slots = set l.slots done.ticket (slot_with done s) } → ended ≡ ended_with l' (abandoned_key s) → k' ≡ record k { devices = without_ended k.devices ended }
+  pub came-slot : (s : TicketState) (l' : LedgerState) (ended : Option EndedClaim) (k' : KernelState) → slice_get l.slots done.ticket ≡ Some s → l' ≡ record l { slots = set l.slots done.ticket (slot_with done s) } → ended ≡ ended_with l' (abandoned_key s) → k' ≡ record k { devices = without_ended k.devices ended }
       → host_made k' devices l' steps ≡ came (host_made k devices l steps) (Some done)
   unfolding settled
-  came-slot (slot.Held key transfer) l' ended k' at is claim kernel =
-      let same = tickets-same l.slots done.ticket (slot.Held key transfer) (slot_with done (slot.Held key transfer)) at refl in
-      rw (kernel, claim, is, same) (sym (came-held key (slot.Held key transfer) at refl))
+  came-slot (slot.HeldBy key transfer) l' ended k' at is claim kernel =
+      let same = tickets-same l.slots done.ticket (slot.HeldBy key transfer) (slot_with done (slot.HeldBy key transfer)) at refl in
+      rw (kernel, claim, is, same) (sym (came-held key (slot.HeldBy key transfer) at refl))
   came-slot (slot.Abandoned key) l' ended k' at is claim kernel =
-      rw (came-reclaimed key at, kernel, claim, is, map-set ticket_of l.slots done.ticket (slot.Ended Reclaimed)) refl
+      rw (came-reclaimed key at, kernel, claim, is, map-set host_ticket l.slots done.ticket (slot.Ended Reclaimed)) refl
   came-slot (slot.Ended end) l' ended k' at is claim kernel =
       let same = tickets-same l.slots done.ticket (slot.Ended end) (slot_with done (slot.Ended end)) at refl in
       rw (kernel, claim, is, same) (sym (came-held 0 (slot.Ended end) at refl))
@@ -109,5 +109,5 @@ CompletesOnly-reap past t = record { count = ap length (tickets-reap past t); ea
 pub CompletesOnly-discard : (past : List Event) (t : ℕ) → CompletesOnly past (after_discard past t) None
 CompletesOnly-discard past t = record { count = ap length (tickets-discard past t); each = completion-discard past t }
 
-pub Agree-at : (past next : List Event) (slots : List Slot) → next ≡ past → Agree past slots → Agree next slots
-Agree-at past next slots same agree = rw same agree
+pub TicketsAgree-at : (past next : List Event) (slots : List TicketState) → next ≡ past → TicketsAgree past slots → TicketsAgree next slots
+TicketsAgree-at past next slots same agree = rw same agree

@@ -27,7 +27,7 @@ use Rattle.usb_device.specs.HostAwaits.{deadline_of, sought_reaps, sought_steps,
 use Rattle.usb_bus.specs.BusState.{BusState}
 use Rattle.usb_kernel.specs.Steps.{stepped}
 use Rattle.usb_device.specs.HostBus.{hold_at}
-use Rattle.usb_device.specs.HostFrames.{WentOn}
+use Rattle.usb_device.specs.HostFrames.{HostGoesOn}
 use Rattle.usb_kernel.proofs.Waiting.{waiting-few}
 use Rattle.usb_device.proofs.BusLemmas.{bus_of-stepped}
 use Rattle.usb_device.proofs.WaitFrames.{went-turned, went-uses, went-trans}
@@ -271,9 +271,9 @@ module _ (t : ℕ) where
     falls-until none = (until-by (time_is_up (host_turn h)) refl none).1
 
 -- a turn of the wait ends nothing that is held
-pub went-until : (h : HostState) (d : ℕ) → WentOn h (host_turned_until h d)
+pub went-until : (h : HostState) (d : ℕ) → HostGoesOn h (host_turned_until h d)
 went-until h d =
-    elim (time_is_up (host_turn h)) as (λ v. WentOn h (cond v (host_idled (host_turned h) d) (host_turned h))) [
+    elim (time_is_up (host_turn h)) as (λ v. HostGoesOn h (cond v (host_idled (host_turned h) d) (host_turned h))) [
       | true ↦ went-trans h (host_turned h) (host_idled (host_turned h) d) (went-turned h) (went-uses (host_turned h) (host_idled (host_turned h) d) (uses-idled (host_turned h) d))
       | false ↦ went-turned h
     ]
@@ -313,7 +313,7 @@ found-completion h t = some-mapped completion_of (completion h.kernel.past t)
 held-owner : (o : Option Hold) → is_some (option_map (λ (hold : Hold). hold.key) o) ≡ is_some o
 held-owner o = some-mapped (λ (hold : Hold). hold.key) o
 
-pub held-went : (old new : HostState) (t : ℕ) → WentOn old new → IsSome (hold_at old.tickets t) → IsSome (hold_at new.tickets t)
+pub held-went : (old new : HostState) (t : ℕ) → HostGoesOn old new → IsSome (hold_at old.tickets t) → IsSome (hold_at new.tickets t)
 held-went old new t went held =
     sym (held-owner (hold_at new.tickets t)) ∙ (ap (λ (owner : ℕ → Option ℕ). is_some (owner t)) went.later.owner ∙ (held-owner (hold_at old.tickets t) ∙ held))
 
@@ -322,7 +322,7 @@ pub record KeepsWaiting (t d : ℕ) (h g : HostState) : Type 0 where
   pub awaits : host_awaited g t d ≡ host_awaited h t d
   pub less : left_until t g < left_until t h
   pub due : deadline_of g.kernel.past t ≡ Some d
-  pub went : WentOn h g
+  pub went : HostGoesOn h g
 
 pub until-keeps : (t d : ℕ) (h g : HostState) → g ≡ host_turned_until h d → is_found h t ≡ false → deadline_of h.kernel.past t ≡ Some d → KeepsWaiting t d h g
 until-keeps t d h g is none due =

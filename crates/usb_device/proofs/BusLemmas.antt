@@ -21,7 +21,7 @@ use Rattle.usb_kernel.specs.Submissions.{IsErrno}
 use Rattle.usb_bus.specs.declared.route.Route.{Route}
 use Rattle.usb_bus.specs.declared.route.Turn.{Turn}
 use Rattle.usb_bus.specs.declared.route.Turn.TheVariants.{TimeUp}
-use Rattle.usb_bus.specs.BusState.{BusState, with_owner, without, without_key}
+use Rattle.usb_bus.specs.BusState.{BusState, with_owner, without_owner, without_key}
 use Rattle.usb_bus.specs.Later.{IsLater}
 use Rattle.usb_kernel.proofs.Extends.{extends-same, extends-if, extends-step}
 use Rattle.usb_kernel.proofs.Waiting.{waiting-submit, waiting-refuse, waiting-one_less, waiting-few, lowest-reapable}
@@ -32,9 +32,9 @@ use Rattle.usb_bus.specs.Submitted.{Entered}
 use Rattle.usb_bus.specs.Turns.{Falls}
 use Rattle.usb_bus.specs.Turns.{reap_turn}
 use Rattle.usb_device.specs.declared.ends.TicketEnd.TheVariants.{Dropped, Reclaimed}
-use Rattle.usb_device.specs.HostState.{HostState, HostTicket, HostEndpoint, Hold, Held, Abandoned, Ended}
+use Rattle.usb_device.specs.HostState.{HostState, HostTicket, HostEndpoint, Hold, HeldBy, Abandoned, Ended}
 use Rattle.usb_device.specs.HostBus.{bus_of, owner_at, held_as, key_at, turns_left}
-use Rattle.usb_device.specs.HostBusFacts.{owner_at-set, bus_of-ended, bus_of-settled, without-none}
+use Rattle.usb_device.specs.HostBusFacts.{owner_at-set, bus_of-ended, bus_of-settled, without_owner-none}
 use Rattle.usb_device.specs.HostCalls.{host_submitted, host_refused, host_left, host_discarded, submitted_with, refused_with}
 use Rattle.usb_device.specs.Releases.{settled}
 use Rattle.usb_device.proofs.HostCallLemmas.{open-at}
@@ -47,8 +47,8 @@ owner-abandoned tickets t key at = ap (λ o. option_map (λ (hold : Hold). hold.
 
 bus_of-reclaimed : (h : HostState) (t : ℕ) (o : Option HostTicket) → slice_get h.tickets t ≡ o → bus_of (reclaimed_if h t o) ≡ bus_of h
 bus_of-reclaimed h t None at = refl
-bus_of-reclaimed h t (Some (Held hold)) at = refl
-bus_of-reclaimed h t (Some (Abandoned key)) at = bus_of-ended h t Reclaimed ∙ sym (ap (λ (f : ℕ → Option ℕ). record (bus_of h) { owner = f }) (without-none (owner_at h.tickets) t (owner-abandoned h.tickets t key at)))
+bus_of-reclaimed h t (Some (HeldBy hold)) at = refl
+bus_of-reclaimed h t (Some (Abandoned key)) at = bus_of-ended h t Reclaimed ∙ sym (ap (λ (f : ℕ → Option ℕ). record (bus_of h) { owner = f }) (without_owner-none (owner_at h.tickets) t (owner-abandoned h.tickets t key at)))
 bus_of-reclaimed h t (Some (Ended end)) at = refl
 
 pub bus_of-came : (h : HostState) (o : Option Done) → bus_of (came h o) ≡ bus_of h
@@ -94,7 +94,7 @@ falls-reaped : (h : HostState) (o : Option ℕ) → lowest h.kernel.past ≡ o �
 falls-reaped h None is = omega arith
 falls-reaped h (Some t) is =
     let l = waiting-one_less h.kernel.past t (lowest-reapable h.kernel.past t is) in
-    let left : turns_left (host_reaped h t) ≡ length h.steps * 2 ^ 64 + length (waiting (after_reap h.kernel.past t)) = ap (λ (b : BusState). b.left) (bus_of-reaped h t) in
+    let left : turns_left (host_reaped h t) ≡ length h.steps * 2 ^ 64 + length (waiting (after_reap h.kernel.past t)) = ap (λ (b : BusState). b.turns_left) (bus_of-reaped h t) in
     let acts : after_reap h.kernel.past t ≡ Reap t ∷ h.kernel.past = rw (lowest-reapable h.kernel.past t is) refl in
     rw (left, acts) (omega arith)
 
@@ -102,7 +102,7 @@ falls-stepped : (h : HostState) (s : KernelStep) (ss : List KernelStep) → leng
 falls-stepped h s ss len few =
     let w = waiting-few (stepped h.kernel.devices h.kernel.clock h.kernel.past s) in
     let past : (host_stepped (record h { steps = ss }) s).kernel.past ≡ stepped h.kernel.devices h.kernel.clock h.kernel.past s = ap (λ (b : BusState). b.past) (bus_of-stepped (record h { steps = ss }) s) in
-    let left : turns_left (host_stepped (record h { steps = ss }) s) ≡ length ss * 2 ^ 64 + length (waiting (stepped h.kernel.devices h.kernel.clock h.kernel.past s)) = ap (λ (b : BusState). b.left) (bus_of-stepped (record h { steps = ss }) s) in
+    let left : turns_left (host_stepped (record h { steps = ss }) s) ≡ length ss * 2 ^ 64 + length (waiting (stepped h.kernel.devices h.kernel.clock h.kernel.past s)) = ap (λ (b : BusState). b.turns_left) (bus_of-stepped (record h { steps = ss }) s) in
     let few' : length (tickets (stepped h.kernel.devices h.kernel.clock h.kernel.past s)) < 2 ^ 64 = rw past at few in
     rw left (omega arith)
 
@@ -147,13 +147,13 @@ state-left old new k open_ is =
     ∙ ap (λ (f : ℕ → Bool). record (bus_of old) { keys = f }) (fun_ext (λ j. key-set old.endpoints k j next refl))
 
 -- a ticket that is given up
-given-up-by : (h : HostState) (t : ℕ) (o : Option HostTicket) → slice_get h.tickets t ≡ o → bus_of (given_up h t o) ≡ record (bus_of h) { owner = without (owner_at h.tickets) t }
-given-up-by h t None at = ap (λ (f : ℕ → Option ℕ). record (bus_of h) { owner = f }) (without-none (owner_at h.tickets) t (ap (λ o. option_map (λ (hold : Hold). hold.key) (option_and_then held_as o)) at))
-given-up-by h t (Some (Held hold)) at = ap (λ (f : ℕ → Option ℕ). record (bus_of h) { owner = f }) (owner_at-set h.tickets t (Abandoned hold.key) refl)
-given-up-by h t (Some (Abandoned key)) at = ap (λ (f : ℕ → Option ℕ). record (bus_of h) { owner = f }) (without-none (owner_at h.tickets) t (owner-abandoned h.tickets t key at))
-given-up-by h t (Some (Ended end)) at = ap (λ (f : ℕ → Option ℕ). record (bus_of h) { owner = f }) (without-none (owner_at h.tickets) t (ap (λ o. option_map (λ (hold : Hold). hold.key) (option_and_then held_as o)) at))
+given-up-by : (h : HostState) (t : ℕ) (o : Option HostTicket) → slice_get h.tickets t ≡ o → bus_of (given_up h t o) ≡ record (bus_of h) { owner = without_owner (owner_at h.tickets) t }
+given-up-by h t None at = ap (λ (f : ℕ → Option ℕ). record (bus_of h) { owner = f }) (without_owner-none (owner_at h.tickets) t (ap (λ o. option_map (λ (hold : Hold). hold.key) (option_and_then held_as o)) at))
+given-up-by h t (Some (HeldBy hold)) at = ap (λ (f : ℕ → Option ℕ). record (bus_of h) { owner = f }) (owner_at-set h.tickets t (Abandoned hold.key) refl)
+given-up-by h t (Some (Abandoned key)) at = ap (λ (f : ℕ → Option ℕ). record (bus_of h) { owner = f }) (without_owner-none (owner_at h.tickets) t (owner-abandoned h.tickets t key at))
+given-up-by h t (Some (Ended end)) at = ap (λ (f : ℕ → Option ℕ). record (bus_of h) { owner = f }) (without_owner-none (owner_at h.tickets) t (ap (λ o. option_map (λ (hold : Hold). hold.key) (option_and_then held_as o)) at))
 
-pub bus_of-abandoned : (h : HostState) (t : ℕ) → bus_of (host_abandoned h t) ≡ record (bus_of h) { owner = without (owner_at h.tickets) t }
+pub bus_of-abandoned : (h : HostState) (t : ℕ) → bus_of (host_abandoned h t) ≡ record (bus_of h) { owner = without_owner (owner_at h.tickets) t }
 unfolding host_abandoned
 bus_of-abandoned h t =
     elim (cases_Bool (is_some (completion h.kernel.past t))) [
@@ -161,15 +161,15 @@ bus_of-abandoned h t =
       | inr no_ ↦ rw no_ (given-up-by h t (slice_get h.tickets t) refl)
     ]
 
-pub state-abandoned : (old new : HostState) (t : ℕ) → new ≡ host_abandoned old t → bus_of new ≡ record (bus_of old) { owner = without (owner_at old.tickets) t }
+pub state-abandoned : (old new : HostState) (t : ℕ) → new ≡ host_abandoned old t → bus_of new ≡ record (bus_of old) { owner = without_owner (owner_at old.tickets) t }
 state-abandoned old new t is = ap bus_of is ∙ bus_of-abandoned old t
 
-pub state-discarded : (old new : HostState) (t : ℕ) → new ≡ host_discarded old t → bus_of new ≡ record (bus_of old) { past = after_discard old.kernel.past t; left = turns_left new }
+pub state-discarded : (old new : HostState) (t : ℕ) → new ≡ host_discarded old t → bus_of new ≡ record (bus_of old) { past = after_discard old.kernel.past t; turns_left = turns_left new }
 unfolding host_discarded
 state-discarded old new t is = rw is refl
 
 -- a ticket that is new
-owner-append : (tickets : List HostTicket) (hold : Hold) (u : ℕ) → owner_at (tickets ++ Held hold ∷ []) u ≡ with_owner (owner_at tickets) (length tickets) hold.key u
+owner-append : (tickets : List HostTicket) (hold : Hold) (u : ℕ) → owner_at (tickets ++ HeldBy hold ∷ []) u ≡ with_owner (owner_at tickets) (length tickets) hold.key u
 owner-append [] hold zero = refl
 owner-append [] hold (suc u) = rw (eqb-zero-suc u) refl
 owner-append (x ∷ xs) hold zero = rw (eqb-suc-zero (length xs)) refl
@@ -183,7 +183,7 @@ refused-some : (h : HostState) (to : Route) (t : TransferData) (errno : ℕ) (b 
 unfolding host_refused
 refused-some h to t errno b some = rw some refl
 
-owner-new : (old : HostState) (hold : Hold) → length old.tickets ≡ length (tickets old.kernel.past) → owner_at (old.tickets ++ Held hold ∷ []) ≡ with_owner (owner_at old.tickets) (length (tickets old.kernel.past)) hold.key
+owner-new : (old : HostState) (hold : Hold) → length old.tickets ≡ length (tickets old.kernel.past) → owner_at (old.tickets ++ HeldBy hold ∷ []) ≡ with_owner (owner_at old.tickets) (length (tickets old.kernel.past)) hold.key
 owner-new old hold count = rw (← count) (fun_ext (owner-append old.tickets hold))
 
 pub submitted-state : (old new : HostState) (to : Route) (t : TransferData) (b : BufferState) → length old.tickets ≡ length (tickets old.kernel.past) → new ≡ host_submitted old to t → buffer_held t.held ≡ Some b → IfSome (submit_refusal old.kernel.devices old.kernel.armed to.device) IsErrno

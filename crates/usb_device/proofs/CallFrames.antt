@@ -1,25 +1,24 @@
 -- What the calls of handles make of a host as a bus, and what they leave as it was.
-use Rattle.std.proofs.Common.{ℕ, zero, suc, ◌≡◌, ◌≢◌, Bool, true, false, cond, List, [], ◌∷◌, ◌++◌, set, slice_get, Option, Some, None, refl, sym, ◌∙◌, ap, inl, inr}
+use Rattle.std.proofs.Common.{ℕ, zero, suc, ◌≡◌, ◌≢◌, Bool, true, false, cond, List, [], ◌∷◌, set, slice_get, Option, Some, None, refl, sym, ◌∙◌, ap, inl, inr}
 use Rattle.std.specs.Prelude.{is_some, option_and_then}
 use Rattle.std.specs.Option.{option_map, option_map_or}
 use Rattle.std.proofs.Math.Path.{fun_ext}
 use Rattle.std.proofs.lemmas.Bool.{cases_eq, eq-eqb, ne_eqb}
-use Rattle.std.proofs.lemmas.Option.{none-some}
 use Rattle.usb_xfer.specs.BufferState.{BufferState}
 use Rattle.usb_xfer.specs.declared.transfer.TransferData.{TransferData}
 use Rattle.usb_xfer.specs.Transfers.{buffer_held}
 use Rattle.usb_kernel.specs.Completions.{completion}
 use Rattle.usb_bus.specs.declared.route.Route.{Route}
-use Rattle.usb_bus.specs.BusState.{without, without_key}
-use Rattle.usb_endpoint.proofs.HandleLemmas.{without-other}
+use Rattle.usb_bus.specs.BusState.{without_owner, without_key}
+use Rattle.usb_endpoint.proofs.HandleLemmas.{without_owner-other}
 use Rattle.usb_device.specs.declared.ends.TicketEnd.{TicketEnd}
 use Rattle.usb_device.specs.declared.ends.TicketEnd.TheVariants.{Taken, Dropped}
-use Rattle.usb_device.specs.HostState.{HostState, HostTicket, HostEndpoint, Hold, Held, Abandoned, Ended}
+use Rattle.usb_device.specs.HostState.{HostState, HostTicket, HostEndpoint, Hold, HeldBy, Abandoned, Ended}
 use Rattle.usb_device.specs.Releases.{settled}
 use Rattle.usb_device.specs.TicketEnds.{ended_as, host_ended, host_taken, given_up, host_abandoned}
 use Rattle.usb_device.specs.HostCalls.{submitted_with, host_submitted, refused_with, host_refused, closed_if, host_left}
 use Rattle.usb_device.specs.HostBus.{held_as, owner_at, key_at, bus_of}
-use Rattle.usb_device.specs.HostFrames.{KeepsLine, KeepsOpen}
+use Rattle.usb_device.proofs.HostKeeps.{KeepsLine, KeepsOpen}
 use Rattle.usb_device.proofs.HostFrames.{ended_as-is, owner-set_other}
 
 -- nothing that handles stand on has changed
@@ -44,18 +43,12 @@ pub keeps-refused : (h : HostState) (to : Route) (t : TransferData) (errno : ℕ
 unfolding host_refused
 keeps-refused h to t errno = refused_with-keeps h to t errno (buffer_held t.held)
 
--- who holds a ticket holds it when there is one more
-owner-push : (ts : List HostTicket) (x : HostTicket) (t k : ℕ) → owner_at ts t ≡ Some k → owner_at (ts ++ x ∷ []) t ≡ Some k
-owner-push [] x t k own = absurd (none-some k own)
-owner-push (y ∷ ys) x zero k own = own
-owner-push (y ∷ ys) x (suc t) k own = owner-push ys x t k own
-
 -- the owners without one
-without-at : (owner owner' : ℕ → Option ℕ) (t : ℕ) → owner' t ≡ None → ((u : ℕ) → t ≢ u → owner' u ≡ owner u) → (u : ℕ) → owner' u ≡ without owner t u
-without-at owner owner' t none other u =
+without_owner-at : (owner owner' : ℕ → Option ℕ) (t : ℕ) → owner' t ≡ None → ((u : ℕ) → t ≢ u → owner' u ≡ owner u) → (u : ℕ) → owner' u ≡ without_owner owner t u
+without_owner-at owner owner' t none other u =
     elim (cases_eq t u) [
-      | inl same ↦ let now : without owner t u ≡ None = rw (eq-eqb t u same) refl in ap owner' (sym same) ∙ (none ∙ sym now)
-      | inr ne ↦ other u ne ∙ sym (without-other owner t u ne)
+      | inl same ↦ let now : without_owner owner t u ≡ None = rw (eq-eqb t u same) refl in ap owner' (sym same) ∙ (none ∙ sym now)
+      | inr ne ↦ other u ne ∙ sym (without_owner-other owner t u ne)
     ]
 
 owner-set_none : (ts : List HostTicket) (t : ℕ) (new : HostTicket) → held_as new ≡ None → owner_at (set ts t new) t ≡ None
@@ -67,45 +60,45 @@ owner-set_none (x ∷ xs) (suc t) new none = owner-set_none xs t new none
 owner-none : (ts : List HostTicket) (t : ℕ) (o : Option HostTicket) → slice_get ts t ≡ o → option_and_then held_as o ≡ None → owner_at ts t ≡ None
 owner-none ts t o at none = ap (λ (o : Option HostTicket). option_map (λ (hold : Hold). hold.key) (option_and_then held_as o)) at ∙ ap (option_map (λ (hold : Hold). hold.key)) none
 
-without-same : (h : HostState) (t : ℕ) (o : Option HostTicket) → slice_get h.tickets t ≡ o → option_and_then held_as o ≡ None → (u : ℕ) → owner_at h.tickets u ≡ without (owner_at h.tickets) t u
-without-same h t o at none = without-at (owner_at h.tickets) (owner_at h.tickets) t (owner-none h.tickets t o at none) (λ u ne. refl)
+without_owner-same : (h : HostState) (t : ℕ) (o : Option HostTicket) → slice_get h.tickets t ≡ o → option_and_then held_as o ≡ None → (u : ℕ) → owner_at h.tickets u ≡ without_owner (owner_at h.tickets) t u
+without_owner-same h t o at none = without_owner-at (owner_at h.tickets) (owner_at h.tickets) t (owner-none h.tickets t o at none) (λ u ne. refl)
 
-without-set : (h : HostState) (t : ℕ) (new : HostTicket) → held_as new ≡ None → (u : ℕ) → owner_at (set h.tickets t new) u ≡ without (owner_at h.tickets) t u
-without-set h t new none = without-at (owner_at h.tickets) (owner_at (set h.tickets t new)) t (owner-set_none h.tickets t new none) (λ u ne. owner-set_other h.tickets t u new ne)
+without_owner-set : (h : HostState) (t : ℕ) (new : HostTicket) → held_as new ≡ None → (u : ℕ) → owner_at (set h.tickets t new) u ≡ without_owner (owner_at h.tickets) t u
+without_owner-set h t new none = without_owner-at (owner_at h.tickets) (owner_at (set h.tickets t new)) t (owner-set_none h.tickets t new none) (λ u ne. owner-set_other h.tickets t u new ne)
 
-ended_as-owner : (h : HostState) (t : ℕ) (end : TicketEnd) (o : Option HostTicket) → slice_get h.tickets t ≡ o → (u : ℕ) → owner_at (ended_as h t end o).tickets u ≡ without (owner_at h.tickets) t u
+ended_as-owner : (h : HostState) (t : ℕ) (end : TicketEnd) (o : Option HostTicket) → slice_get h.tickets t ≡ o → (u : ℕ) → owner_at (ended_as h t end o).tickets u ≡ without_owner (owner_at h.tickets) t u
 unfolding settled
-ended_as-owner h t end None at = without-same h t None at refl
-ended_as-owner h t end (Some (Held hold)) at = without-set h t (Ended end) refl
-ended_as-owner h t end (Some (Abandoned key)) at = without-set h t (Ended end) refl
-ended_as-owner h t end (Some (Ended before)) at = without-same h t (Some (Ended before)) at refl
+ended_as-owner h t end None at = without_owner-same h t None at refl
+ended_as-owner h t end (Some (HeldBy hold)) at = without_owner-set h t (Ended end) refl
+ended_as-owner h t end (Some (Abandoned key)) at = without_owner-set h t (Ended end) refl
+ended_as-owner h t end (Some (Ended before)) at = without_owner-same h t (Some (Ended before)) at refl
 
 -- the end of a ticket, to a bus
-pub bus-ended : (h : HostState) (t : ℕ) (end : TicketEnd) → bus_of (host_ended h t end) ≡ record (bus_of h) { owner = without (owner_at h.tickets) t }
+pub bus-ended : (h : HostState) (t : ℕ) (end : TicketEnd) → bus_of (host_ended h t end) ≡ record (bus_of h) { owner = without_owner (owner_at h.tickets) t }
 unfolding host_ended
 bus-ended h t end =
     ap bus_of (ended_as-is h t end (slice_get h.tickets t))
     ∙ ap (λ (owner : ℕ → Option ℕ). record (bus_of h) { owner = owner }) (fun_ext (ended_as-owner h t end (slice_get h.tickets t) refl))
 
-pub bus-taken : (h : HostState) (t : ℕ) → bus_of (host_taken h t) ≡ record (bus_of h) { owner = without (owner_at h.tickets) t }
+pub bus-taken : (h : HostState) (t : ℕ) → bus_of (host_taken h t) ≡ record (bus_of h) { owner = without_owner (owner_at h.tickets) t }
 unfolding host_taken
 bus-taken h t = bus-ended h t Taken
 
-given_up-bus : (h : HostState) (t : ℕ) (o : Option HostTicket) → slice_get h.tickets t ≡ o → bus_of (given_up h t o) ≡ record (bus_of h) { owner = without (owner_at h.tickets) t }
-given_up-bus h t None at = ap (λ (owner : ℕ → Option ℕ). record (bus_of h) { owner = owner }) (fun_ext (without-same h t None at refl))
-given_up-bus h t (Some (Held hold)) at = ap (λ (owner : ℕ → Option ℕ). record (bus_of h) { owner = owner }) (fun_ext (without-set h t (Abandoned hold.key) refl))
-given_up-bus h t (Some (Abandoned key)) at = ap (λ (owner : ℕ → Option ℕ). record (bus_of h) { owner = owner }) (fun_ext (without-same h t (Some (Abandoned key)) at refl))
-given_up-bus h t (Some (Ended end)) at = ap (λ (owner : ℕ → Option ℕ). record (bus_of h) { owner = owner }) (fun_ext (without-same h t (Some (Ended end)) at refl))
+given_up-bus : (h : HostState) (t : ℕ) (o : Option HostTicket) → slice_get h.tickets t ≡ o → bus_of (given_up h t o) ≡ record (bus_of h) { owner = without_owner (owner_at h.tickets) t }
+given_up-bus h t None at = ap (λ (owner : ℕ → Option ℕ). record (bus_of h) { owner = owner }) (fun_ext (without_owner-same h t None at refl))
+given_up-bus h t (Some (HeldBy hold)) at = ap (λ (owner : ℕ → Option ℕ). record (bus_of h) { owner = owner }) (fun_ext (without_owner-set h t (Abandoned hold.key) refl))
+given_up-bus h t (Some (Abandoned key)) at = ap (λ (owner : ℕ → Option ℕ). record (bus_of h) { owner = owner }) (fun_ext (without_owner-same h t (Some (Abandoned key)) at refl))
+given_up-bus h t (Some (Ended end)) at = ap (λ (owner : ℕ → Option ℕ). record (bus_of h) { owner = owner }) (fun_ext (without_owner-same h t (Some (Ended end)) at refl))
 
 -- what holds of both outcomes
 of_two : (P : HostState → Type 0) (b : Bool) (x y : HostState) → P x → P y → P (cond b x y)
 of_two P true x y px py = px
 of_two P false x y px py = py
 
-pub bus-abandoned : (h : HostState) (t : ℕ) → bus_of (host_abandoned h t) ≡ record (bus_of h) { owner = without (owner_at h.tickets) t }
+pub bus-abandoned : (h : HostState) (t : ℕ) → bus_of (host_abandoned h t) ≡ record (bus_of h) { owner = without_owner (owner_at h.tickets) t }
 unfolding host_abandoned
 bus-abandoned h t =
-    of_two (λ g. bus_of g ≡ record (bus_of h) { owner = without (owner_at h.tickets) t }) (is_some (completion h.kernel.past t)) (host_ended h t Dropped) (given_up h t (slice_get h.tickets t))
+    of_two (λ g. bus_of g ≡ record (bus_of h) { owner = without_owner (owner_at h.tickets) t }) (is_some (completion h.kernel.past t)) (host_ended h t Dropped) (given_up h t (slice_get h.tickets t))
     (bus-ended h t Dropped) (given_up-bus h t (slice_get h.tickets t) refl)
 
 -- what ends a ticket keeps what is open
@@ -125,7 +118,7 @@ keeps-taken h t = keeps-ended h t Taken
 
 given_up-keeps : (h : HostState) (t : ℕ) (o : Option HostTicket) → KeepsOpen h (given_up h t o)
 given_up-keeps h t None = keeps-open h
-given_up-keeps h t (Some (Held hold)) = record { line = record { steps = refl; spare = refl; devices = refl }; interfaces = refl; endpoints = refl }
+given_up-keeps h t (Some (HeldBy hold)) = record { line = record { steps = refl; spare = refl; devices = refl }; interfaces = refl; endpoints = refl }
 given_up-keeps h t (Some (Abandoned key)) = keeps-open h
 given_up-keeps h t (Some (Ended end)) = keeps-open h
 

@@ -13,7 +13,7 @@ use Rattle.usb_endpoint.specs.Handles.{AreHeld, IsApart}
 use Rattle.usb_device.specs.declared.ends.TicketEnd.{TicketEnd}
 use Rattle.usb_device.specs.declared.ends.TicketEnd.TheVariants.{Dropped}
 use Rattle.usb_device.specs.EndLaws.{DroppedWhereReaped}
-use Rattle.usb_device.specs.HostState.{HostState, HostTicket, HostEndpoint, Hold, Held, Abandoned, Ended}
+use Rattle.usb_device.specs.HostState.{HostState, HostTicket, HostEndpoint, Hold, HeldBy, Abandoned, Ended}
 use Rattle.usb_device.specs.HostBus.{owner_at, end_at, ended_at, held_as}
 use Rattle.usb_device.specs.HostCalls.{host_discarded, host_left, closed_if}
 use Rattle.usb_device.specs.Releases.{settled}
@@ -34,26 +34,26 @@ discards-completion h (t ∷ ts) u = completion-discard (all_discarded host_disc
 pub ended-past : (h : HostState) (t : ℕ) (end : TicketEnd) (o : Option HostTicket) → (ended_as h t end o).kernel.past ≡ h.kernel.past
 unfolding settled
 ended-past h t end None = refl
-ended-past h t end (Some (Held hold)) = refl
+ended-past h t end (Some (HeldBy hold)) = refl
 ended-past h t end (Some (Abandoned key)) = refl
 ended-past h t end (Some (Ended before)) = refl
 
 pub ended-others : (h : HostState) (t u : ℕ) (end : TicketEnd) (o : Option HostTicket) → u ≢ t → slice_get (ended_as h t end o).tickets u ≡ slice_get h.tickets u
 unfolding settled
 ended-others h t u end None apart = refl
-ended-others h t u end (Some (Held hold)) apart = slice_get-set_other h.tickets t u (Ended end) apart
+ended-others h t u end (Some (HeldBy hold)) apart = slice_get-set_other h.tickets t u (Ended end) apart
 ended-others h t u end (Some (Abandoned key)) apart = slice_get-set_other h.tickets t u (Ended end) apart
 ended-others h t u end (Some (Ended before)) apart = refl
 
 given_up-past : (h : HostState) (t : ℕ) (o : Option HostTicket) → (given_up h t o).kernel.past ≡ h.kernel.past
 given_up-past h t None = refl
-given_up-past h t (Some (Held hold)) = refl
+given_up-past h t (Some (HeldBy hold)) = refl
 given_up-past h t (Some (Abandoned key)) = refl
 given_up-past h t (Some (Ended end)) = refl
 
 given_up-others : (h : HostState) (t u : ℕ) (o : Option HostTicket) → u ≢ t → slice_get (given_up h t o).tickets u ≡ slice_get h.tickets u
 given_up-others h t u None apart = refl
-given_up-others h t u (Some (Held hold)) apart = slice_get-set_other h.tickets t u (Abandoned hold.key) apart
+given_up-others h t u (Some (HeldBy hold)) apart = slice_get-set_other h.tickets t u (Abandoned hold.key) apart
 given_up-others h t u (Some (Abandoned key)) apart = refl
 given_up-others h t u (Some (Ended end)) apart = refl
 
@@ -83,12 +83,12 @@ by_set (x ∷ xs) (suc t) was new at = by_set xs t was new at
 abbrev dropped_if : Bool → Option TicketEnd
 dropped_if reaped = cond reaped (Some Dropped) None
 
-abandoned-end : (h : HostState) (t : ℕ) (hold : Hold) → slice_get h.tickets t ≡ Some (Held hold) → end_at (host_abandoned h t).tickets t ≡ dropped_if (is_some (completion h.kernel.past t))
+abandoned-end : (h : HostState) (t : ℕ) (hold : Hold) → slice_get h.tickets t ≡ Some (HeldBy hold) → end_at (host_abandoned h t).tickets t ≡ dropped_if (is_some (completion h.kernel.past t))
 unfolding host_abandoned host_ended settled
 abandoned-end h t hold at =
-    rw at (elim (is_some (completion h.kernel.past t)) as (λ b. end_at (cond b (ended_as h t Dropped (Some (Held hold))) (given_up h t (Some (Held hold)))).tickets t ≡ dropped_if b) [
-      | true ↦ ap (option_and_then ended_at) (by_set h.tickets t (Held hold) (Ended Dropped) at)
-      | false ↦ ap (option_and_then ended_at) (by_set h.tickets t (Held hold) (Abandoned hold.key) at)
+    rw at (elim (is_some (completion h.kernel.past t)) as (λ b. end_at (cond b (ended_as h t Dropped (Some (HeldBy hold))) (given_up h t (Some (HeldBy hold)))).tickets t ≡ dropped_if b) [
+      | true ↦ ap (option_and_then ended_at) (by_set h.tickets t (HeldBy hold) (Ended Dropped) at)
+      | false ↦ ap (option_and_then ended_at) (by_set h.tickets t (HeldBy hold) (Abandoned hold.key) at)
     ])
 
 -- the giving up of other tickets leaves one
@@ -105,9 +105,9 @@ held-others g u key [] apart held = tt
 held-others g u key (t ∷ ts) apart held =
     (ap (λ (o : Option HostTicket). owner_of o) (abandoned-others g u t (λ same. apart.0 (sym same))) ∙ held.0, held.1, held-others g u key ts apart.1 held.2)
 
-held-at : (o : Option HostTicket) (key : ℕ) → owner_of o ≡ Some key → (hold : Hold) × (o ≡ Some (Held hold))
+held-at : (o : Option HostTicket) (key : ℕ) → owner_of o ≡ Some key → (hold : Hold) × (o ≡ Some (HeldBy hold))
 held-at None key is = absurd (none-some key is)
-held-at (Some (Held hold)) key is = (hold, refl)
+held-at (Some (HeldBy hold)) key is = (hold, refl)
 held-at (Some (Abandoned gone)) key is = absurd (none-some key is)
 held-at (Some (Ended end)) key is = absurd (none-some key is)
 

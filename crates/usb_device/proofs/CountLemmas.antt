@@ -20,7 +20,7 @@ use Rattle.usb_endpoint.specs.Closes.{all_discarded, all_abandoned, after_close}
 use Rattle.usb_device.specs.declared.ends.TicketEnd.{TicketEnd}
 use Rattle.usb_device.specs.declared.ends.TicketEnd.TheVariants.{Taken, Dropped, Reclaimed}
 use Rattle.usb_device.specs.declared.opened.OpenDevice.{OpenDevice}
-use Rattle.usb_device.specs.HostState.{HostState, HostTicket, HostEndpoint, ClaimedInterface, Held, Abandoned, Ended}
+use Rattle.usb_device.specs.HostState.{HostState, HostTicket, HostEndpoint, ClaimedInterface, HeldBy, Abandoned, Ended}
 use Rattle.usb_device.specs.Releases.{settled, owner_gone}
 use Rattle.usb_device.specs.TicketEnds.{ended_as, host_ended, host_taken, given_up, host_abandoned, reclaimed_if, came}
 use Rattle.usb_device.specs.HostTurns.{with_past, host_stepped, host_reaped, all_stepped, host_rest}
@@ -51,7 +51,7 @@ count-trans a b c first second = record { count = second.count ∙ first.count; 
 ended_as-count : (h : HostState) (t : ℕ) (end : TicketEnd) (o : Option HostTicket) → KeepsCount h (ended_as h t end o)
 unfolding settled
 ended_as-count h t end None = count-same h
-ended_as-count h t end (Some (Held hold)) = record { count = length-set h.tickets t (Ended end); past = refl }
+ended_as-count h t end (Some (HeldBy hold)) = record { count = length-set h.tickets t (Ended end); past = refl }
 ended_as-count h t end (Some (Abandoned key)) = record { count = length-set h.tickets t (Ended end); past = refl }
 ended_as-count h t end (Some (Ended before)) = count-same h
 
@@ -65,7 +65,7 @@ taken-count h t = ended-count h t Taken
 
 given_up-count : (h : HostState) (t : ℕ) (o : Option HostTicket) → KeepsCount h (given_up h t o)
 given_up-count h t None = count-same h
-given_up-count h t (Some (Held hold)) = record { count = length-set h.tickets t (Abandoned hold.key); past = refl }
+given_up-count h t (Some (HeldBy hold)) = record { count = length-set h.tickets t (Abandoned hold.key); past = refl }
 given_up-count h t (Some (Abandoned key)) = count-same h
 given_up-count h t (Some (Ended end)) = count-same h
 
@@ -78,7 +78,7 @@ abandoned-count h t =
 -- completions that come, steps, reaps and discards
 reclaimed-count : (h : HostState) (t : ℕ) (o : Option HostTicket) → KeepsCount h (reclaimed_if h t o)
 reclaimed-count h t None = count-same h
-reclaimed-count h t (Some (Held hold)) = count-same h
+reclaimed-count h t (Some (HeldBy hold)) = count-same h
 reclaimed-count h t (Some (Abandoned key)) = ended-count h t Reclaimed
 reclaimed-count h t (Some (Ended end)) = count-same h
 

@@ -17,7 +17,7 @@ use Rattle.usb_bus.specs.declared.route.Route.{Route}
 use Rattle.usb_device.specs.declared.ends.TicketEnd.{TicketEnd}
 use Rattle.usb_device.specs.declared.ends.TicketEnd.TheVariants.{Taken, Dropped, Reclaimed}
 use Rattle.usb_device.specs.declared.opened.OpenDevice.{OpenDevice}
-use Rattle.usb_device.specs.HostState.{HostState, HostTicket, HostEndpoint, ClaimedInterface, Held, Abandoned, Ended}
+use Rattle.usb_device.specs.HostState.{HostState, HostTicket, HostEndpoint, ClaimedInterface, HeldBy, Abandoned, Ended}
 use Rattle.usb_device.specs.HostBus.{end_at, ended_at}
 use Rattle.usb_device.specs.EndLaws.{KeepsEnds, EndsStay}
 use Rattle.usb_device.specs.Releases.{settled, owner_gone}
@@ -56,7 +56,7 @@ ends-push tickets x t end at = ap (option_and_then ended_at) (slice_get-append_l
 ended_as-ends : (h : HostState) (u : ℕ) (end : TicketEnd) (o : Option HostTicket) → slice_get h.tickets u ≡ o → KeepsEnds h (ended_as h u end o)
 unfolding settled
 ended_as-ends h u end None here = same h
-ended_as-ends h u end (Some (Held hold)) here = ends-set h.tickets u (Held hold) (Ended end) here refl
+ended_as-ends h u end (Some (HeldBy hold)) here = ends-set h.tickets u (HeldBy hold) (Ended end) here refl
 ended_as-ends h u end (Some (Abandoned key)) here = ends-set h.tickets u (Abandoned key) (Ended end) here refl
 ended_as-ends h u end (Some (Ended before)) here = same h
 
@@ -70,7 +70,7 @@ taken-ends h t = ended-ends h t Taken
 
 given_up-ends : (h : HostState) (u : ℕ) (o : Option HostTicket) → slice_get h.tickets u ≡ o → KeepsEnds h (given_up h u o)
 given_up-ends h u None here = same h
-given_up-ends h u (Some (Held hold)) here = ends-set h.tickets u (Held hold) (Abandoned hold.key) here refl
+given_up-ends h u (Some (HeldBy hold)) here = ends-set h.tickets u (HeldBy hold) (Abandoned hold.key) here refl
 given_up-ends h u (Some (Abandoned key)) here = same h
 given_up-ends h u (Some (Ended before)) here = same h
 
@@ -85,7 +85,7 @@ abandoned-ends h t = abandoned-by h t (is_some (completion h.kernel.past t))
 -- completions that come, steps and turns
 reclaimed-ends : (h : HostState) (t : ℕ) (o : Option HostTicket) → KeepsEnds h (reclaimed_if h t o)
 reclaimed-ends h t None = same h
-reclaimed-ends h t (Some (Held hold)) = same h
+reclaimed-ends h t (Some (HeldBy hold)) = same h
 reclaimed-ends h t (Some (Abandoned key)) = ended-ends h t Reclaimed
 reclaimed-ends h t (Some (Ended before)) = same h
 
@@ -124,7 +124,7 @@ rest-ends h = all_stepped-ends (record h { steps = [] }) h.steps
 -- calls of endpoints
 submitted-by : (h : HostState) (to : Route) (t : TransferData) (o : Option BufferState) → KeepsEnds h (submitted_with h to t o)
 submitted-by h to t None = same h
-submitted-by h to t (Some b) = ends-push h.tickets (Held (record { key = to.key; endpoint = t.endpoint; kind = t.kind }))
+submitted-by h to t (Some b) = ends-push h.tickets (HeldBy (record { key = to.key; endpoint = t.endpoint; kind = t.kind }))
 
 submitted-ends : (h : HostState) (to : Route) (t : TransferData) → KeepsEnds h (host_submitted h to t)
 unfolding host_submitted
@@ -132,7 +132,7 @@ submitted-ends h to t = submitted-by h to t (buffer_held t.held)
 
 refused-by : (h : HostState) (to : Route) (t : TransferData) (errno : ℕ) (o : Option BufferState) → KeepsEnds h (refused_with h to t errno o)
 refused-by h to t errno None = same h
-refused-by h to t errno (Some b) = ends-push h.tickets (Held (record { key = to.key; endpoint = t.endpoint; kind = t.kind }))
+refused-by h to t errno (Some b) = ends-push h.tickets (HeldBy (record { key = to.key; endpoint = t.endpoint; kind = t.kind }))
 
 refused-ends : (h : HostState) (to : Route) (t : TransferData) (errno : ℕ) → KeepsEnds h (host_refused h to t errno)
 unfolding host_refused

@@ -7,7 +7,8 @@ use Rattle.usb_endpoint.specs.Closes.{all_discarded, all_abandoned, after_close}
 use Rattle.usb_device.specs.HostState.{HostState}
 use Rattle.usb_device.specs.TicketEnds.{host_abandoned}
 use Rattle.usb_device.specs.HostCalls.{host_submitted, host_refused, host_discarded, host_left}
-use Rattle.usb_device.specs.HostFrames.{WentOn, KeepsLine, KeepsOpen}
+use Rattle.usb_device.specs.HostFrames.{HostGoesOn}
+use Rattle.usb_device.proofs.HostKeeps.{KeepsLine, KeepsOpen}
 use Rattle.usb_device.proofs.CallFrames.{keeps-open, keeps-submitted, keeps-refused, keeps-abandoned, line-left, interfaces-left}
 use Rattle.usb_device.proofs.HostFrames.{uses-discarded}
 use Rattle.usb_device.proofs.WaitFrames.{went-uses, went-nowhere, went-trans}
@@ -21,7 +22,7 @@ keeps-entered h e b =
     ]
 
 -- the discards of a queue
-pub went-all_discarded : (h : HostState) (ts : List ℕ) → WentOn h (all_discarded host_discarded h ts)
+pub went-all_discarded : (h : HostState) (ts : List ℕ) → HostGoesOn h (all_discarded host_discarded h ts)
 went-all_discarded h [] = went-nowhere h
 went-all_discarded h (t ∷ ts) =
     let mid = all_discarded host_discarded h ts in

@@ -21,10 +21,10 @@ use Rattle.usb_bus.specs.Completions.{transfer_completion}
 use Rattle.usb_bus.specs.Holds.{held_of}
 use Rattle.usb_bus.specs.Holds.{held_at_once}
 use Rattle.usb_device.specs.declared.opened.OpenDevice.{OpenDevice}
-use Rattle.usb_device.specs.declared.slot.Slot.{Slot}
-use Rattle.usb_device.specs.declared.slot.Slot.TheVariants as slot
+use Rattle.usb_device.specs.declared.slot.TicketState.{TicketState}
+use Rattle.usb_device.specs.declared.slot.TicketState.TheVariants as slot
 use Rattle.usb_device.specs.HostCalls.{host_submitted, host_refused}
-use Rattle.usb_device.specs.HostFacts.{Agree, host_made}
+use Rattle.usb_device.specs.HostFacts.{TicketsAgree, host_made}
 use Rattle.usb_device.specs.LedgerState.{LedgerState}
 use Rattle.usb_device.proofs.ListLemmas.{slice_get-push}
 use Rattle.usb_device.proofs.ArrivalLemmas.{Fits-same}
@@ -45,14 +45,14 @@ entered-held past s None =
 entered-held past s (Some errno) = rw (completion-refused past s (length (tickets past)) errno) refl
 
 -- there is a slot for the new ticket
-pub Agree-enter : (past : List Event) (slots : List Slot) (s : Submission) (refusal : Option ℕ) (key : ℕ) (transfer : TransferData) → Agree past slots → transfer.held ≡ held_at_once (queued_or_refused (length (tickets past)) s refusal)
-    → Agree (submit_or_refuse (length (tickets past)) s refusal ∷ past) (slots ++ slot.Held key transfer ∷ [])
-Agree-enter past slots s refusal key transfer agree held =
+pub TicketsAgree-enter : (past : List Event) (slots : List TicketState) (s : Submission) (refusal : Option ℕ) (key : ℕ) (transfer : TransferData) → TicketsAgree past slots → transfer.held ≡ held_at_once (queued_or_refused (length (tickets past)) s refusal)
+    → TicketsAgree (submit_or_refuse (length (tickets past)) s refusal ∷ past) (slots ++ slot.HeldBy key transfer ∷ [])
+TicketsAgree-enter past slots s refusal key transfer agree held =
     let next : List Event = submit_or_refuse (length (tickets past)) s refusal ∷ past in
     record {
-      count = length-append slots (slot.Held key transfer ∷ []) ∙ omega (arith, agree.count, entered-count past (length (tickets past)) s refusal);
+      count = length-append slots (slot.HeldBy key transfer ∷ []) ∙ omega (arith, agree.count, entered-count past (length (tickets past)) s refusal);
       each = λ t x here.
-          elim (slice_get-push slots (slot.Held key transfer) x t here) [
+          elim (slice_get-push slots (slot.HeldBy key transfer) x t here) [
             | inl w ↦ rw (w.1, w.0, agree.count) (held ∙ entered-held past s refusal)
             | inr w ↦
                 let within = slice_get_within slots t x w in
@@ -63,12 +63,12 @@ Agree-enter past slots s refusal key transfer agree held =
 -- the host then
 pub submitted-made : (k k' : KernelState) (devices : List OpenDevice) (l l' : LedgerState) (steps : List KernelStep) (to : Route) (t : TransferData) (b : BufferState) (held : HeldData) (room : ℕ) → buffer_held t.held ≡ Some b
     → k' ≡ record k { past = after_submit k.devices k.armed k.past (submission_of to b); armed = armed_after_submit k.devices k.armed (submission_of to b) }
-    → l' ≡ record l { slots = l.slots ++ slot.Held to.key (record t { held = held }) ∷ []; room = room } → host_made k' devices l' steps ≡ host_submitted (host_made k devices l steps) to t
+    → l' ≡ record l { slots = l.slots ++ slot.HeldBy to.key (record t { held = held }) ∷ []; room = room } → host_made k' devices l' steps ≡ host_submitted (host_made k devices l steps) to t
 unfolding host_submitted
 submitted-made k k' devices l l' steps to t b held room some kernel ledger = rw (some, kernel, ledger, map-append) refl
 
 pub refused-made : (k k' : KernelState) (devices : List OpenDevice) (l l' : LedgerState) (steps : List KernelStep) (to : Route) (t : TransferData) (errno : ℕ) (b : BufferState) (held : HeldData) (room : ℕ) → buffer_held t.held ≡ Some b
     → k' ≡ record k { past = after_refuse k.past (submission_of to b) errno }
-    → l' ≡ record l { slots = l.slots ++ slot.Held to.key (record t { held = held }) ∷ []; room = room } → host_made k' devices l' steps ≡ host_refused (host_made k devices l steps) to t errno
+    → l' ≡ record l { slots = l.slots ++ slot.HeldBy to.key (record t { held = held }) ∷ []; room = room } → host_made k' devices l' steps ≡ host_refused (host_made k devices l steps) to t errno
 unfolding host_refused
 refused-made k k' devices l l' steps to t errno b held room some kernel ledger = rw (some, kernel, ledger, map-append) refl

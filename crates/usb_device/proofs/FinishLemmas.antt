@@ -17,7 +17,7 @@ use Rattle.usb_kernel.proofs.Waiting.{finished-reapable, discard-finishes}
 use Rattle.usb_kernel.proofs.Places.{slice_get-set_same, slice_get-set_other}
 use Rattle.usb_bus.specs.BusState.{BusState}
 use Rattle.usb_device.specs.declared.ends.TicketEnd.TheVariants.{Reclaimed}
-use Rattle.usb_device.specs.HostState.{HostState, HostTicket, Hold, Held, Abandoned, Ended}
+use Rattle.usb_device.specs.HostState.{HostState, HostTicket, Hold, HeldBy, Abandoned, Ended}
 use Rattle.usb_device.specs.HostBus.{owner_at, end_at}
 use Rattle.usb_device.specs.HostTurns.{host_reaped}
 use Rattle.usb_device.specs.HostCalls.{host_discarded}
@@ -31,10 +31,10 @@ use Rattle.std.proofs.lemmas.List.{length-map}
 use Rattle.usb_kernel.specs.Value.{KernelState}
 use Rattle.usb_kernel.specs.declared.step.KernelStep.{KernelStep}
 use Rattle.usb_device.specs.declared.opened.OpenDevice.{OpenDevice}
-use Rattle.usb_device.specs.declared.slot.Slot.{Slot}
-use Rattle.usb_device.specs.declared.slot.Slot.TheVariants as slot
-use Rattle.usb_device.specs.HostFacts.{Agree, Fits, host_made}
-use Rattle.usb_device.specs.LedgerState.{LedgerState, ticket_of}
+use Rattle.usb_device.specs.declared.slot.TicketState.{TicketState}
+use Rattle.usb_device.specs.declared.slot.TicketState.TheVariants as slot
+use Rattle.usb_device.specs.HostFacts.{TicketsAgree, Fits, host_made}
+use Rattle.usb_device.specs.LedgerState.{LedgerState, host_ticket}
 
 pub some-of : {X : Type 0} (o : Option X) → IsSome o → (x : X) × (o ≡ Some x)
 some-of None is = absurd (cc)
@@ -148,7 +148,7 @@ came-waits g n was (Some done) count given new = by (slice_get g.tickets done.ti
     by : (o : Option HostTicket) → slice_get g.tickets done.ticket ≡ o
         → (length (reclaimed_if g done.ticket o).tickets ≡ n) × ((t key : ℕ) → slice_get (reclaimed_if g done.ticket o).tickets t ≡ Some (Abandoned key) → completion (reclaimed_if g done.ticket o).kernel.past t ≡ None)
     by None here = (count, none here)
-    by (Some (Held hold)) here = (count, stays (Held hold) here (λ key is. absurd (cc)))
+    by (Some (HeldBy hold)) here = (count, stays (HeldBy hold) here (λ key is. absurd (cc)))
     by (Some (Ended end)) here = (count, stays (Ended end) here (λ key is. absurd (cc)))
     by (Some (Abandoned k)) here =
         rw here (
@@ -179,9 +179,9 @@ reaped-wait h n zero w = w
 reaped-wait h n (suc k) w = reaped-waits (reaped_below h k) n k (reaped-wait h n k w)
 
 ended-of : (h : HostState) (n t : ℕ) (x : HostTicket) → Waits h n → IsSome (completion h.kernel.past t) → slice_get h.tickets t ≡ Some x → IsSome (end_at h.tickets t)
-ended-of h n t (Held hold) w some at = absurd (none-some hold.key (sym (w.free t) ∙ held-owner h.tickets t hold at))
+ended-of h n t (HeldBy hold) w some at = absurd (none-some hold.key (sym (w.free t) ∙ held-owner h.tickets t hold at))
   where
-    held-owner : (tickets : List HostTicket) (t : ℕ) (hold : Hold) → slice_get tickets t ≡ Some (Held hold) → owner_at tickets t ≡ Some hold.key
+    held-owner : (tickets : List HostTicket) (t : ℕ) (hold : Hold) → slice_get tickets t ≡ Some (HeldBy hold) → owner_at tickets t ≡ Some hold.key
     held-owner tickets t hold at = rw at refl
 ended-of h n t (Abandoned key) w some at = absurd (let e = ap is_some (w.given_up t key at) in cc)
 ended-of h n t (Ended end) w some at = rw at refl
@@ -210,21 +210,21 @@ finished-reaped h t below =
     reaped-completed g n t all (omega (arith, count)) (omega (arith, count, reaped-count g n))
 
 -- the slots of a host say so
-pub matched-waits : (k : KernelState) (devices : List OpenDevice) (l : LedgerState) (steps : List KernelStep) → Agree k.past l.slots → ((t : ℕ) → owner_at (host_made k devices l steps).tickets t ≡ None) → Waits (host_made k devices l steps) (length (tickets k.past))
+pub matched-waits : (k : KernelState) (devices : List OpenDevice) (l : LedgerState) (steps : List KernelStep) → TicketsAgree k.past l.slots → ((t : ℕ) → owner_at (host_made k devices l steps).tickets t ≡ None) → Waits (host_made k devices l steps) (length (tickets k.past))
 matched-waits k devices l steps agree free =
     record {
-      count = length-map l.slots ticket_of ∙ agree.count;
+      count = length-map l.slots host_ticket ∙ agree.count;
       free = free;
       given_up = λ t key at. abandoned-open k.past l.slots agree t key at;
     }
   where
-    fits-open : (past : List Event) (t key : ℕ) (s : Slot) → ticket_of s ≡ Abandoned key → Fits past t s → completion past t ≡ None
-    fits-open past t key (slot.Held j transfer) is fits = absurd (cc)
+    fits-open : (past : List Event) (t key : ℕ) (s : TicketState) → host_ticket s ≡ Abandoned key → Fits past t s → completion past t ≡ None
+    fits-open past t key (slot.HeldBy j transfer) is fits = absurd (cc)
     fits-open past t key (slot.Abandoned j) is fits = fits
     fits-open past t key (slot.Ended end) is fits = absurd (cc)
 
-    abandoned-open : (past : List Event) (slots : List Slot) → Agree past slots → (t key : ℕ) → slice_get (map ticket_of slots) t ≡ Some (Abandoned key) → completion past t ≡ None
+    abandoned-open : (past : List Event) (slots : List TicketState) → TicketsAgree past slots → (t key : ℕ) → slice_get (map host_ticket slots) t ≡ Some (Abandoned key) → completion past t ≡ None
     abandoned-open past slots agree t key at =
-        let within : t < length slots = omega (arith, slice_get_within (map ticket_of slots) t (Abandoned key) at, length-map slots ticket_of) in
+        let within : t < length slots = omega (arith, slice_get_within (map host_ticket slots) t (Abandoned key) at, length-map slots host_ticket) in
         let s = some-at slots t within in
-        fits-open past t key s.0 (same_Some (ticket_of s.0) (Abandoned key) (sym (ticket-at slots t s.0 s.1) ∙ at)) (agree.each t s.0 s.1)
+        fits-open past t key s.0 (same_Some (host_ticket s.0) (Abandoned key) (sym (ticket-at slots t s.0 s.1) ∙ at)) (agree.each t s.0 s.1)

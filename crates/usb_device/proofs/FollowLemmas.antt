@@ -22,7 +22,7 @@ use Rattle.usb_endpoint.specs.Submits.{is_valid, transfer_by, entered}
 use Rattle.usb_endpoint.specs.Closes.{all_discarded}
 use Rattle.usb_device.specs.declared.ends.TicketEnd.TheVariants.{Taken, Dropped, Reclaimed}
 use Rattle.usb_device.specs.declared.opened.OpenDevice.{OpenDevice}
-use Rattle.usb_device.specs.HostState.{HostState, HostTicket, HostEndpoint, ClaimedInterface, Hold, Held, Abandoned, Ended}
+use Rattle.usb_device.specs.HostState.{HostState, HostTicket, HostEndpoint, ClaimedInterface, Hold, HeldBy, Abandoned, Ended}
 use Rattle.usb_device.specs.Releases.{settled, owner_gone}
 use Rattle.usb_device.specs.TicketEnds.{host_ended, host_taken, host_abandoned, reclaimed_if, came}
 use Rattle.usb_device.specs.HostTurns.{host_stepped, host_reaped, all_stepped, host_rest}
@@ -39,7 +39,7 @@ use Rattle.usb_device.proofs.HostFrames.{uses-stepped, uses-reaped, uses-discard
 -- a ticket that is held or has its end stays so; one that was given up may be reclaimed
 abbrev pub Follows : Option HostTicket → Option HostTicket → Type 0
 Follows None now = Unit {0}
-Follows (Some (Held hold)) now = now ≡ Some (Held hold)
+Follows (Some (HeldBy hold)) now = now ≡ Some (HeldBy hold)
 Follows (Some (Abandoned key)) now = (now ≡ Some (Abandoned key)) ⊎ (now ≡ Some (Ended Reclaimed))
 Follows (Some (Ended end)) now = now ≡ Some (Ended end)
 
@@ -50,19 +50,19 @@ pub record KeepsTickets (old new : HostState) : Type 0 where
 
 follows-same : (o : Option HostTicket) → Follows o o
 follows-same None = tt
-follows-same (Some (Held hold)) = refl
+follows-same (Some (HeldBy hold)) = refl
 follows-same (Some (Abandoned key)) = inl refl
 follows-same (Some (Ended end)) = refl
 
 follows-is : (o now : Option HostTicket) → now ≡ o → Follows o now
 follows-is None now is = tt
-follows-is (Some (Held hold)) now is = is
+follows-is (Some (HeldBy hold)) now is = is
 follows-is (Some (Abandoned key)) now is = inl is
 follows-is (Some (Ended end)) now is = is
 
 follows-then : (a b c : Option HostTicket) → Follows a b → Follows b c → Follows a c
 follows-then None b c first second = tt
-follows-then (Some (Held hold)) b c first second = rw first at second
+follows-then (Some (HeldBy hold)) b c first second = rw first at second
 follows-then (Some (Ended end)) b c first second = rw first at second
 follows-then (Some (Abandoned key)) b c first second = elim first [ inl still ↦ rw still at second | inr gone ↦ inr (rw gone at second) ]
 
@@ -100,7 +100,7 @@ reclaims ts u key t at =
 reclaimed-follows : (h : HostState) (u t : ℕ) (o : Option HostTicket) → slice_get h.tickets u ≡ o → Follows (slice_get h.tickets t) (slice_get (reclaimed_if h u o).tickets t)
 unfolding host_ended settled
 reclaimed-follows h u t None at = follows-same (slice_get h.tickets t)
-reclaimed-follows h u t (Some (Held hold)) at = follows-same (slice_get h.tickets t)
+reclaimed-follows h u t (Some (HeldBy hold)) at = follows-same (slice_get h.tickets t)
 reclaimed-follows h u t (Some (Abandoned key)) at = rw at (reclaims h.tickets u key t at)
 reclaimed-follows h u t (Some (Ended end)) at = follows-same (slice_get h.tickets t)
 
@@ -243,7 +243,7 @@ follows-push ts x t (Some y) at = follows-is (Some y) (slice_get (ts ++ x ∷ []
 pub record Adds (old new : HostState) : Type 0 where
   pub goes : KeepsTickets old new
   pub hold : Hold
-  pub last : slice_get new.tickets (length old.tickets) ≡ Some (Held hold)
+  pub last : slice_get new.tickets (length old.tickets) ≡ Some (HeldBy hold)
 
 submit_event-on : (past : List Event) (t : ℕ) (s : Submission) (o : Option ℕ) → Extends past (submit_or_refuse t s o ∷ past)
 submit_event-on past t s o = extends-event past (submit_or_refuse t s o)
@@ -286,19 +286,19 @@ pub taken-others : (h : HostState) (t u : ℕ) → u ≢ t → slice_get (host_t
 unfolding host_taken host_ended
 taken-others h t u apart = ended-others h t u Taken (slice_get h.tickets t) apart
 
-pub taken-here : (h : HostState) (t : ℕ) (hold : Hold) → slice_get h.tickets t ≡ Some (Held hold) → slice_get (host_taken h t).tickets t ≡ Some (Ended Taken)
+pub taken-here : (h : HostState) (t : ℕ) (hold : Hold) → slice_get h.tickets t ≡ Some (HeldBy hold) → slice_get (host_taken h t).tickets t ≡ Some (Ended Taken)
 unfolding host_taken host_ended settled
-taken-here h t hold at = rw at (by_set h.tickets t (Held hold) (Ended Taken) at)
+taken-here h t hold at = rw at (by_set h.tickets t (HeldBy hold) (Ended Taken) at)
 
 -- a ticket is given up: it is dropped where it is reaped
 pub data GivenUp (past : List Event) (t : ℕ) (o : Option HostTicket) : Type 0 where
   dropped : is_some (completion past t) ≡ true → o ≡ Some (Ended Dropped) → GivenUp past t o
   waits : (key : ℕ) → is_some (completion past t) ≡ false → o ≡ Some (Abandoned key) → GivenUp past t o
 
-pub abandoned-here : (h : HostState) (t : ℕ) (hold : Hold) → slice_get h.tickets t ≡ Some (Held hold) → GivenUp h.kernel.past t (slice_get (host_abandoned h t).tickets t)
+pub abandoned-here : (h : HostState) (t : ℕ) (hold : Hold) → slice_get h.tickets t ≡ Some (HeldBy hold) → GivenUp h.kernel.past t (slice_get (host_abandoned h t).tickets t)
 unfolding host_abandoned host_ended settled
 abandoned-here h t hold at =
     elim (cases_Bool (is_some (completion h.kernel.past t))) [
-      | inl reaped ↦ rw (reaped, at) (dropped reaped (by_set h.tickets t (Held hold) (Ended Dropped) at))
-      | inr open_ ↦ rw (open_, at) (waits hold.key open_ (by_set h.tickets t (Held hold) (Abandoned hold.key) at))
+      | inl reaped ↦ rw (reaped, at) (dropped reaped (by_set h.tickets t (HeldBy hold) (Ended Dropped) at))
+      | inr open_ ↦ rw (open_, at) (waits hold.key open_ (by_set h.tickets t (HeldBy hold) (Abandoned hold.key) at))
     ]

@@ -1,5 +1,5 @@
 -- The keys of what is opened last.
-use Rattle.std.proofs.Common.{ℕ, zero, suc, arith, ◌≡◌, ◌<◌, ◌+◌, true, false, List, [], ◌∷◌, ◌++◌, length, length-append, slice_get, Result, Ok, Some, refl, ◌∙◌, ap}
+use Rattle.std.proofs.Common.{ℕ, zero, suc, arith, ◌≡◌, ◌<◌, ◌+◌, true, false, List, [], ◌∷◌, length, length-append, Result, Ok, ◌∙◌, ap}
 use Rattle.std.proofs.lemmas.Option.{slice_get_within}
 use Rattle.usb_error.specs.ErrorState.{ErrorState}
 use Rattle.usb_endpoint.specs.EndpointState.{EndpointState}
@@ -9,10 +9,6 @@ use Rattle.usb_device.specs.HostState.{HostState, HostEndpoint}
 use Rattle.usb_device.specs.HostBus.{key_at, bus_of}
 use Rattle.usb_device.specs.Opens.{open_tried, opened_by, host_opened}
 use Rattle.usb_device.specs.HandleStates.{InterfaceState, StandsInterface}
-
-get-last : {A : Type 0} (xs : List A) (x : A) → slice_get (xs ++ x ∷ []) (length xs) ≡ Some x
-get-last [] x = refl
-get-last (y ∷ ys) x = get-last ys x
 
 -- an open device has the next key
 pub opened-more : (h : HostState) (bus address : ℕ) (o : OpenDevice) → open_tried h.kernel.devices bus address ≡ Ok o → length (host_opened h bus address).devices ≡ length h.devices + 1
@@ -33,7 +29,3 @@ key-within (e ∷ es) (suc k) is = let below : k < length es = key-within es k i
 
 pub endpoint-within : (h : HostState) (e : EndpointState) → Stands (bus_of h) e → e.key < length h.endpoints
 endpoint-within h e stands = key-within h.endpoints e.key stands.key_is_open
-
-key-last : (es : List HostEndpoint) (e : HostEndpoint) → e.is_open ≡ true → key_at (es ++ e ∷ []) (length es) ≡ true
-key-last [] e is = is
-key-last (x ∷ xs) e is = key-last xs e is

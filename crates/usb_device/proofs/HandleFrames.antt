@@ -11,11 +11,11 @@ use Rattle.usb_device.specs.HostBus.{bus_of}
 use Rattle.usb_device.specs.HostTurns.{host_turned}
 use Rattle.usb_device.specs.HostCalls.{host_submitted, host_refused, host_discarded, host_left}
 use Rattle.usb_device.specs.TicketEnds.{host_abandoned}
-use Rattle.usb_device.specs.HandleStates.{InterfaceState, StandsDevice, StandsInterface}
+use Rattle.usb_device.specs.HandleStates.{InterfaceState, StandsInterface}
 use Rattle.usb_device.specs.InterfaceClaims.{host_claimed}
 use Rattle.usb_device.proofs.WaitFrames.{went-turned}
 use Rattle.usb_device.proofs.EndpointCalls.{keeps-entered, interfaces-closed, line-closed}
-use Rattle.usb_device.proofs.InterfaceFrames.{StandsInterface-same, bus-claimed, line-claimed}
+use Rattle.usb_device.proofs.InterfaceFrames.{StandsInterface-same, bus-claimed}
 
 -- a handle stands while the interfaces and the devices stay
 stands-stays : (h g : HostState) (i : InterfaceState) → g.interfaces ≡ h.interfaces → g.devices ≡ h.devices → StandsInterface h i → StandsInterface g i
@@ -43,15 +43,7 @@ stands-closed h g e i is stands =
     subst (λ (x : HostState). StandsInterface x i) (sym is)
     (stands-stays h (after_close host_discarded host_abandoned host_left h e) i (interfaces-closed h e) (line-closed h e).devices stands)
 
--- a handle of a device stands over a claim, also one in vain
-pub device-claimed : {A B : Type 0} (h g : HostState) (key number d : ℕ) (r : Result A B) → OnOk r (g ≡ host_claimed h key number) → OnErr r (g ≡ h) → StandsDevice h d → StandsDevice g d
-device-claimed h g key number d (Ok x) ok err stands =
-    let same : length (host_claimed h key number).devices ≡ length h.devices = ap (λ (ds : List OpenDevice). length ds) (line-claimed h key number).devices in
-    let claimed : StandsDevice (host_claimed h key number) d = omega (arith, same, stands) in
-    subst (λ (x : HostState). StandsDevice x d) (sym ok) claimed
-device-claimed h g key number d (Err x) ok err stands = subst (λ (x : HostState). StandsDevice x d) (sym err) stands
-
--- and the bus stays
+-- over a claim, also one in vain, the bus stays
 pub bus-claim : {A B : Type 0} (h g : HostState) (key number : ℕ) (r : Result A B) → OnOk r (g ≡ host_claimed h key number) → OnErr r (g ≡ h) → bus_of g ≡ bus_of h
 bus-claim h g key number (Ok x) ok err = ap bus_of ok ∙ bus-claimed h key number
 bus-claim h g key number (Err x) ok err = ap bus_of err

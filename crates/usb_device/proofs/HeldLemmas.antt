@@ -5,16 +5,16 @@ use Rattle.std.proofs.lemmas.Bool.{cases_eq, eq-eqb, cond_both}
 use Rattle.std.proofs.lemmas.Option.{none-some, same_Some}
 use Rattle.usb_xfer.specs.BufferState.{BufferState}
 use Rattle.usb_bus.specs.declared.route.Route.{Route}
-use Rattle.usb_bus.specs.BusState.{BusState, without}
+use Rattle.usb_bus.specs.BusState.{BusState, without_owner}
 use Rattle.usb_endpoint.specs.EndpointState.{EndpointState, route_of}
 use Rattle.usb_endpoint.specs.Submits.{is_valid, transfer_by, entered}
 use Rattle.usb_endpoint.specs.Closes.{all_discarded, all_abandoned, after_close}
-use Rattle.usb_endpoint.proofs.HandleLemmas.{without-other}
-use Rattle.usb_device.specs.HostState.{HostState, HostTicket, Hold, Held}
+use Rattle.usb_endpoint.proofs.HandleLemmas.{without_owner-other}
+use Rattle.usb_device.specs.HostState.{HostState, HostTicket, Hold, HeldBy}
 use Rattle.usb_device.specs.HostBus.{owner_at, bus_of}
 use Rattle.usb_device.specs.TicketEnds.{host_taken, host_abandoned}
 use Rattle.usb_device.specs.HostCalls.{host_submitted, host_refused, host_discarded, host_left}
-use Rattle.usb_device.specs.HostFrames.{WentOn}
+use Rattle.usb_device.specs.HostFrames.{HostGoesOn}
 use Rattle.usb_device.proofs.CallFrames.{bus-taken, bus-abandoned, bus-left}
 use Rattle.usb_device.proofs.EndpointCalls.{went-all_discarded}
 
@@ -25,22 +25,22 @@ HoldsNoMore old new = (t k : ℕ) → owner_at new.tickets t ≡ Some k → owne
 pub holds-bus : (old new : HostState) → bus_of new ≡ bus_of old → HoldsNoMore old new
 holds-bus old new same t k own = sym (ap (λ (b : BusState). b.owner t) same) ∙ own
 
-pub holds-went : (old new : HostState) → WentOn old new → HoldsNoMore old new
+pub holds-went : (old new : HostState) → HostGoesOn old new → HoldsNoMore old new
 holds-went old new went t k own = sym (ap (λ (owner : ℕ → Option ℕ). owner t) went.later.owner) ∙ own
 
 -- a ticket that was taken or given up is held no more
-without-some : (owner : ℕ → Option ℕ) (t u k : ℕ) → without owner t u ≡ Some k → (u ≢ t) × (owner u ≡ Some k)
-without-some owner t u k own =
+without_owner-some : (owner : ℕ → Option ℕ) (t u k : ℕ) → without_owner owner t u ≡ Some k → (u ≢ t) × (owner u ≡ Some k)
+without_owner-some owner t u k own =
     elim (cases_eq t u) [
-      | inl same ↦ let gone : without owner t u ≡ None = rw (eq-eqb t u same) refl in absurd (none-some k (sym gone ∙ own))
-      | inr apart ↦ (λ same. apart (sym same), sym (without-other owner t u apart) ∙ own)
+      | inl same ↦ let gone : without_owner owner t u ≡ None = rw (eq-eqb t u same) refl in absurd (none-some k (sym gone ∙ own))
+      | inr apart ↦ (λ same. apart (sym same), sym (without_owner-other owner t u apart) ∙ own)
     ]
 
 pub taken-held : (h : HostState) (t u k : ℕ) → owner_at (host_taken h t).tickets u ≡ Some k → (u ≢ t) × (owner_at h.tickets u ≡ Some k)
-taken-held h t u k own = without-some (owner_at h.tickets) t u k (sym (ap (λ (b : BusState). b.owner u) (bus-taken h t)) ∙ own)
+taken-held h t u k own = without_owner-some (owner_at h.tickets) t u k (sym (ap (λ (b : BusState). b.owner u) (bus-taken h t)) ∙ own)
 
 abandoned-held : (h : HostState) (t u k : ℕ) → owner_at (host_abandoned h t).tickets u ≡ Some k → (u ≢ t) × (owner_at h.tickets u ≡ Some k)
-abandoned-held h t u k own = without-some (owner_at h.tickets) t u k (sym (ap (λ (b : BusState). b.owner u) (bus-abandoned h t)) ∙ own)
+abandoned-held h t u k own = without_owner-some (owner_at h.tickets) t u k (sym (ap (λ (b : BusState). b.owner u) (bus-abandoned h t)) ∙ own)
 
 -- an element of a list that is not its first
 pub Contains-behind : {X : Type 0} (x : X) (xs : List X) (y : X) → x ≢ y → Contains (x ∷ xs) y → Contains xs y
@@ -66,7 +66,7 @@ closed-held h e u k own =
     (holds-went h first (went-all_discarded h e.pending) u k given_up.0, given_up.1)
 
 -- a ticket that is new is held by the endpoint that submitted it
-owner-last : (ts : List HostTicket) (hold : Hold) (t k : ℕ) → owner_at (ts ++ Held hold ∷ []) t ≡ Some k → ((t ≡ length ts) × (k ≡ hold.key)) ⊎ (owner_at ts t ≡ Some k)
+owner-last : (ts : List HostTicket) (hold : Hold) (t k : ℕ) → owner_at (ts ++ HeldBy hold ∷ []) t ≡ Some k → ((t ≡ length ts) × (k ≡ hold.key)) ⊎ (owner_at ts t ≡ Some k)
 owner-last [] hold zero k own = inl (refl, sym (same_Some hold.key k own))
 owner-last [] hold (suc t) k own = absurd (none-some k own)
 owner-last (x ∷ xs) hold zero k own = inr own

@@ -13,7 +13,7 @@ use Rattle.usb_device.specs.HostTurns.{host_stepped, host_reaped, host_turned, h
 use Rattle.usb_device.specs.HostCalls.{host_discarded}
 use Rattle.usb_device.specs.HostWaits.{is_found, is_late, wait_reaps, wait_steps, host_waited}
 use Rattle.usb_device.specs.HostBlocking.{or_then, waited_by_seconds, host_blocked}
-use Rattle.usb_device.specs.HostFrames.{WentOn}
+use Rattle.usb_device.specs.HostFrames.{HostGoesOn}
 use Rattle.usb_device.specs.WaitLaws.{BlockingIsBySteps}
 use Rattle.usb_device.proofs.HostFrames.{uses-reaped, uses-stepped, uses-discarded}
 use Rattle.usb_device.proofs.WaitFrames.{went-steps}
@@ -78,7 +78,7 @@ module _ (t timeout start : ℕ) (some : 0 < timeout) where
     where
       step-fewer : (more : List KernelStep) (g y : HostState) → g.steps ≡ more → wait_steps more g t timeout start ≡ (false, y) → length y.steps < suc (length more)
       step-fewer more g y line rest =
-          let went : WentOn g (wait_steps more g t timeout start).1 = went-steps t timeout start more g line in
+          let went : HostGoesOn g (wait_steps more g t timeout start).1 = went-steps t timeout start more g line in
           let last : (wait_steps more g t timeout start).1.steps ≡ y.steps = ap (λ (p : Bool × HostState). p.1.steps) rest in
           let all : length more ≡ length went.line.front + length y.steps = ap (λ (ss : List KernelStep). length ss) (sym line ∙ (went.line.steps ∙ ap (λ (ss : List KernelStep). went.line.front ++ ss) last)) ∙ length-append went.line.front y.steps in
           omega (arith, all)

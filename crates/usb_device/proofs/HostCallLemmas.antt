@@ -23,13 +23,13 @@ use Rattle.usb_device.specs.declared.ends.TicketEnd.{TicketEnd}
 use Rattle.usb_device.specs.declared.ends.TicketEnd.TheVariants.{Dropped}
 use Rattle.usb_device.specs.declared.opened.OpenDevice.{OpenDevice}
 use Rattle.usb_device.specs.declared.owners.EndedClaim.{EndedClaim}
-use Rattle.usb_device.specs.declared.slot.Slot.{Slot}
-use Rattle.usb_device.specs.declared.slot.Slot.TheVariants as slot
-use Rattle.usb_device.specs.HostState.{HostState, HostTicket, HostEndpoint, Hold, Held, Abandoned, Ended}
+use Rattle.usb_device.specs.declared.slot.TicketState.{TicketState}
+use Rattle.usb_device.specs.declared.slot.TicketState.TheVariants as slot
+use Rattle.usb_device.specs.HostState.{HostState, HostTicket, HostEndpoint, Hold, HeldBy, Abandoned, Ended}
 use Rattle.usb_device.specs.HostBus.{hold_at, held_as, host_value, key_at}
-use Rattle.usb_device.specs.HostFacts.{Agree, host_made}
+use Rattle.usb_device.specs.HostFacts.{TicketsAgree, host_made}
 use Rattle.usb_device.specs.HostCalls.{host_left}
-use Rattle.usb_device.specs.LedgerState.{LedgerState, ticket_of, slot_data, is_complete, ended_with}
+use Rattle.usb_device.specs.LedgerState.{LedgerState, host_ticket, slot_data, is_complete, ended_with}
 use Rattle.usb_device.specs.Releases.{without_ended, settled, claim_of}
 use Rattle.usb_device.specs.HostTurns.{host_turned, host_turn, turned_of, reaped_of, turn_for, host_stepped, host_rest, all_stepped}
 use Rattle.usb_device.specs.TicketEnds.{host_ended, host_abandoned, reclaimed_if, came}
@@ -37,20 +37,20 @@ use Rattle.usb_device.proofs.ListLemmas.{slice_get-set}
 use Rattle.usb_device.proofs.LedgerLemmas.{ticket-at}
 
 -- the slot of a ticket that an endpoint holds
-pub record HeldSlot (slots : List Slot) (t : ℕ) : Type 0 where
+pub record HeldSlot (slots : List TicketState) (t : ℕ) : Type 0 where
   pub key : ℕ
   pub transfer : TransferData
-  pub at : slice_get slots t ≡ Some (slot.Held key transfer)
+  pub at : slice_get slots t ≡ Some (slot.HeldBy key transfer)
 
-pub held-slot : (slots : List Slot) (t : ℕ) → IsSome (hold_at (map ticket_of slots) t) → HeldSlot slots t
+pub held-slot : (slots : List TicketState) (t : ℕ) → IsSome (hold_at (map host_ticket slots) t) → HeldSlot slots t
 held-slot [] t some = absurd (cc)
-held-slot (slot.Held key transfer ∷ ss) zero some = record { key = key; transfer = transfer; at = refl }
+held-slot (slot.HeldBy key transfer ∷ ss) zero some = record { key = key; transfer = transfer; at = refl }
 held-slot (slot.Abandoned key ∷ ss) zero some = absurd (cc)
 held-slot (slot.Ended end ∷ ss) zero some = absurd (cc)
 held-slot (s ∷ ss) (suc t) some = let w = held-slot ss t some in record { key = w.key; transfer = w.transfer; at = w.at }
 
-pub held-within : (slots : List Slot) (t : ℕ) → IsSome (hold_at (map ticket_of slots) t) → t < length slots
-held-within slots t some = let w = held-slot slots t some in slice_get_within slots t (slot.Held w.key w.transfer) w.at
+pub held-within : (slots : List TicketState) (t : ℕ) → IsSome (hold_at (map host_ticket slots) t) → t < length slots
+held-within slots t some = let w = held-slot slots t some in slice_get_within slots t (slot.HeldBy w.key w.transfer) w.at
 
 some-held : (o : Option Completion) → is_some (completion_held (held_of o)) ≡ is_some o
 some-held None = refl
@@ -61,21 +61,21 @@ some-transfer None = refl
 some-transfer (Some done) = refl
 
 -- whether it is reaped
-pub come-reaped : (past : List Event) (slots : List Slot) (t : ℕ) (w : HeldSlot slots t) → Agree past slots → is_complete (slot.Held w.key w.transfer) ≡ is_some (completion past t)
+pub come-reaped : (past : List Event) (slots : List TicketState) (t : ℕ) (w : HeldSlot slots t) → TicketsAgree past slots → is_complete (slot.HeldBy w.key w.transfer) ≡ is_some (completion past t)
 unfolding transfer_completion
 come-reaped past slots t w agree =
-    let fits : w.transfer.held ≡ held_of (transfer_completion past t) = agree.each t (slot.Held w.key w.transfer) w.at in
+    let fits : w.transfer.held ≡ held_of (transfer_completion past t) = agree.each t (slot.HeldBy w.key w.transfer) w.at in
     ap (λ h. is_some (completion_held h)) fits ∙ some-held (transfer_completion past t) ∙ some-transfer (completion past t)
 
 value-some : (hold : Hold) (o : Option Completion) → is_some (option_map (transfer_with hold) o) ≡ is_some o
 value-some hold None = refl
 value-some hold (Some c) = refl
 
-pub hold-of : (slots : List Slot) (t : ℕ) (w : HeldSlot slots t) → hold_at (map ticket_of slots) t ≡ Some (record { key = w.key; endpoint = w.transfer.endpoint; kind = w.transfer.kind })
-hold-of slots t w = ap (option_and_then held_as) (ticket-at slots t (slot.Held w.key w.transfer) w.at)
+pub hold-of : (slots : List TicketState) (t : ℕ) (w : HeldSlot slots t) → hold_at (map host_ticket slots) t ≡ Some (record { key = w.key; endpoint = w.transfer.endpoint; kind = w.transfer.kind })
+hold-of slots t w = ap (option_and_then held_as) (ticket-at slots t (slot.HeldBy w.key w.transfer) w.at)
 
-pub come-value : (k : KernelState) (devices : List OpenDevice) (l : LedgerState) (steps : List KernelStep) (t : ℕ) (w : HeldSlot l.slots t) → Agree k.past l.slots
-    → is_complete (slot.Held w.key w.transfer) ≡ is_some (host_value (host_made k devices l steps) t)
+pub come-value : (k : KernelState) (devices : List OpenDevice) (l : LedgerState) (steps : List KernelStep) (t : ℕ) (w : HeldSlot l.slots t) → TicketsAgree k.past l.slots
+    → is_complete (slot.HeldBy w.key w.transfer) ≡ is_some (host_value (host_made k devices l steps) t)
 unfolding transfer_completion
 come-value k devices l steps t w agree =
     let hold : Hold = record { key = w.key; endpoint = w.transfer.endpoint; kind = w.transfer.kind } in
@@ -87,31 +87,31 @@ value-at : (transfer : TransferData) (key : ℕ) (o : Option Completion) → tra
 value-at transfer key None held some = absurd (cc)
 value-at transfer key (Some c) held some = ap (λ (h : HeldData). Some (record transfer { held = h })) held
 
-pub value-slot : (k : KernelState) (devices : List OpenDevice) (l : LedgerState) (steps : List KernelStep) (t : ℕ) (w : HeldSlot l.slots t) → Agree k.past l.slots → IsSome (host_value (host_made k devices l steps) t)
-    → slot_data (slot.Held w.key w.transfer) ≡ host_value (host_made k devices l steps) t
+pub value-slot : (k : KernelState) (devices : List OpenDevice) (l : LedgerState) (steps : List KernelStep) (t : ℕ) (w : HeldSlot l.slots t) → TicketsAgree k.past l.slots → IsSome (host_value (host_made k devices l steps) t)
+    → slot_data (slot.HeldBy w.key w.transfer) ≡ host_value (host_made k devices l steps) t
 value-slot k devices l steps t w agree some =
-    let fits : w.transfer.held ≡ held_of (transfer_completion k.past t) = agree.each t (slot.Held w.key w.transfer) w.at in
+    let fits : w.transfer.held ≡ held_of (transfer_completion k.past t) = agree.each t (slot.HeldBy w.key w.transfer) w.at in
     let here = ap (option_and_then (λ (hold : Hold). option_map (transfer_with hold) (transfer_completion k.past t))) (hold-of l.slots t w) in
     value-at w.transfer w.key (transfer_completion k.past t) fits (rw here at some) ∙ sym here
 
 -- a ticket ends
 module _ (k : KernelState) (devices : List OpenDevice) (l : LedgerState) (steps : List KernelStep) (t : ℕ) (w : HeldSlot l.slots t) where
-  ended-made : (end : TicketEnd) → host_ended (host_made k devices l steps) t end ≡ settled (record (host_made k devices l steps) { tickets = set (map ticket_of l.slots) t (Ended end) }) w.key
+  ended-made : (end : TicketEnd) → host_ended (host_made k devices l steps) t end ≡ settled (record (host_made k devices l steps) { tickets = set (map host_ticket l.slots) t (Ended end) }) w.key
   unfolding host_ended
-  ended-made end = rw (ticket-at l.slots t (slot.Held w.key w.transfer) w.at) refl
+  ended-made end = rw (ticket-at l.slots t (slot.HeldBy w.key w.transfer) w.at) refl
 
   pub ended-slot : (end : TicketEnd) (l' : LedgerState) (ended : Option EndedClaim) (k' : KernelState) → l' ≡ record l { slots = set l.slots t (slot.Ended end) } → ended ≡ ended_with l' (Some w.key) → k' ≡ record k { devices = without_ended k.devices ended }
       → host_made k' devices l' steps ≡ host_ended (host_made k devices l steps) t end
   unfolding settled
-  ended-slot end l' ended k' is claim kernel = rw (ended-made end, kernel, claim, is, map-set ticket_of l.slots t (slot.Ended end)) refl
+  ended-slot end l' ended k' is claim kernel = rw (ended-made end, kernel, claim, is, map-set host_ticket l.slots t (slot.Ended end)) refl
 
   -- it is given up
   pub abandoned-slot : (l' : LedgerState) → is_some (completion k.past t) ≡ false → l' ≡ record l { slots = set l.slots t (slot.Abandoned w.key) } → host_made k devices l' steps ≡ host_abandoned (host_made k devices l steps) t
   unfolding host_abandoned
-  abandoned-slot l' open_ is = rw (open_, ticket-at l.slots t (slot.Held w.key w.transfer) w.at, is, map-set ticket_of l.slots t (slot.Abandoned w.key)) refl
+  abandoned-slot l' open_ is = rw (open_, ticket-at l.slots t (slot.HeldBy w.key w.transfer) w.at, is, map-set host_ticket l.slots t (slot.Abandoned w.key)) refl
 
-pub Agree-abandon : (past : List Event) (slots : List Slot) (t key : ℕ) → Agree past slots → completion past t ≡ None → Agree past (set slots t (slot.Abandoned key))
-Agree-abandon past slots t key agree none =
+pub TicketsAgree-abandon : (past : List Event) (slots : List TicketState) (t key : ℕ) → TicketsAgree past slots → completion past t ≡ None → TicketsAgree past (set slots t (slot.Abandoned key))
+TicketsAgree-abandon past slots t key agree none =
     record {
       count = length-set slots t (slot.Abandoned key) ∙ agree.count;
       each = λ u x here. elim (slice_get-set slots t u (slot.Abandoned key) x here) [ inl w ↦ rw (w.1, w.0) none | inr w ↦ agree.each u x w.1 ];
@@ -134,7 +134,7 @@ open-at (e ∷ es) (suc k) open_ = let w = open-at es k open_ in record { e = w.
 
 -- it is left
 pub left-made : (k : KernelState) (devices : List OpenDevice) (l : LedgerState) (steps : List KernelStep) (key : ℕ) (w : OpenEndpoint l.endpoints key) (l' : LedgerState) (ended : Option EndedClaim) (k' : KernelState)
-    → l' ≡ record l { endpoints = set l.endpoints key (record w.e { is_open = false }) } → ended ≡ claim_of l'.interfaces (map ticket_of l'.slots) l'.endpoints key → k' ≡ record k { devices = without_ended k.devices ended } → host_made k' devices l' steps ≡ host_left (host_made k devices l steps) key
+    → l' ≡ record l { endpoints = set l.endpoints key (record w.e { is_open = false }) } → ended ≡ claim_of l'.interfaces (map host_ticket l'.slots) l'.endpoints key → k' ≡ record k { devices = without_ended k.devices ended } → host_made k' devices l' steps ≡ host_left (host_made k devices l steps) key
 unfolding host_left settled
 left-made k devices l steps key w l' ended k' is claim kernel = rw (w.at, kernel, claim, is) refl
 
@@ -163,14 +163,14 @@ turn-none h o nil is = ap (turn_for h.kernel.past) nil ∙ ap reap_turn is
 reclaimed-steps : (h : HostState) (t : ℕ) (o : Option HostTicket) (ss : List KernelStep) → slice_get h.tickets t ≡ o → record (reclaimed_if h t o) { steps = ss } ≡ reclaimed_if (record h { steps = ss }) t o
 unfolding host_ended settled
 reclaimed-steps h t None ss at = refl
-reclaimed-steps h t (Some (Held hold)) ss at = refl
+reclaimed-steps h t (Some (HeldBy hold)) ss at = refl
 reclaimed-steps h t (Some (Abandoned key)) ss at = rw at refl
 reclaimed-steps h t (Some (Ended end)) ss at = refl
 
 reclaimed-same : (h : HostState) (t : ℕ) (o : Option HostTicket) → slice_get h.tickets t ≡ o → (reclaimed_if h t o).steps ≡ h.steps
 unfolding host_ended settled
 reclaimed-same h t None at = refl
-reclaimed-same h t (Some (Held hold)) at = refl
+reclaimed-same h t (Some (HeldBy hold)) at = refl
 reclaimed-same h t (Some (Abandoned key)) at = rw at refl
 reclaimed-same h t (Some (Ended end)) at = refl
 

@@ -20,27 +20,27 @@ use Rattle.usb_bus.specs.Later.{Extends, IsLater}
 use Rattle.usb_bus.specs.Turns.{reap_turn}
 use Rattle.usb_device.specs.declared.ends.TicketEnd.{TicketEnd}
 use Rattle.usb_device.specs.declared.ends.TicketEnd.TheVariants.{Reclaimed}
-use Rattle.usb_device.specs.HostState.{HostState, HostTicket, Hold, Held, Abandoned, Ended}
+use Rattle.usb_device.specs.HostState.{HostState, HostTicket, Hold, HeldBy, Abandoned, Ended}
 use Rattle.usb_device.specs.Releases.{settled}
 use Rattle.usb_device.specs.TicketEnds.{ended_as, host_ended, reclaimed_if, came}
 use Rattle.usb_bus.specs.declared.route.Turn.TheVariants.{TimeUp}
 use Rattle.usb_device.specs.HostTurns.{with_past, host_stepped, host_reaped, all_stepped, turn_for, reaped_of, turned_of, host_turn, host_turned}
 use Rattle.usb_device.specs.HostCalls.{host_discarded, host_idled}
 use Rattle.usb_device.specs.HostBus.{held_as, owner_at, key_at, bus_of}
-use Rattle.usb_device.specs.HostFrames.{UsesPlaces}
+use Rattle.usb_device.proofs.HostKeeps.{UsesPlaces}
 
 -- the end of a ticket changes tickets, and devices of the kernel
 pub ended_as-is : (h : HostState) (t : ℕ) (end : TicketEnd) (o : Option HostTicket) → ended_as h t end o ≡ record h { kernel = record h.kernel { devices = (ended_as h t end o).kernel.devices }; tickets = (ended_as h t end o).tickets }
 unfolding settled
 ended_as-is h t end None = refl
-ended_as-is h t end (Some (Held hold)) = refl
+ended_as-is h t end (Some (HeldBy hold)) = refl
 ended_as-is h t end (Some (Abandoned key)) = refl
 ended_as-is h t end (Some (Ended before)) = refl
 
 reclaimed_if-is : (h : HostState) (t : ℕ) (o : Option HostTicket) → reclaimed_if h t o ≡ record h { kernel = record h.kernel { devices = (reclaimed_if h t o).kernel.devices }; tickets = (reclaimed_if h t o).tickets }
 unfolding host_ended
 reclaimed_if-is h t None = refl
-reclaimed_if-is h t (Some (Held hold)) = refl
+reclaimed_if-is h t (Some (HeldBy hold)) = refl
 reclaimed_if-is h t (Some (Abandoned key)) = ended_as-is h t Reclaimed (slice_get h.tickets t)
 reclaimed_if-is h t (Some (Ended end)) = refl
 
@@ -68,7 +68,7 @@ owner-set_other (x ∷ xs) (suc t) (suc u) new ne = owner-set_other xs t u new (
 reclaimed-owner : (h : HostState) (t : ℕ) (o : Option HostTicket) (u : ℕ) → slice_get h.tickets t ≡ o → owner_at (reclaimed_if h t o).tickets u ≡ owner_at h.tickets u
 unfolding host_ended settled
 reclaimed-owner h t None u at = refl
-reclaimed-owner h t (Some (Held hold)) u at = refl
+reclaimed-owner h t (Some (HeldBy hold)) u at = refl
 reclaimed-owner h t (Some (Abandoned key)) u at = ap (λ (o : Option HostTicket). owner_at (ended_as h t Reclaimed o).tickets u) at ∙ owner-set h.tickets t u (Abandoned key) (Ended Reclaimed) at refl
 reclaimed-owner h t (Some (Ended end)) u at = refl
 

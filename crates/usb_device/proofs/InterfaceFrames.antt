@@ -1,9 +1,9 @@
 -- The handles of interfaces over the calls of a host.
-use Rattle.std.proofs.Common.{ℕ, zero, suc, ◌≡◌, ◌≢◌, ◌-◌, true, false, List, [], ◌∷◌, ◌++◌, length, length-set, set, slice_get, Option, Some, None, refl, ◌∙◌, ap, ◌≤◌, arith, Result, Ok, Err, length-append}
+use Rattle.std.proofs.Common.{ℕ, zero, suc, ◌≡◌, ◌≢◌, ◌-◌, List, [], ◌∷◌, ◌++◌, length, length-set, set, slice_get, Option, Some, None, refl, ◌∙◌, ap, ◌≤◌, arith, Result, Ok, Err, length-append}
 use Rattle.std.proofs.lemmas.Option.{none-some}
 use Rattle.usb_device.specs.declared.opened.OpenDevice.{OpenDevice}
-use Rattle.usb_device.specs.HostState.{HostState, HostEndpoint, ClaimedInterface}
-use Rattle.usb_device.specs.HostBus.{key_at, bus_of}
+use Rattle.usb_device.specs.HostState.{HostState, ClaimedInterface}
+use Rattle.usb_device.specs.HostBus.{bus_of}
 use Rattle.usb_device.specs.Releases.{owner_gone}
 use Rattle.usb_device.specs.Handles.{handle_gone, handle_closed}
 use Rattle.usb_device.specs.InterfaceClaims.{claimed_on, host_claimed}
@@ -12,7 +12,7 @@ use Rattle.usb_device.specs.EndpointOpens.{asked_on, host_asked}
 use Rattle.usb_device.specs.HandleStates.{InterfaceState, StandsInterface}
 use Rattle.usb_error.specs.ErrorState.{ErrorState}
 use Rattle.usb_device.specs.Opens.{open_tried, opened_by, host_opened}
-use Rattle.usb_device.specs.HostFrames.{KeepsLine}
+use Rattle.usb_device.proofs.HostKeeps.{KeepsLine}
 
 -- a handle stands while the interfaces stay
 pub StandsInterface-same : (h g : HostState) (f : InterfaceState) → g.interfaces ≡ h.interfaces → length h.devices ≤ length g.devices → StandsInterface h f → StandsInterface g f
@@ -102,11 +102,6 @@ StandsInterface-claimed h key number f stands =
       open_handle = stands.open_handle;
       device = omega (arith, stands.device, same);
     }
-
-key-push : (es : List HostEndpoint) (e : HostEndpoint) (k : ℕ) → key_at es k ≡ true → key_at (es ++ e ∷ []) k ≡ true
-key-push [] e k is = let no_ : false ≡ true = is in absurd (cc)
-key-push (x ∷ xs) e zero is = is
-key-push (x ∷ xs) e (suc k) is = key-push xs e k is
 
 -- a look at the active configuration keeps all but what the open device keeps of it
 asked_on-is : (h : HostState) (key : ℕ) (o : Option OpenDevice) → asked_on h key o ≡ record h { devices = (asked_on h key o).devices }

@@ -8,17 +8,17 @@ use Rattle.std.proofs.lemmas.Option.{none-some, same_Some, slice_get_within, sli
 use Rattle.std.proofs.lemmas.List.Elements.{All-set, All-get_or, All-append}
 use Rattle.std.proofs.lemmas.List.Sums.{sum_by-cons}
 use Rattle.usb_device.specs.declared.ends.TicketEnd.{TicketEnd}
-use Rattle.usb_device.specs.declared.owners.Row.{Row}
+use Rattle.usb_device.specs.declared.owners.EndpointRow.{EndpointRow}
 use Rattle.usb_device.specs.declared.owners.EndedClaim.{EndedClaim}
-use Rattle.usb_device.specs.HostState.{HostTicket, HostEndpoint, ClaimedInterface, Held, Abandoned, Ended}
+use Rattle.usb_device.specs.HostState.{HostTicket, HostEndpoint, ClaimedInterface, HeldBy, Abandoned, Ended}
 use Rattle.usb_device.specs.Owners.{is_of, is_ticket_of, lives, lives_on, uses_bit, shares_bit, is_used_among, is_owned_among}
 use Rattle.usb_device.specs.Releases.{claim_ended, claim_of}
 use Rattle.usb_device.specs.OwnerRows.{endpoint_of, is_alive, is_alive_on, uses_row, one_if, is_counted, row_gone, claim_gone}
-use Rattle.usb_device.specs.declared.slot.Slot.{Slot}
-use Rattle.usb_device.specs.declared.slot.Slot.TheVariants as slot
+use Rattle.usb_device.specs.declared.slot.TicketState.{TicketState}
+use Rattle.usb_device.specs.declared.slot.TicketState.TheVariants as slot
 use Rattle.usb_kernel.specs.declared.submission.Done.{Done}
 use Rattle.usb_device.specs.declared.ends.TicketEnd.TheVariants.{Reclaimed}
-use Rattle.usb_device.specs.LedgerState.{Tied, HasKeyBelow, ticket_key, ticket_of, slot_without, slot_with, slot_kept, is_given_up, abandoned_key}
+use Rattle.usb_device.specs.LedgerState.{Tied, HasKeyBelow, ticket_key, host_ticket, slot_without, slot_with, slot_kept, is_given_up, abandoned_key}
 use Rattle.usb_device.proofs.ListLemmas.{slice_get-set, slice_get-push, count-same, count-less, count-push, count-some, any-count, any-enumerated}
 
 -- the element of a place, read by an index
@@ -26,7 +26,7 @@ read : {X : Type 0} (xs : List X) (i : ℕ) (x : X) → slice_get xs i ≡ Some 
 read xs i x at = sym (get_or_from_slice_get xs i x x at)
 
 is_ticket-key : (k key : ℕ) (x : HostTicket) → ticket_key x ≡ Some key → is_ticket_of k x ≡ (key == k)
-is_ticket-key k key (Held hold) is = rw (same_Some hold.key key is) refl
+is_ticket-key k key (HeldBy hold) is = rw (same_Some hold.key key is) refl
 is_ticket-key k key (Abandoned j) is = rw (same_Some j key is) refl
 is_ticket-key k key (Ended end) is = absurd (none-some key is)
 
@@ -35,29 +35,29 @@ is_ticket-same k x y key is also = is_ticket-key k key y also ∙ sym (is_ticket
 
 -- the key of a ticket is that of a row
 below-key : (n : ℕ) (x : HostTicket) (key : ℕ) → ticket_key x ≡ Some key → HasKeyBelow n x → key < n
-below-key n (Held hold) key is below = rw (← same_Some hold.key key is) below
+below-key n (HeldBy hold) key is below = rw (← same_Some hold.key key is) below
 below-key n (Abandoned j) key is below = rw (← same_Some j key is) below
 below-key n (Ended end) key is below = absurd (none-some key is)
 
 key-below : (n : ℕ) (x : HostTicket) (key : ℕ) → ticket_key x ≡ Some key → key < n → HasKeyBelow n x
-key-below n (Held hold) key is below = rw (same_Some hold.key key is) below
+key-below n (HeldBy hold) key is below = rw (same_Some hold.key key is) below
 key-below n (Abandoned j) key is below = rw (same_Some j key is) below
 key-below n (Ended end) key is below = tt
 
 all-at : {X : Type 0} (P : X → Type 0) (xs : List X) (i : ℕ) (x : X) → All P xs → slice_get xs i ≡ Some x → P x
 all-at P xs i x all at = rw (read xs i x at) (All-get_or P xs i x (slice_get_within xs i x at) all)
 
-pub key-within : (rows : List Row) (tickets : List HostTicket) (t key : ℕ) (x : HostTicket) → Tied rows tickets → slice_get tickets t ≡ Some x → ticket_key x ≡ Some key → key < length rows
+pub key-within : (rows : List EndpointRow) (tickets : List HostTicket) (t key : ℕ) (x : HostTicket) → Tied rows tickets → slice_get tickets t ≡ Some x → ticket_key x ≡ Some key → key < length rows
 key-within rows tickets t key x tied at is = below-key (length rows) x key is (all-at (HasKeyBelow (length rows)) tickets t x tied.keys at)
 
 -- it is counted there
-pub counted-some : (rows : List Row) (tickets : List HostTicket) (t key : ℕ) (x : HostTicket) (e : Row) → Tied rows tickets → slice_get tickets t ≡ Some x → ticket_key x ≡ Some key → slice_get rows key ≡ Some e → 0 < e.tickets
+pub counted-some : (rows : List EndpointRow) (tickets : List HostTicket) (t key : ℕ) (x : HostTicket) (e : EndpointRow) → Tied rows tickets → slice_get tickets t ≡ Some x → ticket_key x ≡ Some key → slice_get rows key ≡ Some e → 0 < e.tickets
 counted-some rows tickets t key x e tied at is there =
     let passes : is_ticket_of key x ≡ true = is_ticket-key key key x is ∙ eq-eqb key key refl in
     omega (arith, tied.counts key e there, count-some (is_ticket_of key) tickets t x at passes)
 
 -- a ticket ends
-pub Tied-end : (rows : List Row) (tickets : List HostTicket) (t key : ℕ) (x : HostTicket) (e : Row) (end : TicketEnd) → Tied rows tickets → slice_get tickets t ≡ Some x → ticket_key x ≡ Some key → slice_get rows key ≡ Some e
+pub Tied-end : (rows : List EndpointRow) (tickets : List HostTicket) (t key : ℕ) (x : HostTicket) (e : EndpointRow) (end : TicketEnd) → Tied rows tickets → slice_get tickets t ≡ Some x → ticket_key x ≡ Some key → slice_get rows key ≡ Some e
     → Tied (set rows key (record e { tickets = e.tickets - 1 })) (set tickets t (Ended end))
 Tied-end rows tickets t key x e end tied at is there =
     record {
@@ -78,7 +78,7 @@ Tied-end rows tickets t key x e end tied at is there =
     within = slice_get_within tickets t x at
 
 -- a ticket stays one of its endpoint
-pub Tied-kept : (rows : List Row) (tickets : List HostTicket) (t key : ℕ) (x y : HostTicket) → Tied rows tickets → slice_get tickets t ≡ Some x → ticket_key x ≡ Some key → ticket_key y ≡ Some key → Tied rows (set tickets t y)
+pub Tied-kept : (rows : List EndpointRow) (tickets : List HostTicket) (t key : ℕ) (x y : HostTicket) → Tied rows tickets → slice_get tickets t ≡ Some x → ticket_key x ≡ Some key → ticket_key y ≡ Some key → Tied rows (set tickets t y)
 Tied-kept rows tickets t key x y tied at is also =
     let within = slice_get_within tickets t x at in
     record {
@@ -87,7 +87,7 @@ Tied-kept rows tickets t key x y tied at is also =
     }
 
 -- a ticket comes to an endpoint
-pub Tied-add : (rows : List Row) (tickets : List HostTicket) (x : HostTicket) (key : ℕ) (e next : Row) → Tied rows tickets → ticket_key x ≡ Some key → slice_get rows key ≡ Some e → next.tickets ≡ e.tickets + 1 → Tied (set rows key next) (tickets ++ x ∷ [])
+pub Tied-add : (rows : List EndpointRow) (tickets : List HostTicket) (x : HostTicket) (key : ℕ) (e next : EndpointRow) → Tied rows tickets → ticket_key x ≡ Some key → slice_get rows key ≡ Some e → next.tickets ≡ e.tickets + 1 → Tied (set rows key next) (tickets ++ x ∷ [])
 Tied-add rows tickets x key e next tied is there more =
     record {
       counts = λ k f here.
@@ -110,7 +110,7 @@ Tied-add rows tickets x key e next tied is there more =
     one (suc i) d inside = absurd (omega arith)
 
 -- the handle of an endpoint is closed
-pub Tied-row : (rows : List Row) (tickets : List HostTicket) (key : ℕ) (e next : Row) → Tied rows tickets → slice_get rows key ≡ Some e → next.tickets ≡ e.tickets → Tied (set rows key next) tickets
+pub Tied-row : (rows : List EndpointRow) (tickets : List HostTicket) (key : ℕ) (e next : EndpointRow) → Tied rows tickets → slice_get rows key ≡ Some e → next.tickets ≡ e.tickets → Tied (set rows key next) tickets
 Tied-row rows tickets key e next tied there same =
     record {
       counts = λ k f here. elim (slice_get-set rows key k next f here) [ inl w ↦ rw (w.0, w.1) (same ∙ tied.counts key e there) | inr w ↦ tied.counts k f w.1 ];
@@ -126,16 +126,16 @@ none-of n (x ∷ xs) keys =
     omega (arith, here, IH, sum_by-cons (λ y. cond (is_ticket_of n y) 1 0) x xs)
   where
     not-new : (n : ℕ) (x : HostTicket) → HasKeyBelow n x → is_ticket_of n x ≡ false
-    not-new n (Held hold) below = ne_eqb hold.key n (λ z. omega arith)
+    not-new n (HeldBy hold) below = ne_eqb hold.key n (λ z. omega arith)
     not-new n (Abandoned key) below = ne_eqb key n (λ z. omega arith)
     not-new n (Ended end) below = refl
 
 below-more : (n : ℕ) (x : HostTicket) → HasKeyBelow n x → HasKeyBelow (n + 1) x
-below-more n (Held hold) below = omega arith
+below-more n (HeldBy hold) below = omega arith
 below-more n (Abandoned key) below = omega arith
 below-more n (Ended end) below = tt
 
-pub Tied-open : (rows : List Row) (tickets : List HostTicket) (e : Row) → Tied rows tickets → e.tickets ≡ 0 → Tied (rows ++ e ∷ []) tickets
+pub Tied-open : (rows : List EndpointRow) (tickets : List HostTicket) (e : EndpointRow) → Tied rows tickets → e.tickets ≡ 0 → Tied (rows ++ e ∷ []) tickets
 Tied-open rows tickets e tied none =
     let more : length (rows ++ e ∷ []) ≡ length rows + 1 = length-append rows (e ∷ []) in
     record {
@@ -147,20 +147,20 @@ abbrev ended : ClaimedInterface → EndedClaim
 ended c = record { device = c.device; number = c.number }
 
 -- what the rows count is what the tickets say
-module _ (rows : List Row) (tickets : List HostTicket) (tied : Tied rows tickets) where
-  pub lives-row : (k : ℕ) (e : Row) → slice_get rows k ≡ Some e → lives tickets (k, endpoint_of e) ≡ is_alive e
+module _ (rows : List EndpointRow) (tickets : List HostTicket) (tied : Tied rows tickets) where
+  pub lives-row : (k : ℕ) (e : EndpointRow) → slice_get rows k ≡ Some e → lives tickets (k, endpoint_of e) ≡ is_alive e
   lives-row k e at = ap (λ b. e.is_open || b) (any-count (is_ticket_of k) tickets ∙ ap (nat_lt 0) (sym (tied.counts k e at)))
 
-  lives_on-row : (i k : ℕ) (e : Row) → slice_get rows k ≡ Some e → lives_on tickets i (k, endpoint_of e) ≡ is_alive_on i e
+  lives_on-row : (i k : ℕ) (e : EndpointRow) → slice_get rows k ≡ Some e → lives_on tickets i (k, endpoint_of e) ≡ is_alive_on i e
   lives_on-row i k e at = ap (λ b. is_of i e.interface && b) (lives-row k e at)
 
-  uses-row : (i address k : ℕ) (e : Row) → slice_get rows k ≡ Some e → uses_bit tickets i address (k, endpoint_of e) ≡ uses_row i address e
+  uses-row : (i address k : ℕ) (e : EndpointRow) → slice_get rows k ≡ Some e → uses_bit tickets i address (k, endpoint_of e) ≡ uses_row i address e
   uses-row i address k e at = ap (λ b. b && shares_bit e.address address) (lives_on-row i k e at)
 
   zero_more : (k : ℕ) → 0 + k ≡ k
   zero_more k = omega arith
 
-  any-rows : (p : ℕ × HostEndpoint → Bool) (q : Row → Bool) → ((k : ℕ) (e : Row) → slice_get rows k ≡ Some e → p (k, endpoint_of e) ≡ q e) → list_any p (enumerate_from 0 (map endpoint_of rows)) ≡ list_any q rows
+  any-rows : (p : ℕ × HostEndpoint → Bool) (q : EndpointRow → Bool) → ((k : ℕ) (e : EndpointRow) → slice_get rows k ≡ Some e → p (k, endpoint_of e) ≡ q e) → list_any p (enumerate_from 0 (map endpoint_of rows)) ≡ list_any q rows
   any-rows p q each = any-enumerated endpoint_of p q 0 rows (λ k e at. rw (zero_more k) (each k e at))
 
   pub is_used-rows : (i address : ℕ) → is_used_among tickets (map endpoint_of rows) i address ≡ list_any (uses_row i address) rows
@@ -187,7 +187,7 @@ module _ (rows : List Row) (tickets : List HostTicket) (tied : Tied rows tickets
       at None = refl
       at (Some i) = claim_ended-rows interfaces i
 
-      by : (o : Option Row) → option_and_then (claim_ended interfaces tickets (map endpoint_of rows)) (option_and_then (λ (e : HostEndpoint). e.interface) (option_map endpoint_of o)) ≡ option_and_then (claim_gone interfaces rows) (option_and_then (λ (e : Row). e.interface) o)
+      by : (o : Option EndpointRow) → option_and_then (claim_ended interfaces tickets (map endpoint_of rows)) (option_and_then (λ (e : HostEndpoint). e.interface) (option_map endpoint_of o)) ≡ option_and_then (claim_gone interfaces rows) (option_and_then (λ (e : EndpointRow). e.interface) o)
       by None = refl
       by (Some e) = at e.interface
 
@@ -196,69 +196,63 @@ some-at [] i within = absurd (omega arith)
 some-at (x ∷ xs) zero within = (x, refl)
 some-at (x ∷ xs) (suc i) within = some-at xs i (omega arith)
 
--- the row of an endpoint
-pub row-of : (rows : List Row) (k : ℕ) (x : HostEndpoint) → slice_get (map endpoint_of rows) k ≡ Some x → (e : Row) × ((slice_get rows k ≡ Some e) × (x ≡ endpoint_of e))
-row-of [] k x at = absurd (none-some x at)
-row-of (e ∷ es) zero x at = (e, (refl, sym (same_Some (endpoint_of e) x at)))
-row-of (e ∷ es) (suc k) x at = row-of es k x at
-
-pub endpoint-at : (rows : List Row) (k : ℕ) (e : Row) → slice_get rows k ≡ Some e → slice_get (map endpoint_of rows) k ≡ Some (endpoint_of e)
+pub endpoint-at : (rows : List EndpointRow) (k : ℕ) (e : EndpointRow) → slice_get rows k ≡ Some e → slice_get (map endpoint_of rows) k ≡ Some (endpoint_of e)
 endpoint-at rows k e at = slice_get-map endpoint_of rows k ∙ ap (option_map endpoint_of) at
 
 -- an endpoint is the same with another count
-pub endpoints-kept : (rows : List Row) (k : ℕ) (e next : Row) → slice_get rows k ≡ Some e → endpoint_of next ≡ endpoint_of e → map endpoint_of (set rows k next) ≡ map endpoint_of rows
+pub endpoints-kept : (rows : List EndpointRow) (k : ℕ) (e next : EndpointRow) → slice_get rows k ≡ Some e → endpoint_of next ≡ endpoint_of e → map endpoint_of (set rows k next) ≡ map endpoint_of rows
 endpoints-kept [] k e next at same = refl
 endpoints-kept (x ∷ xs) zero e next at same = ap (λ (y : HostEndpoint). y ∷ map endpoint_of xs) (same ∙ ap endpoint_of (sym (same_Some x e at)))
 endpoints-kept (x ∷ xs) (suc k) e next at same = ap (λ (ys : List HostEndpoint). endpoint_of x ∷ ys) (endpoints-kept xs k e next at same)
 
 -- the ticket of a slot
-pub ticket-at : (slots : List Slot) (t : ℕ) (s : Slot) → slice_get slots t ≡ Some s → slice_get (map ticket_of slots) t ≡ Some (ticket_of s)
-ticket-at slots t s at = slice_get-map ticket_of slots t ∙ ap (option_map ticket_of) at
+pub ticket-at : (slots : List TicketState) (t : ℕ) (s : TicketState) → slice_get slots t ≡ Some s → slice_get (map host_ticket slots) t ≡ Some (host_ticket s)
+ticket-at slots t s at = slice_get-map host_ticket slots t ∙ ap (option_map host_ticket) at
 
 -- a result is one or the other
 pub either : {A E G : Type 0} (r : Result A E) (P Q : Type 0) → OnOk r P → OnErr r Q → (P → G) → (Q → G) → G
 either (Ok a) P Q ok err f g = f ok
 either (Err e) P Q ok err f g = g err
 
-pub key-at : (s : Slot) → IsSome (ticket_key (ticket_of s)) → (key : ℕ) × (ticket_key (ticket_of s) ≡ Some key)
-key-at s some = some-of (ticket_key (ticket_of s)) some
+pub key-at : (s : TicketState) → IsSome (ticket_key (host_ticket s)) → (key : ℕ) × (ticket_key (host_ticket s) ≡ Some key)
+key-at s some = some-of (ticket_key (host_ticket s)) some
   where
     some-of : (o : Option ℕ) → IsSome o → (key : ℕ) × (o ≡ Some key)
     some-of None is = absurd (cc)
     some-of (Some key) is = (key, refl)
 
-pub key-without : (s : Slot) (key : ℕ) → ticket_key (ticket_of s) ≡ Some key → ticket_key (ticket_of (slot_without s)) ≡ Some key
-key-without (slot.Held k transfer) key is = is
+pub key-without : (s : TicketState) (key : ℕ) → ticket_key (host_ticket s) ≡ Some key → ticket_key (host_ticket (slot_without s)) ≡ Some key
+key-without (slot.HeldBy k transfer) key is = is
 key-without (slot.Abandoned k) key is = is
 key-without (slot.Ended end) key is = is
 
 -- a slot when its completion comes
-pub given-with : (done : Done) (s : Slot) → is_given_up s ≡ true → slot_with done s ≡ slot.Ended Reclaimed
-given-with done (slot.Held k transfer) is = absurd (cc)
+pub given-with : (done : Done) (s : TicketState) → is_given_up s ≡ true → slot_with done s ≡ slot.Ended Reclaimed
+given-with done (slot.HeldBy k transfer) is = absurd (cc)
 given-with done (slot.Abandoned k) is = refl
 given-with done (slot.Ended end) is = absurd (cc)
 
-pub given-key : (done : Done) (s : Slot) → is_given_up s ≡ true → ticket_key (ticket_of (slot_kept done s)) ≡ abandoned_key s
-given-key done (slot.Held k transfer) is = absurd (cc)
+pub given-key : (done : Done) (s : TicketState) → is_given_up s ≡ true → ticket_key (host_ticket (slot_kept done s)) ≡ abandoned_key s
+given-key done (slot.HeldBy k transfer) is = absurd (cc)
 given-key done (slot.Abandoned k) is = refl
 given-key done (slot.Ended end) is = absurd (cc)
 
-pub kept-with : (done : Done) (s : Slot) → is_given_up s ≡ false → slot_with done s ≡ slot_kept done s
-kept-with done (slot.Held k transfer) is = refl
+pub kept-with : (done : Done) (s : TicketState) → is_given_up s ≡ false → slot_with done s ≡ slot_kept done s
+kept-with done (slot.HeldBy k transfer) is = refl
 kept-with done (slot.Abandoned k) is = absurd (cc)
 kept-with done (slot.Ended end) is = refl
 
-pub kept-key : (s : Slot) → is_given_up s ≡ false → abandoned_key s ≡ None
-kept-key (slot.Held k transfer) is = refl
+pub kept-key : (s : TicketState) → is_given_up s ≡ false → abandoned_key s ≡ None
+kept-key (slot.HeldBy k transfer) is = refl
 kept-key (slot.Abandoned k) is = absurd (cc)
 kept-key (slot.Ended end) is = refl
 
-pub kept-ticket : (done : Done) (s : Slot) → ticket_of (slot_kept done s) ≡ ticket_of s
-kept-ticket done (slot.Held k transfer) = refl
+pub kept-ticket : (done : Done) (s : TicketState) → host_ticket (slot_kept done s) ≡ host_ticket s
+kept-ticket done (slot.HeldBy k transfer) = refl
 kept-ticket done (slot.Abandoned k) = refl
 kept-ticket done (slot.Ended end) = refl
 
-pub tickets-same : (slots : List Slot) (t : ℕ) (s next : Slot) → slice_get slots t ≡ Some s → ticket_of next ≡ ticket_of s → map ticket_of (set slots t next) ≡ map ticket_of slots
+pub tickets-same : (slots : List TicketState) (t : ℕ) (s next : TicketState) → slice_get slots t ≡ Some s → host_ticket next ≡ host_ticket s → map host_ticket (set slots t next) ≡ map host_ticket slots
 tickets-same [] t s next at same = refl
-tickets-same (x ∷ xs) zero s next at same = ap (λ (y : HostTicket). y ∷ map ticket_of xs) (same ∙ ap ticket_of (sym (same_Some x s at)))
-tickets-same (x ∷ xs) (suc t) s next at same = ap (λ (ys : List HostTicket). ticket_of x ∷ ys) (tickets-same xs t s next at same)
+tickets-same (x ∷ xs) zero s next at same = ap (λ (y : HostTicket). y ∷ map host_ticket xs) (same ∙ ap host_ticket (sym (same_Some x s at)))
+tickets-same (x ∷ xs) (suc t) s next at same = ap (λ (ys : List HostTicket). host_ticket x ∷ ys) (tickets-same xs t s next at same)

@@ -9,6 +9,7 @@ pub mod EndpointLemmas
 pub mod BusLemmas
 pub mod WorkedRows
 pub mod WorkedWaits
+pub mod HostKeeps
 pub mod HostFrames
 pub mod WaitFrames
 pub mod HostWaitLemmas

@@ -1,5 +1,5 @@
 -- Devices are opened and interfaces claimed.
-use Rattle.std.proofs.Common.{ℕ, arith, ◌≡◌, ◌<◌, List, [], ◌∷◌, ◌++◌, length, set, slice_get, Option, Some, None, Result, Ok, Err, refl, sym, ◌∙◌, ap}
+use Rattle.std.proofs.Common.{ℕ, arith, ◌≡◌, ◌<◌, List, [], ◌∷◌, ◌++◌, length, set, slice_get, Option, Some, None, Result, Ok, Err, refl, ◌∙◌, ap}
 use Rattle.std.specs.Prelude.{IfOk, IfErr}
 use Rattle.usb_desc.specs.declared.error.Fail.{Fail}
 use Rattle.usb_desc.specs.declared.error.Fail.TheVariants.{Cause, Memory}
@@ -9,8 +9,7 @@ use Rattle.usb_error.specs.ErrorState.{ErrorState}
 use Rattle.usb_device.specs.declared.opened.OpenDevice.{OpenDevice}
 use Rattle.usb_device.specs.HostState.{HostState}
 use Rattle.usb_device.specs.Opens.{open_tried, open_key, with_key, host_opened, with_opened, opened_by}
-use Rattle.usb_device.specs.Tried.{Tried, or_error}
-use Rattle.usb_error.specs.Errors.{claim_error}
+use Rattle.usb_error.specs.Outcomes.{Tried}
 use Rattle.std.specs.Prelude.{◌-◌, map}
 use Rattle.usb_kernel.specs.declared.step.KernelStep.{KernelStep}
 use Rattle.usb_kernel.specs.Value.{KernelState}
@@ -19,11 +18,10 @@ use Rattle.usb_device.specs.HostState.{ClaimedInterface, fresh_interface}
 use Rattle.usb_device.specs.HostFacts.{host_made}
 use Rattle.usb_device.specs.Handles.{handle_closed}
 use Rattle.usb_device.specs.HandleStates.{StandsDevice, StandsInterface}
-use Rattle.usb_device.proofs.LedgerLemmas.{some-at}
 use Rattle.usb_kernel.proofs.Places.{slice_get-append_seam}
 use Rattle.std.proofs.Common.{length-append}
-use Rattle.usb_device.specs.InterfaceClaims.{claim_key, claimed_key, host_claimed, claimed_on, claim_tried}
-use Rattle.usb_device.specs.LedgerState.{LedgerState, ticket_of}
+use Rattle.usb_device.specs.InterfaceClaims.{claimed_key, host_claimed, claimed_on, claim_tried}
+use Rattle.usb_device.specs.LedgerState.{LedgerState, host_ticket}
 use Rattle.usb_device.specs.Releases.{with_devices, without_ended, claim_ended, owner_gone}
 
 pub opened-key : (h : HostState) (bus address : ℕ) (o : OpenDevice) (r : Result ℕ (Fail ErrorState)) → open_tried h.kernel.devices bus address ≡ Ok o → IfOk r (λ key. key ≡ length h.devices) → IfErr r (λ error. error ≡ Memory) → Tried r (open_key h bus address)
@@ -36,7 +34,7 @@ pub opened-host : (h : HostState) (bus address : ℕ) (o : OpenDevice) → open_
 unfolding host_opened
 opened-host h bus address o is = ap (opened_by h) is
 
-pub open-refused : (h : HostState) (bus address : ℕ) (error : Fail ErrorState) → Tried {X = OpenDevice} (Err error) (open_tried h.kernel.devices bus address) → Tried {X = ℕ} (Err error) (open_key h bus address)
+pub open-refused : (h : HostState) (bus address : ℕ) (error : Fail ErrorState) → Tried {A = OpenDevice} (Err error) (open_tried h.kernel.devices bus address) → Tried {A = ℕ} (Err error) (open_key h bus address)
 unfolding open_key
 open-refused h bus address (Cause error) is = ap (with_key (length h.devices)) is
 open-refused h bus address Memory is = tt
@@ -45,10 +43,7 @@ open-refused h bus address Memory is = tt
 pub refused-same : (devices : List DeviceState) (k i errno : ℕ) → claim_result devices k i ≡ Err errno → after_claim devices k i ≡ devices
 refused-same devices k i errno refused = rw refused refl
 
--- what a claim answers and leaves
-pub claim-at : (h : HostState) (key number : ℕ) (o : OpenDevice) → slice_get h.devices key ≡ Some o → claim_key h number (slice_get h.devices key) ≡ claimed_key (length h.interfaces) (or_error claim_error (claim_result h.kernel.devices o.device number))
-claim-at h key number o at = ap (claim_key h number) at
-
+-- what a claim leaves
 pub claimed-at : (h : HostState) (key number : ℕ) (o : OpenDevice) → slice_get h.devices key ≡ Some o
     → host_claimed h key number ≡ record (with_devices h (after_claim h.kernel.devices o.device number)) { interfaces = h.interfaces ++ fresh_interface key o.device number ∷ [] }
 unfolding host_claimed
@@ -56,7 +51,7 @@ claimed-at h key number o at = ap (claimed_on h key number) at
 
 -- a handle that is closed
 pub closed-made : (k : KernelState) (devices : List OpenDevice) (l : LedgerState) (steps : List KernelStep) (i : ℕ) (c : ClaimedInterface) (l' : LedgerState) (ended : Option EndedClaim) (k' : KernelState) → slice_get l.interfaces i ≡ Some c
-    → l' ≡ record l { interfaces = set l.interfaces i (record c { handles = c.handles - 1 }) } → ended ≡ claim_ended l'.interfaces (map ticket_of l'.slots) l'.endpoints i → k' ≡ record k { devices = without_ended k.devices ended } → host_made k' devices l' steps ≡ handle_closed (host_made k devices l steps) i
+    → l' ≡ record l { interfaces = set l.interfaces i (record c { handles = c.handles - 1 }) } → ended ≡ claim_ended l'.interfaces (map host_ticket l'.slots) l'.endpoints i → k' ≡ record k { devices = without_ended k.devices ended } → host_made k' devices l' steps ≡ handle_closed (host_made k devices l steps) i
 unfolding handle_closed owner_gone
 closed-made k devices l steps i c l' ended k' at is claim kernel = rw (at, kernel, claim, is) refl
 
@@ -76,12 +71,11 @@ claimed-next : (h : HostState) (number key : ℕ) (tried : Result (Unit {0}) Err
 claimed-next h number key (Err error) is = absurd (cc)
 claimed-next h number key (Ok done) is = cc
 
-pub claimed-stands : (h new : HostState) (device number key : ℕ) → StandsDevice h device → claim_key h number (slice_get h.devices device) ≡ Ok key → new ≡ host_claimed h device number → StandsInterface new (record { key = key; number = number })
-claimed-stands h new device number key stands is made =
-    let there = some-at h.devices device stands in
-    let next : key ≡ length h.interfaces = claimed-next h number key (claim_tried h there.0 number) (sym (claim-at h device number there.0 there.1) ∙ is) in
-    let after = made ∙ claimed-at h device number there.0 there.1 in
-    let claim : ClaimedInterface = fresh_interface device there.0.device number in
+pub claimed-stands : (h new : HostState) (device number key : ℕ) (o : OpenDevice) → slice_get h.devices device ≡ Some o → StandsDevice h device → claimed_key (length h.interfaces) (claim_tried h o number) ≡ Ok key → new ≡ host_claimed h device number → StandsInterface new (record { key = key; number = number })
+claimed-stands h new device number key o at stands is made =
+    let next : key ≡ length h.interfaces = claimed-next h number key (claim_tried h o number) is in
+    let after = made ∙ claimed-at h device number o at in
+    let claim : ClaimedInterface = fresh_interface device o.device number in
     record {
       claim = claim;
       at = ap (λ (x : HostState). slice_get x.interfaces key) after ∙ ap (slice_get (h.interfaces ++ claim ∷ [])) next ∙ slice_get-append_seam h.interfaces claim;

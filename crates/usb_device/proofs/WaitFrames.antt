@@ -9,7 +9,8 @@ use Rattle.usb_device.specs.HostTurns.{host_stepped, host_reaped, reaped_of, tur
 use Rattle.usb_device.specs.HostCalls.{host_discarded}
 use Rattle.usb_device.specs.HostWaits.{is_found, is_late, reap_and, wait_reaps, wait_steps, host_waited}
 use Rattle.usb_device.specs.HostBlocking.{or_then, waited_by_seconds, host_blocked}
-use Rattle.usb_device.specs.HostFrames.{UsesPlaces, LineGoesOn, WentOn, KeepsOpen}
+use Rattle.usb_device.specs.HostFrames.{LineGoesOn, HostGoesOn}
+use Rattle.usb_device.proofs.HostKeeps.{UsesPlaces, KeepsOpen}
 use Rattle.usb_device.proofs.HostFrames.{uses-none, uses-stepped, uses-reaped, uses-discarded, uses-all, later-trans}
 
 pub line-trans : (a b c : HostState) → LineGoesOn a b → LineGoesOn b c → LineGoesOn a c
@@ -35,7 +36,7 @@ line-keeps old new keeps =
       endpoints = keeps.endpoints;
     }
 
-pub went-uses : (old new : HostState) → UsesPlaces 0 old new → WentOn old new
+pub went-uses : (old new : HostState) → UsesPlaces 0 old new → HostGoesOn old new
 went-uses old new uses =
     record {
       line = record {
@@ -49,15 +50,15 @@ went-uses old new uses =
       later = uses.later;
     }
 
-pub went-nowhere : (h : HostState) → WentOn h h
+pub went-nowhere : (h : HostState) → HostGoesOn h h
 went-nowhere h = went-uses h h (uses-none h)
 
-pub went-trans : (a b c : HostState) → WentOn a b → WentOn b c → WentOn a c
+pub went-trans : (a b c : HostState) → HostGoesOn a b → HostGoesOn b c → HostGoesOn a c
 went-trans a b c first second =
     record { line = line-trans a b c first.line second.line; later = later-trans (bus_of a) (bus_of b) (bus_of c) first.later second.later }
 
 -- the next step of the line
-pub went-stepped : (h : HostState) (s : KernelStep) (ss : List KernelStep) → h.steps ≡ s ∷ ss → WentOn h (host_stepped (record h { steps = ss }) s)
+pub went-stepped : (h : HostState) (s : KernelStep) (ss : List KernelStep) → h.steps ≡ s ∷ ss → HostGoesOn h (host_stepped (record h { steps = ss }) s)
 went-stepped h s ss same =
     let uses = uses-stepped (record h { steps = ss }) s in
     record {
@@ -72,20 +73,20 @@ went-stepped h s ss same =
       later = record { past = uses.later.past; clock = uses.later.clock; owner = uses.later.owner; keys = uses.later.keys };
     }
 
-went-reaped_of : (h : HostState) (o : Option ℕ) → WentOn h (reaped_of h o)
+went-reaped_of : (h : HostState) (o : Option ℕ) → HostGoesOn h (reaped_of h o)
 went-reaped_of h None = went-nowhere h
 went-reaped_of h (Some t) = went-uses h (host_reaped h t) (uses-reaped h t)
 
-went-turned_of : (h : HostState) (ss : List KernelStep) → h.steps ≡ ss → WentOn h (turned_of h ss)
+went-turned_of : (h : HostState) (ss : List KernelStep) → h.steps ≡ ss → HostGoesOn h (turned_of h ss)
 went-turned_of h [] same = went-reaped_of h (lowest h.kernel.past)
 went-turned_of h (s ∷ ss) same = went-stepped h s ss same
 
-pub went-turned : (h : HostState) → WentOn h (host_turned h)
+pub went-turned : (h : HostState) → HostGoesOn h (host_turned h)
 unfolding host_turned
 went-turned h = went-turned_of h h.steps refl
 
 -- the rest of the line
-pub went-rest : (h : HostState) → WentOn h (host_rest h)
+pub went-rest : (h : HostState) → HostGoesOn h (host_rest h)
 went-rest h =
     let uses = uses-all (record h { steps = [] }) h.steps in
     record {
@@ -107,36 +108,36 @@ of_three P false true x y z px py pz = py
 of_three P false false x y z px py pz = pz
 
 module _ (t timeout start : ℕ) where
-  went-reap_and : (h : HostState) (o : Option ℕ) (further : HostState → Bool × HostState) → ((g : HostState) → WentOn g (further g).1) → WentOn h (reap_and o h further).1
+  went-reap_and : (h : HostState) (o : Option ℕ) (further : HostState → Bool × HostState) → ((g : HostState) → HostGoesOn g (further g).1) → HostGoesOn h (reap_and o h further).1
   went-reap_and h None further goes = went-nowhere h
   went-reap_and h (Some u) further goes = went-trans h (host_reaped h u) (further (host_reaped h u)).1 (went-uses h (host_reaped h u) (uses-reaped h u)) (goes (host_reaped h u))
 
-  pub went-reaps : (n : ℕ) (h : HostState) → WentOn h (wait_reaps n h t timeout start).1
+  pub went-reaps : (n : ℕ) (h : HostState) → HostGoesOn h (wait_reaps n h t timeout start).1
   went-reaps zero h = went-nowhere h
   went-reaps (suc n) h =
-      of_three (λ p. WentOn h p.1) (is_found h t) (is_late h timeout start) (true, h) (false, h) (reap_and (lowest h.kernel.past) h (λ g. wait_reaps n g t timeout start))
+      of_three (λ p. HostGoesOn h p.1) (is_found h t) (is_late h timeout start) (true, h) (false, h) (reap_and (lowest h.kernel.past) h (λ g. wait_reaps n g t timeout start))
       (went-nowhere h) (went-nowhere h) (went-reap_and h (lowest h.kernel.past) (λ g. wait_reaps n g t timeout start) (λ g. went-reaps n g))
 
-  pub went-steps : (ss : List KernelStep) (h : HostState) → h.steps ≡ ss → WentOn h (wait_steps ss h t timeout start).1
+  pub went-steps : (ss : List KernelStep) (h : HostState) → h.steps ≡ ss → HostGoesOn h (wait_steps ss h t timeout start).1
   went-steps [] h same = went-reaps (length (waiting h.kernel.past)) h
   went-steps (s ∷ ss) h same =
       let next = host_stepped (record h { steps = ss }) s in
-      of_three (λ p. WentOn h p.1) (is_found h t) (is_late h timeout start) (true, h) (false, h) (wait_steps ss next t timeout start)
+      of_three (λ p. HostGoesOn h p.1) (is_found h t) (is_late h timeout start) (true, h) (false, h) (wait_steps ss next t timeout start)
       (went-nowhere h) (went-nowhere h)
       (went-trans h next (wait_steps ss next t timeout start).1 (went-stepped h s ss same) (went-steps ss next (uses-stepped (record h { steps = ss }) s).steps))
 
-pub went-waited : (h : HostState) (t timeout : ℕ) → WentOn h (host_waited h t timeout).1
+pub went-waited : (h : HostState) (t timeout : ℕ) → HostGoesOn h (host_waited h t timeout).1
 unfolding host_waited
 went-waited h t timeout = went-steps t timeout h.kernel.clock h.steps h refl
 
-went-or_then : (h : HostState) (p : Bool × HostState) (next : HostState → HostState) → WentOn h p.1 → ((g : HostState) → WentOn g (next g)) → WentOn h (or_then p next)
-went-or_then h p next goes further = elim p.0 as (λ b. WentOn h (cond b p.1 (next p.1))) [ true ↦ goes | false ↦ went-trans h p.1 (next p.1) goes (further p.1) ]
+went-or_then : (h : HostState) (p : Bool × HostState) (next : HostState → HostState) → HostGoesOn h p.1 → ((g : HostState) → HostGoesOn g (next g)) → HostGoesOn h (or_then p next)
+went-or_then h p next goes further = elim p.0 as (λ b. HostGoesOn h (cond b p.1 (next p.1))) [ true ↦ goes | false ↦ went-trans h p.1 (next p.1) goes (further p.1) ]
 
-pub went-by_seconds : (n : ℕ) (h : HostState) (t : ℕ) → WentOn h (waited_by_seconds n h t)
+pub went-by_seconds : (n : ℕ) (h : HostState) (t : ℕ) → HostGoesOn h (waited_by_seconds n h t)
 went-by_seconds zero h t = went-nowhere h
 went-by_seconds (suc n) h t = went-or_then h (host_waited h t 1000000000) (λ g. waited_by_seconds n g t) (went-waited h t 1000000000) (λ g. went-by_seconds n g t)
 
-pub went-blocked : (h : HostState) (t timeout : ℕ) → WentOn h (host_blocked h t timeout)
+pub went-blocked : (h : HostState) (t timeout : ℕ) → HostGoesOn h (host_blocked h t timeout)
 unfolding host_blocked
 went-blocked h t timeout =
     went-or_then h (host_waited h t timeout) (λ g. waited_by_seconds (suc (length g.steps)) (host_discarded g t) t) (went-waited h t timeout)

@@ -9,7 +9,7 @@ use Rattle.usb_kernel.specs.Completions.{completion}
 use Rattle.usb_kernel.specs.Steps.{after_packet, after_reap}
 use Rattle.usb_kernel.specs.Interfaces.{contains}
 use Rattle.usb_device.specs.declared.ends.TicketEnd.TheVariants.{Dropped, Reclaimed}
-use Rattle.usb_device.specs.HostState.{HostState, HostTicket, Held, Abandoned, Ended}
+use Rattle.usb_device.specs.HostState.{HostState, HostTicket, HeldBy, Abandoned, Ended}
 use Rattle.usb_device.specs.Owners.{is_in_use, is_used_among, is_owned_among}
 use Rattle.usb_device.specs.Releases.{settled, owner_gone, claim_ended, claim_of}
 use Rattle.usb_device.specs.TicketEnds.{host_ended, host_taken, host_abandoned, came}
@@ -42,7 +42,7 @@ device =
     }
 
 abbrev held : HostTicket
-held = Held (record { key = 0; endpoint = 129; kind = Bulk })
+held = HeldBy (record { key = 0; endpoint = 129; kind = Bulk })
 
 -- an endpoint of the interface holds the three
 abbrev open_endpoint : HostState

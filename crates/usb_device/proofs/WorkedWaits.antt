@@ -8,7 +8,7 @@ use Rattle.usb_kernel.specs.declared.step.KernelStep.{KernelStep}
 use Rattle.usb_kernel.specs.declared.step.KernelStep.TheVariants as step
 use Rattle.usb_kernel.specs.Completions.{completion}
 use Rattle.usb_bus.specs.Completions.{transfer_completion}
-use Rattle.usb_device.specs.HostState.{HostState, Held}
+use Rattle.usb_device.specs.HostState.{HostState, HeldBy}
 use Rattle.usb_device.specs.TicketEnds.{came}
 use Rattle.usb_device.specs.HostTurns.{host_stepped, host_reaped}
 use Rattle.usb_device.specs.HostCalls.{host_discarded}
@@ -27,7 +27,7 @@ with_steps steps =
       devices = [];
       interfaces = [];
       endpoints = record { interface = Some 0; address = 129; is_open = true } ∷ [];
-      tickets = Held (record { key = 0; endpoint = 129; kind = Bulk }) ∷ [];
+      tickets = HeldBy (record { key = 0; endpoint = 129; kind = Bulk }) ∷ [];
       steps = steps;
     }
 

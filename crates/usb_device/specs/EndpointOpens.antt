@@ -1,5 +1,5 @@
 -- An endpoint of a claimed interface is opened.
-use Rattle.std.specs.Prelude.{ℕ, true, set, List, [], ◌∷◌, ◌++◌, Result, Ok, Err, Option, Some, None, slice_get, find, option_and_then}
+use Rattle.std.specs.Prelude.{ℕ, ◌≡◌, true, set, List, [], ◌∷◌, ◌++◌, length, Result, Ok, Err, OnOk, OnErr, IfOk, Option, Some, None, slice_get, find, option_and_then}
 use Rattle.std.specs.Result.{result_unwrap_or}
 use Rattle.usb_desc.specs.declared.types.Direction.{Direction}
 use Rattle.usb_desc.specs.declared.types.TransferType.{TransferType}
@@ -15,6 +15,7 @@ use Rattle.usb_device.specs.declared.opened.OpenDevice.{OpenDevice}
 use Rattle.usb_device.specs.HostState.{HostState, ClaimedInterface}
 use Rattle.usb_device.specs.Owners.{is_in_use}
 use Rattle.usb_device.specs.EndpointRefusals.{endpoint_tried}
+use Rattle.usb_error.specs.Outcomes.{Tried, result_map}
 
 -- the value of the active configuration: the kernel's, or the one that the open device keeps where
 -- the kernel refuses
@@ -67,8 +68,8 @@ with_endpoint h i address =
     }
 
 -- the route of its transfers
-abbrev pub route_of : ClaimedInterface → ℕ → TransferType → ℕ → ℕ → Route
-route_of c address kind maximum key =
+abbrev pub endpoint_route : ClaimedInterface → ℕ → TransferType → ℕ → ℕ → Route
+endpoint_route c address kind maximum key =
     record { device = c.device; endpoint = address; kind = kind; maximum = maximum; key = key }
 
 abbrev pub maximum_tried : Result Route (Fail ErrorState) → Result ℕ (Fail ErrorState)
@@ -86,3 +87,16 @@ fresh_endpoint c address kind maximum key =
       key = key;
       pending = [];
     }
+
+-- an endpoint of the claimed interface of this key is opened, or it is refused. The kernel is asked
+-- for the active configuration first, also where the endpoint is not opened
+pub record OpensEndpoint (old new : HostState) (key address : ℕ) (kind : TransferType)
+    (direction : Direction) (result : Result EndpointState (Fail ErrorState)) : Type 0 where
+  pub interface : ClaimedInterface
+  pub at : slice_get old.interfaces key ≡ Some interface
+  pub tried : Tried (result_map (λ (e : EndpointState). e.maximum) result)
+      (host_tries (host_asked old interface.opened) key interface address kind direction)
+  pub endpoint : IfOk result
+      (λ e. e ≡ fresh_endpoint interface address kind e.maximum (length old.endpoints))
+  pub ok : OnOk result (new ≡ with_endpoint (host_asked old interface.opened) key address)
+  pub err : OnErr result (new ≡ host_asked old interface.opened)

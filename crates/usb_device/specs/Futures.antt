@@ -1,26 +1,11 @@
 -- Control transfers at a host.
-use Rattle.std.specs.Prelude.{ℕ, ◌≡◌, true, false, [], ◌∷◌, ◌++◌, length, Some, None}
-use Rattle.usb_kernel.specs.declared.submission.Submission.{Submission}
-use Rattle.usb_kernel.specs.Submits.{kernel_submitted}
-use Rattle.usb_device.specs.HostState.{HostState, Held}
+use Rattle.std.specs.Prelude.{ℕ, ◌≡◌, true, false, Some}
+use Rattle.usb_device.specs.HostState.{HostState}
 use Rattle.usb_device.specs.HostBus.{owner_at, key_at}
 use Rattle.usb_device.specs.HostCalls.{host_left}
 use Rattle.usb_device.specs.HostWaits.{is_found}
 use Rattle.usb_device.specs.HostAwaits.{deadline_of, host_awaited}
 use Rattle.usb_device.specs.TicketEnds.{host_taken, host_abandoned}
-
--- a control transfer begins: one more control endpoint is open, under the next key, and holds the
--- next ticket
-unfoldable pub host_started : HostState → Submission → HostState
-host_started h s =
-    record h {
-      kernel = kernel_submitted h.kernel s;
-      endpoints =
-          h.endpoints ++ record { interface = None; address = s.endpoint; is_open = true } ∷ [];
-      tickets =
-          h.tickets ++
-          Held (record { key = length h.endpoints; endpoint = s.endpoint; kind = s.kind }) ∷ [];
-    }
 
 -- a future: the key of its control endpoint, the ticket that this holds, and the ticket's deadline
 pub record FutureState : Type 0 where

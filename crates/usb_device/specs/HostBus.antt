@@ -7,11 +7,11 @@ use Rattle.usb_bus.specs.BusState.{BusState}
 use Rattle.usb_bus.specs.Completions.{transfer_completion}
 use Rattle.usb_bus.specs.Holds.{value_for}
 use Rattle.usb_device.specs.declared.ends.TicketEnd.{TicketEnd}
-use Rattle.usb_device.specs.HostState.{HostState, Hold, HostTicket, HostEndpoint, Held, Abandoned, Ended}
+use Rattle.usb_device.specs.HostState.{HostState, Hold, HostTicket, HostEndpoint, HeldBy, Abandoned, Ended}
 
 -- what the endpoint that holds a ticket has of it
 abbrev pub held_as : HostTicket → Option Hold
-held_as (Held hold) = Some hold
+held_as (HeldBy hold) = Some hold
 held_as (Abandoned key) = None
 held_as (Ended end) = None
 
@@ -37,7 +37,7 @@ bus_of h =
       clock = h.kernel.clock;
       owner = owner_at h.tickets;
       keys = key_at h.endpoints;
-      left = turns_left h;
+      turns_left = turns_left h;
     }
 
 -- the transfer of a ticket that an endpoint holds, once its completion has come
@@ -46,7 +46,7 @@ host_value h t = value_for (transfer_completion h.kernel.past t) (hold_at h.tick
 
 -- the end of a ticket that has one
 abbrev pub ended_at : HostTicket → Option TicketEnd
-ended_at (Held hold) = None
+ended_at (HeldBy hold) = None
 ended_at (Abandoned key) = None
 ended_at (Ended end) = Some end
 

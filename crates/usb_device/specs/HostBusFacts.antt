@@ -5,17 +5,17 @@ use Rattle.std.proofs.Common.{cond, ap, sym, ◌∙◌, inl, inr}
 use Rattle.std.proofs.Math.Path.{fun_ext}
 use Rattle.std.proofs.Math.Dec.{eqb-suc-zero, eqb-zero-suc, eqb-suc-suc}
 use Rattle.std.proofs.lemmas.Bool.{cases_eq, eq-eqb, ne_eqb}
-use Rattle.usb_bus.specs.BusState.{without}
+use Rattle.usb_bus.specs.BusState.{without_owner}
 use Rattle.usb_device.specs.declared.ends.TicketEnd.{TicketEnd}
 use Rattle.usb_device.specs.declared.ends.TicketEnd.TheVariants.{Taken}
-use Rattle.usb_device.specs.HostState.{HostState, HostTicket, Hold, Held, Abandoned, Ended}
+use Rattle.usb_device.specs.HostState.{HostState, HostTicket, Hold, HeldBy, Abandoned, Ended}
 use Rattle.usb_device.specs.HostBus.{bus_of, owner_at, held_as}
 use Rattle.usb_device.specs.Releases.{settled}
 use Rattle.usb_device.specs.TicketEnds.{host_ended, ended_as, host_taken, with_ticket}
 
 -- a ticket that nobody holds any more, at its place
 owner-set : (tickets : List HostTicket) (t u : ℕ) (x : HostTicket) → held_as x ≡ None →
-    owner_at (set tickets t x) u ≡ without (owner_at tickets) t u
+    owner_at (set tickets t x) u ≡ without_owner (owner_at tickets) t u
 owner-set [] t u x is =
     elim (t == u) as (λ v. ◌≡◌ {A = Option ℕ} None (cond v None None))
     [ true ↦ refl | false ↦ refl ]
@@ -25,19 +25,19 @@ owner-set (y ∷ ys) (suc t) zero x is = rw (eqb-suc-zero t) refl
 owner-set (y ∷ ys) (suc t) (suc u) x is = rw (eqb-suc-suc t u) (owner-set ys t u x is)
 
 pub owner_at-set : (tickets : List HostTicket) (t : ℕ) (x : HostTicket) → held_as x ≡ None →
-    owner_at (set tickets t x) ≡ without (owner_at tickets) t
+    owner_at (set tickets t x) ≡ without_owner (owner_at tickets) t
 owner_at-set tickets t x is = fun_ext (λ u. owner-set tickets t u x is)
 
-same-without : (owner : ℕ → Option ℕ) (t u : ℕ) → owner t ≡ None → owner u ≡ without owner t u
-same-without owner t u none =
+same-without_owner : (owner : ℕ → Option ℕ) (t u : ℕ) → owner t ≡ None → owner u ≡ without_owner owner t u
+same-without_owner owner t u none =
     elim (cases_eq t u) [
       | inl same ↦ rw (eq-eqb t u same) (ap owner (sym same) ∙ none)
       | inr apart ↦ rw (ne_eqb t u apart) refl
     ]
 
 -- where nobody holds it nothing changes
-pub without-none : (owner : ℕ → Option ℕ) (t : ℕ) → owner t ≡ None → owner ≡ without owner t
-without-none owner t none = fun_ext (λ u. same-without owner t u none)
+pub without_owner-none : (owner : ℕ → Option ℕ) (t : ℕ) → owner t ≡ None → owner ≡ without_owner owner t
+without_owner-none owner t none = fun_ext (λ u. same-without_owner owner t u none)
 
 owner-none : (tickets : List HostTicket) (t : ℕ) (o : Option HostTicket) → slice_get tickets t ≡ o →
     option_and_then held_as o ≡ None → owner_at tickets t ≡ None
@@ -49,21 +49,21 @@ unfolding settled
 bus_of-settled h k = refl
 
 bus_of-ticket : (h : HostState) (t : ℕ) (x : HostTicket) → held_as x ≡ None →
-    bus_of (with_ticket h t x) ≡ record (bus_of h) { owner = without (owner_at h.tickets) t }
+    bus_of (with_ticket h t x) ≡ record (bus_of h) { owner = without_owner (owner_at h.tickets) t }
 bus_of-ticket h t x is =
     ap (λ (f : ℕ → Option ℕ). record (bus_of h) { owner = f }) (owner_at-set h.tickets t x is)
 
 bus_of-same : (h : HostState) (t : ℕ) → owner_at h.tickets t ≡ None →
-    bus_of h ≡ record (bus_of h) { owner = without (owner_at h.tickets) t }
+    bus_of h ≡ record (bus_of h) { owner = without_owner (owner_at h.tickets) t }
 bus_of-same h t none =
     ap (λ (f : ℕ → Option ℕ). record (bus_of h) { owner = f })
-    (without-none (owner_at h.tickets) t none)
+    (without_owner-none (owner_at h.tickets) t none)
 
 bus_of-ended_as : (h : HostState) (t : ℕ) (end : TicketEnd) (o : Option HostTicket) →
     slice_get h.tickets t ≡ o →
-    bus_of (ended_as h t end o) ≡ record (bus_of h) { owner = without (owner_at h.tickets) t }
+    bus_of (ended_as h t end o) ≡ record (bus_of h) { owner = without_owner (owner_at h.tickets) t }
 bus_of-ended_as h t end None at = bus_of-same h t (owner-none h.tickets t None at refl)
-bus_of-ended_as h t end (Some (Held hold)) at =
+bus_of-ended_as h t end (Some (HeldBy hold)) at =
     bus_of-settled (with_ticket h t (Ended end)) hold.key ∙ bus_of-ticket h t (Ended end) refl
 bus_of-ended_as h t end (Some (Abandoned key)) at =
     bus_of-settled (with_ticket h t (Ended end)) key ∙ bus_of-ticket h t (Ended end) refl
@@ -72,11 +72,11 @@ bus_of-ended_as h t end (Some (Ended before)) at =
 
 -- the bus of a host at which a ticket has its end
 pub bus_of-ended : (h : HostState) (t : ℕ) (end : TicketEnd) →
-    bus_of (host_ended h t end) ≡ record (bus_of h) { owner = without (owner_at h.tickets) t }
+    bus_of (host_ended h t end) ≡ record (bus_of h) { owner = without_owner (owner_at h.tickets) t }
 unfolding host_ended
 bus_of-ended h t end = bus_of-ended_as h t end (slice_get h.tickets t) refl
 
 pub bus_of-taken : (h : HostState) (t : ℕ) →
-    bus_of (host_taken h t) ≡ record (bus_of h) { owner = without (owner_at h.tickets) t }
+    bus_of (host_taken h t) ≡ record (bus_of h) { owner = without_owner (owner_at h.tickets) t }
 unfolding host_taken
 bus_of-taken h t = bus_of-ended h t Taken

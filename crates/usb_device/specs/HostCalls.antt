@@ -10,7 +10,7 @@ use Rattle.usb_kernel.specs.Timers.{timer_turned}
 use Rattle.usb_kernel.specs.Steps.{after_discard}
 use Rattle.usb_bus.specs.declared.route.Route.{Route}
 use Rattle.usb_bus.specs.Routes.{submission_of}
-use Rattle.usb_device.specs.HostState.{HostState, HostEndpoint, Held}
+use Rattle.usb_device.specs.HostState.{HostState, HostEndpoint, HeldBy}
 use Rattle.usb_device.specs.Releases.{settled}
 use Rattle.usb_device.specs.HostTurns.{with_past}
 
@@ -20,7 +20,7 @@ with_held h to t kernel =
     record h {
       kernel = kernel;
       tickets =
-          h.tickets ++ Held (record { key = to.key; endpoint = t.endpoint; kind = t.kind }) ∷ [];
+          h.tickets ++ HeldBy (record { key = to.key; endpoint = t.endpoint; kind = t.kind }) ∷ [];
     }
 
 -- the buffer of a transfer was submitted, refused or not

@@ -11,11 +11,11 @@ use Rattle.usb_kernel.specs.Steps.{HasErrno}
 use Rattle.usb_bus.specs.Completions.{transfer_completion}
 use Rattle.usb_bus.specs.Holds.{held_of}
 use Rattle.usb_device.specs.declared.opened.OpenDevice.{OpenDevice}
-use Rattle.usb_device.specs.declared.slot.Slot.{Slot}
-use Rattle.usb_device.specs.declared.slot.Slot.TheVariants as slot
+use Rattle.usb_device.specs.declared.slot.TicketState.{TicketState}
+use Rattle.usb_device.specs.declared.slot.TicketState.TheVariants as slot
 use Rattle.usb_device.specs.declared.host.Host.TheInside.{Inside}
 use Rattle.usb_device.specs.HostState.{HostState}
-use Rattle.usb_device.specs.LedgerState.{LedgerState, ticket_of}
+use Rattle.usb_device.specs.LedgerState.{LedgerState, host_ticket}
 
 -- a host by its parts
 abbrev pub host_made : KernelState → List OpenDevice → LedgerState → List KernelStep → HostState
@@ -25,23 +25,23 @@ host_made kernel devices l steps =
       devices = devices;
       interfaces = l.interfaces;
       endpoints = l.endpoints;
-      tickets = map ticket_of l.slots;
+      tickets = map host_ticket l.slots;
       steps = steps;
     }
 
 -- a slot is what the journal says: a transfer that an endpoint holds has its completion as soon as
 -- the ticket is reaped, and a ticket that was given up and has no end is not reaped
-abbrev pub Fits : List Event → ℕ → Slot → Type 0
-Fits past t (slot.Held key transfer) = transfer.held ≡ held_of (transfer_completion past t)
+abbrev pub Fits : List Event → ℕ → TicketState → Type 0
+Fits past t (slot.HeldBy key transfer) = transfer.held ≡ held_of (transfer_completion past t)
 Fits past t (slot.Abandoned key) = completion past t ≡ None
 Fits past t (slot.Ended end) = Unit {0}
 
 -- there is a slot for each ticket
-pub record Agree (past : List Event) (slots : List Slot) : Type 0 where
+pub record TicketsAgree (past : List Event) (slots : List TicketState) : Type 0 where
   pub count : length slots ≡ length (tickets past)
-  pub each : (t : ℕ) (s : Slot) → slice_get slots t ≡ Some s → Fits past t s
+  pub each : (t : ℕ) (s : TicketState) → slice_get slots t ≡ Some s → Fits past t s
 
 pub record IsMatched (h : Inside) : Type 0 where
-  pub agree : Agree h.kernel.past h.ledger.slots
+  pub agree : TicketsAgree h.kernel.past h.ledger.slots
   pub room : deque_len h.steps ≤ h.kernel.spare
   pub errnos : All HasErrno h.steps.items

@@ -1,18 +1,9 @@
--- What a host keeps while it goes on, and over the calls of handles.
+-- What a host keeps while it goes on.
 use Rattle.std.specs.Prelude.{ℕ, ◌≡◌, ◌-◌, List, ◌++◌, length}
 use Rattle.usb_kernel.specs.declared.step.KernelStep.{KernelStep}
 use Rattle.usb_bus.specs.Later.{IsLater}
 use Rattle.usb_device.specs.HostState.{HostState}
 use Rattle.usb_device.specs.HostBus.{bus_of}
-
--- so many places of the kernel were used, each by a step, and what handles stand on is as it was
-pub record UsesPlaces (places : ℕ) (old new : HostState) : Type 0 where
-  pub steps : new.steps ≡ old.steps
-  pub spare : new.kernel.spare ≡ old.kernel.spare - places
-  pub devices : new.devices ≡ old.devices
-  pub interfaces : new.interfaces ≡ old.interfaces
-  pub endpoints : new.endpoints ≡ old.endpoints
-  pub later : IsLater (bus_of old) (bus_of new)
 
 -- steps were taken from the front of the line, each of which used a place of the kernel, and what
 -- is open stays open
@@ -25,18 +16,6 @@ pub record LineGoesOn (old new : HostState) : Type 0 where
   pub endpoints : new.endpoints ≡ old.endpoints
 
 -- a host went on by itself: its line did, and nothing that endpoints hold has ended
-pub record WentOn (old new : HostState) : Type 0 where
+pub record HostGoesOn (old new : HostState) : Type 0 where
   pub line : LineGoesOn old new
   pub later : IsLater (bus_of old) (bus_of new)
-
--- the line, the places for its steps and the open devices are as they were
-pub record KeepsLine (old new : HostState) : Type 0 where
-  pub steps : new.steps ≡ old.steps
-  pub spare : new.kernel.spare ≡ old.kernel.spare
-  pub devices : new.devices ≡ old.devices
-
--- and so are the claimed interfaces and the endpoints
-pub record KeepsOpen (old new : HostState) : Type 0 where
-  pub line : KeepsLine old new
-  pub interfaces : new.interfaces ≡ old.interfaces
-  pub endpoints : new.endpoints ≡ old.endpoints

@@ -10,7 +10,7 @@ use Rattle.usb_device.specs.declared.opened.OpenDevice.{OpenDevice}
 -- what became of a ticket: an endpoint holds it; or the endpoint of this key gave it up before it
 -- was reaped; or it has its end
 pub data HostTicket : Type 0 where
-  Held : (hold : Hold) → HostTicket
+  HeldBy : (hold : Hold) → HostTicket
   Abandoned : (key : ℕ) → HostTicket
   Ended : (end : TicketEnd) → HostTicket
 

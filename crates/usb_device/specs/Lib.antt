@@ -7,7 +7,7 @@ pub mod HostCalls
 pub mod Finishes
 pub mod HostBus
 pub mod Handles
-pub mod Tried
+pub mod CallErrors
 pub mod Opens
 pub mod InterfaceClaims
 pub mod EndpointRefusals

@@ -7,7 +7,8 @@ use Rattle.usb_error.specs.ErrorState.{ErrorState}
 use Rattle.usb_error.specs.Errors.{open_error, read_descriptors_error, configuration_error, invalid_device_descriptor_error}
 use Rattle.usb_device.specs.declared.opened.OpenDevice.{OpenDevice}
 use Rattle.usb_device.specs.HostState.{HostState}
-use Rattle.usb_device.specs.Tried.{◌>>=◌, or_error, or_missing}
+use Rattle.usb_error.specs.Outcomes.{◌>>=◌}
+use Rattle.usb_device.specs.CallErrors.{or_error, or_missing}
 
 -- all descriptors of a device, as the kernel gives them
 unfoldable pub descriptors_tried : List DeviceState → ℕ → Result (List ℕ) ErrorState

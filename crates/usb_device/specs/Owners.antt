@@ -1,11 +1,11 @@
 -- Who owns a claimed interface, and which of its endpoints are in use.
 use Rattle.std.specs.Prelude.{ℕ, ◌%◌, ◌/◌, ◌==◌, ◌&&◌, ◌||◌, Bool, false, List, nat_lt, Option, Some, None}
 use Rattle.std.specs.List.{list_any, enumerate_from}
-use Rattle.usb_device.specs.HostState.{HostState, HostTicket, HostEndpoint, ClaimedInterface, Held, Abandoned, Ended}
+use Rattle.usb_device.specs.HostState.{HostState, HostTicket, HostEndpoint, ClaimedInterface, HeldBy, Abandoned, Ended}
 
 -- whether a ticket is one of the endpoint of a key, and has no end
 abbrev pub is_ticket_of : ℕ → HostTicket → Bool
-is_ticket_of key (Held hold) = hold.key == key
+is_ticket_of key (HeldBy hold) = hold.key == key
 is_ticket_of key (Abandoned k) = k == key
 is_ticket_of key (Ended end) = false
 

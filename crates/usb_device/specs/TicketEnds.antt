@@ -4,7 +4,7 @@ use Rattle.usb_kernel.specs.declared.submission.Done.{Done}
 use Rattle.usb_kernel.specs.Completions.{completion}
 use Rattle.usb_device.specs.declared.ends.TicketEnd.{TicketEnd}
 use Rattle.usb_device.specs.declared.ends.TicketEnd.TheVariants.{Taken, Dropped, Reclaimed}
-use Rattle.usb_device.specs.HostState.{HostState, HostTicket, Held, Abandoned, Ended}
+use Rattle.usb_device.specs.HostState.{HostState, HostTicket, HeldBy, Abandoned, Ended}
 use Rattle.usb_device.specs.Releases.{settled}
 
 abbrev pub with_ticket : HostState → ℕ → HostTicket → HostState
@@ -13,7 +13,7 @@ with_ticket h t ticket = record h { tickets = set h.tickets t ticket }
 -- a ticket gets its end. With its last ticket an endpoint that is closed goes
 abbrev pub ended_as : HostState → ℕ → TicketEnd → Option HostTicket → HostState
 ended_as h t end None = h
-ended_as h t end (Some (Held hold)) = settled (with_ticket h t (Ended end)) hold.key
+ended_as h t end (Some (HeldBy hold)) = settled (with_ticket h t (Ended end)) hold.key
 ended_as h t end (Some (Abandoned key)) = settled (with_ticket h t (Ended end)) key
 ended_as h t end (Some (Ended before)) = h
 
@@ -26,7 +26,7 @@ host_taken h t = host_ended h t Taken
 
 -- an endpoint gives a ticket up that is not reaped
 abbrev pub given_up : HostState → ℕ → Option HostTicket → HostState
-given_up h t (Some (Held hold)) = with_ticket h t (Abandoned hold.key)
+given_up h t (Some (HeldBy hold)) = with_ticket h t (Abandoned hold.key)
 given_up h t _ = h
 
 -- an endpoint gives a ticket up: one that is reaped is dropped

@@ -8,7 +8,7 @@ use Rattle.usb_device.specs.HostTurns.{host_turned, host_turn, host_rest}
 use Rattle.usb_device.specs.HostCalls.{host_discarded}
 use Rattle.usb_device.specs.HostWaits.{wait_steps, host_waited}
 use Rattle.usb_device.specs.HostBlocking.{host_blocked}
-use Rattle.usb_device.specs.HostFrames.{LineGoesOn, WentOn}
+use Rattle.usb_device.specs.HostFrames.{LineGoesOn, HostGoesOn}
 
 -- a wait at a host that has an answer goes by the steps that are left
 abbrev pub WaitIsBySteps : Type 0
@@ -27,17 +27,17 @@ BlockingIsBySteps =
 -- a turn, a wait and a blocking transfer take steps only from the front of the line, and end
 -- nothing that endpoints hold
 abbrev pub TurnGoesOn : Type 0
-TurnGoesOn = (h : HostState) → WentOn h (host_turned h)
+TurnGoesOn = (h : HostState) → HostGoesOn h (host_turned h)
 
 abbrev pub WaitGoesOn : Type 0
-WaitGoesOn = (h : HostState) (t timeout : ℕ) → WentOn h (host_waited h t timeout).1
+WaitGoesOn = (h : HostState) (t timeout : ℕ) → HostGoesOn h (host_waited h t timeout).1
 
 abbrev pub BlockingGoesOn : Type 0
-BlockingGoesOn = (h : HostState) (t timeout : ℕ) → WentOn h (host_blocked h t timeout)
+BlockingGoesOn = (h : HostState) (t timeout : ℕ) → HostGoesOn h (host_blocked h t timeout)
 
 -- at the end of a line no step is left
 abbrev pub RestGoesOn : Type 0
-RestGoesOn = (h : HostState) → WentOn h (host_rest h)
+RestGoesOn = (h : HostState) → HostGoesOn h (host_rest h)
 
 abbrev pub RestLeavesNone : Type 0
 RestLeavesNone = (h : HostState) → (host_rest h).steps ≡ []

@@ -3,7 +3,7 @@
 ghost use Rattle.std.specs.Prelude.{◌≡◌, Some, true, false, IsSome};
 ghost use Rattle.usb_device.specs.HostAwaits.{deadline_of, host_awaited, host_turned_until};
 ghost use Rattle.usb_device.specs.HostBus.{hold_at};
-ghost use Rattle.usb_device.specs.HostFrames.{WentOn};
+ghost use Rattle.usb_device.specs.HostFrames.{HostGoesOn};
 ghost use Rattle.usb_device.specs.HostWaits.{is_found};
 
 use crate::host::Host;
@@ -28,7 +28,7 @@ impl Host {
             deadline_of self.old.kernel.past ticket ≡ Some deadline }
         ensures awaited { self.new ≡ host_awaited self.old ticket deadline }
         ensures found { is_found self.new ticket ≡ true }
-        ensures went { WentOn self.old self.new }
+        ensures went { HostGoesOn self.old self.new }
     {
         'turns: while !self.has_come(ticket) {
             self.turn_until(deadline);

@@ -4,8 +4,8 @@ ghost use Rattle.std.specs.Prelude.{◌≡◌, ◌<◌, length, slice_get, OnOk,
 ghost use Rattle.std.specs.Option.{ForSome};
 ghost use Rattle.usb_device.specs.HostState.{HostState};
 ghost use Rattle.usb_device.specs.Handles.{handle_closed};
-ghost use Rattle.usb_device.specs.InterfaceClaims.{claim_key, host_claimed};
-ghost use Rattle.usb_device.specs.Tried.{Tried};
+ghost use Rattle.usb_device.specs.InterfaceClaims.{claim_tried, claimed_key, host_claimed};
+ghost use Rattle.usb_error.specs.Outcomes.{Tried};
 
 use crate::host::{Host, release};
 use usb_desc::Fail;
@@ -16,8 +16,8 @@ impl Host {
     /// taken before the kernel is asked.
     pub(crate) fn claim(&mut self, device: usize, number: u8) -> Result<usize, Fail<Error>>
         requires device { device < length self.old.devices }
-        ensures tried { Tried result
-            (claim_key self.old number (slice_get self.old.devices device)) }
+        ensures tried { ForSome (slice_get self.old.devices device) (λ o. Tried result
+            (claimed_key (length self.old.interfaces) (claim_tried self.old o number))) }
         ensures ok { OnOk result (self.new ≡ host_claimed self.old device number) }
         ensures err { OnErr result (self.new ≡ self.old) }
     {

@@ -5,15 +5,14 @@ ghost use Rattle.std.specs.Option.{ForSome, option_copied};
 ghost use Rattle.usb_desc.specs.Configurations as spec;
 ghost use Rattle.usb_desc.specs.Fields.{direction_of_address};
 ghost use Rattle.usb_device.specs.HostState.{HostState};
-ghost use Rattle.usb_device.specs.HandleStates.{InterfaceState, StandsDevice, StandsInterface};
-ghost use Rattle.usb_endpoint.specs.EndpointState.{EndpointState};
+ghost use Rattle.usb_device.specs.HandleStates.{StandsDevice, StandsInterface};
 ghost use Rattle.usb_endpoint.specs.Handles.{Stands, KeepsOthers};
 ghost use Rattle.usb_device.specs.HostBus.{bus_of};
-ghost use Rattle.usb_device.specs.EndpointOpens.{host_asked, host_tries, with_endpoint, fresh_endpoint};
+ghost use Rattle.usb_device.specs.EndpointOpens.{OpensEndpoint};
 ghost use Rattle.usb_device.specs.Handles.{handle_closed};
-ghost use Rattle.usb_device.specs.InterfaceClaims.{host_claimed, claim_key};
+ghost use Rattle.usb_device.specs.InterfaceClaims.{ClaimsInterface};
 ghost use Rattle.usb_device.specs.Opens.{host_opened, open_key};
-ghost use Rattle.usb_device.specs.Tried.{Tried, mapped};
+ghost use Rattle.usb_error.specs.Outcomes.{Tried};
 
 use crate::host::Host;
 use std::alloc::Global;
@@ -127,11 +126,7 @@ impl Device {
     /// wanting, nothing has changed.
     pub fn claim_interface(&self, host: &mut Host, interface: u8) -> Result<Interface, Fail<Error>>
         requires stands { StandsDevice host.old self.now }
-        ensures tried { Tried (mapped (λ (i : InterfaceState). i.key) result)
-            (claim_key host.old interface (slice_get host.old.devices self.now)) }
-        ensures number { IfOk result (λ i. i.number ≡ interface) }
-        ensures ok { OnOk result (host.new ≡ host_claimed host.old self.now interface) }
-        ensures err { OnErr result (host.new ≡ host.old) }
+        ensures claims { ClaimsInterface host.old host.new self.now interface result }
         ensures stands { IfOk result (StandsInterface host.new) }
         ensures device { StandsDevice host.new self.now }
     {
@@ -176,17 +171,7 @@ impl Interface {
         address: u8,
     ) -> Result<Endpoint<T, D>, Fail<Error>>
         requires stands { StandsInterface host.old self.now }
-        ensures tried { ForSome (slice_get host.old.interfaces self.now.key) (λ c.
-            Tried (mapped (λ (e : EndpointState). e.maximum) result)
-            (host_tries (host_asked host.old c.opened) self.now.key c address T.TYPE D.DIR)) }
-        ensures endpoint { ForSome (slice_get host.old.interfaces self.now.key) (λ c.
-            IfOk result (λ e. e ≡ fresh_endpoint c address T.TYPE e.maximum
-            (length host.old.endpoints))) }
-        ensures ok { ForSome (slice_get host.old.interfaces self.now.key) (λ c.
-            OnOk result (host.new ≡ with_endpoint (host_asked host.old c.opened)
-            self.now.key address)) }
-        ensures err { ForSome (slice_get host.old.interfaces self.now.key) (λ c.
-            OnErr result (host.new ≡ host_asked host.old c.opened)) }
+        ensures opens { OpensEndpoint host.old host.new self.now.key address T.TYPE D.DIR result }
         ensures direction { IfOk result (λ e. direction_of_address e.address ≡ D.DIR) }
         ensures stands { IfOk result (Stands (bus_of host.new)) }
         ensures others { IfOk result (λ e. KeepsOthers (bus_of host.old) (bus_of host.new) e.key) }

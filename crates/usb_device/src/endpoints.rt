@@ -6,8 +6,8 @@ ghost use Rattle.usb_desc.specs.Fields.{direction_of_address};
 ghost use Rattle.usb_device.specs.HostState.{HostState, ClaimedInterface};
 ghost use Rattle.usb_device.specs.OwnerRows.{claim_state};
 ghost use Rattle.usb_device.specs.EndpointRefusals.{endpoint_tried};
-ghost use Rattle.usb_device.specs.EndpointOpens.{active_value, host_asked, endpoint_of_setting, host_tries, with_endpoint, route_of, maximum_tried};
-ghost use Rattle.usb_device.specs.Tried.{Tried};
+ghost use Rattle.usb_device.specs.EndpointOpens.{active_value, host_asked, endpoint_of_setting, host_tries, with_endpoint, endpoint_route, maximum_tried};
+ghost use Rattle.usb_error.specs.Outcomes.{Tried};
 
 use crate::host::Host;
 use crate::opened::OpenDevice;
@@ -127,7 +127,7 @@ impl Host {
         ensures direction { OnOk result (direction_of_address address ≡ direction) }
         ensures route { ForSome (slice_get self.old.interfaces interface) (λ c.
             IfOk result (λ route.
-            route ≡ route_of c address kind route.maximum (length self.old.endpoints))) }
+            route ≡ endpoint_route c address kind route.maximum (length self.old.endpoints))) }
         ensures ok { ForSome (slice_get self.old.interfaces interface) (λ c.
             OnOk result (self.new ≡ with_endpoint (host_asked self.old c.opened)
             interface address)) }

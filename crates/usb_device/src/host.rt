@@ -20,10 +20,10 @@ ghost use Rattle.usb_device.specs.HostBus.{bus_of, hold_at, owner_at, key_at, ho
 ghost use Rattle.usb_device.specs.HostBusFacts.{bus_of-taken};
 ghost use Rattle.usb_device.specs.HostCalls.{host_submitted, host_refused, host_discarded, host_left, host_idled, host_halt_result, host_halt_cleared};
 ghost use Rattle.usb_device.specs.Finishes.{finished, HasEnds, HasCompletions};
-ghost use Rattle.usb_device.specs.HostFacts.{Agree, host_made};
+ghost use Rattle.usb_device.specs.HostFacts.{TicketsAgree, host_made};
 ghost use Rattle.usb_device.specs.HostLaws.{held-owned, value-held};
 ghost use Rattle.usb_device.specs.HostTurns.{host_stepped, host_reaped, host_turned, host_turn, host_rest};
-ghost use Rattle.usb_device.specs.LedgerState.{ticket_key, ticket_of};
+ghost use Rattle.usb_device.specs.LedgerState.{ticket_key, host_ticket};
 ghost use Rattle.usb_device.specs.Releases.{without_ended};
 ghost use Rattle.usb_device.specs.TicketEnds.{host_ended, host_taken, host_abandoned, came};
 
@@ -31,7 +31,7 @@ use crate::ends::TicketEnd;
 use crate::ledger::Ledger;
 use crate::opened::OpenDevice;
 use crate::owners::EndedClaim;
-use crate::slot::Slot;
+use crate::slot::TicketState;
 use std::alloc::Global;
 use std::collections::VecDeque;
 use std::marker::Model;
@@ -75,8 +75,8 @@ fn complete(kernel: &mut Kernel, ledger: &mut Ledger, arrived: Option<Done>)
     ensures host { (devices : List OpenDevice) (steps : List KernelStep) →
         host_made kernel.new devices ledger.new steps ≡
         came (host_made kernel.old devices ledger.old steps) arrived }
-    ensures agree { (past : List Event) → Agree past ledger.old.slots →
-        CompletesOnly past kernel.old.past arrived → Agree kernel.new.past ledger.new.slots }
+    ensures agree { (past : List Event) → TicketsAgree past ledger.old.slots →
+        CompletesOnly past kernel.old.past arrived → TicketsAgree kernel.new.past ledger.new.slots }
     ensures spare { kernel.new.spare ≡ kernel.old.spare }
 {
     let Some(done) = arrived else {
@@ -88,22 +88,22 @@ fn complete(kernel: &mut Kernel, ledger: &mut Ledger, arrived: Option<Done>)
 
 /// What a submission gave: the ticket's number, and what its transfer holds.
 #[derive(Drop)]
-struct Entry {
+struct NewTicket {
     ticket: u64,
     held: Held,
 }
 
 /// A refused ticket has its completion at once.
-fn entry_of(submitted: Submitted) -> Entry
+fn ticket_from(submitted: Submitted) -> NewTicket
     ensures ticket { result.ticket ≡ number_of submitted }
     ensures held { result.held ≡ held_at_once submitted }
 {
     match submitted {
-        Submitted::Queued(ticket) => Entry {
+        Submitted::Queued(ticket) => NewTicket {
             ticket,
             held: Held::Nothing,
         },
-        Submitted::Refused(done) => Entry {
+        Submitted::Refused(done) => NewTicket {
             ticket: done.ticket,
             held: Held::Complete(completion_from(done)),
         },
@@ -235,7 +235,7 @@ impl Host {
         let buffer = transfer.take_buffer();
         match self.kernel.submit(to.submission(buffer)) {
             Ok(submitted) => {
-                let entry = entry_of(submitted);
+                let entry = ticket_from(submitted);
                 transfer.held = entry.held;
                 self.ledger.hold(to.key, transfer);
                 Ok(entry.ticket)
@@ -271,7 +271,7 @@ impl Host {
         let buffer = transfer.take_buffer();
         match self.kernel.refuse(to.submission(buffer), errno) {
             Ok(submitted) => {
-                let entry = entry_of(submitted);
+                let entry = ticket_from(submitted);
                 transfer.held = entry.held;
                 self.ledger.hold(to.key, transfer);
                 Ok(entry.ticket)

@@ -7,11 +7,11 @@ ghost use Rattle.usb_device.specs.Owners.{is_used_among};
 ghost use Rattle.usb_device.specs.Releases.{claim_of, claim_ended};
 ghost use Rattle.usb_device.specs.HostBus.{end_at};
 ghost use Rattle.usb_device.specs.HostState.{fresh_interface};
-ghost use Rattle.usb_device.specs.LedgerState.{ticket_of, tickets_in, ticket_key, slot_data, slot_with, slot_without, ended_with, abandoned_key};
+ghost use Rattle.usb_device.specs.LedgerState.{host_ticket, tickets_in, ticket_key, slot_data, slot_with, slot_without, ended_with, abandoned_key};
 
 use crate::ends::TicketEnd;
 use crate::owners::{Claim, EndedClaim, Owners};
-use crate::slot::Slot;
+use crate::slot::TicketState;
 use std::alloc::Global;
 use std::marker::Model;
 use std::mem;
@@ -31,7 +31,7 @@ pub(crate) struct Ending {
 #[derive(Drop)]
 pub(crate) struct Ledger {
     owners: Owners,
-    slots: Vec<Slot>,
+    slots: Vec<TicketState>,
 }
 
 impl Model for Ledger {
@@ -76,16 +76,16 @@ impl Ledger {
     pub fn end(&mut self, ticket: usize, end: TicketEnd) -> Ending
         requires within { ticket < length self.old.slots }
         requires key { ForSome (slice_get self.old.slots ticket) (λ s.
-            IsSome (ticket_key (ticket_of s))) }
+            IsSome (ticket_key (host_ticket s))) }
         ensures slots { self.new ≡ record self.old {
-          slots = set self.old.slots ticket (Slot.Ended end);
+          slots = set self.old.slots ticket (TicketState.Ended end);
         } }
         ensures transfer { ForSome (slice_get self.old.slots ticket) (λ s.
             result.transfer ≡ slot_data s) }
         ensures claim { ForSome (slice_get self.old.slots ticket) (λ s.
-            result.claim ≡ ended_with self.new (ticket_key (ticket_of s))) }
+            result.claim ≡ ended_with self.new (ticket_key (host_ticket s))) }
     {
-        let slot = mem::replace(&mut self.slots[ticket], Slot::Ended(end));
+        let slot = mem::replace(&mut self.slots[ticket], TicketState::Ended(end));
         let parts = slot.into_parts();
         let claim = self.owners.end_ticket(parts.key.unwrap());
         Ending {
@@ -117,7 +117,7 @@ impl Ledger {
     pub fn give_up(&mut self, ticket: usize)
         requires within { ticket < length self.old.slots }
         requires key { ForSome (slice_get self.old.slots ticket) (λ s.
-            IsSome (ticket_key (ticket_of s))) }
+            IsSome (ticket_key (host_ticket s))) }
         ensures slots { ForSome (slice_get self.old.slots ticket) (λ s.
             self.new ≡ record self.old { slots = set self.old.slots ticket (slot_without s) }) }
     {
@@ -142,11 +142,12 @@ impl Ledger {
         requires key { key < length self.old.endpoints }
         requires open { ForSome (slice_get self.old.endpoints key) (λ e. e.is_open ≡ true) }
         ensures slots { self.new ≡ record self.old {
-          slots = self.old.slots ++ Slot.Held key transfer ∷ [];
+          slots = self.old.slots ++ TicketState.HeldBy key transfer ∷ [];
           room = self.new.room;
         } }
     {
-        self.slots.push_reserved(Slot::Held { key, transfer });
+        self.slots
+            .push_reserved(TicketState::HeldBy { key, transfer });
         self.owners.add_ticket(key);
     }
 
@@ -268,7 +269,7 @@ impl Ledger {
     }
 
     /// A slot.
-    pub fn slot(&self, ticket: usize) -> &Slot
+    pub fn slot(&self, ticket: usize) -> &TicketState
         requires within { ticket < length self.now.slots }
         ensures slot { slice_get self.now.slots ticket ≡ Some result.now }
     {

@@ -5,7 +5,7 @@ ghost use Rattle.std.specs.Option.{ForSome};
 ghost use Rattle.usb_desc.specs.Configurations as spec;
 ghost use Rattle.usb_device.specs.HostState.{HostState};
 ghost use Rattle.usb_device.specs.Opens.{descriptors_tried, open_tried, open_key, host_opened, with_opened};
-ghost use Rattle.usb_device.specs.Tried.{Tried};
+ghost use Rattle.usb_error.specs.Outcomes.{Tried};
 
 use crate::host::Host;
 use crate::opened::OpenDevice;

@@ -37,7 +37,7 @@ pub(crate) struct Claim {
 /// An endpoint: the key of its interface (a control endpoint has none), its address, whether its
 /// handle is open, and how many of its tickets have no end.
 #[derive(Drop)]
-pub(crate) struct Row {
+pub(crate) struct EndpointRow {
     pub interface: Option<usize>,
     pub address: u8,
     pub is_open: bool,
@@ -48,7 +48,7 @@ pub(crate) struct Row {
 #[derive(Drop)]
 pub(crate) struct Owners {
     claims: Vec<Claim>,
-    rows: Vec<Row>,
+    rows: Vec<EndpointRow>,
 }
 
 impl Model for Owners {
@@ -68,7 +68,7 @@ impl Model for Owners {
     ghost invariant = { AreCounted };
 }
 
-impl Row {
+impl EndpointRow {
     /// Whether the endpoint lives.
     fn is_alive(&self) -> bool
         ensures alive { result ≡ is_alive self.now }
@@ -287,7 +287,7 @@ impl Owners {
         ensures err { OnErr result (self.new ≡ self.old) }
     {
         let key = self.rows.len();
-        let row = Row {
+        let row = EndpointRow {
             interface: Some(interface),
             address,
             is_open: true,
@@ -315,7 +315,7 @@ impl Owners {
         ensures err { OnErr result (self.new ≡ self.old) }
     {
         let key = self.rows.len();
-        let row = Row {
+        let row = EndpointRow {
             interface: None,
             address,
             is_open: true,

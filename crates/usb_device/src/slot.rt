@@ -2,7 +2,7 @@
 
 ghost use Rattle.std.specs.Prelude.{◌≡◌};
 ghost use Rattle.usb_device.specs.HostBus.{ended_at};
-ghost use Rattle.usb_device.specs.LedgerState.{ticket_of, ticket_key, slot_data, slot_kept, slot_without, is_given_up, is_complete};
+ghost use Rattle.usb_device.specs.LedgerState.{host_ticket, ticket_key, slot_data, slot_kept, slot_without, is_given_up, is_complete};
 
 use crate::ends::TicketEnd;
 use usb_bus::completion_from;
@@ -13,8 +13,8 @@ use usb_xfer::{Held, TransferData};
 /// when that gave it up before its reap, or its end. The transfer has no buffer while the kernel
 /// has it, and then its completion.
 #[derive(Drop)]
-pub(crate) enum Slot {
-    Held { key: usize, transfer: TransferData },
+pub(crate) enum TicketState {
+    HeldBy { key: usize, transfer: TransferData },
     Abandoned { key: usize },
     Ended(TicketEnd),
 }
@@ -26,22 +26,22 @@ pub(crate) struct Parts {
     pub transfer: Option<TransferData>,
 }
 
-impl Slot {
+impl TicketState {
     /// The key of the endpoint, while the ticket has no end, and the transfer.
     pub fn into_parts(self) -> Parts
-        ensures key { result.key ≡ ticket_key (ticket_of self) }
+        ensures key { result.key ≡ ticket_key (host_ticket self) }
         ensures transfer { result.transfer ≡ slot_data self }
     {
         match self {
-            Slot::Held { key, transfer } => Parts {
+            TicketState::HeldBy { key, transfer } => Parts {
                 key: Some(key),
                 transfer: Some(transfer),
             },
-            Slot::Abandoned { key } => Parts {
+            TicketState::Abandoned { key } => Parts {
                 key: Some(key),
                 transfer: None,
             },
-            Slot::Ended(_) => Parts {
+            TicketState::Ended(_) => Parts {
                 key: None,
                 transfer: None,
             },
@@ -55,12 +55,12 @@ impl Slot {
         ensures given_up { result ≡ is_given_up self.old }
     {
         match self {
-            Slot::Held { key: _, transfer } => {
+            TicketState::HeldBy { key: _, transfer } => {
                 transfer.held = Held::Complete(completion_from(done));
                 false
             }
-            Slot::Abandoned { key: _ } => true,
-            Slot::Ended(_) => false,
+            TicketState::Abandoned { key: _ } => true,
+            TicketState::Ended(_) => false,
         }
     }
 
@@ -68,9 +68,9 @@ impl Slot {
     pub fn give_up(&mut self)
         ensures slot { self.new ≡ slot_without self.old }
     {
-        if let Slot::Held { key, transfer: _ } = self {
+        if let TicketState::HeldBy { key, transfer: _ } = self {
             let key = *key;
-            *self = Slot::Abandoned { key };
+            *self = TicketState::Abandoned { key };
         }
     }
 
@@ -79,17 +79,17 @@ impl Slot {
         ensures complete { result ≡ is_complete self.now }
     {
         match self {
-            Slot::Held { key: _, transfer } => matches!(transfer.held, Held::Complete(_)),
+            TicketState::HeldBy { key: _, transfer } => matches!(transfer.held, Held::Complete(_)),
             _ => false,
         }
     }
 
     /// The end of the ticket, if it has one.
     pub fn end(&self) -> Option<TicketEnd>
-        ensures end { result ≡ ended_at (ticket_of self.now) }
+        ensures end { result ≡ ended_at (host_ticket self.now) }
     {
         match self {
-            Slot::Ended(end) => Some(*end),
+            TicketState::Ended(end) => Some(*end),
             _ => None,
         }
     }

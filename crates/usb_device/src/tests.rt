@@ -503,3 +503,46 @@ fn an_interface_is_released_with_its_last_owner(rt: HostRuntime) -> Result<(), s
     assert_eq!(rt; claim_refusal(rt.alloc(), &mut host)?, None);
     Ok(())
 }
+
+/// Reads one packet from bulk IN endpoint 0x81 of the device at bus 1 and address 6, within a
+/// second.
+fn read_packet(alloc: Global, host: &mut Host) -> Result<Option<Completion>, Fail<Error>> {
+    let Ok(buffer) = Buffer::new(alloc, 64) else {
+        return Err(Fail::Memory);
+    };
+    let device = Device::open_at(alloc, host, 1, 6)?;
+    let claimed = device.claim_interface(host, 0);
+    device.close(host);
+    let interface = claimed?;
+    let opened = interface.endpoint::<Bulk, In>(host, 0x81);
+    interface.close(host); // the claim ends with its last owner, here the endpoint
+    let mut endpoint = opened?;
+    let done = match endpoint.submit(host, buffer) {
+        Ok(()) => Ok(endpoint.wait_next_complete(host, 1_000_000_000)),
+        Err(_) => Err(Fail::Memory),
+    };
+    endpoint.close(host); // what is still on its way is given up, once
+    done
+}
+
+/// A packet of 3 bytes.
+fn packet_steps(alloc: Global) -> Result<Vec<KernelStep>, NoMemory>
+    ensures errnos { IfOk result (λ steps. All HasErrno steps.items) }
+{
+    match vec![in alloc; packet(alloc, &[1, 2, 3])?] {
+        Ok(steps) => Ok(steps),
+        Err(_) => Err(NoMemory),
+    }
+}
+
+#[test]
+fn a_short_driver_reads_a_packet(rt: HostRuntime) -> Result<(), std::test::Fail> {
+    let mut host = host(rt.alloc(), &DEVICE, packet_steps(rt.alloc())?)?;
+    let done = read_packet(rt.alloc(), &mut host)?;
+    let bytes = match &done {
+        Some(done) => done.buffer.as_slice(),
+        None => &[],
+    };
+    assert_eq!(rt; bytes, [1, 2, 3].as_slice());
+    Ok(())
+}

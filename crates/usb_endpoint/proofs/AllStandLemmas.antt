@@ -6,7 +6,7 @@ use Rattle.usb_bus.specs.BusState.{BusState}
 use Rattle.usb_bus.specs.Later.{IsLater}
 use Rattle.usb_endpoint.specs.EndpointState.{EndpointState}
 use Rattle.usb_endpoint.specs.Handles.{Stands, KeepsOthers}
-use Rattle.usb_endpoint.specs.Frames.{Stands-other, Stands-later}
+use Rattle.usb_endpoint.proofs.Frames.{Stands-other, Stands-later}
 use Rattle.usb_endpoint.specs.AllStand.{AllStand}
 
 slice_get-set : {X : Type 0} (xs : List X) (i t : ℕ) (r x : X) → slice_get (set xs i r) t ≡ Some x → ((t ≡ i) × (x ≡ r)) ⊎ ((t ≢ i) × (slice_get xs t ≡ Some x))

@@ -66,7 +66,7 @@ time-is_not_up old t stays keeps reaps waits finished up =
     cc
 
 -- a wait of a second for a finished ticket makes a turn
-pub less-left : (old new : BusState) (t timeout : ℕ) → (TimeWasUp old t → ⊥) → 0 < timeout → EndedWhy old new t timeout → new.left < old.left
+pub less-left : (old new : BusState) (t timeout : ℕ) → (TimeWasUp old t → ⊥) → 0 < timeout → EndedWhy old new t timeout → new.turns_left < old.turns_left
 less-left old new t timeout never some why = elim why [ inl up ↦ absurd (never up) | inr less ↦ less some ]
 
 option_some : {A : Type 0} (o : Option A) → IsSome o → (x : A) × (o ≡ Some x)

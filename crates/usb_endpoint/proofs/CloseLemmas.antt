@@ -14,8 +14,8 @@ drop-before : (ts : List ℕ) (i d : ℕ) → 0 < i → i ≤ length ts → drop
 drop-before ts zero d some within = absurd (omega arith)
 drop-before ts (suc j) d some within = let e : suc j - 1 ≡ j = omega arith in rw e (drop-at ts j d (omega arith))
 
-joined : (first old : BusState) (now past : List Event) (left : ℕ) (before : List Event) → old ≡ record first { past = before; left = old.left } → now ≡ past
-    → record old { past = now; left = left } ≡ record first { past = past; left = left }
+joined : (first old : BusState) (now past : List Event) (left : ℕ) (before : List Event) → old ≡ record first { past = before; turns_left = old.turns_left } → now ≡ past
+    → record old { past = now; turns_left = left } ≡ record first { past = past; turns_left = left }
 joined first old now past left before so_far is = rw (so_far, is) refl
 
 -- one more discard, from the last ticket on
@@ -27,12 +27,12 @@ all_discarded-step discarded old now ts i x some within is so_far =
 
 -- what a handle needs to know of the bus after it
 pub discarded-state : (first old new : BusState) (ts : List ℕ) (i x : ℕ) → 0 < i → i ≤ length ts → x ≡ get_or ts (i - 1) x
-    → old ≡ record first { past = all_discarded after_discard first.past (drop i ts); left = old.left }
-    → new ≡ record old { past = after_discard old.past x; left = new.left }
-    → new ≡ record first { past = all_discarded after_discard first.past (drop (i - 1) ts); left = new.left }
+    → old ≡ record first { past = all_discarded after_discard first.past (drop i ts); turns_left = old.turns_left }
+    → new ≡ record old { past = after_discard old.past x; turns_left = new.turns_left }
+    → new ≡ record first { past = all_discarded after_discard first.past (drop (i - 1) ts); turns_left = new.turns_left }
 discarded-state first old new ts i x some within is so_far after =
     let past = all_discarded-step after_discard first.past old.past ts i x some within is (ap (λ (b : BusState). b.past) so_far) in
-    after ∙ joined first old (after_discard old.past x) _ new.left _ so_far past
+    after ∙ joined first old (after_discard old.past x) _ new.turns_left _ so_far past
 
 -- where only owners changed, and then owners alone, only owners changed
 pub owner-only : (first old new : BusState) (owner : ℕ → Option ℕ) → new ≡ record old { owner = owner } → old ≡ record first { owner = old.owner } → new ≡ record first { owner = new.owner }

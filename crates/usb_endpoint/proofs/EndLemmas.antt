@@ -6,12 +6,12 @@ use Rattle.std.proofs.Math.ListN.{length-append}
 use Rattle.usb_kernel.specs.declared.event.Event.{Event}
 use Rattle.usb_kernel.specs.declared.event.Event.TheVariants.{Submit, Refuse, Packet, Ack, Echo, Fail, Discard, Reap, Unplug}
 use Rattle.usb_kernel.specs.Tickets.{Ticket, tickets}
-use Rattle.usb_bus.specs.BusState.{BusState, without}
+use Rattle.usb_bus.specs.BusState.{BusState, without_owner}
 use Rattle.usb_endpoint.specs.Laws.{EndEnds, EndedStays, EnteredMoves, LaterMoves, EndMoves}
 use Rattle.usb_endpoint.proofs.HandleLemmas.{with_owner-other}
 
-without-none : (owner : ℕ → Option ℕ) (t u : ℕ) → owner u ≡ None → without owner t u ≡ None
-without-none owner t u none = elim (t == u) as (λ v. cond v None (owner u) ≡ None) [ true ↦ refl | false ↦ none ]
+without_owner-none : (owner : ℕ → Option ℕ) (t u : ℕ) → owner u ≡ None → without_owner owner t u ≡ None
+without_owner-none owner t u none = elim (t == u) as (λ v. cond v None (owner u) ≡ None) [ true ↦ refl | false ↦ none ]
 
 pub end_ends : EndEnds
 end_ends b t = rw (eq-eqb t t refl) refl
@@ -44,7 +44,7 @@ ended_stays old new t moved ended =
             | inl same ↦ ap (λ (f : ℕ → Option ℕ). f t) same ∙ ended.free
             | inr other ↦
                 elim other [
-                  | inl gone ↦ ap (λ (f : ℕ → Option ℕ). f t) gone.1 ∙ without-none old.owner gone.0 t ended.free
+                  | inl gone ↦ ap (λ (f : ℕ → Option ℕ). f t) gone.1 ∙ without_owner-none old.owner gone.0 t ended.free
                   | inr came ↦
                       let ne : came.0 ≢ t = λ same. let is = ended.is in let le = came.2 in absurd (omega (arith, same, is, le)) in
                       ap (λ (f : ℕ → Option ℕ). f t) came.3 ∙ with_owner-other old.owner came.0 came.1 t ne ∙ ended.free

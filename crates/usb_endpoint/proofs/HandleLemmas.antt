@@ -2,7 +2,7 @@
 use Rattle.std.proofs.Common.{ℕ, zero, suc, arith, ◌<◌, get_or, ◌≡◌, ◌≢◌, List, [], ◌∷◌, length, Option, Some, None, refl, sym, ◌∙◌, ap, subst}
 use Rattle.std.proofs.lemmas.Bool.{eq-eqb, ne_eqb}
 use Rattle.std.proofs.lemmas.Option.{same_Some}
-use Rattle.usb_bus.specs.BusState.{BusState, with_owner, without}
+use Rattle.usb_bus.specs.BusState.{BusState, with_owner, without_owner}
 use Rattle.usb_endpoint.specs.EndpointState.{EndpointState}
 use Rattle.usb_endpoint.specs.Handles.{IsApart, AreHeld, Stands, KeepsOthers}
 
@@ -16,8 +16,8 @@ with_owner-other owner t k u ne = rw (ne_eqb t u ne) refl
 pub with_owner-same : (owner : ℕ → Option ℕ) (t k : ℕ) → with_owner owner t k t ≡ Some k
 with_owner-same owner t k = rw (eq-eqb t t refl) refl
 
-pub without-other : (owner : ℕ → Option ℕ) (t u : ℕ) → t ≢ u → without owner t u ≡ owner u
-without-other owner t u ne = rw (ne_eqb t u ne) refl
+pub without_owner-other : (owner : ℕ → Option ℕ) (t u : ℕ) → t ≢ u → without_owner owner t u ≡ owner u
+without_owner-other owner t u ne = rw (ne_eqb t u ne) refl
 
 -- each ticket of a queue is held
 pub AreHeld-at : (owner : ℕ → Option ℕ) (key : ℕ) (ts : List ℕ) (k d : ℕ) → k < length ts → AreHeld owner key ts → owner (get_or ts k d) ≡ Some key
@@ -26,23 +26,23 @@ AreHeld-at owner key (t ∷ ts) zero d lt held = held.0
 AreHeld-at owner key (t ∷ ts) (suc k) d lt held = AreHeld-at owner key ts k d (omega arith) held.2
 
 -- the front has ended
-pub AreHeld-without : (owner : ℕ → Option ℕ) (k t : ℕ) (ts : List ℕ) → IsApart t ts → AreHeld owner k ts → AreHeld (without owner t) k ts
-AreHeld-without owner k t [] apart held = tt
-AreHeld-without owner k t (u ∷ us) apart held = (without-other owner t u apart.0 ∙ held.0, held.1, AreHeld-without owner k t us apart.1 held.2)
+pub AreHeld-without_owner : (owner : ℕ → Option ℕ) (k t : ℕ) (ts : List ℕ) → IsApart t ts → AreHeld owner k ts → AreHeld (without_owner owner t) k ts
+AreHeld-without_owner owner k t [] apart held = tt
+AreHeld-without_owner owner k t (u ∷ us) apart held = (without_owner-other owner t u apart.0 ∙ held.0, held.1, AreHeld-without_owner owner k t us apart.1 held.2)
 
-pub Stands-taken : (old new : BusState) (e next : EndpointState) (t : ℕ) (ts : List ℕ) → Stands old e → e.pending ≡ t ∷ ts → new ≡ record old { owner = without old.owner t } → next ≡ record e { pending = ts } → Stands new next
+pub Stands-taken : (old new : BusState) (e next : EndpointState) (t : ℕ) (ts : List ℕ) → Stands old e → e.pending ≡ t ∷ ts → new ≡ record old { owner = without_owner old.owner t } → next ≡ record e { pending = ts } → Stands new next
 Stands-taken old new e next t ts stands is after same =
     let held = rw is at stands.held in
-    rw (after, same) (record { key_is_open = stands.key_is_open; held = AreHeld-without old.owner e.key t ts held.1 held.2 })
+    rw (after, same) (record { key_is_open = stands.key_is_open; held = AreHeld-without_owner old.owner e.key t ts held.1 held.2 })
 
 -- a ticket of this handle has ended
-pub KeepsOthers-end : (old mid new : BusState) (key t : ℕ) → KeepsOthers old mid key → mid.owner t ≡ Some key → new ≡ record mid { owner = without mid.owner t } → KeepsOthers old new key
+pub KeepsOthers-end : (old mid new : BusState) (key t : ℕ) → KeepsOthers old mid key → mid.owner t ≡ Some key → new ≡ record mid { owner = without_owner mid.owner t } → KeepsOthers old new key
 KeepsOthers-end old mid new key t kept own after =
     rw after (record {
       tickets = λ u k other was.
           let now = kept.tickets u k other was in
           let ne : t ≢ u = λ e. other (same_Some k key (sym now ∙ ap mid.owner (sym e) ∙ own)) in
-          without-other mid.owner t u ne ∙ now;
+          without_owner-other mid.owner t u ne ∙ now;
       keys = kept.keys;
     })
 

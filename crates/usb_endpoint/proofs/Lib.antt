@@ -1,3 +1,4 @@
+pub mod Frames
 pub mod HandleLemmas
 pub mod SubmitLemmas
 pub mod CloseLemmas

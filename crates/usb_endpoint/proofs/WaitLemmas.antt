@@ -67,8 +67,8 @@ Falls-le Stepped old new less = omega arith
 Falls-le Reaped old new less = omega arith
 Falls-le TimeUp old new le = le
 
-pub GoesOn-turn : (turn : Turn) (old new : BusState) → IsLater old new → Falls turn old.left new.left → GoesOn old new
-GoesOn-turn turn old new later falls = record { past = later.past; clock = later.clock; left = Falls-le turn old.left new.left falls }
+pub GoesOn-turn : (turn : Turn) (old new : BusState) → IsLater old new → Falls turn old.turns_left new.turns_left → GoesOn old new
+GoesOn-turn turn old new later falls = record { past = later.past; clock = later.clock; left = Falls-le turn old.turns_left new.turns_left falls }
 
 -- what a look at the clock tells
 pub late_if : (t a b now now' start : ℕ) → t ≤ now - start → now ≡ now' → now' ≡ a → start ≡ b → nat_le t (a - b) ≡ true

@@ -1,7 +1,7 @@
 -- The end of a ticket: it was taken, or given up.
 use Rattle.std.specs.Prelude.{ℕ, ◌≡◌, ◌<◌, ◌≤◌, ◌⊎◌, length, None}
 use Rattle.usb_kernel.specs.Tickets.{tickets}
-use Rattle.usb_bus.specs.BusState.{BusState, with_owner, without}
+use Rattle.usb_bus.specs.BusState.{BusState, with_owner, without_owner}
 use Rattle.usb_bus.specs.Later.{Extends}
 
 -- a ticket of the journal that no endpoint holds
@@ -14,6 +14,6 @@ pub record HasEnded (b : BusState) (t : ℕ) : Type 0 where
 pub record Moved (old new : BusState) : Type 0 where
   pub past : Extends old.past new.past
   pub owner : (new.owner ≡ old.owner) ⊎
-      (((t : ℕ) × (new.owner ≡ without old.owner t)) ⊎
+      (((t : ℕ) × (new.owner ≡ without_owner old.owner t)) ⊎
       ((t : ℕ) × (k : ℕ) × (length (tickets old.past) ≤ t) ×
       (new.owner ≡ with_owner old.owner t k)))

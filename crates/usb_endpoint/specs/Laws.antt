@@ -2,7 +2,7 @@
 use Rattle.std.specs.Prelude.{ℕ, ◌≡◌, ◌≢◌, List, [], ◌∷◌, ◌++◌, Option, None, Some, set, false, slice_get}
 use Rattle.usb_xfer.specs.BufferState.{BufferState}
 use Rattle.usb_bus.specs.declared.route.Route.{Route}
-use Rattle.usb_bus.specs.BusState.{BusState, without}
+use Rattle.usb_bus.specs.BusState.{BusState, without_owner}
 use Rattle.usb_bus.specs.Later.{IsLater}
 use Rattle.usb_bus.specs.Submitted.{Entered}
 use Rattle.usb_endpoint.specs.EndpointState.{EndpointState}
@@ -38,7 +38,7 @@ CallsCompose =
 
 -- a ticket that was taken or given up has ended
 abbrev pub EndEnds : Type 0
-EndEnds = (b : BusState) (t : ℕ) → without b.owner t t ≡ None
+EndEnds = (b : BusState) (t : ℕ) → without_owner b.owner t t ≡ None
 
 -- and has no other end: whatever comes, no endpoint holds it again
 abbrev pub EndedStays : Type 0
@@ -55,7 +55,7 @@ LaterMoves = (old new : BusState) → IsLater old new → Moved old new
 
 abbrev pub EndMoves : Type 0
 EndMoves =
-    (old new : BusState) (t : ℕ) → new ≡ record old { owner = without old.owner t } → Moved old new
+    (old new : BusState) (t : ℕ) → new ≡ record old { owner = without_owner old.owner t } → Moved old new
 
 -- an endpoint of another key stands as before
 abbrev pub OthersStand : Type 0

@@ -5,7 +5,6 @@ pub mod Submits
 pub mod Closes
 pub mod Waits
 pub mod Blocking
-pub mod Frames
 pub mod AllStand
 pub mod Histories
 pub mod Ends

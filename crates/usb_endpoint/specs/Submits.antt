@@ -1,17 +1,14 @@
 -- What the submission of a buffer does.
-use Rattle.std.specs.Prelude.{ℕ, ◌≡◌, ◌%◌, Bool, true, false, Option, Some, nat_le, nat_lt, ◌==◌, ◌&&◌, if◌then◌else◌}
+use Rattle.std.specs.Prelude.{ℕ, ◌≡◌, Bool, true, false, Option, Some, nat_le, if◌then◌else◌}
 use Rattle.usb_xfer.specs.BufferState.{BufferState}
 use Rattle.usb_xfer.specs.declared.transfer.Held.{Held}
 use Rattle.usb_xfer.specs.declared.transfer.TransferData.{TransferData}
 use Rattle.usb_xfer.specs.Transfers.{filled_transfer, buffer_held}
+use Rattle.usb_kernel.specs.WholePackets.{is_whole}
 use Rattle.usb_bus.specs.declared.route.Route.{Route}
 use Rattle.usb_bus.specs.BusState.{BusState}
 use Rattle.usb_bus.specs.Submitted.{Entered}
 use Rattle.usb_endpoint.specs.EndpointState.{EndpointState, route_of}
-
--- a length in whole packets, at least one
-abbrev pub is_whole : ℕ → ℕ → Bool
-is_whole maximum n = nat_lt 0 maximum && (nat_lt 0 n && n % maximum == 0)
 
 -- an IN endpoint, which has bit 7, is asked for whole packets. An OUT endpoint sends any bytes
 abbrev pub is_valid : EndpointState → BufferState → Bool

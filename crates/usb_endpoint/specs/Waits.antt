@@ -58,8 +58,8 @@ pub record TimeWasUp (old : BusState) (t : ℕ) : Type 0 where
 
 -- why a wait ended without its ticket
 abbrev pub EndedWhy : BusState → BusState → ℕ → ℕ → Type 0
-EndedWhy old new t timeout = TimeWasUp old t ⊎ (0 < timeout → new.left < old.left)
+EndedWhy old new t timeout = TimeWasUp old t ⊎ (0 < timeout → new.turns_left < old.turns_left)
 
 -- why a wait found its ticket: it was reaped at once, or a turn was made
 abbrev pub FoundWhy : BusState → BusState → ℕ → Type 0
-FoundWhy old new t = IsSome (transfer_completion old.past t) ⊎ (new.left < old.left)
+FoundWhy old new t = IsSome (transfer_completion old.past t) ⊎ (new.turns_left < old.turns_left)

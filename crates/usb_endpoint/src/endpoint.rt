@@ -4,7 +4,7 @@ ghost use Rattle.std.specs.Prelude.{◌≡◌, ◌<◌, ◌≤◌, ◌^◌, ◌+
 ghost use Rattle.usb_desc.specs.Fields.{direction_of_address};
 ghost use Rattle.usb_kernel.specs.Tickets.{tickets};
 ghost use Rattle.usb_kernel.specs.Steps.{after_discard};
-ghost use Rattle.usb_bus.specs.BusState.{without, without_key};
+ghost use Rattle.usb_bus.specs.BusState.{without_owner, without_key};
 ghost use Rattle.usb_bus.specs.Later.{GoesOn};
 ghost use Rattle.usb_endpoint.specs.EndpointState.{route_of};
 ghost use Rattle.usb_endpoint.specs.Polls.{IfReady, IfPending};
@@ -158,7 +158,8 @@ impl<T: EndpointType, D: EndpointDirection> Endpoint<T, D> {
         ensures enters { OnOk result
             (Enters (B.state bus.old) (B.state bus.new) (route_of self.old) buf
             (is_valid self.old buf)) }
-        ensures left { 128 ≤ self.old.address → (B.state bus.new).left ≤ (B.state bus.old).left }
+        ensures left { 128 ≤ self.old.address
+            → (B.state bus.new).turns_left ≤ (B.state bus.old).turns_left }
         ensures stands { Stands (B.state bus.new) self.new }
         ensures others { KeepsOthers (B.state bus.old) (B.state bus.new) self.old.key }
         ensures rest { self.new ≡ record self.old { pending = self.new.pending } }
@@ -205,7 +206,7 @@ impl<T: EndpointType, D: EndpointDirection> Endpoint<T, D> {
         ensures bus { bus.new ≡ all_discarded B.discarded bus.old self.old.pending }
         ensures state { B.state bus.new ≡ record (B.state bus.old) {
           past = all_discarded after_discard (B.state bus.old).past self.old.pending;
-          left = (B.state bus.new).left;
+          turns_left = (B.state bus.new).turns_left;
         } }
         ensures stands { Stands (B.state bus.new) self.new }
         ensures others { KeepsOthers (B.state bus.old) (B.state bus.new) self.old.key }
@@ -223,9 +224,9 @@ impl<T: EndpointType, D: EndpointDirection> Endpoint<T, D> {
         ensures bus { bus.new ≡ after_close B.discarded B.abandoned B.closed bus.old self }
         ensures state { B.state bus.new ≡ record (B.state bus.old) {
           past = all_discarded after_discard (B.state bus.old).past self.pending;
-          owner = all_abandoned without (B.state bus.old).owner self.pending;
+          owner = all_abandoned without_owner (B.state bus.old).owner self.pending;
           keys = without_key (B.state bus.old).keys self.key;
-          left = (B.state bus.new).left;
+          turns_left = (B.state bus.new).turns_left;
         } }
         ensures others { KeepsOthers (B.state bus.old) (B.state bus.new) self.key }
     {
@@ -238,7 +239,7 @@ impl<T: EndpointType, D: EndpointDirection> Endpoint<T, D> {
         requires stands { Stands (B.state bus.old) self }
         ensures bus { bus.new ≡ B.closed (all_abandoned B.abandoned bus.old self.pending) self.key }
         ensures state { B.state bus.new ≡ record (B.state bus.old) {
-          owner = all_abandoned without (B.state bus.old).owner self.pending;
+          owner = all_abandoned without_owner (B.state bus.old).owner self.pending;
           keys = without_key (B.state bus.old).keys self.key;
         } }
         ensures others { KeepsOthers (B.state bus.old) (B.state bus.new) self.key }

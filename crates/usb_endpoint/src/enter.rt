@@ -1,17 +1,16 @@
 //! How a transfer is handed to a bus.
 
-ghost use Rattle.std.specs.Prelude.{◌≡◌, ◌<◌, ◌≤◌, ℕ, true, length, Some, None, OnOk, OnErr, IfOk, IfErr};
+ghost use Rattle.std.specs.Prelude.{◌≡◌, ◌<◌, ◌≤◌, true, length, Some, None, OnOk, OnErr, IfOk, IfErr};
 ghost use Rattle.usb_kernel.specs.Tickets.{tickets};
 ghost use Rattle.usb_kernel.specs.Submissions.{IsWhole};
+ghost use Rattle.usb_kernel.specs.WholePackets.{is_whole};
 ghost use Rattle.usb_bus.specs.Routes.{GoesBy, AsksWhole, submission_of};
 ghost use Rattle.usb_xfer.specs.Transfers.{IsFilled, IsComplete, buffer_held, completion_held};
-ghost use Rattle.usb_endpoint.specs.Submits.{HandsOver, Enters, transfer_by, handed_over, is_whole};
+ghost use Rattle.usb_endpoint.specs.Submits.{HandsOver, Enters, transfer_by, handed_over};
 
 use usb_bus::{Bus, Route};
+use usb_kernel::errno;
 use usb_xfer::{Buffer, Completion, Idle, Pending, TransferData};
-
-/// EINVAL, the errno of a submission that no device can serve.
-const INVALID: u16 = 22;
 
 /// Whether a length in bytes is that of whole packets, of which there is at least one.
 pub(crate) fn is_whole_length(maximum: usize, len: usize) -> bool
@@ -54,7 +53,7 @@ fn hand_over<B: Bus>(
     ensures state { OnOk result
         (HandsOver (B.state bus.old) (B.state bus.new) to transfer.held is_valid) }
     ensures left { OnOk result
-        (128 ≤ to.endpoint → (B.state bus.new).left ≤ (B.state bus.old).left) }
+        (128 ≤ to.endpoint → (B.state bus.new).turns_left ≤ (B.state bus.old).turns_left) }
     ensures ok { OnOk result
         (bus.new ≡ handed_over B.submitted B.refused bus.old to transfer is_valid) }
     ensures err { OnErr result (bus.new ≡ bus.old) }
@@ -63,7 +62,7 @@ fn hand_over<B: Bus>(
     if is_valid {
         bus.submit(to, transfer)
     } else {
-        bus.refuse(to, transfer, INVALID)
+        bus.refuse(to, transfer, errno::INVAL)
     }
 }
 
@@ -82,7 +81,7 @@ pub(crate) fn enter<B: Bus>(
         ((B.state bus.old).owner (length (tickets (B.state bus.old).past)) ≡ None) }
     ensures state { OnOk result (Enters (B.state bus.old) (B.state bus.new) to buf is_valid) }
     ensures left { OnOk result
-        (128 ≤ to.endpoint → (B.state bus.new).left ≤ (B.state bus.old).left) }
+        (128 ≤ to.endpoint → (B.state bus.new).turns_left ≤ (B.state bus.old).turns_left) }
     ensures ok { OnOk result
         (bus.new ≡ handed_over B.submitted B.refused bus.old to (transfer_by to buf) is_valid) }
     ensures err { OnErr result (bus.new ≡ bus.old) }

@@ -1,27 +1,48 @@
 -- Which error a call answers for an errno of the system.
-use Rattle.std.specs.Prelude.{ℕ, ◌||◌, nat_eq, if◌then◌else◌}
+use Rattle.std.specs.Prelude.{ℕ, List, [], ◌∷◌, nat_eq, if◌then◌else◌}
+use Rattle.usb_error.specs.declared.kind.ErrorKind.{ErrorKind}
 use Rattle.usb_error.specs.declared.kind.ErrorKind.TheVariants.{Disconnected, Busy, PermissionDenied as denied, NotFound, Other}
+use Rattle.usb_error.specs.declared.message.Message.{Message}
 use Rattle.usb_error.specs.declared.message.Message.TheVariants.{DeviceNotFound, DeviceDisconnected, PermissionDenied, FailedToOpenDevice, FailedToReadDescriptors, InvalidDeviceDescriptor, FailedToReadConfigurationValue, InterfaceNotFound, InterfaceIsBusy, FailedToClaimInterface, NoSuchEndpoint, IncorrectEndpointDirection, IncorrectEndpointType, EndpointHasNoPacketSize, EndpointAlreadyInUse, ListingNotFound, ListingDenied, FailedToOpenListing}
 use Rattle.usb_error.specs.ErrorState.{ErrorState, coded, plain}
 
--- opening a device: 2, that no plugged device has the address, and 1 or 13, that it is not allowed
+-- a table of the errnos that have an error of their own, each with its kind and its message
+abbrev pub ErrorTable : Type 0
+ErrorTable = List (ℕ × ErrorKind × Message)
+
+-- the error of the row of an errno; without a row its kind is Other, with this message
+abbrev pub error_in : ErrorTable → Message → ℕ → ErrorState
+error_in [] otherwise errno = coded Other otherwise errno
+error_in (row ∷ rows) otherwise errno =
+    if nat_eq errno row.0 then coded row.1 row.2 errno else error_in rows otherwise errno
+
+-- opening a device: ENOENT, no plugged device has the address; EPERM and EACCES, it is not allowed
+abbrev pub open_table : ErrorTable
+open_table =
+    (2, Disconnected, DeviceNotFound)
+    ∷ (1, denied, PermissionDenied)
+    ∷ (13, denied, PermissionDenied)
+    ∷ []
+
 abbrev pub open_error : ℕ → ErrorState
-open_error errno =
-    if nat_eq errno 2 then coded Disconnected DeviceNotFound errno
-    else if nat_eq errno 1 || nat_eq errno 13 then coded denied PermissionDenied errno
-    else coded Other FailedToOpenDevice errno
+open_error errno = error_in open_table FailedToOpenDevice errno
 
 -- reading the descriptors
 abbrev pub read_descriptors_error : ℕ → ErrorState
 read_descriptors_error errno = coded Other FailedToReadDescriptors errno
 
--- claiming an interface: 19, that the device is gone, 22 or 2, that there is no such interface, and 16, that it is in use
+-- claiming an interface: ENODEV, the device is gone; EINVAL and ENOENT, there is no such interface;
+-- EBUSY, it is in use
+abbrev pub claim_table : ErrorTable
+claim_table =
+    (19, Disconnected, DeviceDisconnected)
+    ∷ (22, NotFound, InterfaceNotFound)
+    ∷ (2, NotFound, InterfaceNotFound)
+    ∷ (16, Busy, InterfaceIsBusy)
+    ∷ []
+
 abbrev pub claim_error : ℕ → ErrorState
-claim_error errno =
-    if nat_eq errno 19 then coded Disconnected DeviceDisconnected errno
-    else if nat_eq errno 22 || nat_eq errno 2 then coded NotFound InterfaceNotFound errno
-    else if nat_eq errno 16 then coded Busy InterfaceIsBusy errno
-    else coded Other FailedToClaimInterface errno
+claim_error errno = error_in claim_table FailedToClaimInterface errno
 
 -- reading the active configuration while a device is opened, whatever the errno
 abbrev pub configuration_error : ErrorState
@@ -47,9 +68,10 @@ no_packet_size_error = plain Other EndpointHasNoPacketSize
 abbrev pub endpoint_in_use_error : ErrorState
 endpoint_in_use_error = plain Busy EndpointAlreadyInUse
 
--- listing the devices: 2, that there is no listing, and 1 or 13, that it is not allowed
+-- listing the devices: ENOENT, there is no listing; EPERM and EACCES, it is not allowed
+abbrev pub listing_table : ErrorTable
+listing_table =
+    (2, Other, ListingNotFound) ∷ (1, denied, ListingDenied) ∷ (13, denied, ListingDenied) ∷ []
+
 abbrev pub listing_error : ℕ → ErrorState
-listing_error errno =
-    if nat_eq errno 2 then coded Other ListingNotFound errno
-    else if nat_eq errno 1 || nat_eq errno 13 then coded denied ListingDenied errno
-    else coded Other FailedToOpenListing errno
+listing_error errno = error_in listing_table FailedToOpenListing errno

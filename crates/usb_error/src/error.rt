@@ -2,6 +2,7 @@
 
 ghost use Rattle.std.specs.Prelude.{◌≡◌};
 
+use crate::errno::{ACCES, BUSY, INVAL, NODEV, NOENT, PERM};
 use crate::kind::ErrorKind;
 use crate::message::Message;
 use std::fmt;
@@ -74,8 +75,8 @@ impl Error {
         ensures error { result ≡ open_error errno }
     {
         match errno {
-            2 => Error::coded(ErrorKind::Disconnected, Message::DeviceNotFound, errno),
-            1 | 13 => {
+            NOENT => Error::coded(ErrorKind::Disconnected, Message::DeviceNotFound, errno),
+            PERM | ACCES => {
                 Error::coded(
                     ErrorKind::PermissionDenied,
                     Message::PermissionDenied,
@@ -98,9 +99,9 @@ impl Error {
         ensures error { result ≡ claim_error errno }
     {
         match errno {
-            19 => Error::coded(ErrorKind::Disconnected, Message::DeviceDisconnected, errno),
-            22 | 2 => Error::coded(ErrorKind::NotFound, Message::InterfaceNotFound, errno),
-            16 => Error::coded(ErrorKind::Busy, Message::InterfaceIsBusy, errno),
+            NODEV => Error::coded(ErrorKind::Disconnected, Message::DeviceDisconnected, errno),
+            INVAL | NOENT => Error::coded(ErrorKind::NotFound, Message::InterfaceNotFound, errno),
+            BUSY => Error::coded(ErrorKind::Busy, Message::InterfaceIsBusy, errno),
             _ => Error::coded(ErrorKind::Other, Message::FailedToClaimInterface, errno),
         }
     }
@@ -125,8 +126,12 @@ impl Error {
         ensures error { result ≡ listing_error errno }
     {
         match errno {
-            2 => Error::coded(ErrorKind::Other, Message::ListingNotFound, errno),
-            1 | 13 => Error::coded(ErrorKind::PermissionDenied, Message::ListingDenied, errno),
+            NOENT => Error::coded(ErrorKind::Other, Message::ListingNotFound, errno),
+            PERM | ACCES => Error::coded(
+                ErrorKind::PermissionDenied,
+                Message::ListingDenied,
+                errno,
+            ),
             _ => Error::coded(ErrorKind::Other, Message::FailedToOpenListing, errno),
         }
     }

@@ -1,6 +1,7 @@
 //! Why an operation other than a transfer failed: kinds, messages and codes.
 #![tactic(auto)]
 
+mod errno;
 mod error;
 mod kind;
 mod message;

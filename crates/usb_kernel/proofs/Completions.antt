@@ -4,7 +4,7 @@ use Rattle.std.specs.Prelude.{is_some, nat_le, nat_lt, ◌&&◌, ◌==◌}
 use Rattle.std.proofs.Common.{inl, inr}
 use Rattle.std.proofs.lemmas.Grind.{common_steps}
 use Rattle.std.proofs.lemmas.Bool.{cases_Bool, cases_eq, cases_lt, eq-eqb, ne_eqb}
-use Rattle.std.proofs.lemmas.Option.{slice_get_past, slice_get_within}
+use Rattle.std.proofs.lemmas.Option.{slice_get_past}
 use Rattle.usb_kernel.specs.declared.event.Event.{Event}
 use Rattle.usb_kernel.specs.declared.event.Event.TheVariants.{Submit, Packet, Ack, Fail, Discard, Reap, Unplug}
 use Rattle.usb_kernel.specs.declared.event.Body.{Body}
@@ -19,7 +19,7 @@ use Rattle.usb_kernel.specs.Journal.{fate, oldest, at_ticket, at_oldest, change}
 use Rattle.usb_kernel.specs.Submissions.{refuse_event, refused_of}
 use Rattle.usb_kernel.specs.Completions.{refused_done, completion, completion_if, completion_for, completed, done_if, reapable}
 use Rattle.usb_kernel.specs.Steps.{after_packet, after_ack, after_fail, after_unplug, after_reap, after_reap_of, reapable_of, reaped_by, after_discard, is_unfinished, stepped, step_done}
-use Rattle.usb_kernel.specs.Timers.{due, all_discarded, timer_turned}
+use Rattle.usb_kernel.specs.Timers.{due, discarded_in_order, timer_turned}
 use Rattle.usb_kernel.specs.Devices.{plugged_device}
 use Rattle.usb_kernel.proofs.Places.{slice_get-append_left, slice_get-append_seam}
 use Rattle.usb_kernel.proofs.Fresh.{fate-fresh}
@@ -127,22 +127,22 @@ pub tickets-discard : (past : List Event) (t : ℕ) → tickets (after_discard p
 tickets-discard past t = elim (is_unfinished past t) as (λ v. tickets (cond v (Discard t ∷ past) past) ≡ tickets past) [ true ↦ refl | false ↦ refl ]
 
 -- the turn of the timer submits nothing
-tickets-all_discarded : (past : List Event) (ts : List ℕ) → tickets (all_discarded past ts) ≡ tickets past
-tickets-all_discarded past [] = refl
-tickets-all_discarded past (t ∷ ts) = tickets-all_discarded (after_discard past t) ts ∙ tickets-discard past t
+tickets-discarded_in_order : (past : List Event) (ts : List ℕ) → tickets (discarded_in_order past ts) ≡ tickets past
+tickets-discarded_in_order past [] = refl
+tickets-discarded_in_order past (t ∷ ts) = tickets-discarded_in_order (after_discard past t) ts ∙ tickets-discard past t
 
 pub tickets-turned : (clock : ℕ) (past : List Event) → tickets (timer_turned clock past) ≡ tickets past
 unfolding timer_turned
-tickets-turned clock past = tickets-all_discarded past (due past clock)
+tickets-turned clock past = tickets-discarded_in_order past (due past clock)
 
 -- and reaps nothing
-completion-all_discarded : (past : List Event) (ts : List ℕ) (u : ℕ) → completion (all_discarded past ts) u ≡ completion past u
-completion-all_discarded past [] u = refl
-completion-all_discarded past (t ∷ ts) u = completion-all_discarded (after_discard past t) ts u ∙ completion-discard past t u
+completion-discarded_in_order : (past : List Event) (ts : List ℕ) (u : ℕ) → completion (discarded_in_order past ts) u ≡ completion past u
+completion-discarded_in_order past [] u = refl
+completion-discarded_in_order past (t ∷ ts) u = completion-discarded_in_order (after_discard past t) ts u ∙ completion-discard past t u
 
 pub completion-turned : (clock : ℕ) (past : List Event) (u : ℕ) → completion (timer_turned clock past) u ≡ completion past u
 unfolding timer_turned
-completion-turned clock past u = completion-all_discarded past (due past clock) u
+completion-turned clock past u = completion-discarded_in_order past (due past clock) u
 
 -- what a step makes of the completions
 pub completion-step : (devices : List DeviceState) (clock : ℕ) (past : List Event) (s : KernelStep) (u : ℕ) → completion (stepped devices clock past s) u ≡ completed (step_done past s) (completion past) u
@@ -169,21 +169,6 @@ tickets-step devices clock past (step.Clock to) = refl
 tickets-step devices clock past step.Timer = tickets-turned clock past
 tickets-step devices clock past (step.Reap ticket) = tickets-reap_of past (reaped_by past ticket)
 tickets-step devices clock past (step.Refuse d call errno) = refl
-
-reapable-within : (past : List Event) (t : ℕ) (o : Option Ticket) (done : Done) → slice_get (tickets past) t ≡ o → reapable past t ≡ Some done → (done.ticket ≡ t) × (t < length (tickets past))
-reapable-within past t None done at some = let no_ : None ≡ Some done = rw at at some in cc
-reapable-within past t (Some s) done at some =
-    ((reapable-completion-if t (Some s) past done at some).1, slice_get_within (tickets past) t s at)
-
-reapable_of-within : (past : List Event) (ticket : Option ℕ) (done : Done) → reapable_of past ticket ≡ Some done → done.ticket < length (tickets past)
-reapable_of-within past None done some = cc
-reapable_of-within past (Some t) done some =
-    let both = reapable-within past t (slice_get (tickets past) t) done refl some in rw both.0 both.1
-
--- the completion that a step gives is of a ticket
-pub step_done-within : (past : List Event) (s : KernelStep) (done : Done) → step_done past s ≡ Some done → done.ticket < length (tickets past)
-step_done-within past (step.Reap ticket) done some = reapable_of-within past (reaped_by past ticket) done some
-step_done-within past _ done some = cc
 
 -- a submission
 pub completion-submit : (past : List Event) (t d e m : ℕ) (body : Body) (room : ℕ) (deadline : Option ℕ) (u : ℕ) → completion (Submit t d e m body room deadline ∷ past) u ≡ completion past u
@@ -212,7 +197,3 @@ pub completion-refused : (past : List Event) (s : Submission) (t errno : ℕ) �
 unfolding completion
 completion-refused past s t errno =
     rw (slice_get-append_seam (tickets past) (refused_of s), eq-eqb (length (tickets past)) (length (tickets past)) refl) refl
-
-pub reapable_within : (past : List Event) (t : ℕ) (done : Done) → reapable past t ≡ Some done → done.ticket < length (tickets past)
-reapable_within past t done some =
-    let both = reapable-within past t (slice_get (tickets past) t) done refl some in rw both.0 both.1

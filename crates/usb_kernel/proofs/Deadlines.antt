@@ -33,10 +33,10 @@ use Rattle.usb_kernel.specs.declared.event.Event.TheVariants.{Submit, Refuse, Pa
 use Rattle.usb_kernel.specs.Tickets.{Ticket, tickets}
 use Rattle.usb_kernel.specs.Journal.{fate}
 use Rattle.usb_kernel.specs.Steps.{after_discard, is_unfinished}
-use Rattle.usb_kernel.specs.Timers.{by_deadline, with_deadline, deadlines, is_open_entry, is_up, all_discarded, timer_turned}
+use Rattle.usb_kernel.specs.Timers.{by_deadline, with_deadline, deadlines, is_open_entry, is_up, discarded_in_order, timer_turned}
 use Rattle.usb_kernel.specs.Deadlines.{KeepsDeadlines, submits}
 use Rattle.usb_kernel.specs.Extends.{Extends}
-use Rattle.usb_kernel.proofs.Extends.{extends-event, extends-same, extends-discard, extends-all_discarded, extends-trans, status-stays}
+use Rattle.usb_kernel.proofs.Extends.{extends-event, extends-same, extends-discard, extends-discarded_in_order, extends-trans, status-stays}
 
 -- a filter that lets less through needs to see only what a wider one lets through
 filter-twice : {X : Type 0} (p q : X → Bool) (xs : List X) → ((x : X) → p x ≡ false → q x ≡ false) → filter q (filter p xs) ≡ filter q xs
@@ -138,12 +138,12 @@ discard-finished : (past : List Event) (t : ℕ) → is_open_entry past (0, t) �
 discard-finished past t closed = rw closed (elim (nat_lt t (length (tickets past))) as (λ v. cond (v && false) (Discard t ∷ past) past ≡ past) [ true ↦ refl | false ↦ refl ])
 
 -- tickets that are finished may be passed over
-pub passes-finished : (past now : List Event) (xs : List (ℕ × ℕ)) → Extends past now → all_discarded now (map (λ p. p.1) (filter (is_open_entry past) xs)) ≡ all_discarded now (map (λ p. p.1) xs)
+pub passes-finished : (past now : List Event) (xs : List (ℕ × ℕ)) → Extends past now → discarded_in_order now (map (λ p. p.1) (filter (is_open_entry past) xs)) ≡ discarded_in_order now (map (λ p. p.1) xs)
 passes-finished past now [] goes = refl
 passes-finished past now (x ∷ xs) goes =
     elim (cases_Bool (is_open_entry past x)) [
       | inl yes_ ↦ rw yes_ (passes-finished past (after_discard now x.1) xs (extends-trans past now (after_discard now x.1) goes (extends-discard now x.1)))
-      | inr no_ ↦ rw no_ (passes-finished past now xs goes ∙ ap (λ (then : List Event). all_discarded then (map (λ p. p.1) xs)) (sym (discard-finished now x.1 (closed-stays past now x goes no_))))
+      | inr no_ ↦ rw no_ (passes-finished past now xs goes ∙ ap (λ (then : List Event). discarded_in_order then (map (λ p. p.1) xs)) (sym (discard-finished now x.1 (closed-stays past now x goes no_))))
     ]
 
 filter-swap : {X : Type 0} (p q : X → Bool) (xs : List X) → filter p (filter q xs) ≡ filter q (filter p xs)
@@ -155,11 +155,11 @@ filter-swap p q (x ∷ xs) =
     ]
 
 -- the turn is a discard of each ticket whose kept deadline is up
-pub turned-kept : (past : List Event) (clock : ℕ) (ds : List (ℕ × ℕ)) → KeepsDeadlines past ds → timer_turned clock past ≡ all_discarded past (map (λ p. p.1) (filter (is_up clock) ds))
+pub turned-kept : (past : List Event) (clock : ℕ) (ds : List (ℕ × ℕ)) → KeepsDeadlines past ds → timer_turned clock past ≡ discarded_in_order past (map (λ p. p.1) (filter (is_up clock) ds))
 unfolding timer_turned
 turned-kept past clock ds kept =
-    ap (λ xs. all_discarded past (map (λ p. p.1) (filter (is_up clock) xs))) (sym kept.same)
-    ∙ (ap (λ xs. all_discarded past (map (λ p. p.1) xs)) (filter-swap (is_up clock) (is_open_entry past) ds)
+    ap (λ xs. discarded_in_order past (map (λ p. p.1) (filter (is_up clock) xs))) (sym kept.same)
+    ∙ (ap (λ xs. discarded_in_order past (map (λ p. p.1) xs)) (filter-swap (is_up clock) (is_open_entry past) ds)
     ∙ passes-finished past past (filter (is_up clock) ds) (extends-same past))
 
 -- what a submission adds
@@ -214,7 +214,7 @@ none-up clock first (x ∷ xs) later all =
     rw closed (none-up clock first xs later (All-tail (IsLeBy by_deadline first) x xs all))
 
 -- a turn goes on with the first deadline that is up
-pub turn-goes_on : (past : List Event) (clock n t : ℕ) (old new : List (ℕ × ℕ)) → old ≡ (n, t) ∷ new → n ≤ clock → all_discarded past (map (λ p. p.1) (filter (is_up clock) old)) ≡ all_discarded (after_discard past t) (map (λ p. p.1) (filter (is_up clock) new))
+pub turn-goes_on : (past : List Event) (clock n t : ℕ) (old new : List (ℕ × ℕ)) → old ≡ (n, t) ∷ new → n ≤ clock → discarded_in_order past (map (λ p. p.1) (filter (is_up clock) old)) ≡ discarded_in_order (after_discard past t) (map (λ p. p.1) (filter (is_up clock) new))
 turn-goes_on past clock n t old new is up = rw (is, le-leb n clock up) refl
 
 pub tickets-submit : (past : List Event) (s : Submission) (t : ℕ) → length (tickets (submit_event t s ∷ past)) ≡ length (tickets past) + 1
@@ -282,13 +282,13 @@ stays-finished old new t goes some = finished-by (fate old t).status refl some
     finished-by (Some errno) is some = ap is_some (status-stays old new t errno goes is)
     finished-by None is some = cc
 
-finishes-in : (past : List Event) (clock n t : ℕ) (ds : List (ℕ × ℕ)) → n ≤ clock → t < length (tickets past) → Has (n, t) ds → IsSome (fate (all_discarded past (map (λ p. p.1) (filter (is_up clock) ds))) t).status
+finishes-in : (past : List Event) (clock n t : ℕ) (ds : List (ℕ × ℕ)) → n ≤ clock → t < length (tickets past) → Has (n, t) ds → IsSome (fate (discarded_in_order past (map (λ p. p.1) (filter (is_up clock) ds))) t).status
 finishes-in past clock n t [] up within has = elim has [ ]
 finishes-in past clock n t (x ∷ xs) up within (inl here) =
     rw (here, le-leb n clock up)
-    (stays-finished (after_discard past t) (all_discarded (after_discard past t) (map (λ p. p.1) (filter (is_up clock) xs))) t (extends-all_discarded (after_discard past t) (map (λ p. p.1) (filter (is_up clock) xs))) (discard-finishes past t within))
+    (stays-finished (after_discard past t) (discarded_in_order (after_discard past t) (map (λ p. p.1) (filter (is_up clock) xs))) t (extends-discarded_in_order (after_discard past t) (map (λ p. p.1) (filter (is_up clock) xs))) (discard-finishes past t within))
 finishes-in past clock n t (x ∷ xs) up within (inr there) =
-    elim (is_up clock x) as (λ v. IsSome (fate (all_discarded past (map (λ p. p.1) (cond v (x ∷ filter (is_up clock) xs) (filter (is_up clock) xs)))) t).status) [
+    elim (is_up clock x) as (λ v. IsSome (fate (discarded_in_order past (map (λ p. p.1) (cond v (x ∷ filter (is_up clock) xs) (filter (is_up clock) xs)))) t).status) [
       | true ↦ finishes-in (after_discard past x.1) clock n t xs up (rw (tickets-discard past x.1) within) there
       | false ↦ finishes-in past clock n t xs up within there
     ]

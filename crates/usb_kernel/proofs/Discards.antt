@@ -4,7 +4,7 @@ use Rattle.std.proofs.lemmas.Grind.{common_steps}
 use Rattle.std.proofs.lemmas.Bool.{lt-ltb, le-ltb}
 use Rattle.usb_kernel.specs.declared.event.Event.{Event}
 use Rattle.usb_kernel.specs.declared.event.Event.TheVariants.{Discard}
-use Rattle.usb_kernel.specs.declared.slot.Slot.{Slot}
+use Rattle.usb_kernel.specs.declared.slot.TicketRow.{TicketRow}
 use Rattle.usb_kernel.specs.Tickets.{tickets}
 use Rattle.usb_kernel.specs.Fates.{finish}
 use Rattle.usb_kernel.specs.Journal.{fate}
@@ -19,21 +19,21 @@ after_discard-none past t none = rw none refl
 pub after_discard-some : (past : List Event) (t : ℕ) → is_unfinished past t ≡ true → after_discard past t ≡ Discard t ∷ past
 after_discard-some past t some = rw some refl
 
-pub is_unfinished-beyond : (past : List Event) (rows : List Slot) (t : ℕ) → Agrees past rows → length rows ≤ t → is_unfinished past t ≡ false
+pub is_unfinished-beyond : (past : List Event) (rows : List TicketRow) (t : ℕ) → Agrees past rows → length rows ≤ t → is_unfinished past t ≡ false
 is_unfinished-beyond past rows t agrees beyond =
     let few : length (tickets past) ≤ t = omega (arith, length-rows past rows agrees) in
     rw (le-ltb t (length (tickets past)) few) refl
 
-pub is_unfinished-row : (past : List Event) (rows : List Slot) (t : ℕ) (r : Slot) → Agrees past rows → t < length rows → RowAt past t r → is_unfinished past t ≡ is_none r.status
+pub is_unfinished-row : (past : List Event) (rows : List TicketRow) (t : ℕ) (r : TicketRow) → Agrees past rows → t < length rows → RowAt past t r → is_unfinished past t ≡ is_none r.status
 is_unfinished-row past rows t r agrees inside a =
     let few : t < length (tickets past) = omega (arith, length-rows past rows agrees) in
     rw (lt-ltb t (length (tickets past)) few, a.row) refl
 
-pub Agrees-discard : (past later : List Event) (rows : List Slot) (i : ℕ) (r next : Slot) → Agrees past rows → RowAt past i r → r.status ≡ None → next ≡ record r { status = Some 2 } → later ≡ Discard i ∷ past → Agrees later (set rows i next)
+pub Agrees-discard : (past later : List Event) (rows : List TicketRow) (i : ℕ) (r next : TicketRow) → Agrees past rows → RowAt past i r → r.status ≡ None → next ≡ record r { status = Some 2 } → later ≡ Discard i ∷ past → Agrees later (set rows i next)
 Agrees-discard past later rows i r next agrees a unfinished is so =
-    let none : (fate past i).status ≡ None = sym (ap (λ (x : Slot). x.status) a.row) ∙ unfinished in
+    let none : (fate past i).status ≡ None = sym (ap (λ (x : TicketRow). x.status) a.row) ∙ unfinished in
     let same : next ≡ row_of a.ticket (finish 2 (fate past i)) = is ∙ rw (a.row, none) refl in
-    let done : next.status ≡ Some 2 = ap (λ (x : Slot). x.status) is in
+    let done : next.status ≡ Some 2 = ap (λ (x : TicketRow). x.status) is in
     rw so (Agrees-set past (Discard i) rows i a.ticket next (λ s. finish 2) agrees a.at same (λ never. absurd (some_not_none next.status (rw done refl) never)) refl (λ u. refl))
 
 pub none_when : {X : Type 0} (o : Option X) → false ≡ is_some o → o ≡ None

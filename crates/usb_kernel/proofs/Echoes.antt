@@ -2,7 +2,7 @@ use Rattle.std.proofs.Common.{◌≢◌, ap, set, ◌≡◌, ℕ, List, ◌∷�
 use Rattle.std.proofs.lemmas.List.{set-set, set_comm}
 use Rattle.usb_kernel.specs.declared.event.Event.{Event}
 use Rattle.usb_kernel.specs.declared.event.Event.TheVariants.{Packet, Ack, Echo}
-use Rattle.usb_kernel.specs.declared.slot.Slot.{Slot}
+use Rattle.usb_kernel.specs.declared.slot.TicketRow.{TicketRow}
 use Rattle.usb_kernel.specs.Tickets.{Ticket, tickets}
 use Rattle.usb_kernel.specs.Fates.{Fate}
 use Rattle.usb_kernel.specs.Journal.{fate, oldest, taken_of, echo_comes, packet_comes, ack_comes}
@@ -16,7 +16,7 @@ echo-both x y d o i t j u ts f sends takes = rw (sends, takes) refl
 pub fate-echo : (past : List Event) (d o i t j u : ℕ) → oldest past d o ≡ Some t → oldest past d i ≡ Some j → fate (Echo d o i ∷ past) u ≡ fate (Packet d i (taken_of (slice_get (tickets past) t) (fate past t)) ∷ (Ack d o ∷ past)) u
 fate-echo past d o i t j u sends takes = echo-both (oldest past d o) (oldest past d i) d o i t j u (tickets past) (fate past) sends takes
 
-pub Agrees-echo : (past : List Event) (rows : List Slot) (d o i t j : ℕ) → oldest past d o ≡ Some t → oldest past d i ≡ Some j → Agrees (Packet d i (taken_of (slice_get (tickets past) t) (fate past t)) ∷ (Ack d o ∷ past)) rows → Agrees (Echo d o i ∷ past) rows
+pub Agrees-echo : (past : List Event) (rows : List TicketRow) (d o i t j : ℕ) → oldest past d o ≡ Some t → oldest past d i ≡ Some j → Agrees (Packet d i (taken_of (slice_get (tickets past) t) (fate past t)) ∷ (Ack d o ∷ past)) rows → Agrees (Echo d o i ∷ past) rows
 Agrees-echo past rows d o i t j sends takes agrees =
     record {
       table = agrees.table ∙ rows_from-same (tickets past) 0 (fate (Packet d i (taken_of (slice_get (tickets past) t) (fate past t)) ∷ (Ack d o ∷ past))) (fate (Echo d o i ∷ past)) (λ u a b. sym (fate-echo past d o i t j u sends takes));

@@ -15,7 +15,7 @@ use Rattle.usb_kernel.specs.Journal.{fate, oldest}
 use Rattle.usb_kernel.specs.Completions.{completion, completion_if, reapable}
 use Rattle.usb_kernel.specs.Devices.{plugged_device}
 use Rattle.usb_kernel.specs.Steps.{stepped, after_reap_of, reaped_by, after_discard, is_unfinished}
-use Rattle.usb_kernel.specs.Timers.{due, all_discarded, timer_turned}
+use Rattle.usb_kernel.specs.Timers.{due, discarded_in_order, timer_turned}
 use Rattle.usb_kernel.specs.Extends.{Extends}
 use Rattle.usb_kernel.proofs.Final.{reaped_is_final}
 use Rattle.usb_kernel.proofs.Fresh.{fate-fresh}
@@ -43,13 +43,13 @@ extends-trans a b c first second =
 pub extends-discard : (past : List Event) (t : ℕ) → Extends past (after_discard past t)
 extends-discard past t = extends-if (is_unfinished past t) past (Discard t)
 
-pub extends-all_discarded : (past : List Event) (ts : List ℕ) → Extends past (all_discarded past ts)
-extends-all_discarded past [] = extends-same past
-extends-all_discarded past (t ∷ ts) = extends-trans past (after_discard past t) (all_discarded (after_discard past t) ts) (extends-discard past t) (extends-all_discarded (after_discard past t) ts)
+pub extends-discarded_in_order : (past : List Event) (ts : List ℕ) → Extends past (discarded_in_order past ts)
+extends-discarded_in_order past [] = extends-same past
+extends-discarded_in_order past (t ∷ ts) = extends-trans past (after_discard past t) (discarded_in_order (after_discard past t) ts) (extends-discard past t) (extends-discarded_in_order (after_discard past t) ts)
 
 pub extends-turned : (clock : ℕ) (past : List Event) → Extends past (timer_turned clock past)
 unfolding timer_turned
-extends-turned clock past = extends-all_discarded past (due past clock)
+extends-turned clock past = extends-discarded_in_order past (due past clock)
 
 pub extends-step : (devices : List DeviceState) (clock : ℕ) (past : List Event) (s : KernelStep) → Extends past (stepped devices clock past s)
 extends-step devices clock past (step.Packet d e b) = extends-if (nat_le 128 e && is_some (oldest past d e)) past (Packet d e b)

@@ -7,7 +7,7 @@ use Rattle.std.proofs.lemmas.Option.{slice_get_past, none-some}
 use Rattle.std.proofs.lemmas.Bool.{ne_eqb, eq-eqb, le-leb, lt-leb}
 use Rattle.usb_kernel.specs.declared.event.Event.{Event}
 use Rattle.usb_kernel.specs.declared.event.Event.TheVariants.{Submit, Refuse, Packet, Ack, Echo, Fail, Discard, Reap, Unplug}
-use Rattle.usb_kernel.specs.declared.slot.Slot.{Slot}
+use Rattle.usb_kernel.specs.declared.slot.TicketRow.{TicketRow}
 use Rattle.usb_kernel.specs.declared.submission.Submission.{Submission}
 use Rattle.usb_kernel.specs.Tickets.{Ticket, tickets}
 use Rattle.usb_kernel.specs.Fates.{Fate, fresh, refused_fate, with_packet, with_ack, finish, reap}
@@ -58,7 +58,7 @@ HasItsBody-ticket_of s = (
 )
 
 -- a submission adds a row
-pub Agrees-submit : (past : List Event) (rows : List Slot) (s : Submission) (t : ℕ) (next : Slot) → Agrees past rows → next ≡ row_of (ticket_of s) fresh → IsRoomy next → Agrees (submit_event t s ∷ past) (rows ++ next ∷ [])
+pub Agrees-submit : (past : List Event) (rows : List TicketRow) (s : Submission) (t : ℕ) (next : TicketRow) → Agrees past rows → next ≡ row_of (ticket_of s) fresh → IsRoomy next → Agrees (submit_event t s ∷ past) (rows ++ next ∷ [])
 Agrees-submit past rows s t next agrees is roomy =
     let z : 0 + length (tickets past) ≡ length (tickets past) = omega arith in
     let added = rows_from-append (tickets past) 0 (ticket_of s) (fate past) in
@@ -71,10 +71,10 @@ Agrees-submit past rows s t next agrees is roomy =
     }
 
 -- the number of tickets is that of the rows
-pub length-rows : (past : List Event) (rows : List Slot) → Agrees past rows → length rows ≡ length (tickets past)
+pub length-rows : (past : List Event) (rows : List TicketRow) → Agrees past rows → length rows ≡ length (tickets past)
 length-rows past rows agrees = ap length agrees.table ∙ length-rows_from (tickets past) 0 (fate past)
 
-pub length_rows : (past : List Event) (rows : List Slot) → Agrees past rows → length rows ≡ length (tickets past)
+pub length_rows : (past : List Event) (rows : List TicketRow) → Agrees past rows → length rows ≡ length (tickets past)
 length_rows past rows agrees = length-rows past rows agrees
 
 pub All-none : {X : Type 0} (P : X → Type 0) → All P []
@@ -86,14 +86,14 @@ unfolding rows_from
 Agrees-none = record { table = refl; bodies = All-none HasItsBody; roomy = All-none IsRoomy }
 
 -- a refused submission adds a row
-pub Agrees-refuse : (past : List Event) (rows : List Slot) (s : Submission) (t errno : ℕ) (next : Slot) → Agrees past rows → next ≡ row_of (refused_of s) (refused_fate errno) → Agrees (refuse_event t s errno ∷ past) (rows ++ next ∷ [])
+pub Agrees-refuse : (past : List Event) (rows : List TicketRow) (s : Submission) (t errno : ℕ) (next : TicketRow) → Agrees past rows → next ≡ row_of (refused_of s) (refused_fate errno) → Agrees (refuse_event t s errno ∷ past) (rows ++ next ∷ [])
 Agrees-refuse past rows s t errno next agrees is =
     let z : 0 + length (tickets past) ≡ length (tickets past) = omega arith in
     let added = rows_from-append (tickets past) 0 (refused_of s) (fate (refuse_event t s errno ∷ past)) in
     let others = rows_from-same (tickets past) 0 (fate past) (fate (refuse_event t s errno ∷ past)) (λ u a b. let apart : length (tickets past) ≢ u = (λ same. omega arith) in rw (ne_eqb (length (tickets past)) u apart) refl) in
     let table : rows ++ next ∷ [] ≡ rows_from 0 (tickets past ++ refused_of s ∷ []) (fate (refuse_event t s errno ∷ past)) =
     rw (added, z, eq-eqb (length (tickets past)) (length (tickets past)) refl, ← others, agrees.table, is) refl in
-    let finished : next.status ≡ Some errno = ap (λ (x : Slot). x.status) is in
+    let finished : next.status ≡ Some errno = ap (λ (x : TicketRow). x.status) is in
     record {
       table = table;
       bodies = All-append HasItsBody (tickets past) (refused_of s ∷ []) agrees.bodies (All-one HasItsBody (refused_of s) (HasItsBody-ticket_of s));

@@ -4,7 +4,7 @@ use Rattle.std.proofs.lemmas.Iterator.Adapters.{position_from-zero}
 use Rattle.std.proofs.lemmas.Grind.{common_steps}
 use Rattle.std.proofs.Common.{arith}
 use Rattle.usb_kernel.specs.declared.event.Event.{Event}
-use Rattle.usb_kernel.specs.declared.slot.Slot.{Slot}
+use Rattle.usb_kernel.specs.declared.slot.TicketRow.{TicketRow}
 use Rattle.std.specs.List.{count_by, enumerate_from}
 use Rattle.usb_kernel.specs.Tickets.{Ticket, tickets}
 use Rattle.usb_kernel.specs.Fates.{Fate}
@@ -19,7 +19,7 @@ use Rattle.usb_kernel.proofs.Unreaped.{length-places}
 is_reapable_row-row_of : (s : Ticket) (f : Fate) → is_reapable_row (row_of s f) ≡ (is_some f.status && not f.reaped)
 is_reapable_row-row_of s f = grind (arith, common_steps)
 
-pub lowest_position : (past : List Event) (rows : List Slot) → Agrees past rows → position is_reapable_row rows ≡ lowest past
+pub lowest_position : (past : List Event) (rows : List TicketRow) → Agrees past rows → position is_reapable_row rows ≡ lowest past
 lowest_position past rows agrees =
     rw agrees.table (position_from-zero is_reapable_row (rows_from 0 (tickets past) (fate past)) ∙ position-rows is_reapable_row (is_reapable (fate past)) (tickets past) 0 (fate past) (λ x. is_reapable_row-row_of x.1 (fate past x.0)))
 
@@ -34,10 +34,10 @@ count-rows (t ∷ ts) k f =
     let same : is_unreaped_row (row_of t (f k)) ≡ is_unreaped f (k, t) = is_unreaped_row-row_of t (f k) in
     grind (arith, common_steps)
 
-unreaped_count : (past : List Event) (rows : List Slot) → Agrees past rows → count_by is_unreaped_row rows ≡ unreaped past
+unreaped_count : (past : List Event) (rows : List TicketRow) → Agrees past rows → count_by is_unreaped_row rows ≡ unreaped past
 unfolding unreaped
 unreaped_count past rows agrees = rw agrees.table (count-rows (tickets past) 0 (fate past))
 
 -- as many places are listed
-pub unreaped_length : (past : List Event) (rows : List Slot) (places : List ℕ) → Agrees past rows → places ≡ unreaped_places rows → length places ≡ unreaped past
+pub unreaped_length : (past : List Event) (rows : List TicketRow) (places : List ℕ) → Agrees past rows → places ≡ unreaped_places rows → length places ≡ unreaped past
 unreaped_length past rows places agrees listed = ap length listed ∙ length-places rows 0 ∙ unreaped_count past rows agrees

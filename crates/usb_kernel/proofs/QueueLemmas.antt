@@ -1,6 +1,6 @@
 -- The queues of armed refusals.
 use Rattle.std.proofs.Common.{◌≡◌, ◌≢◌, ℕ, zero, suc, ◌+◌, ◌*◌, ◌<◌, ◌≤◌, Bool, true, false, List, [], ◌∷◌, ◌++◌, length, set, slice_get, Option, Some, None, refl, ap, inl, inr, arith}
-use Rattle.std.specs.Prelude.{◌==◌, ◌&&◌, not, find}
+use Rattle.std.specs.Prelude.{◌==◌, find}
 use Rattle.std.proofs.lemmas.Bool.{cases_eq, cases_lt, cases_Bool, eq-eqb, ne_eqb}
 use Rattle.std.proofs.lemmas.Option.{none-some, same_Some, slice_get_past, slice_get_within}
 use Rattle.usb_kernel.specs.declared.step.Armed.{Armed}
@@ -8,7 +8,7 @@ use Rattle.usb_kernel.specs.declared.step.KernelCall.{KernelCall}
 use Rattle.usb_kernel.specs.declared.step.KernelCall.TheVariants.{OpenDevice, ReadDesc, GetConfig, SetConfig, Reset, Claim, DetachClaim, Detach, Attach, Alt, Halt, Speed, Submit}
 use Rattle.usb_kernel.specs.declared.refusals.Arming.{Arming}
 use Rattle.usb_kernel.specs.Refusals.{call_number, is_armed_for, disarmed}
-use Rattle.usb_kernel.specs.Queues.{kind_of, unused, is_queued, queued_at, fresh, next_set}
+use Rattle.usb_kernel.specs.Queues.{kind_of, unused, is_queued, queued_at, fresh_arming, next_set}
 
 call-small : (c : KernelCall) → call_number c < 13
 call-small OpenDevice = omega arith
@@ -66,11 +66,11 @@ get-before [] x (suc i) other = refl
 get-before (y ∷ ys) x zero other = refl
 get-before (y ∷ ys) x (suc i) other = get-before ys x i (λ z. other (omega (arith, z)))
 
-pub queued-fresh : (k : ℕ) (log : List Arming) (a : Armed) → queued_at k (log ++ fresh a ∷ []) (length log) ≡ (kind_of a == k)
-queued-fresh k log a = rw (get-end log (fresh a)) refl
+pub queued-fresh_arming : (k : ℕ) (log : List Arming) (a : Armed) → queued_at k (log ++ fresh_arming a ∷ []) (length log) ≡ (kind_of a == k)
+queued-fresh_arming k log a = rw (get-end log (fresh_arming a)) refl
 
-pub queued-before : (k : ℕ) (log : List Arming) (a : Armed) (i : ℕ) → i ≢ length log → queued_at k (log ++ fresh a ∷ []) i ≡ queued_at k log i
-queued-before k log a i other = rw (get-before log (fresh a) i other) refl
+pub queued-before : (k : ℕ) (log : List Arming) (a : Armed) (i : ℕ) → i ≢ length log → queued_at k (log ++ fresh_arming a ∷ []) i ≡ queued_at k log i
+queued-before k log a i other = rw (get-before log (fresh_arming a) i other) refl
 
 -- what queued_at after a write
 get-set : (log : List Arming) (j : ℕ) (x : Arming) → j < length log → slice_get (set log j x) j ≡ Some x
@@ -109,7 +109,7 @@ pub unused-next_set : (log : List Arming) (j place : ℕ) (o : Option Arming) �
 unused-next_set log j place None at = refl
 unused-next_set log j place (Some x) at = unused-set_next log j x (Some place) at
 
-pub unused-append : (log : List Arming) (a : Armed) → unused (log ++ fresh a ∷ []) ≡ unused log ++ a ∷ []
+pub unused-append : (log : List Arming) (a : Armed) → unused (log ++ fresh_arming a ∷ []) ≡ unused log ++ a ∷ []
 unused-append [] a = refl
 unused-append (x ∷ others) a =
     elim (cases_Bool x.is_used) [
@@ -120,9 +120,6 @@ unused-append (x ∷ others) a =
 -- the refusals of a kind
 abbrev of_kind : ℕ → Armed → Bool
 of_kind k a = kind_of a == k
-
-queued-zero : (k : ℕ) (x : Arming) (others : List Arming) → queued_at k (x ∷ others) zero ≡ (not x.is_used && of_kind k x.refusal)
-queued-zero k x others = refl
 
 -- the first that queued_at is the first of its kind that is not used
 module _ (d : ℕ) (call : KernelCall) where

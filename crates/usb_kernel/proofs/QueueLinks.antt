@@ -8,9 +8,9 @@ use Rattle.std.proofs.lemmas.List.{length-replicate}
 use Rattle.usb_kernel.specs.declared.step.Armed.{Armed}
 use Rattle.usb_kernel.specs.declared.refusals.Arming.{Arming}
 use Rattle.usb_kernel.specs.declared.refusals.Queue.{Queue}
-use Rattle.usb_kernel.specs.Queues.{kind_of, unused, is_queued, queued_at, fresh, next_set, linked_behind, IsFirst, IsLast, IsLinked}
+use Rattle.usb_kernel.specs.Queues.{kind_of, unused, is_queued, queued_at, fresh_arming, next_set, linked_behind, IsFirst, IsLast, IsLinked}
 use Rattle.usb_kernel.proofs.Firsts.{first-same, last-same, first-more_none, first-more_some, last-more, first-less, last-less}
-use Rattle.usb_kernel.proofs.QueueLemmas.{queued-within, queued-end, queued-fresh, queued-before, queued-set, queued-set_other, queued-next_set, get-before, get-end, unused-next_set, unused-none, unused-first, disarmed-none, disarmed-first}
+use Rattle.usb_kernel.proofs.QueueLemmas.{queued-within, queued-end, queued-fresh_arming, queued-before, queued-set, queued-set_other, queued-next_set, get-before, get-end, unused-next_set, unused-none, unused-first, disarmed-none, disarmed-first}
 use Rattle.usb_kernel.specs.declared.step.KernelCall.{KernelCall}
 use Rattle.std.specs.Prelude.{find}
 use Rattle.std.specs.List.{All}
@@ -80,10 +80,10 @@ module _ (queues : List Queue) (log : List Arming) (a : Armed) (q : Queue) (link
   behind = linked_behind log q.first q.last (length log)
 
   abbrev longer : List Arming
-  longer = behind ++ fresh a ∷ []
+  longer = behind ++ fresh_arming a ∷ []
 
   here : (k : ℕ) → queued_at k longer (length log) ≡ (kind_of a == k)
-  here k = rw (length-behind log q.first q.last (length log)) at (queued-fresh k behind a)
+  here k = rw (length-behind log q.first q.last (length log)) at (queued-fresh_arming k behind a)
 
   others : (k : ℕ) (i : ℕ) → i ≢ length log → queued_at k longer i ≡ queued_at k log i
   others k i other = queued-before k behind a i (λ z. other (z ∙ length-behind log q.first q.last (length log))) ∙ queued-behind k log q.first q.last (length log) i
@@ -139,10 +139,10 @@ module _ (queues : List Queue) (log : List Arming) (a : Armed) (q : Queue) (link
       let len = length-behind log q.first q.last (length log) in
       elim (cases_eq i (length behind)) [
         | inl same ↦
-            let is : fresh a ≡ x = same_Some (fresh a) x (sym (get-end behind (fresh a)) ∙ ap (slice_get longer) (sym same) ∙ at) in
+            let is : fresh_arming a ≡ x = same_Some (fresh_arming a) x (sym (get-end behind (fresh_arming a)) ∙ ap (slice_get longer) (sym same) ∙ at) in
             let next : x.next ≡ None = ap (λ (y : Arming). y.next) (sym is) in
-            rw next (λ m after. queued-end (kind_of x.refusal) longer m (omega (arith, after, same, length-append behind (fresh a ∷ []))))
-        | inr other ↦ next-behind q.first refl (linked.first (kind_of a) q get) (linked.last (kind_of a) q get) i x (sym (get-before behind (fresh a) i other) ∙ at) unused
+            rw next (λ m after. queued-end (kind_of x.refusal) longer m (omega (arith, after, same, length-append behind (fresh_arming a ∷ []))))
+        | inr other ↦ next-behind q.first refl (linked.first (kind_of a) q get) (linked.last (kind_of a) q get) i x (sym (get-before behind (fresh_arming a) i other) ∙ at) unused
       ]
 
   pub enqueued : IsLinked (set queues (kind_of a) (record { first = Some (first_or q.first (length log)); last = length log })) longer
@@ -223,7 +223,7 @@ first_or-unwrap : (o : Option ℕ) (place : ℕ) → unwrap_or o place ≡ first
 first_or-unwrap None place = refl
 first_or-unwrap (Some f) place = refl
 
-pub enqueued-code : (queues : List Queue) (log new : List Arming) (at place first : ℕ) (a : Armed) (q : Queue) → at ≡ kind_of a → at < 3328 → place ≡ length log → first ≡ unwrap_or q.first place → new ≡ linked_behind log q.first q.last place ++ fresh a ∷ [] → IsLinked queues log → q ≡ get_or queues at q → IsLinked (set queues at (record { first = Some first; last = place })) new
+pub enqueued-code : (queues : List Queue) (log new : List Arming) (at place first : ℕ) (a : Armed) (q : Queue) → at ≡ kind_of a → at < 3328 → place ≡ length log → first ≡ unwrap_or q.first place → new ≡ linked_behind log q.first q.last place ++ fresh_arming a ∷ [] → IsLinked queues log → q ≡ get_or queues at q → IsLinked (set queues at (record { first = Some first; last = place })) new
 enqueued-code queues log new at place first a q is small end one made linked read =
     let get : slice_get queues (kind_of a) ≡ Some q = rw is at (queue-at queues at q (omega (arith, small, linked.count)) read) in
     let e = enqueued queues log a q linked get in

@@ -4,7 +4,7 @@ use Rattle.std.specs.List.{enumerate_from, position_from}
 use Rattle.std.proofs.lemmas.Iterator.Adapters.{position_from-zero}
 use Rattle.std.proofs.lemmas.Option.{same_Some, none-some}
 use Rattle.std.proofs.lemmas.Bool.{eq-eqb, ne_eqb}
-use Rattle.usb_kernel.specs.declared.slot.Slot.{Slot}
+use Rattle.usb_kernel.specs.declared.slot.TicketRow.{TicketRow}
 use Rattle.usb_kernel.specs.Tickets.{Ticket}
 use Rattle.usb_kernel.specs.Fates.{Fate}
 use Rattle.usb_kernel.specs.Journal.{at_ticket, is_open, oldest_among}
@@ -29,7 +29,7 @@ rows_from-append (t ∷ ts) k s f =
     rw (others, e) refl
 
 -- a change of one row
-pub set-rows_from : (ts : List Ticket) (k i : ℕ) (s : Ticket) (r : Slot) (f g : ℕ → Fate) → slice_get ts i ≡ Some s → r ≡ row_of s (g (k + i)) → ((u : ℕ) → u ≢ k + i → f u ≡ g u) → set (rows_from k ts f) i r ≡ rows_from k ts g
+pub set-rows_from : (ts : List Ticket) (k i : ℕ) (s : Ticket) (r : TicketRow) (f g : ℕ → Fate) → slice_get ts i ≡ Some s → r ≡ row_of s (g (k + i)) → ((u : ℕ) → u ≢ k + i → f u ≡ g u) → set (rows_from k ts f) i r ≡ rows_from k ts g
 unfolding rows_from
 set-rows_from [] k i s r f g at is others = absurd (none-some s at)
 set-rows_from (t ∷ ts) k zero s r f g at is others =
@@ -45,7 +45,7 @@ set-rows_from (t ∷ ts) k (suc i) s r f g at is others =
     cc
 
 -- a step on one ticket is a write of its row
-pub set-at_ticket : (ts : List Ticket) (i : ℕ) (s : Ticket) (r : Slot) (f : ℕ → Fate) (step : Ticket → Fate → Fate) → slice_get ts i ≡ Some s → r ≡ row_of s (step s (f i)) → set (rows_from 0 ts f) i r ≡ rows_from 0 ts (at_ticket i step ts f)
+pub set-at_ticket : (ts : List Ticket) (i : ℕ) (s : Ticket) (r : TicketRow) (f : ℕ → Fate) (step : Ticket → Fate → Fate) → slice_get ts i ≡ Some s → r ≡ row_of s (step s (f i)) → set (rows_from 0 ts f) i r ≡ rows_from 0 ts (at_ticket i step ts f)
 set-at_ticket ts i s r f step at is =
     let z : 0 + i ≡ i = omega arith in
     set-rows_from ts 0 i s r f (at_ticket i step ts f) at
@@ -68,7 +68,7 @@ length-rows_from [] k f = refl
 length-rows_from (t ∷ ts) k f = let e = length-rows_from ts (k + 1) f in cc
 
 -- the row at a place is that of the ticket there
-pub slice_get-rows_from : (ts : List Ticket) (k i : ℕ) (f : ℕ → Fate) (r : Slot) → slice_get (rows_from k ts f) i ≡ Some r → (s : Ticket) × (slice_get ts i ≡ Some s) × (r ≡ row_of s (f (k + i)))
+pub slice_get-rows_from : (ts : List Ticket) (k i : ℕ) (f : ℕ → Fate) (r : TicketRow) → slice_get (rows_from k ts f) i ≡ Some r → (s : Ticket) × (slice_get ts i ≡ Some s) × (r ≡ row_of s (f (k + i)))
 unfolding rows_from
 slice_get-rows_from [] k i f r e = absurd (none-some r e)
 slice_get-rows_from (t ∷ ts) k zero f r e =
@@ -80,7 +80,7 @@ slice_get-rows_from (t ∷ ts) k (suc i) f r e =
     (h.0, h.1, rw z h.2)
 
 -- the first row that passes a test, where the test can be made on the journal
-pub position-rows : (p : Slot → Bool) (q : (ℕ × Ticket) → Bool) (ts : List Ticket) (k : ℕ) (f : ℕ → Fate) → ((x : ℕ × Ticket) → p (row_of x.1 (f x.0)) ≡ q x) → position_from p k (rows_from k ts f) ≡ slice_get (map (λ x. x.0) (filter q (enumerate_from k ts))) 0
+pub position-rows : (p : TicketRow → Bool) (q : (ℕ × Ticket) → Bool) (ts : List Ticket) (k : ℕ) (f : ℕ → Fate) → ((x : ℕ × Ticket) → p (row_of x.1 (f x.0)) ≡ q x) → position_from p k (rows_from k ts f) ≡ slice_get (map (λ x. x.0) (filter q (enumerate_from k ts))) 0
 unfolding rows_from
 position-rows p q [] k f same = refl
 position-rows p q (t ∷ ts) k f same =

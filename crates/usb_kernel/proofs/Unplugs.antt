@@ -7,7 +7,7 @@ use Rattle.std.proofs.lemmas.Option.{none-some}
 use Rattle.std.proofs.lemmas.Grind.{common_steps}
 use Rattle.usb_kernel.specs.declared.event.Event.{Event}
 use Rattle.usb_kernel.specs.declared.event.Event.TheVariants.{Unplug}
-use Rattle.usb_kernel.specs.declared.slot.Slot.{Slot}
+use Rattle.usb_kernel.specs.declared.slot.TicketRow.{TicketRow}
 use Rattle.usb_kernel.specs.Tickets.{Ticket, tickets}
 use Rattle.usb_kernel.specs.Fates.{Fate, unplug}
 use Rattle.usb_kernel.specs.Journal.{fate}
@@ -17,7 +17,7 @@ row_unplugged-row_of : (d : ℕ) (s : Ticket) (f : Fate) → row_unplugged d (ro
 row_unplugged-row_of d s f = grind (arith, common_steps)
 
 -- a step of every ticket is a map over the rows
-map-rows_from : (step : Ticket → Fate → Fate) (change_row : Slot → Slot) → ((s : Ticket) (f : Fate) → change_row (row_of s f) ≡ row_of s (step s f)) → (ts : List Ticket) (k : ℕ) (f g : ℕ → Fate) → ((i : ℕ) (s : Ticket) → slice_get ts i ≡ Some s → g (k + i) ≡ step s (f (k + i))) → map change_row (rows_from k ts f) ≡ rows_from k ts g
+map-rows_from : (step : Ticket → Fate → Fate) (change_row : TicketRow → TicketRow) → ((s : Ticket) (f : Fate) → change_row (row_of s f) ≡ row_of s (step s f)) → (ts : List Ticket) (k : ℕ) (f g : ℕ → Fate) → ((i : ℕ) (s : Ticket) → slice_get ts i ≡ Some s → g (k + i) ≡ step s (f (k + i))) → map change_row (rows_from k ts f) ≡ rows_from k ts g
 unfolding rows_from
 map-rows_from step change_row same [] k f g steps = refl
 map-rows_from step change_row same (t ∷ ts) k f g steps =
@@ -27,11 +27,11 @@ map-rows_from step change_row same (t ∷ ts) k f g steps =
     let others = map-rows_from step change_row same ts (k + 1) f g (λ i s at. let e : (k + 1) + i ≡ k + suc i = omega arith in rw e (steps (suc i) s at)) in
     rw (first, others) refl
 
-IsRoomy-unplugged : (d : ℕ) (r : Slot) → IsRoomy r → IsRoomy (row_unplugged d r)
+IsRoomy-unplugged : (d : ℕ) (r : TicketRow) → IsRoomy r → IsRoomy (row_unplugged d r)
 IsRoomy-unplugged d r roomy =
     elim (r.device == d && is_none r.status) as (λ v. IsRoomy (cond v (record r { status = Some 108 }) r)) [ true ↦ λ never. absurd (none-some 108 (sym never)) | false ↦ roomy ]
 
-pub agrees_unplug : (past : List Event) (rows : List Slot) (d : ℕ) → Agrees past rows → Agrees (Unplug d ∷ past) (map (row_unplugged d) rows)
+pub agrees_unplug : (past : List Event) (rows : List TicketRow) (d : ℕ) → Agrees past rows → Agrees (Unplug d ∷ past) (map (row_unplugged d) rows)
 agrees_unplug past rows d agrees = record {
   table = rw agrees.table (map-rows_from (unplug d) (row_unplugged d) (row_unplugged-row_of d) (tickets past) 0 (fate past) (fate (Unplug d ∷ past)) (λ i s at. let z : 0 + i ≡ i = omega arith in rw (z, at) refl));
   bodies = agrees.bodies;

@@ -7,7 +7,7 @@ use Rattle.std.proofs.lemmas.Option.{none-some, slice_get-get_or}
 use Rattle.std.proofs.lemmas.List.Quantifiers.{position-Some}
 use Rattle.std.proofs.lemmas.Iterator.Adapters.{position_from-zero}
 use Rattle.std.proofs.lemmas.Grind.{common_steps}
-use Rattle.usb_kernel.specs.declared.slot.Slot.{Slot}
+use Rattle.usb_kernel.specs.declared.slot.TicketRow.{TicketRow}
 use Rattle.usb_kernel.specs.Rows.{IsRoomy, is_open_row, is_reapable_row, is_unreaped_row}
 use Rattle.usb_kernel.specs.Unreaped.{places_from, unreaped_places, without}
 use Rattle.usb_kernel.proofs.Steps.{All-slice_get, some_not_none}
@@ -17,7 +17,7 @@ unfolding places_from
 unreaped-none = refl
 
 -- one more row
-places-append : (rows : List Slot) (k : ℕ) (r : Slot) → places_from k (rows ++ r ∷ []) ≡ places_from k rows ++ places_from (k + length rows) (r ∷ [])
+places-append : (rows : List TicketRow) (k : ℕ) (r : TicketRow) → places_from k (rows ++ r ∷ []) ≡ places_from k rows ++ places_from (k + length rows) (r ∷ [])
 unfolding places_from
 places-append [] k r = let z : k + 0 ≡ k = omega arith in rw z refl
 places-append (x ∷ rows) k r =
@@ -25,15 +25,15 @@ places-append (x ∷ rows) k r =
     let others = rw e at (places-append rows (k + 1) r) in
     elim (is_unreaped_row x) as (λ v. cond v (k ∷ places_from (k + 1) (rows ++ r ∷ [])) (places_from (k + 1) (rows ++ r ∷ [])) ≡ cond v (k ∷ places_from (k + 1) rows) (places_from (k + 1) rows) ++ places_from (k + length (x ∷ rows)) (r ∷ [])) [ true ↦ ap (λ ys. k ∷ ys) others | false ↦ others ]
 
-places-one : (k : ℕ) (r : Slot) → is_unreaped_row r ≡ true → places_from k (r ∷ []) ≡ k ∷ []
+places-one : (k : ℕ) (r : TicketRow) → is_unreaped_row r ≡ true → places_from k (r ∷ []) ≡ k ∷ []
 unfolding places_from
 places-one k r waiting = rw waiting refl
 
-places-no : (k : ℕ) (r : Slot) → is_unreaped_row r ≡ false → places_from k (r ∷ []) ≡ []
+places-no : (k : ℕ) (r : TicketRow) → is_unreaped_row r ≡ false → places_from k (r ∷ []) ≡ []
 unfolding places_from
 places-no k r reaped = rw reaped refl
 
-pub places-add : (rows : List Slot) (r : Slot) → is_unreaped_row r ≡ true → unreaped_places (rows ++ r ∷ []) ≡ unreaped_places rows ++ length rows ∷ []
+pub places-add : (rows : List TicketRow) (r : TicketRow) → is_unreaped_row r ≡ true → unreaped_places (rows ++ r ∷ []) ≡ unreaped_places rows ++ length rows ∷ []
 places-add rows r waiting =
     let z : 0 + length rows ≡ length rows = omega arith in
     places-append rows 0 r ∙ ap (λ k. places_from 0 rows ++ places_from k (r ∷ [])) z ∙ ap (λ ys. places_from 0 rows ++ ys) (places-one (length rows) r waiting)
@@ -42,12 +42,12 @@ append-none : {X : Type 0} (xs : List X) → xs ++ [] ≡ xs
 append-none [] = refl
 append-none (x ∷ xs) = ap (λ ys. x ∷ ys) (append-none xs)
 
-pub places-add_reaped : (rows : List Slot) (r : Slot) → is_unreaped_row r ≡ false → unreaped_places (rows ++ r ∷ []) ≡ unreaped_places rows
+pub places-add_reaped : (rows : List TicketRow) (r : TicketRow) → is_unreaped_row r ≡ false → unreaped_places (rows ++ r ∷ []) ≡ unreaped_places rows
 places-add_reaped rows r reaped =
     places-append rows 0 r ∙ ap (λ ys. places_from 0 rows ++ ys) (places-no (0 + length rows) r reaped) ∙ append-none (places_from 0 rows)
 
 -- a write that leaves a row as reaped as it was
-places-set : (rows : List Slot) (k i : ℕ) (r next : Slot) → i < length rows → r ≡ get_or rows i r → is_unreaped_row next ≡ is_unreaped_row r → places_from k (set rows i next) ≡ places_from k rows
+places-set : (rows : List TicketRow) (k i : ℕ) (r next : TicketRow) → i < length rows → r ≡ get_or rows i r → is_unreaped_row next ≡ is_unreaped_row r → places_from k (set rows i next) ≡ places_from k rows
 unfolding places_from
 places-set [] k i r next inside read same = absurd (omega arith)
 places-set (x ∷ rows) k zero r next inside read same =
@@ -57,11 +57,11 @@ places-set (x ∷ rows) k (suc i) r next inside read same =
     let others = places-set rows (k + 1) i r next (omega arith) read same in
     rw others refl
 
-pub unreaped-set : (rows : List Slot) (i : ℕ) (r next : Slot) → i < length rows → r ≡ get_or rows i r → is_unreaped_row next ≡ is_unreaped_row r → unreaped_places (set rows i next) ≡ unreaped_places rows
+pub unreaped-set : (rows : List TicketRow) (i : ℕ) (r next : TicketRow) → i < length rows → r ≡ get_or rows i r → is_unreaped_row next ≡ is_unreaped_row r → unreaped_places (set rows i next) ≡ unreaped_places rows
 unreaped-set rows i r next inside read same = places-set rows 0 i r next inside read same
 
 -- a reap takes the place of its row out
-places-reap : (rows : List Slot) (k i : ℕ) (r next : Slot) → i < length rows → r ≡ get_or rows i r → is_unreaped_row r ≡ true → is_unreaped_row next ≡ false → places_from k (set rows i next) ≡ without (k + i) (places_from k rows)
+places-reap : (rows : List TicketRow) (k i : ℕ) (r next : TicketRow) → i < length rows → r ≡ get_or rows i r → is_unreaped_row r ≡ true → is_unreaped_row next ≡ false → places_from k (set rows i next) ≡ without (k + i) (places_from k rows)
 unfolding places_from without
 places-reap [] k i r next inside read waiting reaped = absurd (omega arith)
 places-reap (x ∷ rows) k zero r next inside read waiting reaped =
@@ -74,13 +74,13 @@ places-reap (x ∷ rows) k (suc i) r next inside read waiting reaped =
     let others = rw e at (places-reap rows (k + 1) i r next (omega arith) read waiting reaped) in
     rw others (elim (is_unreaped_row x) as (λ v. cond v (k ∷ without (k + suc i) (places_from (k + 1) rows)) (without (k + suc i) (places_from (k + 1) rows)) ≡ without (k + suc i) (cond v (k ∷ places_from (k + 1) rows) (places_from (k + 1) rows))) [ true ↦ rw (ne_eqb k (k + suc i) apart) refl | false ↦ refl ])
 
-pub unreaped-reap : (rows : List Slot) (i : ℕ) (r next : Slot) → i < length rows → r ≡ get_or rows i r → is_unreaped_row r ≡ true → is_unreaped_row next ≡ false → unreaped_places (set rows i next) ≡ without i (unreaped_places rows)
+pub unreaped-reap : (rows : List TicketRow) (i : ℕ) (r next : TicketRow) → i < length rows → r ≡ get_or rows i r → is_unreaped_row r ≡ true → is_unreaped_row next ≡ false → unreaped_places (set rows i next) ≡ without i (unreaped_places rows)
 unreaped-reap rows i r next inside read waiting reaped =
     let z : 0 + i ≡ i = omega arith in
     places-reap rows 0 i r next inside read waiting reaped ∙ ap (λ n. without n (places_from 0 rows)) z
 
 -- there are as many as rows that are not reaped
-pub length-places : (rows : List Slot) (k : ℕ) → length (places_from k rows) ≡ count_by is_unreaped_row rows
+pub length-places : (rows : List TicketRow) (k : ℕ) → length (places_from k rows) ≡ count_by is_unreaped_row rows
 unfolding places_from
 length-places [] k = refl
 length-places (r ∷ rows) k =
@@ -120,7 +120,7 @@ below-one_more : (n : ℕ) (xs : List ℕ) (k i d : ℕ) → k < n → ((j : ℕ
 below-one_more n xs k zero d first others inside = first
 below-one_more n xs k (suc i) d first others inside = others i (omega arith)
 
-places-below : (rows : List Slot) (k n i d : ℕ) → k + length rows ≤ n → i < length (places_from k rows) → get_or (places_from k rows) i d < n
+places-below : (rows : List TicketRow) (k n i d : ℕ) → k + length rows ≤ n → i < length (places_from k rows) → get_or (places_from k rows) i d < n
 unfolding places_from
 places-below [] k n i d long inside = absurd (omega arith)
 places-below (r ∷ rows) k n i d long inside =
@@ -130,20 +130,20 @@ places-below (r ∷ rows) k n i d long inside =
       | inr reaped ↦ rw reaped (others i (rw reaped at inside))
     ]
 
-pub place-inside : (rows : List Slot) (places : List ℕ) (i d : ℕ) → places ≡ unreaped_places rows → i < length places → get_or places i d < length rows
+pub place-inside : (rows : List TicketRow) (places : List ℕ) (i d : ℕ) → places ≡ unreaped_places rows → i < length places → get_or places i d < length rows
 place-inside rows places i d listed inside = rw listed (places-below rows 0 (length rows) i d (omega arith) (rw listed at inside))
 
 -- the first of some places whose row passes a test
-abbrev passes : (Slot → Bool) → Option Slot → Bool
+abbrev passes : (TicketRow → Bool) → Option TicketRow → Bool
 passes p None = false
 passes p (Some r) = p r
 
-unfoldable pub first_among : (Slot → Bool) → List Slot → List ℕ → Option ℕ
+unfoldable pub first_among : (TicketRow → Bool) → List TicketRow → List ℕ → Option ℕ
 first_among p rows [] = None
 first_among p rows (i ∷ places) = cond (passes p (slice_get rows i)) (Some i) (first_among p rows places)
 
 -- a search of the table finds what one of its unreaped places finds, where no reaped row passes
-among-places : (p : Slot → Bool) (all rows : List Slot) (k : ℕ) → ((i : ℕ) → slice_get all (k + i) ≡ slice_get rows i) → ((i : ℕ) (r : Slot) → slice_get rows i ≡ Some r → is_unreaped_row r ≡ false → p r ≡ false) → position_from p k rows ≡ first_among p all (places_from k rows)
+among-places : (p : TicketRow → Bool) (all rows : List TicketRow) (k : ℕ) → ((i : ℕ) → slice_get all (k + i) ≡ slice_get rows i) → ((i : ℕ) (r : TicketRow) → slice_get rows i ≡ Some r → is_unreaped_row r ≡ false → p r ≡ false) → position_from p k rows ≡ first_among p all (places_from k rows)
 unfolding places_from first_among
 among-places p all [] k same fails = refl
 among-places p all (r ∷ rows) k same fails =
@@ -155,11 +155,11 @@ among-places p all (r ∷ rows) k same fails =
       | inr reaped ↦ rw (reaped, fails 0 r refl reaped) others
     ]
 
-among : (p : Slot → Bool) (rows : List Slot) (places : List ℕ) → places ≡ unreaped_places rows → ((i : ℕ) (r : Slot) → slice_get rows i ≡ Some r → is_unreaped_row r ≡ false → p r ≡ false) → position p rows ≡ first_among p rows places
+among : (p : TicketRow → Bool) (rows : List TicketRow) (places : List ℕ) → places ≡ unreaped_places rows → ((i : ℕ) (r : TicketRow) → slice_get rows i ≡ Some r → is_unreaped_row r ≡ false → p r ≡ false) → position p rows ≡ first_among p rows places
 among p rows places listed fails =
     rw listed (position_from-zero p rows ∙ among-places p rows rows 0 (λ i. let z : 0 + i ≡ i = omega arith in rw z refl) fails)
 
-open-waits : (d e : ℕ) (r : Slot) → IsRoomy r → is_unreaped_row r ≡ false → is_open_row d e r ≡ false
+open-waits : (d e : ℕ) (r : TicketRow) → IsRoomy r → is_unreaped_row r ≡ false → is_open_row d e r ≡ false
 open-waits d e r roomy reaped =
     elim (cases_Bool (is_open_row d e r)) [
       | inl opens ↦
@@ -176,21 +176,21 @@ open-waits d e r roomy reaped =
     no_buffer : {X : Type 0} (o : Option X) → is_some o ≡ false → o ≡ None
     no_buffer o said = grind (arith, common_steps)
 
-pub open-among : (rows : List Slot) (places : List ℕ) (d e : ℕ) → places ≡ unreaped_places rows → All IsRoomy rows → position (is_open_row d e) rows ≡ first_among (is_open_row d e) rows places
+pub open-among : (rows : List TicketRow) (places : List ℕ) (d e : ℕ) → places ≡ unreaped_places rows → All IsRoomy rows → position (is_open_row d e) rows ≡ first_among (is_open_row d e) rows places
 open-among rows places d e listed roomy =
     among (is_open_row d e) rows places listed (λ i r at reaped. open-waits d e r (All-slice_get IsRoomy rows i r roomy at) reaped)
 
-reapable-waits : (r : Slot) → is_unreaped_row r ≡ false → is_reapable_row r ≡ false
+reapable-waits : (r : TicketRow) → is_unreaped_row r ≡ false → is_reapable_row r ≡ false
 reapable-waits r reaped = rw reaped (elim (is_some r.status) as (λ v. (v && false) ≡ false) [ true ↦ refl | false ↦ refl ])
 
-pub reapable-among : (rows : List Slot) (places : List ℕ) → places ≡ unreaped_places rows → position is_reapable_row rows ≡ first_among is_reapable_row rows places
+pub reapable-among : (rows : List TicketRow) (places : List ℕ) → places ≡ unreaped_places rows → position is_reapable_row rows ≡ first_among is_reapable_row rows places
 reapable-among rows places listed = among is_reapable_row rows places listed (λ i r at reaped. reapable-waits r reaped)
 
-pub row_read : (rows : List Slot) (i : ℕ) (r : Slot) → i < length rows → r ≡ get_or rows i r → slice_get rows i ≡ Some r
-row_read rows i r inside read = slice_get-get_or rows i r inside ∙ ap (λ (x : Slot). Some x) (sym read)
+pub row_read : (rows : List TicketRow) (i : ℕ) (r : TicketRow) → i < length rows → r ≡ get_or rows i r → slice_get rows i ≡ Some r
+row_read rows i r inside read = slice_get-get_or rows i r inside ∙ ap (λ (x : TicketRow). Some x) (sym read)
 
 -- one step of that search
-pub among-later : (p : Slot → Bool) (rows : List Slot) (places : List ℕ) (i d : ℕ) (r : Slot) → i < length places → slice_get rows (get_or places i d) ≡ Some r → p r ≡ false → first_among p rows (drop i places) ≡ first_among p rows (drop (i + 1) places)
+pub among-later : (p : TicketRow → Bool) (rows : List TicketRow) (places : List ℕ) (i d : ℕ) (r : TicketRow) → i < length places → slice_get rows (get_or places i d) ≡ Some r → p r ≡ false → first_among p rows (drop i places) ≡ first_among p rows (drop (i + 1) places)
 unfolding first_among
 among-later p rows [] i d r inside at fails = absurd (omega arith)
 among-later p rows (x ∷ places) zero d r inside at fails = rw (at, fails) refl
@@ -198,13 +198,13 @@ among-later p rows (x ∷ places) (suc i) d r inside at fails =
     let e : suc i + 1 ≡ suc (i + 1) = omega arith in
     rw e (among-later p rows places i d r (omega arith) at fails)
 
-pub among-here : (p : Slot → Bool) (rows : List Slot) (places : List ℕ) (i d : ℕ) (r : Slot) → i < length places → slice_get rows (get_or places i d) ≡ Some r → p r ≡ true → first_among p rows (drop i places) ≡ Some (get_or places i d)
+pub among-here : (p : TicketRow → Bool) (rows : List TicketRow) (places : List ℕ) (i d : ℕ) (r : TicketRow) → i < length places → slice_get rows (get_or places i d) ≡ Some r → p r ≡ true → first_among p rows (drop i places) ≡ Some (get_or places i d)
 unfolding first_among
 among-here p rows [] i d r inside at here = absurd (omega arith)
 among-here p rows (x ∷ places) zero d r inside at here = rw (at, here) refl
 among-here p rows (x ∷ places) (suc i) d r inside at here = among-here p rows places i d r (omega arith) at here
 
-pub among-end : (p : Slot → Bool) (rows : List Slot) (places : List ℕ) (n : ℕ) → length places ≤ n → first_among p rows (drop n places) ≡ None
+pub among-end : (p : TicketRow → Bool) (rows : List TicketRow) (places : List ℕ) (n : ℕ) → length places ≤ n → first_among p rows (drop n places) ≡ None
 unfolding first_among
 among-end p rows [] zero past = refl
 among-end p rows [] (suc n) past = refl

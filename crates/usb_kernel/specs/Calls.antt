@@ -58,12 +58,12 @@ open_by k (Some d) = answer_of (λ d. d.number) (armed_errno k.armed d.number ca
 abbrev pub open_answer : KernelState → ℕ → ℕ → Result ℕ ℕ
 open_answer k bus address = open_by k (find (is_at bus address) k.devices)
 
-abbrev pub opened_by : KernelState → Option DeviceState → KernelState
-opened_by k None = k
-opened_by k (Some d) = record k { armed = disarmed k.armed d.number call.OpenDevice }
+abbrev pub after_open_by : KernelState → Option DeviceState → KernelState
+after_open_by k None = k
+after_open_by k (Some d) = record k { armed = disarmed k.armed d.number call.OpenDevice }
 
 abbrev pub after_open : KernelState → ℕ → ℕ → KernelState
-after_open k bus address = opened_by k (find (is_at bus address) k.devices)
+after_open k bus address = after_open_by k (find (is_at bus address) k.devices)
 
 -- set_configuration: 22 no configuration has the value, 0 being allowed; 16 an interface is claimed
 abbrev pub set_configuration_rows : ℕ → DeviceState → Option ℕ

@@ -38,13 +38,13 @@ abbrev pub ack_comes : ℕ → ℕ → List Ticket → (ℕ → Fate) → ℕ �
 ack_comes d e ts fates u = at_oldest (oldest_among ts fates d e) with_ack ts fates u
 
 -- the packet that an acknowledgement takes: the bytes by which the count rises
-abbrev pub part : Body → ℕ → ℕ → List ℕ
-part (Wanted n) before now = []
-part (Sent bytes) before now = take (now - before) (drop before bytes)
+abbrev pub bytes_between : Body → ℕ → ℕ → List ℕ
+bytes_between (Wanted n) before now = []
+bytes_between (Sent bytes) before now = take (now - before) (drop before bytes)
 
 abbrev pub taken_of : Option Ticket → Fate → List ℕ
 taken_of None f = []
-taken_of (Some s) f = part s.body (count_of s f) (count_of s (with_ack s f))
+taken_of (Some s) f = bytes_between s.body (count_of s f) (count_of s (with_ack s f))
 
 -- an echo is an acknowledgement and a packet of the bytes that it takes, where both endpoints have an open ticket
 abbrev pub echo_comes : Option ℕ → Option ℕ → ℕ → ℕ → ℕ → List Ticket → (ℕ → Fate) → ℕ → Fate

@@ -1,4 +1,5 @@
 pub mod Tickets
+pub mod WholePackets
 pub mod Fates
 pub mod Journal
 pub mod Submissions

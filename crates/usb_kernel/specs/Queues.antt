@@ -41,8 +41,8 @@ pub record IsLinked (queues : List Queue) (log : List Arming) : Type 0 where
   pub next : (i : ℕ) (x : Arming) → slice_get log i ≡ Some x → x.is_used ≡ false → IsFirst (queued_at (kind_of x.refusal) log) (suc i) x.next
 
 -- one is armed behind the last of its queue
-abbrev pub fresh : Armed → Arming
-fresh refusal = record { refusal = refusal; is_used = false; next = None }
+abbrev pub fresh_arming : Armed → Arming
+fresh_arming refusal = record { refusal = refusal; is_used = false; next = None }
 
 abbrev pub next_set : List Arming → ℕ → ℕ → Option Arming → List Arming
 next_set log i place None = log

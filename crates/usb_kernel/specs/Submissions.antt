@@ -33,7 +33,8 @@ ticket_of s =
 abbrev pub refused_of : Submission → Ticket
 refused_of s = record (ticket_of s) { refused = true; deadline = None }
 
--- an IN transfer wants its maximum, or a multiple of it that is not 0
+-- an IN transfer wants its maximum, or a multiple of it that is not 0. Of a maximum of 0 that is 0,
+-- where `is_whole` of WholePackets.antt takes no length
 abbrev pub WantsWhole : ℕ → Body → Type 0
 WantsWhole m (Wanted n) = (more : ℕ) × ((more + 1) * m ≡ n)
 WantsWhole m (Sent bytes) = Unit {0}

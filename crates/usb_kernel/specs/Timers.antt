@@ -34,10 +34,10 @@ abbrev pub due : List Event → ℕ → List ℕ
 due past clock = map (λ p. p.1) (filter (is_up clock) (filter (is_open_entry past) (deadlines past)))
 
 -- a discard of each of these tickets, in their order
-abbrev pub all_discarded : List Event → List ℕ → List Event
-all_discarded past [] = past
-all_discarded past (t ∷ ts) = all_discarded (after_discard past t) ts
+abbrev pub discarded_in_order : List Event → List ℕ → List Event
+discarded_in_order past [] = past
+discarded_in_order past (t ∷ ts) = discarded_in_order (after_discard past t) ts
 
 -- the turn of the timer discards the tickets that are due
 unfoldable pub timer_turned : ℕ → List Event → List Event
-timer_turned clock past = all_discarded past (due past clock)
+timer_turned clock past = discarded_in_order past (due past clock)

@@ -25,7 +25,7 @@ use crate::errno;
 use crate::event::Event;
 use crate::journal::put;
 use crate::refusals::Refusals;
-use crate::slot::Slot;
+use crate::slot::TicketRow;
 use crate::step::{Armed, KernelCall, KernelStep};
 use crate::submission::{Done, Submission, Submitted, TicketInfo};
 use crate::table::{
@@ -43,7 +43,7 @@ use usb_desc::NoMemory;
 #[derive(Drop)]
 pub struct Kernel {
     journal: Vec<Event>,
-    tickets: Vec<Slot>,
+    tickets: Vec<TicketRow>,
     devices: Vec<DeviceState>,
     clock: u64,
     armed: Refusals,

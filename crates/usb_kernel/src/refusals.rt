@@ -4,7 +4,7 @@ ghost use Rattle.std.specs.Prelude.{◌≡◌, ◌+◌, ◌*◌, ◌<◌, ◌≤
 ghost use Rattle.std.specs.List.{All};
 ghost use Rattle.usb_kernel.specs.Submissions.{IsErrno};
 ghost use Rattle.usb_kernel.specs.Refusals.{call_number, armed_errno, disarmed, HasArmedErrno};
-ghost use Rattle.usb_kernel.specs.Queues.{unused, fresh, linked_behind, IsLinked};
+ghost use Rattle.usb_kernel.specs.Queues.{unused, fresh_arming, linked_behind, IsLinked};
 
 use crate::step::{Armed, KernelCall};
 use std::alloc::Global;
@@ -89,7 +89,7 @@ fn link(log: &mut Vec<Arming>, queue: Queue, place: usize)
 /// Appends a refusal, for which there is room.
 fn append(log: &mut Vec<Arming>, refusal: Armed)
     requires room { vec_len log.old < vec_capacity log.old }
-    ensures items { log.new.items ≡ log.old.items ++ fresh refusal ∷ [] }
+    ensures items { log.new.items ≡ log.old.items ++ fresh_arming refusal ∷ [] }
     ensures len { vec_len log.new ≡ vec_len log.old + 1 }
     ensures capacity { vec_capacity log.old ≤ vec_capacity log.new }
 {

@@ -12,7 +12,7 @@ use usb_xfer::Buffer;
 
 /// A ticket. The count is that of the bytes so far, and the buffer is there until the reap.
 #[derive(Drop)]
-pub(crate) struct Slot {
+pub(crate) struct TicketRow {
     pub(crate) device: u8,
     pub(crate) endpoint: u8,
     pub(crate) maximum: usize,
@@ -37,15 +37,15 @@ fn prepared(endpoint: u8, mut buffer: Buffer) -> Buffer
     buffer
 }
 
-impl Slot {
+impl TicketRow {
     /// The ticket of a submission that is queued.
-    pub(crate) fn queued(s: Submission) -> Slot
+    pub(crate) fn queued(s: Submission) -> TicketRow
         requires whole { IsWhole s }
         ensures row { result ≡ row_of (ticket_of s) fresh }
         ensures roomy { IsRoomy result }
         ensures places { owed result ≡ 2 }
     {
-        Slot {
+        TicketRow {
             device: s.device,
             endpoint: s.endpoint,
             maximum: s.maximum,
@@ -58,12 +58,12 @@ impl Slot {
     }
 
     /// A ticket that is refused, and its completion.
-    pub(crate) fn refused(ticket: u64, s: Submission, errno: u16) -> (Slot, Done)
+    pub(crate) fn refused(ticket: u64, s: Submission, errno: u16) -> (TicketRow, Done)
         ensures row { result.0 ≡ row_of (refused_of s) (refused_fate errno) }
         ensures places { owed result.0 ≡ 0 }
         ensures done { result.1 ≡ refused_done ticket s errno }
     {
-        let slot = Slot {
+        let slot = TicketRow {
             device: s.device,
             endpoint: s.endpoint,
             maximum: s.maximum,

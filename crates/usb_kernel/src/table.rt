@@ -13,11 +13,11 @@ ghost use Rattle.usb_kernel.specs.Rows.{IsRoomy, is_open_row, is_reapable_row, r
 ghost use Rattle.usb_kernel.specs.Unreaped.{unreaped_places, without};
 
 use crate::errno;
-use crate::slot::Slot;
+use crate::slot::TicketRow;
 use crate::submission::{Done, Submission, TicketInfo};
 
 /// Appends a row for which there is room.
-fn push_slot(rows: &mut Vec<Slot>, slot: Slot)
+fn push_slot(rows: &mut Vec<TicketRow>, slot: TicketRow)
     requires room { vec_len rows.old < vec_capacity rows.old }
     ensures rows { rows.new.items ≡ rows.old.items ++ slot ∷ [] }
 {
@@ -25,7 +25,7 @@ fn push_slot(rows: &mut Vec<Slot>, slot: Slot)
 }
 
 /// A submission becomes the next ticket. It answers the number.
-pub(crate) fn add(rows: &mut Vec<Slot>, s: Submission) -> u64
+pub(crate) fn add(rows: &mut Vec<TicketRow>, s: Submission) -> u64
     requires room { vec_len rows.old < vec_capacity rows.old }
     requires whole { IsWhole s }
     ensures long { result ≡ vec_len rows.old }
@@ -38,12 +38,12 @@ pub(crate) fn add(rows: &mut Vec<Slot>, s: Submission) -> u64
         ≡ unreaped_places rows.old.items ++ result ∷ [] }
 {
     let number = rows.len() as u64;
-    push_slot(rows, Slot::queued(s));
+    push_slot(rows, TicketRow::queued(s));
     number
 }
 
 /// A refused submission becomes the next ticket.
-pub(crate) fn add_refused(rows: &mut Vec<Slot>, s: Submission, errno: u16) -> Done
+pub(crate) fn add_refused(rows: &mut Vec<TicketRow>, s: Submission, errno: u16) -> Done
     requires room { vec_len rows.old < vec_capacity rows.old }
     ensures long { result.ticket ≡ vec_len rows.old }
     ensures number { (past : List Event) → Agrees past rows.old.items
@@ -53,7 +53,7 @@ pub(crate) fn add_refused(rows: &mut Vec<Slot>, s: Submission, errno: u16) -> Do
     ensures places { sum_by owed rows.new.items ≡ sum_by owed rows.old.items }
     ensures unreaped { unreaped_places rows.new.items ≡ unreaped_places rows.old.items }
 {
-    let (slot, done) = Slot::refused(rows.len() as u64, s, errno);
+    let (slot, done) = TicketRow::refused(rows.len() as u64, s, errno);
     push_slot(rows, slot);
     done
 }
@@ -83,7 +83,7 @@ pub(crate) fn forget_place(unreaped: &mut Vec<usize>, ticket: u64)
 }
 
 /// The first open ticket of an endpoint. It is sought among the places that are not reaped.
-fn open_among(rows: &[Slot], unreaped: &[usize], device: u8, endpoint: u8) -> Option<usize>
+fn open_among(rows: &[TicketRow], unreaped: &[usize], device: u8, endpoint: u8) -> Option<usize>
     requires listed { unreaped.now ≡ unreaped_places rows.now }
     requires roomy { All IsRoomy rows.now }
     ensures place { result ≡ position (is_open_row device endpoint) rows.now }
@@ -99,7 +99,7 @@ fn open_among(rows: &[Slot], unreaped: &[usize], device: u8, endpoint: u8) -> Op
 
 /// The number of the first ticket that is finished and not reaped. It is sought among the places
 /// that are not reaped.
-pub(crate) fn first_number(rows: &[Slot], unreaped: &[usize]) -> Option<u64>
+pub(crate) fn first_number(rows: &[TicketRow], unreaped: &[usize]) -> Option<u64>
     requires listed { unreaped.now ≡ unreaped_places rows.now }
     ensures number { result ≡ position is_reapable_row rows.now }
 {
@@ -114,7 +114,7 @@ pub(crate) fn first_number(rows: &[Slot], unreaped: &[usize]) -> Option<u64>
 
 /// Gives a packet to the oldest IN ticket of an endpoint. It answers how many places that freed.
 pub(crate) fn give_packet(
-    rows: &mut Vec<Slot>,
+    rows: &mut Vec<TicketRow>,
     unreaped: &[usize],
     device: u8,
     endpoint: u8,
@@ -145,7 +145,7 @@ pub(crate) fn give_packet(
 /// Acknowledges a packet of the oldest OUT ticket of an endpoint. It answers how many places that
 /// freed.
 pub(crate) fn give_ack(
-    rows: &mut Vec<Slot>,
+    rows: &mut Vec<TicketRow>,
     unreaped: &[usize],
     device: u8,
     endpoint: u8,
@@ -174,7 +174,7 @@ pub(crate) fn give_ack(
 
 /// Finishes the oldest ticket of an endpoint with an errno. It answers whether there was one.
 pub(crate) fn fail_oldest(
-    rows: &mut Vec<Slot>,
+    rows: &mut Vec<TicketRow>,
     unreaped: &[usize],
     device: u8,
     endpoint: u8,
@@ -200,7 +200,7 @@ pub(crate) fn fail_oldest(
 }
 
 /// Finishes the tickets of a device that is gone. It answers how many places that freed.
-fn unplug_rows(rows: &mut Vec<Slot>, device: u8) -> usize
+fn unplug_rows(rows: &mut Vec<TicketRow>, device: u8) -> usize
     ensures rows { rows.new.items ≡ map (row_unplugged device) rows.old.items }
     ensures places { sum_by owed rows.new.items + result ≡ sum_by owed rows.old.items }
     ensures unreaped { unreaped_places rows.new.items ≡ unreaped_places rows.old.items }
@@ -214,7 +214,7 @@ fn unplug_rows(rows: &mut Vec<Slot>, device: u8) -> usize
 }
 
 /// The same, as the journal sees it.
-pub(crate) fn unplug_tickets(rows: &mut Vec<Slot>, device: u8) -> usize
+pub(crate) fn unplug_tickets(rows: &mut Vec<TicketRow>, device: u8) -> usize
     ensures agrees { (past : List Event) → Agrees past rows.old.items
         → Agrees (Event.Unplug device ∷ past) rows.new.items }
     ensures places { sum_by owed rows.new.items + result ≡ sum_by owed rows.old.items }
@@ -224,7 +224,7 @@ pub(crate) fn unplug_tickets(rows: &mut Vec<Slot>, device: u8) -> usize
 }
 
 /// Takes the completion of a ticket that is finished and not reaped.
-pub(crate) fn take_finished(rows: &mut Vec<Slot>, ticket: u64) -> Option<Done>
+pub(crate) fn take_finished(rows: &mut Vec<TicketRow>, ticket: u64) -> Option<Done>
     ensures agrees { (past : List Event) → Agrees past rows.old.items
         → Agrees (after_reap past ticket) rows.new.items }
     ensures done { (past : List Event) → Agrees past rows.old.items
@@ -246,7 +246,7 @@ pub(crate) fn take_finished(rows: &mut Vec<Slot>, ticket: u64) -> Option<Done>
 }
 
 /// Finishes a ticket that is not finished, with errno 2. It answers whether there was one.
-pub(crate) fn drop_open(rows: &mut Vec<Slot>, ticket: u64) -> bool
+pub(crate) fn drop_open(rows: &mut Vec<TicketRow>, ticket: u64) -> bool
     requires roomy { All IsRoomy rows.old.items }
     ensures agrees { (past : List Event) → Agrees past rows.old.items
         → Agrees (after_discard past ticket) rows.new.items }
@@ -268,7 +268,7 @@ pub(crate) fn drop_open(rows: &mut Vec<Slot>, ticket: u64) -> bool
 }
 
 /// What is known of a ticket.
-pub(crate) fn info_at(rows: &[Slot], ticket: u64) -> TicketInfo
+pub(crate) fn info_at(rows: &[TicketRow], ticket: u64) -> TicketInfo
     requires below { ticket < length rows.now }
     ensures info { (past : List Event) → Agrees past rows.now → info_of past ticket ≡ Some result }
 {

@@ -15,7 +15,7 @@ ghost use Rattle.usb_kernel.specs.Deadlines.{KeepsDeadlines};
 
 use crate::event::Event;
 use crate::journal::put;
-use crate::slot::Slot;
+use crate::slot::TicketRow;
 use crate::table::drop_open;
 use std::collections::BTreeSet;
 use usb_desc::NoMemory;
@@ -72,7 +72,11 @@ fn take_due(deadlines: &mut BTreeSet<(u64, u64)>, clock: u64) -> Option<u64>
 }
 
 /// Discards a ticket, where it is not finished. It answers how many places that freed.
-pub(crate) fn discard_ticket(journal: &mut Vec<Event>, rows: &mut Vec<Slot>, ticket: u64) -> usize
+pub(crate) fn discard_ticket(
+    journal: &mut Vec<Event>,
+    rows: &mut Vec<TicketRow>,
+    ticket: u64,
+) -> usize
     requires agrees { Agrees (reverse journal.old.items) rows.old.items }
     requires room { vec_len journal.old + sum_by owed rows.old.items ≤ vec_capacity journal.old }
     ensures journal { reverse journal.new.items ≡ after_discard (reverse journal.old.items) ticket }
@@ -96,7 +100,7 @@ pub(crate) fn discard_ticket(journal: &mut Vec<Event>, rows: &mut Vec<Slot>, tic
 /// most the clock. It answers how many places that freed.
 pub(crate) fn discard_due(
     journal: &mut Vec<Event>,
-    rows: &mut Vec<Slot>,
+    rows: &mut Vec<TicketRow>,
     deadlines: &mut BTreeSet<(u64, u64)>,
     clock: u64,
 ) -> usize
@@ -120,9 +124,9 @@ pub(crate) fn discard_due(
 }
 
 /// The deadline of a ticket, if it has one.
-pub(crate) fn deadline_of(rows: &[Slot], ticket: u64) -> Option<u64>
+pub(crate) fn deadline_of(rows: &[TicketRow], ticket: u64) -> Option<u64>
     ensures deadline { result
-        ≡ option_and_then (λ (s : Slot). s.deadline) (slice_get rows.now ticket) }
+        ≡ option_and_then (λ (s : TicketRow). s.deadline) (slice_get rows.now ticket) }
 {
     if ticket >= rows.len() as u64 {
         return None;

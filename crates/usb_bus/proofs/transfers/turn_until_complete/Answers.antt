@@ -8,4 +8,4 @@ pub turns-preserved : goal.turns-preserved
 turns-preserved g c = later-turn (g.B.Bus.state c.args.bus.now) (g.B.Bus.state c.turns.bus) (g.B.Bus.state c.turn.new.self) c.turns.invariant c.turn.ensures.state
 
 pub turns-smaller : goal.turns-smaller
-turns-smaller g c = falls-strict c.turn.result (g.B.Bus.state c.turns.bus).left (g.B.Bus.state c.turn.new.self).left c.in_default.not-TimeUp c.turn.ensures.falls
+turns-smaller g c = falls-strict c.turn.result (g.B.Bus.state c.turns.bus).turns_left (g.B.Bus.state c.turn.new.self).turns_left c.in_default.not-TimeUp c.turn.ensures.falls

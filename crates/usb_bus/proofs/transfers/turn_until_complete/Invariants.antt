@@ -5,4 +5,4 @@ abbrev pub invariant-turns : goal.invariant-turns
 invariant-turns g l = IsLater (g.B.Bus.state l.fn.bus) (g.B.Bus.state l.bus)
 
 abbrev pub decreases-turns : goal.decreases-turns
-decreases-turns g l = (g.B.Bus.state l.bus).left
+decreases-turns g l = (g.B.Bus.state l.bus).turns_left

@@ -3,14 +3,14 @@ use Rattle.usb_kernel.specs.Value.{KernelState}
 use Rattle.usb_device.specs.HostFacts.{host_made}
 use Rattle.usb_device.specs.LedgerState.{LedgerState}
 use Rattle.usb_device.proofs.LedgerLemmas.{some-at}
-use Rattle.usb_device.proofs.ArrivalLemmas.{Agree-none, Agree-some, came-slot, came-none}
+use Rattle.usb_device.proofs.ArrivalLemmas.{TicketsAgree-none, TicketsAgree-some, came-slot, came-none}
 use Rattle.usb_device.proofs.host.complete.Goals as goal
 
 pub returns-in_default-clause-host : goal.returns-in_default-clause-host
 returns-in_default-clause-host c = λ devices steps. rw c.in_default.is (sym (came-none (host_made c.args.kernel.now devices c.args.ledger.now steps)))
 
 pub returns-in_default-clause-agree : goal.returns-in_default-clause-agree
-returns-in_default-clause-agree c = λ past agree comes. Agree-none past c.args.kernel.now.past c.args.ledger.now.slots agree (rw c.in_default.is at comes)
+returns-in_default-clause-agree c = λ past agree comes. TicketsAgree-none past c.args.kernel.now.past c.args.ledger.now.slots agree (rw c.in_default.is at comes)
 
 pub returns-clause-host : goal.returns-clause-host
 returns-clause-host c = λ devices steps.
@@ -24,4 +24,4 @@ returns-clause-agree c = λ past agree comes.
     let there = some-at c.args.ledger.now.slots done.ticket (c.requires.within done c.in-Some.is) in
     let slots = ap (λ (l : LedgerState). l.slots) (c.complete-ended.ensures.slots there.0 there.1) in
     let same = ap (λ (k : KernelState). k.past) c.release.ensures.rest in
-    rw (slots, same) (Agree-some past c.args.kernel.now.past c.args.ledger.now.slots done there.0 agree (rw c.in-Some.is at comes) there.1)
+    rw (slots, same) (TicketsAgree-some past c.args.kernel.now.past c.args.ledger.now.slots done there.0 agree (rw c.in-Some.is at comes) there.1)

@@ -1,4 +1,4 @@
-use Rattle.usb_endpoint.specs.Frames.{Stands-later}
+use Rattle.usb_endpoint.proofs.Frames.{Stands-later}
 use Rattle.usb_device.proofs.HandleFrames.{stands-turned}
 use Rattle.usb_device.proofs.tests.go_on.Goals as goal
 

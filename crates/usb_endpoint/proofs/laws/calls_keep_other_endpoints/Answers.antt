@@ -1,4 +1,4 @@
-use Rattle.usb_endpoint.specs.Frames.{Stands-other}
+use Rattle.usb_endpoint.proofs.Frames.{Stands-other}
 use Rattle.usb_endpoint.proofs.AllStandLemmas.{AllStand-call, AllStand-later, AllStand-opened, AllStand-closed}
 use Rattle.usb_endpoint.proofs.laws.calls_keep_other_endpoints.Goals as goal
 

@@ -1,5 +1,5 @@
 use Rattle.std.proofs.Common.{◌++◌, ◌∷◌, [], ◌∙◌, ap, arith}
-use Rattle.usb_kernel.specs.Queues.{unused, fresh}
+use Rattle.usb_kernel.specs.Queues.{unused, fresh_arming}
 use Rattle.usb_kernel.proofs.QueueLinks.{enqueued-code, last-within, unused-behind}
 use Rattle.usb_kernel.proofs.QueueLemmas.{unused-append}
 use Rattle.usb_kernel.proofs.refusals.enqueue.Goals as goal
@@ -10,7 +10,7 @@ link-requires c =
 
 pub returns-clause-linked : goal.returns-clause-linked
 returns-clause-linked c =
-    enqueued-code c.args.queues.now.items c.args.log.now.items c.append.new.log.items c.kind-at.result c.len-place.result c.unwrap_or.result c.args.refusal c.index-queue.result.now c.kind-at.ensures.kind c.kind-at.ensures.small (omega (arith, c.args.log.now.ok, c.len-place.ensures)) c.unwrap_or.ensures (c.append.ensures.items ∙ ap (λ xs. xs ++ fresh c.args.refusal ∷ []) c.link.ensures.items) c.requires.linked c.index-queue.ensures
+    enqueued-code c.args.queues.now.items c.args.log.now.items c.append.new.log.items c.kind-at.result c.len-place.result c.unwrap_or.result c.args.refusal c.index-queue.result.now c.kind-at.ensures.kind c.kind-at.ensures.small (omega (arith, c.args.log.now.ok, c.len-place.ensures)) c.unwrap_or.ensures (c.append.ensures.items ∙ ap (λ xs. xs ++ fresh_arming c.args.refusal ∷ []) c.link.ensures.items) c.requires.linked c.index-queue.ensures
 
 pub returns-clause-unused : goal.returns-clause-unused
 returns-clause-unused c =

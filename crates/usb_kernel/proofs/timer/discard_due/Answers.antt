@@ -1,7 +1,7 @@
 use Rattle.std.proofs.Common.{◌≡◌, arith, reverse, sym, ap, ◌∙◌}
 use Rattle.std.specs.Prelude.{map}
 use Rattle.usb_kernel.specs.Steps.{after_discard}
-use Rattle.usb_kernel.specs.Timers.{all_discarded}
+use Rattle.usb_kernel.specs.Timers.{discarded_in_order}
 use Rattle.usb_kernel.proofs.Deadlines.{keeps-discarded, turn-goes_on, turned-kept}
 use Rattle.usb_kernel.proofs.timer.discard_due.Goals as goal
 
@@ -24,5 +24,5 @@ due-preserved c =
 
 pub returns-clause-journal : goal.returns-clause-journal
 returns-clause-journal c =
-    ap (λ xs. all_discarded (reverse c.due.journal.items) (map (λ p. p.1) xs)) (sym c.in_default.ensures.none)
+    ap (λ xs. discarded_in_order (reverse c.due.journal.items) (map (λ p. p.1) xs)) (sym c.in_default.ensures.none)
     ∙ (c.due.invariant.goes ∙ sym (turned-kept (reverse c.args.journal.now.items) c.args.clock c.args.deadlines.now.keys c.requires.kept))

@@ -2,7 +2,7 @@ use Rattle.std.proofs.Common.{◌≡◌, ◌+◌, ◌≤◌, length, map, filter
 use Rattle.usb_kernel.specs.Legal.{IsLawful}
 use Rattle.usb_kernel.specs.Rows.{Agrees, owed}
 use Rattle.usb_kernel.specs.Unreaped.{unreaped_places}
-use Rattle.usb_kernel.specs.Timers.{is_up, all_discarded}
+use Rattle.usb_kernel.specs.Timers.{is_up, discarded_in_order}
 use Rattle.usb_kernel.specs.Deadlines.{KeepsDeadlines}
 use Rattle.usb_kernel.proofs.timer.discard_due.Given as goal
 
@@ -10,7 +10,7 @@ abbrev pub invariant-due : goal.invariant-due
 invariant-due l = record {
   agrees : Agrees (reverse l.journal.items) l.rows.items;
   kept : KeepsDeadlines (reverse l.journal.items) l.deadlines.keys;
-  goes : all_discarded (reverse l.journal.items) (map (λ p. p.1) (filter (is_up l.clock) l.deadlines.keys)) ≡ all_discarded (reverse l.initial.journal.items) (map (λ p. p.1) (filter (is_up l.clock) l.initial.deadlines.keys));
+  goes : discarded_in_order (reverse l.journal.items) (map (λ p. p.1) (filter (is_up l.clock) l.deadlines.keys)) ≡ discarded_in_order (reverse l.initial.journal.items) (map (λ p. p.1) (filter (is_up l.clock) l.initial.deadlines.keys));
   lawful : IsLawful (reverse l.initial.journal.items) → IsLawful (reverse l.journal.items);
   places : sum_by owed l.rows.items + l.freed ≡ sum_by owed l.initial.rows.items;
   len : vec_len l.journal ≡ vec_len l.initial.journal + l.freed;

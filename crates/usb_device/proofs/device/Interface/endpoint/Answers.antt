@@ -1,10 +1,25 @@
-use Rattle.std.proofs.Common.{◌≡◌, ◌∙◌, ap, Some, slice_get, length}
+use Rattle.std.proofs.Common.{◌≡◌, ◌∙◌, ap, Some, slice_get, length, []}
 use Rattle.usb_bus.specs.declared.route.Route.{Route}
 use Rattle.usb_endpoint.specs.EndpointState.{EndpointState}
 use Rattle.usb_device.specs.HandleStates.{InterfaceState}
 use Rattle.usb_device.specs.EndpointOpens.{host_asked, with_endpoint}
 use Rattle.usb_device.proofs.EndpointLemmas.{endpoint-stands, endpoint-others, endpoint-interface, asked-interface}
 use Rattle.usb_device.proofs.device.Interface.endpoint.Goals as goal
+
+pub returns-in-Ok-clause-opens : goal.returns-in-Ok-clause-opens
+returns-in-Ok-clause-opens g c =
+    let host = c.args.host.now in
+    let claim = c.requires.stands.claim in
+    let key = ap (λ (i : InterfaceState). i.key) c.self.view_is in
+    let at : slice_get host.interfaces c.self.inside.key ≡ Some claim = ap (slice_get host.interfaces) key ∙ c.requires.stands.at in
+    record {
+      interface = claim;
+      at = c.requires.stands.at;
+      tried = rw (← key, ← c.TYPE.ensures, ← c.DIR.ensures, c.new.ensures.fresh) (c.in-Ok.ensures.tried claim at);
+      endpoint = rw (c.new.ensures.fresh, ← c.TYPE.ensures) (ap (λ (r : Route). record { device = r.device; address = r.endpoint; kind = c.TYPE.result; maximum = r.maximum; key = r.key; pending = [] }) (c.in-Ok.ensures.route claim at));
+      ok = c.in-Ok.ensures.ok claim at ∙ ap (λ k. with_endpoint (host_asked host claim.opened) k c.args.address) key;
+      err = tt;
+    }
 
 pub returns-in-Ok-clause-stands : goal.returns-in-Ok-clause-stands
 returns-in-Ok-clause-stands g c =
@@ -38,3 +53,18 @@ returns-in-Err-clause-interface g c =
     let stands = c.requires.stands in
     let at : slice_get host.interfaces c.self.inside.key ≡ Some stands.claim = ap (λ (i : InterfaceState). slice_get host.interfaces i.key) c.self.view_is ∙ stands.at in
     asked-interface host c.open_endpoint.new.self c.args.self.now stands.claim.opened stands (c.in-Err.ensures.err stands.claim at)
+
+pub returns-in-Err-clause-opens : goal.returns-in-Err-clause-opens
+returns-in-Err-clause-opens g c =
+    let host = c.args.host.now in
+    let claim = c.requires.stands.claim in
+    let key = ap (λ (i : InterfaceState). i.key) c.self.view_is in
+    let at : slice_get host.interfaces c.self.inside.key ≡ Some claim = ap (slice_get host.interfaces) key ∙ c.requires.stands.at in
+    record {
+      interface = claim;
+      at = c.requires.stands.at;
+      tried = rw (← key, ← c.TYPE.ensures, ← c.DIR.ensures) (c.in-Err.ensures.tried claim at);
+      endpoint = tt;
+      ok = tt;
+      err = c.in-Err.ensures.err claim at;
+    }

@@ -1,11 +1,11 @@
 use Rattle.std.proofs.Common.{◌≡◌, false, ap, sym, refl, ◌∙◌}
 use Rattle.std.specs.Prelude.{is_some}
 use Rattle.usb_kernel.specs.Completions.{completion}
-use Rattle.usb_device.specs.declared.slot.Slot.TheVariants as slot
+use Rattle.usb_device.specs.declared.slot.TicketState.TheVariants as slot
 use Rattle.usb_device.specs.HostState.{HostState}
 use Rattle.usb_device.specs.LedgerState.{LedgerState}
 use Rattle.usb_device.specs.TicketEnds.{host_abandoned}
-use Rattle.usb_device.proofs.HostCallLemmas.{HeldSlot, held-slot, held-within, abandoned-slot, Agree-abandon, none-not, dropped}
+use Rattle.usb_device.proofs.HostCallLemmas.{HeldSlot, held-slot, held-within, abandoned-slot, TicketsAgree-abandon, none-not, dropped}
 use Rattle.std.proofs.lemmas.Option.{same_Some}
 use Rattle.usb_device.proofs.host.Host.abandon_ticket.Goals as goal
 
@@ -29,9 +29,9 @@ invariant_of-self c =
     let l = c.self.inside.ledger in
     let w : HeldSlot l.slots c.args.ticket = held-slot l.slots c.args.ticket (rw (← c.self.view_is) at c.requires.held) in
     let open_ : is_some (completion k.past c.args.ticket) ≡ false = ap (λ (h : HostState). is_some (completion h.kernel.past c.args.ticket)) c.self.view_is ∙ (sym c.has_come.ensures.reaped ∙ c.if-has_come.false) in
-    let slots = ap (λ (x : LedgerState). x.slots) (c.give_up.ensures.slots (slot.Held w.key w.transfer) w.at) in
+    let slots = ap (λ (x : LedgerState). x.slots) (c.give_up.ensures.slots (slot.HeldBy w.key w.transfer) w.at) in
     record {
-      agree = rw slots (Agree-abandon k.past l.slots c.args.ticket w.key c.self.invariant.agree (none-not (completion k.past c.args.ticket) open_));
+      agree = rw slots (TicketsAgree-abandon k.past l.slots c.args.ticket w.key c.self.invariant.agree (none-not (completion k.past c.args.ticket) open_));
       room = c.self.invariant.room;
       errnos = c.self.invariant.errnos;
     }
@@ -42,4 +42,4 @@ returns c =
     let l = c.self.inside.ledger in
     let w : HeldSlot l.slots c.args.ticket = held-slot l.slots c.args.ticket (rw (← c.self.view_is) at c.requires.held) in
     let open_ : is_some (completion k.past c.args.ticket) ≡ false = ap (λ (h : HostState). is_some (completion h.kernel.past c.args.ticket)) c.self.view_is ∙ (sym c.has_come.ensures.reaped ∙ c.if-has_come.false) in
-    record { abandoned = abandoned-slot k c.self.inside.devices.items l c.self.inside.steps.items c.args.ticket w c.give_up.new.self open_ (c.give_up.ensures.slots (slot.Held w.key w.transfer) w.at) ∙ ap (λ h. host_abandoned h c.args.ticket) c.self.view_is }
+    record { abandoned = abandoned-slot k c.self.inside.devices.items l c.self.inside.steps.items c.args.ticket w c.give_up.new.self open_ (c.give_up.ensures.slots (slot.HeldBy w.key w.transfer) w.at) ∙ ap (λ h. host_abandoned h c.args.ticket) c.self.view_is }

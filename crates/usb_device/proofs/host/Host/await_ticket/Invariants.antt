@@ -1,7 +1,7 @@
 use Rattle.std.proofs.Common.{◌≡◌, Some, false, IsSome}
 use Rattle.usb_device.specs.HostAwaits.{deadline_of, host_awaited}
 use Rattle.usb_device.specs.HostBus.{hold_at}
-use Rattle.usb_device.specs.HostFrames.{WentOn}
+use Rattle.usb_device.specs.HostFrames.{HostGoesOn}
 use Rattle.usb_device.specs.HostWaits.{is_found}
 use Rattle.usb_device.proofs.AwaitLemmas.{left_until}
 use Rattle.usb_device.proofs.host.Host.await_ticket.Given as goal
@@ -11,7 +11,7 @@ invariant-turns l = record {
   awaits : host_awaited l.self l.ticket l.deadline ≡ host_awaited l.initial.self l.ticket l.deadline;
   held : IsSome (hold_at l.self.tickets l.ticket);
   due : is_found l.self l.ticket ≡ false → deadline_of l.self.kernel.past l.ticket ≡ Some l.deadline;
-  went : WentOn l.initial.self l.self;
+  went : HostGoesOn l.initial.self l.self;
 }
 
 abbrev pub decreases-turns : goal.decreases-turns

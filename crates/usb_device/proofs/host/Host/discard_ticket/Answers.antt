@@ -2,14 +2,14 @@ use Rattle.std.proofs.Common.{◌≡◌, ap, refl, ◌∙◌, arith}
 use Rattle.usb_kernel.specs.Value.{KernelState}
 use Rattle.usb_kernel.specs.Steps.{after_discard}
 use Rattle.usb_device.specs.HostCalls.{host_discarded}
-use Rattle.usb_device.proofs.ArrivalLemmas.{CompletesOnly-discard, Agree-none, Agree-at}
+use Rattle.usb_device.proofs.ArrivalLemmas.{CompletesOnly-discard, TicketsAgree-none, TicketsAgree-at}
 use Rattle.usb_device.proofs.host.Host.discard_ticket.Goals as goal
 
 pub invariant_of-self : goal.invariant_of-self
 invariant_of-self c =
     let k = c.self.inside.kernel in
     record {
-      agree = Agree-at (after_discard k.past c.args.ticket) c.discard.new.self.past c.self.inside.ledger.slots c.discard.ensures.past (Agree-none k.past (after_discard k.past c.args.ticket) c.self.inside.ledger.slots c.self.invariant.agree (CompletesOnly-discard k.past c.args.ticket));
+      agree = TicketsAgree-at (after_discard k.past c.args.ticket) c.discard.new.self.past c.self.inside.ledger.slots c.discard.ensures.past (TicketsAgree-none k.past (after_discard k.past c.args.ticket) c.self.inside.ledger.slots c.self.invariant.agree (CompletesOnly-discard k.past c.args.ticket));
       room = omega (arith, ap (λ (x : KernelState). x.spare) c.discard.ensures.rest, c.self.invariant.room);
       errnos = c.self.invariant.errnos;
     }

@@ -1,6 +1,6 @@
 use Rattle.std.proofs.Common.{ap, ◌∙◌}
 use Rattle.std.specs.Prelude.{IsSome}
-use Rattle.usb_device.specs.declared.slot.Slot.TheVariants as slot
+use Rattle.usb_device.specs.declared.slot.TicketState.TheVariants as slot
 use Rattle.usb_device.specs.HostBus.{host_value}
 use Rattle.usb_device.specs.HostFacts.{host_made}
 use Rattle.usb_device.specs.TicketEnds.{host_ended}
@@ -12,7 +12,7 @@ returns-clause-ended c =
     let k = c.self.inside.kernel in
     let l = c.self.inside.ledger in
     let w : HeldSlot l.slots c.args.ticket = held-slot l.slots c.args.ticket (rw (← c.self.view_is) at c.requires.held) in
-    let claim = c.end-ending.ensures.claim (slot.Held w.key w.transfer) w.at in
+    let claim = c.end-ending.ensures.claim (slot.HeldBy w.key w.transfer) w.at in
     let kernel = c.release.ensures.rest ∙ ap (λ d. record k { devices = d }) c.release.ensures.devices in
     ended-slot k c.self.inside.devices.items l c.self.inside.steps.items c.args.ticket w c.args.end c.end-ending.new.self c.end-ending.result.claim c.release.new.kernel c.end-ending.ensures.slots claim kernel ∙ ap (λ h. host_ended h c.args.ticket c.args.end) c.self.view_is
 
@@ -22,4 +22,4 @@ returns-clause-value c = λ some.
     let l = c.self.inside.ledger in
     let w : HeldSlot l.slots c.args.ticket = held-slot l.slots c.args.ticket (rw (← c.self.view_is) at c.requires.held) in
     let some' : IsSome (host_value (host_made k c.self.inside.devices.items l c.self.inside.steps.items) c.args.ticket) = rw (← c.self.view_is) at some in
-    c.end-ending.ensures.transfer (slot.Held w.key w.transfer) w.at ∙ value-slot k c.self.inside.devices.items l c.self.inside.steps.items c.args.ticket w c.self.invariant.agree some' ∙ ap (λ h. host_value h c.args.ticket) c.self.view_is
+    c.end-ending.ensures.transfer (slot.HeldBy w.key w.transfer) w.at ∙ value-slot k c.self.inside.devices.items l c.self.inside.steps.items c.args.ticket w c.self.invariant.agree some' ∙ ap (λ h. host_value h c.args.ticket) c.self.view_is

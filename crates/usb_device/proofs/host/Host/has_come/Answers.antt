@@ -1,7 +1,7 @@
 use Rattle.std.proofs.Common.{◌≡◌, ap, sym, ◌∙◌}
 use Rattle.std.specs.Prelude.{is_some}
 use Rattle.usb_kernel.specs.Completions.{completion}
-use Rattle.usb_device.specs.declared.slot.Slot.TheVariants as slot
+use Rattle.usb_device.specs.declared.slot.TicketState.TheVariants as slot
 use Rattle.usb_device.specs.HostState.{HostState}
 use Rattle.usb_device.specs.HostBus.{host_value}
 use Rattle.usb_device.specs.LedgerState.{is_complete}
@@ -14,7 +14,7 @@ returns-clause-come c =
     let k = c.self.inside.kernel in
     let l = c.self.inside.ledger in
     let w : HeldSlot l.slots c.args.ticket = held-slot l.slots c.args.ticket (rw (← c.self.view_is) at c.requires.held) in
-    let same : c.slot-slot.result.now ≡ slot.Held w.key w.transfer = same_Some _ _ (sym c.slot-slot.ensures.slot ∙ w.at) in
+    let same : c.slot-slot.result.now ≡ slot.HeldBy w.key w.transfer = same_Some _ _ (sym c.slot-slot.ensures.slot ∙ w.at) in
     c.is_complete.ensures.complete ∙ ap is_complete same ∙ come-value k c.self.inside.devices.items l c.self.inside.steps.items c.args.ticket w c.self.invariant.agree ∙ ap (λ h. is_some (host_value h c.args.ticket)) c.self.view_is
 
 pub returns-clause-reaped : goal.returns-clause-reaped
@@ -22,5 +22,5 @@ returns-clause-reaped c =
     let k = c.self.inside.kernel in
     let l = c.self.inside.ledger in
     let w : HeldSlot l.slots c.args.ticket = held-slot l.slots c.args.ticket (rw (← c.self.view_is) at c.requires.held) in
-    let same : c.slot-slot.result.now ≡ slot.Held w.key w.transfer = same_Some _ _ (sym c.slot-slot.ensures.slot ∙ w.at) in
+    let same : c.slot-slot.result.now ≡ slot.HeldBy w.key w.transfer = same_Some _ _ (sym c.slot-slot.ensures.slot ∙ w.at) in
     c.is_complete.ensures.complete ∙ ap is_complete same ∙ come-reaped k.past l.slots c.args.ticket w c.self.invariant.agree ∙ ap (λ (h : HostState). is_some (completion h.kernel.past c.args.ticket)) c.self.view_is

@@ -3,7 +3,7 @@ use Rattle.std.specs.Option.{ForSome}
 use Rattle.std.proofs.lemmas.Option.{same_Some}
 use Rattle.usb_device.specs.HostState.{HostState, ClaimedInterface}
 use Rattle.usb_device.specs.Owners.{is_in_use}
-use Rattle.usb_device.specs.EndpointOpens.{host_asked, host_tries, route_of}
+use Rattle.usb_device.specs.EndpointOpens.{host_asked, host_tries, endpoint_route}
 use Rattle.usb_device.proofs.LedgerLemmas.{some-at}
 use Rattle.usb_device.proofs.EndpointLemmas.{asked-made, asked-length, tried-unused, tried-some}
 use Rattle.usb_device.proofs.host.Host.open_endpoint.Goals as goal
@@ -96,4 +96,4 @@ returns-clause-route c = λ x here.
     let device = c.device-device.ensures.device x (ap (λ (h : HostState). slice_get h.interfaces c.args.interface) c.self.view_is ∙ here) in
     let made = c.ask_configuration.ensures.asked ∙ asked-made c.args.self.now c.opened-opened.result in
     let key = c.in-Ok-open_endpoint.ensures.key ∙ ap (λ (h : HostState). length h.endpoints) (c.self-2.view_is ∙ made) in
-    ap (λ d. route_of (record x { device = d }) c.args.address c.args.kind c.in-Ok.maximum c.in-Ok-open_endpoint.key) device ∙ ap (route_of x c.args.address c.args.kind c.in-Ok.maximum) key
+    ap (λ d. endpoint_route (record x { device = d }) c.args.address c.args.kind c.in-Ok.maximum c.in-Ok-open_endpoint.key) device ∙ ap (endpoint_route x c.args.address c.args.kind c.in-Ok.maximum) key

@@ -6,26 +6,26 @@ use Rattle.usb_kernel.specs.Tickets.{tickets}
 use Rattle.usb_kernel.specs.Submits.{submit_refusal, submit_or_refuse, queued_or_refused, submit_result, after_submit, armed_after_submit}
 use Rattle.usb_bus.specs.Routes.{submission_of}
 use Rattle.usb_bus.specs.Holds.{held_at_once}
-use Rattle.usb_device.specs.declared.slot.Slot.TheVariants as slot
+use Rattle.usb_device.specs.declared.slot.TicketState.TheVariants as slot
 use Rattle.usb_device.specs.HostCalls.{host_submitted}
 use Rattle.usb_device.specs.LedgerState.{LedgerState}
-use Rattle.usb_device.proofs.EnterLemmas.{Agree-enter, submitted-made}
+use Rattle.usb_device.proofs.EnterLemmas.{TicketsAgree-enter, submitted-made}
 use Rattle.usb_device.proofs.host.Host.submit_transfer.Goals as goal
 
 pub invariant_of-self-in-Ok : goal.invariant_of-self-in-Ok
 invariant_of-self-in-Ok c =
     let k = c.self.inside.kernel in
     let l = c.self.inside.ledger in
-    let held = c.entry_of-entry.result.held in
+    let held = c.ticket_from-entry.result.held in
     let sub = submission_of c.args.to c.take_buffer-buffer.result in
     let transfer : TransferData = record c.args.t { held = held } in
     let refusal : Option ℕ = submit_refusal k.devices k.armed c.args.to.device in
-    let ledger : c.hold.new.self ≡ record l { slots = l.slots ++ slot.Held c.args.to.key transfer ∷ []; room = c.hold.new.self.room } =
+    let ledger : c.hold.new.self ≡ record l { slots = l.slots ++ slot.HeldBy c.args.to.key transfer ∷ []; room = c.hold.new.self.room } =
     c.hold.ensures.slots ∙ rw (c.reserve.ensures.rest, c.take_buffer-buffer.ensures.rest) refl in
     let past : c.submit.new.self.past ≡ submit_or_refuse (length (tickets k.past)) sub refusal ∷ k.past = c.in-Ok.ensures.past ∙ ap (λ s. after_submit k.devices k.armed k.past s) c.submission.ensures.submission in
-    let held_is : held ≡ held_at_once (queued_or_refused (length (tickets k.past)) sub refusal) = c.entry_of-entry.ensures.held ∙ ap held_at_once (c.in-Ok.ensures.submitted ∙ ap (λ s. submit_result k.devices k.armed k.past s) c.submission.ensures.submission) in
+    let held_is : held ≡ held_at_once (queued_or_refused (length (tickets k.past)) sub refusal) = c.ticket_from-entry.ensures.held ∙ ap held_at_once (c.in-Ok.ensures.submitted ∙ ap (λ s. submit_result k.devices k.armed k.past s) c.submission.ensures.submission) in
     record {
-      agree = rw (ap (λ (x : LedgerState). x.slots) ledger, past) (Agree-enter k.past l.slots sub refusal c.args.to.key transfer c.self.invariant.agree held_is);
+      agree = rw (ap (λ (x : LedgerState). x.slots) ledger, past) (TicketsAgree-enter k.past l.slots sub refusal c.args.to.key transfer c.self.invariant.agree held_is);
       room = omega (arith, ap (λ (x : KernelState). x.spare) c.submit.ensures.rest, c.self.invariant.room);
       errnos = c.self.invariant.errnos;
     }
@@ -34,11 +34,11 @@ pub returns-in-Ok-clause-ok : goal.returns-in-Ok-clause-ok
 returns-in-Ok-clause-ok c =
     let k = c.self.inside.kernel in
     let l = c.self.inside.ledger in
-    let held = c.entry_of-entry.result.held in
+    let held = c.ticket_from-entry.result.held in
     let sub = submission_of c.args.to c.take_buffer-buffer.result in
     let transfer : TransferData = record c.args.t { held = held } in
     let refusal : Option ℕ = submit_refusal k.devices k.armed c.args.to.device in
-    let ledger : c.hold.new.self ≡ record l { slots = l.slots ++ slot.Held c.args.to.key transfer ∷ []; room = c.hold.new.self.room } =
+    let ledger : c.hold.new.self ≡ record l { slots = l.slots ++ slot.HeldBy c.args.to.key transfer ∷ []; room = c.hold.new.self.room } =
     c.hold.ensures.slots ∙ rw (c.reserve.ensures.rest, c.take_buffer-buffer.ensures.rest) refl in
     let past : c.submit.new.self.past ≡ submit_or_refuse (length (tickets k.past)) sub refusal ∷ k.past = c.in-Ok.ensures.past ∙ ap (λ s. after_submit k.devices k.armed k.past s) c.submission.ensures.submission in
     let armed = c.in-Ok.ensures.armed ∙ ap (λ s. armed_after_submit k.devices k.armed s) c.submission.ensures.submission in

@@ -1,7 +1,7 @@
 use Rattle.std.proofs.Common.{◌≡◌, map, Some, slice_get, sym, refl, ◌∙◌}
 use Rattle.std.proofs.lemmas.List.{map-set}
 use Rattle.std.proofs.lemmas.Option.{same_Some}
-use Rattle.usb_device.specs.LedgerState.{ticket_of, slot_without}
+use Rattle.usb_device.specs.LedgerState.{host_ticket, slot_without}
 use Rattle.usb_device.proofs.ListLemmas.{place}
 use Rattle.usb_device.proofs.LedgerLemmas.{Tied-kept, ticket-at, key-at, key-without}
 use Rattle.usb_device.proofs.ledger.Ledger.give_up.Goals as goal
@@ -13,7 +13,7 @@ invariant_of-self c =
     let at : slice_get slots c.args.ticket ≡ Some s = place slots c.args.ticket s (rw (← c.self.view_is) at c.requires.within) c.index_mut-slot.ensures.value in
     let some = c.requires.key s (rw (← c.self.view_is) at) in
     let key = key-at s some in
-    rw (c.give_up.ensures.slot, map-set ticket_of slots c.args.ticket (slot_without s)) (Tied-kept c.self.inside.owners.rows (map ticket_of slots) c.args.ticket key.0 (ticket_of s) (ticket_of (slot_without s)) c.self.invariant (ticket-at slots c.args.ticket s at) key.1 (key-without s key.0 key.1))
+    rw (c.give_up.ensures.slot, map-set host_ticket slots c.args.ticket (slot_without s)) (Tied-kept c.self.inside.owners.rows (map host_ticket slots) c.args.ticket key.0 (host_ticket s) (host_ticket (slot_without s)) c.self.invariant (ticket-at slots c.args.ticket s at) key.1 (key-without s key.0 key.1))
 
 pub returns : goal.returns
 returns c = record {

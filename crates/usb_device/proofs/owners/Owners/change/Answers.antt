@@ -2,7 +2,7 @@ use Rattle.std.proofs.Common.{◌≡◌, ◌<◌, Some, true, false, set, get_or
 use Rattle.std.proofs.Math.Seq.{map-set_same}
 use Rattle.usb_kernel.proofs.Places.{slice_get-set_same}
 use Rattle.usb_device.specs.declared.owners.Claim.{Claim}
-use Rattle.usb_device.specs.declared.owners.Row.{Row}
+use Rattle.usb_device.specs.declared.owners.EndpointRow.{EndpointRow}
 use Rattle.usb_device.specs.OwnerRows.{OwnersState, claim_state, is_alive}
 use Rattle.usb_device.proofs.ListLemmas.{place}
 use Rattle.usb_device.proofs.OwnerLemmas.{Like, CountsOf-dropped, row_gone-control, CountsOf-kept, CountsOf-gone, some-living, lost-living, placed-e, with_row-at, row_gone-alive, row_gone-dead}
@@ -15,7 +15,7 @@ invariant_of-self c =
     let same : rows ≡ c.args.self.now.rows = ap (λ (s : OwnersState). s.rows) c.self.view_is in
     let within : c.args.key < length rows = rw same c.requires.key in
     let e = c.index_mut-row.result.now in
-    let next : Row = record e { is_open = c.args.is_open; tickets = c.args.tickets } in
+    let next : EndpointRow = record e { is_open = c.args.is_open; tickets = c.args.tickets } in
     let at : slice_get rows c.args.key ≡ Some e = place rows c.args.key e within c.index_mut-row.ensures.value in
     let was : is_alive e ≡ true = c.requires.alive e (rw (← same) at) in
     let like : Like e next = record { interface = refl; address = refl } in
@@ -29,7 +29,7 @@ returns-then-is_alive-clause-rows c =
     let same : rows ≡ c.args.self.now.rows = ap (λ (s : OwnersState). s.rows) c.self.view_is in
     let within : c.args.key < length rows = rw same c.requires.key in
     let e = c.index_mut-row.result.now in
-    let next : Row = record e { is_open = c.args.is_open; tickets = c.args.tickets } in
+    let next : EndpointRow = record e { is_open = c.args.is_open; tickets = c.args.tickets } in
     let at : slice_get rows c.args.key ≡ Some e = place rows c.args.key e within c.index_mut-row.ensures.value in
     let was : is_alive e ≡ true = c.requires.alive e (rw (← same) at) in
     let like : Like e next = record { interface = refl; address = refl } in
@@ -43,7 +43,7 @@ returns-then-is_alive-clause-gone c =
     let same : rows ≡ c.args.self.now.rows = ap (λ (s : OwnersState). s.rows) c.self.view_is in
     let within : c.args.key < length rows = rw same c.requires.key in
     let e = c.index_mut-row.result.now in
-    let next : Row = record e { is_open = c.args.is_open; tickets = c.args.tickets } in
+    let next : EndpointRow = record e { is_open = c.args.is_open; tickets = c.args.tickets } in
     let at : slice_get rows c.args.key ≡ Some e = place rows c.args.key e within c.index_mut-row.ensures.value in
     let was : is_alive e ≡ true = c.requires.alive e (rw (← same) at) in
     let like : Like e next = record { interface = refl; address = refl } in
@@ -57,7 +57,7 @@ lose-requires c =
     let same : rows ≡ c.args.self.now.rows = ap (λ (s : OwnersState). s.rows) c.self.view_is in
     let within : c.args.key < length rows = rw same c.requires.key in
     let e = c.index_mut-row.result.now in
-    let next : Row = record e { is_open = c.args.is_open; tickets = c.args.tickets } in
+    let next : EndpointRow = record e { is_open = c.args.is_open; tickets = c.args.tickets } in
     let at : slice_get rows c.args.key ≡ Some e = place rows c.args.key e within c.index_mut-row.ensures.value in
     let was : is_alive e ≡ true = c.requires.alive e (rw (← same) at) in
     let like : Like e next = record { interface = refl; address = refl } in
@@ -72,7 +72,7 @@ invariant_of-self-2 c =
     let same : rows ≡ c.args.self.now.rows = ap (λ (s : OwnersState). s.rows) c.self.view_is in
     let within : c.args.key < length rows = rw same c.requires.key in
     let e = c.index_mut-row.result.now in
-    let next : Row = record e { is_open = c.args.is_open; tickets = c.args.tickets } in
+    let next : EndpointRow = record e { is_open = c.args.is_open; tickets = c.args.tickets } in
     let at : slice_get rows c.args.key ≡ Some e = place rows c.args.key e within c.index_mut-row.ensures.value in
     let was : is_alive e ≡ true = c.requires.alive e (rw (← same) at) in
     let like : Like e next = record { interface = refl; address = refl } in
@@ -88,7 +88,7 @@ returns-clause-rows c =
     let same : rows ≡ c.args.self.now.rows = ap (λ (s : OwnersState). s.rows) c.self.view_is in
     let within : c.args.key < length rows = rw same c.requires.key in
     let e = c.index_mut-row.result.now in
-    let next : Row = record e { is_open = c.args.is_open; tickets = c.args.tickets } in
+    let next : EndpointRow = record e { is_open = c.args.is_open; tickets = c.args.tickets } in
     let at : slice_get rows c.args.key ≡ Some e = place rows c.args.key e within c.index_mut-row.ensures.value in
     let was : is_alive e ≡ true = c.requires.alive e (rw (← same) at) in
     let like : Like e next = record { interface = refl; address = refl } in
@@ -107,7 +107,7 @@ returns-clause-gone c =
     let same : rows ≡ c.args.self.now.rows = ap (λ (s : OwnersState). s.rows) c.self.view_is in
     let within : c.args.key < length rows = rw same c.requires.key in
     let e = c.index_mut-row.result.now in
-    let next : Row = record e { is_open = c.args.is_open; tickets = c.args.tickets } in
+    let next : EndpointRow = record e { is_open = c.args.is_open; tickets = c.args.tickets } in
     let at : slice_get rows c.args.key ≡ Some e = place rows c.args.key e within c.index_mut-row.ensures.value in
     let was : is_alive e ≡ true = c.requires.alive e (rw (← same) at) in
     let like : Like e next = record { interface = refl; address = refl } in
@@ -127,7 +127,7 @@ invariant_of-self-in_default c =
     let same : rows ≡ c.args.self.now.rows = ap (λ (s : OwnersState). s.rows) c.self.view_is in
     let within : c.args.key < length rows = rw same c.requires.key in
     let e = c.index_mut-row.result.now in
-    let next : Row = record e { is_open = c.args.is_open; tickets = c.args.tickets } in
+    let next : EndpointRow = record e { is_open = c.args.is_open; tickets = c.args.tickets } in
     let at : slice_get rows c.args.key ≡ Some e = place rows c.args.key e within c.index_mut-row.ensures.value in
     let was : is_alive e ≡ true = c.requires.alive e (rw (← same) at) in
     let like : Like e next = record { interface = refl; address = refl } in
@@ -149,7 +149,7 @@ returns-in_default-clause-gone c =
     let same : rows ≡ c.args.self.now.rows = ap (λ (s : OwnersState). s.rows) c.self.view_is in
     let within : c.args.key < length rows = rw same c.requires.key in
     let e = c.index_mut-row.result.now in
-    let next : Row = record e { is_open = c.args.is_open; tickets = c.args.tickets } in
+    let next : EndpointRow = record e { is_open = c.args.is_open; tickets = c.args.tickets } in
     let written : slice_get (set rows c.args.key next) c.args.key ≡ Some next = slice_get-set_same rows c.args.key next within in
     let dead : is_alive next ≡ false = sym c.is_alive.ensures.alive ∙ c.if-is_alive.false in
     sym (row_gone-control (map claim_state claims) (set rows c.args.key next) c.args.key next written c.in_default.is)

@@ -5,7 +5,7 @@ use Rattle.std.proofs.lemmas.List.{length-map}
 use Rattle.std.proofs.lemmas.List.Sums.{count_by-le-length}
 use Rattle.usb_desc.specs.BitSet.{bit_of}
 use Rattle.usb_device.specs.declared.owners.Claim.{Claim}
-use Rattle.usb_device.specs.declared.owners.Row.{Row}
+use Rattle.usb_device.specs.declared.owners.EndpointRow.{EndpointRow}
 use Rattle.usb_device.specs.OwnerRows.{OwnersState, claim_state, is_alive_on, is_alive_with}
 use Rattle.usb_device.proofs.ListLemmas.{place}
 use Rattle.usb_device.proofs.OwnerLemmas.{CountsOf-row, rows-unused}
@@ -16,7 +16,7 @@ gain-requires c =
     let claims = c.self.inside.claims.items in
     let rows = c.self.inside.rows.items in
     let claim = c.index_mut-claim.result.now in
-    let row : Row = record { interface = Some c.args.interface; address = c.args.address; is_open = true; tickets = 0 } in
+    let row : EndpointRow = record { interface = Some c.args.interface; address = c.args.address; is_open = true; tickets = 0 } in
     let same : rows ≡ c.args.self.now.rows = ap (λ (s : OwnersState). s.rows) c.self.view_is in
     let within : c.args.interface < length claims = omega (arith, ap (λ (s : OwnersState). length s.interfaces) c.self.view_is, length-map claims claim_state, c.requires.key) in
     let pushed : c.push.new.self.items ≡ rows ++ row ∷ [] = rw (c.if-is_err.ensures.negation) at c.push.ensures.items in
@@ -28,7 +28,7 @@ invariant_of-self-2 c =
     let claims = c.self.inside.claims.items in
     let rows = c.self.inside.rows.items in
     let claim = c.index_mut-claim.result.now in
-    let row : Row = record { interface = Some c.args.interface; address = c.args.address; is_open = true; tickets = 0 } in
+    let row : EndpointRow = record { interface = Some c.args.interface; address = c.args.address; is_open = true; tickets = 0 } in
     let same : rows ≡ c.args.self.now.rows = ap (λ (s : OwnersState). s.rows) c.self.view_is in
     let within : c.args.interface < length claims = omega (arith, ap (λ (s : OwnersState). length s.interfaces) c.self.view_is, length-map claims claim_state, c.requires.key) in
     let pushed : c.push.new.self.items ≡ rows ++ row ∷ [] = rw (c.if-is_err.ensures.negation) at c.push.ensures.items in
@@ -40,7 +40,7 @@ returns-clause-rows c =
     let claims = c.self.inside.claims.items in
     let rows = c.self.inside.rows.items in
     let claim = c.index_mut-claim.result.now in
-    let row : Row = record { interface = Some c.args.interface; address = c.args.address; is_open = true; tickets = 0 } in
+    let row : EndpointRow = record { interface = Some c.args.interface; address = c.args.address; is_open = true; tickets = 0 } in
     let same : rows ≡ c.args.self.now.rows = ap (λ (s : OwnersState). s.rows) c.self.view_is in
     let within : c.args.interface < length claims = omega (arith, ap (λ (s : OwnersState). length s.interfaces) c.self.view_is, length-map claims claim_state, c.requires.key) in
     let pushed : c.push.new.self.items ≡ rows ++ row ∷ [] = rw (c.if-is_err.ensures.negation) at c.push.ensures.items in

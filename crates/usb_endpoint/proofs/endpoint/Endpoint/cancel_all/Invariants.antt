@@ -8,6 +8,6 @@ invariant-tickets g l = record {
   bus : l.bus ≡ all_discarded g.B.Bus.discarded l.initial.bus (drop l.i l.self-inside.pending.items);
   state : g.B.Bus.state l.bus ≡ record (g.B.Bus.state l.initial.bus) {
     past = all_discarded after_discard (g.B.Bus.state l.initial.bus).past (drop l.i l.self-inside.pending.items);
-    left = (g.B.Bus.state l.bus).left;
+    turns_left = (g.B.Bus.state l.bus).turns_left;
   };
 }

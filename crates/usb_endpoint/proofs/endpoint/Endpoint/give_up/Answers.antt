@@ -1,7 +1,7 @@
 use Rattle.std.proofs.Common.{ap, ◌∙◌}
-use Rattle.usb_bus.specs.BusState.{BusState, without}
+use Rattle.usb_bus.specs.BusState.{BusState, without_owner}
 use Rattle.usb_endpoint.specs.Closes.{all_abandoned}
-use Rattle.usb_endpoint.proofs.HandleLemmas.{AreHeld-without, KeepsOthers-end}
+use Rattle.usb_endpoint.proofs.HandleLemmas.{AreHeld-without_owner, KeepsOthers-end}
 use Rattle.usb_endpoint.proofs.CloseLemmas.{owner-only}
 use Rattle.usb_endpoint.proofs.endpoint.Endpoint.give_up.Goals as goal
 
@@ -13,8 +13,8 @@ tickets-preserved g c =
     let after = c.abandon.ensures.state in
     record {
       bus = ap (λ b. all_abandoned g.B.Bus.abandoned b c.pop_front.new.self.items) c.abandon.ensures.ok ∙ rw items at c.tickets.invariant.bus;
-      held = rw after (AreHeld-without (g.B.Bus.state c.tickets.bus).owner c.self.inside.key t c.pop_front.new.self.items held.1 held.2);
+      held = rw after (AreHeld-without_owner (g.B.Bus.state c.tickets.bus).owner c.self.inside.key t c.pop_front.new.self.items held.1 held.2);
       others = KeepsOthers-end _ (g.B.Bus.state c.tickets.bus) _ c.self.inside.key t c.tickets.invariant.others held.0 after;
-      owner = ap (λ (b : BusState). all_abandoned without b.owner c.pop_front.new.self.items) after ∙ rw items at c.tickets.invariant.owner;
-      state = owner-only (g.B.Bus.state c.args.bus.now) (g.B.Bus.state c.tickets.bus) (g.B.Bus.state c.abandon.new.self) (without (g.B.Bus.state c.tickets.bus).owner t) after c.tickets.invariant.state;
+      owner = ap (λ (b : BusState). all_abandoned without_owner b.owner c.pop_front.new.self.items) after ∙ rw items at c.tickets.invariant.owner;
+      state = owner-only (g.B.Bus.state c.args.bus.now) (g.B.Bus.state c.tickets.bus) (g.B.Bus.state c.abandon.new.self) (without_owner (g.B.Bus.state c.tickets.bus).owner t) after c.tickets.invariant.state;
     }

@@ -1,6 +1,6 @@
 use Rattle.std.proofs.Common.{◌≡◌}
 use Rattle.std.specs.VecDeque.{deque_len}
-use Rattle.usb_bus.specs.BusState.{without}
+use Rattle.usb_bus.specs.BusState.{without_owner}
 use Rattle.usb_endpoint.specs.Handles.{AreHeld, KeepsOthers}
 use Rattle.usb_endpoint.specs.Closes.{all_abandoned}
 use Rattle.usb_endpoint.proofs.endpoint.Endpoint.give_up.Given as goal
@@ -10,7 +10,7 @@ invariant-tickets g l = record {
   bus : all_abandoned g.B.Bus.abandoned l.bus l.pending.items ≡ all_abandoned g.B.Bus.abandoned l.initial.bus l.initial.pending.items;
   held : AreHeld (g.B.Bus.state l.bus).owner l.key l.pending.items;
   others : KeepsOthers (g.B.Bus.state l.initial.bus) (g.B.Bus.state l.bus) l.key;
-  owner : all_abandoned without (g.B.Bus.state l.bus).owner l.pending.items ≡ all_abandoned without (g.B.Bus.state l.initial.bus).owner l.initial.pending.items;
+  owner : all_abandoned without_owner (g.B.Bus.state l.bus).owner l.pending.items ≡ all_abandoned without_owner (g.B.Bus.state l.initial.bus).owner l.initial.pending.items;
   state : g.B.Bus.state l.bus ≡ record (g.B.Bus.state l.initial.bus) { owner = (g.B.Bus.state l.bus).owner };
 }
 

@@ -15,4 +15,4 @@ invariant-waits g l = record {
 }
 
 abbrev pub decreases-waits : goal.decreases-waits
-decreases-waits g l = (g.B.Bus.state l.bus).left
+decreases-waits g l = (g.B.Bus.state l.bus).turns_left

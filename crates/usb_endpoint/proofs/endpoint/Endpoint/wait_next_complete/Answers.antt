@@ -3,7 +3,7 @@ use Rattle.std.specs.Prelude.{is_some}
 use Rattle.usb_kernel.specs.Completions.{lowest}
 use Rattle.usb_bus.specs.BusState.{BusState}
 use Rattle.usb_bus.specs.Completions.{transfer_completion}
-use Rattle.usb_endpoint.specs.Frames.{Stands-later}
+use Rattle.usb_endpoint.proofs.Frames.{Stands-later}
 use Rattle.usb_endpoint.specs.Waits.{front_of, time_is_up}
 use Rattle.usb_endpoint.proofs.WaitLemmas.{ended_at, waited-found, waited-late, waited-up, waited-more, front-same, Falls-strict, up-is, moved_if, GoesOn-trans, GoesOn-turn, late_if, early_if, IsLater-trans}
 use Rattle.usb_endpoint.proofs.endpoint.Endpoint.wait_next_complete.Goals as goal

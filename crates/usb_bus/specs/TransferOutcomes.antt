@@ -5,24 +5,24 @@ use Rattle.usb_xfer.specs.declared.transfer.Completion.{Completion}
 use Rattle.usb_kernel.specs.Tickets.{tickets}
 use Rattle.usb_kernel.specs.Submits.{submit_or_refuse}
 use Rattle.usb_bus.specs.declared.route.Route.{Route}
-use Rattle.usb_bus.specs.declared.transfers.Transferred.{Transferred}
-use Rattle.usb_bus.specs.declared.transfers.Transferred.TheVariants.{Complete, TimeUp, NoMemory}
+use Rattle.usb_bus.specs.declared.transfers.TransferOutcome.{TransferOutcome}
+use Rattle.usb_bus.specs.declared.transfers.TransferOutcome.TheVariants.{Complete, TimeUp, NoMemory}
 use Rattle.usb_bus.specs.Routes.{submission_of}
 use Rattle.usb_bus.specs.BusState.{BusState}
 use Rattle.usb_bus.specs.Later.{LaterWith}
 
 -- what is true of each outcome
-abbrev pub IfComplete : Transferred → (Completion → Type 0) → Type 0
+abbrev pub IfComplete : TransferOutcome → (Completion → Type 0) → Type 0
 IfComplete (Complete c) P = P c
 IfComplete (TimeUp p) P = Unit {0}
 IfComplete (NoMemory b) P = Unit {0}
 
-abbrev pub IfTimeUp : Transferred → (ℕ → Type 0) → Type 0
+abbrev pub IfTimeUp : TransferOutcome → (ℕ → Type 0) → Type 0
 IfTimeUp (Complete c) P = Unit {0}
 IfTimeUp (TimeUp p) P = P p
 IfTimeUp (NoMemory b) P = Unit {0}
 
-abbrev pub IfNoMemory : Transferred → (BufferState → Type 0) → Type 0
+abbrev pub IfNoMemory : TransferOutcome → (BufferState → Type 0) → Type 0
 IfNoMemory (Complete c) P = Unit {0}
 IfNoMemory (TimeUp p) P = Unit {0}
 IfNoMemory (NoMemory b) P = P b

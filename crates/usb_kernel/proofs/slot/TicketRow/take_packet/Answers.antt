@@ -1,6 +1,6 @@
 use Rattle.std.proofs.Common.{refl, arith, ◌≡◌, length, length-append}
 use Rattle.usb_kernel.proofs.RowLemmas.{packet_fits, room_left}
-use Rattle.usb_kernel.proofs.slot.Slot.take_packet.Goals as goal
+use Rattle.usb_kernel.proofs.slot.TicketRow.take_packet.Goals as goal
 
 pub overflow_add-self : goal.overflow_add-self
 overflow_add-self c =
