@@ -5,8 +5,8 @@ ghost use Rattle.usb_endpoint.specs.Handles.{Stands, KeepsOthers};
 ghost use Rattle.usb_endpoint.specs.Closes.{after_close};
 ghost use Rattle.usb_io.specs.Readers.{rounded};
 ghost use Rattle.usb_io.specs.Reads.{bus_calls};
-ghost use Rattle.usb_io.specs.Writes.{is_whole};
-ghost use Rattle.usb_io.specs.Writers.{writing, empty_buffer, send, sent, sent_end, end_need, EndShort, with_taken, CameOne, waits_on, CameToDrain, accepts, accepted_count, Flushed, DrainFault, not_begun};
+ghost use Rattle.usb_kernel.specs.WholePackets.{is_whole};
+ghost use Rattle.usb_io.specs.Writers.{writing, empty_buffer, send, sent, sent_end, end_need, EndShort, with_taken, CameOne, waits_on, CameToDrain, accepts, accepted_count, Flushed, DrainFault};
 ghost use Rattle.usb_io.specs.Answers.{FailsBy};
 
 use crate::fault::WriteFault;
@@ -46,7 +46,6 @@ pub struct EndpointWrite<T: BulkOrInterrupt> {
     transfer_size: usize,
     timeout: u64,
     buffer: Option<Buffer>,
-    begun: bool,
 }
 
 impl<T: BulkOrInterrupt> Model for EndpointWrite<T> {
@@ -60,7 +59,6 @@ impl<T: BulkOrInterrupt> Model for EndpointWrite<T> {
       size = w.transfer_size;
       timeout = w.timeout;
       buffer = bytes_of w.buffer;
-      begun = w.begun;
     } };
 
     ghost invariant = { λ w. IsWriting w.endpoint w.num_transfers w.transfer_size w.buffer };
@@ -78,17 +76,19 @@ impl<T: BulkOrInterrupt> EndpointWrite<T> {
     ///
     /// # Errors
     ///
-    /// Want of memory. Nothing has changed but that no end has begun.
+    /// Want of memory. Nothing has changed.
     pub fn submit<B: Bus>(&mut self, bus: &mut B) -> Result<(), NoMemory>
         requires few { length self.old.endpoint.pending < 64 }
         requires stands { Stands (B.state bus.old) self.old.endpoint }
-        ensures ok { OnOk result (writing bus.new self.new ≡ sent (bus_calls B.state B.submitted B.refused B.turned B.turn_of B.taken) self.old.buffer (writing bus.old self.old)) }
-        ensures err { OnErr result (writing bus.new self.new ≡ writing bus.old (record self.old { begun = false })) }
+        ensures ok { OnOk result
+            (writing bus.new self.new
+            ≡ sent (bus_calls B.state B.submitted B.refused B.turned B.turn_of B.taken)
+            self.old.buffer (writing bus.old self.old)) }
+        ensures err { OnErr result (writing bus.new self.new ≡ writing bus.old self.old) }
         ensures key { self.new.endpoint.key ≡ self.old.endpoint.key }
         ensures stands { Stands (B.state bus.new) self.new.endpoint }
         ensures others { KeepsOthers (B.state bus.old) (B.state bus.new) self.old.endpoint.key }
     {
-        self.begun = false;
         match self.buffer.take() {
             None => Ok(()),
             Some(buffer) if buffer.is_empty() => {
@@ -108,10 +108,12 @@ impl<T: BulkOrInterrupt> EndpointWrite<T> {
     /// Submits an empty transfer. Without memory nothing has changed.
     fn submit_empty<B: Bus>(&mut self, bus: &mut B) -> Result<(), NoMemory>
         requires none { self.old.buffer ≡ None }
-        requires not_begun { self.old.begun ≡ false }
         requires few { length self.old.endpoint.pending < 64 }
         requires stands { Stands (B.state bus.old) self.old.endpoint }
-        ensures ok { OnOk result (writing bus.new self.new ≡ send (bus_calls B.state B.submitted B.refused B.turned B.turn_of B.taken) empty_buffer (writing bus.old self.old)) }
+        ensures ok { OnOk result
+            (writing bus.new self.new
+            ≡ send (bus_calls B.state B.submitted B.refused B.turned B.turn_of B.taken)
+            empty_buffer (writing bus.old self.old)) }
         ensures err { OnErr result (writing bus.new self.new ≡ writing bus.old self.old) }
         ensures stands { Stands (B.state bus.new) self.new.endpoint }
         ensures others { KeepsOthers (B.state bus.old) (B.state bus.new) self.old.endpoint.key }
@@ -127,7 +129,7 @@ impl<T: BulkOrInterrupt> EndpointWrite<T> {
     fn ends_whole(&self, len: usize) -> bool
         ensures whole { result ≡ is_whole self.now.endpoint.maximum len }
     {
-        len != 0 && len % self.endpoint.max_packet_size() == 0
+        len > 0 && len % self.endpoint.max_packet_size() == 0
     }
 
     /// Ends a message: submits the buffer that stands, or an empty one, and an empty transfer after whole packets.
@@ -136,14 +138,19 @@ impl<T: BulkOrInterrupt> EndpointWrite<T> {
     ///
     /// Want of memory: nothing is submitted, or the buffer without the empty transfer, which a further call submits.
     pub fn submit_end<B: Bus>(&mut self, bus: &mut B) -> Result<(), NoMemory>
-        requires few { length self.old.endpoint.pending + end_need self.old.endpoint.maximum self.old.buffer ≤ 64 }
+        requires few { length self.old.endpoint.pending
+            + end_need self.old.endpoint.maximum self.old.buffer ≤ 64 }
         requires stands { Stands (B.state bus.old) self.old.endpoint }
-        ensures ok { OnOk result (writing bus.new self.new ≡ sent_end (bus_calls B.state B.submitted B.refused B.turned B.turn_of B.taken) self.old.buffer (writing bus.old self.old)) }
-        ensures err { OnErr result (EndShort (bus_calls B.state B.submitted B.refused B.turned B.turn_of B.taken) self.old.buffer (writing bus.old self.old) (writing bus.new self.new)) }
+        ensures ok { OnOk result
+            (writing bus.new self.new
+            ≡ sent_end (bus_calls B.state B.submitted B.refused B.turned B.turn_of B.taken)
+            self.old.buffer (writing bus.old self.old)) }
+        ensures err { OnErr result
+            (EndShort (bus_calls B.state B.submitted B.refused B.turned B.turn_of B.taken)
+            self.old.buffer (writing bus.old self.old) (writing bus.new self.new)) }
         ensures stands { Stands (B.state bus.new) self.new.endpoint }
         ensures others { KeepsOthers (B.state bus.old) (B.state bus.new) self.old.endpoint.key }
     {
-        self.begun = false;
         let Some(buffer) = self.buffer.take() else {
             return self.submit_empty(bus);
         };
@@ -177,8 +184,10 @@ impl<T: BulkOrInterrupt> EndpointWrite<T> {
     fn take<B: Bus>(&mut self, bus: &mut B, timeout: u64) -> Taken
         requires some { 0 < length self.old.endpoint.pending }
         requires stands { Stands (B.state bus.old) self.old.endpoint }
-        ensures came { CameOne (bus_calls B.state B.submitted B.refused B.turned B.turn_of B.taken) timeout (writing bus.old self.old) (writing bus.new self.new) result }
-        ensures rest { self.new.endpoint ≡ record self.old.endpoint { pending = self.new.endpoint.pending } }
+        ensures came { CameOne (bus_calls B.state B.submitted B.refused B.turned B.turn_of B.taken)
+            timeout (writing bus.old self.old) (writing bus.new self.new) result }
+        ensures rest { self.new.endpoint
+            ≡ record self.old.endpoint { pending = self.new.endpoint.pending } }
         ensures stands { Stands (B.state bus.new) self.new.endpoint }
         ensures others { KeepsOthers (B.state bus.old) (B.state bus.new) self.old.endpoint.key }
     {
@@ -201,7 +210,6 @@ impl<T: BulkOrInterrupt> EndpointWrite<T> {
           size = rounded endpoint.maximum transfer_size;
           timeout = 2 ^ 64 - 1;
           buffer = None;
-          begun = false;
         } }
     {
         let size = round_up(transfer_size, endpoint.max_packet_size());
@@ -212,7 +220,6 @@ impl<T: BulkOrInterrupt> EndpointWrite<T> {
             transfer_size: size,
             timeout: u64::MAX,
             buffer: None,
-            begun: false,
         }
     }
 
@@ -231,7 +238,9 @@ impl<T: BulkOrInterrupt> EndpointWrite<T> {
     /// Takes front after front, until one fails or is not there.
     fn drain<B: Bus>(&mut self, bus: &mut B, flushing: bool, timeout: u64) -> Drained
         requires stands { Stands (B.state bus.old) self.old.endpoint }
-        ensures came { CameToDrain (bus_calls B.state B.submitted B.refused B.turned B.turn_of B.taken) flushing timeout (writing bus.old self.old) (writing bus.new self.new) result }
+        ensures came { CameToDrain
+            (bus_calls B.state B.submitted B.refused B.turned B.turn_of B.taken) flushing timeout
+            (writing bus.old self.old) (writing bus.new self.new) result }
         ensures stands { Stands (B.state bus.new) self.new.endpoint }
         ensures others { KeepsOthers (B.state bus.old) (B.state bus.new) self.old.endpoint.key }
     {
@@ -248,12 +257,15 @@ impl<T: BulkOrInterrupt> EndpointWrite<T> {
     /// Accepts what fits, and submits a full buffer. Without memory the buffer that stood is as before.
     fn accept<B: Bus>(&mut self, bus: &mut B, src: &[u8]) -> Result<usize, NoMemory>
         requires few { length self.old.endpoint.pending < 64 }
-        requires not_begun { self.old.begun ≡ false }
         requires stands { Stands (B.state bus.old) self.old.endpoint }
         ensures count { IfOk result (λ n. n ≡ accepted_count src.now self.old) }
-        ensures ok { OnOk result (writing bus.new self.new ≡ accepts (bus_calls B.state B.submitted B.refused B.turned B.turn_of B.taken) src.now (writing bus.old self.old)) }
+        ensures ok { OnOk result
+            (writing bus.new self.new
+            ≡ accepts (bus_calls B.state B.submitted B.refused B.turned B.turn_of B.taken)
+            src.now (writing bus.old self.old)) }
         ensures bus { OnErr result (bus.new ≡ bus.old) }
         ensures kept { OnErr result (unwrap_or self.new.buffer [] ≡ unwrap_or self.old.buffer []) }
+        ensures rest { OnErr result (self.new ≡ record self.old { buffer = self.new.buffer }) }
         ensures stands { Stands (B.state bus.new) self.new.endpoint }
         ensures others { KeepsOthers (B.state bus.old) (B.state bus.new) self.old.endpoint.key }
     {
@@ -286,8 +298,16 @@ impl<T: BulkOrInterrupt> EndpointWrite<T> {
     pub fn flush<B: Bus>(&mut self, bus: &mut B) -> Result<(), Fail<WriteFault>>
         requires few { length self.old.endpoint.pending < 64 }
         requires stands { Stands (B.state bus.old) self.old.endpoint }
-        ensures ok { OnOk result (Flushed (bus_calls B.state B.submitted B.refused B.turned B.turn_of B.taken) self.old.timeout (writing bus.old self.old) (writing bus.new self.new)) }
-        ensures failed { IfErr result (λ e. FailsBy e (DrainFault (bus_calls B.state B.submitted B.refused B.turned B.turn_of B.taken) true self.old.timeout (sent (bus_calls B.state B.submitted B.refused B.turned B.turn_of B.taken) self.old.buffer (writing bus.old self.old)) (writing bus.new self.new)) (writing bus.new self.new ≡ not_begun (writing bus.old self.old))) }
+        ensures ok { OnOk result
+            (Flushed (bus_calls B.state B.submitted B.refused B.turned B.turn_of B.taken)
+            self.old.timeout (writing bus.old self.old) (writing bus.new self.new)) }
+        ensures failed { IfErr result
+            (λ e. FailsBy e
+            (DrainFault (bus_calls B.state B.submitted B.refused B.turned B.turn_of B.taken)
+            true self.old.timeout
+            (sent (bus_calls B.state B.submitted B.refused B.turned B.turn_of B.taken)
+            self.old.buffer (writing bus.old self.old)) (writing bus.new self.new))
+            (writing bus.new self.new ≡ writing bus.old self.old)) }
         ensures stands { Stands (B.state bus.new) self.new.endpoint }
         ensures others { KeepsOthers (B.state bus.old) (B.state bus.new) self.old.endpoint.key }
     {
@@ -312,7 +332,6 @@ impl<T: BulkOrInterrupt> EndpointWrite<T> {
             transfer_size: _,
             timeout: _,
             buffer: _,
-            begun: _,
         } = self;
         endpoint
     }

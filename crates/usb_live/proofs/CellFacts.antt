@@ -8,7 +8,7 @@ use Rattle.usb_live.specs.declared.view.Handled.{Handled}
 use Rattle.usb_live.specs.declared.view.Handled.TheVariants.{Idle, Working, Reclaim, Reclaimed}
 use Rattle.usb_live.specs.declared.view.OwnerCell.{OwnerCell}
 use Rattle.usb_live.specs.declared.view.HandlerCell.{HandlerCell}
-use Rattle.usb_live.specs.Cells.{Slot, Home, Cell, Agrees, Holds, HoldsLast, OwnerTakes, HandlerTakes, is_out}
+use Rattle.usb_live.specs.Cells.{SlotValue, Home, Cell, CellAgrees, Holds, HoldsLast, OwnerTakes, HandlerTakes, is_out}
 use Rattle.usb_live.specs.Steps.{OwnerFinds, HandlerFinds}
 
 pub not_out : (b : Bool) → (b ≡ true → ⊥) → b ≡ false
@@ -24,7 +24,7 @@ or_false false = refl
 or_false true = refl
 
 -- the owner may have the slot out only while the handler is idle
-pub with_idle : (w : ℕ) (home : Home) (s : Owned) (h : Handled) (last : Option Completion) → OwnerTakes s → Agrees w home s h last → h ≡ Idle
+pub with_idle : (w : ℕ) (home : Home) (s : Owned) (h : Handled) (last : Option Completion) → OwnerTakes s → CellAgrees w home s h last → h ≡ Idle
 with_idle w home Free Idle last k a = refl
 with_idle w home Free (Working u) last k a = absurd a
 with_idle w home Free (Reclaim u) last k a = absurd a
@@ -41,7 +41,7 @@ with_idle w home (Pending t) h last k a = absurd k
 with_idle w home (Left t) h last k a = absurd k
 
 -- where the handler may have the slot out, the owner may not
-pub owner_waits : (w : ℕ) (home : Home) (s : Owned) (h : Handled) (last : Option Completion) → HandlerTakes h → Agrees w home s h last → OwnerTakes s → ⊥
+pub owner_waits : (w : ℕ) (home : Home) (s : Owned) (h : Handled) (last : Option Completion) → HandlerTakes h → CellAgrees w home s h last → OwnerTakes s → ⊥
 owner_waits w home s Idle last k a o = k
 owner_waits w home s (Reclaimed u) last k a o = k
 owner_waits w home Free (Working u) last k a o = a
@@ -56,7 +56,7 @@ owner_waits w home (Pending t) (Reclaim u) last k a o = a
 owner_waits w home (Left t) (Reclaim u) last k a o = o
 
 -- the rule asks nothing of a slot that is out
-pub leaves_home : (w : ℕ) (home : Home) (s : Owned) (h : Handled) (last : Option Completion) → Agrees w home s h last → Agrees w none s h last
+pub leaves_home : (w : ℕ) (home : Home) (s : Owned) (h : Handled) (last : Option Completion) → CellAgrees w home s h last → CellAgrees w none s h last
 leaves_home w home Free Idle last a = (a.0, tt)
 leaves_home w home (Filled t) Idle last a = (a.0, tt)
 leaves_home w home (Mine t) Idle last a = (a.0, tt)
@@ -68,14 +68,14 @@ leaves_home w home (Left t) (Reclaim u) last a = (a.0, a.1, tt)
 leaves_home w home (Left t) (Reclaimed u) last a = (a.0, a.1, tt)
 leaves_home w home _ _ last a = absurd a
 
-pub owner_finds : (w : ℕ) (x : Slot) (s : Owned) (last : Option Completion) → Agrees w (some x) s Idle last → OwnerFinds s x
+pub owner_finds : (w : ℕ) (x : SlotValue) (s : Owned) (last : Option Completion) → CellAgrees w (some x) s Idle last → OwnerFinds s x
 owner_finds w x Free last a = a.1
 owner_finds w x (Filled t) last a = tt
 owner_finds w x (Mine t) last a = a.1
 owner_finds w x (Pending t) last a = tt
 owner_finds w x (Left t) last a = tt
 
-pub handler_finds : (w : ℕ) (x : Slot) (s : Owned) (h : Handled) (last : Option Completion) → Agrees w (some x) s h last → HandlerFinds h last x
+pub handler_finds : (w : ℕ) (x : SlotValue) (s : Owned) (h : Handled) (last : Option Completion) → CellAgrees w (some x) s h last → HandlerFinds h last x
 handler_finds w x s Idle last a = tt
 handler_finds w x s (Reclaimed u) last a = tt
 handler_finds w x (Pending t) (Working u) last a = subst (λ (k : ℕ). Holds k x) (sym a.0) a.2
@@ -84,7 +84,7 @@ handler_finds w x (Left t) (Reclaim u) last a = subst (λ (k : ℕ). HoldsLast k
 handler_finds w x _ _ last a = absurd a
 
 -- a slot is at home where neither seat has it out
-pub in_home : (home : Home) (a b : Bool) → is_out home ≡ (a || b) → a ≡ false → b ≡ false → (x : Slot) × (home ≡ some x)
+pub in_home : (home : Home) (a b : Bool) → is_out home ≡ (a || b) → a ≡ false → b ≡ false → (x : SlotValue) × (home ≡ some x)
 in_home (some x) a b e p q = (x, refl)
 in_home none false false e p q = absurd (cc)
 in_home none true b e p q = absurd (cc)

@@ -15,7 +15,7 @@ use Rattle.usb_live.specs.declared.view.OwnerCell.{OwnerCell}
 use Rattle.usb_live.specs.declared.view.HandlerCell.{HandlerCell}
 use Rattle.usb_live.specs.declared.view.View.{View}
 use Rattle.usb_live.specs.declared.view.Side.TheVariants.{Handler}
-use Rattle.usb_live.specs.Cells.{Slot, Home, Cell, Agrees, AtHome, Holds, HoldsLast, HandlerTakes}
+use Rattle.usb_live.specs.Cells.{SlotValue, Home, Cell, CellAgrees, AtHome, Holds, HoldsLast, HandlerTakes}
 use Rattle.usb_live.specs.Rows.{Rowed, handler_cell, idle_cell}
 use Rattle.usb_live.specs.Steps.{Sat, HandlerFinds, MayFind, handling, looked, handler_took_out, handler_looked, completion_in, finished, handler_took}
 use Rattle.usb_live.specs.Seats.{IsHandler}
@@ -29,7 +29,7 @@ takes_out n id i m near side at_home takes_it = let h : HandlerCell = handler_ce
     (λ w home o c.
     let quiet = owner_has_not w home o h c takes_it in
     let x = in_home home o.out h.out c.out quiet at_home in
-    let here : Agrees w (some x.0) o.stage h.stage h.last = subst (λ (y : Home). Agrees w y o.stage h.stage h.last) x.1 c.agrees in
+    let here : CellAgrees w (some x.0) o.stage h.stage h.last = subst (λ (y : Home). CellAgrees w y o.stage h.stage h.last) x.1 c.agrees in
     record {
       to = handling m.0 i h.stage true h.last;
       cell = record { stage = h.stage; out = true; last = h.last };
@@ -42,7 +42,7 @@ takes_out n id i m near side at_home takes_it = let h : HandlerCell = handler_ce
       tells = (x.0, refl, handler_finds w x.0 o.stage h.stage h.last here);
     })
 
-below_three : (w : ℕ) (home : Home) (s : Owned) (h : Handled) (last : Option Completion) → Agrees w home s h last → w % 4 < 3
+below_three : (w : ℕ) (home : Home) (s : Owned) (h : Handled) (last : Option Completion) → CellAgrees w home s h last → w % 4 < 3
 below_three w home Free Idle last a = omega (arith, a.0)
 below_three w home (Filled t) Idle last a = omega (arith, a.0)
 below_three w home (Mine t) Idle last a = omega (arith, a.0)
@@ -55,7 +55,7 @@ below_three w home (Left t) (Reclaimed u) last a = omega (arith, a.1)
 below_three w home _ _ last a = absurd a
 
 -- where the word is pending or abandoned, the handler works on it
-goes_on : (w : ℕ) (home : Home) (s : Owned) (h : Handled) (last : Option Completion) → w % 4 ≢ 0 → Agrees w home s h last → Agrees w home s (Working (w / 4)) last
+goes_on : (w : ℕ) (home : Home) (s : Owned) (h : Handled) (last : Option Completion) → w % 4 ≢ 0 → CellAgrees w home s h last → CellAgrees w home s (Working (w / 4)) last
 goes_on w home Free Idle last n a = absurd (n a.0)
 goes_on w home (Filled t) Idle last n a = absurd (n (let e = a.0 in omega arith))
 goes_on w home (Mine t) Idle last n a = absurd (n (let e = a.0 in omega arith))
@@ -68,7 +68,7 @@ goes_on w home (Left t) (Reclaim u) last n a = absurd (n (let e = a.1 in omega a
 goes_on w home (Left t) (Reclaimed u) last n a = absurd (n (let e = a.1 in omega arith))
 goes_on w home _ _ last n a = absurd a
 
-may_find : (w : ℕ) (home : Home) (s : Owned) (h : Handled) (last : Option Completion) → Agrees w home s h last → MayFind h w
+may_find : (w : ℕ) (home : Home) (s : Owned) (h : Handled) (last : Option Completion) → CellAgrees w home s h last → MayFind h w
 may_find w home s Idle last a = tt
 may_find w home (Pending t) (Working u) last a = let e = a.1 in (λ z. omega arith)
 may_find w home (Left t) (Working u) last a = let e = a.1 in (λ z. omega arith)
@@ -104,7 +104,7 @@ looks n id i m near side = let h : HandlerCell = handler_cell m.0 i in
     }))
 
 -- the cell that the handler works on, as its word shows it
-working : (w t : ℕ) (home : Home) (s : Owned) (last : Option Completion) → Agrees w home s (Working t) last → ((w ≡ 4 * t + 1) × (s ≡ Pending t)) ⊎ ((w ≡ 4 * t + 2) × (s ≡ Left t))
+working : (w t : ℕ) (home : Home) (s : Owned) (last : Option Completion) → CellAgrees w home s (Working t) last → ((w ≡ 4 * t + 1) × (s ≡ Pending t)) ⊎ ((w ≡ 4 * t + 2) × (s ≡ Left t))
 working w t home Free last a = absurd a
 working w t home (Filled u) last a = absurd a
 working w t home (Mine u) last a = absurd a
@@ -112,8 +112,8 @@ working w t home (Pending u) last a = inl (a.1 ∙ ap (λ (k : ℕ). 4 * k + 1) 
 working w t home (Left u) last a = inr (a.1 ∙ ap (λ (k : ℕ). 4 * k + 2) (sym a.0), ap Left (sym a.0))
 
 -- the handler leaves the slot at home with this value, in another stage
-handler_rests : (w n : ℕ) (home : Home) (x : Slot) (o : OwnerCell) (h : HandlerCell) (s : Handled) (last : Option Completion) → Cell w home o h → HandlerTakes h.stage
-    → Agrees n (some x) o.stage s last → Cell n (some x) o (record { stage = s; out = false; last = last })
+handler_rests : (w n : ℕ) (home : Home) (x : SlotValue) (o : OwnerCell) (h : HandlerCell) (s : Handled) (last : Option Completion) → Cell w home o h → HandlerTakes h.stage
+    → CellAgrees n (some x) o.stage s last → Cell n (some x) o (record { stage = s; out = false; last = last })
 handler_rests w n home x o h s last c takes_it now = let quiet = owner_has_not w home o h c takes_it in record {
   agrees = now;
   out = sym (or_false o.out ∙ quiet);
@@ -138,7 +138,7 @@ finishes n id i new t m x d near side works has ticket done is = let h : Handler
       side = side;
       cells = refl;
       moves = (Some x, has, refl);
-      keeps = handler_rests w new home (Some x) o h Idle (completion_in m.1) c takes_it (subst (λ (s : Owned). Agrees new (some (Some x)) s Idle (completion_in m.1)) (sym p.1) (inr (is, holds)));
+      keeps = handler_rests w new home (Some x) o h Idle (completion_in m.1) c takes_it (subst (λ (s : Owned). CellAgrees new (some (Some x)) s Idle (completion_in m.1)) (sym p.1) (inr (is, holds)));
       tells = inl ((let e = p.0 in omega arith), refl);
     })
     (λ (p : (w ≡ 4 * t + 2) × (o.stage ≡ Left t)). record {
@@ -150,12 +150,12 @@ finishes n id i new t m x d near side works has ticket done is = let h : Handler
       cells = refl;
       moves = (Some x, has, refl);
       keeps = handler_rests w new home (Some x) o h (Reclaim (new / 4)) (completion_in m.1) c takes_it
-          (subst (λ (s : Owned). Agrees new (some (Some x)) s (Reclaim (new / 4)) (completion_in m.1)) (sym p.1) (same, is, holds));
+          (subst (λ (s : Owned). CellAgrees new (some (Some x)) s (Reclaim (new / 4)) (completion_in m.1)) (sym p.1) (same, is, holds));
       tells = inr ((let e = p.0 in omega arith), refl);
     })
-    (working w t home o.stage h.last (subst (λ (s : Handled). Agrees w home o.stage s h.last) works c.agrees)))
+    (working w t home o.stage h.last (subst (λ (s : Handled). CellAgrees w home o.stage s h.last) works c.agrees)))
 
-reclaiming : (w t : ℕ) (home : Home) (s : Owned) (last : Option Completion) → Agrees w home s (Reclaim t) last → s ≡ Left t
+reclaiming : (w t : ℕ) (home : Home) (s : Owned) (last : Option Completion) → CellAgrees w home s (Reclaim t) last → s ≡ Left t
 reclaiming w t home Free last a = absurd a
 reclaiming w t home (Filled u) last a = absurd a
 reclaiming w t home (Mine u) last a = absurd a
@@ -176,12 +176,12 @@ reclaims n id i new t m near side works has is = let h : HandlerCell = handler_c
       cells = refl;
       moves = (None, has, refl);
       keeps = handler_rests w new home None o h (Reclaimed (new / 4)) h.last c takes_it
-          (subst (λ (s : Owned). Agrees new (some None) s (Reclaimed (new / 4)) h.last) (sym (reclaiming w t home o.stage h.last (subst (λ (s : Handled). Agrees w home o.stage s h.last) works c.agrees))) (same, is, refl));
+          (subst (λ (s : Owned). CellAgrees new (some None) s (Reclaimed (new / 4)) h.last) (sym (reclaiming w t home o.stage h.last (subst (λ (s : Handled). CellAgrees w home o.stage s h.last) works c.agrees))) (same, is, refl));
       tells = refl;
     })
 
 -- the seat while the handler has the slot of the cell i out
-abbrev pub Has : ℕ → View → Handled → Option Completion → Slot → List (ℕ × Slot) → Sat → Type 0
+abbrev pub Has : ℕ → View → Handled → Option Completion → SlotValue → List (ℕ × SlotValue) → Sat → Type 0
 Has i v s last x r m = m ≡ (handling v i s true last, (i, x) ∷ r)
 
 pub handling_here : (v : View) (i : ℕ) (s : Handled) (b : Bool) (last : Option Completion) → i < 64 → IsHandler v → handler_cell (handling v i s b last) i ≡ record { stage = s; out = b; last = last }
@@ -190,33 +190,33 @@ handling_here v i s b last near own = get_or-set_same v.handler i (record { stag
 stage_here : (v : View) (i : ℕ) (s : Handled) (b : Bool) (last : Option Completion) → i < 64 → IsHandler v → (handler_cell (handling v i s b last) i).stage ≡ s
 stage_here v i s b last near own = ap (λ (c : HandlerCell). c.stage) (handling_here v i s b last near own)
 
-pub put_in : (i : ℕ) (v : View) (s : Handled) (last : Option Completion) (x y : Slot) (r : List (ℕ × Slot)) (m n : Sat) → Has i v s last x r m → n ≡ (m.0, (i, y) ∷ rest m.1) → Has i v s last y r n
+pub put_in : (i : ℕ) (v : View) (s : Handled) (last : Option Completion) (x y : SlotValue) (r : List (ℕ × SlotValue)) (m n : Sat) → Has i v s last x r m → n ≡ (m.0, (i, y) ∷ rest m.1) → Has i v s last y r n
 put_in i v s last x y r m n e f = f ∙ ap (λ (z : Sat). (z.0, (i, y) ∷ rest z.1)) e
 
-pub rested : (i : ℕ) (v : View) (s t : Handled) (last now : Option Completion) (x : Slot) (r : List (ℕ × Slot)) (m n : Sat) → Has i v s last x r m → n ≡ (handling m.0 i t false now, rest m.1) → n ≡ (handling v i t false now, r)
+pub rested : (i : ℕ) (v : View) (s t : Handled) (last now : Option Completion) (x : SlotValue) (r : List (ℕ × SlotValue)) (m n : Sat) → Has i v s last x r m → n ≡ (handling m.0 i t false now, rest m.1) → n ≡ (handling v i t false now, r)
 rested i v s t last now x r m n e f = f ∙ (ap (λ (z : Sat). (handling z.0 i t false now, rest z.1)) e
     ∙ ap (λ (l : List HandlerCell). (record v { handler = l }, r)) (set-set v.handler i (record { stage = s; out = true; last = last }) (record { stage = t; out = false; last = now })))
 
-pub finishes_out : (n id i new t : ℕ) (m : Sat) (v : View) (r : List (ℕ × Slot)) (s : Handled) (last : Option Completion) (x : Transfer) (d : Completion) → Has i v s last (Some x) r m → s ≡ Working t
+pub finishes_out : (n id i new t : ℕ) (m : Sat) (v : View) (r : List (ℕ × SlotValue)) (s : Handled) (last : Option Completion) (x : Transfer) (d : Completion) → Has i v s last (Some x) r m → s ≡ Working t
     → i < 64 → IsHandler v → x.ticket ≡ t → x.completion ≡ Some d → new ≡ 4 * t → Allows Rowed n id m i (λ _. new) (finished (step n i new 0 none) m)
 finishes_out n id i new t m v r s last x d e works near own ticket done is = subst (λ (z : Sat). Allows Rowed n id z i (λ _. new) (finished (step n i new 0 none) z)) (sym e)
     (finishes n id i new t (handling v i s true last, (i, Some x) ∷ r) x d near own.0 (stage_here v i s true last near own ∙ works) refl ticket done is)
 
-pub reclaims_out : (n id i new t : ℕ) (m : Sat) (v : View) (r : List (ℕ × Slot)) (s : Handled) (last : Option Completion) → Has i v s last None r m → s ≡ Reclaim t
+pub reclaims_out : (n id i new t : ℕ) (m : Sat) (v : View) (r : List (ℕ × SlotValue)) (s : Handled) (last : Option Completion) → Has i v s last None r m → s ≡ Reclaim t
     → i < 64 → IsHandler v → new ≡ 4 * t → Allows Rowed n id m i (λ _. new) (handler_took (step n i new 0 none) m)
 reclaims_out n id i new t m v r s last e works near own is = subst (λ (z : Sat). Allows Rowed n id z i (λ _. new) (handler_took (step n i new 0 none) z)) (sym e)
     (reclaims n id i new t (handling v i s true last, (i, None) ∷ r) near own.0 (stage_here v i s true last near own ∙ works) refl is)
 
 -- the completion that was put in last stays in the view
-pub rested_same : (i : ℕ) (v : View) (s t : Handled) (last : Option Completion) (x : Slot) (r : List (ℕ × Slot)) (m n : Sat) → i < 64 → IsHandler v → Has i v s last x r m
+pub rested_same : (i : ℕ) (v : View) (s t : Handled) (last : Option Completion) (x : SlotValue) (r : List (ℕ × SlotValue)) (m n : Sat) → i < 64 → IsHandler v → Has i v s last x r m
     → n ≡ (handling m.0 i t false (handler_cell m.0 i).last, rest m.1) → n ≡ (handling v i t false last, r)
 rested_same i v s t last x r m n near own e f = rested i v s t last (handler_cell m.0 i).last x r m n e f
     ∙ ap (λ (d : Option Completion). (handling v i t false d, r)) (ap (λ (z : Sat). (handler_cell z.0 i).last) e ∙ ap (λ (c : HandlerCell). c.last) (handling_here v i s true last near own))
 
 -- what was read is what the slot had
-pub found : (i : ℕ) (v : View) (s : Handled) (last : Option Completion) (x y : Slot) (r : List (ℕ × Slot)) (m : Sat) → Has i v s last x r m → m.1 ≡ (i, y) ∷ rest m.1 → y ≡ x
-found i v s last x y r m e f = ap (λ (l : List (ℕ × Slot)). (get_or l 0 (i, y)).1) (sym f ∙ ap (λ (z : Sat). z.1) e)
+pub found : (i : ℕ) (v : View) (s : Handled) (last : Option Completion) (x y : SlotValue) (r : List (ℕ × SlotValue)) (m : Sat) → Has i v s last x r m → m.1 ≡ (i, y) ∷ rest m.1 → y ≡ x
+found i v s last x y r m e f = ap (λ (l : List (ℕ × SlotValue)). (get_or l 0 (i, y)).1) (sym f ∙ ap (λ (z : Sat). z.1) e)
 
-pub found_ticket : (t : ℕ) (s : Handled) (last : Option Completion) (x y : Slot) (z : Transfer) → s ≡ Working t → HandlerFinds s last x → y ≡ x → y ≡ Some z → z.ticket ≡ t
+pub found_ticket : (t : ℕ) (s : Handled) (last : Option Completion) (x y : SlotValue) (z : Transfer) → s ≡ Working t → HandlerFinds s last x → y ≡ x → y ≡ Some z → z.ticket ≡ t
 found_ticket t s last x y z is finds e f = let h : Holds t x = subst (λ (k : Handled). HandlerFinds k last x) is finds in
     let same : Some z ≡ Some h.0 = sym f ∙ (e ∙ h.1) in let same' : z ≡ h.0 = cc in ap (λ (k : Transfer). k.ticket) same' ∙ h.2

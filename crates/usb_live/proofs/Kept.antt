@@ -11,7 +11,7 @@ use Rattle.usb_live.specs.declared.view.OwnerCell.{OwnerCell}
 use Rattle.usb_live.specs.declared.view.HandlerCell.{HandlerCell}
 use Rattle.usb_live.specs.declared.view.Side.{Side}
 use Rattle.usb_live.specs.declared.view.Side.TheVariants.{Both, Owner, Handler}
-use Rattle.usb_live.specs.Cells.{Slot, Home, Cell}
+use Rattle.usb_live.specs.Cells.{SlotValue, Home, Cell}
 use Rattle.usb_live.specs.Rows.{Rowed, One, Two, free_cell, idle_cell, owner_cell, handler_cell, first, owner_first, handler_first}
 use Rattle.usb_live.specs.Steps.{Sat}
 
@@ -21,22 +21,22 @@ cell_at w w' y y' c c' d d' p q r s ok =
     subst (λ (z : ℕ). Cell z y' c' d') (sym p) (subst (λ (z : Home). Cell w z c' d') (sym q) (subst (λ (z : OwnerCell). Cell w y z d') (sym r) (subst (λ (z : HandlerCell). Cell w y c z) (sym s) ok)))
 
 -- what an act does to the slot of the cell i
-abbrev pub OnCell : ℕ → Home → Home → List (ℕ × Slot) → Act Slot → Type 0
+abbrev pub OnCell : ℕ → Home → Home → List (ℕ × SlotValue) → Act SlotValue → Type 0
 OnCell i home to c keeps = to ≡ home
 OnCell i home to c (takes k x) = (k ≡ i) × (home ≡ some x) × (to ≡ none)
-OnCell i home to c gives = (x : Slot) × (c ≡ (i, x) ∷ rest c) × (to ≡ some x)
+OnCell i home to c gives = (x : SlotValue) × (c ≡ (i, x) ∷ rest c) × (to ≡ some x)
 OnCell i home to c (chain a b) = ⊥
 
-at_home : (hs : List Home) (i : ℕ) (x : Slot) → i < length hs → get_or hs i none ≡ some x → get_elem? hs i ≡ some (some x)
+at_home : (hs : List Home) (i : ℕ) (x : SlotValue) → i < length hs → get_or hs i none ≡ some x → get_elem? hs i ≡ some (some x)
 at_home [] i x h e = absurd (omega arith)
 at_home (y ∷ ys) zero x h e = ap (λ (z : Home). some z) e
 at_home (y ∷ ys) (suc i) x h e = at_home ys i x (omega arith) e
 
-moved : (hs : List Home) (i : ℕ) (to : Home) (c : List (ℕ × Slot)) (a : Act Slot) → i < length hs → OnCell i (get_or hs i none) to c a → Valid hs c a × (homes_after hs c a ≡ set hs i to)
+moved : (hs : List Home) (i : ℕ) (to : Home) (c : List (ℕ × SlotValue)) (a : Act SlotValue) → i < length hs → OnCell i (get_or hs i none) to c a → Valid hs c a × (homes_after hs c a ≡ set hs i to)
 moved hs i to c keeps near p = (tt, sym (ap (λ (z : Home). set hs i z) p ∙ set-get_or hs i none))
 moved hs i to c (takes k x) near p =
     (subst (λ (j : ℕ). get_elem? hs j ≡ some (some x)) (sym p.0) (at_home hs i x near p.1), ap (λ (j : ℕ). set hs j none) p.0 ∙ ap (λ (z : Home). set hs i z) (sym p.2))
-moved hs i to c gives near p = (tt, ap (λ (l : List (ℕ × Slot)). put_back hs l) p.1 ∙ ap (λ (z : Home). set hs i z) (sym p.2))
+moved hs i to c gives near p = (tt, ap (λ (l : List (ℕ × SlotValue)). put_back hs l) p.1 ∙ ap (λ (z : Home). set hs i z) (sym p.2))
 moved hs i to c (chain a b) near p = absurd p
 
 two_owner : (ws : List ℕ) (hs : List Home) (o h o' : View) (i n : ℕ) (y : Home) (c : OwnerCell) → length ws ≡ 64 → length hs ≡ 64 → i < 64 → Two ws hs o h
@@ -85,7 +85,7 @@ side_of v = v.side
 pub record OwnerGoes (i : ℕ) (m : Sat) (n : ℕ) (then : Sat → Type 0) (home : Home) (h : HandlerCell) : Type 0 where
   pub to : View
   pub cell : OwnerCell
-  pub act : Act Slot
+  pub act : Act SlotValue
   pub home_to : Home
   pub side : to.side ≡ Owner
   pub cells : to.owner ≡ set m.0.owner i cell
@@ -134,7 +134,7 @@ owner_step n id i m f then near side local s ok slots me wide = ⊎_elim
 pub record HandlerGoes (i : ℕ) (m : Sat) (n : ℕ) (then : Sat → Type 0) (home : Home) (o : OwnerCell) : Type 0 where
   pub to : View
   pub cell : HandlerCell
-  pub act : Act Slot
+  pub act : Act SlotValue
   pub home_to : Home
   pub side : to.side ≡ Handler
   pub cells : to.handler ≡ set m.0.handler i cell
@@ -183,7 +183,7 @@ handler_step n id i m f then near side local s ok slots me wide = ⊎_elim
 idle_row : Cell 0 (some None) free_cell idle_cell
 idle_row = record { agrees = (refl, refl); out = refl; owner_out = λ e. absurd (cc); handler_out = λ e. absurd (cc) }
 
-home_first : (n i : ℕ) → i < n → get_or (map (λ (x : Slot). some x) (replicate n None)) i none ≡ some None
+home_first : (n i : ℕ) → i < n → get_or (map (λ (x : SlotValue). some x) (replicate n None)) i none ≡ some None
 home_first zero i h = absurd (omega arith)
 home_first (suc n) zero h = refl
 home_first (suc n) (suc i) h = home_first n i (omega arith)
@@ -191,7 +191,7 @@ home_first (suc n) (suc i) h = home_first n i (omega arith)
 pub starts : (ws : List ℕ) → ws ≡ replicate 64 0 → Rowed (opening ws (replicate 64 None) first)
 starts ws is = record {
   words = ap length is ∙ length-replicate {A = ℕ} 64 0;
-  homes = length-map (replicate 64 None) (λ (x : Slot). some x) ∙ length-replicate {A = Slot} 64 None;
+  homes = length-map (replicate 64 None) (λ (x : SlotValue). some x) ∙ length-replicate {A = SlotValue} 64 None;
   seats = inl (
     first,
     refl,

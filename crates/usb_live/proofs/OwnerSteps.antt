@@ -15,7 +15,7 @@ use Rattle.usb_live.specs.declared.view.OwnerCell.{OwnerCell}
 use Rattle.usb_live.specs.declared.view.HandlerCell.{HandlerCell}
 use Rattle.usb_live.specs.declared.view.View.{View}
 use Rattle.usb_live.specs.declared.view.Side.TheVariants.{Owner}
-use Rattle.usb_live.specs.Cells.{Slot, Home, Cell, Agrees, AtHome, Holds, HoldsDone, HoldsLast, OwnerTakes, is_out}
+use Rattle.usb_live.specs.Cells.{SlotValue, Home, Cell, CellAgrees, AtHome, Holds, HoldsDone, HoldsLast, OwnerTakes, is_out}
 use Rattle.usb_live.specs.Rows.{Rowed, owner_cell, free_cell}
 use Rattle.usb_live.specs.Steps.{Sat, owning, looked, with_own, found_in, slot_completion, completion_in, owner_took_out, filled, refused, published, owner_looked, abandoned, owner_took}
 use Rattle.usb_live.specs.Seats.{IsOwner}
@@ -30,7 +30,7 @@ takes_out n id i m near side at_home takes_it = let o : OwnerCell = owner_cell m
     let quiet = handler_has_not w home o h c takes_it in
     let x = in_home home o.out h.out c.out at_home quiet in
     let idle = with_idle w home o.stage h.stage h.last takes_it c.agrees in
-    let here : Agrees w (some x.0) o.stage Idle h.last = subst (λ (s : Handled). Agrees w (some x.0) o.stage s h.last) idle (subst (λ (y : Home). Agrees w y o.stage h.stage h.last) x.1 c.agrees) in
+    let here : CellAgrees w (some x.0) o.stage Idle h.last = subst (λ (s : Handled). CellAgrees w (some x.0) o.stage s h.last) idle (subst (λ (y : Home). CellAgrees w y o.stage h.stage h.last) x.1 c.agrees) in
     record {
       to = owning (with_own m.0 (found_in o.stage x.0 m.0.own)) i o.stage true;
       cell = record { stage = o.stage; out = true };
@@ -44,10 +44,10 @@ takes_out n id i m near side at_home takes_it = let o : OwnerCell = owner_cell m
     })
 
 -- the owner leaves the slot at home, in a stage that the handler's idleness allows
-pub owner_rests : (w n : ℕ) (home : Home) (x : Slot) (o : OwnerCell) (h : HandlerCell) (s : Owned) → Cell w home o h → OwnerTakes o.stage
-    → Agrees n (some x) s Idle h.last → Cell n (some x) (record { stage = s; out = false }) h
+pub owner_rests : (w n : ℕ) (home : Home) (x : SlotValue) (o : OwnerCell) (h : HandlerCell) (s : Owned) → Cell w home o h → OwnerTakes o.stage
+    → CellAgrees n (some x) s Idle h.last → Cell n (some x) (record { stage = s; out = false }) h
 owner_rests w n home x o h s c takes_it now = record {
-  agrees = subst (λ (z : Handled). Agrees n (some x) s z h.last) (sym (with_idle w home o.stage h.stage h.last takes_it c.agrees)) now;
+  agrees = subst (λ (z : Handled). CellAgrees n (some x) s z h.last) (sym (with_idle w home o.stage h.stage h.last takes_it c.agrees)) now;
   out = sym (handler_has_not w home o h c takes_it);
   owner_out = λ e. absurd (cc);
   handler_out = c.handler_out;
@@ -94,8 +94,8 @@ publishes n id i new t m near side at_home is_filled is = let o : OwnerCell = ow
     let quiet = handler_has_not w home o h c takes_it in
     let x = in_home home o.out h.out c.out at_home quiet in
     let idle = with_idle w home o.stage h.stage h.last takes_it c.agrees in
-    let here : Agrees w (some x.0) (Filled t) Idle h.last
-    = subst (λ (s : Owned). Agrees w (some x.0) s Idle h.last) is_filled (subst (λ (s : Handled). Agrees w (some x.0) o.stage s h.last) idle (subst (λ (y : Home). Agrees w y o.stage h.stage h.last) x.1 c.agrees)) in
+    let here : CellAgrees w (some x.0) (Filled t) Idle h.last
+    = subst (λ (s : Owned). CellAgrees w (some x.0) s Idle h.last) is_filled (subst (λ (s : Handled). CellAgrees w (some x.0) o.stage s h.last) idle (subst (λ (y : Home). CellAgrees w y o.stage h.stage h.last) x.1 c.agrees)) in
     let same : u ≡ t = omega arith in
     record {
       to = owning m.0 i (Pending u) false;
@@ -110,7 +110,7 @@ publishes n id i new t m near side at_home is_filled is = let o : OwnerCell = ow
       tells = refl;
     })
 
-by_stage : (w t : ℕ) (home : Home) (s : Handled) (last : Option Completion) → Agrees w home (Pending t) s last
+by_stage : (w t : ℕ) (home : Home) (s : Handled) (last : Option Completion) → CellAgrees w home (Pending t) s last
     → ((w ≡ 4 * t + 1) × ((s ≡ Idle) ⊎ (s ≡ Working t)) × AtHome (Holds t) home) ⊎ ((w ≡ 4 * t) × (s ≡ Idle) × AtHome (HoldsLast t last) home)
 by_stage w t home Idle last a = ⊎_elim (λ p. inl (p.0, inl refl, p.1)) (λ p. inr (p.0, refl, p.1)) a
 by_stage w t home (Working u) last a = inl (a.1, inr (ap Working a.0), a.2)
@@ -118,7 +118,7 @@ by_stage w t home (Reclaim u) last a = absurd a
 by_stage w t home (Reclaimed u) last a = absurd a
 
 -- a pending cell, as its word shows it
-pub pending_word : (w t : ℕ) (home : Home) (h : HandlerCell) → Agrees w home (Pending t) h.stage h.last
+pub pending_word : (w t : ℕ) (home : Home) (h : HandlerCell) → CellAgrees w home (Pending t) h.stage h.last
     → ((w ≡ 4 * t + 1) × ((h.stage ≡ Idle) ⊎ (h.stage ≡ Working t)) × AtHome (Holds t) home) ⊎ ((w ≡ 4 * t) × (h.stage ≡ Idle) × AtHome (HoldsLast t h.last) home)
 pending_word w t home h a = by_stage w t home h.stage h.last a
 
@@ -127,7 +127,7 @@ pending_is t u e = cc
 
 -- a pending cell that the owner keeps at home, in another stage
 pending_turns : (w n t : ℕ) (home : Home) (o : OwnerCell) (h : HandlerCell) (s : Owned) → Cell w home o h → o.stage ≡ Pending t
-    → Agrees n home s h.stage h.last → Cell n home (record { stage = s; out = false }) h
+    → CellAgrees n home s h.stage h.last → Cell n home (record { stage = s; out = false }) h
 pending_turns w n t home o h s c is now = record {
   agrees = now;
   out = subst (λ (b : Bool). is_out home ≡ (b || h.out)) (not_out o.out (λ e. subst OwnerTakes is (c.owner_out e))) c.out;
@@ -139,16 +139,16 @@ finds_done : (t : ℕ) (last : Option Completion) (home : Home) → AtHome (Hold
 finds_done t last none a = tt
 finds_done t last (some x) a = (a.0, a.1, a.2, a.3, a.4)
 
-as_pending : (w t : ℕ) (home : Home) (o : OwnerCell) (h : HandlerCell) → Cell w home o h → o.stage ≡ Pending t → Agrees w home (Pending t) h.stage h.last
-as_pending w t home o h c is = subst (λ (s : Owned). Agrees w home s h.stage h.last) is c.agrees
+as_pending : (w t : ℕ) (home : Home) (o : OwnerCell) (h : HandlerCell) → Cell w home o h → o.stage ≡ Pending t → CellAgrees w home (Pending t) h.stage h.last
+as_pending w t home o h c is = subst (λ (s : Owned). CellAgrees w home s h.stage h.last) is c.agrees
 
-mine_now : (n t : ℕ) (home : Home) (h : HandlerCell) → n ≡ 4 * t → h.stage ≡ Idle → AtHome (HoldsLast t h.last) home → Agrees n home (Mine t) h.stage h.last
-mine_now n t home h e idle a = subst (λ (s : Handled). Agrees n home (Mine t) s h.last) (sym idle) (e, finds_done t h.last home a)
+mine_now : (n t : ℕ) (home : Home) (h : HandlerCell) → n ≡ 4 * t → h.stage ≡ Idle → AtHome (HoldsLast t h.last) home → CellAgrees n home (Mine t) h.stage h.last
+mine_now n t home h e idle a = subst (λ (s : Handled). CellAgrees n home (Mine t) s h.last) (sym idle) (e, finds_done t h.last home a)
 
-left_now : (t : ℕ) (home : Home) (h : HandlerCell) → (h.stage ≡ Idle) ⊎ (h.stage ≡ Working t) → AtHome (Holds t) home → Agrees (4 * t + 2) home (Left t) h.stage h.last
+left_now : (t : ℕ) (home : Home) (h : HandlerCell) → (h.stage ≡ Idle) ⊎ (h.stage ≡ Working t) → AtHome (Holds t) home → CellAgrees (4 * t + 2) home (Left t) h.stage h.last
 left_now t home h e a = ⊎_elim
-    (λ (p : h.stage ≡ Idle). subst (λ (s : Handled). Agrees (4 * t + 2) home (Left t) s h.last) (sym p) (refl, a))
-    (λ (p : h.stage ≡ Working t). subst (λ (s : Handled). Agrees (4 * t + 2) home (Left t) s h.last) (sym p) (refl, refl, a)) e
+    (λ (p : h.stage ≡ Idle). subst (λ (s : Handled). CellAgrees (4 * t + 2) home (Left t) s h.last) (sym p) (refl, a))
+    (λ (p : h.stage ≡ Working t). subst (λ (s : Handled). CellAgrees (4 * t + 2) home (Left t) s h.last) (sym p) (refl, refl, a)) e
 
 pub looks : (n id i t : ℕ) (m : Sat) → i < 64 → m.0.side ≡ Owner → (owner_cell m.0 i).stage ≡ Pending t
     → Allows Rowed n id m i (λ y. y) (owner_looked (step n i 0 0 none) m)
@@ -196,7 +196,7 @@ abandons n id i old new t m near side is old_is new_is = let o : OwnerCell = own
       side = side;
       cells = refl;
       moves = refl;
-      keeps = pending_turns w new t home o h (Left t) c is (subst (λ (k : ℕ). Agrees k home (Left t) h.stage h.last) (sym new_is) (left_now t home h p.1 p.2));
+      keeps = pending_turns w new t home o h (Left t) c is (subst (λ (k : ℕ). CellAgrees k home (Left t) h.stage h.last) (sym new_is) (left_now t home h p.1 p.2));
       tells = λ u e. let same = pending_is t u (sym is ∙ e) in
           inl (p.0 ∙ ap (λ (k : ℕ). 4 * k + 1) same, ap (λ (k : ℕ). (owning m.0 i (Left k) false, m.1)) same);
     })
@@ -235,7 +235,7 @@ takes_it_back n id i new m near side takes_it has is = let o : OwnerCell = owner
     })
 
 -- the seat while the owner has the slot of the cell i out
-abbrev pub Has : ℕ → View → Owned → Slot → List (ℕ × Slot) → Sat → Type 0
+abbrev pub Has : ℕ → View → Owned → SlotValue → List (ℕ × SlotValue) → Sat → Type 0
 Has i v s x r m = m ≡ (owning v i s true, (i, x) ∷ r)
 
 pub owning_here : (v : View) (i : ℕ) (s : Owned) (b : Bool) → i < 64 → IsOwner v → owner_cell (owning v i s b) i ≡ record { stage = s; out = b }
@@ -245,36 +245,36 @@ has_it : (v : View) (i : ℕ) (s : Owned) → i < 64 → IsOwner v → OwnerTake
 has_it v i s near own k = subst (λ (c : OwnerCell). OwnerTakes c.stage) (sym (owning_here v i s true near own)) k
 
 -- another value is put into the slot
-pub put_in : (i : ℕ) (v : View) (s : Owned) (x y : Slot) (r : List (ℕ × Slot)) (m n : Sat) → Has i v s x r m → n ≡ (m.0, (i, y) ∷ rest m.1) → Has i v s y r n
+pub put_in : (i : ℕ) (v : View) (s : Owned) (x y : SlotValue) (r : List (ℕ × SlotValue)) (m n : Sat) → Has i v s x r m → n ≡ (m.0, (i, y) ∷ rest m.1) → Has i v s y r n
 put_in i v s x y r m n e f = f ∙ ap (λ (z : Sat). (z.0, (i, y) ∷ rest z.1)) e
 
 -- the slot went home, and the cell is at the stage t
-pub rested : (i : ℕ) (v : View) (s t : Owned) (x : Slot) (r : List (ℕ × Slot)) (m n : Sat) → Has i v s x r m → n ≡ (owning m.0 i t false, rest m.1) → n ≡ (owning v i t false, r)
+pub rested : (i : ℕ) (v : View) (s t : Owned) (x : SlotValue) (r : List (ℕ × SlotValue)) (m n : Sat) → Has i v s x r m → n ≡ (owning m.0 i t false, rest m.1) → n ≡ (owning v i t false, r)
 rested i v s t x r m n e f =
     f ∙ (ap (λ (z : Sat). (owning z.0 i t false, rest z.1)) e ∙ ap (λ (l : List OwnerCell). (record v { owner = l }, r)) (set-set v.owner i (record { stage = s; out = true }) (record { stage = t; out = false })))
 
 -- the same, where the value is a completion that the owner put in
-pub rested_own : (i : ℕ) (v : View) (s t : Owned) (x : Slot) (r : List (ℕ × Slot)) (m n : Sat) → Has i v s x r m → n ≡ (owning (with_own m.0 (completion_in m.1)) i t false, rest m.1)
+pub rested_own : (i : ℕ) (v : View) (s t : Owned) (x : SlotValue) (r : List (ℕ × SlotValue)) (m n : Sat) → Has i v s x r m → n ≡ (owning (with_own m.0 (completion_in m.1)) i t false, rest m.1)
     → n ≡ (owning (with_own v (slot_completion x)) i t false, r)
 rested_own i v s t x r m n e f =
     f ∙ (ap (λ (z : Sat). (owning (with_own z.0 (completion_in z.1)) i t false, rest z.1)) e
     ∙ ap (λ (l : List OwnerCell). (record v { owner = l; own = slot_completion x }, r)) (set-set v.owner i (record { stage = s; out = true }) (record { stage = t; out = false })))
 
 -- the value that is carried is the one that was taken out
-pub found : (i : ℕ) (v : View) (s : Owned) (x y : Slot) (r : List (ℕ × Slot)) (m : Sat) → Has i v s x r m → m.1 ≡ (i, y) ∷ rest m.1 → y ≡ x
-found i v s x y r m e f = ap (λ (l : List (ℕ × Slot)). (get_or l 0 (i, y)).1) (sym f ∙ ap (λ (z : Sat). z.1) e)
+pub found : (i : ℕ) (v : View) (s : Owned) (x y : SlotValue) (r : List (ℕ × SlotValue)) (m : Sat) → Has i v s x r m → m.1 ≡ (i, y) ∷ rest m.1 → y ≡ x
+found i v s x y r m e f = ap (λ (l : List (ℕ × SlotValue)). (get_or l 0 (i, y)).1) (sym f ∙ ap (λ (z : Sat). z.1) e)
 
-pub fills_out : (n id i new : ℕ) (m : Sat) (v : View) (r : List (ℕ × Slot)) (s : Owned) (x : Transfer) → Has i v s (Some x) r m → i < 64 → IsOwner v → OwnerTakes s → new ≡ 4 * x.ticket
+pub fills_out : (n id i new : ℕ) (m : Sat) (v : View) (r : List (ℕ × SlotValue)) (s : Owned) (x : Transfer) → Has i v s (Some x) r m → i < 64 → IsOwner v → OwnerTakes s → new ≡ 4 * x.ticket
     → Allows Rowed n id m i (λ _. new) (filled (step n i new 0 none) m)
 fills_out n id i new m v r s x e near own k is = subst (λ (z : Sat). Allows Rowed n id z i (λ _. new) (filled (step n i new 0 none) z)) (sym e)
     (fills n id i new x.ticket (owning v i s true, (i, Some x) ∷ r) x near own.0 (has_it v i s near own k) refl refl is)
 
-pub refuses_out : (n id i new : ℕ) (m : Sat) (v : View) (r : List (ℕ × Slot)) (s : Owned) (x : Transfer) (d : Completion) → Has i v s (Some x) r m → x.completion ≡ Some d → i < 64 → IsOwner v → OwnerTakes s → new ≡ 4 * x.ticket
+pub refuses_out : (n id i new : ℕ) (m : Sat) (v : View) (r : List (ℕ × SlotValue)) (s : Owned) (x : Transfer) (d : Completion) → Has i v s (Some x) r m → x.completion ≡ Some d → i < 64 → IsOwner v → OwnerTakes s → new ≡ 4 * x.ticket
     → Allows Rowed n id m i (λ _. new) (refused (step n i new 0 none) m)
 refuses_out n id i new m v r s x d e done near own k is = subst (λ (z : Sat). Allows Rowed n id z i (λ _. new) (refused (step n i new 0 none) z)) (sym e)
     (refuses n id i new x.ticket (owning v i s true, (i, Some x) ∷ r) x d near own.0 (has_it v i s near own k) refl refl done is)
 
-pub takes_back_out : (n id i new : ℕ) (m : Sat) (v : View) (r : List (ℕ × Slot)) (s : Owned) → Has i v s None r m → i < 64 → IsOwner v → OwnerTakes s → new % 4 ≡ 0
+pub takes_back_out : (n id i new : ℕ) (m : Sat) (v : View) (r : List (ℕ × SlotValue)) (s : Owned) → Has i v s None r m → i < 64 → IsOwner v → OwnerTakes s → new % 4 ≡ 0
     → Allows Rowed n id m i (λ _. new) (owner_took (step n i new 0 none) m)
 takes_back_out n id i new m v r s e near own k is = subst (λ (z : Sat). Allows Rowed n id z i (λ _. new) (owner_took (step n i new 0 none) z)) (sym e)
     (takes_it_back n id i new (owning v i s true, (i, None) ∷ r) near own.0 (has_it v i s near own k) refl is)

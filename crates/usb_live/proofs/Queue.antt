@@ -11,7 +11,7 @@ use Rattle.usb_live.specs.declared.entry.Entry.{Entry}
 use Rattle.usb_live.specs.Rows.{free_cell, stage_at}
 use Rattle.usb_live.specs.Rests.{AllFree}
 use Rattle.usb_live.specs.Seats.{OwnerState, owns, owner_looks, has_own}
-use Rattle.usb_live.specs.Live.{stage_of, placed, emptied, IsDropped, Off, In, Stands, Queued, IsLeft, Accounted, Orderly, Live}
+use Rattle.usb_live.specs.Live.{stage_of, placed, emptied, IsDropped, Off, In, LiesInCell, Queued, IsLeft, CellAccounted, Orderly, Live}
 use Rattle.usb_live.specs.Calls.{IsTaken, is_free, freed, up_to_end}
 use Rattle.usb_xfer.specs.declared.transfer.Completion.{Completion}
 use Rattle.usb_kernel.specs.declared.submission.Submitted.{Submitted}
@@ -39,9 +39,9 @@ pops v w q es e used now ok is cells marks =
       wide = ap length cells ∙ (length-set v.owner i free_cell ∙ ok.wide);
       long = ap length marks ∙ (length-set used i false ∙ ok.long);
       queued = subst (λ (z : List OwnerCell). Queued z es) (sym cells) (queue_keeps v.owner es i free_cell ok'.queued.1 ok'.queued.2);
-      accounted = λ j l. subst (λ (z : List OwnerCell). Accounted z es now j) (sym cells) (subst (λ (z : List Bool). Accounted after es z j) (sym marks)
+      accounted = λ j l. subst (λ (z : List OwnerCell). CellAccounted z es now j) (sym cells) (subst (λ (z : List Bool). CellAccounted after es z j) (sym marks)
           (dite (ℕ_discrete j i)
-          (λ same. subst (λ (k : ℕ). Accounted after es marked k) (sym same)
+          (λ same. subst (λ (k : ℕ). CellAccounted after es marked k) (sym same)
           (inl (get_or-set_same used i false true (omega (arith, ok.long)), ap (λ (x : OwnerCell). x.stage) (get_or-set_same v.owner i free_cell free_cell (omega (arith, ok.wide))))))
           (λ ne.
           let stage : stage_at after j ≡ stage_at v.owner j = ap (λ (x : OwnerCell). x.stage) (get_or-set_other v.owner i j free_cell free_cell ne) in
@@ -125,7 +125,7 @@ off_snoc : (q : List Entry) (e : Entry) (i : ℕ) → Off i q → i ≢ e.cell �
 off_snoc [] e i off n = (n, tt)
 off_snoc (x ∷ xs) e i off n = (off.0, off_snoc xs e i off.1 n)
 
-queue_snoc : (cells : List OwnerCell) (q : List Entry) (e : Entry) → Queued cells q → Stands cells e → Off e.cell q → Queued cells (q ++ e ∷ [])
+queue_snoc : (cells : List OwnerCell) (q : List Entry) (e : Entry) → Queued cells q → LiesInCell cells e → Off e.cell q → Queued cells (q ++ e ∷ [])
 queue_snoc cells [] e ok s off = (s, tt, tt)
 queue_snoc cells (x ∷ xs) e ok s off = (ok.0, off_snoc xs e x.cell ok.1 (λ z. off.0 (sym z)), queue_snoc cells xs e ok.2 s off.1)
 
@@ -148,9 +148,9 @@ pushes v w q r e used now c ok is cells marks near small free stage =
       long = ap length marks ∙ (length-set used i true ∙ ok.long);
       queued = subst (λ (z : List OwnerCell). Queued z r) (sym cells) (subst (Queued after) (sym is)
           (queue_snoc after q e (queue_keeps v.owner q i c (free_off v.owner q i ok.queued free) ok.queued) (near, small, here) (free_off v.owner q i ok.queued free)));
-      accounted = λ j l. subst (λ (z : List OwnerCell). Accounted z r now j) (sym cells) (subst (λ (z : List Entry). Accounted after z now j) (sym is) (subst (λ (z : List Bool). Accounted after all z j) (sym marks)
+      accounted = λ j l. subst (λ (z : List OwnerCell). CellAccounted z r now j) (sym cells) (subst (λ (z : List Entry). CellAccounted after z now j) (sym is) (subst (λ (z : List Bool). CellAccounted after all z j) (sym marks)
           (dite (ℕ_discrete j i)
-          (λ same. subst (λ (k : ℕ). Accounted after all marked k) (sym same) (inr (get_or-set_same used i true true (omega (arith, ok.long)), inr (in_last q e))))
+          (λ same. subst (λ (k : ℕ). CellAccounted after all marked k) (sym same) (inr (get_or-set_same used i true true (omega (arith, ok.long)), inr (in_last q e))))
           (λ ne.
           let at : stage_at after j ≡ stage_at v.owner j = ap (λ (x : OwnerCell). x.stage) (get_or-set_other v.owner i j c free_cell ne) in
           let mark : get_or marked j true ≡ get_or used j true = get_or-set_other used i j true true ne in
@@ -170,7 +170,7 @@ leaves v w q es e used now t ok is cells marks =
       wide = ap length cells ∙ (length-set v.owner i c ∙ ok.wide);
       long = ap length marks ∙ ok.long;
       queued = subst (λ (z : List OwnerCell). Queued z es) (sym cells) (queue_keeps v.owner es i c ok'.queued.1 ok'.queued.2);
-      accounted = λ j l. subst (λ (z : List OwnerCell). Accounted z es now j) (sym cells) (subst (λ (z : List Bool). Accounted after es z j) (sym marks)
+      accounted = λ j l. subst (λ (z : List OwnerCell). CellAccounted z es now j) (sym cells) (subst (λ (z : List Bool). CellAccounted after es z j) (sym marks)
           (dite (ℕ_discrete j i)
           (λ same. ⊎_elim
           (λ (p : (get_or used j true ≡ false) × (stage_at v.owner j ≡ Free)). absurd (in_queue v.owner (e ∷ es) j ok'.queued (inl same) p.1))
@@ -222,7 +222,7 @@ held : (e : Entry) (b : Bool) → is_free (cond b (Mine e.ticket) (Pending e.tic
 held e true = refl
 held e false = refl
 
-pub stands_held : (cells : List OwnerCell) (e : Entry) → Stands cells e → is_free (stage_at cells e.cell) ≡ false
+pub stands_held : (cells : List OwnerCell) (e : Entry) → LiesInCell cells e → is_free (stage_at cells e.cell) ≡ false
 stands_held cells e s = ap is_free s.2 ∙ held e e.refused
 
 -- one round of the end: the entry e is left or dropped

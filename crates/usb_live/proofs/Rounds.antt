@@ -8,7 +8,7 @@ use Rattle.usb_live.specs.declared.seats.CellStep.{CellStep}
 use Rattle.usb_live.specs.declared.seats.CellStep.TheVariants.{NotYet, Finished, Reclaimed, Empty}
 use Rattle.usb_live.specs.Answers.{StepTells, reclaimed_by}
 use Rattle.std.proofs.Math.Numerals.{add-one}
-use Rattle.usb_live.specs.Rounds.{steps_of, with_step, no_steps, StepsOn, AppendsReaps}
+use Rattle.usb_live.specs.Rounds.{steps_of, with_step, no_steps, StepsOnCells, AppendsReaps}
 
 pub one_step_more : (r s : Round) (x : CellStep) → s ≡ with_step r x → steps_of s ≡ steps_of r + 1
 one_step_more r s NotYet e = ap steps_of e ∙ (let a : (r.not_yet + 1) + r.finished + r.reclaimed + r.empty ≡ r.not_yet + r.finished + r.reclaimed + r.empty + 1 = omega arith in a)
@@ -45,14 +45,14 @@ appends_more r s Finished i v w j k l e t so_far = one_more _ _ (w.word / 4) j k
 appends_more r s Reclaimed i v w j k l e t so_far = one_more _ _ (w.word / 4) j k l so_far t.1.2.kernel
     (ap (λ (z : Round). z.finished + z.reclaimed) e ∙ (let a : ℕ = r.finished in let b : ℕ = r.reclaimed in let h : a + (b + 1) ≡ a + b + 1 = omega arith in h))
 
-pub no_step_yet : (v : View) (k : KernelState) (r : Round) → r ≡ no_steps → StepsOn 0 v k v k r
-unfolding StepsOn
+pub no_step_yet : (v : View) (k : KernelState) (r : Round) → r ≡ no_steps → StepsOnCells 0 v k v k r
+unfolding StepsOnCells
 no_step_yet v k r e = (refl, refl, e)
 
-next : (n : ℕ) (v u w : View) (k j l : KernelState) (q r : Round) (x : CellStep) → StepsOn n v k u j q → StepTells x n u j w l → r ≡ with_step q x → StepsOn (suc n) v k w l r
-unfolding StepsOn
+next : (n : ℕ) (v u w : View) (k j l : KernelState) (q r : Round) (x : CellStep) → StepsOnCells n v k u j q → StepTells x n u j w l → r ≡ with_step q x → StepsOnCells (suc n) v k w l r
+unfolding StepsOnCells
 next n v u w k j l q r x so_far step counted = (u, j, q, x, so_far, step, counted)
 
 -- a step on the next cell
-pub steps_on : (n : ℕ) (v u w : View) (k j l : KernelState) (q r : Round) (x : CellStep) → StepsOn n v k u j q → StepTells x n u j w l → r ≡ with_step q x → StepsOn (n + 1) v k w l r
-steps_on n v u w k j l q r x so_far step counted = subst (λ (m : ℕ). StepsOn m v k w l r) (sym (add-one n)) (next n v u w k j l q r x so_far step counted)
+pub steps_on : (n : ℕ) (v u w : View) (k j l : KernelState) (q r : Round) (x : CellStep) → StepsOnCells n v k u j q → StepTells x n u j w l → r ≡ with_step q x → StepsOnCells (n + 1) v k w l r
+steps_on n v u w k j l q r x so_far step counted = subst (λ (m : ℕ). StepsOnCells m v k w l r) (sym (add-one n)) (next n v u w k j l q r x so_far step counted)

@@ -14,7 +14,7 @@ use Rattle.usb_live.specs.declared.view.HandlerCell.{HandlerCell}
 use Rattle.usb_live.specs.declared.view.View.{View}
 use Rattle.usb_kernel.specs.Value.{KernelState}
 use Rattle.usb_live.specs.declared.seats.CellStep.{CellStep}
-use Rattle.usb_live.specs.Cells.{Slot}
+use Rattle.usb_live.specs.Cells.{SlotValue}
 use Rattle.usb_live.specs.Rows.{owner_cell, handler_cell, free_cell, idle_cell, owner_first, handler_first}
 use Rattle.usb_live.specs.Steps.{Sat, owning, handling, looked, MayFind}
 use Rattle.usb_live.specs.Seats.{IsOwner, IsHandler}
@@ -37,7 +37,7 @@ pub reclaimed_tells : (i r : ℕ) (v w : View) (k l : KernelState) (d : Completi
 reclaimed_tells i r v w k l d e n may reaped = subst (λ (z : View). StepTells CellStep.Reclaimed i v k z l) (sym e) ((n, may), (d, refl, reaped))
 
 -- a seat rests after a call that ends with one cell in another stage
-pub rests_on : (id : TableId) (s t : Seat Slot View) (i r : ℕ) (st : Handled) (last : Option Completion) → HandlerRests id s → i < 64 → t.table_id ≡ s.table_id
+pub rests_on : (id : TableId) (s t : Seat SlotValue View) (i r : ℕ) (st : Handled) (last : Option Completion) → HandlerRests id s → i < 64 → t.table_id ≡ s.table_id
     → t.me ≡ (looked (handling s.me.0 i st false last) i r, s.me.1) → HandlerIsDone st → HandlerRests id t
 rests_on id s t i r st last ok near same e done = let cs : List HandlerCell = set s.me.0.handler i (record { stage = st; out = false; last = last }) in
     let cells : t.me.0.handler ≡ cs = ap (λ (m : Sat). m.0.handler) e in
@@ -52,7 +52,7 @@ rests_on id s t i r st last ok near same e done = let cs : List HandlerCell = se
           (λ ne. subst HandlerCellRests (sym (get_or-set_other s.me.0.handler i j (record { stage = st; out = false; last = last }) idle_cell ne)) (ok.each j l)));
     }
 
-pub owner_begins : (id : TableId) (s : Seat Slot View) → s.table_id ≡ id → s.me ≡ (owner_first, []) → OwnerRests id s
+pub owner_begins : (id : TableId) (s : Seat SlotValue View) → s.table_id ≡ id → s.me ≡ (owner_first, []) → OwnerRests id s
 owner_begins id s same e = record {
   table = same;
   owner = subst (λ (m : Sat). IsOwner m.0) (sym e) (refl, length-replicate {A = OwnerCell} 64 free_cell);
@@ -60,7 +60,7 @@ owner_begins id s same e = record {
   each = λ i l. subst (λ (m : Sat). OwnerCellRests (owner_cell m.0 i)) (sym e) (subst OwnerCellRests (sym (get_or-replicate 64 i free_cell free_cell l)) (refl, tt));
 }
 
-pub handler_begins : (id : TableId) (s : Seat Slot View) → s.table_id ≡ id → s.me ≡ (handler_first, []) → HandlerRests id s
+pub handler_begins : (id : TableId) (s : Seat SlotValue View) → s.table_id ≡ id → s.me ≡ (handler_first, []) → HandlerRests id s
 handler_begins id s same e = record {
   table = same;
   handler = subst (λ (m : Sat). IsHandler m.0) (sym e) (refl, length-replicate {A = HandlerCell} 64 idle_cell);
@@ -69,12 +69,12 @@ handler_begins id s same e = record {
 }
 
 -- a look, and then a step that changes the same cell
-pub looked_then : (v : View) (i r : ℕ) (s t : Handled) (a b : Bool) (k l : Option Completion) (c : List (ℕ × Slot)) (m n : Sat)
+pub looked_then : (v : View) (i r : ℕ) (s t : Handled) (a b : Bool) (k l : Option Completion) (c : List (ℕ × SlotValue)) (m n : Sat)
     → m ≡ (looked (handling v i s a k) i r, c) → n ≡ (handling m.0 i t b l, m.1) → n ≡ (looked (handling v i t b l) i r, c)
 looked_then v i r s t a b k l c m n e f = f ∙ (ap (λ (z : Sat). (handling z.0 i t b l, z.1)) e ∙ ap (λ (w : View). (w, c)) (turned v i r s t a b k l))
 
 -- the completion that was put in last is still that one
-pub last_is : (v : View) (i r : ℕ) (s : Handled) (a : Bool) (k : Option Completion) (c : List (ℕ × Slot)) (m : Sat) → i < 64 → IsHandler v
+pub last_is : (v : View) (i r : ℕ) (s : Handled) (a : Bool) (k : Option Completion) (c : List (ℕ × SlotValue)) (m : Sat) → i < 64 → IsHandler v
     → m ≡ (looked (handling v i s a k) i r, c) → (handler_cell m.0 i).last ≡ k
 last_is v i r s a k c m near own e = ap (λ (z : Sat). (handler_cell z.0 i).last) e
     ∙ ap (λ (x : HandlerCell). x.last) (get_or-set_same v.handler i (record { stage = s; out = a; last = k }) idle_cell (omega (arith, own.1)))

@@ -15,7 +15,7 @@ use Rattle.usb_live.specs.Rests.{AllFree}
 use Rattle.usb_live.specs.Live.{Live, stage_of}
 use Rattle.usb_live.specs.Submits.{entry_of}
 use Rattle.usb_live.specs.Answers.{reclaimed_in}
-use Rattle.usb_live.specs.Calls.{up_to_end, IsSubmitted, IsTaken}
+use Rattle.usb_live.specs.Calls.{up_to_end, GetsCell, IsTaken}
 use Rattle.usb_live.specs.Runs.{CountsReclaims, IsIdle, HasOne, TakesAfterLooks}
 use Rattle.usb_live.proofs.Queue.{freed_cells, placed_cells}
 
@@ -35,7 +35,7 @@ counts_more v w u a b c r so_far cells is = record {
 }
 
 -- the one transfer that an idle endpoint was handed
-pub has_one : (s : Submitted) (t : ℕ) (x y : Live) → IsIdle x → IsSubmitted s t x y → HasOne x y
+pub has_one : (s : Submitted) (t : ℕ) (x y : Live) → IsIdle x → GetsCell s t x y → HasOne x y
 has_one s t x y idle to = let e : Entry = entry_of s to.cell in let c : OwnerCell = record { stage = stage_of e; out = false } in record {
   entry = e;
   queue = ap (λ (z : Live). z.queue) to.after ∙ ap (λ (q : List Entry). q ++ e ∷ []) idle.queue;

@@ -5,7 +5,8 @@ use Rattle.std.proofs.lemmas.Bool.{and_parts, eqb-true, ltb-true}
 use Rattle.usb_kernel.specs.declared.submission.Submission.{Submission}
 use Rattle.usb_kernel.specs.Submissions.{IsWhole}
 use Rattle.usb_kernel.proofs.Wholes.{whole-in}
-use Rattle.usb_live.specs.Submits.{is_whole, is_valid}
+use Rattle.usb_kernel.specs.WholePackets.{is_whole}
+use Rattle.usb_live.specs.Submits.{is_valid}
 
 times : (m n q : ℕ) → n ≡ m * q → 0 < q → ((q - 1) + 1) * m ≡ n
 times m n q is some = let e : (q - 1) + 1 ≡ q = omega arith in rw (e, is) (mul_comm q m)

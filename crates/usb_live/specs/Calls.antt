@@ -25,7 +25,7 @@ abbrev pub up_to_end : ℕ → ℕ
 up_to_end n = min n 18446744073709551615
 
 -- a free cell got the transfer, which stands at the end of the queue
-pub record IsSubmitted (s : Submitted) (t : ℕ) (x y : Live) : Type 0 where
+pub record GetsCell (s : Submitted) (t : ℕ) (x y : Live) : Type 0 where
   pub cell : ℕ
   pub below : cell < 64
   pub free : stage_at x.seat.view.owner cell ≡ Free
@@ -40,7 +40,7 @@ pub record IsSubmitted (s : Submitted) (t : ℕ) (x y : Live) : Type 0 where
 -- Ok: the transfer is submitted, and the kernel has its Submit or Refuse. Full: each cell is occupied. Memory: some cell is free
 abbrev pub SubmitTells : Result ℕ LiveError → BufferState → Live → KernelState → Live → KernelState → Type 0
 SubmitTells (Ok t) b x k y l =
-    IsSubmitted (submitted k (submission_of x.route b)) t x y × (l ≡ after_submitted k (submission_of x.route b))
+    GetsCell (submitted k (submission_of x.route b)) t x y × (l ≡ after_submitted k (submission_of x.route b))
 SubmitTells (Err (Full c)) b x k y l = (c ≡ b) × (y ≡ x) × (l ≡ k) × ((i : ℕ) → i < 64 → stage_at x.seat.view.owner i ≢ Free)
 SubmitTells (Err (Memory c)) b x k y l = (c ≡ b) × (y ≡ x) × (l ≡ k) × ((i : ℕ) × (i < 64) × (stage_at x.seat.view.owner i ≡ Free))
 

@@ -39,9 +39,9 @@ emptied s e done = has_own (cond e.refused (owns s e.cell Free) (owner_looks (ow
 abbrev pub IsDropped : Entry → OwnerState → OwnerState → Type 0
 IsDropped e s t = (done : Completion) × (t ≡ has_own (owns s e.cell Free) done)
 
--- an entry stands at its cell
-abbrev pub Stands : List OwnerCell → Entry → Type 0
-Stands cells e = (e.cell < 64) × (e.ticket < 2 ^ 62) × (stage_at cells e.cell ≡ stage_of e)
+-- the transfer of an entry lies in its cell
+abbrev pub LiesInCell : List OwnerCell → Entry → Type 0
+LiesInCell cells e = (e.cell < 64) × (e.ticket < 2 ^ 62) × (stage_at cells e.cell ≡ stage_of e)
 
 -- the cell i is that of no entry
 abbrev pub Off : ℕ → List Entry → Type 0
@@ -53,10 +53,10 @@ abbrev pub In : ℕ → List Entry → Type 0
 In i [] = ⊥
 In i (e ∷ es) = (i ≡ e.cell) ⊎ In i es
 
--- each entry stands at a cell of its own
+-- the transfer of each entry lies in a cell of its own
 abbrev pub Queued : List OwnerCell → List Entry → Type 0
 Queued cells [] = Unit {0}
-Queued cells (e ∷ es) = Stands cells e × Off e.cell es × Queued cells es
+Queued cells (e ∷ es) = LiesInCell cells e × Off e.cell es × Queued cells es
 
 -- the owner left the cell to the handler
 abbrev pub IsLeft : Owned → Type 0
@@ -64,8 +64,8 @@ IsLeft (Left t) = Unit {0}
 IsLeft _ = ⊥
 
 -- a cell is free and not used; or it is used, and left or in the queue
-abbrev pub Accounted : List OwnerCell → List Entry → List Bool → ℕ → Type 0
-Accounted cells q used i =
+abbrev pub CellAccounted : List OwnerCell → List Entry → List Bool → ℕ → Type 0
+CellAccounted cells q used i =
     ((slice_index_or used i true ≡ false) × (stage_at cells i ≡ Free))
     ⊎ ((slice_index_or used i true ≡ true) × (IsLeft (stage_at cells i) ⊎ In i q))
 
@@ -74,4 +74,4 @@ pub record Orderly (v : View) (q : List Entry) (used : List Bool) : Type 0 where
   pub wide : length v.owner ≡ 64
   pub long : length used ≡ 64
   pub queued : Queued v.owner q
-  pub accounted : (i : ℕ) → i < 64 → Accounted v.owner q used i
+  pub accounted : (i : ℕ) → i < 64 → CellAccounted v.owner q used i

@@ -9,7 +9,7 @@ use Rattle.usb_live.specs.declared.view.Handled.{Handled}
 use Rattle.usb_live.specs.declared.view.Handled.TheVariants.{Reclaim}
 use Rattle.usb_live.specs.declared.view.OwnerCell.{OwnerCell}
 use Rattle.usb_live.specs.declared.view.HandlerCell.{HandlerCell}
-use Rattle.usb_live.specs.Cells.{Slot}
+use Rattle.usb_live.specs.Cells.{SlotValue}
 use Rattle.usb_live.specs.Rows.{owner_cell, handler_cell, stage_at}
 use Rattle.usb_live.specs.Seats.{IsOwner, IsHandler}
 
@@ -26,7 +26,7 @@ abbrev pub OwnerCellRests : OwnerCell → Type 0
 OwnerCellRests c = (c.out ≡ false) × IsSmall c.stage
 
 -- the owner between its steps
-pub record OwnerRests (id : TableId) (s : Seat Slot View) : Type 0 where
+pub record OwnerRests (id : TableId) (s : Seat SlotValue View) : Type 0 where
   pub table : s.table_id ≡ id
   pub owner : IsOwner s.me.0
   pub carries : s.me.1 ≡ []
@@ -42,7 +42,7 @@ abbrev pub HandlerCellRests : HandlerCell → Type 0
 HandlerCellRests c = (c.out ≡ false) × HandlerIsDone c.stage
 
 -- the handler between its steps
-pub record HandlerRests (id : TableId) (s : Seat Slot View) : Type 0 where
+pub record HandlerRests (id : TableId) (s : Seat SlotValue View) : Type 0 where
   pub table : s.table_id ≡ id
   pub handler : IsHandler s.me.0
   pub carries : s.me.1 ≡ []
@@ -58,6 +58,6 @@ pub record IsUnused (v : View) : Type 0 where
   pub free : AllFree v.owner
 
 -- the owner's seat before an endpoint takes it
-pub record IsUnusedSeat (id : TableId) (s : Seat Slot View) : Type 0 where
+pub record IsUnusedSeat (id : TableId) (s : Seat SlotValue View) : Type 0 where
   pub rests : OwnerRests id s
   pub unused : IsUnused s.me.0

@@ -23,10 +23,10 @@ abbrev pub no_steps : Round
 no_steps = record { not_yet = 0; finished = 0; reclaimed = 0; empty = 0 }
 
 -- one step on each of the first n cells, from the first on: of the view and the kernel before, both after, and the count of the answers
-unfoldable pub StepsOn : ℕ → View → KernelState → View → KernelState → Round → Type 0
-StepsOn zero v k w l r = (w ≡ v) × (l ≡ k) × (r ≡ no_steps)
-StepsOn (suc n) v k w l r =
-    (u : View) × (j : KernelState) × (q : Round) × (x : CellStep) × StepsOn n v k u j q × StepTells x n u j w l × (r ≡ with_step q x)
+unfoldable pub StepsOnCells : ℕ → View → KernelState → View → KernelState → Round → Type 0
+StepsOnCells zero v k w l r = (w ≡ v) × (l ≡ k) × (r ≡ no_steps)
+StepsOnCells (suc n) v k w l r =
+    (u : View) × (j : KernelState) × (q : Round) × (x : CellStep) × StepsOnCells n v k u j q × StepTells x n u j w l × (r ≡ with_step q x)
 
 -- the journal has the reaps of so many tickets more, and nothing else of the kernel changed
 pub record AppendsReaps (n : ℕ) (k l : KernelState) : Type 0 where

@@ -9,7 +9,7 @@ use Rattle.usb_live.specs.declared.view.Side.TheVariants.{Both, Owner, Handler}
 use Rattle.usb_live.specs.declared.view.Owned.{Owned}
 use Rattle.usb_live.specs.declared.view.Owned.TheVariants.{Free}
 use Rattle.usb_live.specs.declared.view.Handled.TheVariants.{Idle}
-use Rattle.usb_live.specs.Cells.{Slot, Home, Cell}
+use Rattle.usb_live.specs.Cells.{SlotValue, Home, Cell}
 
 -- a free cell, as the owner sees it
 abbrev pub free_cell : OwnerCell
@@ -44,7 +44,7 @@ handler_first = record { side = Handler; owner = []; handler = replicate 64 idle
 
 -- a row as its table has it: the words, the slots at home and the views of the seats
 abbrev pub St : Type 0
-St = State Slot View
+St = State SlotValue View
 
 -- before the two seats are made, each cell is free
 abbrev pub One : List ℕ → List Home → List View → Type 0

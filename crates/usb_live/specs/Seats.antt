@@ -7,7 +7,7 @@ use Rattle.usb_live.specs.declared.view.View.{View}
 use Rattle.usb_live.specs.declared.view.Side.TheVariants.{Owner, Handler}
 use Rattle.usb_live.specs.declared.view.Owned.{Owned}
 use Rattle.usb_live.specs.declared.view.Handled.{Handled}
-use Rattle.usb_live.specs.Cells.{Slot}
+use Rattle.usb_live.specs.Cells.{SlotValue}
 use Rattle.usb_live.specs.Rows.{owner_cell, handler_cell}
 use Rattle.usb_live.specs.Steps.{owning, looked, with_own}
 
@@ -20,11 +20,11 @@ abbrev pub IsHandler : View → Type 0
 IsHandler v = (v.side ≡ Handler) × (length v.handler ≡ 64)
 
 -- the owner's seat of this row
-abbrev pub IsOwnerOf : TableId → Seat Slot View → Type 0
+abbrev pub IsOwnerOf : TableId → Seat SlotValue View → Type 0
 IsOwnerOf row s = (s.table_id ≡ row) × IsOwner s.me.0
 
 -- the handler's seat of this row
-abbrev pub IsHandlerOf : TableId → Seat Slot View → Type 0
+abbrev pub IsHandlerOf : TableId → Seat SlotValue View → Type 0
 IsHandlerOf row s = (s.table_id ≡ row) × IsHandler s.me.0
 
 -- the owner has the cell i at this stage, and its slot is not out
@@ -36,7 +36,7 @@ abbrev pub HandlerHas : View → ℕ → Handled → Type 0
 HandlerHas v i stage = (i < 64) × ((handler_cell v i).out ≡ false) × ((handler_cell v i).stage ≡ stage)
 
 -- a step changes neither the row of a seat nor its number
-abbrev pub IsSameSeat : Seat Slot View → Seat Slot View → Type 0
+abbrev pub IsSameSeat : Seat SlotValue View → Seat SlotValue View → Type 0
 IsSameSeat s t = (t.table_id ≡ s.table_id) × (t.id ≡ s.id)
 
 -- a seat as its holder sees it: the row that it is of, and what the holder knows

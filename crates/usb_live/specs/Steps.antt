@@ -7,16 +7,16 @@ use Rattle.usb_live.specs.declared.view.Owned.TheVariants.{Free, Filled, Mine, P
 use Rattle.usb_live.specs.declared.view.Handled.{Handled}
 use Rattle.usb_live.specs.declared.view.Handled.TheVariants.{Idle, Working, Reclaim, Reclaimed}
 use Rattle.usb_live.specs.declared.view.View.{View}
-use Rattle.usb_live.specs.Cells.{Slot, IsEmpty, Holds, HoldsDone, HoldsLast}
+use Rattle.usb_live.specs.Cells.{SlotValue, IsEmpty, Holds, HoldsDone, HoldsLast}
 use Rattle.usb_live.specs.Rows.{owner_cell, handler_cell}
 
 -- a seat: what it knows, and the slots that it has out, each with its cell
 abbrev pub Sat : Type 0
-Sat = Me Slot View
+Sat = Me SlotValue View
 
 -- what a step tells
 abbrev pub Tells : Type 1
-Tells = Step Slot → Sat → ℕ → Sat → Type 0
+Tells = Step SlotValue → Sat → ℕ → Sat → Type 0
 
 -- the owner's view with the cell i at another stage
 abbrev pub owning : View → ℕ → Owned → Bool → View
@@ -31,12 +31,12 @@ abbrev pub looked : View → ℕ → ℕ → View
 looked v i w = record v { looks = v.looks + 1; cell = i; word = w }
 
 -- the completion in a slot
-abbrev pub slot_completion : Slot → Option Completion
+abbrev pub slot_completion : SlotValue → Option Completion
 slot_completion None = None
 slot_completion (Some y) = y.completion
 
 -- the completion in the slot that was taken last
-abbrev pub completion_in : List (ℕ × Slot) → Option Completion
+abbrev pub completion_in : List (ℕ × SlotValue) → Option Completion
 completion_in [] = None
 completion_in (x ∷ xs) = slot_completion x.1
 
@@ -45,18 +45,18 @@ abbrev pub with_own : View → Option Completion → View
 with_own v own = record v { own = own }
 
 -- that completion once the owner took a slot out: the one in the slot, where the transfer there has ended
-abbrev pub found_in : Owned → Slot → Option Completion → Option Completion
+abbrev pub found_in : Owned → SlotValue → Option Completion → Option Completion
 found_in (Mine t) x own = slot_completion x
 found_in _ x own = own
 
 -- what the owner finds in a slot that it takes out
-abbrev pub OwnerFinds : Owned → Slot → Type 0
+abbrev pub OwnerFinds : Owned → SlotValue → Type 0
 OwnerFinds Free x = IsEmpty x
 OwnerFinds (Mine t) x = HoldsDone t x
 OwnerFinds _ x = Unit {0}
 
 -- and what the handler finds
-abbrev pub HandlerFinds : Handled → Option Completion → Slot → Type 0
+abbrev pub HandlerFinds : Handled → Option Completion → SlotValue → Type 0
 HandlerFinds (Working t) last x = Holds t x
 HandlerFinds (Reclaim t) last x = HoldsLast t last x
 HandlerFinds _ last x = Unit {0}
@@ -64,7 +64,7 @@ HandlerFinds _ last x = Unit {0}
 -- the owner has the slot out
 abbrev pub owner_took_out : Tells
 owner_took_out st m r n = let stage : Owned = (owner_cell m.0 st.word).stage in
-    (x : Slot) × (n ≡ (owning (with_own m.0 (found_in stage x m.0.own)) st.word stage true, (st.word, x) ∷ m.1)) × OwnerFinds stage x
+    (x : SlotValue) × (n ≡ (owning (with_own m.0 (found_in stage x m.0.own)) st.word stage true, (st.word, x) ∷ m.1)) × OwnerFinds stage x
 
 -- the slot went home with a transfer
 abbrev pub filled : Tells
@@ -95,7 +95,7 @@ owner_took st m r n = n ≡ (owning m.0 st.word Free false, rest m.1)
 -- the handler has the slot out
 abbrev pub handler_took_out : Tells
 handler_took_out st m r n = let c = handler_cell m.0 st.word in
-    (x : Slot) × (n ≡ (handling m.0 st.word c.stage true c.last, (st.word, x) ∷ m.1)) × HandlerFinds c.stage c.last x
+    (x : SlotValue) × (n ≡ (handling m.0 st.word c.stage true c.last, (st.word, x) ∷ m.1)) × HandlerFinds c.stage c.last x
 
 -- the words that the handler may find at a stage
 abbrev pub MayFind : Handled → ℕ → Type 0

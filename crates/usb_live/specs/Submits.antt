@@ -1,15 +1,12 @@
 -- What an endpoint hands in, and what the kernel makes of it.
-use Rattle.std.specs.Prelude.{ℕ, ◌%◌, Bool, true, false, nat_lt, ◌==◌, ◌||◌, ◌&&◌, if◌then◌else◌}
+use Rattle.std.specs.Prelude.{ℕ, Bool, true, false, nat_lt, ◌||◌, if◌then◌else◌}
 use Rattle.usb_kernel.specs.declared.submission.Submission.{Submission}
 use Rattle.usb_kernel.specs.declared.submission.Submitted.{Submitted}
 use Rattle.usb_kernel.specs.declared.submission.Submitted.TheVariants.{Queued, Refused}
 use Rattle.usb_kernel.specs.Submits.{submit_result, kernel_submitted, refuse_result, kernel_refused, number_of}
 use Rattle.usb_kernel.specs.Value.{KernelState}
+use Rattle.usb_kernel.specs.WholePackets.{is_whole}
 use Rattle.usb_live.specs.declared.entry.Entry.{Entry}
-
--- a length in whole packets, at least one
-abbrev pub is_whole : ℕ → ℕ → Bool
-is_whole maximum n = nat_lt 0 maximum && (nat_lt 0 n && n % maximum == 0)
 
 -- an IN endpoint, which has bit 7, is asked for whole packets. An OUT endpoint sends any bytes
 abbrev pub is_valid : Submission → Bool

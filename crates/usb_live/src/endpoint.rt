@@ -8,7 +8,7 @@ ghost use Rattle.usb_live.specs.Rows.{owner_cell};
 ghost use Rattle.usb_live.specs.Seats.{OwnerState, owner_in, owns, owner_looks, has_own, hears};
 ghost use Rattle.usb_bus.specs.Routes.{submission_of};
 ghost use Rattle.usb_live.specs.Submits.{is_valid, submitted, after_submitted, entry_of};
-ghost use Rattle.usb_live.specs.Live.{Stands, IsDropped, placed};
+ghost use Rattle.usb_live.specs.Live.{LiesInCell, IsDropped, placed};
 
 use crate::entry::{Entry, LiveError, Receipt, Tally};
 use crate::seats::{Owner, OwnerSeat};
@@ -18,11 +18,8 @@ use std::collections::VecDeque;
 use std::marker::Model;
 use std::sync::Wait;
 use usb_bus::{Route, completion_from};
-use usb_kernel::{Kernel, Submission, Submitted};
+use usb_kernel::{Kernel, Submission, Submitted, errno};
 use usb_xfer::{Buffer, Notify};
-
-/// EINVAL, the errno of a submission that no device can serve.
-const INVALID: u16 = 22;
 
 /// A queue of transfers that lie in the cells of a row. `close` ends it: an endpoint is never dropped.
 pub struct LiveEndpoint<'a> {
@@ -83,7 +80,7 @@ fn enter(kernel: &mut Kernel, s: Submission) -> Result<Submitted, Submission>
     if is_valid(&s) {
         kernel.submit(s)
     } else {
-        kernel.refuse(s, INVALID)
+        kernel.refuse(s, errno::INVAL)
     }
 }
 
@@ -117,7 +114,7 @@ fn place(seat: &mut Owner<'_>, cell: usize, submitted: Submitted) -> Entry
 
 /// Whether the handler is done with an entry. A refused one was never its own.
 fn is_done(seat: &mut Owner<'_>, e: Entry) -> bool
-    requires stands { Stands seat.old.view.owner e }
+    requires stands { LiesInCell seat.old.view.owner e }
     ensures looked { MatchBool result
         (seat.new ≡ cond e.refused seat.old
         (owner_looks (owns seat.old e.cell (Mine e.ticket)) e.cell (4 * e.ticket)))
@@ -162,7 +159,7 @@ fn free_cell(used: &[bool; 64]) -> Option<usize>
 
 /// Leaves an entry to the handler, or drops it where the handler is done with it. Says how many were dropped.
 fn give_up(seat: &mut Owner<'_>, used: &mut [bool; 64], e: Entry) -> u64
-    requires cell { Stands seat.old.view.owner e }
+    requires cell { LiesInCell seat.old.view.owner e }
     requires used { (length used.old ≡ 64) × (length seat.old.view.owner ≡ 64) }
     ensures given_up { ((result ≡ 1) × IsDropped e seat.old seat.new
         × (used.new ≡ slice_set used.old e.cell false))

@@ -43,12 +43,12 @@ impl Round {
 
 impl HandlerSeat {
     ghost use Rattle.usb_live.specs.Answers.{reclaimed_in};
-    ghost use Rattle.usb_live.specs.Rounds.{StepsOn, AppendsReaps};
+    ghost use Rattle.usb_live.specs.Rounds.{StepsOnCells, AppendsReaps};
 
     /// One step on each cell, from the first to the last.
     pub fn round(&mut self, kernel: &mut Kernel) -> Round
         ensures row { self.new.row ≡ self.old.row }
-        ensures each { StepsOn 64 self.old.view kernel.old self.new.view kernel.new result }
+        ensures each { StepsOnCells 64 self.old.view kernel.old self.new.view kernel.new result }
         ensures steps { steps_of result ≡ 64 }
         ensures looks { self.new.view.looks ≡ self.old.view.looks + 64 }
         ensures count { reclaimed_in self.new.view.handler
