@@ -1,6 +1,6 @@
 //! What enumeration tells of a device.
 
-ghost use Rattle.std.specs.Prelude.{◌≡◌, IfOk, IfErr, OnOk, string_bytes, ◌++◌, ◌∷◌, [], ◌+◌, ◌<◌};
+ghost use Rattle.std.specs.Prelude.{◌≡◌, IfOk, IfErr, IfNone, IsOk, OnOk, OnErr, string_bytes, ◌++◌, ◌∷◌, [], ◌+◌, ◌<◌};
 ghost use Rattle.std.specs.Option.{option_map};
 ghost use Rattle.usb_desc.specs.declared.error.Fail.TheVariants.{Memory};
 ghost use Rattle.usb_enum.specs.Devices.{bus_id_of, id_of};
@@ -193,8 +193,10 @@ impl DeviceInfo {
 
     /// A copy of `manufacturer_string`. Nothing but memory can be wanting.
     pub fn get_manufacturer_string(&self) -> Result<Option<String>, Fail<Error>>
-        ensures text { IfOk result (λ t. option_map (λ s. string_bytes s) t ≡ self.now.manufacturer) }
+        ensures text { IfOk result
+            (λ t. option_map (λ s. string_bytes s) t ≡ self.now.manufacturer) }
         ensures memory { IfErr result (λ error. error ≡ Memory) }
+        ensures absent { IfNone self.now.manufacturer (IsOk result) }
     {
         string_of(&self.manufacturer)
     }
@@ -203,6 +205,7 @@ impl DeviceInfo {
     pub fn get_product_string(&self) -> Result<Option<String>, Fail<Error>>
         ensures text { IfOk result (λ t. option_map (λ s. string_bytes s) t ≡ self.now.product) }
         ensures memory { IfErr result (λ error. error ≡ Memory) }
+        ensures absent { IfNone self.now.product (IsOk result) }
     {
         string_of(&self.product)
     }
@@ -211,6 +214,7 @@ impl DeviceInfo {
     pub fn get_serial_number_string(&self) -> Result<Option<String>, Fail<Error>>
         ensures text { IfOk result (λ t. option_map (λ s. string_bytes s) t ≡ self.now.serial) }
         ensures memory { IfErr result (λ error. error ≡ Memory) }
+        ensures absent { IfNone self.now.serial (IsOk result) }
     {
         string_of(&self.serial)
     }
@@ -237,7 +241,9 @@ pub fn bus_id(alloc: Global, busnum: u8) -> Result<Text, NoMemory>
 /// Adds a decimal digit.
 fn push_digit(text: &mut String, digit: u8) -> Result<(), NoMemory>
     requires { digit < 10 }
-    ensures text { OnOk result (string_bytes text.new ≡ string_bytes text.old ++ (48 + digit) ∷ []) }
+    ensures text { OnOk result
+        (string_bytes text.new ≡ string_bytes text.old ++ (48 + digit) ∷ []) }
+    ensures err { OnErr result (string_bytes text.new ≡ string_bytes text.old) }
 {
     match text.push(char::from(b'0' + digit)) {
         Ok(()) => Ok(()),

@@ -64,7 +64,8 @@ pub fn list_root_hubs(alloc: Global, tree: &AttrTree) -> Result<Vec<DeviceInfo>,
 
 /// What is of this kind in the listing, or why there is no listing.
 fn list(alloc: Global, tree: &AttrTree, kind: Kind) -> Result<Vec<DeviceInfo>, Fail<Error>>
-    ensures tried { Tried (result_map (λ v. v.items) result) (listed kind tree.now tree.now.refusal) }
+    ensures tried { Tried (result_map (λ v. v.items) result)
+        (listed kind tree.now tree.now.refusal) }
 {
     if let Some(errno) = tree.refusal() {
         return Err(Fail::Cause(Error::listing(errno)));
@@ -77,7 +78,8 @@ fn list(alloc: Global, tree: &AttrTree, kind: Kind) -> Result<Vec<DeviceInfo>, F
 
 /// The devices of this kind that the entries of the listing lead to.
 fn find_devices(alloc: Global, tree: &AttrTree, kind: Kind) -> Result<Vec<DeviceInfo>, NoMemory>
-    ensures devices { IfOk result (λ v. v.items ≡ filter_map (device_at kind tree.now) tree.now.entries) }
+    ensures devices { IfOk result
+        (λ v. v.items ≡ filter_map (device_at kind tree.now) tree.now.entries) }
 {
     let mut found = Vec::new(alloc);
     for (name, path) in tree.entries() {

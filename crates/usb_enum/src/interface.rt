@@ -1,6 +1,6 @@
 //! What enumeration tells of an interface.
 
-ghost use Rattle.std.specs.Prelude.{◌≡◌, IfOk, IfErr, string_bytes};
+ghost use Rattle.std.specs.Prelude.{◌≡◌, IfOk, IfErr, IfNone, IsOk, string_bytes};
 ghost use Rattle.std.specs.Option.{option_map};
 ghost use Rattle.usb_desc.specs.declared.error.Fail.TheVariants.{Memory};
 
@@ -73,6 +73,7 @@ impl InterfaceInfo {
     pub fn get_interface_string(&self) -> Result<Option<String>, Fail<Error>>
         ensures text { IfOk result (λ t. option_map (λ s. string_bytes s) t ≡ self.now.name) }
         ensures memory { IfErr result (λ error. error ≡ Memory) }
+        ensures absent { IfNone self.now.name (IsOk result) }
     {
         string_of(&self.name)
     }
@@ -82,6 +83,7 @@ impl InterfaceInfo {
 pub fn string_of(text: &Option<Text>) -> Result<Option<String>, Fail<Error>>
     ensures text { IfOk result (λ t. option_map (λ s. string_bytes s) t ≡ text.now) }
     ensures memory { IfErr result (λ error. error ≡ Memory) }
+    ensures absent { IfNone text.now (IsOk result) }
 {
     match text {
         None => Ok(None),

@@ -63,7 +63,8 @@ impl DeviceSelector {
 
     /// The same, with this vendor and product.
     pub fn with_vid_pid(mut self, vendor_id: u16, product_id: u16) -> DeviceSelector
-        ensures selector { result ≡ record self { vendor_id = Some vendor_id; product_id = Some product_id } }
+        ensures selector { result
+            ≡ record self { vendor_id = Some vendor_id; product_id = Some product_id } }
     {
         self.vendor_id = Some(vendor_id);
         self.product_id = Some(product_id);

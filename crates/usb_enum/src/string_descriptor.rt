@@ -1,6 +1,6 @@
 //! String descriptors that the tree keeps.
 
-ghost use Rattle.std.specs.Prelude.{◌≡◌, IfOk, IfErr, string_bytes};
+ghost use Rattle.std.specs.Prelude.{◌≡◌, IfOk, IfErr, IfNone, IsOk, string_bytes};
 ghost use Rattle.std.specs.Option.{option_map};
 ghost use Rattle.usb_desc.specs.declared.error.Fail.TheVariants.{Memory};
 
@@ -33,6 +33,7 @@ impl StringDescriptor {
     pub fn fetch(&self) -> Result<Option<String>, Fail<Error>>
         ensures text { IfOk result (λ t. option_map (λ s. string_bytes s) t ≡ text_of self.now) }
         ensures memory { IfErr result (λ error. error ≡ Memory) }
+        ensures absent { IfNone (text_of self.now) (IsOk result) }
     {
         match self {
             StringDescriptor::NotPresent => Ok(None),

@@ -1,9 +1,9 @@
 //! Trees, listings and packets, with answers worked out by hand.
 
 use crate::{
-    AttrTree, BusInfo, DeviceInfo, DeviceSelector, HotplugEvent, HotplugWatch, InterfaceInfo,
-    Speed, StringDescriptor, SysfsErrorKind, SysfsPath, UdevPacket, UsbControllerType, list_buses,
-    list_devices, list_root_hubs, probe_device, request_device, watch_devices,
+    AttrTree, BusInfo, DeviceInfo, DeviceSelector, HotplugEvent, HotplugWatch, Speed,
+    StringDescriptor, SysfsError, SysfsErrorKind, SysfsPath, UdevPacket, UsbControllerType,
+    list_buses, list_devices, list_root_hubs, probe_device, request_device, watch_devices,
 };
 use futures::task::Poll;
 use std::alloc::Global;
@@ -11,76 +11,104 @@ use std::collections::VecDeque;
 use std::process::Abort;
 use std::test::Fail;
 use usb_desc::NoMemory;
+use usb_error::Error;
 use usb_kernel::Bytes;
 
 const BOX: &str = "/sys/devices/pci0/usb1/1-6";
 
 const HUB: &str = "/sys/devices/pci0/usb1";
 
-fn set_device(tree: &mut AttrTree, path: &str, rows: [(&str, &str); 5]) -> Result<(), NoMemory> {
-    for (name, value) in rows {
-        tree.attr(path, name, value.as_bytes())?;
-    }
-    let same = [
-        ("busnum", "1"),
-        ("bcdDevice", "0100"),
-        ("version", " 2.00\n"),
-        ("bDeviceClass", "00"),
-        ("bDeviceSubClass", "00"),
-        ("bDeviceProtocol", "00"),
-        ("speed", "480"),
-    ];
-    for (name, value) in same {
-        tree.attr(path, name, value.as_bytes())?;
-    }
-    Ok(())
-}
-
 const INTERFACE: &str = "/sys/devices/pci0/usb1/1-6/1-6:1.0";
 
-fn set_interface(tree: &mut AttrTree) -> Result<(), NoMemory> {
-    tree.child(BOX, "1-6:1.0")?;
-    for (name, value) in [
-        ("bInterfaceNumber", "00"),
-        ("bInterfaceClass", "ff"),
-        ("bInterfaceSubClass", "00"),
-        ("bInterfaceProtocol", "00"),
-    ] {
-        tree.attr(INTERFACE, name, value.as_bytes())?;
-    }
-    Ok(())
-}
+/// The attributes of the box, of its interface and of the root hub: folders, names and values.
+const ATTRIBUTES: [(&str, &str, &str); 28] = [
+    (BOX, "busnum", "1"),
+    (BOX, "devnum", "6"),
+    (BOX, "devpath", "6"),
+    (BOX, "idVendor", "aaaa"),
+    (BOX, "idProduct", "bbbb"),
+    (BOX, "product", "Box"),
+    (BOX, "bcdDevice", "0100"),
+    (BOX, "version", " 2.00\n"),
+    (BOX, "bDeviceClass", "00"),
+    (BOX, "bDeviceSubClass", "00"),
+    (BOX, "bDeviceProtocol", "00"),
+    (BOX, "speed", "480"),
+    (INTERFACE, "bInterfaceNumber", "00"),
+    (INTERFACE, "bInterfaceClass", "ff"),
+    (INTERFACE, "bInterfaceSubClass", "00"),
+    (INTERFACE, "bInterfaceProtocol", "00"),
+    (HUB, "busnum", "1"),
+    (HUB, "devnum", "1"),
+    (HUB, "devpath", "0"),
+    (HUB, "idVendor", "1d6b"),
+    (HUB, "idProduct", "0002"),
+    (HUB, "product", "xHCI"),
+    (HUB, "bcdDevice", "0100"),
+    (HUB, "version", " 2.00\n"),
+    (HUB, "bDeviceClass", "00"),
+    (HUB, "bDeviceSubClass", "00"),
+    (HUB, "bDeviceProtocol", "00"),
+    (HUB, "speed", "480"),
+];
 
-fn set_bus(tree: &mut AttrTree) -> Result<(), NoMemory> {
-    tree.entry("1-6", BOX)?;
-    tree.entry("1-6.4.2", "/sys/none")?;
-    tree.entry("usb1", HUB)?;
-    tree.entry("1-6:1.0", INTERFACE)?;
-    tree.link("/sys/devices/pci0", "driver", "../bus/pci/drivers/xhci_hcd")?;
-    let rows = [
-        ("devnum", "6"),
-        ("devpath", "6"),
-        ("idVendor", "aaaa"),
-        ("idProduct", "bbbb"),
-        ("product", "Box"),
-    ];
-    set_device(tree, BOX, rows)?;
-    set_interface(tree)?;
-    let rows = [
-        ("devnum", "1"),
-        ("devpath", "0"),
-        ("idVendor", "1d6b"),
-        ("idProduct", "0002"),
-        ("product", "xHCI"),
-    ];
-    set_device(tree, HUB, rows)
-}
+/// The listing: names, and the folders to which they lead.
+const ENTRIES: [(&str, &str); 4] = [
+    ("1-6", BOX),
+    ("1-6.4.2", "/sys/none"),
+    ("usb1", HUB),
+    ("1-6:1.0", INTERFACE),
+];
 
 /// A bus with its root hub, and one device with one interface.
-fn one_bus(alloc: Global) -> Result<AttrTree, NoMemory> {
+fn set_bus(tree: &mut AttrTree) -> Result<(), NoMemory> {
+    for (folder, name, value) in ATTRIBUTES {
+        tree.attr(folder, name, value.as_bytes())?;
+    }
+    for (name, folder) in ENTRIES {
+        tree.entry(name, folder)?;
+    }
+    tree.child(BOX, "1-6:1.0")?;
+    tree.link("/sys/devices/pci0", "driver", "../bus/pci/drivers/xhci_hcd")
+}
+
+/// What is compared on a bus.
+#[derive(Clone, Copy)]
+enum Case {
+    Listings,
+    Device,
+    Order,
+    Refusals,
+    Requests,
+    Matches,
+    Events,
+    Silence,
+}
+
+fn expect_case(
+    rt: &impl Abort,
+    alloc: Global,
+    tree: &mut AttrTree,
+    case: Case,
+) -> Result<(), Fail> {
+    set_bus(tree)?;
+    match case {
+        Case::Listings => expect_listings(rt, alloc, tree),
+        Case::Device => expect_probed(rt, alloc, tree),
+        Case::Order => expect_order(rt, alloc, tree),
+        Case::Refusals => expect_refusals(rt, alloc, tree),
+        Case::Requests => expect_requests(rt, alloc, tree),
+        Case::Matches => expect_matches(rt, alloc, tree),
+        Case::Events => expect_watched(rt, alloc, tree),
+        Case::Silence => expect_no_event(rt, alloc, tree),
+    }
+}
+
+/// Compares this on a bus with its root hub, and one device with one interface. The tree is owned
+/// here alone, since each function that owns one is slow to prove.
+fn expect(rt: &impl Abort, alloc: Global, case: Case) -> Result<(), Fail> {
     let mut tree = AttrTree::new(alloc);
-    set_bus(&mut tree)?;
-    Ok(tree)
+    expect_case(rt, alloc, &mut tree, case)
 }
 
 fn path(alloc: Global, text: &str) -> Result<SysfsPath, Fail> {
@@ -91,36 +119,48 @@ fn probed(alloc: Global, tree: &AttrTree, folder: &str) -> Result<DeviceInfo, Fa
     Ok(probe_device(alloc, tree, path(alloc, folder)?)?)
 }
 
-fn expect_listings(rt: &impl Abort, alloc: Global, tree: &AttrTree) -> Result<(), Fail> {
-    let devices = list_devices(alloc, tree)?;
+/// Compares the folder of the only device of a listing.
+fn expect_only(rt: &impl Abort, devices: &[DeviceInfo], folder: &str) {
     assert_eq!(rt; devices.len(), 1);
-    assert_eq!(rt; devices[0].sysfs_path(), BOX);
-    let hubs = list_root_hubs(alloc, tree)?;
-    assert_eq!(rt; hubs.len(), 1);
-    assert_eq!(rt; hubs[0].sysfs_path(), HUB);
+    assert_eq!(rt; devices[0].sysfs_path(), folder);
+}
+
+fn expect_devices(rt: &impl Abort, alloc: Global, tree: &AttrTree) -> Result<(), Fail> {
+    let devices = list_devices(alloc, tree)?;
+    expect_only(rt, &devices, BOX);
     Ok(())
 }
 
-fn expect_bus(rt: &impl Abort, bus: &BusInfo) -> Result<(), Fail> {
+fn expect_hubs(rt: &impl Abort, alloc: Global, tree: &AttrTree) -> Result<(), Fail> {
+    let hubs = list_root_hubs(alloc, tree)?;
+    expect_only(rt, &hubs, HUB);
+    Ok(())
+}
+
+fn expect_bus(rt: &impl Abort, bus: &BusInfo) {
     assert_eq!(rt; (bus.sysfs_path(), bus.bus_id()), (HUB, "001"));
     assert_eq!(rt; (bus.busnum(), bus.root_hub().vendor_id()), (1, 0x1d6b));
     assert_eq!(rt; bus.controller_type(), Some(UsbControllerType::XHCI));
-    assert_eq!(rt; bus.driver().ok_or("no driver")?, "xhci_hcd");
-    assert_eq!(rt; bus.system_name().ok_or("no name")?, "xHCI");
-    Ok(())
+    assert_eq!(rt; bus.driver(), Some("xhci_hcd"));
+    assert_eq!(rt; bus.system_name(), Some("xHCI"));
 }
 
 fn expect_buses(rt: &impl Abort, alloc: Global, tree: &AttrTree) -> Result<(), Fail> {
     let buses = list_buses(alloc, tree)?;
     assert_eq!(rt; buses.len(), 1);
-    expect_bus(rt, &buses[0])
+    expect_bus(rt, &buses[0]);
+    Ok(())
+}
+
+fn expect_listings(rt: &impl Abort, alloc: Global, tree: &AttrTree) -> Result<(), Fail> {
+    expect_devices(rt, alloc, tree)?;
+    expect_hubs(rt, alloc, tree)?;
+    expect_buses(rt, alloc, tree)
 }
 
 #[test]
 fn a_bus_and_its_device_are_listed(rt: HostRuntime) -> Result<(), Fail> {
-    let tree = one_bus(rt.alloc())?;
-    expect_listings(&rt, rt.alloc(), &tree)?;
-    expect_buses(&rt, rt.alloc(), &tree)
+    expect(&rt, rt.alloc(), Case::Listings)
 }
 
 fn expect_numbers(rt: &impl Abort, found: &DeviceInfo) {
@@ -135,79 +175,95 @@ fn expect_numbers(rt: &impl Abort, found: &DeviceInfo) {
     assert_eq!(rt; found.speed(), Some(Speed::High));
 }
 
-fn expect_strings(rt: &impl Abort, found: &DeviceInfo) -> Result<(), Fail> {
-    assert!(rt; found.get_manufacturer_string()?.is_none());
-    assert!(rt; found.get_serial_number_string()?.is_none());
-    let product = found.get_product_string()?.ok_or("no product")?;
-    assert_eq!(rt; product.as_str(), "Box");
+/// Compares a text that was read.
+fn expect_text(
+    rt: &impl Abort,
+    read: Result<Option<String>, usb_desc::Fail<Error>>,
+    wanted: Option<&str>,
+) -> Result<(), Fail> {
+    let text = read?;
+    assert_eq!(rt; text.as_ref().map(|text| text.as_str()), wanted);
     Ok(())
 }
 
-fn expect_interface(rt: &impl Abort, found: &InterfaceInfo) -> Result<(), Fail> {
-    assert_eq!(rt; (found.interface_number(), found.class()), (0, 255));
-    assert!(rt; found.get_interface_string()?.is_none());
-    Ok(())
+fn expect_strings(rt: &impl Abort, found: &DeviceInfo) -> Result<(), Fail> {
+    expect_text(rt, found.get_manufacturer_string(), None)?;
+    expect_text(rt, found.get_serial_number_string(), None)?;
+    expect_text(rt, found.get_product_string(), Some("Box"))
+}
+
+fn expect_interface(rt: &impl Abort, found: &DeviceInfo) -> Result<(), Fail> {
+    let interface = found.interfaces().last().ok_or("no interface")?;
+    assert_eq!(rt; (interface.interface_number(), interface.class()), (0, 255));
+    expect_text(rt, interface.get_interface_string(), None)
+}
+
+fn expect_device(rt: &impl Abort, found: &DeviceInfo) -> Result<(), Fail> {
+    expect_numbers(rt, found);
+    expect_strings(rt, found)?;
+    expect_interface(rt, found)
+}
+
+fn expect_probed(rt: &impl Abort, alloc: Global, tree: &AttrTree) -> Result<(), Fail> {
+    let found = probed(alloc, tree, BOX)?;
+    expect_device(rt, &found)
 }
 
 #[test]
 fn a_probed_device_tells_what_its_folder_holds(rt: HostRuntime) -> Result<(), Fail> {
-    let tree = one_bus(rt.alloc())?;
-    let found = probed(rt.alloc(), &tree, BOX)?;
-    expect_numbers(&rt, &found);
-    expect_strings(&rt, &found)?;
-    let interface = found.interfaces().last().ok_or("no interface")?;
-    expect_interface(&rt, interface)
+    expect(&rt, rt.alloc(), Case::Device)
 }
 
-/// Adds a sub-folder with the attributes of an interface.
-fn add_interface<'t>(
-    alloc: Global,
-    tree: &mut AttrTree,
-    name: &'t str,
-    number: &'t str,
-    class: &'t str,
-) -> Result<(), Fail> {
-    tree.child(BOX, name)?;
-    let folder = format!(in alloc; "{BOX}/{name}")?;
-    let rows: [(&'t str, &'t str); 4] = [
-        ("bInterfaceNumber", number),
-        ("bInterfaceClass", class),
-        ("bInterfaceSubClass", "00"),
-        ("bInterfaceProtocol", "00"),
-    ];
-    for (attribute, value) in rows {
-        tree.attr(folder.as_str(), attribute, value.as_bytes())?;
+/// Attributes of sub-folders: the folders, the attributes' names and their values.
+const SUB_FOLDERS: [(&str, &str, &str); 15] = [
+    ("/sys/devices/pci0/usb1/1-6/z:0", "bInterfaceNumber", "02"),
+    ("/sys/devices/pci0/usb1/1-6/z:0", "bInterfaceClass", "01"),
+    ("/sys/devices/pci0/usb1/1-6/z:0", "bInterfaceSubClass", "00"),
+    ("/sys/devices/pci0/usb1/1-6/z:0", "bInterfaceProtocol", "00"),
+    ("/sys/devices/pci0/usb1/1-6/z:0", "interface", "z:0"),
+    ("/sys/devices/pci0/usb1/1-6/b:0", "bInterfaceNumber", "01"),
+    ("/sys/devices/pci0/usb1/1-6/b:0", "bInterfaceClass", "02"),
+    ("/sys/devices/pci0/usb1/1-6/b:0", "bInterfaceSubClass", "00"),
+    ("/sys/devices/pci0/usb1/1-6/b:0", "bInterfaceProtocol", "00"),
+    ("/sys/devices/pci0/usb1/1-6/b:0", "interface", "b:0"),
+    ("/sys/devices/pci0/usb1/1-6/a:0", "bInterfaceNumber", "0x01"),
+    ("/sys/devices/pci0/usb1/1-6/a:0", "bInterfaceClass", "03"),
+    ("/sys/devices/pci0/usb1/1-6/a:0", "bInterfaceSubClass", "00"),
+    ("/sys/devices/pci0/usb1/1-6/a:0", "bInterfaceProtocol", "00"),
+    ("/sys/devices/pci0/usb1/1-6/a:0", "interface", "a:0"),
+];
+
+/// Adds three interfaces, and two sub-folders that are none.
+fn add_interfaces(tree: &mut AttrTree) -> Result<(), NoMemory> {
+    for name in ["z:0", "b:0", "a:0", "power", "c:0"] {
+        tree.child(BOX, name)?;
     }
-    Ok(tree.attr(folder.as_str(), "interface", name.as_bytes())?)
-}
-
-fn add_interfaces(alloc: Global, tree: &mut AttrTree) -> Result<(), Fail> {
-    add_interface(alloc, tree, "z:0", "02", "01")?;
-    add_interface(alloc, tree, "b:0", "01", "02")?;
-    add_interface(alloc, tree, "a:0", "0x01", "03")?;
-    tree.child(BOX, "power")?;
-    tree.child(BOX, "c:0")?;
+    for (folder, name, value) in SUB_FOLDERS {
+        tree.attr(folder, name, value.as_bytes())?;
+    }
     Ok(())
 }
 
-fn expect_classes(rt: &impl Abort, alloc: Global, found: &DeviceInfo) -> Result<(), Fail> {
-    let mut classes = Vec::new(alloc);
-    for interface in found.interfaces() {
-        classes.push(interface.class())?;
-    }
-    assert_eq!(rt; classes.as_slice(), [255, 3, 2, 1].as_slice());
-    let last = found.interfaces().last().ok_or("no interface")?;
-    let name = last.get_interface_string()?.ok_or("no name")?;
-    assert_eq!(rt; name.as_str(), "z:0");
-    Ok(())
+fn expect_classes(rt: &impl Abort, found: &DeviceInfo) -> Result<(), Fail> {
+    let [a, b, c, d] = found.interfaces() else {
+        return Err("not four interfaces".into());
+    };
+    assert_eq!(rt;
+        [a.class(), b.class(), c.class(), d.class()],
+        [255, 3, 2, 1]
+    );
+    expect_text(rt, d.get_interface_string(), Some("z:0"))
+}
+
+fn expect_order(rt: &impl Abort, alloc: Global, tree: &mut AttrTree) -> Result<(), Fail> {
+    add_interfaces(tree)?;
+    let found = probed(alloc, tree, BOX)?;
+    expect_classes(rt, &found)
 }
 
 #[test]
 fn interfaces_rise_by_number_and_then_by_folder(rt: HostRuntime) -> Result<(), Fail> {
-    let mut tree = one_bus(rt.alloc())?;
-    add_interfaces(rt.alloc(), &mut tree)?;
-    let found = probed(rt.alloc(), &tree, BOX)?;
-    expect_classes(&rt, rt.alloc(), &found)
+    expect(&rt, rt.alloc(), Case::Order)
 }
 
 #[test]
@@ -228,6 +284,23 @@ fn drivers_tell_the_kinds_of_controllers(rt: HostRuntime) {
     }
 }
 
+/// Why a folder is not probed.
+fn refusal(alloc: Global, tree: &AttrTree, folder: &str) -> Result<SysfsError, Fail> {
+    let path = path(alloc, folder)?;
+    let Err(usb_desc::Fail::Cause(error)) = probe_device(alloc, tree, path) else {
+        return Err("it was probed".into());
+    };
+    Ok(error)
+}
+
+fn expect_error(rt: &impl Abort, error: &SysfsError, name: &str, errno: u16, text: &str) {
+    assert_eq!(rt; error.path.as_str(), name);
+    match &error.kind {
+        SysfsErrorKind::Io(code) => assert_eq!(rt; *code, errno, "of {name}"),
+        SysfsErrorKind::Parse(value) => assert_eq!(rt; value.as_str(), text, "of {name}"),
+    }
+}
+
 fn expect_refusal(
     rt: &impl Abort,
     alloc: Global,
@@ -237,15 +310,14 @@ fn expect_refusal(
     errno: u16,
     text: &str,
 ) -> Result<(), Fail> {
-    let path = path(alloc, folder)?;
-    let Err(usb_desc::Fail::Cause(error)) = probe_device(alloc, tree, path) else {
-        return Err("it was probed".into());
-    };
-    assert_eq!(rt; error.path.as_str(), name);
-    match &error.kind {
-        SysfsErrorKind::Io(code) => assert_eq!(rt; *code, errno, "of {name}"),
-        SysfsErrorKind::Parse(value) => assert_eq!(rt; value.as_str(), text, "of {name}"),
-    }
+    let error = refusal(alloc, tree, folder)?;
+    expect_error(rt, &error, name, errno, text);
+    Ok(())
+}
+
+fn expect_no_device(rt: &impl Abort, alloc: Global, tree: &AttrTree) -> Result<(), Fail> {
+    let devices = list_devices(alloc, tree)?;
+    assert_eq!(rt; devices.len(), 0);
     Ok(())
 }
 
@@ -260,40 +332,44 @@ fn expect_refusals(rt: &impl Abort, alloc: Global, tree: &mut AttrTree) -> Resul
     tree.attr(BOX, "busnum", b"256")?;
     let busnum = "/sys/devices/pci0/usb1/1-6/busnum";
     expect_refusal(rt, alloc, tree, BOX, busnum, 0, "256")?;
-    let devices = list_devices(alloc, tree)?;
-    assert_eq!(rt; devices.len(), 0);
-    Ok(())
+    expect_no_device(rt, alloc, tree)
 }
 
 #[test]
 fn the_first_attribute_that_fails_is_named(rt: HostRuntime) -> Result<(), Fail> {
-    let mut tree = one_bus(rt.alloc())?;
-    expect_refusals(&rt, rt.alloc(), &mut tree)
+    expect(&rt, rt.alloc(), Case::Refusals)
+}
+
+/// Why there is no listing of buses.
+fn no_listing(alloc: Global, tree: &AttrTree) -> Result<Error, Fail> {
+    let Err(usb_desc::Fail::Cause(error)) = list_buses(alloc, tree) else {
+        return Err("it was listed".into());
+    };
+    Ok(error)
 }
 
 fn expect_no_listing(
     rt: &impl Abort,
     alloc: Global,
-    tree: &mut AttrTree,
-    errno: u16,
+    tree: &AttrTree,
     text: &str,
 ) -> Result<(), Fail> {
-    tree.fail_listing(errno)?;
-    let Err(usb_desc::Fail::Cause(error)) = list_buses(alloc, tree) else {
-        return Err("it was listed".into());
-    };
-    let shown = error.to_string(alloc)?;
+    let shown = no_listing(alloc, tree)?.to_string(alloc)?;
     assert_eq!(rt; shown.as_str(), text);
     Ok(())
 }
 
 fn expect_no_listings(rt: &impl Abort, alloc: Global, tree: &mut AttrTree) -> Result<(), Fail> {
-    let text = "/sys/bus/usb/devices/ not found (errno 2)";
-    expect_no_listing(rt, alloc, tree, 2, text)?;
-    let text = "/sys/bus/usb/devices/ permission denied (errno 13)";
-    expect_no_listing(rt, alloc, tree, 13, text)?;
-    let text = "failed to open /sys/bus/usb/devices/ (errno 5)";
-    expect_no_listing(rt, alloc, tree, 5, text)
+    let rows = [
+        (2, "/sys/bus/usb/devices/ not found (errno 2)"),
+        (13, "/sys/bus/usb/devices/ permission denied (errno 13)"),
+        (5, "failed to open /sys/bus/usb/devices/ (errno 5)"),
+    ];
+    for (errno, text) in rows {
+        tree.fail_listing(errno);
+        expect_no_listing(rt, alloc, tree, text)?;
+    }
+    Ok(())
 }
 
 #[test]
@@ -302,22 +378,40 @@ fn a_refused_listing_names_its_errno(rt: HostRuntime) -> Result<(), Fail> {
     expect_no_listings(&rt, rt.alloc(), &mut tree)
 }
 
+/// The address of the device that is found.
+fn requested(
+    alloc: Global,
+    tree: &AttrTree,
+    wanted: &[DeviceSelector],
+) -> Result<Option<u8>, usb_desc::Fail<Error>> {
+    match request_device(alloc, tree, wanted)? {
+        Some(device) => Ok(Some(device.device_address())),
+        None => Ok(None),
+    }
+}
+
+fn expect_found(
+    rt: &impl Abort,
+    alloc: Global,
+    tree: &AttrTree,
+    wanted: &[DeviceSelector; 2],
+) -> Result<(), Fail> {
+    assert_eq!(rt; requested(alloc, tree, wanted)?, Some(6));
+    assert_eq!(rt; requested(alloc, tree, &wanted[..1])?, None);
+    Ok(())
+}
+
 fn expect_requests(rt: &impl Abort, alloc: Global, tree: &AttrTree) -> Result<(), Fail> {
     let wanted = [
         DeviceSelector::all().with_class(3),
         DeviceSelector::all().with_vid_pid(0xaaaa, 0xbbbb),
     ];
-    let found = request_device(alloc, tree, &wanted)?.ok_or("no device")?;
-    assert_eq!(rt; found.device_address(), 6);
-    let none = request_device(alloc, tree, &wanted[..1])?;
-    assert!(rt; none.is_none());
-    Ok(())
+    expect_found(rt, alloc, tree, &wanted)
 }
 
 #[test]
 fn one_of_the_selectors_finds_the_device(rt: HostRuntime) -> Result<(), Fail> {
-    let tree = one_bus(rt.alloc())?;
-    expect_requests(&rt, rt.alloc(), &tree)
+    expect(&rt, rt.alloc(), Case::Requests)
 }
 
 /// Compares whether the device is one that is asked for.
@@ -325,7 +419,7 @@ fn expect_match(rt: &impl Abort, device: &DeviceInfo, asked: DeviceSelector, fou
     assert_eq!(rt; device.matches(&asked), found);
 }
 
-fn expect_matches(rt: &impl Abort, alloc: Global, device: &DeviceInfo) -> Result<(), Fail> {
+fn expect_codes(rt: &impl Abort, device: &DeviceInfo) {
     expect_match(rt, device, DeviceSelector::default(), true);
     expect_match(rt, device, DeviceSelector::all().with_vid(0xaaaa), true);
     let other = DeviceSelector::all().with_vid_pid(0xaaaa, 0xbbbc);
@@ -337,44 +431,83 @@ fn expect_matches(rt: &impl Abort, alloc: Global, device: &DeviceInfo) -> Result
     expect_match(rt, device, interface, true);
     let interface = DeviceSelector::all().with_class_subclass_protocol(0xff, 0, 1);
     expect_match(rt, device, interface, false);
-    let serial = String::from_str(alloc, "12")?;
-    let numbered = DeviceSelector::all().with_serial_number(serial);
-    assert_eq!(rt; numbered.serial_number(), Some("12"));
-    expect_match(rt, device, numbered, true);
-    let serial = String::from_str(alloc, "12\n")?;
-    let untrimmed = DeviceSelector::all().with_serial_number(serial);
-    expect_match(rt, device, untrimmed, false);
+}
+
+/// Compares whether the device has this serial number.
+fn expect_serial(
+    rt: &impl Abort,
+    alloc: Global,
+    device: &DeviceInfo,
+    serial: &str,
+    found: bool,
+) -> Result<(), Fail> {
+    let asked = DeviceSelector::all().with_serial_number(String::from_str(alloc, serial)?);
+    assert_eq!(rt; asked.serial_number(), Some(serial));
+    assert_eq!(rt; device.matches(&asked), found);
     Ok(())
+}
+
+fn expect_serials(rt: &impl Abort, alloc: Global, device: &DeviceInfo) -> Result<(), Fail> {
+    expect_serial(rt, alloc, device, "12", true)?;
+    expect_serial(rt, alloc, device, "12\n", false)
+}
+
+fn expect_matches(rt: &impl Abort, alloc: Global, tree: &mut AttrTree) -> Result<(), Fail> {
+    tree.attr(BOX, "serial", b"12\n")?;
+    let device = probed(alloc, tree, BOX)?;
+    expect_codes(rt, &device);
+    expect_serials(rt, alloc, &device)
 }
 
 #[test]
 fn all_that_is_asked_has_to_match(rt: HostRuntime) -> Result<(), Fail> {
-    let mut tree = one_bus(rt.alloc())?;
-    tree.attr(BOX, "serial", b"12\n")?;
-    let device = probed(rt.alloc(), &tree, BOX)?;
-    expect_matches(&rt, rt.alloc(), &device)
+    expect(&rt, rt.alloc(), Case::Matches)
+}
+
+fn expect_kept(rt: &impl Abort, kept: &StringDescriptor) -> Result<(), Fail> {
+    assert_eq!(rt; kept.cached(), Some("Box"));
+    expect_text(rt, kept.fetch(), Some("Box"))
 }
 
 #[test]
 fn a_string_descriptor_is_kept_or_there_is_none(rt: HostRuntime) -> Result<(), Fail> {
-    assert!(rt; StringDescriptor::NotPresent.fetch()?.is_none());
+    expect_text(&rt, StringDescriptor::NotPresent.fetch(), None)?;
     let kept = StringDescriptor::Cached(String::from_str(rt.alloc(), "Box")?);
-    assert_eq!(rt; kept.cached().ok_or("no text")?, "Box");
-    let copy = kept.fetch()?.ok_or("no text")?;
-    assert_eq!(rt; copy.as_str(), "Box");
-    Ok(())
+    expect_kept(&rt, &kept)
 }
 
-/// A packet whose properties begin at byte 24 and have this length, with these properties.
+/// The first bytes of a packet whose properties begin at byte 24.
+const HEADER: &[u8] = b"libudev\0\xfe\xed\xca\xfe\x18\0\0\0\x18\0\0\0";
+
+/// Writes a packet with these properties, and with this as their length.
+fn write_packet(bytes: &mut Vec<u8>, len: u8, properties: &[u8]) -> Result<(), Fail> {
+    bytes.extend_from_slice(HEADER)?;
+    bytes.extend_from_slice(&[len, 0, 0, 0])?;
+    Ok(bytes.extend_from_slice(properties)?)
+}
+
 fn packet(alloc: Global, groups: u32, len: u8, properties: &[u8]) -> Result<UdevPacket, Fail> {
     let mut bytes = Vec::new(alloc);
-    bytes.extend_from_slice(b"libudev\0\xfe\xed\xca\xfe\x18\0\0\0\x18\0\0\0")?;
-    bytes.extend_from_slice(&[len, 0, 0, 0])?;
-    bytes.extend_from_slice(properties)?;
+    write_packet(&mut bytes, len, properties)?;
     Ok(UdevPacket {
         groups,
         bytes: Bytes::from_vec(bytes),
     })
+}
+
+/// One more packet.
+fn send(
+    alloc: Global,
+    packets: &mut VecDeque<UdevPacket>,
+    groups: u32,
+    len: u8,
+    properties: &[u8],
+) -> Result<(), Fail> {
+    let packet = packet(alloc, groups, len, properties)?;
+    match packets.push_back(packet) {
+        Ok(()) => Ok(()),
+        Err(_) => Err("no memory".into()),
+    }
 }
 
 const REMOVED: &[u8] = b"ACTION=remove\0BUSNUM=001\0DEVNUM=006\0DEVPATH=/d\0";
@@ -382,26 +515,79 @@ const REMOVED: &[u8] = b"ACTION=remove\0BUSNUM=001\0DEVNUM=006\0DEVPATH=/d\0";
 const ADDED: &[u8] =
     b"ACTION=remove\0ACTION=add\0BUSNUM=1\0DEVNUM=7\0DEVNUM=6\0DEVPATH=//devices/pci0/usb1/1-6";
 
-fn expect_events(rt: &impl Abort, tree: &AttrTree, watch: &mut HotplugWatch) -> Result<(), Fail> {
-    let Poll::Ready(HotplugEvent::Disconnected(id)) = watch.poll_next(tree)? else {
+/// Compares that a device went.
+fn expect_gone(rt: &impl Abort, event: &Poll<HotplugEvent>) -> Result<(), Fail> {
+    let Poll::Ready(HotplugEvent::Disconnected(id)) = event else {
         return Err("no device went".into());
     };
     assert_eq!(rt; (id.bus(), id.address()), (1, 6));
-    let Poll::Ready(HotplugEvent::Connected(device)) = watch.poll_next(tree)? else {
+    Ok(())
+}
+
+/// Compares that the box came.
+fn expect_come(rt: &impl Abort, event: &Poll<HotplugEvent>) -> Result<(), Fail> {
+    let Poll::Ready(HotplugEvent::Connected(device)) = event else {
         return Err("no device came".into());
     };
     assert_eq!(rt; device.sysfs_path(), BOX);
     Ok(())
 }
 
+fn expect_first(rt: &impl Abort, tree: &AttrTree, watch: &mut HotplugWatch) -> Result<(), Fail> {
+    let event = watch.poll_next(tree)?;
+    expect_gone(rt, &event)
+}
+
+fn expect_second(rt: &impl Abort, tree: &AttrTree, watch: &mut HotplugWatch) -> Result<(), Fail> {
+    let event = watch.poll_next(tree)?;
+    expect_come(rt, &event)
+}
+
+fn expect_events(rt: &impl Abort, tree: &AttrTree, watch: &mut HotplugWatch) -> Result<(), Fail> {
+    expect_first(rt, tree, watch)?;
+    expect_second(rt, tree, watch)
+}
+
+fn two_packets(alloc: Global) -> Result<HotplugWatch, Fail> {
+    let mut packets = VecDeque::new(alloc);
+    send(alloc, &mut packets, 2, 0x2f, REMOVED)?;
+    send(alloc, &mut packets, 2, 0x53, ADDED)?;
+    Ok(watch_devices(alloc, packets))
+}
+
+fn expect_watched(rt: &impl Abort, alloc: Global, tree: &AttrTree) -> Result<(), Fail> {
+    let mut watch = two_packets(alloc)?;
+    expect_events(rt, tree, &mut watch)
+}
+
 #[test]
 fn packets_tell_of_devices_that_come_and_go(rt: HostRuntime) -> Result<(), Fail> {
-    let mut packets = VecDeque::new(rt.alloc());
-    packets.push_back(packet(rt.alloc(), 2, 0x2f, REMOVED)?)?;
-    packets.push_back(packet(rt.alloc(), 2, 0x53, ADDED)?)?;
-    let mut watch = watch_devices(rt.alloc(), packets);
-    let tree = one_bus(rt.alloc())?;
-    expect_events(&rt, &tree, &mut watch)
+    expect(&rt, rt.alloc(), Case::Events)
+}
+
+/// Polls twice: for the only packet, and when there is none.
+fn expect_silence(
+    rt: &impl Abort,
+    tree: &AttrTree,
+    watch: &mut HotplugWatch,
+    len: u8,
+) -> Result<(), Fail> {
+    for at in ["the packet", "no packet"] {
+        let event = watch.poll_next(tree)?;
+        assert!(rt; matches!(event, Poll::Pending), "{at}, at length {len}");
+    }
+    Ok(())
+}
+
+fn one_packet(
+    alloc: Global,
+    groups: u32,
+    len: u8,
+    properties: &[u8],
+) -> Result<HotplugWatch, Fail> {
+    let mut packets = VecDeque::new(alloc);
+    send(alloc, &mut packets, groups, len, properties)?;
+    Ok(watch_devices(alloc, packets))
 }
 
 fn expect_pending(
@@ -412,18 +598,8 @@ fn expect_pending(
     len: u8,
     properties: &[u8],
 ) -> Result<(), Fail> {
-    let mut packets = VecDeque::new(alloc);
-    packets.push_back(packet(alloc, groups, len, properties)?)?;
-    let mut watch = watch_devices(alloc, packets);
-    assert!(rt;
-        matches!(watch.poll_next(tree)?, Poll::Pending),
-        "at length {len}"
-    );
-    assert!(rt;
-        matches!(watch.poll_next(tree)?, Poll::Pending),
-        "with no packet"
-    );
-    Ok(())
+    let mut watch = one_packet(alloc, groups, len, properties)?;
+    expect_silence(rt, tree, &mut watch, len)
 }
 
 fn expect_no_event(rt: &impl Abort, alloc: Global, tree: &AttrTree) -> Result<(), Fail> {
@@ -445,6 +621,5 @@ fn expect_no_event(rt: &impl Abort, alloc: Global, tree: &AttrTree) -> Result<()
 
 #[test]
 fn other_packets_give_no_event(rt: HostRuntime) -> Result<(), Fail> {
-    let tree = one_bus(rt.alloc())?;
-    expect_no_event(&rt, rt.alloc(), &tree)
+    expect(&rt, rt.alloc(), Case::Silence)
 }

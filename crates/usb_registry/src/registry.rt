@@ -53,7 +53,8 @@ impl<T> Model for Registry<T> {
 /// The place of the entry with a serial number, which is sought at the key's place first.
 fn find_place<T>(entries: &Slab<Entry<T>>, key: Key) -> Option<usize>
     ensures found { IfSome result (HasSerialAt entries.now.slots key.serial) }
-    ensures absent { IfNone result ((place : ℕ) → HasSerialAt entries.now.slots key.serial place → ⊥) }
+    ensures absent { IfNone result
+        ((place : ℕ) → HasSerialAt entries.now.slots key.serial place → ⊥) }
 {
     if let Some(entry) = entries.get(key.place) {
         if entry.serial == key.serial {
@@ -70,7 +71,8 @@ fn find_place<T>(entries: &Slab<Entry<T>>, key: Key) -> Option<usize>
 
 /// The value at a place.
 fn value_at_place<T>(entries: &Slab<Entry<T>>, place: usize) -> Option<&T>
-    ensures value { option_copied result ≡ option_map (λ (e : Entry T). e.value) (get entries.now place) }
+    ensures value { option_copied result
+        ≡ option_map (λ (e : Entry T). e.value) (get entries.now place) }
 {
     match entries.get(place) {
         Some(entry) => Some(&entry.value),
@@ -89,11 +91,13 @@ fn take_at_place<T>(entries: &mut Slab<Entry<T>>, place: usize) -> Option<T>
     }
 }
 
-/// Writes another value at a place. The value that was there comes out; where none was there, the new
-/// one comes back.
+/// Writes another value at a place. The value that was there comes out; where none was there, the
+/// new one comes back, and nothing has changed.
 fn write_at_place<T>(entries: &mut Slab<Entry<T>>, place: usize, value: T) -> Result<T, T>
     ensures was { IfOk result
         (λ was. option_map (λ (e : Entry T). e.value) (get entries.old place) ≡ Some was) }
+    ensures back { IfErr result (λ back. back ≡ value) }
+    ensures err { OnErr result (entries.new ≡ entries.old) }
     ensures updates { (e : Entry T) → get entries.old place ≡ Some e
         → IsOk result
         × Updates entries.old entries.new place (Some (record e { value = value })) }
@@ -125,8 +129,8 @@ impl<T> Registry<T> {
         }
     }
 
-    /// Puts a value in. Its serial number is the number of values that were put in before. An `Err` is
-    /// want of memory, or the serial numbers below 2^64 - 1 are used up: the value comes back, and
+    /// Puts a value in. Its serial number is the number of values that were put in before. An `Err`
+    /// is want of memory, or the serial numbers below 2^64 - 1 are used up: the value comes back, and
     /// nothing has changed.
     pub fn insert(&mut self, value: T) -> Result<Key, AllocFailed<T>>
         ensures serial { IfOk result (λ key. key.serial ≡ length self.old) }
@@ -202,8 +206,8 @@ impl<T> Registry<T> {
         }
     }
 
-    /// Puts another value in the place of one that is there, which comes out. Where it is gone the new
-    /// one comes back.
+    /// Puts another value in the place of one that is there, which comes out. Where it is gone the
+    /// new one comes back.
     pub fn replace(&mut self, key: Key, value: T) -> Result<T, T>
         ensures was { IfOk result (λ was. value_at self.old key.serial ≡ Some was) }
         ensures ok { OnOk result (self.new ≡ set self.old key.serial (Some value)) }

@@ -86,19 +86,20 @@ fn speeds_have_words_and_numbers(rt: HostRuntime) {
     }
 }
 
-/// A tree in which each attribute of the folder `/d` is called as its own text.
-fn tree_of(alloc: Global, texts: [&str; 6]) -> Result<AttrTree, NoMemory> {
-    let mut tree = AttrTree::new(alloc);
-    for text in texts {
-        set(&mut tree, "/d", text, text.as_bytes())?;
-    }
-    Ok(tree)
+/// Sets a version of the folder `/d` whose attribute is called as its own text, and compares it.
+fn expect_version(
+    rt: &impl Abort,
+    alloc: Global,
+    tree: &mut AttrTree,
+    text: &str,
+    value: Option<u16>,
+) -> Result<(), NoMemory> {
+    set(tree, "/d", text, text.as_bytes())?;
+    assert_eq!(rt; version(alloc, tree, text), value, "of {text}");
+    Ok(())
 }
 
-#[test]
-fn versions_are_cut_at_each_dot(rt: HostRuntime) -> Result<(), Fail> {
-    let texts = ["3.10", " 2.00\n", "+1.+2", "1234.5.6", "2..0", "0x2.0"];
-    let tree = tree_of(rt.alloc(), texts)?;
+fn expect_versions(rt: &impl Abort, alloc: Global, tree: &mut AttrTree) -> Result<(), Fail> {
     let rows = [
         ("3.10", Some(0x0310)),
         (" 2.00\n", Some(0x0200)),
@@ -107,23 +108,36 @@ fn versions_are_cut_at_each_dot(rt: HostRuntime) -> Result<(), Fail> {
         ("2..0", None),
         ("0x2.0", None),
     ];
-    for (name, value) in rows {
-        assert_eq!(rt; version(rt.alloc(), &tree, name), value, "of {name}");
+    for (text, value) in rows {
+        expect_version(rt, alloc, tree, text, value)?;
     }
     Ok(())
 }
 
-/// Sets the product, and compares what is read.
+#[test]
+fn versions_are_cut_at_each_dot(rt: HostRuntime) -> Result<(), Fail> {
+    let mut tree = AttrTree::new(rt.alloc());
+    expect_versions(&rt, rt.alloc(), &mut tree)
+}
+
+/// Compares the product that is read.
 fn expect_product(
     rt: &impl Abort,
     alloc: Global,
-    tree: &mut AttrTree,
-    value: &str,
-    text: &str,
-) -> Result<(), Fail> {
-    set(tree, "/d", "product", value.as_bytes())?;
-    let read = product(alloc, tree)?.ok_or("none")?;
-    assert_eq!(rt; read.as_str(), text);
+    tree: &AttrTree,
+    text: Option<&str>,
+) -> Result<(), NoMemory> {
+    let read = product(alloc, tree)?;
+    assert_eq!(rt; read.as_ref().map(|text| text.as_str()), text);
+    Ok(())
+}
+
+fn expect_products(rt: &impl Abort, alloc: Global, tree: &mut AttrTree) -> Result<(), Fail> {
+    expect_product(rt, alloc, tree, None)?;
+    for (value, text) in [(" \u{2003}a b\n", "a b"), ("\n", "")] {
+        set(tree, "/d", "product", value.as_bytes())?;
+        expect_product(rt, alloc, tree, Some(text))?;
+    }
     Ok(())
 }
 
@@ -141,17 +155,25 @@ fn expect_ports(
     Ok(())
 }
 
+fn expect_chains(rt: &impl Abort, alloc: Global, tree: &mut AttrTree) -> Result<(), Fail> {
+    let rows: [(&str, &[u8]); 4] = [
+        ("0", &[]),
+        ("1.4.2\n", &[1, 4, 2]),
+        ("1..2", &[]),
+        ("00", &[0]),
+    ];
+    for (value, chain) in rows {
+        expect_ports(rt, alloc, tree, value, chain)?;
+    }
+    Ok(())
+}
+
 fn expect_values(rt: &impl Abort, alloc: Global, tree: &mut AttrTree) -> Result<(), Fail> {
-    assert!(rt; product(alloc, tree)?.is_none());
     assert_eq!(rt; speed(alloc, tree)?, None);
-    expect_product(rt, alloc, tree, " \u{2003}a b\n", "a b")?;
-    expect_product(rt, alloc, tree, "\n", "")?;
     set(tree, "/d", "speed", b"480\n")?;
     assert_eq!(rt; speed(alloc, tree)?, Some(Speed::High));
-    expect_ports(rt, alloc, tree, "0", &[])?;
-    expect_ports(rt, alloc, tree, "1.4.2\n", &[1, 4, 2])?;
-    expect_ports(rt, alloc, tree, "1..2", &[])?;
-    expect_ports(rt, alloc, tree, "00", &[0])
+    expect_products(rt, alloc, tree)?;
+    expect_chains(rt, alloc, tree)
 }
 
 #[test]
@@ -160,18 +182,15 @@ fn what_does_not_read_is_absent(rt: HostRuntime) -> Result<(), Fail> {
     expect_values(&rt, rt.alloc(), &mut tree)
 }
 
-/// Reads a decimal number that does not read, and compares why.
-fn expect_refusal(
-    rt: &impl Abort,
-    alloc: Global,
-    tree: &AttrTree,
-    folder: &str,
-    path: &str,
-    errno: Option<u16>,
-) -> Result<(), Fail> {
+/// Why a decimal number of a folder is not read.
+fn refusal(alloc: Global, tree: &AttrTree, folder: &str) -> Result<SysfsError, Fail> {
     let Err(usb_desc::Fail::Cause(error)) = read_decimal(alloc, tree, folder, "busnum") else {
         return Err("it was read".into());
     };
+    Ok(error)
+}
+
+fn expect_error(rt: &impl Abort, error: &SysfsError, path: &str, errno: Option<u16>) {
     assert_eq!(rt; error.path.as_str(), path);
     match &error.kind {
         SysfsErrorKind::Io(code) => assert_eq!(rt; Some(*code), errno, "at {path}"),
@@ -180,6 +199,18 @@ fn expect_refusal(
             assert_eq!(rt; text.as_str(), " 256");
         }
     }
+}
+
+fn expect_refusal(
+    rt: &impl Abort,
+    alloc: Global,
+    tree: &AttrTree,
+    folder: &str,
+    path: &str,
+    errno: Option<u16>,
+) -> Result<(), Fail> {
+    let error = refusal(alloc, tree, folder)?;
+    expect_error(rt, &error, path, errno);
     Ok(())
 }
 
@@ -208,33 +239,35 @@ fn both(alloc: Global, tree: &AttrTree) -> (Option<u8>, Option<u16>) {
     (decimal, hex)
 }
 
-#[test]
-fn zeros_in_front_do_not_count(rt: HostRuntime) -> Result<(), Fail> {
-    let mut tree = AttrTree::new(rt.alloc());
-    set(&mut tree, "/d", "busnum", b"00000000000010\n")?;
-    assert_eq!(rt; both(rt.alloc(), &tree), (Some(10), Some(16)));
+fn expect_zeros(rt: &impl Abort, alloc: Global, tree: &mut AttrTree) -> Result<(), Fail> {
+    set(tree, "/d", "busnum", b"00000000000010\n")?;
+    assert_eq!(rt; both(alloc, tree), (Some(10), Some(16)));
     Ok(())
 }
 
-/// The entries of the listing, one after the other.
-fn listed(alloc: Global, tree: &AttrTree) -> Result<String, Fail> {
-    let mut listed = String::new(alloc);
+#[test]
+fn zeros_in_front_do_not_count(rt: HostRuntime) -> Result<(), Fail> {
+    let mut tree = AttrTree::new(rt.alloc());
+    expect_zeros(&rt, rt.alloc(), &mut tree)
+}
+
+/// Writes the entries of the listing, one after the other.
+fn write_listing(listed: &mut String, tree: &AttrTree) -> Result<(), Fail> {
     for (name, path) in tree.entries() {
         listed.push_str(name.as_str())?;
         listed.push_str(path.as_str())?;
     }
-    Ok(listed)
+    Ok(())
 }
 
-/// The names of the sub-folders of `/d`, one after the other.
-fn children(alloc: Global, tree: &AttrTree) -> Result<String, Fail> {
-    let mut names = String::new(alloc);
+/// Writes the names of the sub-folders of `/d`, one after the other.
+fn write_children(names: &mut String, tree: &AttrTree) -> Result<(), Fail> {
     if let Some(children) = tree.children("/d") {
         for name in children.iter() {
             names.push_str(name.as_str())?;
         }
     }
-    Ok(names)
+    Ok(())
 }
 
 fn set_again(tree: &mut AttrTree) -> Result<(), NoMemory> {
@@ -246,13 +279,29 @@ fn set_again(tree: &mut AttrTree) -> Result<(), NoMemory> {
     }
     tree.link("/d", "driver", "../x")?;
     tree.link("/d", "driver", "../y")?;
-    tree.fail_listing(2)?;
-    tree.fail_listing(13)
+    tree.fail_listing(2);
+    tree.fail_listing(13);
+    Ok(())
 }
 
-fn expect_places(rt: &impl Abort, alloc: Global, tree: &AttrTree) -> Result<(), Fail> {
-    assert_eq!(rt; listed(alloc, tree)?.as_str(), "usb1/c1-6/b");
-    assert_eq!(rt; children(alloc, tree)?.as_str(), "ab");
+fn expect_listing(rt: &impl Abort, alloc: Global, tree: &AttrTree) -> Result<(), Fail> {
+    let mut listed = String::new(alloc);
+    write_listing(&mut listed, tree)?;
+    assert_eq!(rt; listed.as_str(), "usb1/c1-6/b");
+    Ok(())
+}
+
+fn expect_children(rt: &impl Abort, alloc: Global, tree: &AttrTree) -> Result<(), Fail> {
+    let mut names = String::new(alloc);
+    write_children(&mut names, tree)?;
+    assert_eq!(rt; names.as_str(), "ab");
+    Ok(())
+}
+
+fn expect_places(rt: &impl Abort, alloc: Global, tree: &mut AttrTree) -> Result<(), Fail> {
+    set_again(tree)?;
+    expect_listing(rt, alloc, tree)?;
+    expect_children(rt, alloc, tree)?;
     let target = tree.target("/d/driver").ok_or("no link")?;
     assert_eq!(rt; target.as_str(), "../y");
     assert_eq!(rt; tree.refusal(), Some(13));
@@ -262,30 +311,51 @@ fn expect_places(rt: &impl Abort, alloc: Global, tree: &AttrTree) -> Result<(), 
 #[test]
 fn a_place_that_is_set_again_keeps_its_place(rt: HostRuntime) -> Result<(), Fail> {
     let mut tree = AttrTree::new(rt.alloc());
-    set_again(&mut tree)?;
-    expect_places(&rt, rt.alloc(), &tree)
+    expect_places(&rt, rt.alloc(), &mut tree)
 }
 
 #[test]
-fn paths_and_errors_show_themselves(rt: HostRuntime) -> Result<(), Fail> {
+fn paths_show_themselves(rt: HostRuntime) -> Result<(), Fail> {
     let path = SysfsPath::new(String::from_str(rt.alloc(), "/d")?);
     assert_eq!(rt; path.as_str(), "/d");
-    let text = Text::from_str(rt.alloc(), "/d/busnum")?;
+    Ok(())
+}
+
+fn expect_copy(rt: &impl Abort, text: &Text) -> Result<(), Fail> {
     let copy = text.clone()?.into_string();
     assert_eq!(rt; copy.as_str(), "/d/busnum");
+    Ok(())
+}
+
+fn expect_shown(rt: &impl Abort, alloc: Global, error: &SysfsError) -> Result<(), Fail> {
+    let shown = error.to_string(alloc)?;
+    assert_eq!(rt; shown.as_str(), "/d/busnum io 2");
+    expect_copy(rt, &error.path)
+}
+
+#[test]
+fn errors_show_themselves(rt: HostRuntime) -> Result<(), Fail> {
     let error = SysfsError {
-        path: text,
+        path: Text::from_str(rt.alloc(), "/d/busnum")?,
         kind: SysfsErrorKind::Io(2),
     };
-    let shown = error.to_string(rt.alloc())?;
-    assert_eq!(rt; shown.as_str(), "/d/busnum io 2");
+    expect_shown(&rt, rt.alloc(), &error)
+}
+
+fn expect_parse(rt: &impl Abort, alloc: Global, text: &str, hex: &str) -> Result<(), Fail> {
+    let kind = SysfsErrorKind::Parse(Text::from_str(alloc, text)?);
+    let shown = format!(in alloc; "{kind}")?;
+    assert!(rt;
+        shown.as_str().strip_prefix("parse ") == Some(hex),
+        "of {hex}"
+    );
+    Ok(())
+}
+
+#[test]
+fn texts_that_do_not_parse_are_shown_in_hexadecimal(rt: HostRuntime) -> Result<(), Fail> {
     for (text, hex) in [("\u{0} a\u{ff}", "002061c3bf"), ("", "-")] {
-        let kind = SysfsErrorKind::Parse(Text::from_str(rt.alloc(), text)?);
-        let shown = format!(in rt.alloc(); "{kind}")?;
-        assert!(rt;
-            shown.as_str().strip_prefix("parse ") == Some(hex),
-            "of {hex}"
-        );
+        expect_parse(&rt, rt.alloc(), text, hex)?;
     }
     Ok(())
 }

@@ -17,7 +17,10 @@ use indexmap::map::Iter;
 use std::alloc::Global;
 use std::marker::Model;
 use usb_desc::NoMemory;
-use usb_kernel::Bytes;
+use usb_kernel::{Bytes, errno};
+
+/// `EILSEQ`: bytes are no text.
+const ILSEQ: u16 = 84;
 
 /// An attribute: what it holds, or the errno with which reading it fails.
 #[derive(Drop)]
@@ -28,9 +31,9 @@ pub enum Attribute {
     Denied(u16),
 }
 
-/// Folders with attributes, sub-folders and links, and the listing of devices. Each of its six calls
-/// sets one place: what stood there is replaced, in its place in the order. An `Err` is want of
-/// memory, and leaves the tree as it was.
+/// Folders with attributes, sub-folders and links, and the listing of devices. Each call that sets
+/// one place replaces what stood there, in its place in the order. An `Err` is want of memory, and
+/// leaves the tree as it was.
 #[derive(Drop)]
 pub struct AttrTree {
     alloc: Global,
@@ -75,7 +78,8 @@ impl AttrTree {
 
     /// Sets what an attribute of a folder holds.
     pub fn attr(&mut self, path: &str, name: &str, value: &[u8]) -> Result<(), NoMemory>
-        ensures ok { OnOk result (self.new ≡ with_attribute self.old path.now name.now (Content value.now)) }
+        ensures ok { OnOk result
+            (self.new ≡ with_attribute self.old path.now name.now (Content value.now)) }
         ensures err { OnErr result (self.new ≡ self.old) }
     {
         let Ok(value) = Bytes::from_slice(self.alloc, value) else {
@@ -86,7 +90,8 @@ impl AttrTree {
 
     /// Lets reading an attribute of a folder fail with this errno.
     pub fn deny(&mut self, path: &str, name: &str, errno: u16) -> Result<(), NoMemory>
-        ensures ok { OnOk result (self.new ≡ with_attribute self.old path.now name.now (denied errno)) }
+        ensures ok { OnOk result
+            (self.new ≡ with_attribute self.old path.now name.now (denied errno)) }
         ensures err { OnErr result (self.new ≡ self.old) }
     {
         self.set_attribute(path, name, Attribute::Denied(errno))
@@ -141,12 +146,10 @@ impl AttrTree {
     }
 
     /// Lets the listing of devices fail with this errno.
-    pub fn fail_listing(&mut self, errno: u16) -> Result<(), NoMemory>
-        ensures ok { OnOk result (self.new ≡ record self.old { refusal = Some errno }) }
-        ensures err { OnErr result (self.new ≡ self.old) }
+    pub fn fail_listing(&mut self, errno: u16)
+        ensures refusal { self.new ≡ record self.old { refusal = Some errno } }
     {
         self.refusal = Some(errno);
-        Ok(())
     }
 
     /// The names of a folder's sub-folders, where it has any.
@@ -183,7 +186,7 @@ impl AttrTree {
         ensures text { result_map (λ t. t.now) result ≡ text_at self.now path.now }
     {
         match self.attributes.get(path) {
-            None => Err(2),
+            None => Err(errno::NOENT),
             Some(Attribute::Denied(errno)) => Err(*errno),
             Some(Attribute::Content(bytes)) => utf8_text(bytes.as_slice()),
         }
@@ -196,7 +199,7 @@ fn utf8_text(bytes: &[u8]) -> Result<&str, u16>
 {
     match str::from_utf8(bytes) {
         Ok(text) => Ok(text),
-        Err(_) => Err(84),
+        Err(_) => Err(ILSEQ),
     }
 }
 
