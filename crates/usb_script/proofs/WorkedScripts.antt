@@ -1,7 +1,6 @@
 -- Scripts worked out by the definition alone.
 use Rattle.std.proofs.Common.{◌≡◌, ◌++◌, [], ◌∷◌, codes, Some, None, Ok, Err, refl}
-use Rattle.usb_desc.specs.declared.types.Direction.TheVariants.{Out}
-use Rattle.usb_desc.specs.declared.types.TransferType.TheVariants.{Interrupt}
+use Rattle.usb_script.specs.declared.endpoint_kind.EndpointKind.TheVariants.{InterruptOut}
 use Rattle.usb_script.specs.declared.item.Item.TheVariants.{Endpoint, SubmitIn, Poll, Wait, TransferIn, TransferOut, Steps}
 use Rattle.usb_script.specs.declared.error.SessionError.TheVariants.{Malformed}
 use Rattle.usb_script.specs.declared.reading.Reading.TheVariants.{Skipped, Read}
@@ -102,7 +101,7 @@ refusal_of_a_submission : reading_of (codes "! refuse k0 submit 5") ≡ Some (Re
 unfolding script_on_literals
 refusal_of_a_submission = refl
 
-interrupt_out : reading_of (codes "endpoint e0 i1 02 int-out") ≡ Some (Read (Endpoint 0 1 2 Interrupt Out))
+interrupt_out : reading_of (codes "endpoint e0 i1 02 int-out") ≡ Some (Read (Endpoint 0 1 2 InterruptOut))
 unfolding script_on_literals
 interrupt_out = refl
 

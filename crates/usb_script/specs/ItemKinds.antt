@@ -3,6 +3,8 @@ use Rattle.std.specs.Prelude.{ℕ, Bool, true, false, not, ◌&&◌, List, lengt
 use Rattle.std.specs.List.{sum_by}
 use Rattle.usb_script.specs.declared.item.Item.{Item}
 use Rattle.usb_script.specs.declared.item.Item.TheVariants.{Device, Wait, TransferIn, TransferOut, Steps}
+use Rattle.usb_script.specs.declared.reading.Reading.{Reading}
+use Rattle.usb_script.specs.declared.reading.Reading.TheVariants.{Skipped, Read}
 
 -- a setup line declares what is there before the first call
 abbrev pub is_setup : Item → Bool
@@ -25,6 +27,11 @@ steps_in (TransferIn endpoint wanted timeout steps) = length steps
 steps_in (TransferOut endpoint bytes timeout steps) = length steps
 steps_in (Steps steps) = length steps
 steps_in item = 0
+
+-- how many steps the item of a line makes, if it gives one
+abbrev pub steps_read : Reading → ℕ
+steps_read Skipped = 0
+steps_read (Read item) = steps_in item
 
 -- how many steps these items make in all
 abbrev pub step_count : List Item → ℕ

@@ -1,8 +1,8 @@
 pub mod Calls
+pub mod EndpointKinds
 pub mod ErrorText
 pub mod Fields
 pub mod ItemKinds
-pub mod ItemRanges
 pub mod KernelSteps
 pub mod Letters
 pub mod LineForms
@@ -12,5 +12,7 @@ pub mod Outcome
 pub mod Parse
 pub mod ScriptFacts
 pub mod StepForms
+pub mod StepRanges
+pub mod Timeouts
 pub mod Waits
 pub mod Words

@@ -7,7 +7,7 @@ use Rattle.usb_script.specs.declared.item.Item.TheVariants.{Device, Steps}
 use Rattle.usb_script.specs.declared.reading.Reading.{Reading}
 use Rattle.usb_script.specs.declared.reading.Reading.TheVariants.{Skipped, Read}
 use Rattle.usb_script.specs.Lines.{words_of, is_printable, without_cr, is_skipped}
-use Rattle.usb_script.specs.Words.{◌>>=◌, number_of, handle_of, bytes_of}
+use Rattle.usb_script.specs.Words.{◌>>=◌, number_of, name_of, bytes_of}
 use Rattle.usb_script.specs.Fields.{Word, six}
 use Rattle.usb_script.specs.Letters.{simulated_letter}
 use Rattle.usb_script.specs.KernelSteps.{steps_of}
@@ -17,7 +17,7 @@ use Rattle.usb_script.specs.Calls.{device_call_of}
 unfoldable pub named_of : Word → List Word → Option Item
 named_of name words =
     if bytes_eq name (codes "!") then (steps_of words >>= λ steps. Some (Steps steps))
-    else if bytes_eq name (codes "device") then six Device (handle_of simulated_letter) (number_of 255) (number_of 255) (number_of 255) (number_of 255) bytes_of words
+    else if bytes_eq name (codes "device") then six Device (name_of simulated_letter) (number_of 255) (number_of 255) (number_of 255) (number_of 255) bytes_of words
     else device_call_of name words
 
 -- the item of these words

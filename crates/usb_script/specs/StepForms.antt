@@ -3,7 +3,7 @@ use Rattle.std.specs.Prelude.{[], ◌∷◌, List, codes, Option, Some, None, if
 use Rattle.std.specs.Str.{bytes_eq}
 use Rattle.usb_kernel.specs.declared.step.KernelStep.{KernelStep}
 use Rattle.usb_kernel.specs.declared.step.KernelStep.TheVariants.{Packet, Ack, Fail, Unplug, Clock, Timer, Reap, Refuse}
-use Rattle.usb_script.specs.Words.{number_of, handle_of, hex_byte_of, bytes_of, errno_of, call_of}
+use Rattle.usb_script.specs.Words.{number_of, name_of, hex_byte_of, bytes_of, errno_of, call_of}
 use Rattle.usb_script.specs.Fields.{Word, none, one, two, three}
 use Rattle.usb_script.specs.Letters.{simulated_letter}
 
@@ -15,19 +15,19 @@ reap_of (word ∷ words) = one (λ ticket. Reap (Some ticket)) (number_of 429496
 -- the steps that come to endpoints
 unfoldable pub endpoint_step_of : Word → List Word → Option KernelStep
 endpoint_step_of name words =
-    if bytes_eq name (codes "pkt") then three Packet (handle_of simulated_letter) hex_byte_of bytes_of words
-    else if bytes_eq name (codes "ack") then two Ack (handle_of simulated_letter) hex_byte_of words
-    else if bytes_eq name (codes "fail") then three Fail (handle_of simulated_letter) hex_byte_of errno_of words
+    if bytes_eq name (codes "pkt") then three Packet (name_of simulated_letter) hex_byte_of bytes_of words
+    else if bytes_eq name (codes "ack") then two Ack (name_of simulated_letter) hex_byte_of words
+    else if bytes_eq name (codes "fail") then three Fail (name_of simulated_letter) hex_byte_of errno_of words
     else None
 
 -- the step with this first word
 unfoldable pub step_named : Word → List Word → Option KernelStep
 step_named name words =
-    if bytes_eq name (codes "unplug") then one Unplug (handle_of simulated_letter) words
+    if bytes_eq name (codes "unplug") then one Unplug (name_of simulated_letter) words
     else if bytes_eq name (codes "clock") then one Clock (number_of 1000000000000000000) words
     else if bytes_eq name (codes "timer") then none Timer words
     else if bytes_eq name (codes "reap") then reap_of words
-    else if bytes_eq name (codes "refuse") then three Refuse (handle_of simulated_letter) call_of errno_of words
+    else if bytes_eq name (codes "refuse") then three Refuse (name_of simulated_letter) call_of errno_of words
     else endpoint_step_of name words
 
 -- the step of these words

@@ -4,7 +4,7 @@ use Rattle.std.specs.Str.{bytes_eq}
 use Rattle.usb_kernel.specs.declared.step.KernelStep.{KernelStep}
 use Rattle.usb_script.specs.declared.item.Item.{Item}
 use Rattle.usb_script.specs.declared.item.Item.TheVariants.{Wait, TransferIn, TransferOut}
-use Rattle.usb_script.specs.Words.{◌>>=◌, number_of, time_of, handle_of, bytes_of}
+use Rattle.usb_script.specs.Words.{◌>>=◌, number_of, time_of, name_of, bytes_of}
 use Rattle.usb_script.specs.Fields.{Word, two_and_more, three_and_more}
 use Rattle.usb_script.specs.KernelSteps.{own_steps_of}
 use Rattle.usb_script.specs.Letters.{endpoint_letter}
@@ -29,7 +29,7 @@ three_with_steps make first second third words = do
 -- `wait e TIME`, `xferin e N TIME`, `xferout e BYTES TIME`
 unfoldable pub wait_call_of : Word → List Word → Option Item
 wait_call_of name words =
-    if bytes_eq name (codes "wait") then two_with_steps Wait (handle_of endpoint_letter) time_of words
-    else if bytes_eq name (codes "xferin") then three_with_steps TransferIn (handle_of endpoint_letter) (number_of 65536) time_of words
-    else if bytes_eq name (codes "xferout") then three_with_steps TransferOut (handle_of endpoint_letter) bytes_of time_of words
+    if bytes_eq name (codes "wait") then two_with_steps Wait (name_of endpoint_letter) time_of words
+    else if bytes_eq name (codes "xferin") then three_with_steps TransferIn (name_of endpoint_letter) (number_of 65536) time_of words
+    else if bytes_eq name (codes "xferout") then three_with_steps TransferOut (name_of endpoint_letter) bytes_of time_of words
     else None

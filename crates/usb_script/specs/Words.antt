@@ -4,12 +4,10 @@ use Rattle.std.specs.Char.{is_ascii_digit}
 use Rattle.std.specs.Str.{bytes_eq}
 use Rattle.hex.specs.Hex.{decode_of, hex_digit_value}
 use Rattle.hex.specs.declared.error.FromHexError.{FromHexError}
-use Rattle.usb_desc.specs.declared.types.Direction.{Direction}
-use Rattle.usb_desc.specs.declared.types.Direction.TheVariants.{In, Out}
-use Rattle.usb_desc.specs.declared.types.TransferType.{TransferType}
-use Rattle.usb_desc.specs.declared.types.TransferType.TheVariants.{Bulk, Interrupt}
 use Rattle.usb_kernel.specs.declared.step.KernelCall.{KernelCall}
 use Rattle.usb_kernel.specs.declared.step.KernelCall.TheVariants.{Submit}
+use Rattle.usb_script.specs.declared.endpoint_kind.EndpointKind.{EndpointKind}
+use Rattle.usb_script.specs.declared.endpoint_kind.EndpointKind.TheVariants.{BulkIn, BulkOut, InterruptIn, InterruptOut}
 use Rattle.usb_script.specs.Lines.{is_word}
 
 -- one reading after another, each of which may refuse
@@ -57,9 +55,9 @@ unfoldable pub index_of : List ℕ → Option ℕ
 index_of digits = if has_leading_zero digits then None else number_of 63 digits
 
 -- the number of a name: its letter, and 0 to 63 behind it
-unfoldable pub handle_of : ℕ → List ℕ → Option ℕ
-handle_of letter [] = None
-handle_of letter (b ∷ digits) = if b == letter then index_of digits else None
+unfoldable pub name_of : ℕ → List ℕ → Option ℕ
+name_of letter [] = None
+name_of letter (b ∷ digits) = if b == letter then index_of digits else None
 
 -- HH: a byte as two hexadecimal digits, in either case
 unfoldable pub hex_byte_of : List ℕ → Option ℕ
@@ -82,13 +80,13 @@ bytes_of word =
     if bytes_eq word (codes "-") then Some []
     else (or_none (decode_of word) >>= at_most_bytes 65536)
 
--- KIND: the transfer type and the direction of an endpoint
-unfoldable pub kind_of : List ℕ → Option (TransferType × Direction)
+-- KIND: the kind of an endpoint
+unfoldable pub kind_of : List ℕ → Option EndpointKind
 kind_of word =
-    if bytes_eq word (codes "bulk-in") then Some (Bulk, In)
-    else if bytes_eq word (codes "bulk-out") then Some (Bulk, Out)
-    else if bytes_eq word (codes "int-in") then Some (Interrupt, In)
-    else if bytes_eq word (codes "int-out") then Some (Interrupt, Out)
+    if bytes_eq word (codes "bulk-in") then Some BulkIn
+    else if bytes_eq word (codes "bulk-out") then Some BulkOut
+    else if bytes_eq word (codes "int-in") then Some InterruptIn
+    else if bytes_eq word (codes "int-out") then Some InterruptOut
     else None
 
 -- ERRNO: the number of an error, from 1 to 4095

@@ -5,20 +5,22 @@ ghost use Rattle.usb_script.specs.Fields.{texts};
 ghost use Rattle.usb_script.specs.Outcome.{Gives};
 ghost use Rattle.usb_script.specs.Calls.{device_call_of, interface_call_of, endpoint_call_of};
 ghost use Rattle.usb_script.specs.ItemKinds.{steps_in};
-ghost use Rattle.usb_script.specs.ItemRanges.{IsInRange};
 
+use crate::endpoint_kind::EndpointKind;
 use crate::fields::{four_words, no_word, one_word, three_words, two_words};
 use crate::item::Item;
+use crate::length::Length;
+use crate::line_bytes::Data;
+use crate::name::Name;
 use crate::reading::LineError;
 use crate::wait::wait_call;
-use crate::words::{byte, bytes, handle, hex_byte, kind, length};
+use crate::words::{byte, hex_byte};
 use std::alloc::Global;
 
 /// `now`, `open d B B`, `devdesc d`, `descriptors d`, or a further call
 #[tactic(auto, unfolding(crate::specs::Calls::device_call_of))]
 pub fn device_call(alloc: Global, name: &[u8], words: &[&[u8]]) -> Result<Item, LineError>
     ensures value { Gives (λ i. i) result (device_call_of name.now (texts words.now)) }
-    ensures range { IfOk result IsInRange }
     ensures few { IfOk result (λ item. steps_in item ≤ length words.now) }
 {
     if name == b"now".as_slice() {
@@ -27,15 +29,15 @@ pub fn device_call(alloc: Global, name: &[u8], words: &[&[u8]]) -> Result<Item, 
     } else if name == b"open".as_slice() {
         let (device, bus, address) = three_words(words)?;
         Ok(Item::Open {
-            device: handle(b'd', device)?,
+            device: Name::parse(b'd', device)?,
             bus: byte(bus)?,
             address: byte(address)?,
         })
     } else if name == b"devdesc".as_slice() {
-        let device = handle(b'd', one_word(words)?)?;
+        let device = Name::parse(b'd', one_word(words)?)?;
         Ok(Item::DeviceDescriptor { device })
     } else if name == b"descriptors".as_slice() {
-        let device = handle(b'd', one_word(words)?)?;
+        let device = Name::parse(b'd', one_word(words)?)?;
         Ok(Item::Descriptors { device })
     } else {
         interface_call(alloc, name, words)
@@ -46,28 +48,22 @@ pub fn device_call(alloc: Global, name: &[u8], words: &[&[u8]]) -> Result<Item, 
 #[tactic(auto, unfolding(crate::specs::Calls::interface_call_of))]
 fn interface_call(alloc: Global, name: &[u8], words: &[&[u8]]) -> Result<Item, LineError>
     ensures value { Gives (λ i. i) result (interface_call_of name.now (texts words.now)) }
-    ensures range { IfOk result IsInRange }
     ensures few { IfOk result (λ item. steps_in item ≤ length words.now) }
 {
     if name == b"claim".as_slice() {
         let (device, number, interface) = three_words(words)?;
         Ok(Item::Claim {
-            device: handle(b'd', device)?,
+            device: Name::parse(b'd', device)?,
             number: byte(number)?,
-            interface: handle(b'i', interface)?,
+            interface: Name::parse(b'i', interface)?,
         })
     } else if name == b"endpoint".as_slice() {
-        let (endpoint, interface, address, kind_word) = four_words(words)?;
-        let endpoint = handle(b'e', endpoint)?;
-        let interface = handle(b'i', interface)?;
-        let address = hex_byte(address)?;
-        let (transfer_type, direction) = kind(kind_word)?;
+        let (endpoint, interface, address, kind) = four_words(words)?;
         Ok(Item::Endpoint {
-            endpoint,
-            interface,
-            address,
-            transfer_type,
-            direction,
+            endpoint: Name::parse(b'e', endpoint)?,
+            interface: Name::parse(b'i', interface)?,
+            address: hex_byte(address)?,
+            kind: EndpointKind::parse(kind)?,
         })
     } else {
         endpoint_call(alloc, name, words)
@@ -79,32 +75,31 @@ fn interface_call(alloc: Global, name: &[u8], words: &[&[u8]]) -> Result<Item, L
 #[tactic(auto, unfolding(crate::specs::Calls::endpoint_call_of))]
 fn endpoint_call(alloc: Global, name: &[u8], words: &[&[u8]]) -> Result<Item, LineError>
     ensures value { Gives (λ i. i) result (endpoint_call_of name.now (texts words.now)) }
-    ensures range { IfOk result IsInRange }
     ensures few { IfOk result (λ item. steps_in item ≤ length words.now) }
 {
     if name == b"submitin".as_slice() {
         let (endpoint, wanted) = two_words(words)?;
         Ok(Item::SubmitIn {
-            endpoint: handle(b'e', endpoint)?,
-            length: length(wanted)?,
+            endpoint: Name::parse(b'e', endpoint)?,
+            length: Length::parse(wanted)?,
         })
     } else if name == b"submitout".as_slice() {
         let (endpoint, sent) = two_words(words)?;
         Ok(Item::SubmitOut {
-            endpoint: handle(b'e', endpoint)?,
-            bytes: bytes(alloc, sent)?,
+            endpoint: Name::parse(b'e', endpoint)?,
+            bytes: Data::parse(alloc, sent)?,
         })
     } else if name == b"pending".as_slice() {
-        let endpoint = handle(b'e', one_word(words)?)?;
+        let endpoint = Name::parse(b'e', one_word(words)?)?;
         Ok(Item::Pending { endpoint })
     } else if name == b"poll".as_slice() {
-        let endpoint = handle(b'e', one_word(words)?)?;
+        let endpoint = Name::parse(b'e', one_word(words)?)?;
         Ok(Item::Poll { endpoint })
     } else if name == b"cancel".as_slice() {
-        let endpoint = handle(b'e', one_word(words)?)?;
+        let endpoint = Name::parse(b'e', one_word(words)?)?;
         Ok(Item::Cancel { endpoint })
     } else if name == b"close".as_slice() {
-        let endpoint = handle(b'e', one_word(words)?)?;
+        let endpoint = Name::parse(b'e', one_word(words)?)?;
         Ok(Item::CloseEndpoint { endpoint })
     } else {
         wait_call(alloc, name, words)

@@ -1,13 +1,20 @@
 //! The items of a script.
 
 ghost use Rattle.std.specs.Prelude.{◌≡◌};
+ghost use Rattle.std.specs.List.{All};
 ghost use Rattle.usb_script.specs.ItemKinds.{is_setup, is_call, steps_in};
+ghost use Rattle.usb_script.specs.StepRanges.{IsStepInRange};
 
+use crate::endpoint_kind::EndpointKind;
+use crate::length::Length;
+use crate::line_bytes::Data;
+use crate::name::Name;
+use crate::timeout::Timeout;
 use std::marker::Model;
-use usb_desc::{Direction, TransferType};
-use usb_kernel::{Bytes, KernelStep};
+use usb_kernel::KernelStep;
 
-/// The steps of a line. A contract sees the list of them.
+/// The steps of a line, whose fields are in the ranges of a script. A contract sees the list of
+/// them.
 #[derive(Drop)]
 pub struct Steps {
     items: Vec<KernelStep>,
@@ -15,16 +22,21 @@ pub struct Steps {
 
 impl Model for Steps {
     ghost use Rattle.std.specs.Prelude.{List};
+    ghost use Rattle.std.specs.List.{All};
     ghost use Rattle.usb_kernel.specs.declared.step.KernelStep.{KernelStep};
+    ghost use Rattle.usb_script.specs.StepRanges.{IsStepInRange};
 
     ghost Value = { List KernelStep };
 
-    ghost view = { λ s. s.items.items };
+    ghost view = { λ steps. steps.items.items };
+
+    ghost invariant = { λ steps. All IsStepInRange steps.items.items };
 }
 
 impl Steps {
     /// These steps, in this order.
     pub fn from_vec(steps: Vec<KernelStep>) -> Steps
+        requires in_range { All IsStepInRange steps.items }
         ensures value { result ≡ steps.items }
     {
         Steps { items: steps }
@@ -33,19 +45,27 @@ impl Steps {
     /// The steps in order.
     pub fn as_slice(&self) -> &[KernelStep]
         ensures value { result.now ≡ self.now }
+        ensures in_range { All IsStepInRange result.now }
     {
         self.items.as_slice()
     }
+
+    /// The steps in order, given back.
+    pub fn into_vec(self) -> Vec<KernelStep>
+        ensures value { result.items ≡ self }
+        ensures in_range { All IsStepInRange result.items }
+    {
+        self.items
+    }
 }
 
-/// A line of a script: its form, and its words as fields. A name is given by its number, which is
-/// below 64.
+/// A line of a script: its form, and its words as fields. A contract sees numbers and lists of them.
 #[derive(Drop)]
 pub enum Item {
     /// `device k B B B B BYTES`: a simulated device is there from the beginning.
     Device {
         /// The number of its name `k`.
-        device: u8,
+        device: Name,
         bus: u8,
         address: u8,
         /// The code of its speed, as the kernel answers it.
@@ -53,92 +73,87 @@ pub enum Item {
         /// The value of its active configuration, `bConfigurationValue`, or 0 for none.
         configuration: u8,
         /// Its device descriptor, and its configurations behind it. USB 2.0, section 9.5.
-        descriptors: Bytes,
+        descriptors: Data,
     },
     /// `now`: asks for the time on the clock.
     Now,
     /// `open d B B`: opens the device with this bus and address.
     Open {
-        device: u8,
+        device: Name,
         bus: u8,
         address: u8,
     },
     /// `devdesc d`: asks for the device descriptor. USB 2.0, section 9.6.1.
     DeviceDescriptor {
-        device: u8,
+        device: Name,
     },
     /// `descriptors d`: asks for the configurations with their interfaces and endpoints. USB 2.0,
     /// section 9.6.3.
     Descriptors {
-        device: u8,
+        device: Name,
     },
     /// `claim d B i`: claims the interface with this `bInterfaceNumber`.
     Claim {
-        device: u8,
+        device: Name,
         number: u8,
-        interface: u8,
+        interface: Name,
     },
     /// `endpoint e i HH KIND`: opens the endpoint with this `bEndpointAddress`.
     Endpoint {
-        endpoint: u8,
-        interface: u8,
+        endpoint: Name,
+        interface: Name,
         address: u8,
-        transfer_type: TransferType,
-        direction: Direction,
+        kind: EndpointKind,
     },
-    /// `submitin e N`: submits a transfer that wants this many bytes, at most 65536.
+    /// `submitin e N`: submits a transfer that wants this many bytes.
     SubmitIn {
-        endpoint: u8,
-        length: u32,
+        endpoint: Name,
+        length: Length,
     },
-    /// `submitout e BYTES`: submits a transfer of these bytes, at most 65536.
+    /// `submitout e BYTES`: submits a transfer of these bytes.
     SubmitOut {
-        endpoint: u8,
-        bytes: Bytes,
+        endpoint: Name,
+        bytes: Data,
     },
     /// `pending e`: asks how many transfers are pending.
     Pending {
-        endpoint: u8,
+        endpoint: Name,
     },
     /// `poll e`: asks for the next completion.
     Poll {
-        endpoint: u8,
+        endpoint: Name,
     },
     /// `wait e TIME : STEP ; ..`: waits for the next completion.
     Wait {
-        endpoint: u8,
-        /// For how long at most, in nanoseconds: at most 10^18, or [`u64::MAX`].
-        timeout: u64,
+        endpoint: Name,
+        timeout: Timeout,
         /// What happens while it waits.
         steps: Steps,
     },
-    /// `xferin e N TIME : STEP ; ..`: makes a transfer that wants this many bytes, at most 65536,
-    /// and waits for it.
+    /// `xferin e N TIME : STEP ; ..`: makes a transfer that wants this many bytes, and waits
+    /// for it.
     TransferIn {
-        endpoint: u8,
-        length: u32,
-        /// For how long at most, in nanoseconds: at most 10^18, or [`u64::MAX`].
-        timeout: u64,
+        endpoint: Name,
+        length: Length,
+        timeout: Timeout,
         /// What happens while it waits.
         steps: Steps,
     },
-    /// `xferout e BYTES TIME : STEP ; ..`: makes a transfer of these bytes, at most 65536, and
-    /// waits for it.
+    /// `xferout e BYTES TIME : STEP ; ..`: makes a transfer of these bytes, and waits for it.
     TransferOut {
-        endpoint: u8,
-        bytes: Bytes,
-        /// For how long at most, in nanoseconds: at most 10^18, or [`u64::MAX`].
-        timeout: u64,
+        endpoint: Name,
+        bytes: Data,
+        timeout: Timeout,
         /// What happens while it waits.
         steps: Steps,
     },
     /// `cancel e`: cancels all pending transfers.
     Cancel {
-        endpoint: u8,
+        endpoint: Name,
     },
     /// `close e`: closes the endpoint.
     CloseEndpoint {
-        endpoint: u8,
+        endpoint: Name,
     },
     /// `! STEP ; ..`: steps of the simulation.
     Steps(Steps),

@@ -6,22 +6,22 @@ ghost use Rattle.usb_script.specs.Lines.{is_printable, without_cr, is_skipped};
 ghost use Rattle.usb_script.specs.Fields.{texts};
 ghost use Rattle.usb_script.specs.Outcome.{Gives};
 ghost use Rattle.usb_script.specs.LineForms.{named_of, form_of, item_of, item_reading_of, own_reading_of, reading_of};
-ghost use Rattle.usb_script.specs.ItemKinds.{steps_in};
-ghost use Rattle.usb_script.specs.ItemRanges.{IsInRange, IsReadingSized};
+ghost use Rattle.usb_script.specs.ItemKinds.{steps_in, steps_read};
 
 use crate::call::device_call;
 use crate::fields::six_words;
 use crate::item::Item;
+use crate::line_bytes::Data;
+use crate::name::Name;
 use crate::reading::{LineError, Reading};
 use crate::steps::steps;
-use crate::words::{byte, bytes, handle, skip_spaces, split_words};
+use crate::words::{byte, skip_spaces, split_words};
 use std::alloc::Global;
 
 /// `! STEP ; ..`, `device k B B B B BYTES`, or a call
 #[tactic(auto, unfolding(crate::specs::LineForms::named_of))]
 fn named_line(alloc: Global, name: &[u8], words: &[&[u8]]) -> Result<Item, LineError>
     ensures value { Gives (λ i. i) result (named_of name.now (texts words.now)) }
-    ensures range { IfOk result IsInRange }
     ensures few { IfOk result (λ item. steps_in item ≤ length words.now + 1) }
 {
     if name == b"!".as_slice() {
@@ -30,12 +30,12 @@ fn named_line(alloc: Global, name: &[u8], words: &[&[u8]]) -> Result<Item, LineE
     } else if name == b"device".as_slice() {
         let (device, bus, address, speed, configuration, descriptors) = six_words(words)?;
         Ok(Item::Device {
-            device: handle(b'k', device)?,
+            device: Name::parse(b'k', device)?,
             bus: byte(bus)?,
             address: byte(address)?,
             speed: byte(speed)?,
             configuration: byte(configuration)?,
-            descriptors: bytes(alloc, descriptors)?,
+            descriptors: Data::parse(alloc, descriptors)?,
         })
     } else {
         device_call(alloc, name, words)
@@ -46,7 +46,6 @@ fn named_line(alloc: Global, name: &[u8], words: &[&[u8]]) -> Result<Item, LineE
 #[tactic(auto, unfolding(crate::specs::LineForms::form_of))]
 fn form(alloc: Global, words: &[&[u8]]) -> Result<Item, LineError>
     ensures value { Gives (λ i. i) result (form_of (texts words.now)) }
-    ensures range { IfOk result IsInRange }
     ensures few { IfOk result (λ item. steps_in item ≤ length words.now) }
 {
     match words {
@@ -66,7 +65,6 @@ fn is_printable(line: &[u8]) -> bool
 #[tactic(auto, unfolding(crate::specs::LineForms::item_of))]
 fn item_line(alloc: Global, line: &[u8]) -> Result<Item, LineError>
     ensures value { Gives (λ i. i) result (item_of line.now) }
-    ensures range { IfOk result IsInRange }
     ensures few { IfOk result (λ item. steps_in item ≤ length line.now) }
 {
     let words = split_words(alloc, line)?;
@@ -77,7 +75,7 @@ fn item_line(alloc: Global, line: &[u8]) -> Result<Item, LineError>
 #[tactic(auto, unfolding(crate::specs::LineForms::item_reading_of))]
 fn read_item(alloc: Global, line: &[u8]) -> Result<Reading, LineError>
     ensures value { Gives (λ r. r) result (item_reading_of line.now) }
-    ensures sized { IfOk result (IsReadingSized (length line.now)) }
+    ensures few { IfOk result (λ reading. steps_read reading ≤ length line.now) }
 {
     if !is_printable(line) {
         return Err(LineError::Malformed);
@@ -108,7 +106,7 @@ fn is_skipped(line: &[u8]) -> bool
 #[tactic(auto, unfolding(crate::specs::LineForms::own_reading_of))]
 fn read_own(alloc: Global, line: &[u8]) -> Result<Reading, LineError>
     ensures value { Gives (λ r. r) result (own_reading_of line.now) }
-    ensures sized { IfOk result (IsReadingSized (length line.now)) }
+    ensures few { IfOk result (λ reading. steps_read reading ≤ length line.now) }
 {
     if is_skipped(line) {
         Ok(Reading::Skipped)
@@ -121,7 +119,7 @@ fn read_own(alloc: Global, line: &[u8]) -> Result<Reading, LineError>
 #[tactic(auto, unfolding(crate::specs::LineForms::reading_of))]
 pub fn read_line(alloc: Global, line: &[u8]) -> Result<Reading, LineError>
     ensures value { Gives (λ r. r) result (reading_of line.now) }
-    ensures sized { IfOk result (IsReadingSized (length line.now)) }
+    ensures few { IfOk result (λ reading. steps_read reading ≤ length line.now) }
 {
     read_own(alloc, without_cr(line))
 }

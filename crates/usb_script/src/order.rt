@@ -6,9 +6,10 @@ ghost use Rattle.usb_script.specs.ItemKinds.{is_setup};
 ghost use Rattle.usb_script.specs.Order.{has_name, has_place, is_free_device, may_follow};
 
 use crate::item::Item;
+use crate::name::Name;
 
 /// Whether this is the device line of the name.
-fn has_name(name: u8, item: &Item) -> bool
+fn has_name(name: Name, item: &Item) -> bool
     ensures value { result ≡ has_name name item.now }
 {
     match item {
@@ -37,7 +38,7 @@ fn are_setup(items: &[Item]) -> bool
     items.iter().all(|item| item.is_setup())
 }
 
-fn is_name_taken(items: &[Item], name: u8) -> bool
+fn is_name_taken(items: &[Item], name: Name) -> bool
     ensures value { result ≡ list_any (has_name name) items.now }
 {
     items.iter().any(|item| has_name(name, item))
@@ -52,7 +53,7 @@ fn is_place_taken(items: &[Item], bus: u8, address: u8) -> bool
 /// Whether a device line may stand behind these items. It looks at the items up to the first call
 /// or step, of which at most 64 are devices.
 #[tactic(auto, unfolding(crate::specs::Order::is_free_device))]
-fn is_free_device(before: &[Item], device: u8, bus: u8, address: u8) -> bool
+fn is_free_device(before: &[Item], device: Name, bus: u8, address: u8) -> bool
     ensures value { result ≡ is_free_device before.now device bus address }
 {
     are_setup(before) && !is_name_taken(before, device) && !is_place_taken(before, bus, address)

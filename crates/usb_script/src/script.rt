@@ -2,13 +2,11 @@
 
 ghost use Rattle.std.specs.Prelude.{◌≡◌, ◌+◌, ◌<◌, ◌≤◌, [], ◌∷◌, ◌++◌, length, OnOk, IfErr};
 ghost use Rattle.usb_script.specs.declared.reading.Reading.TheVariants.{Read};
-ghost use Rattle.std.specs.List.{All};
 ghost use Rattle.usb_script.specs.Lines.{lines_of};
 ghost use Rattle.usb_script.specs.Order.{with_reading};
 ghost use Rattle.usb_script.specs.Parse.{with_line, script_of};
 ghost use Rattle.usb_script.specs.Outcome.{Gives, OrMemory, IsParsingError};
 ghost use Rattle.usb_script.specs.ItemKinds.{step_count};
-ghost use Rattle.usb_script.specs.ItemRanges.{IsInRange};
 
 use crate::error::SessionError;
 use crate::item::Item;
@@ -44,10 +42,18 @@ impl Script {
     pub fn items(&self) -> &[Item]
         ensures value { result.now ≡ self.now }
         ensures few { length result.now ≤ 1048576 }
-        ensures range { All IsInRange result.now }
         ensures steps { step_count result.now ≤ 1048576 }
     {
         self.items.as_slice()
+    }
+
+    /// The items in order, given back.
+    pub fn into_items(self) -> Vec<Item>
+        ensures value { result.items ≡ self }
+        ensures few { length result.items ≤ 1048576 }
+        ensures steps { step_count result.items ≤ 1048576 }
+    {
+        self.items
     }
 
     /// How many steps the items make in all.
@@ -101,7 +107,6 @@ fn add_item(items: &mut Vec<Item>, item: Item) -> Result<(), LineError>
 fn add_line(alloc: Global, items: &mut Vec<Item>, line: &[u8]) -> Result<(), LineError>
     ensures value { Gives (λ _. items.new.items) result (with_line items.old.items line.now) }
     ensures few { OnOk result (length items.new.items ≤ length items.old.items + 1) }
-    ensures range { All IsInRange items.old.items → OnOk result (All IsInRange items.new.items) }
     ensures steps { OnOk result
         (step_count items.new.items ≤ step_count items.old.items + length line.now) }
 {

@@ -4,11 +4,13 @@ ghost use Rattle.std.specs.Prelude.{IfOk};
 ghost use Rattle.usb_script.specs.Fields.{texts};
 ghost use Rattle.usb_script.specs.Outcome.{Gives};
 ghost use Rattle.usb_script.specs.StepForms.{reap_of, endpoint_step_of, step_named, step_of};
-ghost use Rattle.usb_script.specs.ItemRanges.{IsStepInRange};
+ghost use Rattle.usb_script.specs.StepRanges.{IsStepInRange};
 
 use crate::fields::{no_word, one_word, three_words, two_words};
+use crate::line_bytes::Data;
+use crate::name::Name;
 use crate::reading::LineError;
-use crate::words::{MAX_TIME, bytes, call, errno, handle, hex_byte, number};
+use crate::words::{MAX_TIME, call, errno, hex_byte, number};
 use std::alloc::Global;
 use usb_kernel::KernelStep;
 
@@ -39,20 +41,20 @@ fn endpoint_step(alloc: Global, name: &[u8], words: &[&[u8]]) -> Result<KernelSt
     if name == b"pkt".as_slice() {
         let (device, endpoint, sent) = three_words(words)?;
         Ok(KernelStep::Packet {
-            device: handle(b'k', device)?,
+            device: Name::parse(b'k', device)?.number(),
             endpoint: hex_byte(endpoint)?,
-            bytes: bytes(alloc, sent)?,
+            bytes: Data::parse(alloc, sent)?.into_bytes(),
         })
     } else if name == b"ack".as_slice() {
         let (device, endpoint) = two_words(words)?;
         Ok(KernelStep::Ack {
-            device: handle(b'k', device)?,
+            device: Name::parse(b'k', device)?.number(),
             endpoint: hex_byte(endpoint)?,
         })
     } else if name == b"fail".as_slice() {
         let (device, endpoint, code) = three_words(words)?;
         Ok(KernelStep::Fail {
-            device: handle(b'k', device)?,
+            device: Name::parse(b'k', device)?.number(),
             endpoint: hex_byte(endpoint)?,
             errno: errno(code)?,
         })
@@ -69,7 +71,7 @@ fn named_step(alloc: Global, name: &[u8], words: &[&[u8]]) -> Result<KernelStep,
     ensures range { IfOk result IsStepInRange }
 {
     if name == b"unplug".as_slice() {
-        let device = handle(b'k', one_word(words)?)?;
+        let device = Name::parse(b'k', one_word(words)?)?.number();
         Ok(KernelStep::Unplug { device })
     } else if name == b"clock".as_slice() {
         let to = number(MAX_TIME, one_word(words)?)?;
@@ -82,7 +84,7 @@ fn named_step(alloc: Global, name: &[u8], words: &[&[u8]]) -> Result<KernelStep,
     } else if name == b"refuse".as_slice() {
         let (device, kind, code) = three_words(words)?;
         Ok(KernelStep::Refuse {
-            device: handle(b'k', device)?,
+            device: Name::parse(b'k', device)?.number(),
             call: call(kind)?,
             errno: errno(code)?,
         })

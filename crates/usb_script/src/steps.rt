@@ -1,11 +1,9 @@
 //! The steps of a line.
 
 ghost use Rattle.std.specs.Prelude.{◌≡◌, ◌≤◌, ◌+◌, length, drop, IfOk};
-ghost use Rattle.std.specs.List.{All};
 ghost use Rattle.usb_script.specs.Fields.{texts};
 ghost use Rattle.usb_script.specs.Outcome.{Gives};
 ghost use Rattle.usb_script.specs.KernelSteps.{IsFirstPart, steps_of, own_steps_of};
-ghost use Rattle.usb_script.specs.ItemRanges.{IsStepInRange};
 
 use crate::item::Steps;
 use crate::reading::LineError;
@@ -29,7 +27,6 @@ fn first_part<'w, 'a>(words: &'w [&'a [u8]]) -> (&'w [&'a [u8]], &'w [&'a [u8]])
 /// The steps of these words, at least one, joined by semicolons.
 pub fn steps(alloc: Global, words: &[&[u8]]) -> Result<Steps, LineError>
     ensures value { Gives (λ s. s) result (steps_of (texts words.now)) }
-    ensures range { IfOk result (All IsStepInRange) }
     ensures few { IfOk result (λ steps. length steps ≤ length words.now + 1) }
 {
     let mut steps = Vec::new(alloc);
@@ -49,7 +46,6 @@ pub fn steps(alloc: Global, words: &[&[u8]]) -> Result<Steps, LineError>
 #[tactic(auto, unfolding(crate::specs::KernelSteps::own_steps_of))]
 pub fn own_steps(alloc: Global, words: &[&[u8]]) -> Result<Steps, LineError>
     ensures value { Gives (λ s. s) result (own_steps_of (texts words.now)) }
-    ensures range { IfOk result (All IsStepInRange) }
     ensures few { IfOk result (λ steps. length steps ≤ length words.now) }
 {
     match words {

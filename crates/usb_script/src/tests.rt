@@ -1,10 +1,12 @@
 //! Scripts that are read, and lines that are outside the grammar.
 
 mod calls;
+mod fields;
 mod steps;
 
 use crate::error::SessionError;
 use crate::item::Item;
+use crate::name::Name;
 use crate::script::{MAX_SCRIPT, parse_script};
 use std::alloc::Global;
 use std::test::Fail;
@@ -161,7 +163,7 @@ pub fn text_of(alloc: Global, item: &Item) -> Result<String, Fail> {
             configuration,
             descriptors,
         } => {
-            let bytes = descriptors.as_slice();
+            let (device, bytes) = (device.number(), descriptors.as_slice());
             format!(in alloc; "device {device} {bus} {address} {speed} {configuration} {bytes:?}")?
         }
         Item::Now => format!(in alloc; "now")?,
@@ -169,23 +171,32 @@ pub fn text_of(alloc: Global, item: &Item) -> Result<String, Fail> {
             device,
             bus,
             address,
-        } => format!(in alloc; "open {device} {bus} {address}")?,
-        Item::DeviceDescriptor { device } => format!(in alloc; "devdesc {device}")?,
-        Item::Descriptors { device } => format!(in alloc; "descriptors {device}")?,
+        } => {
+            let device = device.number();
+            format!(in alloc; "open {device} {bus} {address}")?
+        }
+        Item::DeviceDescriptor { device } => named(alloc, "devdesc", *device)?,
+        Item::Descriptors { device } => named(alloc, "descriptors", *device)?,
         Item::Claim {
             device,
             number,
             interface,
-        } => format!(in alloc; "claim {device} {number} {interface}")?,
+        } => {
+            let (device, interface) = (device.number(), interface.number());
+            format!(in alloc; "claim {device} {number} {interface}")?
+        }
         Item::Endpoint {
             endpoint,
             interface,
             address,
-            transfer_type,
-            direction,
-        } => format!(in alloc;
-            "endpoint {endpoint} {interface} {address} {transfer_type:?} {direction:?}"
-        )?,
+            kind,
+        } => {
+            let (endpoint, interface) = (endpoint.number(), interface.number());
+            let (of_type, direction) = (kind.transfer_type(), kind.direction());
+            format!(in alloc;
+                "endpoint {endpoint} {interface} {address} {of_type:?} {direction:?}"
+            )?
+        }
         Item::Steps(steps) => {
             let steps = text_of_steps(alloc, steps)?;
             format!(in alloc; "steps{steps}")?
@@ -195,18 +206,27 @@ pub fn text_of(alloc: Global, item: &Item) -> Result<String, Fail> {
     Ok(text)
 }
 
+/// A call with one name, as text.
+fn named(alloc: Global, call: &str, name: Name) -> Result<String, Fail> {
+    let number = name.number();
+    Ok(format!(in alloc; "{call} {number}")?)
+}
+
 /// The fields of a call on an endpoint, as text.
 fn text_of_endpoint_call(alloc: Global, item: &Item) -> Result<String, Fail> {
     let text = match item {
-        Item::SubmitIn { endpoint, length } => format!(in alloc; "submitin {endpoint} {length}")?,
+        Item::SubmitIn { endpoint, length } => {
+            let (endpoint, bytes) = (endpoint.number(), length.bytes());
+            format!(in alloc; "submitin {endpoint} {bytes}")?
+        }
         Item::SubmitOut { endpoint, bytes } => {
-            let bytes = bytes.as_slice();
+            let (endpoint, bytes) = (endpoint.number(), bytes.as_slice());
             format!(in alloc; "submitout {endpoint} {bytes:?}")?
         }
-        Item::Pending { endpoint } => format!(in alloc; "pending {endpoint}")?,
-        Item::Poll { endpoint } => format!(in alloc; "poll {endpoint}")?,
-        Item::Cancel { endpoint } => format!(in alloc; "cancel {endpoint}")?,
-        Item::CloseEndpoint { endpoint } => format!(in alloc; "close {endpoint}")?,
+        Item::Pending { endpoint } => named(alloc, "pending", *endpoint)?,
+        Item::Poll { endpoint } => named(alloc, "poll", *endpoint)?,
+        Item::Cancel { endpoint } => named(alloc, "cancel", *endpoint)?,
+        Item::CloseEndpoint { endpoint } => named(alloc, "close", *endpoint)?,
         _ => text_of_wait(alloc, item)?,
     };
     Ok(text)
@@ -220,6 +240,7 @@ fn text_of_wait(alloc: Global, item: &Item) -> Result<String, Fail> {
             timeout,
             steps,
         } => {
+            let (endpoint, timeout) = (endpoint.number(), timeout.nanoseconds());
             let steps = text_of_steps(alloc, steps)?;
             format!(in alloc; "wait {endpoint} {timeout}{steps}")?
         }
@@ -229,8 +250,9 @@ fn text_of_wait(alloc: Global, item: &Item) -> Result<String, Fail> {
             timeout,
             steps,
         } => {
-            let steps = text_of_steps(alloc, steps)?;
-            format!(in alloc; "xferin {endpoint} {length} {timeout}{steps}")?
+            let (endpoint, timeout) = (endpoint.number(), timeout.nanoseconds());
+            let (bytes, steps) = (length.bytes(), text_of_steps(alloc, steps)?);
+            format!(in alloc; "xferin {endpoint} {bytes} {timeout}{steps}")?
         }
         Item::TransferOut {
             endpoint,
@@ -238,8 +260,8 @@ fn text_of_wait(alloc: Global, item: &Item) -> Result<String, Fail> {
             timeout,
             steps,
         } => {
-            let bytes = bytes.as_slice();
-            let steps = text_of_steps(alloc, steps)?;
+            let (endpoint, timeout) = (endpoint.number(), timeout.nanoseconds());
+            let (bytes, steps) = (bytes.as_slice(), text_of_steps(alloc, steps)?);
             format!(in alloc; "xferout {endpoint} {bytes:?} {timeout}{steps}")?
         }
         _ => format!(in alloc; "no call that waits")?,

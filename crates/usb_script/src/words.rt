@@ -6,17 +6,12 @@ ghost use Rattle.usb_script.specs.Fields.{texts};
 ghost use Rattle.hex.specs.Hex.{hex_digit_value};
 ghost use Rattle.usb_script.specs.Lines.{words_of, is_skipped};
 ghost use Rattle.usb_script.specs.Outcome.{Gives};
-ghost use Rattle.usb_script.specs.Words.{digits_after, decimal_of, number_of, number_between, time_of, has_leading_zero, index_of, handle_of, hex_byte_of, bytes_of, kind_of, errno_of, call_of};
+ghost use Rattle.usb_script.specs.Words.{digits_after, decimal_of, number_of, number_between, has_leading_zero, hex_byte_of, errno_of, call_of};
 ghost use Rattle.usb_kernel.specs.Submissions.{IsErrno};
-ghost use Rattle.usb_script.specs.ItemRanges.{IsTimeout, IsOpenable};
 
 use crate::reading::LineError;
 use std::alloc::Global;
-use usb_desc::{Direction, TransferType};
-use usb_kernel::{Bytes, KernelCall};
-
-/// The most bytes that one word gives.
-const MAX_BYTES: usize = 65536;
+use usb_kernel::KernelCall;
 
 /// The latest time, and the longest that a call waits but for `max`, in nanoseconds.
 pub const MAX_TIME: u64 = 1_000_000_000_000_000_000;
@@ -95,7 +90,7 @@ fn digits(word: &[u8]) -> Option<u64>
 
 /// A number of 1 to 19 decimal digits.
 #[tactic(auto, unfolding(crate::specs::Words::decimal_of))]
-fn decimal(word: &[u8]) -> Option<u64>
+pub fn decimal(word: &[u8]) -> Option<u64>
     ensures value { result ≡ decimal_of word.now }
 {
     if word.is_empty() || word.len() > 19 {
@@ -140,58 +135,11 @@ pub fn byte(word: &[u8]) -> Result<u8, LineError>
     Ok(value as u8)
 }
 
-/// How many bytes are wanted, at most 65536.
-pub fn length(word: &[u8]) -> Result<u32, LineError>
-    ensures value { Gives (λ n. n) result (number_of 65536 word.now) }
-    ensures small { IfOk result (λ n. n ≤ 65536) }
-{
-    let value = number(65536, word)?;
-    Ok(value as u32)
-}
-
-/// A time in nanoseconds, where `max` is the greatest one.
-#[tactic(auto, unfolding(crate::specs::Words::time_of))]
-pub fn time(word: &[u8]) -> Result<u64, LineError>
-    ensures value { Gives (λ n. n) result (time_of word.now) }
-    ensures range { IfOk result IsTimeout }
-{
-    if word == b"max".as_slice() {
-        Ok(u64::MAX)
-    } else {
-        number(MAX_TIME, word)
-    }
-}
-
 /// Whether a further digit follows a 0.
-fn has_leading_zero(digits: &[u8]) -> bool
+pub fn has_leading_zero(digits: &[u8]) -> bool
     ensures value { result ≡ has_leading_zero digits.now }
 {
     matches!(digits, [b'0', _, ..])
-}
-
-/// The number of a name: 0 to 63.
-#[tactic(auto, unfolding(crate::specs::Words::index_of))]
-fn index(digits: &[u8]) -> Result<u8, LineError>
-    ensures value { Gives (λ n. n) result (index_of digits.now) }
-    ensures small { IfOk result (λ n. n < 64) }
-{
-    if has_leading_zero(digits) {
-        return Err(LineError::Malformed);
-    }
-    let value = number(63, digits)?;
-    Ok(value as u8)
-}
-
-/// The number of a name with this letter.
-#[tactic(auto, unfolding(crate::specs::Words::handle_of))]
-pub fn handle(letter: u8, word: &[u8]) -> Result<u8, LineError>
-    ensures value { Gives (λ n. n) result (handle_of letter word.now) }
-    ensures small { IfOk result (λ n. n < 64) }
-{
-    match word {
-        [first, digits @ ..] if *first == letter => index(digits),
-        _ => Err(LineError::Malformed),
-    }
 }
 
 /// The value of a hexadecimal digit, in either case.
@@ -219,41 +167,6 @@ pub fn hex_byte(word: &[u8]) -> Result<u8, LineError>
             Ok(high * 16 + low)
         }
         _ => Err(LineError::Malformed),
-    }
-}
-
-/// The bytes of a word of hexadecimal digits, or of a dash.
-#[tactic(auto, unfolding(crate::specs::Words::bytes_of))]
-pub fn bytes(alloc: Global, word: &[u8]) -> Result<Bytes, LineError>
-    ensures value { Gives (λ b. b) result (bytes_of word.now) }
-    ensures few { IfOk result (λ b. length b ≤ 65536) }
-{
-    if word == b"-".as_slice() {
-        return Ok(Bytes::from_vec(Vec::new(alloc)));
-    }
-    match hex::decode(alloc, word) {
-        Ok(bytes) if bytes.len() <= MAX_BYTES => Ok(Bytes::from_vec(bytes)),
-        Err(hex::FromHexError::OutOfMemory) => Err(LineError::Memory),
-        _ => Err(LineError::Malformed),
-    }
-}
-
-/// The kind of an endpoint: its transfer type and its direction.
-#[tactic(auto, unfolding(crate::specs::Words::kind_of))]
-pub fn kind(word: &[u8]) -> Result<(TransferType, Direction), LineError>
-    ensures value { Gives (λ k. k) result (kind_of word.now) }
-    ensures openable { IfOk result (λ k. IsOpenable k.0) }
-{
-    if word == b"bulk-in".as_slice() {
-        Ok((TransferType::Bulk, Direction::In))
-    } else if word == b"bulk-out".as_slice() {
-        Ok((TransferType::Bulk, Direction::Out))
-    } else if word == b"int-in".as_slice() {
-        Ok((TransferType::Interrupt, Direction::In))
-    } else if word == b"int-out".as_slice() {
-        Ok((TransferType::Interrupt, Direction::Out))
-    } else {
-        Err(LineError::Malformed)
     }
 }
 

@@ -1,9 +1,7 @@
 use Rattle.std.proofs.Common.{◌≡◌, ◌≤◌, ◌+◌, length, []}
-use Rattle.std.specs.List.{All}
 use Rattle.usb_script.specs.Lines.{lines_of}
 use Rattle.usb_script.specs.Parse.{parse_from}
 use Rattle.usb_script.specs.ItemKinds.{step_count}
-use Rattle.usb_script.specs.ItemRanges.{IsInRange}
 use Rattle.usb_script.proofs.script.parse_script.Given as goal
 
 abbrev pub invariant-loop-rest : goal.invariant-loop-rest
@@ -11,7 +9,6 @@ invariant-loop-rest l = record {
   parsed : parse_from l.items.items l.line (lines_of l.rest) ≡ parse_from [] 1 (lines_of l.bytes);
   room : l.line + length l.rest ≤ 1048577;
   few : length l.items.items + length l.rest ≤ 1048576;
-  range : All IsInRange l.items.items;
   steps : step_count l.items.items + length l.rest ≤ 1048576;
 }
 

@@ -3,7 +3,7 @@ use Rattle.std.specs.List.{All}
 use Rattle.usb_script.specs.Fields.{texts}
 use Rattle.usb_script.specs.StepForms.{step_of}
 use Rattle.usb_script.specs.KernelSteps.{each, parts_of, steps_of}
-use Rattle.usb_script.specs.ItemRanges.{IsStepInRange}
+use Rattle.usb_script.specs.StepRanges.{IsStepInRange}
 use Rattle.usb_script.proofs.StepsOfLine.{behind}
 use Rattle.usb_script.proofs.steps.steps.Given as goal
 
