@@ -7,7 +7,7 @@ use Rattle.usb_desc.specs.declared.types.TransferType.TheVariants.{Control, Isoc
 use Rattle.usb_desc.specs.Configurations.{configurations, endpoints}
 use Rattle.usb_desc.specs.Interfaces.{interfaces}
 use Rattle.usb_desc.specs.Fields.{configuration_value, interface_number, alternate_setting, interface_class, interface_subclass, interface_protocol, address, transfer_type, max_packet_size, interval}
-use Rattle.usb_lines.specs.Words.{spaced, two_digits, part}
+use Rattle.usb_lines.specs.Words.{spaced, two_digits, class_code, part}
 
 abbrev pub type_word : TransferType → List ℕ
 type_word Control = codes "control"
@@ -29,7 +29,7 @@ number_word setting = decimal (interface_number setting) ++ (codes "." ++ decima
 unfoldable pub class_words : List ℕ → List ℕ
 class_words setting =
     spaced (codes "if")
-    (number_word setting ∷ two_digits (interface_class setting) ∷ two_digits (interface_subclass setting) ∷ two_digits (interface_protocol setting) ∷ [])
+    (number_word setting ∷ class_code (interface_class setting) (interface_subclass setting) (interface_protocol setting) ∷ [])
 
 abbrev pub endpoint_part : List ℕ → List ℕ
 endpoint_part endpoint = part (endpoint_words endpoint)

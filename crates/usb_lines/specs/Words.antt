@@ -31,3 +31,7 @@ spaced word (next ∷ words) = word ++ 32 ∷ spaced next words
 -- a part of a line, with a space before it
 abbrev pub part : List ℕ → List ℕ
 part words = 32 ∷ words
+
+-- a class with its subclass and protocol
+unfoldable pub class_code : ℕ → ℕ → ℕ → List ℕ
+class_code class subclass protocol = spaced (two_digits class) (two_digits subclass ∷ two_digits protocol ∷ [])

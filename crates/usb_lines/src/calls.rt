@@ -1,53 +1,34 @@
 //! The lines of calls that give no value.
 
-ghost use Rattle.std.specs.Prelude.{◌≡◌, IfOk, string_bytes};
-ghost use Rattle.usb_lines.specs.Calls.{ok_line, condition_line, error_line, HasLine};
+ghost use Rattle.std.specs.Prelude.{◌≡◌, ◌++◌, OnOk, string_bytes};
+ghost use Rattle.usb_lines.specs.Calls.{ok_line, condition_line, error_line};
 
-use std::alloc::{AllocError, Global};
-use usb_desc::{Fail, NoMemory};
+use usb_desc::NoMemory;
 use usb_error::Error;
 
-fn ok_line(alloc: Global) -> Result<String, AllocError>
-    ensures text { IfOk result (λ line. string_bytes line ≡ ok_line) }
+/// Appends the answer of a call that is done.
+pub fn write_ok(out: &mut String) -> Result<(), NoMemory>
+    ensures text { OnOk result (string_bytes out.new ≡ string_bytes out.old ++ ok_line) }
 {
-    String::from_str(alloc, "ok\n")
+    out.push_str("ok\n")?;
+    Ok(())
 }
 
-fn condition_text(alloc: Global) -> Result<String, AllocError>
-    ensures text { IfOk result (λ line. string_bytes line ≡ condition_line) }
+/// Appends the answer of a barred call.
+pub fn write_condition(out: &mut String) -> Result<(), NoMemory>
+    ensures text { OnOk result (string_bytes out.new ≡ string_bytes out.old ++ condition_line) }
 {
-    String::from_str(alloc, "condition\n")
+    out.push_str("condition\n")?;
+    Ok(())
 }
 
-/// The answer of a barred call.
-pub fn condition_line(alloc: Global) -> Result<String, NoMemory>
-    ensures text { IfOk result (λ line. string_bytes line ≡ condition_line) }
-{
-    match condition_text(alloc) {
-        Ok(line) => Ok(line),
-        Err(_) => Err(NoMemory),
-    }
-}
-
+/// Appends the answer of a call that is refused: the kind of its error and the text.
 #[tactic(auto, unfolding(crate::specs::Calls::error_line))]
-fn error_line(alloc: Global, error: &Error) -> Result<String, AllocError>
-    ensures text { IfOk result (λ line. string_bytes line ≡ error_line error.now) }
+pub fn write_error(out: &mut String, error: &Error) -> Result<(), NoMemory>
+    ensures text { OnOk result
+        (string_bytes out.new ≡ string_bytes out.old ++ error_line error.now) }
 {
-    let kind = error.kind().as_str();
-    format!(in alloc; "error {kind} {error}\n")
-}
-
-/// The answer of a call that may be refused.
-pub fn tried_line(alloc: Global, tried: &Result<(), Fail<Error>>) -> Result<String, NoMemory>
-    ensures text { IfOk result (λ line. HasLine tried.now (string_bytes line)) }
-{
-    let line = match tried {
-        Ok(()) => ok_line(alloc),
-        Err(Fail::Cause(error)) => error_line(alloc, error),
-        Err(Fail::Memory) => return Err(NoMemory),
-    };
-    match line {
-        Ok(line) => Ok(line),
-        Err(_) => Err(NoMemory),
-    }
+    let kind = error.kind();
+    write!(out, "error {kind} {error}\n")?;
+    Ok(())
 }

@@ -1,66 +1,86 @@
 //! The lines of completions, and of what else a queue tells.
 
-ghost use Rattle.std.specs.Prelude.{◌≡◌, IfOk, string_bytes};
+ghost use Rattle.std.specs.Prelude.{◌≡◌, ◌++◌, OnOk, string_bytes};
 ghost use Rattle.usb_xfer.specs.TransferTexts.{word_of_status};
 ghost use Rattle.usb_lines.specs.Completions.{done_line, polled_line, waited_line, count_line, now_line};
 
-use crate::words::hex_word;
-use std::alloc::{AllocError, Global};
+use crate::words::push_bytes;
+use usb_desc::NoMemory;
 use usb_xfer::{Completion, TransferError};
 
-/// The word of a status.
-fn status_word(alloc: Global, status: &Result<(), TransferError>) -> Result<String, AllocError>
-    ensures word { IfOk result (λ word. string_bytes word ≡ word_of_status status.now) }
+/// Appends the word of a status.
+pub fn push_status(out: &mut String, status: &Result<(), TransferError>) -> Result<(), NoMemory>
+    ensures text { OnOk result
+        (string_bytes out.new ≡ string_bytes out.old ++ word_of_status status.now) }
 {
     match status {
-        Ok(()) => String::from_str(alloc, "ok"),
-        Err(error) => error.word(alloc),
+        Ok(()) => out.push_str("ok")?,
+        Err(TransferError::Cancelled) => out.push_str("cancelled")?,
+        Err(TransferError::Stall) => out.push_str("stall")?,
+        Err(TransferError::Disconnected) => out.push_str("disconnected")?,
+        Err(TransferError::Fault) => out.push_str("fault")?,
+        Err(TransferError::InvalidArgument) => out.push_str("invalid")?,
+        Err(TransferError::Unknown(code)) => write!(out, "unknown:{code}")?,
     }
+    Ok(())
 }
 
 #[tactic(auto, unfolding(crate::specs::Completions::done_line))]
-fn done_line(alloc: Global, done: &Completion) -> Result<String, AllocError>
-    ensures text { IfOk result (λ line. string_bytes line ≡ done_line done.now) }
+fn write_done(out: &mut String, done: &Completion) -> Result<(), NoMemory>
+    ensures text { OnOk result (string_bytes out.new ≡ string_bytes out.old ++ done_line done.now) }
 {
-    let status = status_word(alloc, &done.status)?;
+    out.push_str("done ")?;
+    push_status(out, &done.status)?;
     let count = done.actual_len;
     let requested = done.buffer.requested_len();
-    let bytes = hex_word(alloc, done.buffer.as_slice())?;
-    format!(in alloc; "done {status} {count} {requested} {bytes}\n")
+    write!(out, " {count} {requested} ")?;
+    push_bytes(out, done.buffer.as_slice())?;
+    out.push_str("\n")?;
+    Ok(())
 }
 
-/// The answer of a poll: a completion, or `pending`.
-pub fn polled_line(alloc: Global, done: &Option<Completion>) -> Result<String, AllocError>
-    ensures text { IfOk result (λ line. string_bytes line ≡ polled_line done.now) }
+/// Appends the answer of a poll: a completion, or `pending`.
+pub fn write_polled(out: &mut String, done: &Option<Completion>) -> Result<(), NoMemory>
+    ensures text { OnOk result
+        (string_bytes out.new ≡ string_bytes out.old ++ polled_line done.now) }
 {
     match done {
-        Some(done) => done_line(alloc, done),
-        None => String::from_str(alloc, "pending\n"),
+        Some(done) => write_done(out, done),
+        None => {
+            out.push_str("pending\n")?;
+            Ok(())
+        }
     }
 }
 
-/// The answer of a wait: a completion, or `none`.
-pub fn waited_line(alloc: Global, done: &Option<Completion>) -> Result<String, AllocError>
-    ensures text { IfOk result (λ line. string_bytes line ≡ waited_line done.now) }
+/// Appends the answer of a wait: a completion, or `none`.
+pub fn write_waited(out: &mut String, done: &Option<Completion>) -> Result<(), NoMemory>
+    ensures text { OnOk result
+        (string_bytes out.new ≡ string_bytes out.old ++ waited_line done.now) }
 {
     match done {
-        Some(done) => done_line(alloc, done),
-        None => String::from_str(alloc, "none\n"),
+        Some(done) => write_done(out, done),
+        None => {
+            out.push_str("none\n")?;
+            Ok(())
+        }
     }
 }
 
-/// The number of pending transfers.
+/// Appends the number of pending transfers.
 #[tactic(auto, unfolding(crate::specs::Completions::count_line))]
-pub fn count_line(alloc: Global, count: usize) -> Result<String, AllocError>
-    ensures text { IfOk result (λ line. string_bytes line ≡ count_line count) }
+pub fn write_count(out: &mut String, count: usize) -> Result<(), NoMemory>
+    ensures text { OnOk result (string_bytes out.new ≡ string_bytes out.old ++ count_line count) }
 {
-    format!(in alloc; "count {count}\n")
+    write!(out, "count {count}\n")?;
+    Ok(())
 }
 
-/// The clock in nanoseconds.
+/// Appends the clock in nanoseconds.
 #[tactic(auto, unfolding(crate::specs::Completions::now_line))]
-pub fn now_line(alloc: Global, clock: u64) -> Result<String, AllocError>
-    ensures text { IfOk result (λ line. string_bytes line ≡ now_line clock) }
+pub fn write_now(out: &mut String, clock: u64) -> Result<(), NoMemory>
+    ensures text { OnOk result (string_bytes out.new ≡ string_bytes out.old ++ now_line clock) }
 {
-    format!(in alloc; "now {clock}\n")
+    write!(out, "now {clock}\n")?;
+    Ok(())
 }

@@ -1,4 +1,4 @@
-//! The printed lines of a session: answers of calls, and fates of tickets.
+//! The printed lines of a session: answers of calls, and fates of tickets. Each is appended to a text.
 #![tactic(auto)]
 
 mod calls;
@@ -8,8 +8,8 @@ mod devices;
 mod tickets;
 mod words;
 
-pub use calls::{condition_line, tried_line};
-pub use completions::{count_line, now_line, polled_line, waited_line};
-pub use descriptors::descriptors_line;
-pub use devices::device_line;
-pub use tickets::ticket_line;
+pub use calls::{write_condition, write_error, write_ok};
+pub use completions::{write_count, write_now, write_polled, write_waited};
+pub use descriptors::write_descriptors;
+pub use devices::write_device;
+pub use tickets::write_ticket;

@@ -1,40 +1,32 @@
 //! The fate line of a ticket.
 
-ghost use Rattle.std.specs.Prelude.{◌≡◌, IfOk, string_bytes};
-ghost use Rattle.usb_lines.specs.Tickets.{device_word, status_words, ticket_line};
+ghost use Rattle.std.specs.Prelude.{◌≡◌, ◌++◌, OnOk, string_bytes};
+ghost use Rattle.usb_lines.specs.Tickets.{ticket_line};
 
-use crate::words::hex_word;
-use std::alloc::{AllocError, Global};
+use crate::completions::push_status;
+use crate::words::push_bytes;
+use usb_desc::NoMemory;
 use usb_kernel::TicketInfo;
-use usb_xfer::status_word;
+use usb_xfer::transfer_status;
 
-fn device_word(alloc: Global, device: u8) -> Result<String, AllocError>
-    ensures text { IfOk result (λ text. string_bytes text ≡ device_word device) }
-{
-    format!(in alloc; "k{device}")
-}
-
-/// The status and the count of a ticket.
-fn status_words(alloc: Global, info: &TicketInfo) -> Result<String, AllocError>
-    ensures text { IfOk result (λ text. string_bytes text ≡ status_words info.now) }
-{
-    let status = status_word(alloc, info.refused, info.status.unwrap_or(0))?;
-    let count = info.count;
-    format!(in alloc; "{status} {count}")
-}
-
-/// The fate line of a ticket.
+/// Appends the fate line of a ticket.
 #[tactic(auto, unfolding(crate::specs::Tickets::ticket_line))]
-pub fn ticket_line(
-    alloc: Global,
+pub fn write_ticket(
+    out: &mut String,
     ticket: u64,
     info: &TicketInfo,
     how: &str,
-) -> Result<String, AllocError>
-    ensures text { IfOk result (λ line. string_bytes line ≡ ticket_line ticket info.now how.now) }
+) -> Result<(), NoMemory>
+    ensures text { OnOk result
+        (string_bytes out.new ≡ string_bytes out.old ++ ticket_line ticket info.now how.now) }
 {
-    let name = device_word(alloc, info.device)?;
-    let endpoint = hex_word(alloc, &[info.endpoint])?;
-    let words = status_words(alloc, info)?;
-    format!(in alloc; "ticket {ticket} {name} {endpoint} {words} {how}\n")
+    let device = info.device;
+    write!(out, "ticket {ticket} k{device} ")?;
+    push_bytes(out, &[info.endpoint])?;
+    out.push_str(" ")?;
+    let status = transfer_status(info.refused, info.status.unwrap_or(0));
+    push_status(out, &status)?;
+    let count = info.count;
+    write!(out, " {count} {how}\n")?;
+    Ok(())
 }

@@ -1,41 +1,78 @@
-//! Words of printed lines.
+//! Words of printed lines, each appended to a text.
 
-ghost use Rattle.std.specs.Prelude.{◌≡◌, ◌++◌, IfOk, OnOk, string_bytes};
-ghost use Rattle.usb_lines.specs.Words.{hex_word, two_digits, four_digits, part};
+ghost use Rattle.std.specs.Prelude.{◌≡◌, ◌++◌, ◌<◌, OnOk, slice_index, string_bytes};
+ghost use Rattle.hex.specs.Hex.{encode_lower, lower_digits};
+ghost use Rattle.usb_lines.specs.Words.{hex_word, two_digits, four_digits, class_code};
 
-use std::alloc::{AllocError, Global};
+use usb_desc::NoMemory;
 
-/// Bytes as hexadecimal digits in lower case, or a dash for none.
+/// The hexadecimal digits in lower case.
+const DIGITS: &[u8; 16] = b"0123456789abcdef";
+
+/// The hexadecimal digit of a number below 16.
+fn digit(number: u8) -> char
+    requires below { number < 16 }
+    ensures digit { result ≡ slice_index lower_digits number }
+    ensures ascii { result < 128 }
+{
+    char::from(DIGITS[number as usize])
+}
+
+/// Appends bytes as hexadecimal digits in lower case, two for each.
+#[tactic(auto, unfolding(hex::specs::Hex::encode_with))]
+pub fn push_hex(out: &mut String, bytes: &[u8]) -> Result<(), NoMemory>
+    ensures text { OnOk result
+        (string_bytes out.new ≡ string_bytes out.old ++ encode_lower bytes.now) }
+{
+    for byte in bytes {
+        out.push(digit(*byte / 16))?;
+        out.push(digit(*byte % 16))?;
+    }
+    Ok(())
+}
+
+/// Appends bytes as hexadecimal digits in lower case, or a dash for none.
 #[tactic(auto, unfolding(crate::specs::Words::hex_word))]
-pub fn hex_word(alloc: Global, bytes: &[u8]) -> Result<String, AllocError>
-    ensures text { IfOk result (λ text. string_bytes text ≡ hex_word bytes.now) }
+pub fn push_bytes(out: &mut String, bytes: &[u8]) -> Result<(), NoMemory>
+    ensures text { OnOk result (string_bytes out.new ≡ string_bytes out.old ++ hex_word bytes.now) }
 {
     if bytes.is_empty() {
-        String::from_str(alloc, "-")
+        out.push_str("-")?;
     } else {
-        hex::encode(alloc, bytes)
+        push_hex(out, bytes)?;
     }
+    Ok(())
 }
 
-/// A byte as two hexadecimal digits in lower case.
-pub fn two_digits(alloc: Global, byte: u8) -> Result<String, AllocError>
-    ensures text { IfOk result (λ text. string_bytes text ≡ two_digits byte) }
+/// Appends a byte as two hexadecimal digits in lower case.
+pub fn push_two_digits(out: &mut String, byte: u8) -> Result<(), NoMemory>
+    ensures text { OnOk result (string_bytes out.new ≡ string_bytes out.old ++ two_digits byte) }
 {
-    hex::encode(alloc, &[byte])
+    push_hex(out, &[byte])
 }
 
-/// A number of 16 bits as four hexadecimal digits in lower case.
-pub fn four_digits(alloc: Global, number: u16) -> Result<String, AllocError>
-    ensures text { IfOk result (λ text. string_bytes text ≡ four_digits number) }
+/// Appends a number of 16 bits as four hexadecimal digits in lower case.
+pub fn push_four_digits(out: &mut String, number: u16) -> Result<(), NoMemory>
+    ensures text { OnOk result (string_bytes out.new ≡ string_bytes out.old ++ four_digits number) }
 {
-    hex::encode(alloc, &[(number / 256) as u8, (number % 256) as u8])
+    push_hex(out, &[(number / 256) as u8, (number % 256) as u8])
 }
 
-/// A part behind the words of a line, with a space before it.
-pub fn push_part(line: &mut String, words: &str) -> Result<(), AllocError>
-    ensures after { OnOk result (string_bytes line.new ≡ string_bytes line.old ++ part words.now) }
+/// Appends a class, a subclass and a protocol, each as two hexadecimal digits in lower case.
+#[tactic(auto, unfolding(crate::specs::Words::class_code))]
+pub fn push_class_code(
+    out: &mut String,
+    class: u8,
+    subclass: u8,
+    protocol: u8,
+) -> Result<(), NoMemory>
+    ensures text { OnOk result
+        (string_bytes out.new ≡ string_bytes out.old ++ class_code class subclass protocol) }
 {
-    line.push_str(" ")?;
-    line.push_str(words)?;
+    push_two_digits(out, class)?;
+    out.push_str(" ")?;
+    push_two_digits(out, subclass)?;
+    out.push_str(" ")?;
+    push_two_digits(out, protocol)?;
     Ok(())
 }

@@ -4,4 +4,4 @@ use Rattle.usb_lines.specs.Descriptors.{setting_part}
 use Rattle.usb_lines.proofs.descriptors.push_interface.Given as goal
 
 abbrev pub invariant-loop-setting : goal.invariant-loop-setting
-invariant-loop-setting l = string_bytes l.text ≡ string_bytes l.initial.text ++ flat_map setting_part l.yielded
+invariant-loop-setting l = string_bytes l.out ≡ string_bytes l.initial.out ++ flat_map setting_part l.yielded
