@@ -7,15 +7,16 @@ use Rattle.usb_endpoint.specs.declared.any_endpoint.AnyEndpoint.{AnyEndpoint}
 use Rattle.usb_endpoint.specs.AnyEndpoints.{state_of}
 use Rattle.usb_endpoint.specs.EndpointState.{EndpointState}
 use Rattle.usb_endpoint.specs.Handles.{Stands, KeepsOthers}
-use Rattle.usb_endpoint.specs.Frames.{Stands-other}
+use Rattle.usb_endpoint.proofs.Frames.{Stands-other}
 use Rattle.usb_device.specs.HostState.{HostState}
 use Rattle.usb_device.specs.HostBus.{bus_of}
 use Rattle.usb_device.proofs.InterfaceFrames.{StandsInterface-same}
 use Rattle.usb_answers.specs.Names.{named, change_named, freed, set_name}
-use Rattle.usb_answers.specs.State.{State, Endpoint, kept, handle_of}
+use Rattle.usb_answers.specs.State.{State, Endpoint, kept}
 use Rattle.usb_answers.specs.SessionState.{SessionState, IsSound}
 use Rattle.usb_answers.specs.Relation.{Represents, session_of}
-use Rattle.usb_answers.proofs.NameLemmas.{named-map, named-set, named-set_other, named-freed, named-freed_other, freed-free, length-freed, length-set_name, map-freed, map-set, map-change_named, put-changed, put-back, named-change_same, named-change_other}
+use Rattle.usb_answers.proofs.Answering.{named_kept}
+use Rattle.usb_answers.proofs.NameLemmas.{named-map, named-set, named-set_other, named-freed, named-freed_other, freed-free, length-freed, length-set_name, map-freed, map-set, map-change_named, put-changed, named-change_same, named-change_other}
 
 -- what is kept between lines
 pub record KeepsSession (old new : HostState) : Type 0 where
@@ -32,7 +33,7 @@ names-put xs after n m x y z was put is =
     ]
 
 -- what is open under a name once it was freed
-pub names-freed : {X : Type 0} (xs after : List (Option X)) (n m : ℕ) (z : X) → after ≡ freed xs n → named after m ≡ Some z → (m ≢ n) × (named xs m ≡ Some z)
+names-freed : {X : Type 0} (xs after : List (Option X)) (n m : ℕ) (z : X) → after ≡ freed xs n → named after m ≡ Some z → (m ≢ n) × (named xs m ≡ Some z)
 names-freed xs after n m z rest is =
     elim (cases_eq m n) [
       | inl same ↦ absurd (none-some z (sym (named-freed xs n) ∙ sym (ap (named (freed xs n)) same) ∙ sym (ap (λ l. named l m) rest) ∙ is))
@@ -117,9 +118,6 @@ pub record OpenAt (state : State) (e : ℕ) (x : EndpointState) : Type 0 where
   pub same : kept entry ≡ x
   pub few : entry.taken ≤ length entry.tickets
 
-pub named_kept : (s : SessionState) (state : State) (e : ℕ) → Represents s state → named s.endpoints e ≡ handle_of state e
-named_kept s state e r = ap (λ (v : SessionState). named v.endpoints e) r.is ∙ named-map kept state.endpoints e
-
 open_by : (state : State) (e : ℕ) (x : EndpointState) (o : Option Endpoint) → named state.endpoints e ≡ o → option_map kept o ≡ Some x → ((h : Endpoint) → named state.endpoints e ≡ Some h → h.taken ≤ length h.tickets) → OpenAt state e x
 open_by state e x None at is few = absurd (none-some x is)
 open_by state e x (Some h) at is few = record { entry = h; is = at; same = same_Some (kept h) x is; few = few h at }
@@ -149,14 +147,6 @@ represents-put s state now after f e x y o r put same few =
       few = few-put state f e o.entry r.few o.is few;
     }
 
--- an endpoint was called and is as it was
-pub represents-same : (s : SessionState) (state : State) (now : HostState) (after : List (Option EndpointState)) (e : ℕ) (x : EndpointState) → Represents s state → named s.endpoints e ≡ Some x → after ≡ set_name (freed s.endpoints e) e x → Represents (record s { host = now; endpoints = after }) (record state { host = now })
-represents-same s state now after e x r was put =
-    record {
-      is = ap (λ (l : List (Option EndpointState)). record s { host = now; endpoints = l }) (put ∙ put-back s.endpoints e x was) ∙ ap (λ (v : SessionState). record v { host = now }) r.is;
-      few = r.few;
-    }
-
 few-freed : (state : State) (e : ℕ) → ((d : ℕ) (g : Endpoint) → named state.endpoints d ≡ Some g → g.taken ≤ length g.tickets) → (d : ℕ) (g : Endpoint) → named (freed state.endpoints e) d ≡ Some g → g.taken ≤ length g.tickets
 few-freed state e few d g is = few d g (names-freed state.endpoints (freed state.endpoints e) e d g refl is).1
 
@@ -175,9 +165,6 @@ represents-freed s state now after e r rest =
 pub represents-host : (s : SessionState) (state : State) (now : HostState) → Represents s state → Represents (record s { host = now }) (record state { host = now })
 represents-host s state now r =
     record { is = ap (λ (v : SessionState). record v { host = now }) r.is; few = r.few }
-
-pub host_is : (s : SessionState) (state : State) → Represents s state → s.host ≡ state.host
-host_is s state r = ap (λ (v : SessionState). v.host) r.is
 
 -- the endpoints of a session as their calls see them
 pub taken-map : (es : List (Option AnyEndpoint)) (e : ℕ) (x : AnyEndpoint) → named es e ≡ Some x → named (map (option_map state_of) es) e ≡ Some (state_of x)

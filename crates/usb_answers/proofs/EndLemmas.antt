@@ -22,7 +22,7 @@ use Rattle.usb_answers.specs.SessionFacts.{session_made}
 use Rattle.usb_answers.specs.Relation.{Represents}
 use Rattle.usb_answers.specs.Accounts.{Accounted}
 use Rattle.usb_answers.proofs.AccountLemmas.{accounted-all_closed, accounted-none}
-use Rattle.usb_answers.proofs.Called.{named_kept, host_is}
+use Rattle.usb_answers.proofs.Answering.{named_kept, host_is}
 use Rattle.usb_answers.proofs.NameLemmas.{named-map, named-freed, named-freed_other, named-past, freed-none, length-freed, named_of, place_of}
 
 -- what is open under a name once another was freed

@@ -1,36 +1,30 @@
 -- Endpoints of claimed interfaces are opened.
-use Rattle.std.proofs.Common.{◌≡◌, ◌≢◌, ℕ, ◌<◌, ◌≤◌, arith, List, [], length, map, Option, Some, None, Result, Ok, Err, Bool, Bor, true, false, refl, ap, sym, ◌∙◌, subst, slice_get, inl, inr}
-use Rattle.std.specs.Prelude.{not, ◌||◌, is_none, is_some}
-use Rattle.std.specs.Option.{option_map, option_copied}
-use Rattle.std.proofs.lemmas.Grind.{common_steps}
-use Rattle.usb_desc.specs.declared.error.Fail.{Fail}
-use Rattle.usb_desc.specs.declared.error.Fail.TheVariants.{Cause, Memory}
+use Rattle.std.proofs.Common.{◌≡◌, ◌≢◌, ℕ, ◌<◌, ◌≤◌, arith, List, [], length, map, Option, Some, None, Result, Ok, Err, true, false, refl, ap, sym, ◌∙◌, subst, slice_get, inl, inr}
+use Rattle.std.specs.Option.{option_map}
 use Rattle.usb_desc.specs.declared.types.Direction.{Direction}
 use Rattle.usb_desc.specs.declared.types.TransferType.{TransferType}
 use Rattle.usb_error.specs.ErrorState.{ErrorState}
+use Rattle.usb_lines.specs.Calls.{ok_line, condition_line, error_line}
 use Rattle.usb_bus.specs.BusState.{BusState}
-use Rattle.usb_endpoint.specs.declared.any_endpoint.AnyEndpoint.{AnyEndpoint}
-use Rattle.usb_endpoint.specs.AnyEndpoints.{state_of}
 use Rattle.usb_endpoint.specs.EndpointState.{EndpointState}
 use Rattle.usb_endpoint.specs.Handles.{Stands, KeepsOthers}
-use Rattle.usb_endpoint.specs.Frames.{Stands-other}
+use Rattle.usb_endpoint.proofs.Frames.{Stands-other}
 use Rattle.usb_device.specs.HostState.{HostState, HostEndpoint, ClaimedInterface}
 use Rattle.usb_device.specs.HostBus.{bus_of}
 use Rattle.usb_device.specs.HandleStates.{InterfaceState}
-use Rattle.usb_device.specs.EndpointOpens as device
-use Rattle.usb_device.specs.EndpointOpens.{host_asked, host_tries, with_endpoint}
-use Rattle.usb_device.specs.Tried.{Tried}
+use Rattle.usb_device.specs.EndpointOpens.{host_asked, host_tries, with_endpoint, fresh_endpoint}
 use Rattle.usb_device.proofs.InterfaceFrames.{StandsInterface-same, asked-is, asked-length}
 use Rattle.usb_device.proofs.FreshKeys.{endpoint-within}
 use Rattle.usb_answers.specs.Names.{named, is_free, set_name}
 use Rattle.usb_answers.specs.State.{State, Endpoint, kept, with_host}
-use Rattle.usb_answers.specs.Endpoints.{fresh_endpoint, endpoint_as, endpoint_opened}
+use Rattle.usb_answers.specs.OpenAt.{InterfaceAt}
+use Rattle.usb_answers.specs.Endpoints.{new_endpoint, endpoint_as, endpoint_answer}
 use Rattle.usb_answers.specs.SessionState.{SessionState, IsSound}
-use Rattle.usb_answers.specs.SessionFacts.{session_made}
-use Rattle.usb_answers.specs.Relation.{Represents, session_of, Gave, Tries}
-use Rattle.usb_answers.proofs.NameLemmas.{length-set_name, map-set, is_free-map}
+use Rattle.usb_answers.specs.Relation.{Represents, session_of}
+use Rattle.usb_answers.proofs.NameLemmas.{length-set_name, map-set, is_free-map, names-set}
 use Rattle.usb_answers.proofs.Called.{KeepsSession, sound-host, represents-host}
-use Rattle.usb_answers.proofs.Opened.{names-set}
+use Rattle.usb_answers.proofs.Answering.{free_kept}
+use Rattle.usb_answers.proofs.Telling.{Gives, barred-gives}
 
 -- a look at the active configuration
 asked-keeps : (h now : HostState) (key : ℕ) → h.steps ≡ [] → now ≡ host_asked h key → KeepsSession h now
@@ -108,82 +102,79 @@ few-set state e z few free fresh d g at =
       | inr there ↦ few d g there.1
     ]
 
-open-as : (state : State) (host now : HostState) (after : List (Option EndpointState)) (e i address maximum : ℕ) (kind : TransferType) (y : EndpointState) (c : ClaimedInterface) (t : Result ℕ ErrorState) → Represents (session_of state) state → is_free (session_of state).endpoints e ≡ true → t ≡ Ok maximum → y ≡ device.fresh_endpoint c address kind maximum (length host.endpoints) → now ≡ with_endpoint host i address → after ≡ set_name (session_of state).endpoints e y → Gave (record (session_of state) { host = now; endpoints = after }) None (endpoint_as (with_host state host) e i c address kind t)
-open-as state host now after e i address maximum kind y c (Err error) r free tried fresh is put = absurd (cc)
-open-as state host now after e i address maximum kind y c (Ok m) r free tried fresh is put =
+open-as : (state : State) (host now : HostState) (after : List (Option EndpointState)) (e address maximum : ℕ) (kind : TransferType) (x : InterfaceAt) (y : EndpointState) (t : Result ℕ ErrorState) → Represents (session_of state) state → is_free (session_of state).endpoints e ≡ true → t ≡ Ok maximum → y ≡ fresh_endpoint x.claimed address kind maximum (length host.endpoints) → now ≡ with_endpoint host x.handle.key address → after ≡ set_name (session_of state).endpoints e y → Gives (record (session_of state) { host = now; endpoints = after }) ok_line (endpoint_as (with_host state host) e address kind x t)
+open-as state host now after e address maximum kind x y (Err error) r free tried fresh is put = absurd (cc)
+open-as state host now after e address maximum kind x y (Ok m) r free tried fresh is put =
     let same : maximum ≡ m = cc in
-    let z = fresh_endpoint host c address kind m in
+    let z = new_endpoint host x.claimed.device address kind m in
     let names : after ≡ map (option_map kept) (set_name state.endpoints e z) =
-    put ∙ ap (set_name (map (option_map kept) state.endpoints) e) (fresh ∙ ap (λ (n : ℕ). device.fresh_endpoint c address kind n (length host.endpoints)) same)
+    put ∙ ap (set_name (map (option_map kept) state.endpoints) e) (fresh ∙ ap (λ (n : ℕ). fresh_endpoint x.claimed address kind n (length host.endpoints)) same)
     ∙ sym (map-set kept state.endpoints e z) in
     record {
       state = record {
         is =
             ap (λ (g : HostState). record (session_of state) { host = g; endpoints = after }) is
-            ∙ ap (λ (l : List (Option EndpointState)). record (session_of state) { host = with_endpoint host i address; endpoints = l }) names;
+            ∙ ap (λ (l : List (Option EndpointState)). record (session_of state) { host = with_endpoint host x.handle.key address; endpoints = l }) names;
         few = few-set state e z r.few (sym (is_free-map kept state.endpoints e) ∙ free) (omega arith);
       };
       same = refl;
     }
 
-abbrev EndpointGave : State → ℕ → ℕ → ℕ → TransferType → Direction → ℕ → InterfaceState → ClaimedInterface → EndpointState → HostState → List (Option EndpointState) → SessionState → Type 0
-EndpointGave state e i address kind direction maximum f c y now after v =
-    named v.interfaces i ≡ Some f → slice_get v.host.interfaces f.key ≡ Some c → is_free v.endpoints e ≡ true → host_tries (host_asked v.host c.opened) f.key c address kind direction ≡ Ok maximum → y ≡ device.fresh_endpoint c address kind maximum (length v.host.endpoints) → now ≡ with_endpoint (host_asked v.host c.opened) f.key address → after ≡ set_name v.endpoints e y → Gave (record v { host = now; endpoints = after }) None (endpoint_opened state e i address kind direction)
+-- where the interface of this handle is claimed
+abbrev EndpointGives : State → ℕ → ℕ → ℕ → TransferType → Direction → ℕ → InterfaceState → ClaimedInterface → EndpointState → HostState → List (Option EndpointState) → SessionState → Type 0
+EndpointGives state e i address kind direction maximum f c y now after v =
+    named v.interfaces i ≡ Some f → slice_get v.host.interfaces f.key ≡ Some c → is_free v.endpoints e ≡ true → host_tries (host_asked v.host c.opened) f.key c address kind direction ≡ Ok maximum → y ≡ fresh_endpoint c address kind maximum (length v.host.endpoints) → now ≡ with_endpoint (host_asked v.host c.opened) f.key address → after ≡ set_name v.endpoints e y → Gives (record v { host = now; endpoints = after }) ok_line (endpoint_answer state e i address kind direction)
 
 asked-endpoints : (h : HostState) (key : ℕ) → h.endpoints ≡ (host_asked h key).endpoints
 asked-endpoints h key = sym (ap (λ (g : HostState). g.endpoints) (asked-is h key))
 
-endpoint-of : (state : State) (now : HostState) (after : List (Option EndpointState)) (e i address maximum : ℕ) (kind : TransferType) (direction : Direction) (f : InterfaceState) (c : ClaimedInterface) (y : EndpointState) → Represents (session_of state) state → EndpointGave state e i address kind direction maximum f c y now after (session_of state)
-unfolding endpoint_opened
+endpoint-of : (state : State) (now : HostState) (after : List (Option EndpointState)) (e i address maximum : ℕ) (kind : TransferType) (direction : Direction) (f : InterfaceState) (c : ClaimedInterface) (y : EndpointState) → Represents (session_of state) state → EndpointGives state e i address kind direction maximum f c y now after (session_of state)
+unfolding endpoint_answer
 endpoint-of state now after e i address maximum kind direction f c y r at there free tried fresh is put =
-    rw (at, there)
-    (open-as state (host_asked state.host c.opened) now after e f.key address maximum kind y c (host_tries (host_asked state.host c.opened) f.key c address kind direction) r free tried
-    (fresh ∙ ap (λ (l : List HostEndpoint). device.fresh_endpoint c address kind maximum (length l)) (asked-endpoints state.host c.opened)) is put)
+    let free_there : is_free state.endpoints e ≡ true = sym (is_free-map kept state.endpoints e) ∙ free in
+    rw (at, there, free_there)
+    (open-as state (host_asked state.host c.opened) now after e address maximum kind (record { handle = f; claimed = c }) y (host_tries (host_asked state.host c.opened) f.key c address kind direction) r free tried
+    (fresh ∙ ap (λ (l : List HostEndpoint). fresh_endpoint c address kind maximum (length l)) (asked-endpoints state.host c.opened)) is put)
 
-pub endpoint-gave : (s : SessionState) (state : State) (now : HostState) (after : List (Option EndpointState)) (e i address maximum : ℕ) (kind : TransferType) (direction : Direction) (f : InterfaceState) (c : ClaimedInterface) (y : EndpointState) → Represents s state → EndpointGave state e i address kind direction maximum f c y now after s
-endpoint-gave s state now after e i address maximum kind direction f c y r =
-    subst (EndpointGave state e i address kind direction maximum f c y now after) (sym r.is) (endpoint-of state now after e i address maximum kind direction f c y (record { is = refl; few = r.few }))
+pub endpoint-gives : (s : SessionState) (state : State) (now : HostState) (after : List (Option EndpointState)) (e i address maximum : ℕ) (kind : TransferType) (direction : Direction) (f : InterfaceState) (c : ClaimedInterface) (y : EndpointState) → Represents s state → EndpointGives state e i address kind direction maximum f c y now after s
+endpoint-gives s state now after e i address maximum kind direction f c y r =
+    subst (EndpointGives state e i address kind direction maximum f c y now after) (sym r.is) (endpoint-of state now after e i address maximum kind direction f c y (record { is = refl; few = r.few }))
 
 -- or that in which it is refused: the kernel was asked all the same
-refused-as : (state : State) (host now : HostState) (e i address : ℕ) (kind : TransferType) (error : ErrorState) (c : ClaimedInterface) (t : Result ℕ ErrorState) → Represents (session_of state) state → t ≡ Err error → now ≡ host → Gave (record (session_of state) { host = now }) (Some error) (endpoint_as (with_host state host) e i c address kind t)
-refused-as state host now e i address kind error c (Err other) r tried is =
+refused-as : (state : State) (host now : HostState) (e address : ℕ) (kind : TransferType) (error : ErrorState) (x : InterfaceAt) (t : Result ℕ ErrorState) → Represents (session_of state) state → t ≡ Err error → now ≡ host → Gives (record (session_of state) { host = now }) (error_line error) (endpoint_as (with_host state host) e address kind x t)
+refused-as state host now e address kind error x (Err other) r tried is =
     record {
       state = subst (λ (g : HostState). Represents (record (session_of state) { host = now }) (with_host state g)) is (represents-host (session_of state) state now r);
-      same = let same : other ≡ error = cc in ap (λ (x : ErrorState). Some x) (sym same);
+      same = let same : other ≡ error = cc in ap error_line same;
     }
-refused-as state host now e i address kind error c (Ok m) r tried is = absurd (cc)
+refused-as state host now e address kind error x (Ok m) r tried is = absurd (cc)
 
 abbrev EndpointRefused : State → ℕ → ℕ → ℕ → TransferType → Direction → ErrorState → InterfaceState → ClaimedInterface → HostState → SessionState → Type 0
 EndpointRefused state e i address kind direction error f c now v =
-    named v.interfaces i ≡ Some f → slice_get v.host.interfaces f.key ≡ Some c → host_tries (host_asked v.host c.opened) f.key c address kind direction ≡ Err error → now ≡ host_asked v.host c.opened → Gave (record v { host = now }) (Some error) (endpoint_opened state e i address kind direction)
+    named v.interfaces i ≡ Some f → slice_get v.host.interfaces f.key ≡ Some c → is_free v.endpoints e ≡ true → host_tries (host_asked v.host c.opened) f.key c address kind direction ≡ Err error → now ≡ host_asked v.host c.opened → Gives (record v { host = now }) (error_line error) (endpoint_answer state e i address kind direction)
 
 refused-of : (state : State) (now : HostState) (e i address : ℕ) (kind : TransferType) (direction : Direction) (error : ErrorState) (f : InterfaceState) (c : ClaimedInterface) → Represents (session_of state) state → EndpointRefused state e i address kind direction error f c now (session_of state)
-unfolding endpoint_opened
-refused-of state now e i address kind direction error f c r at there tried is =
-    rw (at, there)
-    (refused-as state (host_asked state.host c.opened) now e f.key address kind error c (host_tries (host_asked state.host c.opened) f.key c address kind direction) r tried is)
+unfolding endpoint_answer
+refused-of state now e i address kind direction error f c r at there free tried is =
+    let free_there : is_free state.endpoints e ≡ true = sym (is_free-map kept state.endpoints e) ∙ free in
+    rw (at, there, free_there)
+    (refused-as state (host_asked state.host c.opened) now e address kind error (record { handle = f; claimed = c }) (host_tries (host_asked state.host c.opened) f.key c address kind direction) r tried is)
 
-pub endpoint-refused : (s : SessionState) (state : State) (now : HostState) (e i address : ℕ) (kind : TransferType) (direction : Direction) (error : Fail ErrorState) (f : InterfaceState) (c : ClaimedInterface) → Represents s state → named s.interfaces i ≡ Some f → slice_get s.host.interfaces f.key ≡ Some c → Tried {X = ℕ} (Err error) (host_tries (host_asked s.host c.opened) f.key c address kind direction) → now ≡ host_asked s.host c.opened → Tries (record s { host = now }) (Err error) (endpoint_opened state e i address kind direction)
-endpoint-refused s state now e i address kind direction (Cause error) f c r at there tried is =
-    subst (EndpointRefused state e i address kind direction error f c now) (sym r.is) (refused-of state now e i address kind direction error f c (record { is = refl; few = r.few })) at there tried is
-endpoint-refused s state now e i address kind direction Memory f c r at there tried is = tt
+pub endpoint-refused : (s : SessionState) (state : State) (now : HostState) (e i address : ℕ) (kind : TransferType) (direction : Direction) (error : ErrorState) (f : InterfaceState) (c : ClaimedInterface) → Represents s state → EndpointRefused state e i address kind direction error f c now s
+endpoint-refused s state now e i address kind direction error f c r =
+    subst (EndpointRefused state e i address kind direction error f c now) (sym r.is) (refused-of state now e i address kind direction error f c (record { is = refl; few = r.few }))
 
--- when an opening is barred
-pub endpoint-free : (free none : Bool) → (not free || none) ≡ false → free ≡ true
-endpoint-free free none allowed = grind (arith, common_steps)
+-- or that in which it is barred
+pub endpoint-none : (s : SessionState) (state : State) (e i address : ℕ) (kind : TransferType) (direction : Direction) → named s.interfaces i ≡ None → Represents s state → Gives s condition_line (endpoint_answer state e i address kind direction)
+unfolding endpoint_answer
+endpoint-none s state e i address kind direction none r =
+    let here : named state.interfaces i ≡ None = ap (λ (v : SessionState). named v.interfaces i) (sym r.is) ∙ none in
+    rw here (barred-gives s state r)
 
-pub not-some : {X : Type 0} (o : Option (Bor X)) → not (is_some o) ≡ is_none (option_copied o)
-not-some None = refl
-not-some (Some x) = refl
-
--- what is free in a session is free by its parts
-pub free-view : (S : SessionState) (host : HostState) (ds : List (Option ℕ)) (is : List (Option InterfaceState)) (es : List (Option AnyEndpoint)) (e : ℕ) → session_made host ds is es ≡ S → is_free S.endpoints e ≡ is_free es e
-free-view S host ds is es e view = sym (ap (λ (v : SessionState). is_free v.endpoints e) view) ∙ is_free-map state_of es e
-
-pub bar-used : (S : SessionState) (host : HostState) (ds : List (Option ℕ)) (is : List (Option InterfaceState)) (es : List (Option AnyEndpoint)) (e i : ℕ) → session_made host ds is es ≡ S → is_free es e ≡ false → true ≡ (not (is_free S.endpoints e) || is_none (named S.interfaces i))
-bar-used S host ds is es e i view free = rw (free-view S host ds is es e view ∙ free) refl
-
-pub bar-free : (S : SessionState) (host : HostState) (ds : List (Option ℕ)) (is : List (Option InterfaceState)) (es : List (Option AnyEndpoint)) (e i : ℕ) (o : Option (Bor InterfaceState)) → session_made host ds is es ≡ S → is_free es e ≡ true → option_copied o ≡ named is i → not (is_some o) ≡ (not (is_free S.endpoints e) || is_none (named S.interfaces i))
-bar-free S host ds is es e i o view free at =
-    rw (free-view S host ds is es e view ∙ free)
-    (not-some o ∙ ap is_none at ∙ ap (λ (v : SessionState). is_none (named v.interfaces i)) view)
+pub endpoint-used : (s : SessionState) (state : State) (e i address : ℕ) (kind : TransferType) (direction : Direction) (f : InterfaceState) (c : ClaimedInterface) → named s.interfaces i ≡ Some f → slice_get s.host.interfaces f.key ≡ Some c → is_free s.endpoints e ≡ false → Represents s state → Gives s condition_line (endpoint_answer state e i address kind direction)
+unfolding endpoint_answer
+endpoint-used s state e i address kind direction f c at there used r =
+    let here : named state.interfaces i ≡ Some f = ap (λ (v : SessionState). named v.interfaces i) (sym r.is) ∙ at in
+    let interface : slice_get state.host.interfaces f.key ≡ Some c = ap (λ (v : SessionState). slice_get v.host.interfaces f.key) (sym r.is) ∙ there in
+    let taken : is_free state.endpoints e ≡ false = sym (free_kept s state e r) ∙ used in
+    rw (here, interface, taken) (barred-gives s state r)

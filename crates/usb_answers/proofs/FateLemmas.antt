@@ -9,7 +9,7 @@ use Rattle.usb_kernel.specs.Journal.{fate}
 use Rattle.usb_kernel.specs.Completions.{done_of, completion_if, completion}
 use Rattle.usb_kernel.specs.Info.{info_of, info_for, info_if}
 use Rattle.usb_device.specs.declared.ends.TicketEnd.{TicketEnd}
-use Rattle.usb_device.specs.HostState.{HostState, HostTicket, Held, Abandoned, Ended}
+use Rattle.usb_device.specs.HostState.{HostState, HostTicket, HeldBy, Abandoned, Ended}
 use Rattle.usb_device.specs.HostBus.{ended_at, end_at}
 use Rattle.usb_lines.specs.Tickets.{ticket_line}
 use Rattle.usb_answers.specs.EndWords.{word_of}
@@ -19,7 +19,7 @@ use Rattle.usb_answers.specs.Fates.{end_word, ended_word, line_if, fate_line, fa
 -- the word of what became of a ticket is that of its end
 word-ended : (o : Option HostTicket) → word_of (option_and_then ended_at o) ≡ ended_word o
 word-ended None = refl
-word-ended (Some (Held hold)) = refl
+word-ended (Some (HeldBy hold)) = refl
 word-ended (Some (Abandoned key)) = refl
 word-ended (Some (Ended end)) = refl
 

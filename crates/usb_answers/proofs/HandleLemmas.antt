@@ -1,10 +1,8 @@
 -- The endpoints of a whole script.
 use Rattle.std.proofs.Common.{◌≡◌, ◌≢◌, ℕ, ◌<◌, ◌+◌, suc, zero, arith, List, [], ◌∷◌, ◌++◌, length, map, take, replicate, slice_get, Option, Some, None, refl, ap, sym, ◌∙◌, inl, inr}
 use Rattle.std.specs.Prelude.{option_and_then, All, count_by, ◌==◌}
-use Rattle.std.specs.Option.{option_map}
 use Rattle.std.proofs.lemmas.Bool.{cases_eq}
 use Rattle.std.proofs.lemmas.List.{length-replicate}
-use Rattle.std.proofs.lemmas.List.Concat.{flat_map-append}
 use Rattle.std.proofs.lemmas.List.Elements.{All-append, All-nil, All-cons}
 use Rattle.std.proofs.lemmas.Option.{none-some}
 use Rattle.usb_kernel.specs.declared.event.Event.{Event}
@@ -15,7 +13,7 @@ use Rattle.usb_lines.specs.Completions.{polled_line}
 use Rattle.usb_script.specs.declared.item.Item.{Item}
 use Rattle.usb_script.specs.declared.item.Item.TheVariants.{CloseEndpoint}
 use Rattle.usb_device.specs.declared.ends.TicketEnd.{TicketEnd}
-use Rattle.usb_device.specs.HostState.{HostState, HostTicket, Held, Abandoned, Ended}
+use Rattle.usb_device.specs.HostState.{HostState, HostTicket, HeldBy, Abandoned, Ended}
 use Rattle.usb_device.specs.HostBus.{ended_at}
 use Rattle.usb_device.specs.Finishes.{discarded_below, reaped_below, finished, HasEnds}
 use Rattle.usb_device.specs.HostCalls.{host_discarded}
@@ -23,56 +21,37 @@ use Rattle.usb_device.specs.HostTurns.{host_reaped}
 use Rattle.usb_device.proofs.CountLemmas.{KeepsCount, count-same, count-trans, discarded-count, reaped-count}
 use Rattle.usb_device.proofs.FollowLemmas.{on-finished}
 use Rattle.usb_answers.specs.Names.{named, freed}
-use Rattle.usb_answers.specs.State.{State, Endpoint, kept, tickets_of}
+use Rattle.usb_answers.specs.State.{State, Endpoint, tickets_of, with_host}
 use Rattle.usb_answers.specs.Closes.{closed_at, closed}
 use Rattle.usb_answers.specs.Answers.{answer}
-use Rattle.usb_answers.specs.Ends.{endpoints_closed, interfaces_closed, all_closed, ended, interface_closed, interface_closed_at}
+use Rattle.usb_answers.specs.Ends.{endpoints_closed, interfaces_closed, all_closed, ended}
 use Rattle.usb_answers.specs.Output.{start, last_host, final_host}
-use Rattle.usb_answers.specs.Accounts.{Accounted, TookFew}
+use Rattle.usb_answers.specs.Accounts.{Accounted}
 use Rattle.usb_answers.specs.Behind.{behind, GoesOnTo, ScriptsGoOn}
 use Rattle.usb_answers.specs.Served.{Handle, handles, IsServedInOrder, HandlesAreServedInOrder, ScriptsAreCounted, closed_as, tickets_of_all, closed_under, closed_by, closed_at_end, handles_from, lines_behind}
 use Rattle.usb_answers.specs.Fates.{fate_lines, fate_lines_from}
 use Rattle.usb_answers.specs.FinalFates.{FatesOfScripts}
 use Rattle.usb_answers.specs.Sums.{counts_of}
 use Rattle.usb_answers.proofs.FateLemmas.{fates-final}
+use Rattle.usb_answers.proofs.Does.{Quiet, quiet-same, quiet-then}
+use Rattle.usb_answers.proofs.DeviceLines.{interfaces-quiet}
 use Rattle.usb_answers.proofs.AccountLemmas.{accounted-start, accounted-answer}
 use Rattle.usb_answers.proofs.NameLemmas.{named-freed, named-freed_other, named-replicate}
-use Rattle.usb_answers.proofs.EndLemmas.{none-all}
-use Rattle.usb_answers.proofs.TimesLemmas.{times, times-append, counts-times, among, among-within, times_in, times_open}
-use Rattle.usb_answers.proofs.OrderLemmas.{order-few, Leaves, LeavesTickets, goes-keeps, goes-then, IsClosed, closed-goes, closed-few, closed-taken, closed-others}
-use Rattle.usb_answers.proofs.StepLemmas.{Inv, Step}
+use Rattle.usb_answers.proofs.TimesLemmas.{times, counts-times, among, among-within, times_in, times_open}
+use Rattle.usb_answers.proofs.OrderLemmas.{Leaves, LeavesTickets, goes-then, closed-few, closed-taken, closed-others}
+use Rattle.usb_answers.proofs.StepLemmas.{Inv, Step, Closes, closes-on, all-tickets, step-then, step-after, step-quiet, few-taken, answer-step, closed-step}
 use Rattle.usb_answers.proofs.PrintLemmas.{Prints, prints-stay, taken_of, AllPrint, all-print}
 use Rattle.usb_answers.proofs.TakeLemmas.{answer-takes}
-use Rattle.usb_answers.proofs.ServedLemmas.{step-same, closed-step, answer-step, interfaces-keep}
-
-abbrev pub Closes : HostState → Handle → Type 0
-Closes h c = IsClosed h c.endpoint c.past
-
-all-tickets : (t : ℕ) (xs ys : List Handle) → times t (tickets_of_all (xs ++ ys)) ≡ times t (tickets_of_all xs) + times t (tickets_of_all ys)
-all-tickets t xs ys = ap (times t) (flat_map-append (λ (h : Handle). h.endpoint.tickets) xs ys) ∙ times-append t (tickets_of_all xs) (tickets_of_all ys)
-
-closes-on : (old new : HostState) (xs : List Handle) → LeavesTickets old new → All (Closes old) xs → All (Closes new) xs
-closes-on old new xs goes all k d below = closed-goes old new _ _ goes (all k d below)
-
-both-steps : (a b c : State) (xs ys : List Handle) → Step a b xs → Step b c ys → Step a c (xs ++ ys)
-both-steps a b c xs ys first second =
-    record {
-      goes = goes-then a.host b.host c.host first.goes second.goes;
-      inv = second.inv;
-      adds = λ t. let one_ = first.adds t in let two = second.adds t in let parts = all-tickets t xs ys in omega arith;
-      closes = All-append (Closes c.host) xs ys (closes-on b.host c.host xs second.goes first.closes) second.closes;
-    }
 
 -- the end closes the endpoints by number
-pub ends-step : (state : State) (lines : ℕ → List (List ℕ)) (k : ℕ) → Inv state → Step state (endpoints_closed state k) (closed_at_end state lines k)
-ends-step state lines zero inv = step-same state inv
+ends-step : (state : State) (lines : ℕ → List (List ℕ)) (k : ℕ) → Inv state → Step state (endpoints_closed state k) (closed_at_end state lines k)
+ends-step state lines zero inv = step-quiet inv (quiet-same state)
 ends-step state lines (suc k) inv =
     let first = ends-step state lines k inv in
-    both-steps state (endpoints_closed state k) (closed (endpoints_closed state k) k) (closed_at_end state lines k) (closed_under (endpoints_closed state k) lines k)
-    first (closed-step (endpoints_closed state k) k lines first.inv)
+    step-then first (closed-step (endpoints_closed state k) k lines first.inv)
 
 -- and leaves no name open
-closed_at-none : (state : State) (e n : ℕ) (o : Option Endpoint) → named state.endpoints e ≡ o → (n ≢ e → named state.endpoints n ≡ None) → named (closed_at state e (option_map kept o)).endpoints n ≡ None
+closed_at-none : (state : State) (e n : ℕ) (o : Option Endpoint) → named state.endpoints e ≡ o → (n ≢ e → named state.endpoints n ≡ None) → named (closed_at state e o).endpoints n ≡ None
 closed_at-none state e n None here others =
     elim (cases_eq n e) [ inl same ↦ ap (named state.endpoints) same ∙ here | inr apart ↦ others apart ]
 closed_at-none state e n (Some h) here others =
@@ -92,12 +71,12 @@ none-below state (suc k) n below = closed-none (endpoints_closed state k) k n (�
     lower : (k n : ℕ) → n ≢ k → n < suc k → n < k
     lower k n apart small = omega arith
 
-times-none : (t : ℕ) (os : List (Option Endpoint)) → ((n : ℕ) → named os n ≡ None) → times_open t os ≡ 0
+times-none : (t : ℕ) (os : List (Option Endpoint)) → ((n : ℕ) → n < length os → named os n ≡ None) → times_open t os ≡ 0
 unfolding named
 times-none t [] none = refl
 times-none t (o ∷ os) none =
-    let here : times_in t o ≡ 0 = ap (times_in t) (none 0) in
-    let IH = times-none t os (λ n. none (suc n)) in omega arith
+    let here : times_in t o ≡ 0 = ap (times_in t) (none 0 (omega arith)) in
+    let IH = times-none t os (λ n below. none (suc n) (omega arith)) in omega arith
 
 -- the discards and reaps at the end
 discarded_below-count : (h : HostState) (n : ℕ) → KeepsCount h (discarded_below h n)
@@ -108,51 +87,40 @@ reaped_below-count : (h : HostState) (n : ℕ) → KeepsCount h (reaped_below h 
 reaped_below-count h zero = count-same h
 reaped_below-count h (suc n) = count-trans h (reaped_below h n) (host_reaped (reaped_below h n) n) (reaped_below-count h n) (reaped-count (reaped_below h n) n)
 
-finished-count : (h : HostState) → KeepsCount h (finished h)
+end-quiet : (state : State) → Quiet state (with_host (interfaces_closed state 64) (finished (interfaces_closed state 64).host))
 unfolding finished
-finished-count h =
-    let n = length (tickets h.kernel.past) in
-    count-trans h (discarded_below h n) (reaped_below (discarded_below h n) n) (discarded_below-count h n) (reaped_below-count (discarded_below h n) n)
+end-quiet state =
+    let last = (interfaces_closed state 64).host in
+    let n = length (tickets last.kernel.past) in
+    let discarded = discarded_below last n in
+    quiet-then (interfaces-quiet state 64)
+    (record { keeps = on-finished last; count = count-trans last discarded (reaped_below discarded n) (discarded_below-count last n) (reaped_below-count discarded n); endpoints = refl })
 
 -- what these items and the end of the session make
-pub record Runs (state : State) (lines : ℕ → List (List ℕ)) (items : List Item) : Type 0 where
-  pub goes : LeavesTickets state.host (last_host state items)
-  pub closes : All (Closes (last_host state items)) (handles_from state lines items)
-  pub adds : (t : ℕ) → times t (tickets_of_all (handles_from state lines items)) + among t (tickets_of state) ≡ times_open t state.endpoints + among t (length (tickets (last_host state items).kernel.past))
-  pub count : length (last_host state items).tickets ≡ length (tickets (last_host state items).kernel.past)
-
-interfaces-endpoints : (state : State) (k : ℕ) → (interfaces_closed state k).endpoints ≡ state.endpoints
-unfolding interface_closed
-interfaces-endpoints state zero = refl
-interfaces-endpoints state (suc k) = by (interfaces_closed state k) k (named (interfaces_closed state k).interfaces k) ∙ interfaces-endpoints state k
-  where
-    by : (state : State) (i : ℕ) (o : _) → (interface_closed_at state i o).endpoints ≡ state.endpoints
-    by state i None = refl
-    by state i (Some f) = refl
+record Runs (state : State) (lines : ℕ → List (List ℕ)) (items : List Item) : Type 0 where
+  goes : LeavesTickets state.host (last_host state items)
+  closes : All (Closes (last_host state items)) (handles_from state lines items)
+  adds : (t : ℕ) → times t (tickets_of_all (handles_from state lines items)) + among t (tickets_of state) ≡ times_open t state.endpoints + among t (length (tickets (last_host state items).kernel.past))
+  count : length (last_host state items).tickets ≡ length (tickets (last_host state items).kernel.past)
 
 runs-end : (state : State) (lines : ℕ → List (List ℕ)) → Inv state → Runs state lines []
 unfolding ended all_closed
 runs-end state lines inv =
-    let first = ends-step state lines 64 inv in
     let mid = endpoints_closed state 64 in
-    let second = interfaces-keep mid 64 first.inv in
-    let last = interfaces_closed mid 64 in
-    let keeps = on-finished last.host in
-    let count = finished-count last.host in
-    let none : (t : ℕ) → times_open t last.endpoints ≡ 0 = λ t.
-    ap (times_open t) (interfaces-endpoints mid 64) ∙ times-none t mid.endpoints (none-all mid.endpoints first.inv.names (λ n below. none-below state 64 n below)) in
+    let first = ends-step state lines 64 inv in
+    let quiet = end-quiet mid in
+    let all = step-after first (step-quiet first.inv quiet) in
     record {
-      goes = goes-then state.host mid.host (finished last.host) first.goes (goes-then mid.host last.host (finished last.host) second.goes (goes-keeps last.host (finished last.host) keeps));
-      closes = closes-on mid.host (finished last.host) (closed_at_end state lines 64) (goes-then mid.host last.host (finished last.host) second.goes (goes-keeps last.host (finished last.host) keeps)) first.closes;
+      goes = all.goes;
+      closes = all.closes;
       adds = λ t.
-          let one_ = first.adds t in
-          let two = second.adds t in
-          let left = none t in
-          let same : among t (length (tickets (finished last.host).kernel.past)) ≡ among t (tickets_of last) = ap (among t) count.past in omega arith;
-      count = count.count ∙ second.inv.count ∙ sym count.past;
+          let whole = all.adds t in
+          let same = ap (times_open t) quiet.endpoints in
+          let none = times-none t mid.endpoints (λ n below. none-below state 64 n (omega (arith, first.inv.names))) in omega arith;
+      count = all.inv.count;
     }
 
-pub runs : (state : State) (lines : ℕ → List (List ℕ)) (items : List Item) → Inv state → Runs state lines items
+runs : (state : State) (lines : ℕ → List (List ℕ)) (items : List Item) → Inv state → Runs state lines items
 runs state lines [] inv = runs-end state lines inv
 runs state lines (item ∷ items) inv =
     let next = (answer state item).state in
@@ -174,7 +142,7 @@ times-replicate : (t n : ℕ) → times_open t (replicate n None) ≡ 0
 times-replicate t zero = refl
 times-replicate t (suc n) = let IH = times-replicate t n in omega arith
 
-pub inv-start : (items : List Item) → Inv (start items)
+inv-start : (items : List Item) → Inv (start items)
 unfolding start
 inv-start items =
     record {
@@ -184,7 +152,7 @@ inv-start items =
       names = length-replicate {A = Option Endpoint} 64 None;
     }
 
-pub nothing-open : (items : List Item) (t : ℕ) → (times_open t (start items).endpoints ≡ 0) × (tickets_of (start items) ≡ 0)
+nothing-open : (items : List Item) (t : ℕ) → (times_open t (start items).endpoints ≡ 0) × (tickets_of (start items) ≡ 0)
 unfolding start
 nothing-open items t = (times-replicate t 64, refl)
 
@@ -207,7 +175,7 @@ closed_by-printed state lines (CloseEndpoint e) prints = closed_under-printed st
 closed_by-printed state lines item prints = All-nil (Printed state.host.kernel.past)
 
 -- a close leaves what was printed of others
-closed_at-named : (state : State) (e d : ℕ) (g : Endpoint) (o : Option Endpoint) → named (closed_at state e (option_map kept o)).endpoints d ≡ Some g → named state.endpoints d ≡ Some g
+closed_at-named : (state : State) (e d : ℕ) (g : Endpoint) (o : Option Endpoint) → named (closed_at state e o).endpoints d ≡ Some g → named state.endpoints d ≡ Some g
 closed_at-named state e d g None is = is
 closed_at-named state e d g (Some h) is =
     elim (cases_eq d e) [
@@ -243,21 +211,15 @@ ends-print state lines (suc k) inv prints =
 runs-print : (state : State) (lines : ℕ → List (List ℕ)) (items : List Item) → Inv state → AllPrint state lines → All (Printed (last_host state items).kernel.past) (handles_from state lines items)
 unfolding ended all_closed
 runs-print state lines [] inv prints =
-    let mid = endpoints_closed state 64 in
-    let first = ends-step state lines 64 inv in
-    let last = interfaces_closed mid 64 in
-    let goes = goes-then mid.host last.host (finished last.host) (interfaces-keep mid 64 first.inv).goes (goes-keeps last.host (finished last.host) (on-finished last.host)) in
-    printed-on mid.host.kernel.past (finished last.host).kernel.past (closed_at_end state lines 64) goes.past (ends-print state lines 64 inv prints).shut
+    printed-on (endpoints_closed state 64).host.kernel.past (ended state).kernel.past (closed_at_end state lines 64) (end-quiet (endpoints_closed state 64)).keeps.past
+    (ends-print state lines 64 inv prints).shut
 runs-print state lines (item ∷ items) inv prints =
     let a = answer state item in
-    let first = answer-step state lines item inv in
-    let later = lines_behind state a lines in
-    let rest = runs a.state later items first.inv in
-    let last = last_host a.state items in
-    let goes = goes-then state.host a.state.host last first.goes rest.goes in
-    All-append (Printed last.kernel.past) (closed_by state lines item) (handles_from a.state later items)
-    (printed-on state.host.kernel.past last.kernel.past (closed_by state lines item) goes.past (closed_by-printed state lines item prints))
-    (runs-print a.state later items first.inv (all-print state a lines first.goes.past prints (answer-takes state item inv)))
+    let over = answer-step state lines item inv in
+    let last = (last_host a.state items).kernel.past in
+    All-append (Printed last) (closed_by state lines item) (handles_from a.state (lines_behind state a lines) items)
+    (printed-on state.host.kernel.past last (closed_by state lines item) (runs state lines (item ∷ items) inv).goes.past (closed_by-printed state lines item prints))
+    (runs-print a.state (lines_behind state a lines) items over.inv (all-print state a lines over.goes.past prints (answer-takes state item (few-taken state inv))))
 
 none-print : (items : List Item) (lines : ℕ → List (List ℕ)) → AllPrint (start items) lines
 unfolding start
@@ -314,9 +276,6 @@ inv-behind : (state : State) (items : List Item) → Inv state → Inv (behind s
 inv-behind state [] inv = inv
 inv-behind state (item ∷ items) inv = inv-behind (answer state item).state items (answer-step state (λ e. []) item inv).inv
 
-few-taken : (state : State) → Inv state → TookFew state
-few-taken state inv e h is = order-few state.host h (inv.order e h is)
-
 accounted-behind : (state : State) (items : List Item) → Inv state → Accounted state → Accounted (behind state items)
 accounted-behind state [] inv a = a
 accounted-behind state (item ∷ items) inv a =
@@ -324,21 +283,20 @@ accounted-behind state (item ∷ items) inv a =
 
 leaves-end : (o p : Option HostTicket) (end : TicketEnd) → Leaves o p → option_and_then ended_at o ≡ Some end → option_and_then ended_at p ≡ Some end
 leaves-end None p end leaves is = absurd (none-some end is)
-leaves-end (Some (Held hold)) p end leaves is = absurd (none-some end is)
+leaves-end (Some (HeldBy hold)) p end leaves is = absurd (none-some end is)
 leaves-end (Some (Abandoned key)) p end leaves is = absurd (none-some end is)
 leaves-end (Some (Ended was)) p end leaves is = ap (option_and_then ended_at) leaves ∙ is
 
-goes-to : (old new : HostState) → LeavesTickets old new → GoesOnTo old new
-goes-to old new goes = record { journal = goes.past; ends = λ t end is. leaves-end (slice_get old.tickets t) (slice_get new.tickets t) end (goes.tickets t) is }
+goes-to : {old new : HostState} → LeavesTickets old new → GoesOnTo old new
+goes-to {old} {new} goes = record { journal = goes.past; ends = λ t end is. leaves-end (slice_get old.tickets t) (slice_get new.tickets t) end (goes.tickets t) is }
+
+inv-of : (items before : List Item) → Inv (behind (start items) before)
+inv-of items before = inv-behind (start items) before (inv-start items)
 
 pub scripts-go_on : ScriptsGoOn
 scripts-go_on =
     record {
-      line = λ items before item.
-          let state = behind (start items) before in
-          goes-to state.host (answer state item).state.host (answer-step state (λ e. []) item (inv-behind (start items) before (inv-start items))).goes;
-      end = λ items before.
-          let state = behind (start items) before in
-          goes-to state.host (ended state) (runs state (λ e. []) [] (inv-behind (start items) before (inv-start items))).goes;
+      line = λ items before item. goes-to (answer-step (behind (start items) before) (λ e. []) item (inv-of items before)).goes;
+      end = λ items before. goes-to (runs (behind (start items) before) (λ e. []) [] (inv-of items before)).goes;
       accounted = λ items before. accounted-behind (start items) before (inv-start items) (accounted-start items);
     }

@@ -1,114 +1,131 @@
 -- Lines with steps of their own: the steps are lent, a call is made, and the rest of them is applied.
-use Rattle.std.proofs.Common.{◌≡◌, ℕ, ◌≤◌, ◌+◌, ◌-◌, arith, List, [], ◌++◌, length, length-append, append_assoc, Option, Some, Bool, refl, ap, sym, ◌∙◌, subst}
+use Rattle.std.proofs.Common.{◌≡◌, ℕ, ◌≤◌, ◌+◌, List, ◌++◌, length, map, Option, None, Result, Ok, Err, Bool, String, string_bytes, refl, ap, sym, ◌∙◌, subst}
+use Rattle.std.specs.Prelude.{OnOk}
+use Rattle.std.specs.Option.{option_map}
+use Rattle.std.specs.declared.alloc.Global.{Global}
 use Rattle.usb_kernel.specs.declared.step.KernelStep.{KernelStep}
 use Rattle.usb_endpoint.specs.declared.any_endpoint.AnyEndpoint.{AnyEndpoint}
 use Rattle.usb_endpoint.specs.AnyEndpoints.{state_of}
 use Rattle.usb_endpoint.specs.EndpointState.{EndpointState}
 use Rattle.usb_endpoint.specs.Handles.{Stands, KeepsOthers}
-use Rattle.usb_endpoint.specs.Frames.{Stands-later}
+use Rattle.usb_endpoint.proofs.Frames.{Stands-later}
 use Rattle.usb_device.specs.HostState.{HostState}
 use Rattle.usb_device.specs.HostBus.{bus_of}
-use Rattle.usb_device.specs.HostFrames.{WentOn, KeepsOpen}
+use Rattle.usb_device.specs.HostFrames.{LineGoesOn}
 use Rattle.usb_device.specs.HostTurns.{host_rest}
-use Rattle.usb_device.specs.HandleStates.{InterfaceState}
-use Rattle.usb_device.proofs.WaitFrames.{went-rest, rest-steps}
-use Rattle.usb_answers.specs.Names.{named, freed, set_name}
-use Rattle.usb_answers.specs.State.{State}
-use Rattle.usb_answers.specs.Steps.{stepped_all}
+use Rattle.usb_device.proofs.CallFrames.{keeps-open}
+use Rattle.usb_device.proofs.WaitFrames.{went-rest, rest-steps, rest-spare, line-keeps}
+use Rattle.usb_lines.specs.Calls.{condition_line}
+use Rattle.usb_answers.specs.declared.session.Session.TheInside.{Inside}
+use Rattle.usb_answers.specs.Names.{named}
+use Rattle.usb_answers.specs.State.{State, Endpoint, with_host}
+use Rattle.usb_answers.specs.Answer.{Answer, barred, if_open}
+use Rattle.usb_answers.specs.Steps.{lent, then_rested, stepped_all}
 use Rattle.usb_answers.specs.SessionState.{SessionState, IsSound}
-use Rattle.usb_answers.specs.SessionFacts.{session_made}
+use Rattle.usb_answers.specs.SessionFacts.{made_of}
 use Rattle.usb_answers.specs.Relation.{Represents}
-use Rattle.usb_answers.proofs.Called.{KeepsSession, represents-host, host_is, sound-host}
-use Rattle.usb_answers.proofs.CodeLemmas.{sound-code}
+use Rattle.usb_answers.specs.Answered.{Answered, Answers}
+use Rattle.usb_answers.specs.OpenCalls.{CallKeeps, CallAnswers, with_called}
+use Rattle.usb_answers.proofs.Answering.{told-answered, answered-none, answered-some, none_kept, host_is}
+use Rattle.usb_answers.proofs.Called.{KeepsSession, represents-host, sound-host, sound-put, taken-map, open_at}
+use Rattle.usb_answers.proofs.TakenOut.{made_with, PutBack, named-made, none_made, made-put, made-called}
 
--- steps were taken from the front of the line, each of which used a place, and what is open is as it was
-pub record Used (old new : HostState) : Type 0 where
-  pub front : List KernelStep
-  pub steps : old.steps ≡ front ++ new.steps
-  pub spare : new.kernel.spare ≡ old.kernel.spare - length front
-  pub devices : new.devices ≡ old.devices
-  pub interfaces : new.interfaces ≡ old.interfaces
+abbrev lent_host : HostState → List KernelStep → HostState
+lent_host host steps = record host { steps = steps }
 
-pub used-went : (old new : HostState) → WentOn old new → Used old new
-used-went old new went = record { front = went.line.front; steps = went.line.steps; spare = went.line.spare; devices = went.line.devices; interfaces = went.line.interfaces }
+pub lent_is : (host at : HostState) (items steps : List KernelStep) → at ≡ record host { steps = items } → items ≡ steps → at ≡ record host { steps = steps }
+lent_is host at items steps is same = is ∙ ap (λ (l : List KernelStep). record host { steps = l }) same
 
-pub used-keeps : (old new : HostState) → KeepsOpen old new → Used old new
-used-keeps old new keeps =
-    record { front = []; steps = sym keeps.line.steps; spare = omega (arith, keeps.line.spare); devices = keeps.line.devices; interfaces = keeps.interfaces }
-
-pub used-trans : (a b c : HostState) → Used a b → Used b c → Used a c
-used-trans a b c first second =
-    record {
-      front = first.front ++ second.front;
-      steps = first.steps ∙ ap (λ l. first.front ++ l) second.steps ∙ sym (append_assoc first.front second.front c.steps);
-      spare = omega (arith, first.spare, second.spare, length-append first.front second.front);
-      devices = second.devices ∙ first.devices;
-      interfaces = second.interfaces ∙ first.interfaces;
-    }
-
-used-all : (old new : HostState) → Used old new → new.steps ≡ [] → length old.steps ≤ old.kernel.spare → new.kernel.spare + length old.steps ≡ old.kernel.spare
-used-all old new used none room =
-    let all : length old.steps ≡ length used.front + length new.steps = ap (λ (l : List KernelStep). length l) used.steps ∙ length-append used.front new.steps in
-    let end : length new.steps ≡ 0 = ap (λ (l : List KernelStep). length l) none in
-    omega (arith, used.spare, all, end, room)
-
--- the host at which the steps of a line were lent, and what a call and the rest of the steps made of it
-pub record Line (host : HostState) (steps : List KernelStep) (at now last : HostState) : Type 0 where
-  pub lent : at ≡ record host { steps = steps }
-  pub used : Used at now
-  pub rest : last ≡ host_rest now
-
-pub line-spare : (host : HostState) (steps : List KernelStep) (at now last : HostState) → Line host steps at now last → length steps ≤ host.kernel.spare → last.kernel.spare + length steps ≡ host.kernel.spare
-line-spare host steps at now last line room =
-    subst (λ (h : HostState). h.kernel.spare + length steps ≡ host.kernel.spare) (sym line.rest)
-    (used-all (record host { steps = steps }) (host_rest now)
-    (used-trans (record host { steps = steps }) now (host_rest now) (subst (λ (h : HostState). Used h now) line.lent line.used) (used-went now (host_rest now) (went-rest now)))
-    (rest-steps now) room)
-
-pub line-keeps : (host : HostState) (steps : List KernelStep) (at now last : HostState) → Line host steps at now last → KeepsSession host last
-line-keeps host steps at now last line =
-    let used = subst (λ (h : HostState). Used h now) line.lent line.used in
-    let rest = went-rest now in
-    subst (KeepsSession host) (sym line.rest)
-    (record { idle = rest-steps now; devices = ap length (rest.line.devices ∙ used.devices); interfaces = rest.line.interfaces ∙ used.interfaces })
-
-pub line-stands : (host : HostState) (steps : List KernelStep) (at now last : HostState) (x : EndpointState) → Line host steps at now last → Stands (bus_of now) x → Stands (bus_of last) x
-line-stands host steps at now last x line stands =
-    subst (λ (h : HostState). Stands (bus_of h) x) (sym line.rest) (Stands-later (bus_of now) (bus_of (host_rest now)) x stands (went-rest now).later)
-
-pub line-others : (host : HostState) (steps : List KernelStep) (at now last : HostState) (key : ℕ) → Line host steps at now last → KeepsOthers (bus_of at) (bus_of now) key → KeepsOthers (bus_of host) (bus_of last) key
-line-others host steps at now last key line others =
-    let here = subst (λ (h : HostState). KeepsOthers (bus_of h) (bus_of now) key) line.lent others in
-    let later = (went-rest now).later in
-    subst (λ (h : HostState). KeepsOthers (bus_of host) (bus_of h) key) (sym line.rest)
-    (record {
-      tickets = λ t k apart is. ap (λ (f : ℕ → Option ℕ). f t) later.owner ∙ here.tickets t k apart is;
-      keys = λ k apart is. ap (λ (f : ℕ → Bool). f k) later.keys ∙ here.keys k apart is;
-    })
-
+-- what stands in the host stands in it with the steps, and behind them
 pub stands-lent : (host at : HostState) (steps : List KernelStep) (x : EndpointState) → at ≡ record host { steps = steps } → Stands (bus_of host) x → Stands (bus_of at) x
 stands-lent host at steps x is stands =
     subst (λ (h : HostState). Stands (bus_of h) x) (sym is) (record { key_is_open = stands.key_is_open; held = stands.held })
 
--- the endpoint was called between
-pub line-sound : (host at now last : HostState) (steps : List KernelStep) (ds : List (Option ℕ)) (is : List (Option InterfaceState)) (es mid after : List (Option AnyEndpoint)) (e : ℕ) (x y : AnyEndpoint) → IsSound (session_made host ds is es) → Line host steps at now last → named es e ≡ Some x → mid ≡ freed es e → after ≡ set_name mid e y → Stands (bus_of now) (state_of y) → (state_of y).key ≡ (state_of x).key → KeepsOthers (bus_of at) (bus_of now) (state_of x).key → IsSound (session_made last ds is after)
-line-sound host at now last steps ds is es mid after e x y sound line was rest put stands key others =
-    sound-code host last ds is es mid after e x y sound was rest put (line-keeps host steps at now last line) (line-stands host steps at now last (state_of y) line stands) key (line-others host steps at now last (state_of x).key line others)
+stands-rested : (now : HostState) (x : EndpointState) → Stands (bus_of now) x → Stands (bus_of (host_rest now)) x
+stands-rested now x stands = Stands-later (bus_of now) (bus_of (host_rest now)) x stands (went-rest now).later
 
--- a line of steps alone
-pub line-alone : (host : HostState) (steps : List KernelStep) (at last : HostState) → at ≡ record host { steps = steps } → last ≡ host_rest at → Line host steps at at last
-line-alone host steps at last is rest =
-    record { lent = is; used = record { front = []; steps = refl; spare = omega arith; devices = refl; interfaces = refl }; rest = rest }
+-- over the line no step is left, and what is claimed stays
+keeps-lent : (host now : HostState) (steps : List KernelStep) → LineGoesOn (lent_host host steps) now → KeepsSession host (host_rest now)
+keeps-lent host now steps line =
+    let rest = (went-rest now).line in
+    record { idle = rest-steps now; devices = ap length (rest.devices ∙ line.devices); interfaces = rest.interfaces ∙ line.interfaces }
 
-pub alone-sound : (host at last : HostState) (steps : List KernelStep) (ds : List (Option ℕ)) (is : List (Option InterfaceState)) (es : List (Option AnyEndpoint)) → IsSound (session_made host ds is es) → Line host steps at at last → IsSound (session_made last ds is es)
-alone-sound host at last steps ds is es sound line =
-    sound-host (session_made host ds is es) last sound (line-keeps host steps at at last line)
-    (λ h stands. line-stands host steps at at last h line (stands-lent host at steps h line.lent stands))
+others-lent : (host now : HostState) (steps : List KernelStep) (key : ℕ) → KeepsOthers (bus_of (lent_host host steps)) (bus_of now) key → KeepsOthers (bus_of host) (bus_of (host_rest now)) key
+others-lent host now steps key others =
+    let later = (went-rest now).later in
+    record {
+      tickets = λ t k apart is. ap (λ (f : ℕ → Option ℕ). f t) later.owner ∙ others.tickets t k apart is;
+      keys = λ k apart is. ap (λ (f : ℕ → Bool). f k) later.keys ∙ others.keys k apart is;
+    }
 
-pub steps-code : (S : SessionState) (host at last : HostState) (steps : List KernelStep) (ds : List (Option ℕ)) (is : List (Option InterfaceState)) (es : List (Option AnyEndpoint)) → session_made host ds is es ≡ S → at ≡ record host { steps = steps } → last ≡ host_rest at → (state : State) → Represents S state → Represents (session_made last ds is es) (stepped_all state steps)
+-- an endpoint was called between
+pub sound-lent : (i : Inside) (steps : List KernelStep) (at now last : HostState) (after : List (Option AnyEndpoint)) (e : ℕ) (x y : AnyEndpoint) → IsSound (made_of i) → at ≡ record i.host { steps = steps } → PutBack i.endpoints.items after e x y → CallKeeps at now (state_of x) (state_of y) → last ≡ host_rest now → IsSound (made_with i last after)
+sound-lent i steps at now last after e x y sound is back keeps rest =
+    let k = subst (λ (h : HostState). CallKeeps h now (state_of x) (state_of y)) is keeps in
+    subst (λ (h : HostState). IsSound (made_with i h after)) (sym rest)
+    (sound-put (made_of i) (host_rest now) (map (option_map state_of) after) e (state_of x) (state_of y) sound (taken-map i.endpoints.items e x back.was) (made-put i after e x y back)
+    (keeps-lent i.host now steps k.line) (stands-rested now (state_of y) k.stands) k.key (others-lent i.host now steps (state_of x).key k.others))
+
+-- its answer, and then the rest of the steps
+rested-answered : (s : SessionState) (now : HostState) (before after : List ℕ) (a : Answer) → s.host ≡ now → Answered s before after a → Answered (record s { host = host_rest now }) before after (then_rested a)
+rested-answered s now before after a is answered =
+    record {
+      state = subst (λ (h : HostState). Represents (record s { host = host_rest now }) (with_host a.state (host_rest h))) (sym is ∙ host_is s a.state answered.state)
+          (represents-host s a.state (host_rest now) answered.state);
+      line = answered.line;
+    }
+
+pub answers-lent : {E : Type 0} (i : Inside) (S : SessionState) (steps : List KernelStep) (at now last : HostState) (after : List (Option AnyEndpoint)) (n e : ℕ) (x y : AnyEndpoint) (before text : String Global) (result : Result Unit E) (call : State → ℕ → Endpoint → Answer) → made_of i ≡ S → at ≡ record i.host { steps = steps } → PutBack i.endpoints.items after n x y → n ≡ e → CallAnswers at now (state_of x) (state_of y) before text result call → last ≡ host_rest now → Answers S (made_with i last after) before text result (λ state. if_open (named state.endpoints e) (λ h. then_rested (call (lent state steps) e h)) (barred (stepped_all state steps)))
+answers-lent i S steps at now last after n e x y before text (Err error) call view is back same answers rest = tt
+answers-lent i S steps at now last after n e x y before text (Ok done) call view is back same answers rest =
+    λ state r.
+    let b = string_bytes before in
+    let t = string_bytes text in
+    let was = named-made i S n x view back.was in
+    let o = open_at S state n (state_of x) r was in
+    let host : at ≡ record S.host { steps = steps } = is ∙ ap (λ (v : SessionState). record v.host { steps = steps }) view in
+    let lends : Represents (record S { host = at }) (lent state steps) =
+    subst (λ (h : HostState). Represents (record S { host = at }) (with_host state h)) (host ∙ ap (λ (h : HostState). record h { steps = steps }) (host_is S state r)) (represents-host S state at r) in
+    let called : Answered (with_called S n now (state_of y)) b t (call (lent state steps) n o.entry) = answers (record S { host = at }) (lent state steps) n o.entry lends refl was o.is in
+    subst (λ m. Answered (made_with i last after) b t (if_open (named state.endpoints m) (λ h. then_rested (call (lent state steps) m h)) (barred (stepped_all state steps)))) same
+    (answered-some (made_with i last after) b t (named state.endpoints n) o.entry (λ h. then_rested (call (lent state steps) n h)) (barred (stepped_all state steps)) o.is
+    (subst (λ (h : HostState). Answered (made_with i h after) b t (then_rested (call (lent state steps) n o.entry))) (sym rest)
+    (rested-answered (made_with i now after) now b t (call (lent state steps) n o.entry) refl
+    (subst (λ s. Answered s b t (call (lent state steps) n o.entry)) (made-called i S now after n x y view back) called))))
+
+-- no endpoint was called
+pub sound-stepped : (i : Inside) (steps : List KernelStep) (at last : HostState) (mid : List (Option AnyEndpoint)) → IsSound (made_of i) → at ≡ record i.host { steps = steps } → last ≡ host_rest at → mid ≡ i.endpoints.items → IsSound (made_with i last mid)
+sound-stepped i steps at last mid sound is rest none =
+    subst (λ l. IsSound (made_with i last l)) (sym none)
+    (subst (λ (h : HostState). IsSound (made_with i h i.endpoints.items)) (sym (rest ∙ ap host_rest is))
+    (sound-host (made_of i) (host_rest (lent_host i.host steps)) sound (keeps-lent i.host (lent_host i.host steps) steps (line-keeps (lent_host i.host steps) (lent_host i.host steps) (keeps-open (lent_host i.host steps))))
+    (λ h stands. stands-rested (lent_host i.host steps) h (stands-lent i.host (lent_host i.host steps) steps h refl stands))))
+
+pub steps-represent : (i : Inside) (S : SessionState) (steps : List KernelStep) (at last : HostState) → made_of i ≡ S → at ≡ record i.host { steps = steps } → last ≡ host_rest at → (state : State) → Represents S state → Represents (made_with i last i.endpoints.items) (stepped_all state steps)
 unfolding stepped_all
-steps-code S host at last steps ds is es view lends rest state r =
+steps-represent i S steps at last view is rest state r =
     let here = subst (λ v. Represents v state) (sym view) r in
-    subst (λ (h : HostState). Represents (session_made last ds is es) (record state { host = h }))
-    (rest ∙ ap host_rest lends ∙ ap (λ (h : HostState). host_rest (record h { steps = steps })) (host_is (session_made host ds is es) state here))
-    (represents-host (session_made host ds is es) state last here)
+    subst (λ (h : HostState). Represents (made_with i last i.endpoints.items) (with_host state h))
+    (rest ∙ ap host_rest is ∙ ap (λ (h : HostState). host_rest (record h { steps = steps })) (host_is (made_of i) state here))
+    (represents-host (made_of i) state last here)
+
+pub answers-stepped : {E : Type 0} (i : Inside) (S : SessionState) (steps : List KernelStep) (at last : HostState) (mid : List (Option AnyEndpoint)) (n e : ℕ) (before text : String Global) (result : Result Unit E) (call : State → Endpoint → Answer) → made_of i ≡ S → at ≡ record i.host { steps = steps } → last ≡ host_rest at → named i.endpoints.items n ≡ None → mid ≡ i.endpoints.items → n ≡ e → OnOk result (string_bytes text ≡ string_bytes before ++ condition_line) → Answers S (made_with i last mid) before text result (λ state. if_open (named state.endpoints e) (call state) (barred (stepped_all state steps)))
+answers-stepped i S steps at last mid n e before text (Err error) call view is rest none back same printed = tt
+answers-stepped i S steps at last mid n e before text (Ok done) call view is rest none back same printed =
+    λ state r.
+    let b = string_bytes before in
+    let t = string_bytes text in
+    subst (λ l. Answered (made_with i last l) b t (if_open (named state.endpoints e) (call state) (barred (stepped_all state steps)))) (sym back)
+    (answered-none (made_with i last i.endpoints.items) b t (named state.endpoints e) (call state) (barred (stepped_all state steps))
+    (none_kept S state e r (ap (named S.endpoints) (sym same) ∙ none_made i S n view none))
+    (told-answered (made_with i last i.endpoints.items) (stepped_all state steps) b t condition_line (steps-represent i S steps at last view is rest state r) printed))
+
+-- each step of the line used a place
+pub spare-lent : (i : Inside) (S : SessionState) (steps : List KernelStep) (at now last : HostState) → made_of i ≡ S → at ≡ record i.host { steps = steps } → LineGoesOn at now → last ≡ host_rest now → length steps ≤ S.host.kernel.spare → last.kernel.spare + length steps ≡ S.host.kernel.spare
+spare-lent i S steps at now last view is line rest room =
+    let h = is ∙ ap (λ (v : SessionState). record v.host { steps = steps }) view in
+    subst (λ (g : HostState). g.kernel.spare + length steps ≡ S.host.kernel.spare) (sym rest)
+    (rest-spare (lent_host S.host steps) now (subst (λ (g : HostState). LineGoesOn g now) h line) room)
+
+pub line-same : (h : HostState) → LineGoesOn h h
+line-same h = line-keeps h h (keeps-open h)

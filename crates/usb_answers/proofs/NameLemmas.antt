@@ -1,6 +1,7 @@
 -- Names: what is open under each.
-use Rattle.std.proofs.Common.{◌≡◌, ◌≢◌, ℕ, ◌<◌, ◌≤◌, suc, zero, arith, List, [], ◌∷◌, ◌++◌, length, set, get_or, map, replicate, Option, Some, None, true, refl, ap, sym, ◌∙◌, slice_get}
-use Rattle.std.specs.Option.{option_map}
+use Rattle.std.proofs.Common.{◌≡◌, ◌≢◌, ℕ, ◌<◌, ◌≤◌, suc, zero, arith, List, [], ◌∷◌, ◌++◌, length, set, get_or, map, replicate, Option, Some, None, Bor, Bool, true, refl, ap, sym, ◌∙◌, slice_get, inl, inr, ◌⊎◌}
+use Rattle.std.proofs.lemmas.Bool.{cases_eq}
+use Rattle.std.specs.Option.{option_map, option_copied}
 use Rattle.std.proofs.lemmas.Option.{slice_get-map, slice_get_past, slice_get_read, slice_get_within, none-some, same_Some}
 use Rattle.usb_answers.specs.Names.{named, flat, is_free, is_free_place, change_at, change_named, freed, nothing, set_name, something}
 
@@ -240,3 +241,18 @@ none-front old front last is none n =
 pub none-last : {X : Type 0} (old front : List (Option X)) (o : Option X) → old ≡ front ++ o ∷ [] → ((n : ℕ) → named old n ≡ None) → o ≡ None
 none-last old front o is none =
     sym (named_of old (length front) o (ap (λ l. slice_get l (length front)) is ∙ slice_get-last front o)) ∙ none (length front)
+
+-- what is open under a name once something was opened under one that was free
+pub names-set : {X : Type 0} (xs after : List (Option X)) (n m : ℕ) (y z : X) → is_free xs n ≡ true → after ≡ set_name xs n y → named after m ≡ Some z → ((m ≡ n) × (z ≡ y)) ⊎ ((m ≢ n) × (named xs m ≡ Some z))
+names-set xs after n m y z free put is =
+    elim (cases_eq m n) [
+      | inl same ↦ inl (same, same_Some z y (sym is ∙ ap (λ l. named l m) put ∙ ap (named (set_name xs n y)) same ∙ named-set xs n y free))
+      | inr apart ↦ inr (apart, sym (named-set_other xs n m y apart) ∙ sym (ap (λ l. named l m) put) ∙ is)
+    ]
+
+-- what the code found under a name
+pub found_at : {X : Type 0} (names shown : List (Option X)) (name number : ℕ) (o : Option (Bor X)) (r : Option X) → shown ≡ names → number ≡ name → option_copied o ≡ named shown number → option_copied o ≡ r → named names name ≡ r
+found_at names shown name number o r same is read found = sym (ap (λ l. named l number) same ∙ ap (named names) is) ∙ sym read ∙ found
+
+pub free_at : {X : Type 0} (names shown : List (Option X)) (name number : ℕ) (b v : Bool) → shown ≡ names → number ≡ name → b ≡ is_free shown number → b ≡ v → is_free names name ≡ v
+free_at names shown name number b v same is read found = sym (ap (λ l. is_free l number) same ∙ ap (is_free names) is) ∙ sym read ∙ found

@@ -14,7 +14,7 @@ use Rattle.usb_kernel.proofs.Extends.{extends-trans}
 use Rattle.usb_endpoint.specs.EndpointState.{EndpointState}
 use Rattle.usb_endpoint.specs.Closes.{all_discarded, all_abandoned, after_close}
 use Rattle.usb_device.specs.declared.ends.TicketEnd.TheVariants.{Taken, Dropped, Reclaimed}
-use Rattle.usb_device.specs.HostState.{HostState, HostTicket, Hold, Held, Abandoned, Ended}
+use Rattle.usb_device.specs.HostState.{HostState, HostTicket, Hold, HeldBy, Abandoned, Ended}
 use Rattle.usb_device.specs.HostBus.{end_at, ended_at}
 use Rattle.usb_device.specs.Finishes.{HasEnds}
 use Rattle.usb_device.specs.TicketEnds.{host_taken, host_abandoned}
@@ -24,7 +24,7 @@ use Rattle.usb_device.proofs.FollowLemmas.{Follows, KeepsTickets, on-all_discard
 use Rattle.usb_answers.specs.State.{Endpoint, pending, kept}
 use Rattle.usb_answers.specs.Polls.{one_taken}
 use Rattle.usb_answers.specs.Served.{end_given_up}
-use Rattle.usb_answers.specs.Submits.{with_ticket}
+use Rattle.usb_answers.specs.Submits.{with_submission}
 use Rattle.usb_answers.proofs.TimesLemmas.{one, one-same, one-apart, times, times-append, apart-all, stands}
 
 -- a ticket that was taken
@@ -34,7 +34,7 @@ IsTaken h t = slice_get h.tickets t ≡ Some (Ended Taken)
 -- a ticket that an endpoint holds
 pub record IsHeld (h : HostState) (t : ℕ) : Type 0 where
   pub hold : Hold
-  pub is : slice_get h.tickets t ≡ Some (Held hold)
+  pub is : slice_get h.tickets t ≡ Some (HeldBy hold)
 
 -- of an open endpoint's tickets the first were taken, and it holds the others
 pub record InOrder (h : HostState) (e : Endpoint) : Type 0 where
@@ -47,33 +47,36 @@ pub record InOrder (h : HostState) (e : Endpoint) : Type 0 where
   pub rising : IsStrictlyIncreasing e.tickets
 
 -- the parts of a list by the length of the first
-pub drop-front : (xs ys : List ℕ) → drop (length xs) (xs ++ ys) ≡ ys
+drop-front : (xs ys : List ℕ) → drop (length xs) (xs ++ ys) ≡ ys
 drop-front [] ys = refl
 drop-front (x ∷ xs) ys = drop-front xs ys
 
-pub take-front : (xs ys : List ℕ) → take (length xs) (xs ++ ys) ≡ xs
+take-front : (xs ys : List ℕ) → take (length xs) (xs ++ ys) ≡ xs
 take-front [] ys = refl
 take-front (x ∷ xs) ys = ap (λ l. x ∷ l) (take-front xs ys)
 
-pub pending-back : (h : HostState) (e : Endpoint) (i : InOrder h e) → pending e ≡ i.back
+pending-back : (h : HostState) (e : Endpoint) (i : InOrder h e) → pending e ≡ i.back
 pending-back h e i = ap (λ n. drop n e.tickets) i.count ∙ (ap (drop (length i.front)) i.tickets ∙ drop-front i.front i.back)
 
 -- how often a number stands in each part
-pub times-parts : (h : HostState) (e : Endpoint) (i : InOrder h e) (t : ℕ) → times t e.tickets ≡ times t i.front + times t i.back
+times-parts : (h : HostState) (e : Endpoint) (i : InOrder h e) (t : ℕ) → times t e.tickets ≡ times t i.front + times t i.back
 times-parts h e i t = ap (times t) i.tickets ∙ times-append t i.front i.back
+
+times-pending : (h : HostState) (e : Endpoint) (i : InOrder h e) (t : ℕ) → times t e.tickets ≡ times t i.front + times t (pending e)
+times-pending h e i t = times-parts h e i t ∙ ap (λ l. times t i.front + times t l) (sym (pending-back h e i))
 
 pub order-few : (h : HostState) (e : Endpoint) → InOrder h e → e.taken ≤ length e.tickets
 order-few h e i = let all = ap (λ (l : List ℕ). length l) i.tickets in omega (arith, all, i.count, length-append i.front i.back)
 
 -- a held or taken ticket is so still
 pub record Stays (old new : HostState) (t : ℕ) : Type 0 where
-  pub held : (hold : Hold) → slice_get old.tickets t ≡ Some (Held hold) → slice_get new.tickets t ≡ Some (Held hold)
+  pub held : (hold : Hold) → slice_get old.tickets t ≡ Some (HeldBy hold) → slice_get new.tickets t ≡ Some (HeldBy hold)
   pub taken : slice_get old.tickets t ≡ Some (Ended Taken) → slice_get new.tickets t ≡ Some (Ended Taken)
 
 pub stays-same : (old new : HostState) (t : ℕ) → slice_get new.tickets t ≡ slice_get old.tickets t → Stays old new t
 stays-same old new t same = record { held = λ hold is. same ∙ is; taken = λ is. same ∙ is }
 
-pub stays-keeps : (old new : HostState) (t : ℕ) → KeepsTickets old new → Stays old new t
+stays-keeps : (old new : HostState) (t : ℕ) → KeepsTickets old new → Stays old new t
 stays-keeps old new t keeps =
     record { held = λ hold is. rw is at (keeps.tickets t); taken = λ is. rw is at (keeps.tickets t) }
 
@@ -88,16 +91,9 @@ order-stays old new e stays i =
       back = i.back;
       tickets = i.tickets;
       count = i.count;
-      taken = λ k d below.
-          let t = get_or i.front k d in
-          let parts = times-parts old e i t in
-          let here = stands i.front k d below in
-          (stays t (omega arith)).taken (i.taken k d below);
+      taken = λ k d below. (stays (get_or i.front k d) (omega (arith, times-parts old e i (get_or i.front k d), stands i.front k d below))).taken (i.taken k d below);
       held = λ k d below.
-          let t = get_or i.back k d in
-          let parts = times-parts old e i t in
-          let here = stands i.back k d below in
-          held-stays old new t (stays t (omega arith)) (i.held k d below);
+          held-stays old new (get_or i.back k d) (stays (get_or i.back k d) (omega (arith, times-parts old e i (get_or i.back k d), stands i.back k d below))) (i.held k d below);
       rising = i.rising;
     }
 
@@ -120,7 +116,7 @@ order-fresh h e none zero_ =
 -- all tickets of an endpoint are of the host
 part-within : (h : HostState) (xs : List ℕ) (k d : ℕ) → k < length xs → All (IsTaken h) xs ⊎ All (IsHeld h) xs → get_or xs k d < length h.tickets
 part-within h xs k d below (inl taken) = slice_get_within h.tickets (get_or xs k d) (Ended Taken) (taken k d below)
-part-within h xs k d below (inr held) = let was = held k d below in slice_get_within h.tickets (get_or xs k d) (Held was.hold) was.is
+part-within h xs k d below (inr held) = let was = held k d below in slice_get_within h.tickets (get_or xs k d) (HeldBy was.hold) was.is
 
 pub order-within : (h : HostState) (e : Endpoint) → InOrder h e → All (λ t. t < length h.tickets) e.tickets
 order-within h e i =
@@ -130,14 +126,13 @@ order-within h e i =
 rising-push : (xs : List ℕ) (n : ℕ) → All (λ t. t < n) xs → IsStrictlyIncreasing xs → IsStrictlyIncreasing (xs ++ n ∷ [])
 rising-push xs n small rising k within =
     let all = length-append xs (n ∷ []) in
+    let first : get_or (xs ++ n ∷ []) k 0 ≡ get_or xs k 0 = get_or-append_left xs (n ∷ []) k 0 (omega arith) in
     elim (cases_lt (k + 1) (length xs)) [
       | inl inside ↦
-          let first : get_or (xs ++ n ∷ []) k 0 ≡ get_or xs k 0 = get_or-append_left xs (n ∷ []) k 0 (omega arith) in
           let second : get_or (xs ++ n ∷ []) (k + 1) 0 ≡ get_or xs (k + 1) 0 = get_or-append_left xs (n ∷ []) (k + 1) 0 inside in
           let less = rising k inside in omega arith
       | inr outside ↦
           let last : k + 1 ≡ length xs = omega arith in
-          let first : get_or (xs ++ n ∷ []) k 0 ≡ get_or xs k 0 = get_or-append_left xs (n ∷ []) k 0 (omega arith) in
           let second : get_or (xs ++ n ∷ []) (k + 1) 0 ≡ n = ap (λ j. get_or (xs ++ n ∷ []) j 0) last ∙ get_or-seam xs n 0 in
           let less = small k 0 (omega arith) in omega arith
     ]
@@ -152,7 +147,7 @@ rising-push xs n small rising k within =
     get_or-seam (x ∷ xs) n d = get_or-seam xs n d
 
 -- one more ticket
-pub order-push : (h : HostState) (e : Endpoint) (n : ℕ) → All (λ t. t < n) e.tickets → IsHeld h n → InOrder h e → InOrder h (with_ticket n e)
+pub order-push : (h : HostState) (e : Endpoint) (n : ℕ) → All (λ t. t < n) e.tickets → IsHeld h n → InOrder h e → InOrder h (with_submission n e)
 order-push h e n small new i =
     record {
       front = i.front;
@@ -164,23 +159,28 @@ order-push h e n small new i =
       rising = rising-push e.tickets n small i.rising;
     }
 
--- the ticket at the front is taken
-front-held : (h : HostState) (t : ℕ) (back : List ℕ) → All (IsHeld h) back → slice_get back 0 ≡ Some t → IsHeld h t
-front-held h t [] held at = absurd (none-some t at)
-front-held h t (u ∷ us) held at = subst (IsHeld h) (same_Some u t at) (All-head (IsHeld h) u us held)
+-- the ticket at the place of those that were taken is taken
+at-seam : (xs ys : List ℕ) → slice_get (xs ++ ys) (length xs) ≡ slice_get ys 0
+at-seam [] ys = refl
+at-seam (x ∷ xs) ys = at-seam xs ys
 
-pub pending-held : (h : HostState) (e : Endpoint) (t : ℕ) → InOrder h e → slice_get (pending e) 0 ≡ Some t → IsHeld h t
-pending-held h e t i at = front-held h t i.back i.held (ap (λ l. slice_get l 0) (sym (pending-back h e i)) ∙ at)
+front-back : (h : HostState) (e : Endpoint) (t : ℕ) (i : InOrder h e) → slice_get e.tickets e.taken ≡ Some t → slice_get i.back 0 ≡ Some t
+front-back h e t i at =
+    sym (at-seam i.front i.back) ∙ (sym (ap (slice_get (i.front ++ i.back)) i.count) ∙ (sym (ap (λ l. slice_get l e.taken) i.tickets) ∙ at))
 
-front-stands : (t : ℕ) (back : List ℕ) → slice_get back 0 ≡ Some t → 1 ≤ times t back
-front-stands t [] at = absurd (none-some t at)
-front-stands t (u ∷ us) at = let here : one t u ≡ 1 = ap (one t) (same_Some u t at) ∙ one-same t in omega arith
+first-held : (h : HostState) (t : ℕ) (back : List ℕ) → All (IsHeld h) back → slice_get back 0 ≡ Some t → IsHeld h t
+first-held h t [] held at = absurd (none-some t at)
+first-held h t (u ∷ us) held at = subst (IsHeld h) (same_Some u t at) (All-head (IsHeld h) u us held)
 
-pub pending-stands : (h : HostState) (e : Endpoint) (t : ℕ) → InOrder h e → slice_get (pending e) 0 ≡ Some t → 1 ≤ times t e.tickets
-pending-stands h e t i at =
-    let parts = times-parts h e i t in
-    let here = front-stands t i.back (ap (λ l. slice_get l 0) (sym (pending-back h e i)) ∙ at) in
-    omega arith
+pub front-held : (h : HostState) (e : Endpoint) (t : ℕ) → InOrder h e → slice_get e.tickets e.taken ≡ Some t → IsHeld h t
+front-held h e t i at = first-held h t i.back i.held (front-back h e t i at)
+
+first-stands : (t : ℕ) (back : List ℕ) → slice_get back 0 ≡ Some t → 1 ≤ times t back
+first-stands t [] at = absurd (none-some t at)
+first-stands t (u ∷ us) at = let here : one t u ≡ 1 = ap (one t) (same_Some u t at) ∙ one-same t in omega arith
+
+pub front-stands : (h : HostState) (e : Endpoint) (t : ℕ) → InOrder h e → slice_get e.tickets e.taken ≡ Some t → 1 ≤ times t e.tickets
+front-stands h e t i at = let parts = times-parts h e i t in let here = first-stands t i.back (front-back h e t i at) in omega arith
 
 others-stay : (h : HostState) (t u : ℕ) → u ≢ t → Stays h (host_taken h t) u
 others-stay h t u apart = stays-same h (host_taken h t) u (taken-others h t u apart)
@@ -191,7 +191,7 @@ takes-by h t front [] once at taken held = absurd (none-some t at)
 takes-by h t front (u ∷ us) once at taken held =
     let same = same_Some u t at in
     let here : one t u ≡ 1 = ap (one t) same ∙ one-same t in
-    let was = front-held h t (u ∷ us) held at in
+    let was = first-held h t (u ∷ us) held at in
     let before = apart-all t front (omega arith) in
     let behind = apart-all t us (omega arith) in (
       us,
@@ -200,10 +200,10 @@ takes-by h t front (u ∷ us) once at taken held =
       λ k d below. held-stays h (host_taken h t) (get_or us k d) (others-stay h t (get_or us k d) (behind k d below)) (All-tail (IsHeld h) u us held k d below),
     )
 
-pub order-takes : (h : HostState) (e : Endpoint) (t : ℕ) → times t e.tickets ≤ 1 → slice_get (pending e) 0 ≡ Some t → InOrder h e → InOrder (host_taken h t) (one_taken e)
+pub order-takes : (h : HostState) (e : Endpoint) (t : ℕ) → times t e.tickets ≤ 1 → slice_get e.tickets e.taken ≡ Some t → InOrder h e → InOrder (host_taken h t) (one_taken e)
 order-takes h e t once at i =
     let parts = times-parts h e i t in
-    let new = takes-by h t i.front i.back (omega arith) (ap (λ l. slice_get l 0) (sym (pending-back h e i)) ∙ at) i.taken i.held in
+    let new = takes-by h t i.front i.back (omega arith) (front-back h e t i at) i.taken i.held in
     record {
       front = i.front ++ t ∷ [];
       back = new.0;
@@ -215,7 +215,7 @@ order-takes h e t once at i =
     }
 
 -- the close of an endpoint: its pending tickets are given up, and all others stay
-pub abandons-apart : (g : HostState) (ts : List ℕ) (u : ℕ) → times u ts ≡ 0 → slice_get (all_abandoned host_abandoned g ts).tickets u ≡ slice_get g.tickets u
+abandons-apart : (g : HostState) (ts : List ℕ) (u : ℕ) → times u ts ≡ 0 → slice_get (all_abandoned host_abandoned g ts).tickets u ≡ slice_get g.tickets u
 abandons-apart g [] u none = refl
 abandons-apart g (t ∷ ts) u none =
     let apart : u ≢ t = λ same. let here : one u t ≡ 1 = ap (one u) (sym same) ∙ one-same u in absurd (omega arith) in
@@ -225,63 +225,57 @@ abandons-past : (g : HostState) (ts : List ℕ) → (all_abandoned host_abandone
 abandons-past g [] = refl
 abandons-past g (t ∷ ts) = abandons-past (host_abandoned g t) ts ∙ abandoned-past g t
 
-given-same : (past : List Event) (t : ℕ) (o p : Option HostTicket) → p ≡ o → GivenUp past t o → GivenUp past t p
-given-same past t o p same given = subst (GivenUp past t) (sym same) given
-
 given-past : (past next : List Event) (t : ℕ) (o : Option HostTicket) → completion next t ≡ completion past t → GivenUp next t o → GivenUp past t o
 given-past past next t o same (dropped reaped is) = dropped (sym (ap (λ (d : Option Done). is_some d) same) ∙ reaped) is
 given-past past next t o same (waits key open_ is) = waits key (sym (ap (λ (d : Option Done). is_some d) same) ∙ open_) is
 
-pub abandons-given : (g : HostState) (ts : List ℕ) (u : ℕ) (hold : Hold) → times u ts ≡ 1 → slice_get g.tickets u ≡ Some (Held hold) → GivenUp g.kernel.past u (slice_get (all_abandoned host_abandoned g ts).tickets u)
+abandons-given : (g : HostState) (ts : List ℕ) (u : ℕ) (hold : Hold) → times u ts ≡ 1 → slice_get g.tickets u ≡ Some (HeldBy hold) → GivenUp g.kernel.past u (slice_get (all_abandoned host_abandoned g ts).tickets u)
 abandons-given g [] u hold once at = absurd (omega arith)
 abandons-given g (t ∷ ts) u hold once at =
     elim (cases_eq t u) [
       | inl same ↦
           let here : one u t ≡ 1 = ap (one u) same ∙ one-same u in
-          given-same g.kernel.past u (slice_get (host_abandoned g t).tickets u) (slice_get (all_abandoned host_abandoned (host_abandoned g t) ts).tickets u)
-          (abandons-apart (host_abandoned g t) ts u (omega arith)) (subst (λ v. GivenUp g.kernel.past u (slice_get (host_abandoned g v).tickets u)) (sym same) (abandoned-here g u hold at))
+          subst (GivenUp g.kernel.past u) (sym (abandons-apart (host_abandoned g t) ts u (omega arith))) (subst (λ v. GivenUp g.kernel.past u (slice_get (host_abandoned g v).tickets u)) (sym same) (abandoned-here g u hold at))
       | inr apart ↦
           let here = one-apart u t apart in
           subst (λ (past : List Event). GivenUp past u (slice_get (all_abandoned host_abandoned (host_abandoned g t) ts).tickets u)) (abandoned-past g t)
           (abandons-given (host_abandoned g t) ts u hold (omega arith) (abandoned-others g t u (λ same. apart (sym same)) ∙ at))
     ]
 
--- what a closed endpoint left
+-- what a closed endpoint left: its tickets were discarded, and then given up
+abbrev discarded_by : HostState → EndpointState → HostState
+discarded_by h e = all_discarded host_discarded h e.pending
+
+abbrev given_up_by : HostState → EndpointState → HostState
+given_up_by h e = all_abandoned host_abandoned (discarded_by h e) e.pending
+
 abbrev pub left_by : HostState → EndpointState → HostState
 left_by h e = after_close host_discarded host_abandoned host_left h e
 
-left-tickets-same : (h : HostState) (k : ℕ) → (host_left h k).tickets ≡ h.tickets
-unfolding host_left
-left-tickets-same h k = left-tickets h k (slice_get h.endpoints k)
-
 left-past : (h : HostState) (e : EndpointState) → Extends h.kernel.past (left_by h e).kernel.past
 left-past h e =
-    let first = all_discarded host_discarded h e.pending in
-    let second = all_abandoned host_abandoned first e.pending in
-    extends-trans h.kernel.past first.kernel.past (left_by h e).kernel.past (on-all_discarded h e.pending).past
-    (subst (λ (past : List Event). Extends past (left_by h e).kernel.past) (abandons-past first e.pending) (on-left second e.key).past)
+    extends-trans h.kernel.past (discarded_by h e).kernel.past (left_by h e).kernel.past (on-all_discarded h e.pending).past
+    (subst (λ (past : List Event). Extends past (left_by h e).kernel.past) (abandons-past (discarded_by h e) e.pending) (on-left (given_up_by h e) e.key).past)
 
-at-left : (h : HostState) (e : EndpointState) (u : ℕ) → slice_get (left_by h e).tickets u ≡ slice_get (all_abandoned host_abandoned (all_discarded host_discarded h e.pending) e.pending).tickets u
-at-left h e u = ap (λ (l : List HostTicket). slice_get l u) (left-tickets-same (all_abandoned host_abandoned (all_discarded host_discarded h e.pending) e.pending) e.key)
+at-left : (h : HostState) (e : EndpointState) (u : ℕ) → slice_get (left_by h e).tickets u ≡ slice_get (given_up_by h e).tickets u
+unfolding host_left
+at-left h e u = ap (λ (l : List HostTicket). slice_get l u) (left-tickets (given_up_by h e) e.key (slice_get (given_up_by h e).endpoints e.key))
 
-at-discards : (h : HostState) (ts : List ℕ) (u : ℕ) → slice_get (all_discarded host_discarded h ts).tickets u ≡ slice_get h.tickets u
-at-discards h ts u = ap (λ (l : List HostTicket). slice_get l u) (discards-tickets h ts)
+at-discards : (h : HostState) (e : EndpointState) (u : ℕ) → slice_get (discarded_by h e).tickets u ≡ slice_get h.tickets u
+at-discards h e u = ap (λ (l : List HostTicket). slice_get l u) (discards-tickets h e.pending)
 
 left-apart : (h : HostState) (e : EndpointState) (u : ℕ) → times u e.pending ≡ 0 → slice_get (left_by h e).tickets u ≡ slice_get h.tickets u
-left-apart h e u none =
-    at-left h e u ∙ (abandons-apart (all_discarded host_discarded h e.pending) e.pending u none ∙ at-discards h e.pending u)
+left-apart h e u none = at-left h e u ∙ (abandons-apart (discarded_by h e) e.pending u none ∙ at-discards h e u)
 
-left-given : (h : HostState) (e : EndpointState) (u : ℕ) (hold : Hold) → times u e.pending ≡ 1 → slice_get h.tickets u ≡ Some (Held hold) → GivenUp h.kernel.past u (slice_get (left_by h e).tickets u)
+left-given : (h : HostState) (e : EndpointState) (u : ℕ) (hold : Hold) → times u e.pending ≡ 1 → slice_get h.tickets u ≡ Some (HeldBy hold) → GivenUp h.kernel.past u (slice_get (left_by h e).tickets u)
 left-given h e u hold once at =
-    let first = all_discarded host_discarded h e.pending in
-    given-past h.kernel.past first.kernel.past u (slice_get (left_by h e).tickets u) (discards-completion h e.pending u)
-    (given-same first.kernel.past u (slice_get (all_abandoned host_abandoned first e.pending).tickets u) (slice_get (left_by h e).tickets u) (at-left h e u)
-    (abandons-given first e.pending u hold once (at-discards h e.pending u ∙ at)))
+    given-past h.kernel.past (discarded_by h e).kernel.past u (slice_get (left_by h e).tickets u) (discards-completion h e.pending u)
+    (subst (GivenUp (discarded_by h e).kernel.past u) (sym (at-left h e u)) (abandons-given (discarded_by h e) e.pending u hold once (at-discards h e u ∙ at)))
 
 -- a ticket that has its end keeps it, and one that was given up may be reclaimed
 abbrev pub Leaves : Option HostTicket → Option HostTicket → Type 0
 Leaves None now = Unit {0}
-Leaves (Some (Held hold)) now = Unit {0}
+Leaves (Some (HeldBy hold)) now = Unit {0}
 Leaves (Some (Abandoned key)) now = (now ≡ Some (Abandoned key)) ⊎ (now ≡ Some (Ended Reclaimed))
 Leaves (Some (Ended end)) now = now ≡ Some (Ended end)
 
@@ -292,19 +286,19 @@ pub record LeavesTickets (old new : HostState) : Type 0 where
 
 leaves-follows : (o p : Option HostTicket) → Follows o p → Leaves o p
 leaves-follows None p follows = tt
-leaves-follows (Some (Held hold)) p follows = tt
+leaves-follows (Some (HeldBy hold)) p follows = tt
 leaves-follows (Some (Abandoned key)) p follows = follows
 leaves-follows (Some (Ended end)) p follows = follows
 
 leaves-is : (o p : Option HostTicket) → p ≡ o → Leaves o p
 leaves-is None p is = tt
-leaves-is (Some (Held hold)) p is = tt
+leaves-is (Some (HeldBy hold)) p is = tt
 leaves-is (Some (Abandoned key)) p is = inl is
 leaves-is (Some (Ended end)) p is = is
 
 leaves-then : (a b c : Option HostTicket) → Leaves a b → Leaves b c → Leaves a c
 leaves-then None b c first second = tt
-leaves-then (Some (Held hold)) b c first second = tt
+leaves-then (Some (HeldBy hold)) b c first second = tt
 leaves-then (Some (Ended end)) b c first second = rw first at second
 leaves-then (Some (Abandoned key)) b c first second = elim first [ inl still ↦ rw still at second | inr gone ↦ inr (rw gone at second) ]
 
@@ -318,7 +312,7 @@ goes-then a b c first second =
       tickets = λ t. leaves-then (slice_get a.tickets t) (slice_get b.tickets t) (slice_get c.tickets t) (first.tickets t) (second.tickets t);
     }
 
-leaves-held : (o p : Option HostTicket) (hold : Hold) → o ≡ Some (Held hold) → Leaves o p
+leaves-held : (o p : Option HostTicket) (hold : Hold) → o ≡ Some (HeldBy hold) → Leaves o p
 leaves-held o p hold is = rw is tt
 
 pub goes-taken : (h : HostState) (t : ℕ) → IsHeld h t → LeavesTickets h (host_taken h t)
@@ -396,19 +390,11 @@ closed-order h e once i =
       count = i.count;
       taken = λ k d below.
           let t = get_or i.front k d in
-          let parts = times-parts h e i t in
-          let least = once t in
-          let here = stands i.front k d below in
-          let same : times t (pending e) ≡ times t i.back = ap (times t) (pending-back h e i) in
-          left-apart h (kept e) t (omega arith) ∙ i.taken k d below;
+          left-apart h (kept e) t (omega (arith, once t, times-pending h e i t, stands i.front k d below)) ∙ i.taken k d below;
       given = λ k d below.
           let t = get_or i.back k d in
-          let parts = times-parts h e i t in
-          let least = once t in
-          let here = stands i.back k d below in
-          let same : times t (pending e) ≡ times t i.back = ap (times t) (pending-back h e i) in
           let was = i.held k d below in
-          inl (left-given h (kept e) t was.hold (omega arith) was.is);
+          inl (left-given h (kept e) t was.hold (omega (arith, once t, times-parts h e i t, times-pending h e i t, stands i.back k d below)) was.is);
       rising = i.rising;
     }
 

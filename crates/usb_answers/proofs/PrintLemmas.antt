@@ -12,11 +12,11 @@ use Rattle.usb_kernel.specs.Extends.{Extends}
 use Rattle.usb_kernel.specs.Completions.{completion}
 use Rattle.usb_kernel.proofs.Extends.{completion-stays}
 use Rattle.usb_bus.specs.Completions.{completion_of, transfer_completion}
-use Rattle.usb_lines.specs.Completions.{polled_line}
+use Rattle.usb_lines.specs.Completions.{done_line, polled_line}
 use Rattle.usb_answers.specs.Names.{named}
 use Rattle.usb_answers.specs.State.{State, Endpoint}
-use Rattle.usb_answers.specs.Answers.{Answer}
-use Rattle.usb_answers.specs.Served.{taken_under, line_taking, lines_behind}
+use Rattle.usb_answers.specs.Answer.{Answer}
+use Rattle.usb_answers.specs.Served.{taken_under, lines_behind}
 
 -- the line of a ticket's completion
 abbrev pub line_in : List Event → ℕ → List ℕ
@@ -65,64 +65,68 @@ prints-more past ts t lines line came is p =
       are = ap (λ l. l ++ line ∷ []) p.are ∙ (ap (λ x. map (line_in past) ts ++ x ∷ []) is ∙ sym (map-append (line_in past) ts (t ∷ [])));
     }
 
+-- the tickets that were taken of an endpoint, and of what is open under a name
 abbrev pub taken_of : Endpoint → List ℕ
 taken_of h = take h.taken h.tickets
 
--- an answer took nothing from what is open under a name now; or it took one ticket, with this line
-pub data Takes (es : List (Option Endpoint)) (a : Answer) (e : ℕ) (g : Endpoint) : Type 0 where
-  opens : named es e ≡ None → g.taken ≡ 0 → taken_of g ≡ [] → Takes es a e g
-  none : (h : Endpoint) → named es e ≡ Some h → g.taken ≡ h.taken → taken_of g ≡ taken_of h → Takes es a e g
-  next : (h : Endpoint) (t : ℕ) → named es e ≡ Some h → g.taken ≡ suc h.taken → taken_of g ≡ taken_of h ++ t ∷ [] → HasCame a.state.host.kernel.past t → a.line ≡ line_in a.state.host.kernel.past t → Takes es a e g
+abbrev pub taken_in : Option Endpoint → List ℕ
+taken_in None = []
+taken_in (Some h) = taken_of h
 
-abbrev pub AllTake : List (Option Endpoint) → Answer → Type 0
-AllTake es a = (e : ℕ) (g : Endpoint) → named a.state.endpoints e ≡ Some g → Takes es a e g
+-- an answer took no ticket more of what is open under a name now; or it took one, and printed its completion
+pub data Takes (state : State) (a : Answer) (e : ℕ) (g : Endpoint) : Type 0 where
+  none : g.taken ≡ taken_under state e → taken_of g ≡ taken_in (named state.endpoints e) → Takes state a e g
+  next : (t : ℕ) (c : Completion) → g.taken ≡ suc (taken_under state e) → taken_of g ≡ taken_in (named state.endpoints e) ++ t ∷ [] → transfer_completion a.state.host.kernel.past t ≡ Some c → a.line ≡ done_line c → Takes state a e g
 
 -- the lines of all that is open
 abbrev pub AllPrint : State → (ℕ → List (List ℕ)) → Type 0
 AllPrint state lines = (e : ℕ) (h : Endpoint) → named state.endpoints e ≡ Some h → Prints state.host.kernel.past (taken_of h) (lines e)
 
-count-under : (state : State) (e : ℕ) (h : Endpoint) → named state.endpoints e ≡ Some h → taken_under state e ≡ h.taken
+pub count-under : (state : State) (e : ℕ) (h : Endpoint) → named state.endpoints e ≡ Some h → taken_under state e ≡ h.taken
 count-under state e h is = ap (λ (o : Option Endpoint). option_map_or (λ (x : Endpoint). x.taken) o 0) is
 
-count-none : (state : State) (e : ℕ) → named state.endpoints e ≡ None → taken_under state e ≡ 0
-count-none state e is = ap (λ (o : Option Endpoint). option_map_or (λ (x : Endpoint). x.taken) o 0) is
+prints-none : (past : List Event) → Prints past [] []
+prints-none past = record { came = All-nil (HasCame past); are = refl }
 
-takes-none : (state : State) (a : Answer) (e n m : ℕ) → taken_under state e ≡ n → taken_under a.state e ≡ m → m ≡ n → line_taking state a e ≡ []
-takes-none state a e n m before now same =
-    let not_more : nat_lt (taken_under state e) (taken_under a.state e) ≡ false = grind (arith, nat_tests) in rw not_more refl
-
-takes-one : (state : State) (a : Answer) (e n m : ℕ) → taken_under state e ≡ n → taken_under a.state e ≡ m → m ≡ suc n → line_taking state a e ≡ a.line ∷ []
-takes-one state a e n m before now more =
-    let one_more : nat_lt (taken_under state e) (taken_under a.state e) ≡ true = grind (arith, nat_tests) in rw one_more refl
-
-kept-lines : (state : State) (lines : ℕ → List (List ℕ)) (e : ℕ) (h : Endpoint) → named state.endpoints e ≡ Some h → (if is_none (named state.endpoints e) then [] else lines e) ≡ lines e
-kept-lines state lines e h is = rw is refl
-
-no-lines : (state : State) (lines : ℕ → List (List ℕ)) (e : ℕ) → named state.endpoints e ≡ None → (if is_none (named state.endpoints e) then [] else lines e) ≡ []
-no-lines state lines e is = rw is refl
+prints-in : (past : List Event) (lines : List (List ℕ)) (o : Option Endpoint) → ((h : Endpoint) → o ≡ Some h → Prints past (taken_of h) lines) → Prints past (taken_in o) (if is_none o then [] else lines)
+prints-in past lines None prints = prints-none past
+prints-in past lines (Some h) prints = prints h refl
 
 prints-are : (past : List Event) (ts us : List ℕ) (lines now : List (List ℕ)) → us ≡ ts → now ≡ lines → Prints past ts lines → Prints past us now
 prints-are past ts us lines now same are p = record { came = subst (λ l. All (HasCame past) l) (sym same) p.came; are = are ∙ (p.are ∙ ap (map (line_in past)) (sym same)) }
 
-one-prints : (state : State) (a : Answer) (lines : ℕ → List (List ℕ)) (e : ℕ) (g : Endpoint) → Extends state.host.kernel.past a.state.host.kernel.past → named a.state.endpoints e ≡ Some g → AllPrint state lines → Takes state.endpoints a e g → Prints a.state.host.kernel.past (taken_of g) (lines_behind state a lines e)
-one-prints state a lines e g extends is all (opens closed zero_ empty) =
-    record {
-      came = subst (λ l. All (HasCame a.state.host.kernel.past) l) (sym empty) (All-nil (HasCame a.state.host.kernel.past));
-      are =
-          ap (λ l. l ++ line_taking state a e) (no-lines state lines e closed)
-          ∙ (takes-none state a e 0 0 (count-none state e closed) (count-under a.state e g is ∙ zero_) refl ∙ sym (ap (map (line_in a.state.host.kernel.past)) empty));
-    }
-one-prints state a lines e g extends is all (none h here same tickets_) =
-    let before = prints-stay state.host.kernel.past a.state.host.kernel.past (taken_of h) (lines e) extends (all e h here) in
-    prints-are a.state.host.kernel.past (taken_of h) (taken_of g) (lines e) (lines_behind state a lines e) tickets_
-    (ap (λ l. l ++ line_taking state a e) (kept-lines state lines e h here)
-    ∙ (ap (λ l. lines e ++ l) (takes-none state a e h.taken g.taken (count-under state e h here) (count-under a.state e g is) same) ∙ append-nil (lines e))) before
-one-prints state a lines e g extends is all (next h t here more tickets_ came line) =
-    let before = prints-stay state.host.kernel.past a.state.host.kernel.past (taken_of h) (lines e) extends (all e h here) in
-    prints-are a.state.host.kernel.past (taken_of h ++ t ∷ []) (taken_of g) (lines e ++ a.line ∷ []) (lines_behind state a lines e) tickets_
-    (ap (λ l. l ++ line_taking state a e) (kept-lines state lines e h here)
-    ∙ ap (λ l. lines e ++ l) (takes-one state a e h.taken g.taken (count-under state e h here) (count-under a.state e g is) more))
-    (prints-more a.state.host.kernel.past (taken_of h) t (lines e) a.line came line before)
+not_more : (n m : ℕ) → m ≡ n → nat_lt n m ≡ false
+not_more n m same = grind (arith, nat_tests)
 
-pub all-print : (state : State) (a : Answer) (lines : ℕ → List (List ℕ)) → Extends state.host.kernel.past a.state.host.kernel.past → AllPrint state lines → AllTake state.endpoints a → AllPrint a.state (lines_behind state a lines)
+one_more : (n m : ℕ) → m ≡ suc n → nat_lt n m ≡ true
+one_more n m more = grind (arith, nat_tests)
+
+one-prints : (state : State) (a : Answer) (lines : ℕ → List (List ℕ)) (e : ℕ) (g : Endpoint) → Extends state.host.kernel.past a.state.host.kernel.past → named a.state.endpoints e ≡ Some g → AllPrint state lines → Takes state a e g → Prints a.state.host.kernel.past (taken_of g) (lines_behind state a lines e)
+one-prints state a lines e g extends is all takes = by takes
+  where
+    past : List Event
+    past = a.state.host.kernel.past
+
+    was : List ℕ
+    was = taken_in (named state.endpoints e)
+
+    printed : List (List ℕ)
+    printed = if is_none (named state.endpoints e) then [] else lines e
+
+    before : Prints past was printed
+    before = prints-stay state.host.kernel.past past was printed extends (prints-in state.host.kernel.past (lines e) (named state.endpoints e) (λ h at. all e h at))
+
+    now : taken_under a.state e ≡ g.taken
+    now = count-under a.state e g is
+
+    by : Takes state a e g → Prints past (taken_of g) (lines_behind state a lines e)
+    by (none count same) =
+        let stays = not_more (taken_under state e) (taken_under a.state e) (now ∙ count) in
+        prints-are past was (taken_of g) printed (lines_behind state a lines e) same (rw stays (append-nil printed)) before
+    by (next t c count same came line) =
+        let more = one_more (taken_under state e) (taken_under a.state e) (now ∙ count) in
+        prints-are past (was ++ t ∷ []) (taken_of g) (printed ++ a.line ∷ []) (lines_behind state a lines e) same (rw more refl)
+        (prints-more past was t printed a.line (record { completion = c; is = came }) (line ∙ ap polled_line (sym came)) before)
+
+pub all-print : (state : State) (a : Answer) (lines : ℕ → List (List ℕ)) → Extends state.host.kernel.past a.state.host.kernel.past → AllPrint state lines → ((e : ℕ) (g : Endpoint) → named a.state.endpoints e ≡ Some g → Takes state a e g) → AllPrint a.state (lines_behind state a lines)
 all-print state a lines extends all takes e g is = one-prints state a lines e g extends is all (takes e g is)

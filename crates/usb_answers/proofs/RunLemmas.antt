@@ -1,5 +1,5 @@
 -- The run over the items.
-use Rattle.std.proofs.Common.{◌≡◌, ℕ, ◌<◌, ◌≤◌, ◌+◌, arith, List, [], ◌∷◌, ◌++◌, length, get_or, drop, map, replicate, Option, Some, None, refl, ap, sym, ◌∙◌, subst}
+use Rattle.std.proofs.Common.{◌≡◌, ℕ, ◌<◌, ◌≤◌, ◌+◌, arith, List, [], ◌++◌, length, get_or, drop, map, replicate, Option, Some, None, refl, ap, sym, ◌∙◌, subst}
 use Rattle.std.specs.Prelude.{max}
 use Rattle.std.specs.Option.{option_map}
 use Rattle.std.proofs.lemmas.List.{at_drop_more, at_drop_all, length-replicate}
@@ -19,7 +19,7 @@ use Rattle.usb_answers.specs.State.{State, Endpoint, kept}
 use Rattle.usb_answers.specs.Answers.{answer}
 use Rattle.usb_answers.specs.Ends.{ended}
 use Rattle.usb_answers.specs.Fates.{fate_lines}
-use Rattle.usb_answers.specs.Output.{device_of_item, devices_of, output_from, last_host, start}
+use Rattle.usb_answers.specs.Output.{devices_of, output_from, last_host, start}
 use Rattle.usb_answers.specs.SessionState.{SessionState, IsSound}
 use Rattle.usb_answers.specs.SessionFacts.{session_made}
 use Rattle.usb_answers.specs.Relation.{Represents, session_of}
@@ -108,8 +108,3 @@ spare-of_start items = refl
 
 pub spare-start : (items : List Item) (host : HostState) (steps : ℕ) → host ≡ (start items).host → steps ≡ step_count items → host.kernel.spare ≡ steps
 spare-start items host steps start_ all = ap (λ (h : HostState). h.kernel.spare) start_ ∙ spare-of_start items ∙ sym all
-
--- the devices of the items so far
-pub devices_of-more : (items : List Item) (i : ℕ) (item : Item) (o : Option (ℕ × SimDevice)) → i < length items → item ≡ get_or items i item → o ≡ device_of_item item → devices_of (drop i items) ≡ devices_of (item ∷ drop (i + 1) items)
-devices_of-more items i item o within here is =
-    at_drop_more devices_of items i item within ∙ ap (λ (x : Item). devices_of (x ∷ drop (i + 1) items)) (sym here)

@@ -1,32 +1,14 @@
 -- The counts.
-use Rattle.std.proofs.Common.{◌≡◌, ℕ, ◌+◌, ◌-◌, ◌<◌, ◌≤◌, suc, zero, arith, List, [], ◌∷◌, length, take, get_or, Option, Some, None, true, false, refl, ap, sym, ◌∙◌, cond, Bool, slice_get}
-use Rattle.std.specs.Prelude.{IsSome, option_and_then}
+use Rattle.std.proofs.Common.{◌≡◌, ℕ, ◌+◌, ◌-◌, ◌<◌, ◌≤◌, suc, zero, arith, List, [], ◌∷◌, length, take, get_or, true, false, refl, sym, ◌∙◌, cond, Bool}
+use Rattle.std.specs.Prelude.{IsSome}
 use Rattle.std.specs.List.{count_by}
-use Rattle.std.specs.Option.{option_map_or}
 use Rattle.std.proofs.lemmas.List.Sums.{count_by_more_yes, count_by_more_no, sum_by-cons}
 use Rattle.usb_device.specs.declared.ends.TicketEnd.{TicketEnd}
 use Rattle.usb_device.specs.declared.ends.TicketEnd.TheVariants.{Taken, Dropped, Reclaimed}
-use Rattle.usb_device.specs.HostState.{HostState, HostTicket, Held, Abandoned, Ended}
-use Rattle.usb_device.specs.HostBus.{ended_at, end_at}
+use Rattle.usb_device.specs.HostState.{HostState, HostTicket, HeldBy, Abandoned, Ended}
+use Rattle.usb_device.specs.HostBus.{ended_at}
 use Rattle.usb_device.specs.Finishes.{HasEnds}
-use Rattle.usb_answers.specs.Sums.{is_same_end, has_end, ticket_has, counts_of, OneEndEach}
-
--- a ticket has an end where its end is this one
-abbrev pub has_of : Option TicketEnd → TicketEnd → Bool
-has_of None end = false
-has_of (Some its) end = is_same_end its end
-
-has_of-ended : (o : Option HostTicket) (end : TicketEnd) → has_of (option_and_then ended_at o) end ≡ option_map_or (has_end end) o false
-has_of-ended None end = refl
-has_of-ended (Some (Held hold)) end = refl
-has_of-ended (Some (Abandoned key)) end = refl
-has_of-ended (Some (Ended its)) end = refl
-
-pub has-some : (ts : List HostTicket) (t : ℕ) (end its : TicketEnd) (o : Option TicketEnd) (b : Bool) → o ≡ end_at ts t → o ≡ Some its → b ≡ is_same_end its end → b ≡ ticket_has ts t end
-has-some ts t end its o b at is same = same ∙ ap (λ x. has_of x end) (sym is ∙ at) ∙ has_of-ended (slice_get ts t) end
-
-pub has-none : (ts : List HostTicket) (t : ℕ) (end : TicketEnd) (o : Option TicketEnd) → o ≡ end_at ts t → o ≡ None → false ≡ ticket_has ts t end
-has-none ts t end o at is = ap (λ x. has_of x end) (sym is ∙ at) ∙ has_of-ended (slice_get ts t) end
+use Rattle.usb_answers.specs.Sums.{has_end, ticket_has, counts_of, OneEndEach}
 
 -- the ticket of a number, as it is read
 read-as : (ts : List HostTicket) (t : ℕ) (end : TicketEnd) (b : Bool) → t < length ts → ticket_has ts t end ≡ b → (x : HostTicket) × (has_end end (get_or ts t x) ≡ b)
@@ -45,7 +27,7 @@ count-no ts t end b below is lacks =
 
 -- exactly one of three tests holds of a ticket that has its end
 one_of : (x : HostTicket) → IsSome (ended_at x) → cond (has_end Taken x) 1 0 + cond (has_end Dropped x) 1 0 + cond (has_end Reclaimed x) 1 0 ≡ 1
-one_of (Held hold) some = absurd (cc)
+one_of (HeldBy hold) some = absurd (cc)
 one_of (Abandoned key) some = absurd (cc)
 one_of (Ended Taken) some = refl
 one_of (Ended Dropped) some = refl

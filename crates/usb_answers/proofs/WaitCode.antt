@@ -1,19 +1,14 @@
--- Waits and blocking transfers of a session's endpoints.
-use Rattle.std.proofs.Common.{◌≡◌, ℕ, ◌<◌, ◌≤◌, ◌+◌, suc, zero, arith, List, [], ◌∷◌, ◌++◌, length, length-append, drop, map, slice_get, Option, Some, None, Bool, true, false, refl, ap, sym, ◌∙◌, subst}
-use Rattle.std.specs.Prelude.{IfSome, IfNone, not, ◌||◌, ◌==◌, nat_le}
-use Rattle.std.specs.Option.{option_map}
+-- What waits and blocking transfers answer.
+use Rattle.std.proofs.Common.{◌≡◌, ℕ, ◌≤◌, ◌+◌, suc, zero, arith, List, [], ◌∷◌, ◌++◌, length, length-append, drop, Option, Some, None, Result, Bool, true, false, refl, ap, sym, ◌∙◌, subst, slice_get, String, string_bytes}
+use Rattle.std.specs.Prelude.{OnOk, IfSome, IfNone, if◌then◌else◌, not, ◌||◌, ◌==◌, nat_le}
+use Rattle.std.specs.declared.alloc.Global.{Global}
 use Rattle.std.proofs.lemmas.Bool.Decides.{nat_tests}
-use Rattle.std.proofs.lemmas.Option.{none-some, same_Some}
 use Rattle.usb_desc.specs.declared.types.Direction.{Direction}
 use Rattle.usb_xfer.specs.BufferState.{BufferState}
 use Rattle.usb_xfer.specs.declared.transfer.Completion.{Completion}
 use Rattle.usb_kernel.specs.declared.event.Event.{Event}
-use Rattle.usb_kernel.specs.declared.step.KernelStep.{KernelStep}
 use Rattle.usb_kernel.specs.Info.{unreaped}
 use Rattle.usb_kernel.specs.Tickets.{tickets}
-use Rattle.usb_bus.specs.Completions.{transfer_completion}
-use Rattle.usb_endpoint.specs.declared.any_endpoint.AnyEndpoint.{AnyEndpoint}
-use Rattle.usb_endpoint.specs.AnyEndpoints.{state_of}
 use Rattle.usb_endpoint.specs.EndpointState.{EndpointState}
 use Rattle.usb_endpoint.specs.Submits.{entered}
 use Rattle.usb_endpoint.specs.Waits as waits
@@ -21,139 +16,122 @@ use Rattle.usb_endpoint.specs.Waits.{WaitedNext, WaitedInVain}
 use Rattle.usb_endpoint.specs.Blocking.{Transferred}
 use Rattle.usb_device.specs.HostState.{HostState}
 use Rattle.usb_device.specs.HostBus.{bus_of}
+use Rattle.usb_device.specs.HostFrames.{LineGoesOn}
 use Rattle.usb_device.specs.HostCalls.{host_submitted, host_refused, host_discarded}
-use Rattle.usb_device.specs.HostTurns.{host_turned, host_turn, host_rest}
+use Rattle.usb_device.specs.HostTurns.{host_turned, host_turn}
 use Rattle.usb_device.specs.HostWaits.{host_waited}
 use Rattle.usb_device.specs.HostBlocking.{host_blocked}
 use Rattle.usb_device.specs.TicketEnds.{host_taken}
 use Rattle.usb_device.specs.WaitLaws.{WaitIsBySteps, BlockingIsBySteps}
-use Rattle.usb_device.specs.HandleStates.{InterfaceState}
-use Rattle.usb_device.proofs.WaitFrames.{went-waited, went-blocked}
 use Rattle.usb_device.proofs.CallFrames.{keeps-taken}
-use Rattle.usb_answers.specs.Names.{named, change_named, freed, set_name}
-use Rattle.usb_answers.specs.State.{State, Given, kept, tickets_of, with_host}
-use Rattle.usb_answers.specs.Steps.{lent, rested}
+use Rattle.usb_device.proofs.WaitFrames.{line-keeps, line-trans, went-waited, went-blocked}
+use Rattle.usb_lines.specs.Calls.{condition_line}
+use Rattle.usb_lines.specs.Completions.{waited_line}
+use Rattle.usb_answers.specs.Names.{change_named}
+use Rattle.usb_answers.specs.State.{State, Endpoint, kept, with_host}
+use Rattle.usb_answers.specs.Answer.{Answer, told, barred}
+use Rattle.usb_answers.specs.Polls.{one_taken}
 use Rattle.usb_answers.specs.Submits.{has_direction}
-use Rattle.usb_answers.specs.Polls.{front_of, took, one_taken}
-use Rattle.usb_answers.specs.Waits.{waited, waited_lent, waited_front, wait_ended}
-use Rattle.usb_answers.specs.Transfers.{transfer_barred_by, transferred, transferred_lent, transferred_at, transfer_ended, with_taken}
-use Rattle.usb_answers.specs.SessionState.{SessionState}
-use Rattle.usb_answers.specs.SessionFacts.{session_made}
-use Rattle.usb_answers.specs.Relation.{Represents, Gave}
-use Rattle.usb_answers.proofs.Called.{open_at, named_kept, represents-put, represents-same, host_is, taken-map, put-map}
-use Rattle.usb_answers.proofs.Queue.{keeps-entered, took-represents}
-use Rattle.usb_answers.proofs.Lent.{Used, used-went, used-keeps, used-trans}
+use Rattle.usb_answers.specs.Waits.{waited, wait_ended}
+use Rattle.usb_answers.specs.Transfers.{bars_transfer, with_taken, transfer_ended, transfer_on}
+use Rattle.usb_answers.specs.OpenCalls.{CallAnswers}
+use Rattle.usb_answers.proofs.PollCode.{nothing_pending}
+use Rattle.usb_answers.proofs.Queue.{call-comes, call-told, call-host, front_kept, took-comes, took-line}
+use Rattle.usb_answers.proofs.SubmitCode.{line-entered}
+
+abbrev pub wait : ℕ → State → ℕ → Endpoint → Answer
+wait timeout state e h = waited state e timeout (slice_get h.tickets h.taken)
+
+pub wait-barred : {E : Type 0} (host : HostState) (x : EndpointState) (before text : String Global) (result : Result Unit E) (timeout : ℕ) → x.pending ≡ [] → OnOk result (string_bytes text ≡ string_bytes before ++ condition_line) → CallAnswers host host x x before text result (wait timeout)
+wait-barred host x before text result timeout none printed =
+    call-told host host x x before text result condition_line (wait timeout) refl refl printed
+    (λ state e h host_was same. ap (waited state e timeout) (front_kept h x [] same none))
 
 -- the wait at the host that is left where the ticket was found or not
 by_steps : WaitIsBySteps → (looks : ℕ) (h : HostState) (t timeout : ℕ) (x : Bool × HostState) → waits.waited bus_of host_turned host_turn t timeout (bus_of h).clock looks h ≡ Some x → x ≡ host_waited h t timeout
 unfolding host_waited
 by_steps law looks h t timeout x is = law looks h t timeout h.kernel.clock x is
 
-used-waited : (h mid : HostState) (t timeout : ℕ) (b : Bool) → (b, mid) ≡ host_waited h t timeout → Used h mid
-used-waited h mid t timeout b is =
-    subst (λ (p : Bool × HostState). Used h p.1) (sym is) (used-went h (host_waited h t timeout).1 (went-waited h t timeout))
+waited_front : WaitIsBySteps → (looks : ℕ) (host mid : HostState) (t : ℕ) (ts : List ℕ) (x : EndpointState) (timeout : ℕ) (b : Bool) → x.pending ≡ t ∷ ts → waits.waited bus_of host_turned host_turn (waits.front_of x.pending) timeout (bus_of host).clock looks host ≡ Some (b, mid) → (b, mid) ≡ host_waited host t timeout
+waited_front law looks host mid t ts x timeout b pending is =
+    by_steps law looks host (waits.front_of x.pending) timeout (b, mid) is ∙ ap (λ (l : List ℕ). host_waited host (waits.front_of l) timeout) pending
 
-used-taken : (h : HostState) (t : ℕ) → Used h (host_taken h t)
-used-taken h t = used-keeps h (host_taken h t) (keeps-taken h t)
+waited_is : (host mid : HostState) (t : ℕ) (ts : List ℕ) (x : EndpointState) (timeout : ℕ) (b : Bool) (state : State) (e : ℕ) (h : Endpoint) → state.host ≡ host → kept h ≡ x → x.pending ≡ t ∷ ts → (b, mid) ≡ host_waited host t timeout → wait timeout state e h ≡ wait_ended state e t (b, mid)
+waited_is host mid t ts x timeout b state e h host_was same pending is =
+    ap (waited state e timeout) (front_kept h x (t ∷ ts) same pending)
+    ∙ ap (wait_ended state e t) (ap (λ (g : HostState). host_waited g t timeout) host_was ∙ sym is)
 
-abbrev front : EndpointState → ℕ
-front x = waits.front_of x.pending
-
-pub found-used : WaitIsBySteps → (timeout : ℕ) (at now : HostState) (x y : EndpointState) (c : Completion) → WaitedNext bus_of host_turned host_turn host_taken timeout at x c now y → Used at now
-found-used law timeout at now x y c w =
-    subst (Used at) (sym w.took.rest)
-    (used-trans at w.mid (host_taken w.mid w.took.front)
-    (used-waited at w.mid (front x) timeout true (by_steps law w.looks at (front x) timeout (true, w.mid) w.found))
-    (used-taken w.mid w.took.front))
-
-pub vain-used : WaitIsBySteps → (timeout : ℕ) (at now : HostState) (x y : EndpointState) → WaitedInVain bus_of host_turned host_turn timeout at x now y → Used at now
-vain-used law timeout at now x y w = used-waited at now (front x) timeout false (by_steps law w.looks at (front x) timeout (false, now) w.ended)
-
-pub wait-used : WaitIsBySteps → (o : Option Completion) (timeout : ℕ) (at now : HostState) (x y : EndpointState) → IfSome o (λ c. WaitedNext bus_of host_turned host_turn host_taken timeout at x c now y) → IfNone o (WaitedInVain bus_of host_turned host_turn timeout at x now y) → Used at now
-wait-used law (Some c) timeout at now x y found vain = found-used law timeout at now x y c found
-wait-used law None timeout at now x y found vain = vain-used law timeout at now x y vain
-
-pub wait-key : (o : Option Completion) (timeout : ℕ) (at now : HostState) (x y : EndpointState) → IfSome o (λ c. WaitedNext bus_of host_turned host_turn host_taken timeout at x c now y) → IfNone o (WaitedInVain bus_of host_turned host_turn timeout at x now y) → y.key ≡ x.key
-wait-key (Some c) timeout at now x y found vain = ap (λ (h : EndpointState). h.key) found.took.next_is
-wait-key None timeout at now x y found vain = ap (λ (h : EndpointState). h.key) vain.next_is
-
--- what the definition says of a wait for this front
-waited-by : (s : SessionState) (state : State) (at : HostState) (steps : List KernelStep) (e timeout t : ℕ) (x : EndpointState) (others : List ℕ) (b : Bool) (mid : HostState) → Represents s state → named s.endpoints e ≡ Some x → x.pending ≡ t ∷ others → at ≡ record s.host { steps = steps } → (b, mid) ≡ host_waited at t timeout → waited_lent (lent state steps) e timeout ≡ wait_ended (lent state steps) e t (b, mid)
-waited-by s state at steps e timeout t x others b mid r was pending lends is =
-    ap (λ (h : Option EndpointState). waited_front (lent state steps) e timeout (front_of h)) (sym (named_kept s state e r) ∙ was)
-    ∙ ap (λ (l : List ℕ). waited_front (lent state steps) e timeout (slice_get l 0)) pending
-    ∙ ap (wait_ended (lent state steps) e t)
-    (ap (λ (h : HostState). host_waited (record h { steps = steps }) t timeout) (sym (host_is s state r)) ∙ ap (λ (h : HostState). host_waited h t timeout) (sym lends) ∙ sym is)
-
-front-is : (x : EndpointState) (t : ℕ) (others : List ℕ) → x.pending ≡ t ∷ others → front x ≡ t
-front-is x t others is = ap (λ (l : List ℕ). waits.front_of l) is
-
-wait-found : WaitIsBySteps → (s : SessionState) (state : State) (at now last : HostState) (steps : List KernelStep) (after : List (Option EndpointState)) (e timeout : ℕ) (x y : EndpointState) (c : Completion) → Represents s state → named s.endpoints e ≡ Some x → at ≡ record s.host { steps = steps } → WaitedNext bus_of host_turned host_turn host_taken timeout at x c now y → last ≡ host_rest now → after ≡ set_name (freed s.endpoints e) e y → Gave (record s { host = last; endpoints = after }) (Some c) (waited state e timeout steps)
-unfolding waited
-wait-found law s state at now last steps after e timeout x y c r was lends w rest put =
-    let t = w.took.front in
-    let is : (true, w.mid) ≡ host_waited at t timeout = by_steps law w.looks at (front x) timeout (true, w.mid) w.found ∙ ap (λ n. host_waited at n timeout) (front-is x t w.took.others w.took.was) in
-    let same : waited_lent (lent state steps) e timeout ≡ took (with_host state w.mid) e t (Some c) =
-    waited-by s state at steps e timeout t x w.took.others true w.mid r was w.took.was lends is
-    ∙ ap (took (with_host state w.mid) e t) w.took.completion_is in
-    subst (λ (g : Given (Option Completion)). Gave (record s { host = last; endpoints = after }) (Some c) (record { state = rested g.state; value = g.value }))
-    (sym same)
-    (record {
-      state = subst (λ (h : HostState). Represents (record s { host = last; endpoints = after }) (record state { host = h; endpoints = change_named one_taken state.endpoints e }))
-          (rest ∙ ap host_rest w.took.rest)
-          (took-represents s state last after e x y t w.took.others r was w.took.was w.took.next_is put);
-      same = refl;
-    })
-
-wait-vain : WaitIsBySteps → (s : SessionState) (state : State) (at now last : HostState) (steps : List KernelStep) (after : List (Option EndpointState)) (e timeout t : ℕ) (others : List ℕ) (x y : EndpointState) → Represents s state → named s.endpoints e ≡ Some x → x.pending ≡ t ∷ others → at ≡ record s.host { steps = steps } → WaitedInVain bus_of host_turned host_turn timeout at x now y → last ≡ host_rest now → after ≡ set_name (freed s.endpoints e) e y → Gave (record s { host = last; endpoints = after }) None (waited state e timeout steps)
-unfolding waited
-wait-vain law s state at now last steps after e timeout t others x y r was pending lends w rest put =
-    let is : (false, now) ≡ host_waited at t timeout = by_steps law w.looks at (front x) timeout (false, now) w.ended ∙ ap (λ n. host_waited at n timeout) (front-is x t others pending) in
-    subst (λ (g : Given (Option Completion)). Gave (record s { host = last; endpoints = after }) None (record { state = rested g.state; value = g.value }))
-    (sym (waited-by s state at steps e timeout t x others false now r was pending lends is))
-    (record {
-      state = subst (λ (h : HostState). Represents (record s { host = last; endpoints = after }) (record state { host = h })) rest
-          (represents-same s state last after e x r was (put ∙ ap (set_name (freed s.endpoints e) e) w.next_is));
-      same = refl;
+wait-found : {E : Type 0} → WaitIsBySteps → (host now : HostState) (x y : EndpointState) (before text : String Global) (result : Result Unit E) (timeout : ℕ) (c : Completion) → WaitedNext bus_of host_turned host_turn host_taken timeout host x c now y → OnOk result (string_bytes text ≡ string_bytes before ++ waited_line (Some c)) → CallAnswers host now x y before text result (wait timeout)
+wait-found law host now x y before text result timeout c w printed =
+    call-comes host now x y before text result one_taken (waited_line (Some c)) (wait timeout) printed
+    (λ state e h host_was same few.
+    let comes = took-comes waited_line w.mid now x y c w.took (with_host state w.mid) e h refl same in
+    record {
+      is = waited_is host w.mid w.took.front w.took.others x timeout true state e h host_was same w.took.was (waited_front law w.looks host w.mid w.took.front w.took.others x timeout true w.took.was w.found) ∙ comes.is;
+      kept_is = comes.kept_is;
+      few = comes.few;
     })
 
 -- there is a front
-pub record Front (l : List ℕ) : Type 0 where
+record Front (l : List ℕ) : Type 0 where
   pub front : ℕ
   pub others : List ℕ
   pub is : l ≡ front ∷ others
 
-pub some-front : (l : List ℕ) → 0 < length l → Front l
-some-front [] some = absurd (omega arith)
+some-front : (l : List ℕ) → (l ≡ [] → ⊥) → Front l
+some-front [] some = absurd (some refl)
 some-front (t ∷ ts) some = record { front = t; others = ts; is = refl }
 
-pub wait-code : WaitIsBySteps → (o : Option Completion) (S : SessionState) (host at now last : HostState) (steps : List KernelStep) (ds : List (Option ℕ)) (is : List (Option InterfaceState)) (es mid after : List (Option AnyEndpoint)) (e timeout : ℕ) (x y : AnyEndpoint) → session_made host ds is es ≡ S → named es e ≡ Some x → mid ≡ freed es e → after ≡ set_name mid e y → 0 < length (state_of x).pending → at ≡ record host { steps = steps } → IfSome o (λ c. WaitedNext bus_of host_turned host_turn host_taken timeout at (state_of x) c now (state_of y)) → IfNone o (WaitedInVain bus_of host_turned host_turn timeout at (state_of x) now (state_of y)) → last ≡ host_rest now → (state : State) → Represents S state → Gave (session_made last ds is after) o (waited state e timeout steps)
-wait-code law (Some c) S host at now last steps ds is es mid after e timeout x y view was free put some lends found vain rest state r =
-    wait-found law (session_made host ds is es) state at now last steps (map (option_map state_of) after) e timeout (state_of x) (state_of y) c (subst (λ v. Represents v state) (sym view) r) (taken-map es e x was) lends found rest (put-map es mid after e y free put)
-wait-code law None S host at now last steps ds is es mid after e timeout x y view was free put some lends found vain rest state r =
-    let f = some-front (state_of x).pending some in
-    wait-vain law (session_made host ds is es) state at now last steps (map (option_map state_of) after) e timeout f.front f.others (state_of x) (state_of y) (subst (λ v. Represents v state) (sym view) r) (taken-map es e x was) f.is lends vain rest (put-map es mid after e y free put)
+wait-vain : {E : Type 0} → WaitIsBySteps → (host now : HostState) (x y : EndpointState) (before text : String Global) (result : Result Unit E) (timeout : ℕ) → (x.pending ≡ [] → ⊥) → WaitedInVain bus_of host_turned host_turn timeout host x now y → OnOk result (string_bytes text ≡ string_bytes before ++ waited_line None) → CallAnswers host now x y before text result (wait timeout)
+wait-vain law host now x y before text result timeout some w printed =
+    let f = some-front x.pending some in
+    call-host host now x y before text result (waited_line None) (wait timeout) w.next_is printed
+    (λ state e h host_was same. waited_is host now f.front f.others x timeout false state e h host_was same f.is (waited_front law w.looks host now f.front f.others x timeout false f.is w.ended))
 
--- a blocking transfer that is allowed is of an endpoint with nothing pending
-length-zero : (l : List ℕ) → length l ≡ 0 → l ≡ []
-length-zero [] is = refl
-length-zero (x ∷ xs) is = absurd (omega arith)
+pub wait-answers : {E : Type 0} → WaitIsBySteps → (o : Option Completion) (host now : HostState) (x y : EndpointState) (before text : String Global) (result : Result Unit E) (timeout : ℕ) → (x.pending ≡ [] → ⊥) → IfSome o (λ c. WaitedNext bus_of host_turned host_turn host_taken timeout host x c now y) → IfNone o (WaitedInVain bus_of host_turned host_turn timeout host x now y) → OnOk result (string_bytes text ≡ string_bytes before ++ waited_line o) → CallAnswers host now x y before text result (wait timeout)
+wait-answers law (Some c) host now x y before text result timeout some found vain printed = wait-found law host now x y before text result timeout c found printed
+wait-answers law None host now x y before text result timeout some found vain printed = wait-vain law host now x y before text result timeout some vain printed
 
-nothing_by : (past : List Event) (direction : Direction) (o : Option EndpointState) (x : EndpointState) → o ≡ Some x → transfer_barred_by past direction o ≡ false → x.pending ≡ []
-nothing_by past direction None x is barred = absurd (none-some x is)
-nothing_by past direction (Some y) x is barred =
-    ap (λ (z : EndpointState). z.pending) (sym (same_Some y x is)) ∙ length-zero y.pending (none (has_direction direction y) (length y.pending) (nat_le 1024 (unreaped past)) barred)
-  where
-    none : (a : Bool) (n : ℕ) (b : Bool) → (not a || (not (n == 0) || b)) ≡ false → n ≡ 0
-    none a n b allowed = grind (arith, nat_tests)
+line-waited : (host mid : HostState) (t timeout : ℕ) (b : Bool) → (b, mid) ≡ host_waited host t timeout → LineGoesOn host mid
+line-waited host mid t timeout b is = subst (λ (p : Bool × HostState). LineGoesOn host p.1) (sym is) (went-waited host t timeout).line
 
-pub allowed-none : (s : SessionState) (past : List Event) (direction : Direction) (e : ℕ) (x : EndpointState) → named s.endpoints e ≡ Some x → transfer_barred_by past direction (named s.endpoints e) ≡ false → x.pending ≡ []
-allowed-none s past direction e x is barred = nothing_by past direction (named s.endpoints e) x is barred
+pub wait-line : WaitIsBySteps → (o : Option Completion) (host now : HostState) (x y : EndpointState) (timeout : ℕ) → IfSome o (λ c. WaitedNext bus_of host_turned host_turn host_taken timeout host x c now y) → IfNone o (WaitedInVain bus_of host_turned host_turn timeout host x now y) → LineGoesOn host now
+wait-line law (Some c) host now x y timeout w vain =
+    line-trans host w.mid now (line-waited host w.mid (waits.front_of x.pending) timeout true (by_steps law w.looks host (waits.front_of x.pending) timeout (true, w.mid) w.found)) (took-line w.mid now x y c w.took)
+wait-line law None host now x y timeout found w =
+    line-waited host now (waits.front_of x.pending) timeout false (by_steps law w.looks host (waits.front_of x.pending) timeout (false, now) w.ended)
 
-pub transfer-open : (past : List Event) (direction : Direction) (o : Option EndpointState) → o ≡ None → transfer_barred_by past direction o ≡ false → ⊥
-transfer-open past direction None none barred = cc
-transfer-open past direction (Some x) none barred = none-some x (sym none)
+pub wait-key : (o : Option Completion) (timeout : ℕ) (host now : HostState) (x y : EndpointState) → IfSome o (λ c. WaitedNext bus_of host_turned host_turn host_taken timeout host x c now y) → IfNone o (WaitedInVain bus_of host_turned host_turn timeout host x now y) → y.key ≡ x.key
+wait-key (Some c) timeout host now x y found vain = ap (λ (h : EndpointState). h.key) found.took.next_is
+wait-key None timeout host now x y found vain = ap (λ (h : EndpointState). h.key) vain.next_is
 
+-- a blocking transfer by the host and by what its calls see of the endpoint
+abbrev count_of : HostState → ℕ
+count_of g = length (tickets g.kernel.past)
+
+abbrev transfer_seen : State → ℕ → BufferState → ℕ → HostState → EndpointState → Bool → Answer
+transfer_seen state e b timeout g z bars =
+    if bars then barred state else transfer_ended state e (count_of g) (host_blocked (entered host_submitted host_refused g z b) (count_of g) timeout)
+
+transfer-seen : (state : State) (direction : Direction) (e : ℕ) (b : BufferState) (timeout : ℕ) (h : Endpoint) (old : HostState) (x : EndpointState) (bars : Bool) → state.host ≡ old → kept h ≡ x → bars_transfer old.kernel.past direction x ≡ bars → transfer_on state direction e b timeout h ≡ transfer_seen state e b timeout old x bars
+transfer-seen state direction e b timeout h old x bars host_was same is =
+    ap (λ (z : EndpointState). transfer_seen state e b timeout state.host z (bars_transfer state.host.kernel.past direction z)) same
+    ∙ ap (λ (g : HostState). transfer_seen state e b timeout g x (bars_transfer g.kernel.past direction x)) host_was
+    ∙ ap (transfer_seen state e b timeout old x) is
+
+pub transfer-barred : {E : Type 0} (host : HostState) (x : EndpointState) (before text : String Global) (result : Result Unit E) (direction : Direction) (b : BufferState) (timeout : ℕ) → bars_transfer host.kernel.past direction x ≡ true → OnOk result (string_bytes text ≡ string_bytes before ++ condition_line) → CallAnswers host host x x before text result (λ state e h. transfer_on state direction e b timeout h)
+transfer-barred host x before text result direction b timeout bars printed =
+    call-told host host x x before text result condition_line (λ state e h. transfer_on state direction e b timeout h) refl refl printed
+    (λ state e h host_was same. transfer-seen state direction e b timeout h host x true host_was same bars)
+
+-- a transfer that is not barred is of an endpoint with nothing pending
+none_by : (a : Bool) (n : ℕ) (b : Bool) → (not a || (not (n == 0) || b)) ≡ false → n ≡ 0
+none_by a n b allowed = grind (arith, nat_tests)
+
+allowed-none : (past : List Event) (direction : Direction) (x : EndpointState) → bars_transfer past direction x ≡ false → x.pending ≡ []
+allowed-none past direction x allowed = nothing_pending x.pending (length x.pending) refl (none_by (has_direction direction x) (length x.pending) (nat_le 1024 (unreaped past)) allowed)
+
+-- a ticket came to it, and was taken
 drop_all_on : (xs : List ℕ) (n t : ℕ) → n ≤ length xs → drop n xs ≡ [] → drop (n + 1) (xs ++ t ∷ []) ≡ []
 drop_all_on [] zero t few is = refl
 drop_all_on [] (suc n) t few is = absurd (omega arith)
@@ -162,55 +140,33 @@ drop_all_on (x ∷ xs) (suc n) t few is =
     let s : suc n + 1 ≡ suc (n + 1) = omega arith in
     rw s (drop_all_on xs n t (omega arith) is)
 
--- a ticket came to an endpoint with nothing pending, and was taken
-came-and-went : (s : SessionState) (state : State) (last : HostState) (after : List (Option EndpointState)) (e t : ℕ) (x y : EndpointState) → Represents s state → named s.endpoints e ≡ Some x → x.pending ≡ [] → y ≡ x → after ≡ set_name (freed s.endpoints e) e y → Represents (record s { host = last; endpoints = after }) (record state { host = last; endpoints = change_named (with_taken t) state.endpoints e })
-came-and-went s state last after e t x y r was none same put =
-    let o = open_at s state e x r was in
-    let here : drop o.entry.taken o.entry.tickets ≡ [] = ap (λ (z : EndpointState). z.pending) o.same ∙ none in
-    represents-put s state last after (with_taken t) e x y o r put
-    (ap (λ (l : List ℕ). record (kept o.entry) { pending = l }) (drop_all_on o.entry.tickets o.entry.taken t o.few here ∙ sym here) ∙ o.same ∙ sym same)
-    (omega (arith, o.few, length-append o.entry.tickets (t ∷ [])))
+one_more : (n t : ℕ) (ts : List ℕ) → n ≤ length ts → n + 1 ≤ length (ts ++ t ∷ [])
+one_more n t ts few = omega (arith, length-append ts (t ∷ []))
 
-abbrev entered_at : HostState → EndpointState → BufferState → HostState
-entered_at h x b = entered host_submitted host_refused h x b
+entered_blocked : BlockingIsBySteps → (host now : HostState) (x : EndpointState) (b : BufferState) (timeout : ℕ) (c : Completion) (w : Transferred bus_of host_submitted host_refused host_turned host_turn host_discarded host_taken timeout host x b c now) → w.mid ≡ host_blocked (entered host_submitted host_refused host x b) (count_of host) timeout
+entered_blocked law host now x b timeout c w = law (count_of host) timeout w.looks w.more (entered host_submitted host_refused host x b) w.mid w.found
 
-pub blocked-used : BlockingIsBySteps → (timeout : ℕ) (at now : HostState) (x : EndpointState) (b : BufferState) (c : Completion) → Transferred bus_of host_submitted host_refused host_turned host_turn host_discarded host_taken timeout at x b c now → Used at now
-blocked-used law timeout at now x b c w =
-    let t = length (tickets at.kernel.past) in
-    let is : w.mid ≡ host_blocked (entered_at at x b) t timeout = law t timeout w.looks w.more (entered_at at x b) w.mid w.found in
-    subst (Used at) (sym w.rest)
-    (used-trans at (entered_at at x b) (host_taken w.mid t) (used-keeps at (entered_at at x b) (keeps-entered at x b))
-    (used-trans (entered_at at x b) w.mid (host_taken w.mid t)
-    (subst (Used (entered_at at x b)) (sym is) (used-went (entered_at at x b) (host_blocked (entered_at at x b) t timeout) (went-blocked (entered_at at x b) t timeout)))
-    (used-taken w.mid t)))
-
-transfer-made : BlockingIsBySteps → (s : SessionState) (state : State) (at now last : HostState) (steps : List KernelStep) (after : List (Option EndpointState)) (e timeout : ℕ) (x y : EndpointState) (b : BufferState) (c : Completion) → Represents s state → named s.endpoints e ≡ Some x → x.pending ≡ [] → y ≡ x → at ≡ record s.host { steps = steps } → Transferred bus_of host_submitted host_refused host_turned host_turn host_discarded host_taken timeout at x b c now → last ≡ host_rest now → after ≡ set_name (freed s.endpoints e) e y → Gave (record s { host = last; endpoints = after }) (Some c) (transferred state e b timeout steps)
-unfolding transferred
-transfer-made law s state at now last steps after e timeout x y b c r was none same_y lends w rest put =
-    let t = tickets_of state in
-    let count : length (tickets at.kernel.past) ≡ t = ap (λ (h : HostState). length (tickets h.kernel.past)) lends ∙ ap (λ (h : HostState). length (tickets h.kernel.past)) (host_is s state r) in
-    let mid_is : w.mid ≡ host_blocked (entered_at (lent state steps).host x b) t timeout =
-    law (length (tickets at.kernel.past)) timeout w.looks w.more (entered_at at x b) w.mid w.found
-    ∙ ap (λ n. host_blocked (entered_at at x b) n timeout) count
-    ∙ ap (λ (h : HostState). host_blocked (entered_at h x b) t timeout) (lends ∙ ap (λ (h : HostState). record h { steps = steps }) (host_is s state r)) in
-    let same : transferred_lent (lent state steps) e b timeout ≡ record { state = record state { host = host_taken w.mid t; endpoints = change_named (with_taken t) state.endpoints e }; value = Some c } =
-    ap (λ (h : Option EndpointState). transferred_at (lent state steps) e b timeout h) (sym (named_kept s state e r) ∙ was)
-    ∙ ap (λ (h : HostState). transfer_ended (lent state steps) e t h) (sym mid_is)
-    ∙ ap (λ (v : Option Completion). record { state = record state { host = host_taken w.mid t; endpoints = change_named (with_taken t) state.endpoints e }; value = v })
-    (ap (λ n. transfer_completion w.mid.kernel.past n) (sym count) ∙ w.completion_is) in
-    subst (λ (g : Given (Option Completion)). Gave (record s { host = last; endpoints = after }) (Some c) (record { state = rested g.state; value = g.value }))
-    (sym same)
-    (record {
-      state = subst (λ (h : HostState). Represents (record s { host = last; endpoints = after }) (record state { host = h; endpoints = change_named (with_taken t) state.endpoints e }))
-          (rest ∙ ap host_rest (w.rest ∙ ap (host_taken w.mid) count))
-          (came-and-went s state last after e t x y r was none same_y put);
-      same = refl;
+pub transfer-made : {E : Type 0} → BlockingIsBySteps → (host now : HostState) (x y : EndpointState) (before text : String Global) (result : Result Unit E) (direction : Direction) (b : BufferState) (timeout : ℕ) (c : Completion) → bars_transfer host.kernel.past direction x ≡ false → y ≡ x → Transferred bus_of host_submitted host_refused host_turned host_turn host_discarded host_taken timeout host x b c now → OnOk result (string_bytes text ≡ string_bytes before ++ waited_line (Some c)) → CallAnswers host now x y before text result (λ state e h. transfer_on state direction e b timeout h)
+transfer-made law host now x y before text result direction b timeout c bars same_y w printed =
+    let t = count_of host in
+    let none = allowed-none host.kernel.past direction x bars in
+    call-comes host now x y before text result (with_taken t) (waited_line (Some c)) (λ state e h. transfer_on state direction e b timeout h) printed
+    (λ state e h host_was same few.
+    let here : drop h.taken h.tickets ≡ [] = ap (λ (z : EndpointState). z.pending) same ∙ none in
+    let after = λ (g : HostState). record state { host = g; endpoints = change_named (with_taken t) state.endpoints e } in
+    record {
+      is =
+          transfer-seen state direction e b timeout h host x false host_was same bars
+          ∙ ap (transfer_ended state e t) (sym (entered_blocked law host now x b timeout c w))
+          ∙ ap (λ (v : Option Completion). told (after (host_taken w.mid t)) (waited_line v)) w.completion_is
+          ∙ ap (λ (g : HostState). told (after g) (waited_line (Some c))) (sym w.rest);
+      kept_is = ap (λ (l : List ℕ). record (kept h) { pending = l }) (drop_all_on h.tickets h.taken t few here ∙ sym here) ∙ same ∙ sym same_y;
+      few = one_more h.taken t h.tickets few;
     })
 
-pub transfer-code : BlockingIsBySteps → (S : SessionState) (host at now last : HostState) (steps : List KernelStep) (ds : List (Option ℕ)) (is : List (Option InterfaceState)) (es mid after : List (Option AnyEndpoint)) (e timeout : ℕ) (x y : AnyEndpoint) (b : BufferState) (c : Completion) → session_made host ds is es ≡ S → named es e ≡ Some x → mid ≡ freed es e → after ≡ set_name mid e y → (state_of x).pending ≡ [] → state_of y ≡ state_of x → at ≡ record host { steps = steps } → Transferred bus_of host_submitted host_refused host_turned host_turn host_discarded host_taken timeout at (state_of x) b c now → last ≡ host_rest now → (state : State) → Represents S state → Gave (session_made last ds is after) (Some c) (transferred state e b timeout steps)
-transfer-code law S host at now last steps ds is es mid after e timeout x y b c view was free put none same lends w rest state r =
-    transfer-made law (session_made host ds is es) state at now last steps (map (option_map state_of) after) e timeout (state_of x) (state_of y) b c (subst (λ v. Represents v state) (sym view) r) (taken-map es e x was) none same lends w rest (put-map es mid after e y free put)
-
--- want of memory: only the steps are applied
-pub unmade-used : (at now : HostState) → now ≡ at → Used at now
-unmade-used at now is = subst (Used at) (sym is) (record { front = []; steps = refl; spare = omega arith; devices = refl; interfaces = refl })
+pub transfer-line : BlockingIsBySteps → (host now : HostState) (x : EndpointState) (b : BufferState) (timeout : ℕ) (c : Completion) → Transferred bus_of host_submitted host_refused host_turned host_turn host_discarded host_taken timeout host x b c now → LineGoesOn host now
+transfer-line law host now x b timeout c w =
+    let middle = entered host_submitted host_refused host x b in
+    line-trans host w.mid now
+    (line-trans host middle w.mid (line-entered host x b) (subst (LineGoesOn middle) (sym (entered_blocked law host now x b timeout c w)) (went-blocked middle (count_of host) timeout).line))
+    (subst (LineGoesOn w.mid) (sym w.rest) (line-keeps w.mid (host_taken w.mid (count_of host)) (keeps-taken w.mid (count_of host))))

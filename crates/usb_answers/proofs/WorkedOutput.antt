@@ -3,8 +3,8 @@ use Rattle.std.proofs.Common.{◌≡◌, ℕ, List, [], ◌∷◌, ◌++◌, cod
 use Rattle.std.specs.Fmt.{digits}
 use Rattle.std.specs.Prelude.{⊤, true, false, map, flat_map, replicate}
 use Rattle.hex.specs.Hex.{encode_with}
-use Rattle.usb_desc.specs.declared.types.Direction.TheVariants.{In, Out}
-use Rattle.usb_desc.specs.declared.types.TransferType.TheVariants.{Bulk, Interrupt}
+use Rattle.usb_desc.specs.declared.types.Direction.TheVariants.{In}
+use Rattle.usb_desc.specs.declared.types.TransferType.TheVariants.{Bulk}
 use Rattle.usb_desc.specs.Chain.{chain}
 use Rattle.usb_desc.specs.Groups.{groups}
 use Rattle.usb_desc.specs.Configurations.{concatenated, configurations}
@@ -27,27 +27,31 @@ use Rattle.usb_device.specs.HostWaits.{host_waited}
 use Rattle.usb_device.specs.HostBlocking.{host_blocked}
 use Rattle.usb_device.specs.Handles.{handle_closed}
 use Rattle.usb_device.specs.Finishes.{finished}
-use Rattle.usb_lines.specs.Words.{hex_word}
+use Rattle.usb_lines.specs.Words.{hex_word, class_code}
 use Rattle.usb_lines.specs.Calls.{error_line}
 use Rattle.usb_lines.specs.Completions.{done_line, count_line, now_line}
 use Rattle.usb_lines.specs.Tickets.{ticket_line}
-use Rattle.usb_lines.specs.Devices.{device_line}
-use Rattle.usb_lines.specs.Descriptors.{endpoint_words, class_words, setting_words, configuration_words, descriptors_line}
+use Rattle.usb_lines.specs.Devices.{device_line, class_words, product_words, string_words}
+use Rattle.usb_lines.specs.Descriptors.{endpoint_words, class_words as interface_words, setting_words, configuration_words, descriptors_line}
+use Rattle.usb_script.specs.declared.endpoint_kind.EndpointKind.TheVariants.{BulkIn, BulkOut, InterruptIn, InterruptOut}
 use Rattle.usb_script.specs.declared.item.Item.{Item}
-use Rattle.usb_script.specs.declared.item.Item.TheVariants.{Device, Now, Open, DeviceDescriptor, Descriptors, Claim, Endpoint, SubmitIn, SubmitOut, Pending, Poll, Wait, TransferIn, TransferOut, Cancel, CloseEndpoint, Steps}
+use Rattle.usb_script.specs.declared.item.Item.TheVariants as item
 use Rattle.usb_script.specs.Parse.{script_of}
 use Rattle.usb_script.proofs.OnLiterals.{script_on_literals}
 use Rattle.usb_answers.specs.Names.{named, is_free, change_named, freed, set_name}
-use Rattle.usb_answers.specs.Opens.{open_barred, opened}
-use Rattle.usb_answers.specs.Claims.{claim_barred, claimed}
-use Rattle.usb_answers.specs.Endpoints.{endpoint_barred, endpoint_opened}
-use Rattle.usb_answers.specs.Submits.{submit_barred_by, submit_barred, submitted}
-use Rattle.usb_answers.specs.Polls.{poll_barred, polled}
-use Rattle.usb_answers.specs.Steps.{stepped_all}
-use Rattle.usb_answers.specs.Waits.{waited}
-use Rattle.usb_answers.specs.Transfers.{transfer_barred, transferred}
-use Rattle.usb_answers.specs.Closes.{is_not_open, cancelled, closed}
-use Rattle.usb_answers.specs.Answers.{now_answer, open_answer, device_descriptor_answer, descriptors_answer, claim_answer, endpoint_answer, submit_answer, pending_answer, poll_answer, wait_answer, transfer_answer, cancel_answer, close_answer, steps_answer, answer}
+use Rattle.usb_answers.specs.Now.{now_answer}
+use Rattle.usb_answers.specs.Opens.{open_answer}
+use Rattle.usb_answers.specs.Describes.{device_descriptor_answer, descriptors_answer}
+use Rattle.usb_answers.specs.Claims.{claim_answer}
+use Rattle.usb_answers.specs.Endpoints.{endpoint_answer}
+use Rattle.usb_answers.specs.Submits.{bars_submission, submit_answer}
+use Rattle.usb_answers.specs.Pending.{pending_answer}
+use Rattle.usb_answers.specs.Polls.{poll_answer}
+use Rattle.usb_answers.specs.Steps.{stepped_all, steps_answer}
+use Rattle.usb_answers.specs.Waits.{wait_answer}
+use Rattle.usb_answers.specs.Transfers.{transfer_answer}
+use Rattle.usb_answers.specs.Closes.{cancel_answer, close_answer, closed}
+use Rattle.usb_answers.specs.Answers.{answer}
 use Rattle.usb_answers.specs.Ends.{interface_closed, all_closed, ended}
 use Rattle.usb_answers.specs.Fates.{fate_line, fate_lines}
 use Rattle.usb_answers.specs.Output.{start, output}
@@ -55,7 +59,7 @@ use Rattle.usb_answers.specs.Served.{Handle, handles}
 
 -- all that an output unfolds
 unfoldable output_on_literals : ⊤
-unfolding output start answer now_answer open_answer device_descriptor_answer descriptors_answer claim_answer endpoint_answer submit_answer pending_answer poll_answer wait_answer transfer_answer cancel_answer close_answer steps_answer open_barred opened claim_barred claimed endpoint_barred endpoint_opened submit_barred submitted poll_barred polled stepped_all waited transfer_barred transferred is_not_open cancelled closed interface_closed all_closed ended fate_line fate_lines named is_free change_named freed set_name is_used_among is_owned_among claim_ended claim_of owner_gone settled descriptors_tried open_tried host_claimed host_asked endpoint_of_setting host_tries host_submitted host_refused host_discarded host_left host_ended host_taken host_abandoned came host_stepped host_reaped host_waited host_blocked handle_closed finished transfer_completion completion unreaped chain groups concatenated configurations interfaces_among hex_word error_line done_line count_line now_line ticket_line device_line endpoint_words class_words setting_words configuration_words descriptors_line digits encode_with
+unfolding output start answer now_answer open_answer device_descriptor_answer descriptors_answer claim_answer endpoint_answer submit_answer pending_answer poll_answer wait_answer transfer_answer cancel_answer close_answer steps_answer stepped_all closed interface_closed all_closed ended fate_line fate_lines named is_free change_named freed set_name is_used_among is_owned_among claim_ended claim_of owner_gone settled descriptors_tried open_tried host_claimed host_asked endpoint_of_setting host_tries host_submitted host_refused host_discarded host_left host_ended host_taken host_abandoned came host_stepped host_reaped host_waited host_blocked handle_closed finished transfer_completion completion unreaped chain groups concatenated configurations interfaces_among hex_word error_line done_line count_line now_line ticket_line device_line class_words product_words string_words class_code endpoint_words interface_words setting_words configuration_words descriptors_line digits encode_with
 output_on_literals = tt
 
 -- a line of a script, the item that it is, and the line that it is answered, which is empty where it has no answer
@@ -91,15 +95,15 @@ bulk_bytes = 18 ∷ 1 ∷ 0 ∷ 2 ∷ 0 ∷ 0 ∷ 0 ∷ 64 ∷ 170 ∷ 170 ∷ 1
 
 abbrev bulk_device : Line
 bulk_device =
-    (codes "device k0 1 6 3 1 1201000200000040aaaabbbb0001000000010902200001010080320904000002ff0000000705810240000007050202400000", Device 0 1 6 3 1 bulk_bytes, [])
+    (codes "device k0 1 6 3 1 1201000200000040aaaabbbb0001000000010902200001010080320904000002ff0000000705810240000007050202400000", item.Device 0 1 6 3 1 bulk_bytes, [])
 
 -- its endpoint 81 is opened before these lines
 abbrev with_endpoint : List Line → List Line
 with_endpoint lines =
     bulk_device
-    ∷ (codes "open d0 1 6", Open 0 1 6, codes "ok")
-    ∷ (codes "claim d0 0 i0", Claim 0 0 0, codes "ok")
-    ∷ (codes "endpoint e0 i0 81 bulk-in", Endpoint 0 0 129 Bulk In, codes "ok")
+    ∷ (codes "open d0 1 6", item.Open 0 1 6, codes "ok")
+    ∷ (codes "claim d0 0 i0", item.Claim 0 0 0, codes "ok")
+    ∷ (codes "endpoint e0 i0 81 bulk-in", item.Endpoint 0 0 129 BulkIn, codes "ok")
     ∷ lines
 
 -- a device with an interface 5 in a configuration 7: an interrupt IN endpoint 81 and an interrupt OUT endpoint 02, with packets of at most 4 bytes
@@ -113,9 +117,9 @@ interrupt_bytes = 18 ∷ 1 ∷ 0 ∷ 2 ∷ 0 ∷ 0 ∷ 0 ∷ 64 ∷ 170 ∷ 170 
 
 abbrev with_interface : List Line → List Line
 with_interface lines =
-    (codes "device k3 2 9 2 7 1201000200000040aaaabbbb0001000000010902200001070080320904050002030000000705810304000a0705020304000a", Device 3 2 9 2 7 interrupt_bytes, [])
-    ∷ (codes "open d2 2 9", Open 2 2 9, codes "ok")
-    ∷ (codes "claim d2 5 i9", Claim 2 5 9, codes "ok")
+    (codes "device k3 2 9 2 7 1201000200000040aaaabbbb0001000000010902200001070080320904050002030000000705810304000a0705020304000a", item.Device 3 2 9 2 7 interrupt_bytes, [])
+    ∷ (codes "open d2 2 9", item.Open 2 2 9, codes "ok")
+    ∷ (codes "claim d2 5 i9", item.Claim 2 5 9, codes "ok")
     ∷ lines
 
 -- a device whose only endpoint has packets of no bytes
@@ -136,12 +140,12 @@ no_line = (refl, refl)
 -- one packet: the transfer is pending until it is reaped
 first_packet : IsAnswered
     (with_endpoint
-    ((codes "submitin e0 64", SubmitIn 0 64, codes "ok")
-    ∷ (codes "poll e0", Poll 0, codes "pending")
-    ∷ (codes "! pkt k0 81 010203", Steps (Packet 0 129 (1 ∷ 2 ∷ 3 ∷ []) ∷ []), [])
-    ∷ (codes "poll e0", Poll 0, codes "pending")
-    ∷ (codes "! reap 0", Steps (Reap (Some 0) ∷ []), [])
-    ∷ (codes "poll e0", Poll 0, codes "done ok 3 64 010203")
+    ((codes "submitin e0 64", item.SubmitIn 0 64, codes "ok")
+    ∷ (codes "poll e0", item.Poll 0, codes "pending")
+    ∷ (codes "! pkt k0 81 010203", item.Steps (Packet 0 129 (1 ∷ 2 ∷ 3 ∷ []) ∷ []), [])
+    ∷ (codes "poll e0", item.Poll 0, codes "pending")
+    ∷ (codes "! reap 0", item.Steps (Reap (Some 0) ∷ []), [])
+    ∷ (codes "poll e0", item.Poll 0, codes "done ok 3 64 010203")
     ∷ []))
     (codes "ticket 0 k0 81 ok 3 taken" ∷ [])
 unfolding script_on_literals output_on_literals
@@ -150,14 +154,14 @@ first_packet = (refl, refl)
 -- two packets: the second is reaped first, and waits behind the first
 second_reaped_first : IsAnswered
     (with_endpoint
-    ((codes "submitin e0 64", SubmitIn 0 64, codes "ok")
-    ∷ (codes "submitin e0 64", SubmitIn 0 64, codes "ok")
-    ∷ (codes "! pkt k0 81 01 ; pkt k0 81 0203 ; reap 1", Steps (Packet 0 129 (1 ∷ []) ∷ Packet 0 129 (2 ∷ 3 ∷ []) ∷ Reap (Some 1) ∷ []), [])
-    ∷ (codes "poll e0", Poll 0, codes "pending")
-    ∷ (codes "! reap 0", Steps (Reap (Some 0) ∷ []), [])
-    ∷ (codes "poll e0", Poll 0, codes "done ok 1 64 01")
-    ∷ (codes "poll e0", Poll 0, codes "done ok 2 64 0203")
-    ∷ (codes "poll e0", Poll 0, codes "condition")
+    ((codes "submitin e0 64", item.SubmitIn 0 64, codes "ok")
+    ∷ (codes "submitin e0 64", item.SubmitIn 0 64, codes "ok")
+    ∷ (codes "! pkt k0 81 01 ; pkt k0 81 0203 ; reap 1", item.Steps (Packet 0 129 (1 ∷ []) ∷ Packet 0 129 (2 ∷ 3 ∷ []) ∷ Reap (Some 1) ∷ []), [])
+    ∷ (codes "poll e0", item.Poll 0, codes "pending")
+    ∷ (codes "! reap 0", item.Steps (Reap (Some 0) ∷ []), [])
+    ∷ (codes "poll e0", item.Poll 0, codes "done ok 1 64 01")
+    ∷ (codes "poll e0", item.Poll 0, codes "done ok 2 64 0203")
+    ∷ (codes "poll e0", item.Poll 0, codes "condition")
     ∷ []))
     (codes "ticket 0 k0 81 ok 1 taken"
     ∷ codes "ticket 1 k0 81 ok 2 taken" ∷ [])
@@ -167,11 +171,11 @@ second_reaped_first = (refl, refl)
 -- an endpoint is closed with a ticket that is reaped, one that is finished and one that is open
 closed_with_tickets : IsAnswered
     (with_endpoint
-    ((codes "submitin e0 64", SubmitIn 0 64, codes "ok")
-    ∷ (codes "submitin e0 64", SubmitIn 0 64, codes "ok")
-    ∷ (codes "submitin e0 64", SubmitIn 0 64, codes "ok")
-    ∷ (codes "! pkt k0 81 01 ; reap ; pkt k0 81 0203", Steps (Packet 0 129 (1 ∷ []) ∷ Reap None ∷ Packet 0 129 (2 ∷ 3 ∷ []) ∷ []), [])
-    ∷ (codes "close e0", CloseEndpoint 0, codes "ok")
+    ((codes "submitin e0 64", item.SubmitIn 0 64, codes "ok")
+    ∷ (codes "submitin e0 64", item.SubmitIn 0 64, codes "ok")
+    ∷ (codes "submitin e0 64", item.SubmitIn 0 64, codes "ok")
+    ∷ (codes "! pkt k0 81 01 ; reap ; pkt k0 81 0203", item.Steps (Packet 0 129 (1 ∷ []) ∷ Reap None ∷ Packet 0 129 (2 ∷ 3 ∷ []) ∷ []), [])
+    ∷ (codes "close e0", item.CloseEndpoint 0, codes "ok")
     ∷ []))
     (codes "ticket 0 k0 81 ok 1 dropped"
     ∷ codes "ticket 1 k0 81 ok 2 reclaimed"
@@ -182,16 +186,16 @@ closed_with_tickets = (refl, refl)
 -- the address of a closed endpoint stays in use until the last of its tickets is reaped
 address_in_use : IsAnswered
     (with_endpoint
-    ((codes "submitin e0 64", SubmitIn 0 64, codes "ok")
-    ∷ (codes "submitin e0 64", SubmitIn 0 64, codes "ok")
-    ∷ (codes "! pkt k0 81 01 ; reap", Steps (Packet 0 129 (1 ∷ []) ∷ Reap None ∷ []), [])
-    ∷ (codes "close e0", CloseEndpoint 0, codes "ok")
-    ∷ (codes "endpoint e0 i0 81 bulk-in", Endpoint 0 0 129 Bulk In, codes "error Busy endpoint already in use")
-    ∷ (codes "! reap 1", Steps (Reap (Some 1) ∷ []), [])
-    ∷ (codes "endpoint e0 i0 81 bulk-in", Endpoint 0 0 129 Bulk In, codes "ok")
-    ∷ (codes "submitin e0 64", SubmitIn 0 64, codes "ok")
-    ∷ (codes "! pkt k0 81 02 ; reap", Steps (Packet 0 129 (2 ∷ []) ∷ Reap None ∷ []), [])
-    ∷ (codes "poll e0", Poll 0, codes "done ok 1 64 02")
+    ((codes "submitin e0 64", item.SubmitIn 0 64, codes "ok")
+    ∷ (codes "submitin e0 64", item.SubmitIn 0 64, codes "ok")
+    ∷ (codes "! pkt k0 81 01 ; reap", item.Steps (Packet 0 129 (1 ∷ []) ∷ Reap None ∷ []), [])
+    ∷ (codes "close e0", item.CloseEndpoint 0, codes "ok")
+    ∷ (codes "endpoint e0 i0 81 bulk-in", item.Endpoint 0 0 129 BulkIn, codes "error Busy endpoint already in use")
+    ∷ (codes "! reap 1", item.Steps (Reap (Some 1) ∷ []), [])
+    ∷ (codes "endpoint e0 i0 81 bulk-in", item.Endpoint 0 0 129 BulkIn, codes "ok")
+    ∷ (codes "submitin e0 64", item.SubmitIn 0 64, codes "ok")
+    ∷ (codes "! pkt k0 81 02 ; reap", item.Steps (Packet 0 129 (2 ∷ []) ∷ Reap None ∷ []), [])
+    ∷ (codes "poll e0", item.Poll 0, codes "done ok 1 64 02")
     ∷ []))
     (codes "ticket 0 k0 81 ok 1 dropped"
     ∷ codes "ticket 1 k0 81 cancelled 0 reclaimed"
@@ -202,9 +206,9 @@ address_in_use = (refl, refl)
 -- a blocking transfer to which nothing comes is cancelled; the second gets its packet while it waits; the packet of the third comes too late
 blocking_transfers : IsAnswered
     (with_endpoint
-    ((codes "xferin e0 64 5", TransferIn 0 64 5 [], codes "done cancelled 0 64 -")
-    ∷ (codes "xferin e0 64 100 : pkt k0 81 05 ; clock 50 ; reap", TransferIn 0 64 100 (Packet 0 129 (5 ∷ []) ∷ Clock 50 ∷ Reap None ∷ []), codes "done ok 1 64 05")
-    ∷ (codes "xferin e0 64 100 : clock 150 ; pkt k0 81 05 ; reap", TransferIn 0 64 100 (Clock 150 ∷ Packet 0 129 (5 ∷ []) ∷ Reap None ∷ []), codes "done cancelled 0 64 -")
+    ((codes "xferin e0 64 5", item.TransferIn 0 64 5 [], codes "done cancelled 0 64 -")
+    ∷ (codes "xferin e0 64 100 : pkt k0 81 05 ; clock 50 ; reap", item.TransferIn 0 64 100 (Packet 0 129 (5 ∷ []) ∷ Clock 50 ∷ Reap None ∷ []), codes "done ok 1 64 05")
+    ∷ (codes "xferin e0 64 100 : clock 150 ; pkt k0 81 05 ; reap", item.TransferIn 0 64 100 (Clock 150 ∷ Packet 0 129 (5 ∷ []) ∷ Reap None ∷ []), codes "done cancelled 0 64 -")
     ∷ []))
     (codes "ticket 0 k0 81 cancelled 0 taken"
     ∷ codes "ticket 1 k0 81 ok 1 taken"
@@ -215,19 +219,19 @@ blocking_transfers = (refl, refl)
 -- waits of an OUT endpoint: the first leaves the step behind the reap, which is taken right after it
 waits : IsAnswered
     (with_endpoint
-    ((codes "endpoint e1 i0 02 bulk-out", Endpoint 1 0 2 Bulk Out, codes "ok")
-    ∷ (codes "submitout e1 010203", SubmitOut 1 (1 ∷ 2 ∷ 3 ∷ []), codes "ok")
-    ∷ (codes "submitout e1 -", SubmitOut 1 [], codes "ok")
-    ∷ (codes "pending e1", Pending 1, codes "count 2")
-    ∷ (codes "! ack k0 02", Steps (Ack 0 2 ∷ []), [])
-    ∷ (codes "wait e1 10 : clock 7 ; reap ; clock 20", Wait 1 10 (Clock 7 ∷ Reap None ∷ Clock 20 ∷ []), codes "done ok 3 3 010203")
-    ∷ (codes "now", Now, codes "now 20")
-    ∷ (codes "wait e1 5", Wait 1 5 [], codes "none")
-    ∷ (codes "wait e1 0", Wait 1 0 [], codes "none")
-    ∷ (codes "! ack k0 02", Steps (Ack 0 2 ∷ []), [])
-    ∷ (codes "wait e1 max", Wait 1 18446744073709551615 [], codes "done ok 0 0 -")
-    ∷ (codes "pending e1", Pending 1, codes "count 0")
-    ∷ (codes "xferout e1 0a0b 10 : ack k0 02", TransferOut 1 (10 ∷ 11 ∷ []) 10 (Ack 0 2 ∷ []), codes "done ok 2 2 0a0b")
+    ((codes "endpoint e1 i0 02 bulk-out", item.Endpoint 1 0 2 BulkOut, codes "ok")
+    ∷ (codes "submitout e1 010203", item.SubmitOut 1 (1 ∷ 2 ∷ 3 ∷ []), codes "ok")
+    ∷ (codes "submitout e1 -", item.SubmitOut 1 [], codes "ok")
+    ∷ (codes "pending e1", item.Pending 1, codes "count 2")
+    ∷ (codes "! ack k0 02", item.Steps (Ack 0 2 ∷ []), [])
+    ∷ (codes "wait e1 10 : clock 7 ; reap ; clock 20", item.Wait 1 10 (Clock 7 ∷ Reap None ∷ Clock 20 ∷ []), codes "done ok 3 3 010203")
+    ∷ (codes "now", item.Now, codes "now 20")
+    ∷ (codes "wait e1 5", item.Wait 1 5 [], codes "none")
+    ∷ (codes "wait e1 0", item.Wait 1 0 [], codes "none")
+    ∷ (codes "! ack k0 02", item.Steps (Ack 0 2 ∷ []), [])
+    ∷ (codes "wait e1 max", item.Wait 1 18446744073709551615 [], codes "done ok 0 0 -")
+    ∷ (codes "pending e1", item.Pending 1, codes "count 0")
+    ∷ (codes "xferout e1 0a0b 10 : ack k0 02", item.TransferOut 1 (10 ∷ 11 ∷ []) 10 (Ack 0 2 ∷ []), codes "done ok 2 2 0a0b")
     ∷ []))
     (codes "ticket 0 k0 02 ok 3 taken"
     ∷ codes "ticket 1 k0 02 ok 0 taken"
@@ -238,18 +242,18 @@ waits = (refl, refl)
 -- a blocking transfer is barred while others are pending, and its steps are taken all the same; the others are cancelled but for the finished one
 cancelled_transfers : IsAnswered
     (with_endpoint
-    ((codes "submitin e0 64", SubmitIn 0 64, codes "ok")
-    ∷ (codes "submitin e0 64", SubmitIn 0 64, codes "ok")
-    ∷ (codes "submitin e0 64", SubmitIn 0 64, codes "ok")
-    ∷ (codes "xferin e0 64 5 : pkt k0 81 01", TransferIn 0 64 5 (Packet 0 129 (1 ∷ []) ∷ []), codes "condition")
-    ∷ (codes "cancel e0", Cancel 0, codes "ok")
-    ∷ (codes "pending e0", Pending 0, codes "count 3")
-    ∷ (codes "poll e0", Poll 0, codes "pending")
-    ∷ (codes "! reap 2 ; reap", Steps (Reap (Some 2) ∷ Reap None ∷ []), [])
-    ∷ (codes "poll e0", Poll 0, codes "done ok 1 64 01")
-    ∷ (codes "poll e0", Poll 0, codes "pending")
-    ∷ (codes "wait e0 1", Wait 0 1 [], codes "done cancelled 0 64 -")
-    ∷ (codes "poll e0", Poll 0, codes "done cancelled 0 64 -")
+    ((codes "submitin e0 64", item.SubmitIn 0 64, codes "ok")
+    ∷ (codes "submitin e0 64", item.SubmitIn 0 64, codes "ok")
+    ∷ (codes "submitin e0 64", item.SubmitIn 0 64, codes "ok")
+    ∷ (codes "xferin e0 64 5 : pkt k0 81 01", item.TransferIn 0 64 5 (Packet 0 129 (1 ∷ []) ∷ []), codes "condition")
+    ∷ (codes "cancel e0", item.Cancel 0, codes "ok")
+    ∷ (codes "pending e0", item.Pending 0, codes "count 3")
+    ∷ (codes "poll e0", item.Poll 0, codes "pending")
+    ∷ (codes "! reap 2 ; reap", item.Steps (Reap (Some 2) ∷ Reap None ∷ []), [])
+    ∷ (codes "poll e0", item.Poll 0, codes "done ok 1 64 01")
+    ∷ (codes "poll e0", item.Poll 0, codes "pending")
+    ∷ (codes "wait e0 1", item.Wait 0 1 [], codes "done cancelled 0 64 -")
+    ∷ (codes "poll e0", item.Poll 0, codes "done cancelled 0 64 -")
     ∷ []))
     (codes "ticket 0 k0 81 ok 1 taken"
     ∷ codes "ticket 1 k0 81 cancelled 0 taken"
@@ -260,22 +264,22 @@ cancelled_transfers = (refl, refl)
 -- two submissions that the kernel refuses, one of a wrong length, and an unplug, behind which all are refused
 refused_and_unplugged : IsAnswered
     (with_endpoint
-    ((codes "! refuse k0 submit 5 ; refuse k0 submit 2", Steps (Refuse 0 Submit 5 ∷ Refuse 0 Submit 2 ∷ []), [])
-    ∷ (codes "submitin e0 64", SubmitIn 0 64, codes "ok")
-    ∷ (codes "submitin e0 64", SubmitIn 0 64, codes "ok")
-    ∷ (codes "submitin e0 64", SubmitIn 0 64, codes "ok")
-    ∷ (codes "submitin e0 63", SubmitIn 0 63, codes "ok")
-    ∷ (codes "! unplug k0", Steps (Unplug 0 ∷ []), [])
-    ∷ (codes "submitin e0 64", SubmitIn 0 64, codes "ok")
-    ∷ (codes "poll e0", Poll 0, codes "done unknown:5 0 64 -")
-    ∷ (codes "poll e0", Poll 0, codes "done unknown:2 0 64 -")
-    ∷ (codes "poll e0", Poll 0, codes "pending")
-    ∷ (codes "! reap", Steps (Reap None ∷ []), [])
-    ∷ (codes "poll e0", Poll 0, codes "done disconnected 0 64 -")
-    ∷ (codes "poll e0", Poll 0, codes "done invalid 0 63 -")
-    ∷ (codes "poll e0", Poll 0, codes "done disconnected 0 64 -")
-    ∷ (codes "open d1 1 6", Open 1 1 6, codes "error Disconnected device not found (errno 2)")
-    ∷ (codes "claim d0 0 i1", Claim 0 0 1, codes "error Disconnected device disconnected (errno 19)")
+    ((codes "! refuse k0 submit 5 ; refuse k0 submit 2", item.Steps (Refuse 0 Submit 5 ∷ Refuse 0 Submit 2 ∷ []), [])
+    ∷ (codes "submitin e0 64", item.SubmitIn 0 64, codes "ok")
+    ∷ (codes "submitin e0 64", item.SubmitIn 0 64, codes "ok")
+    ∷ (codes "submitin e0 64", item.SubmitIn 0 64, codes "ok")
+    ∷ (codes "submitin e0 63", item.SubmitIn 0 63, codes "ok")
+    ∷ (codes "! unplug k0", item.Steps (Unplug 0 ∷ []), [])
+    ∷ (codes "submitin e0 64", item.SubmitIn 0 64, codes "ok")
+    ∷ (codes "poll e0", item.Poll 0, codes "done unknown:5 0 64 -")
+    ∷ (codes "poll e0", item.Poll 0, codes "done unknown:2 0 64 -")
+    ∷ (codes "poll e0", item.Poll 0, codes "pending")
+    ∷ (codes "! reap", item.Steps (Reap None ∷ []), [])
+    ∷ (codes "poll e0", item.Poll 0, codes "done disconnected 0 64 -")
+    ∷ (codes "poll e0", item.Poll 0, codes "done invalid 0 63 -")
+    ∷ (codes "poll e0", item.Poll 0, codes "done disconnected 0 64 -")
+    ∷ (codes "open d1 1 6", item.Open 1 1 6, codes "error Disconnected device not found (errno 2)")
+    ∷ (codes "claim d0 0 i1", item.Claim 0 0 1, codes "error Disconnected device disconnected (errno 19)")
     ∷ []))
     (codes "ticket 0 k0 81 unknown:5 0 taken"
     ∷ codes "ticket 1 k0 81 unknown:2 0 taken"
@@ -288,11 +292,11 @@ refused_and_unplugged = (refl, refl)
 -- what is open at the end is closed: the endpoints, and with them their tickets
 left_open : IsAnswered
     (with_endpoint
-    ((codes "endpoint e1 i0 02 bulk-out", Endpoint 1 0 2 Bulk Out, codes "ok")
-    ∷ (codes "submitin e0 64", SubmitIn 0 64, codes "ok")
-    ∷ (codes "submitout e1 01", SubmitOut 1 (1 ∷ []), codes "ok")
-    ∷ (codes "submitin e0 64", SubmitIn 0 64, codes "ok")
-    ∷ (codes "! pkt k0 81 01 ; ack k0 02 ; reap 0", Steps (Packet 0 129 (1 ∷ []) ∷ Ack 0 2 ∷ Reap (Some 0) ∷ []), [])
+    ((codes "endpoint e1 i0 02 bulk-out", item.Endpoint 1 0 2 BulkOut, codes "ok")
+    ∷ (codes "submitin e0 64", item.SubmitIn 0 64, codes "ok")
+    ∷ (codes "submitout e1 01", item.SubmitOut 1 (1 ∷ []), codes "ok")
+    ∷ (codes "submitin e0 64", item.SubmitIn 0 64, codes "ok")
+    ∷ (codes "! pkt k0 81 01 ; ack k0 02 ; reap 0", item.Steps (Packet 0 129 (1 ∷ []) ∷ Ack 0 2 ∷ Reap (Some 0) ∷ []), [])
     ∷ []))
     (codes "ticket 0 k0 81 ok 1 dropped"
     ∷ codes "ticket 1 k0 02 ok 1 reclaimed"
@@ -303,14 +307,14 @@ left_open = (refl, refl)
 -- steps with nothing to act on change nothing, and the clock never falls
 idle_steps : IsAnswered
     (with_endpoint
-    ((codes "! pkt k0 81 01 ; ack k0 02 ; fail k0 81 32 ; reap ; reap 7", Steps (Packet 0 129 (1 ∷ []) ∷ Ack 0 2 ∷ Fail 0 129 32 ∷ Reap None ∷ Reap (Some 7) ∷ []), [])
-    ∷ (codes "! unplug k9 ; pkt k9 81 01 ; clock 9 ; clock 4", Steps (Unplug 9 ∷ Packet 9 129 (1 ∷ []) ∷ Clock 9 ∷ Clock 4 ∷ []), [])
-    ∷ (codes "now", Now, codes "now 9")
-    ∷ (codes "submitin e0 64", SubmitIn 0 64, codes "ok")
-    ∷ (codes "! ack k0 02 ; ack k0 81 ; reap 0", Steps (Ack 0 2 ∷ Ack 0 129 ∷ Reap (Some 0) ∷ []), [])
-    ∷ (codes "poll e0", Poll 0, codes "pending")
-    ∷ (codes "! pkt k0 81 - ; reap 0 ; reap 0", Steps (Packet 0 129 [] ∷ Reap (Some 0) ∷ Reap (Some 0) ∷ []), [])
-    ∷ (codes "poll e0", Poll 0, codes "done ok 0 64 -")
+    ((codes "! pkt k0 81 01 ; ack k0 02 ; fail k0 81 32 ; reap ; reap 7", item.Steps (Packet 0 129 (1 ∷ []) ∷ Ack 0 2 ∷ Fail 0 129 32 ∷ Reap None ∷ Reap (Some 7) ∷ []), [])
+    ∷ (codes "! unplug k9 ; pkt k9 81 01 ; clock 9 ; clock 4", item.Steps (Unplug 9 ∷ Packet 9 129 (1 ∷ []) ∷ Clock 9 ∷ Clock 4 ∷ []), [])
+    ∷ (codes "now", item.Now, codes "now 9")
+    ∷ (codes "submitin e0 64", item.SubmitIn 0 64, codes "ok")
+    ∷ (codes "! ack k0 02 ; ack k0 81 ; reap 0", item.Steps (Ack 0 2 ∷ Ack 0 129 ∷ Reap (Some 0) ∷ []), [])
+    ∷ (codes "poll e0", item.Poll 0, codes "pending")
+    ∷ (codes "! pkt k0 81 - ; reap 0 ; reap 0", item.Steps (Packet 0 129 [] ∷ Reap (Some 0) ∷ Reap (Some 0) ∷ []), [])
+    ∷ (codes "poll e0", item.Poll 0, codes "done ok 0 64 -")
     ∷ []))
     (codes "ticket 0 k0 81 ok 0 taken" ∷ [])
 unfolding script_on_literals output_on_literals
@@ -319,20 +323,20 @@ idle_steps = (refl, refl)
 -- two devices with the same endpoints: a reap without a number takes the least that is finished
 two_devices : IsAnswered
     (bulk_device
-    ∷ (codes "device k1 1 7 3 1 1201000200000040aaaabbbb0001000000010902200001010080320904000002ff0000000705810240000007050202400000", Device 1 1 7 3 1 bulk_bytes, [])
-    ∷ (codes "open d0 1 6", Open 0 1 6, codes "ok")
-    ∷ (codes "open d1 1 7", Open 1 1 7, codes "ok")
-    ∷ (codes "claim d0 0 i0", Claim 0 0 0, codes "ok")
-    ∷ (codes "claim d1 0 i1", Claim 1 0 1, codes "ok")
-    ∷ (codes "endpoint e0 i0 81 bulk-in", Endpoint 0 0 129 Bulk In, codes "ok")
-    ∷ (codes "endpoint e1 i1 81 bulk-in", Endpoint 1 1 129 Bulk In, codes "ok")
-    ∷ (codes "submitin e1 64", SubmitIn 1 64, codes "ok")
-    ∷ (codes "submitin e0 64", SubmitIn 0 64, codes "ok")
-    ∷ (codes "! pkt k0 81 01 ; pkt k1 81 02 ; reap", Steps (Packet 0 129 (1 ∷ []) ∷ Packet 1 129 (2 ∷ []) ∷ Reap None ∷ []), [])
-    ∷ (codes "poll e0", Poll 0, codes "pending")
-    ∷ (codes "poll e1", Poll 1, codes "done ok 1 64 02")
-    ∷ (codes "! unplug k1 ; reap", Steps (Unplug 1 ∷ Reap None ∷ []), [])
-    ∷ (codes "poll e0", Poll 0, codes "done ok 1 64 01")
+    ∷ (codes "device k1 1 7 3 1 1201000200000040aaaabbbb0001000000010902200001010080320904000002ff0000000705810240000007050202400000", item.Device 1 1 7 3 1 bulk_bytes, [])
+    ∷ (codes "open d0 1 6", item.Open 0 1 6, codes "ok")
+    ∷ (codes "open d1 1 7", item.Open 1 1 7, codes "ok")
+    ∷ (codes "claim d0 0 i0", item.Claim 0 0 0, codes "ok")
+    ∷ (codes "claim d1 0 i1", item.Claim 1 0 1, codes "ok")
+    ∷ (codes "endpoint e0 i0 81 bulk-in", item.Endpoint 0 0 129 BulkIn, codes "ok")
+    ∷ (codes "endpoint e1 i1 81 bulk-in", item.Endpoint 1 1 129 BulkIn, codes "ok")
+    ∷ (codes "submitin e1 64", item.SubmitIn 1 64, codes "ok")
+    ∷ (codes "submitin e0 64", item.SubmitIn 0 64, codes "ok")
+    ∷ (codes "! pkt k0 81 01 ; pkt k1 81 02 ; reap", item.Steps (Packet 0 129 (1 ∷ []) ∷ Packet 1 129 (2 ∷ []) ∷ Reap None ∷ []), [])
+    ∷ (codes "poll e0", item.Poll 0, codes "pending")
+    ∷ (codes "poll e1", item.Poll 1, codes "done ok 1 64 02")
+    ∷ (codes "! unplug k1 ; reap", item.Steps (Unplug 1 ∷ Reap None ∷ []), [])
+    ∷ (codes "poll e0", item.Poll 0, codes "done ok 1 64 01")
     ∷ [])
     (codes "ticket 0 k1 81 ok 1 taken"
     ∷ codes "ticket 1 k0 81 ok 1 taken" ∷ [])
@@ -342,31 +346,31 @@ two_devices = (refl, refl)
 -- calls that are refused or barred, and the two that print descriptors
 refused_calls : IsAnswered
     (bulk_device
-    ∷ (codes "open d0 1 7", Open 0 1 7, codes "error Disconnected device not found (errno 2)")
-    ∷ (codes "devdesc d0", DeviceDescriptor 0, codes "condition")
-    ∷ (codes "open d0 1 6", Open 0 1 6, codes "ok")
-    ∷ (codes "open d0 1 6", Open 0 1 6, codes "condition")
-    ∷ (codes "devdesc d0", DeviceDescriptor 0, codes "device 0200 00 00 00 64 aaaa bbbb 0100 0 0 0 1")
-    ∷ (codes "descriptors d0", Descriptors 0, codes "desc cfg 1 if 0.0 ff 00 00 ep 81 bulk 64 0 ep 02 bulk 64 0")
-    ∷ (codes "claim d0 1 i0", Claim 0 1 0, codes "error NotFound interface not found (errno 2)")
-    ∷ (codes "claim d1 0 i0", Claim 1 0 0, codes "condition")
-    ∷ (codes "claim d0 0 i0", Claim 0 0 0, codes "ok")
-    ∷ (codes "claim d0 0 i1", Claim 0 0 1, codes "error Busy interface is busy (errno 16)")
-    ∷ (codes "endpoint e0 i0 82 bulk-in", Endpoint 0 0 130 Bulk In, codes "error NotFound specified endpoint does not exist on this interface")
-    ∷ (codes "endpoint e0 i0 81 bulk-out", Endpoint 0 0 129 Bulk Out, codes "error Other incorrect endpoint direction")
-    ∷ (codes "endpoint e0 i0 81 int-in", Endpoint 0 0 129 Interrupt In, codes "error Other incorrect endpoint type")
-    ∷ (codes "endpoint e0 i0 81 bulk-in", Endpoint 0 0 129 Bulk In, codes "ok")
-    ∷ (codes "endpoint e0 i0 81 bulk-in", Endpoint 0 0 129 Bulk In, codes "condition")
-    ∷ (codes "endpoint e1 i0 81 bulk-in", Endpoint 1 0 129 Bulk In, codes "error Busy endpoint already in use")
-    ∷ (codes "endpoint e1 i1 02 bulk-out", Endpoint 1 1 2 Bulk Out, codes "condition")
-    ∷ (codes "poll e0", Poll 0, codes "condition")
-    ∷ (codes "submitout e0 00", SubmitOut 0 (0 ∷ []), codes "condition")
-    ∷ (codes "submitin e1 64", SubmitIn 1 64, codes "condition")
-    ∷ (codes "close e1", CloseEndpoint 1, codes "condition")
-    ∷ (codes "cancel e1", Cancel 1, codes "condition")
-    ∷ (codes "pending e1", Pending 1, codes "condition")
-    ∷ (codes "pending e0", Pending 0, codes "count 0")
-    ∷ (codes "now", Now, codes "now 0")
+    ∷ (codes "open d0 1 7", item.Open 0 1 7, codes "error Disconnected device not found (errno 2)")
+    ∷ (codes "devdesc d0", item.DeviceDescriptor 0, codes "condition")
+    ∷ (codes "open d0 1 6", item.Open 0 1 6, codes "ok")
+    ∷ (codes "open d0 1 6", item.Open 0 1 6, codes "condition")
+    ∷ (codes "devdesc d0", item.DeviceDescriptor 0, codes "device 0200 00 00 00 64 aaaa bbbb 0100 0 0 0 1")
+    ∷ (codes "descriptors d0", item.Descriptors 0, codes "desc cfg 1 if 0.0 ff 00 00 ep 81 bulk 64 0 ep 02 bulk 64 0")
+    ∷ (codes "claim d0 1 i0", item.Claim 0 1 0, codes "error NotFound interface not found (errno 2)")
+    ∷ (codes "claim d1 0 i0", item.Claim 1 0 0, codes "condition")
+    ∷ (codes "claim d0 0 i0", item.Claim 0 0 0, codes "ok")
+    ∷ (codes "claim d0 0 i1", item.Claim 0 0 1, codes "error Busy interface is busy (errno 16)")
+    ∷ (codes "endpoint e0 i0 82 bulk-in", item.Endpoint 0 0 130 BulkIn, codes "error NotFound specified endpoint does not exist on this interface")
+    ∷ (codes "endpoint e0 i0 81 bulk-out", item.Endpoint 0 0 129 BulkOut, codes "error Other incorrect endpoint direction")
+    ∷ (codes "endpoint e0 i0 81 int-in", item.Endpoint 0 0 129 InterruptIn, codes "error Other incorrect endpoint type")
+    ∷ (codes "endpoint e0 i0 81 bulk-in", item.Endpoint 0 0 129 BulkIn, codes "ok")
+    ∷ (codes "endpoint e0 i0 81 bulk-in", item.Endpoint 0 0 129 BulkIn, codes "condition")
+    ∷ (codes "endpoint e1 i0 81 bulk-in", item.Endpoint 1 0 129 BulkIn, codes "error Busy endpoint already in use")
+    ∷ (codes "endpoint e1 i1 02 bulk-out", item.Endpoint 1 1 2 BulkOut, codes "condition")
+    ∷ (codes "poll e0", item.Poll 0, codes "condition")
+    ∷ (codes "submitout e0 00", item.SubmitOut 0 (0 ∷ []), codes "condition")
+    ∷ (codes "submitin e1 64", item.SubmitIn 1 64, codes "condition")
+    ∷ (codes "close e1", item.CloseEndpoint 1, codes "condition")
+    ∷ (codes "cancel e1", item.Cancel 1, codes "condition")
+    ∷ (codes "pending e1", item.Pending 1, codes "condition")
+    ∷ (codes "pending e0", item.Pending 0, codes "count 0")
+    ∷ (codes "now", item.Now, codes "now 0")
     ∷ [])
     []
 unfolding script_on_literals output_on_literals
@@ -374,15 +378,15 @@ refused_calls = (refl, refl)
 
 -- a device without descriptors, one without an active configuration, and one with an endpoint whose packets have no bytes
 refused_devices : IsAnswered
-    ((codes "device k0 1 1 3 1 -", Device 0 1 1 3 1 [], [])
-    ∷ (codes "device k1 1 2 3 0 1201000200000040aaaabbbb0001000000010902200001010080320904000002ff0000000705810240000007050202400000", Device 1 1 2 3 0 bulk_bytes, [])
-    ∷ (codes "device k2 1 3 3 1 1201000200000040aaaabbbb0001000000010902190001010080320904000001ff00000007058102000000", Device 2 1 3 3 1 unusable_bytes, [])
-    ∷ (codes "open d0 1 1", Open 0 1 1, codes "error Other invalid device descriptor")
-    ∷ (codes "open d1 1 2", Open 1 1 2, codes "ok")
-    ∷ (codes "claim d1 0 i1", Claim 1 0 1, codes "error NotFound interface not found (errno 2)")
-    ∷ (codes "open d2 1 3", Open 2 1 3, codes "ok")
-    ∷ (codes "claim d2 0 i2", Claim 2 0 2, codes "ok")
-    ∷ (codes "endpoint e2 i2 81 bulk-in", Endpoint 2 2 129 Bulk In, codes "error Other endpoint has max packet size 0")
+    ((codes "device k0 1 1 3 1 -", item.Device 0 1 1 3 1 [], [])
+    ∷ (codes "device k1 1 2 3 0 1201000200000040aaaabbbb0001000000010902200001010080320904000002ff0000000705810240000007050202400000", item.Device 1 1 2 3 0 bulk_bytes, [])
+    ∷ (codes "device k2 1 3 3 1 1201000200000040aaaabbbb0001000000010902190001010080320904000001ff00000007058102000000", item.Device 2 1 3 3 1 unusable_bytes, [])
+    ∷ (codes "open d0 1 1", item.Open 0 1 1, codes "error Other invalid device descriptor")
+    ∷ (codes "open d1 1 2", item.Open 1 1 2, codes "ok")
+    ∷ (codes "claim d1 0 i1", item.Claim 1 0 1, codes "error NotFound interface not found (errno 2)")
+    ∷ (codes "open d2 1 3", item.Open 2 1 3, codes "ok")
+    ∷ (codes "claim d2 0 i2", item.Claim 2 0 2, codes "ok")
+    ∷ (codes "endpoint e2 i2 81 bulk-in", item.Endpoint 2 2 129 BulkIn, codes "error Other endpoint has max packet size 0")
     ∷ [])
     []
 unfolding script_on_literals output_on_literals
@@ -391,22 +395,22 @@ refused_devices = (refl, refl)
 -- packets of 4 bytes: a length is reached by two of them, one that is too long is a fault, an empty one ends a transfer, and a transfer that is cancelled keeps its bytes
 packets : IsAnswered
     (with_interface
-    ((codes "endpoint e7 i9 81 int-in", Endpoint 7 9 129 Interrupt In, codes "ok")
-    ∷ (codes "submitin e7 8", SubmitIn 7 8, codes "ok")
-    ∷ (codes "submitin e7 4", SubmitIn 7 4, codes "ok")
-    ∷ (codes "submitin e7 8", SubmitIn 7 8, codes "ok")
-    ∷ (codes "submitin e7 6", SubmitIn 7 6, codes "ok")
-    ∷ (codes "submitin e7 0", SubmitIn 7 0, codes "ok")
-    ∷ (codes "! pkt k3 81 01020304 ; pkt k3 81 05060708", Steps (Packet 3 129 (1 ∷ 2 ∷ 3 ∷ 4 ∷ []) ∷ Packet 3 129 (5 ∷ 6 ∷ 7 ∷ 8 ∷ []) ∷ []), [])
-    ∷ (codes "! pkt k3 81 0102030405", Steps (Packet 3 129 (1 ∷ 2 ∷ 3 ∷ 4 ∷ 5 ∷ []) ∷ []), [])
-    ∷ (codes "! pkt k3 81 01020304 ; pkt k3 81 -", Steps (Packet 3 129 (1 ∷ 2 ∷ 3 ∷ 4 ∷ []) ∷ Packet 3 129 [] ∷ []), [])
-    ∷ (codes "! reap ; reap ; reap", Steps (Reap None ∷ Reap None ∷ Reap None ∷ []), [])
-    ∷ (codes "poll e7", Poll 7, codes "done ok 8 8 0102030405060708")
-    ∷ (codes "poll e7", Poll 7, codes "done fault 0 4 -")
-    ∷ (codes "poll e7", Poll 7, codes "done ok 4 8 01020304")
-    ∷ (codes "poll e7", Poll 7, codes "done invalid 0 6 -")
-    ∷ (codes "poll e7", Poll 7, codes "done invalid 0 0 -")
-    ∷ (codes "xferin e7 8 5 : pkt k3 81 01020304 ; clock 5", TransferIn 7 8 5 (Packet 3 129 (1 ∷ 2 ∷ 3 ∷ 4 ∷ []) ∷ Clock 5 ∷ []), codes "done cancelled 4 8 01020304")
+    ((codes "endpoint e7 i9 81 int-in", item.Endpoint 7 9 129 InterruptIn, codes "ok")
+    ∷ (codes "submitin e7 8", item.SubmitIn 7 8, codes "ok")
+    ∷ (codes "submitin e7 4", item.SubmitIn 7 4, codes "ok")
+    ∷ (codes "submitin e7 8", item.SubmitIn 7 8, codes "ok")
+    ∷ (codes "submitin e7 6", item.SubmitIn 7 6, codes "ok")
+    ∷ (codes "submitin e7 0", item.SubmitIn 7 0, codes "ok")
+    ∷ (codes "! pkt k3 81 01020304 ; pkt k3 81 05060708", item.Steps (Packet 3 129 (1 ∷ 2 ∷ 3 ∷ 4 ∷ []) ∷ Packet 3 129 (5 ∷ 6 ∷ 7 ∷ 8 ∷ []) ∷ []), [])
+    ∷ (codes "! pkt k3 81 0102030405", item.Steps (Packet 3 129 (1 ∷ 2 ∷ 3 ∷ 4 ∷ 5 ∷ []) ∷ []), [])
+    ∷ (codes "! pkt k3 81 01020304 ; pkt k3 81 -", item.Steps (Packet 3 129 (1 ∷ 2 ∷ 3 ∷ 4 ∷ []) ∷ Packet 3 129 [] ∷ []), [])
+    ∷ (codes "! reap ; reap ; reap", item.Steps (Reap None ∷ Reap None ∷ Reap None ∷ []), [])
+    ∷ (codes "poll e7", item.Poll 7, codes "done ok 8 8 0102030405060708")
+    ∷ (codes "poll e7", item.Poll 7, codes "done fault 0 4 -")
+    ∷ (codes "poll e7", item.Poll 7, codes "done ok 4 8 01020304")
+    ∷ (codes "poll e7", item.Poll 7, codes "done invalid 0 6 -")
+    ∷ (codes "poll e7", item.Poll 7, codes "done invalid 0 0 -")
+    ∷ (codes "xferin e7 8 5 : pkt k3 81 01020304 ; clock 5", item.TransferIn 7 8 5 (Packet 3 129 (1 ∷ 2 ∷ 3 ∷ 4 ∷ []) ∷ Clock 5 ∷ []), codes "done cancelled 4 8 01020304")
     ∷ []))
     (codes "ticket 0 k3 81 ok 8 taken"
     ∷ codes "ticket 1 k3 81 fault 0 taken"
@@ -420,13 +424,13 @@ packets = (refl, refl)
 -- each acknowledgement takes up to 4 bytes; a failure keeps the count so far
 acknowledgements : IsAnswered
     (with_interface
-    ((codes "endpoint e8 i9 02 int-out", Endpoint 8 9 2 Interrupt Out, codes "ok")
-    ∷ (codes "submitout e8 01020304050607", SubmitOut 8 (1 ∷ 2 ∷ 3 ∷ 4 ∷ 5 ∷ 6 ∷ 7 ∷ []), codes "ok")
-    ∷ (codes "submitout e8 0102030405", SubmitOut 8 (1 ∷ 2 ∷ 3 ∷ 4 ∷ 5 ∷ []), codes "ok")
-    ∷ (codes "! ack k3 02 ; ack k3 02 ; ack k3 02 ; fail k3 02 32", Steps (Ack 3 2 ∷ Ack 3 2 ∷ Ack 3 2 ∷ Fail 3 2 32 ∷ []), [])
-    ∷ (codes "! reap ; reap", Steps (Reap None ∷ Reap None ∷ []), [])
-    ∷ (codes "poll e8", Poll 8, codes "done ok 7 7 01020304050607")
-    ∷ (codes "poll e8", Poll 8, codes "done stall 4 5 0102030405")
+    ((codes "endpoint e8 i9 02 int-out", item.Endpoint 8 9 2 InterruptOut, codes "ok")
+    ∷ (codes "submitout e8 01020304050607", item.SubmitOut 8 (1 ∷ 2 ∷ 3 ∷ 4 ∷ 5 ∷ 6 ∷ 7 ∷ []), codes "ok")
+    ∷ (codes "submitout e8 0102030405", item.SubmitOut 8 (1 ∷ 2 ∷ 3 ∷ 4 ∷ 5 ∷ []), codes "ok")
+    ∷ (codes "! ack k3 02 ; ack k3 02 ; ack k3 02 ; fail k3 02 32", item.Steps (Ack 3 2 ∷ Ack 3 2 ∷ Ack 3 2 ∷ Fail 3 2 32 ∷ []), [])
+    ∷ (codes "! reap ; reap", item.Steps (Reap None ∷ Reap None ∷ []), [])
+    ∷ (codes "poll e8", item.Poll 8, codes "done ok 7 7 01020304050607")
+    ∷ (codes "poll e8", item.Poll 8, codes "done stall 4 5 0102030405")
     ∷ []))
     (codes "ticket 0 k3 02 ok 7 taken"
     ∷ codes "ticket 1 k3 02 stall 4 taken" ∷ [])
@@ -440,18 +444,18 @@ endpoints_of lines = map (λ (h : Handle). (h.endpoint.tickets, h.endpoint.taken
 -- two endpoints under one name, the first closed with two tickets; and one whose tickets are polled, cancelled and transferred
 one_name_twice : endpoints_of
     (with_endpoint
-    ((codes "submitin e0 64", SubmitIn 0 64, codes "ok")
-    ∷ (codes "submitin e0 64", SubmitIn 0 64, codes "ok")
-    ∷ (codes "! pkt k0 81 01 ; reap", Steps (Packet 0 129 (1 ∷ []) ∷ Reap None ∷ []), [])
-    ∷ (codes "poll e0", Poll 0, codes "done ok 1 64 01")
-    ∷ (codes "poll e0", Poll 0, codes "pending")
-    ∷ (codes "close e0", CloseEndpoint 0, codes "ok")
-    ∷ (codes "! reap 1", Steps (Reap (Some 1) ∷ []), [])
-    ∷ (codes "endpoint e0 i0 81 bulk-in", Endpoint 0 0 129 Bulk In, codes "ok")
-    ∷ (codes "xferin e0 64 5", TransferIn 0 64 5 [], codes "done cancelled 0 64 -")
-    ∷ (codes "submitin e0 64", SubmitIn 0 64, codes "ok")
-    ∷ (codes "submitin e0 64", SubmitIn 0 64, codes "ok")
-    ∷ (codes "wait e0 9 : pkt k0 81 02 ; reap", Wait 0 9 (Packet 0 129 (2 ∷ []) ∷ Reap None ∷ []), codes "done ok 1 64 02")
+    ((codes "submitin e0 64", item.SubmitIn 0 64, codes "ok")
+    ∷ (codes "submitin e0 64", item.SubmitIn 0 64, codes "ok")
+    ∷ (codes "! pkt k0 81 01 ; reap", item.Steps (Packet 0 129 (1 ∷ []) ∷ Reap None ∷ []), [])
+    ∷ (codes "poll e0", item.Poll 0, codes "done ok 1 64 01")
+    ∷ (codes "poll e0", item.Poll 0, codes "pending")
+    ∷ (codes "close e0", item.CloseEndpoint 0, codes "ok")
+    ∷ (codes "! reap 1", item.Steps (Reap (Some 1) ∷ []), [])
+    ∷ (codes "endpoint e0 i0 81 bulk-in", item.Endpoint 0 0 129 BulkIn, codes "ok")
+    ∷ (codes "xferin e0 64 5", item.TransferIn 0 64 5 [], codes "done cancelled 0 64 -")
+    ∷ (codes "submitin e0 64", item.SubmitIn 0 64, codes "ok")
+    ∷ (codes "submitin e0 64", item.SubmitIn 0 64, codes "ok")
+    ∷ (codes "wait e0 9 : pkt k0 81 02 ; reap", item.Wait 0 9 (Packet 0 129 (2 ∷ []) ∷ Reap None ∷ []), codes "done ok 1 64 02")
     ∷ []))
     ≡ (0 ∷ 1 ∷ [], 1, with_end (codes "done ok 1 64 01") ∷ [])
     ∷ (2 ∷ 3 ∷ 4 ∷ [], 2, with_end (codes "done cancelled 0 64 -") ∷ with_end (codes "done ok 1 64 02") ∷ [])
@@ -464,9 +468,9 @@ abbrev endpoint_with : ℕ → EndpointState
 endpoint_with n = record { device = 0; address = 129; kind = Bulk; maximum = 64; key = 0; pending = replicate n 0 }
 
 -- a submission is barred from the 65th pending transfer on
-not_full : submit_barred_by [] In (Some (endpoint_with 63)) ≡ false
+not_full : bars_submission [] In (endpoint_with 63) ≡ false
 unfolding unreaped
 not_full = refl
 
-full : submit_barred_by [] In (Some (endpoint_with 64)) ≡ true
+full : bars_submission [] In (endpoint_with 64) ≡ true
 full = refl

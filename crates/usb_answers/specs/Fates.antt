@@ -5,7 +5,7 @@ use Rattle.usb_kernel.specs.Info.{info_of}
 use Rattle.usb_device.specs.declared.ends.TicketEnd.{TicketEnd}
 use Rattle.usb_device.specs.declared.ends.TicketEnd.TheVariants.{Taken, Dropped, Reclaimed}
 use Rattle.usb_kernel.specs.Tickets.{tickets}
-use Rattle.usb_device.specs.HostState.{HostState, HostTicket, Held, Abandoned, Ended}
+use Rattle.usb_device.specs.HostState.{HostState, HostTicket, HeldBy, Abandoned, Ended}
 use Rattle.usb_lines.specs.Tickets.{ticket_line}
 
 abbrev pub end_word : TicketEnd → List ℕ
@@ -16,7 +16,7 @@ end_word Reclaimed = codes "reclaimed"
 -- how a ticket ended, once it has
 abbrev pub ended_word : Option HostTicket → List ℕ
 ended_word None = []
-ended_word (Some (Held hold)) = []
+ended_word (Some (HeldBy hold)) = []
 ended_word (Some (Abandoned key)) = []
 ended_word (Some (Ended end)) = end_word end
 

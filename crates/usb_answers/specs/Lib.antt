@@ -1,5 +1,10 @@
 pub mod Names
 pub mod State
+pub mod Answer
+pub mod OpenAt
+pub mod Now
+pub mod Describes
+pub mod Pending
 pub mod Opens
 pub mod Claims
 pub mod Endpoints
@@ -19,6 +24,7 @@ pub mod Sums
 pub mod SessionState
 pub mod Relation
 pub mod Answered
+pub mod OpenCalls
 pub mod SessionFacts
 pub mod AnyOpened
 pub mod Kinds

@@ -7,7 +7,8 @@ use Rattle.usb_script.specs.declared.item.Item.TheVariants.{Poll}
 use Rattle.usb_lines.specs.Completions.{done_line, polled_line}
 use Rattle.usb_answers.specs.Names.{named}
 use Rattle.usb_answers.specs.State.{State, Endpoint}
-use Rattle.usb_answers.specs.Answers.{Answer, answer}
+use Rattle.usb_answers.specs.Answer.{Answer}
+use Rattle.usb_answers.specs.Answers.{answer}
 use Rattle.usb_answers.specs.Served.{taken_under}
 
 -- a poll answers for the ticket at the place of those that were taken: with the completion that the journal has of it, and `pending`

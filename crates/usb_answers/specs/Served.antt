@@ -17,7 +17,8 @@ use Rattle.usb_device.specs.Finishes.{HasEnds}
 use Rattle.usb_lines.specs.Completions.{polled_line}
 use Rattle.usb_answers.specs.Names.{named}
 use Rattle.usb_answers.specs.State.{State, Endpoint}
-use Rattle.usb_answers.specs.Answers.{Answer, answer}
+use Rattle.usb_answers.specs.Answer.{Answer}
+use Rattle.usb_answers.specs.Answers.{answer}
 use Rattle.usb_answers.specs.Ends.{endpoints_closed}
 use Rattle.usb_answers.specs.Output.{start, final_host}
 

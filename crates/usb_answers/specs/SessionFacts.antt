@@ -13,5 +13,8 @@ abbrev pub session_made : HostState → List (Option ℕ) → List (Option Inter
 session_made host devices interfaces endpoints =
     record { host = host; devices = devices; interfaces = interfaces; endpoints = map (option_map state_of) endpoints }
 
+abbrev pub made_of : Inside → SessionState
+made_of s = session_made s.host s.devices.items s.interfaces.items s.endpoints.items
+
 abbrev pub IsSoundInside : Inside → Type 0
-IsSoundInside s = IsSound (session_made s.host s.devices.items s.interfaces.items s.endpoints.items)
+IsSoundInside s = IsSound (made_of s)

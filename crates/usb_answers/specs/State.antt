@@ -1,12 +1,10 @@
 -- The state that answers depend on.
 use Rattle.std.specs.Prelude.{ℕ, List, Option, drop, length}
-use Rattle.std.specs.Option.{option_map}
 use Rattle.usb_desc.specs.declared.types.TransferType.{TransferType}
 use Rattle.usb_kernel.specs.Tickets.{tickets}
 use Rattle.usb_endpoint.specs.EndpointState.{EndpointState}
 use Rattle.usb_device.specs.HostState.{HostState}
 use Rattle.usb_device.specs.HandleStates.{InterfaceState}
-use Rattle.usb_answers.specs.Names.{named}
 
 -- an open endpoint: where its submissions go, its tickets in the order of submission, and how many of them were taken
 pub record Endpoint : Type 0 where
@@ -34,9 +32,6 @@ abbrev pub kept : Endpoint → EndpointState
 kept e =
     record { device = e.device; address = e.address; kind = e.kind; maximum = e.maximum; key = e.key; pending = pending e }
 
-abbrev pub handle_of : State → ℕ → Option EndpointState
-handle_of state e = option_map kept (named state.endpoints e)
-
 -- the number of tickets
 abbrev pub tickets_of : State → ℕ
 tickets_of state = length (tickets state.host.kernel.past)
@@ -44,8 +39,3 @@ tickets_of state = length (tickets state.host.kernel.past)
 -- the state with another host
 abbrev pub with_host : State → HostState → State
 with_host state host = record state { host = host }
-
--- a state, and what a call gave
-pub record Given (X : Type 0) : Type 0 where
-  pub state : State
-  pub value : X

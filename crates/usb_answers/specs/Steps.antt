@@ -3,6 +3,7 @@ use Rattle.std.specs.Prelude.{List}
 use Rattle.usb_kernel.specs.declared.step.KernelStep.{KernelStep}
 use Rattle.usb_device.specs.HostTurns.{host_rest}
 use Rattle.usb_answers.specs.State.{State, with_host}
+use Rattle.usb_answers.specs.Answer.{Answer, told, silent}
 
 abbrev pub lent : State → List KernelStep → State
 lent state steps = with_host state (record state.host { steps = steps })
@@ -10,6 +11,13 @@ lent state steps = with_host state (record state.host { steps = steps })
 abbrev pub rested : State → State
 rested state = with_host state (host_rest state.host)
 
+-- right after a call
+abbrev pub then_rested : Answer → Answer
+then_rested a = told (rested a.state) a.line
+
 -- a line of steps, and the steps of a barred call: all are applied in order
 unfoldable pub stepped_all : State → List KernelStep → State
 stepped_all state steps = rested (lent state steps)
+
+unfoldable pub steps_answer : State → List KernelStep → Answer
+steps_answer state steps = silent (stepped_all state steps)

@@ -1,5 +1,5 @@
 -- `submitin` and `submitout`: a transfer is handed in.
-use Rattle.std.specs.Prelude.{ℕ, nat_le, not, ◌||◌, Bool, true, List, [], ◌∷◌, ◌++◌, length, Option, Some, None}
+use Rattle.std.specs.Prelude.{ℕ, nat_le, not, ◌||◌, Bool, List, [], ◌∷◌, ◌++◌, length, if◌then◌else◌}
 use Rattle.usb_desc.specs.declared.types.Direction.{Direction}
 use Rattle.usb_desc.specs.Fields.{direction_of_address}
 use Rattle.usb_xfer.specs.BufferState.{BufferState}
@@ -9,33 +9,32 @@ use Rattle.usb_endpoint.specs.EndpointState.{EndpointState}
 use Rattle.usb_endpoint.specs.Submits.{entered}
 use Rattle.usb_device.specs.HostCalls.{host_submitted, host_refused}
 use Rattle.usb_device.specs.EndpointRefusals.{same_direction}
-use Rattle.usb_answers.specs.Names.{change_named}
-use Rattle.usb_answers.specs.State.{State, Endpoint, handle_of, tickets_of}
+use Rattle.usb_answers.specs.Names.{named, change_named}
+use Rattle.usb_answers.specs.State.{State, Endpoint, kept, tickets_of}
+use Rattle.usb_answers.specs.Answer.{Answer, barred, ok_answer, if_open}
 
 -- whether the endpoint has this direction
 abbrev pub has_direction : Direction → EndpointState → Bool
-has_direction direction e = same_direction (direction_of_address e.address) direction
+has_direction direction h = same_direction (direction_of_address h.address) direction
 
--- it is barred where the endpoint is not open, where it has the other direction, where 64 transfers of it are pending, or where 1,024 tickets are unreaped
-abbrev pub submit_barred_by : List Event → Direction → Option EndpointState → Bool
-submit_barred_by past direction None = true
-submit_barred_by past direction (Some e) =
-    not (has_direction direction e) || (nat_le 64 (length e.pending) || nat_le 1024 (unreaped past))
+-- it is barred where the endpoint is not open or has the other direction, where 64 transfers of it are pending, or where 1,024 tickets are unreaped
+abbrev pub bars_submission : List Event → Direction → EndpointState → Bool
+bars_submission past direction h = not (has_direction direction h) || (nat_le 64 (length h.pending) || nat_le 1024 (unreaped past))
 
-unfoldable pub submit_barred : State → Direction → ℕ → Bool
-submit_barred state direction e = submit_barred_by state.host.kernel.past direction (handle_of state e)
-
-abbrev pub with_ticket : ℕ → Endpoint → Endpoint
-with_ticket t e = record e { tickets = e.tickets ++ t ∷ [] }
+abbrev pub with_submission : ℕ → Endpoint → Endpoint
+with_submission t h = record h { tickets = h.tickets ++ t ∷ [] }
 
 -- the buffer gets the next number, which goes to the end of the endpoint's tickets
-abbrev pub submitted_at : State → ℕ → BufferState → Option EndpointState → State
-submitted_at state e b None = state
-submitted_at state e b (Some h) =
+abbrev pub submitted : State → ℕ → BufferState → Endpoint → State
+submitted state e b h =
     record state {
-      host = entered host_submitted host_refused state.host h b;
-      endpoints = change_named (with_ticket (tickets_of state)) state.endpoints e;
+      host = entered host_submitted host_refused state.host (kept h) b;
+      endpoints = change_named (with_submission (tickets_of state)) state.endpoints e;
     }
 
-unfoldable pub submitted : State → ℕ → BufferState → State
-submitted state e b = submitted_at state e b (handle_of state e)
+abbrev pub submit_on : State → Direction → ℕ → BufferState → Endpoint → Answer
+submit_on state direction e b h =
+    if bars_submission state.host.kernel.past direction (kept h) then barred state else ok_answer (submitted state e b h)
+
+unfoldable pub submit_answer : State → Direction → ℕ → BufferState → Answer
+submit_answer state direction e b = if_open (named state.endpoints e) (submit_on state direction e b) (barred state)

@@ -6,7 +6,7 @@ use Rattle.usb_script.specs.declared.item.Item.{Item}
 use Rattle.usb_script.specs.ItemKinds.{is_call}
 use Rattle.usb_device.specs.declared.ends.TicketEnd.{TicketEnd}
 use Rattle.usb_device.specs.declared.ends.TicketEnd.TheVariants.{Taken, Dropped, Reclaimed}
-use Rattle.usb_device.specs.HostState.{HostState, HostTicket, Held, Abandoned, Ended}
+use Rattle.usb_device.specs.HostState.{HostState, HostTicket, HeldBy, Abandoned, Ended}
 use Rattle.usb_device.specs.Finishes.{HasEnds}
 use Rattle.usb_answers.specs.declared.summary.Summary.{Summary}
 use Rattle.usb_answers.specs.Output.{final_host}
@@ -19,7 +19,7 @@ is_same_end a b = false
 
 -- whether a ticket has this end
 abbrev pub has_end : TicketEnd → HostTicket → Bool
-has_end end (Held hold) = false
+has_end end (HeldBy hold) = false
 has_end end (Abandoned key) = false
 has_end end (Ended its) = is_same_end its end
 

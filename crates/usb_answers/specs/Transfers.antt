@@ -1,8 +1,7 @@
--- `xferin` and `xferout`: a blocking transfer.
-use Rattle.std.specs.Prelude.{ℕ, ◌+◌, ◌==◌, nat_le, not, ◌||◌, Bool, true, List, [], ◌∷◌, ◌++◌, length, Option, Some, None}
+-- `xferin` and `xferout`: a blocking transfer, with the steps of the line.
+use Rattle.std.specs.Prelude.{ℕ, ◌+◌, ◌==◌, nat_le, not, ◌||◌, Bool, List, [], ◌∷◌, ◌++◌, length, if◌then◌else◌}
 use Rattle.usb_desc.specs.declared.types.Direction.{Direction}
 use Rattle.usb_xfer.specs.BufferState.{BufferState}
-use Rattle.usb_xfer.specs.declared.transfer.Completion.{Completion}
 use Rattle.usb_kernel.specs.declared.event.Event.{Event}
 use Rattle.usb_kernel.specs.declared.step.KernelStep.{KernelStep}
 use Rattle.usb_kernel.specs.Info.{unreaped}
@@ -13,43 +12,38 @@ use Rattle.usb_device.specs.HostState.{HostState}
 use Rattle.usb_device.specs.HostCalls.{host_submitted, host_refused}
 use Rattle.usb_device.specs.HostBlocking.{host_blocked}
 use Rattle.usb_device.specs.TicketEnds.{host_taken}
-use Rattle.usb_answers.specs.Names.{change_named}
-use Rattle.usb_answers.specs.State.{State, Endpoint, Given, handle_of, tickets_of}
+use Rattle.usb_lines.specs.Completions.{waited_line}
+use Rattle.usb_answers.specs.Names.{named, change_named}
+use Rattle.usb_answers.specs.State.{State, Endpoint, kept, tickets_of}
+use Rattle.usb_answers.specs.Answer.{Answer, told, barred, if_open}
 use Rattle.usb_answers.specs.Submits.{has_direction}
-use Rattle.usb_answers.specs.Steps.{lent, rested}
+use Rattle.usb_answers.specs.Steps.{lent, then_rested, stepped_all}
 
--- it is barred where the endpoint is not open, where it has the other direction, where a transfer of it is pending, or where 1,024 tickets are unreaped
-abbrev pub transfer_barred_by : List Event → Direction → Option EndpointState → Bool
-transfer_barred_by past direction None = true
-transfer_barred_by past direction (Some e) =
-    not (has_direction direction e) || (not (length e.pending == 0) || nat_le 1024 (unreaped past))
-
-unfoldable pub transfer_barred : State → Direction → ℕ → Bool
-transfer_barred state direction e = transfer_barred_by state.host.kernel.past direction (handle_of state e)
+-- it is barred where the endpoint is not open or has the other direction, where a transfer of it is pending, or where 1,024 tickets are unreaped
+abbrev pub bars_transfer : List Event → Direction → EndpointState → Bool
+bars_transfer past direction h = not (has_direction direction h) || (not (length h.pending == 0) || nat_le 1024 (unreaped past))
 
 -- a ticket came and was taken
 abbrev pub with_taken : ℕ → Endpoint → Endpoint
-with_taken t e = record e { tickets = e.tickets ++ t ∷ []; taken = e.taken + 1 }
+with_taken t h = record h { tickets = h.tickets ++ t ∷ []; taken = h.taken + 1 }
 
-abbrev pub transfer_ended : State → ℕ → ℕ → HostState → Given (Option Completion)
+-- its completion is printed, which it has then
+abbrev pub transfer_ended : State → ℕ → ℕ → HostState → Answer
 transfer_ended state e t host =
-    record {
-      state = record state { host = host_taken host t; endpoints = change_named (with_taken t) state.endpoints e };
-      value = transfer_completion host.kernel.past t;
-    }
+    told (record state { host = host_taken host t; endpoints = change_named (with_taken t) state.endpoints e })
+    (waited_line (transfer_completion host.kernel.past t))
 
-abbrev pub transferred_at : State → ℕ → BufferState → ℕ → Option EndpointState → Given (Option Completion)
-transferred_at state e b timeout None = record { state = state; value = None }
-transferred_at state e b timeout (Some h) =
-    transfer_ended state e (tickets_of state) (host_blocked (entered host_submitted host_refused state.host h b) (tickets_of state) timeout)
+-- the buffer gets the next number, and its completion is waited for
+abbrev pub transferred : State → ℕ → BufferState → ℕ → Endpoint → Answer
+transferred state e b timeout h =
+    transfer_ended state e (tickets_of state)
+    (host_blocked (entered host_submitted host_refused state.host (kept h) b) (tickets_of state) timeout)
 
-abbrev pub transferred_lent : State → ℕ → BufferState → ℕ → Given (Option Completion)
-transferred_lent state e b timeout = transferred_at state e b timeout (handle_of state e)
+abbrev pub transfer_on : State → Direction → ℕ → BufferState → ℕ → Endpoint → Answer
+transfer_on state direction e b timeout h =
+    if bars_transfer state.host.kernel.past direction (kept h) then barred state else transferred state e b timeout h
 
--- with the steps of the line
-unfoldable pub transferred : State → ℕ → BufferState → ℕ → List KernelStep → Given (Option Completion)
-transferred state e b timeout steps =
-    record {
-      state = rested (transferred_lent (lent state steps) e b timeout).state;
-      value = (transferred_lent (lent state steps) e b timeout).value;
-    }
+-- the steps of a barred call are applied all the same
+unfoldable pub transfer_answer : State → Direction → ℕ → BufferState → ℕ → List KernelStep → Answer
+transfer_answer state direction e b timeout steps =
+    if_open (named state.endpoints e) (λ h. then_rested (transfer_on (lent state steps) direction e b timeout h)) (barred (stepped_all state steps))

@@ -1,24 +1,23 @@
 //! The buffers that a script's transfers hand in.
 
-ghost use Rattle.std.specs.Prelude.{◌≡◌, ◌≤◌, IfOk, length};
+ghost use Rattle.std.specs.Prelude.{◌≡◌, IfOk};
 ghost use Rattle.usb_answers.specs.Buffers.{in_buffer, out_buffer};
 
 use std::alloc::Global;
 use usb_desc::NoMemory;
+use usb_script::{Data, Length};
 use usb_xfer::Buffer;
 
 /// An empty buffer that asks for so many bytes.
-pub fn in_buffer(alloc: Global, len: u32) -> Result<Buffer, NoMemory>
-    requires small { len ≤ 65536 }
-    ensures value { IfOk result (λ b. b ≡ in_buffer len) }
+pub fn in_buffer(alloc: Global, length: Length) -> Result<Buffer, NoMemory>
+    ensures value { IfOk result (λ b. b ≡ in_buffer length) }
 {
-    Buffer::new(alloc, len as usize)
+    Buffer::new(alloc, length.bytes() as usize)
 }
 
 /// A buffer with these bytes.
-pub fn out_buffer(alloc: Global, bytes: &[u8]) -> Result<Buffer, NoMemory>
-    requires small { length bytes.now ≤ 65536 }
-    ensures value { IfOk result (λ b. b ≡ out_buffer bytes.now) }
+pub fn out_buffer(bytes: Data) -> Buffer
+    ensures value { result ≡ out_buffer bytes }
 {
-    Buffer::from_slice(alloc, bytes)
+    Buffer::from_vec(bytes.into_bytes().into_vec())
 }

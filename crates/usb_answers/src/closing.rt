@@ -1,58 +1,81 @@
-//! `pending`, `cancel` and `close`.
+//! `cancel` and `close`.
 
-ghost use Rattle.std.specs.Prelude.{◌≡◌, false, is_none, length};
-ghost use Rattle.std.specs.Option.{option_map};
-ghost use Rattle.usb_endpoint.specs.EndpointState.{EndpointState};
+ghost use Rattle.std.specs.Prelude.{◌≡◌, is_some};
+ghost use Rattle.usb_endpoint.specs.Handles.{Stands};
+ghost use Rattle.usb_endpoint.specs.AnyEndpoints.{state_of};
+ghost use Rattle.usb_device.specs.HostBus.{bus_of};
 ghost use Rattle.usb_answers.specs.State.{State};
 ghost use Rattle.usb_answers.specs.Names.{named, freed};
-ghost use Rattle.usb_answers.specs.Closes.{cancelled, closed};
+ghost use Rattle.usb_answers.specs.Answer.{ok_answer};
+ghost use Rattle.usb_answers.specs.Closes.{cancelled, cancel_answer, closed, close_answer};
 ghost use Rattle.usb_answers.specs.Relation.{Represents};
+ghost use Rattle.usb_answers.specs.Answered.{Answers};
+ghost use Rattle.usb_answers.specs.OpenCalls.{CallKeeps, CallAnswers};
 
-use crate::names::{open_at, put_at, take_at};
+use crate::names::{put_at, take_at};
 use crate::session::Session;
+use usb_desc::NoMemory;
+use usb_device::Host;
+use usb_endpoint::AnyEndpoint;
+use usb_lines::{write_condition, write_ok};
+use usb_script::Name;
+
+/// Discards the pending transfers of an endpoint that is open.
+fn cancel_open(
+    endpoint: &mut AnyEndpoint,
+    host: &mut Host,
+    line: &mut String,
+) -> Result<(), NoMemory>
+    requires stands { Stands (bus_of host.old) (state_of endpoint.old) }
+    ensures keeps { CallKeeps host.old host.new (state_of endpoint.old) (state_of endpoint.new) }
+    ensures answered { CallAnswers host.old host.new (state_of endpoint.old) (state_of endpoint.new)
+        line.old line.new result (λ state e h. ok_answer (cancelled state h)) }
+{
+    endpoint.cancel_all(host);
+    write_ok(line)
+}
 
 impl Session {
-    /// Whether no endpoint is open under a name.
-    pub fn is_not_open(&self, endpoint: u8) -> bool
-        ensures barred { result ≡ is_none (named self.now.endpoints endpoint) }
-    {
-        match open_at(&self.endpoints, endpoint) {
-            Some(_) => false,
-            None => true,
-        }
-    }
-
-    /// How many transfers of an endpoint are pending, where it is open.
-    pub fn pending(&self, endpoint: u8) -> Option<usize>
-        ensures count { result ≡ option_map (λ (h : EndpointState). length h.pending) (named self.now.endpoints endpoint) }
-    {
-        match open_at(&self.endpoints, endpoint) {
-            Some(endpoint) => Some(endpoint.pending()),
-            None => None,
-        }
-    }
-
-    /// Discards the pending transfers of an endpoint, from the last to the first.
-    pub fn cancel(&mut self, name: u8)
-        requires open { is_none (named self.old.endpoints name) ≡ false }
-        ensures stands { (state : State) → Represents self.old state → Represents self.new (cancelled state name) }
+    /// `cancel`: the pending transfers of an endpoint are discarded, from the last to the first.
+    pub(crate) fn cancel(&mut self, line: &mut String, name: Name) -> Result<(), NoMemory>
+        ensures answered { Answers self.old self.new line.old line.new result
+            (λ state. cancel_answer state name) }
         ensures spare { self.new.host.kernel.spare ≡ self.old.host.kernel.spare }
     {
-        let Some(mut endpoint) = take_at(&mut self.endpoints, name) else {
-            unreachable!()
+        let number = name.number();
+        let Some(mut endpoint) = take_at(&mut self.endpoints, number) else {
+            return write_condition(line);
         };
-        endpoint.cancel_all(&mut self.host);
-        put_at(&mut self.endpoints, name, endpoint);
+        let cancelled = cancel_open(&mut endpoint, &mut self.host, line);
+        put_at(&mut self.endpoints, number, endpoint);
+        cancelled
     }
 
-    /// Closes what is open under a name of an endpoint, if anything is.
-    pub fn close(&mut self, name: u8)
-        ensures stands { (state : State) → Represents self.old state → Represents self.new (closed state name) }
-        ensures freed { self.new.endpoints ≡ freed self.old.endpoints name }
+    /// Closes what is open under the number of an endpoint's name, and says whether anything was.
+    pub(crate) fn close_endpoint(&mut self, number: u8) -> bool
+        ensures was_open { result ≡ is_some (named self.old.endpoints number) }
+        ensures stands { (state : State) → Represents self.old state →
+            Represents self.new (closed state number) }
+        ensures freed { self.new.endpoints ≡ freed self.old.endpoints number }
         ensures spare { self.new.host.kernel.spare ≡ self.old.host.kernel.spare }
     {
-        if let Some(endpoint) = take_at(&mut self.endpoints, name) {
-            endpoint.close(&mut self.host);
+        let Some(endpoint) = take_at(&mut self.endpoints, number) else {
+            return false;
+        };
+        endpoint.close(&mut self.host);
+        true
+    }
+
+    /// `close`: the pending transfers of an endpoint are discarded and given up, and it is left.
+    pub(crate) fn close(&mut self, line: &mut String, name: Name) -> Result<(), NoMemory>
+        ensures answered { Answers self.old self.new line.old line.new result
+            (λ state. close_answer state name) }
+        ensures spare { self.new.host.kernel.spare ≡ self.old.host.kernel.spare }
+    {
+        if self.close_endpoint(name.number()) {
+            write_ok(line)
+        } else {
+            write_condition(line)
         }
     }
 }

@@ -1,39 +1,36 @@
 //! `devdesc` and `descriptors`: what an open device told of itself.
 
-ghost use Rattle.std.specs.Prelude.{◌≡◌, IfOk, string_bytes};
+ghost use Rattle.std.specs.Prelude.{◌≡◌, OnOk, string_bytes};
 ghost use Rattle.usb_answers.specs.State.{State};
 ghost use Rattle.usb_answers.specs.Answered.{Answers};
-ghost use Rattle.usb_answers.specs.Answers.{device_descriptor_answer, descriptors_answer};
-ghost use Rattle.usb_answers.specs.Relation.{Represents};
+ghost use Rattle.usb_answers.specs.Describes.{device_descriptor_answer, descriptors_answer};
 
 use crate::names::open_at;
 use crate::session::Session;
-use std::alloc::Global;
 use usb_desc::NoMemory;
-use usb_lines::{condition_line, descriptors_line, device_line};
+use usb_lines::{write_condition, write_descriptors, write_device};
+use usb_script::Name;
 
 impl Session {
-    /// The device descriptor of an open device.
-    pub fn device_descriptor_line(&self, alloc: Global, name: u8) -> Result<String, NoMemory>
-        ensures answered { Answers self.now self.now result (λ state. device_descriptor_answer state name) }
+    /// `devdesc`: the device descriptor of an open device.
+    pub(crate) fn device_descriptor(&self, line: &mut String, device: Name) -> Result<(), NoMemory>
+        ensures answered { Answers self.now self.now line.old line.new result
+            (λ state. device_descriptor_answer state device) }
     {
-        let Some(device) = open_at(&self.devices, name) else {
-            let line = condition_line(alloc)?;
-            return Ok(line);
+        let Some(device) = open_at(&self.devices, device.number()) else {
+            return write_condition(line);
         };
-        let line = device_line(alloc, device.device_descriptor(&self.host))?;
-        Ok(line)
+        write_device(line, device.device_descriptor(&self.host))
     }
 
-    /// The configurations of an open device, with their interfaces and endpoints.
-    pub fn descriptors_line(&self, alloc: Global, name: u8) -> Result<String, NoMemory>
-        ensures answered { Answers self.now self.now result (λ state. descriptors_answer state name) }
+    /// `descriptors`: the configurations of an open device, with their interfaces and endpoints.
+    pub(crate) fn descriptors(&self, line: &mut String, device: Name) -> Result<(), NoMemory>
+        ensures answered { Answers self.now self.now line.old line.new result
+            (λ state. descriptors_answer state device) }
     {
-        let Some(device) = open_at(&self.devices, name) else {
-            let line = condition_line(alloc)?;
-            return Ok(line);
+        let Some(device) = open_at(&self.devices, device.number()) else {
+            return write_condition(line);
         };
-        let line = descriptors_line(alloc, device.descriptors(&self.host))?;
-        Ok(line)
+        write_descriptors(line, device.descriptors(&self.host))
     }
 }

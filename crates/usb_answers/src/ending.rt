@@ -30,7 +30,8 @@ fn close_devices(devices: Vec<Option<Device>>, host: &mut Host)
 impl Session {
     /// Closes what is open under a name of an interface, if anything is.
     fn close_interface(&mut self, name: u8)
-        ensures stands { (state : State) → Represents self.old state → Represents self.new (interface_closed state name) }
+        ensures stands { (state : State) → Represents self.old state →
+            Represents self.new (interface_closed state name) }
         ensures freed { self.new.interfaces ≡ freed self.old.interfaces name }
         ensures endpoints { self.new.endpoints ≡ self.old.endpoints }
     {
@@ -41,17 +42,19 @@ impl Session {
 
     /// Closes the endpoints by number.
     fn close_endpoints(&mut self)
-        ensures stands { (state : State) → Represents self.old state → Represents self.new (endpoints_closed state 64) }
+        ensures stands { (state : State) → Represents self.old state →
+            Represents self.new (endpoints_closed state 64) }
         ensures none { (e : ℕ) → e < 64 → named self.new.endpoints e ≡ None }
     {
         for name in 0..64 {
-            self.close(name);
+            self.close_endpoint(name);
         }
     }
 
     /// Closes the interfaces by number.
     fn close_interfaces(&mut self)
-        ensures stands { (state : State) → Represents self.old state → Represents self.new (interfaces_closed state 64) }
+        ensures stands { (state : State) → Represents self.old state →
+            Represents self.new (interfaces_closed state 64) }
         ensures none { (i : ℕ) → i < 64 → named self.new.interfaces i ≡ None }
         ensures endpoints { self.new.endpoints ≡ self.old.endpoints }
     {
@@ -64,7 +67,8 @@ impl Session {
     /// tickets are discarded and then reaped, by number. Then each ticket has its completion and its end.
     pub fn end(self) -> Host
         ensures host { (state : State) → Represents self state → result ≡ ended state }
-        ensures ended { (state : State) → Represents self state → Accounted state → HasEnds result.tickets }
+        ensures ended { (state : State) → Represents self state → Accounted state →
+            HasEnds result.tickets }
         ensures reaped { HasCompletions result.kernel.past }
     {
         let mut session = self;

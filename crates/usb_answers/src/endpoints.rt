@@ -1,98 +1,88 @@
 //! `endpoint`: an endpoint of a claimed interface is opened.
 
-ghost use Rattle.std.specs.Prelude.{◌≡◌, ◌||◌, not, is_none, false, slice_get, length, IfOk, OnOk, OnErr};
-ghost use Rattle.std.specs.Option.{ForSome};
-ghost use Rattle.usb_endpoint.specs.EndpointState.{EndpointState};
+ghost use Rattle.std.specs.Prelude.{◌≡◌, OnOk, IfOk, string_bytes};
+ghost use Rattle.usb_script.specs.EndpointKinds.{transfer_type_of, direction_of};
 ghost use Rattle.usb_endpoint.specs.Handles.{Stands, KeepsOthers};
 ghost use Rattle.usb_endpoint.specs.AnyEndpoints.{state_of};
 ghost use Rattle.usb_device.specs.HostBus.{bus_of};
 ghost use Rattle.usb_device.specs.HandleStates.{StandsInterface};
-ghost use Rattle.usb_device.specs.EndpointOpens.{host_asked, host_tries, with_endpoint, fresh_endpoint};
-ghost use Rattle.usb_device.specs.Tried.{Tried, mapped};
-ghost use Rattle.usb_script.specs.ItemRanges.{IsOpenable};
+ghost use Rattle.usb_device.specs.EndpointOpens.{OpensEndpoint};
+ghost use Rattle.usb_error.specs.Outcomes.{result_map};
 ghost use Rattle.usb_answers.specs.State.{State};
-ghost use Rattle.usb_answers.specs.Names.{named, is_free};
-ghost use Rattle.usb_answers.specs.Endpoints.{endpoint_opened};
-ghost use Rattle.usb_answers.specs.AnyOpened.{maximum_of};
-ghost use Rattle.usb_answers.specs.Relation.{Represents, Tries};
+ghost use Rattle.usb_answers.specs.Answered.{Answers};
+ghost use Rattle.usb_answers.specs.Endpoints.{endpoint_answer};
 
 use crate::names::{is_free, open_at, put_at};
 use crate::session::Session;
-use usb_desc::{Direction, Fail, TransferType};
+use usb_desc::{Fail, NoMemory};
 use usb_device::{Host, Interface};
 use usb_endpoint::AnyEndpoint;
 use usb_error::Error;
+use usb_lines::{write_condition, write_error, write_ok};
+use usb_script::{EndpointKind, Name};
 
-/// Opens an endpoint of an interface, of any type and direction that there is.
+/// Opens an endpoint of an interface, of any kind that a script names.
 fn open_any(
     host: &mut Host,
     interface: &Interface,
     address: u8,
-    kind: TransferType,
-    direction: Direction,
+    kind: EndpointKind,
 ) -> Result<AnyEndpoint, Fail<Error>>
     requires stands { StandsInterface host.old interface.now }
-    requires openable { IsOpenable kind }
-    ensures tried { ForSome (slice_get host.old.interfaces interface.now.key) (λ c. Tried (mapped maximum_of result) (host_tries (host_asked host.old c.opened) interface.now.key c address kind direction)) }
-    ensures endpoint { ForSome (slice_get host.old.interfaces interface.now.key) (λ c. IfOk result (λ e. state_of e ≡ fresh_endpoint c address kind (maximum_of e) (length host.old.endpoints))) }
-    ensures ok { ForSome (slice_get host.old.interfaces interface.now.key) (λ c. OnOk result (host.new ≡ with_endpoint (host_asked host.old c.opened) interface.now.key address)) }
-    ensures err { ForSome (slice_get host.old.interfaces interface.now.key) (λ c. OnErr result (host.new ≡ host_asked host.old c.opened)) }
+    ensures opens { OpensEndpoint host.old host.new interface.now.key address
+        (transfer_type_of kind) (direction_of kind) (result_map state_of result) }
     ensures stands { IfOk result (λ e. Stands (bus_of host.new) (state_of e)) }
-    ensures others { IfOk result (λ e. KeepsOthers (bus_of host.old) (bus_of host.new) (state_of e).key) }
+    ensures others { IfOk result
+        (λ e. KeepsOthers (bus_of host.old) (bus_of host.new) (state_of e).key) }
 {
-    match (kind, direction) {
-        (TransferType::Bulk, Direction::In) => match interface.endpoint(host, address) {
+    match kind {
+        EndpointKind::BulkIn => match interface.endpoint(host, address) {
             Ok(endpoint) => Ok(AnyEndpoint::BulkIn(endpoint)),
             Err(error) => Err(error),
         },
-        (TransferType::Bulk, Direction::Out) => match interface.endpoint(host, address) {
+        EndpointKind::BulkOut => match interface.endpoint(host, address) {
             Ok(endpoint) => Ok(AnyEndpoint::BulkOut(endpoint)),
             Err(error) => Err(error),
         },
-        (TransferType::Interrupt, Direction::In) => match interface.endpoint(host, address) {
+        EndpointKind::InterruptIn => match interface.endpoint(host, address) {
             Ok(endpoint) => Ok(AnyEndpoint::InterruptIn(endpoint)),
             Err(error) => Err(error),
         },
-        (TransferType::Interrupt, Direction::Out) => match interface.endpoint(host, address) {
+        EndpointKind::InterruptOut => match interface.endpoint(host, address) {
             Ok(endpoint) => Ok(AnyEndpoint::InterruptOut(endpoint)),
             Err(error) => Err(error),
         },
-        _ => unreachable!(),
     }
 }
 
 impl Session {
-    /// Whether an opening is barred: the endpoint's name is in use, or the interface isn't claimed.
-    pub fn endpoint_is_barred(&self, name: u8, interface: u8) -> bool
-        ensures barred { result ≡ (not (is_free self.now.endpoints name) || is_none (named self.now.interfaces interface)) }
-    {
-        let is_claimed = open_at(&self.interfaces, interface).is_some();
-        !is_free(&self.endpoints, name) || !is_claimed
-    }
-
-    /// Opens an endpoint of a claimed interface under a name.
-    pub fn open_endpoint(
+    /// `endpoint`: an endpoint of a claimed interface is opened under a name that is free.
+    pub(crate) fn endpoint(
         &mut self,
-        name: u8,
-        interface: u8,
+        line: &mut String,
+        name: Name,
+        interface: Name,
         address: u8,
-        kind: TransferType,
-        direction: Direction,
-    ) -> Result<(), Fail<Error>>
-        requires allowed { (not (is_free self.old.endpoints name) || is_none (named self.old.interfaces interface)) ≡ false }
-        requires openable { IsOpenable kind }
-        ensures tried { (state : State) → Represents self.old state → Tries self.new result (endpoint_opened state name interface address kind direction) }
+        kind: EndpointKind,
+    ) -> Result<(), NoMemory>
+        ensures answered { Answers self.old self.new line.old line.new result
+            (λ state. endpoint_answer state name interface address
+            (transfer_type_of kind) (direction_of kind)) }
         ensures spare { self.new.host.kernel.spare ≡ self.old.host.kernel.spare }
     {
-        let Some(interface) = open_at(&self.interfaces, interface) else {
-            unreachable!()
+        let Some(interface) = open_at(&self.interfaces, interface.number()) else {
+            return write_condition(line);
         };
-        match open_any(&mut self.host, interface, address, kind, direction) {
+        if !is_free(&self.endpoints, name.number()) {
+            return write_condition(line);
+        }
+        match open_any(&mut self.host, interface, address, kind) {
             Ok(endpoint) => {
-                put_at(&mut self.endpoints, name, endpoint);
-                Ok(())
+                put_at(&mut self.endpoints, name.number(), endpoint);
+                write_ok(line)
             }
-            Err(error) => Err(error),
+            Err(Fail::Cause(error)) => write_error(line, &error),
+            Err(Fail::Memory) => Err(NoMemory),
         }
     }
 }

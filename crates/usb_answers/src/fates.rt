@@ -1,14 +1,13 @@
 //! The fate of each ticket, read from a host.
 
-ghost use Rattle.std.specs.Prelude.{◌≡◌, ◌<◌, IfOk, length, string_bytes};
+ghost use Rattle.std.specs.Prelude.{◌≡◌, ◌<◌, ◌++◌, OnOk, length, string_bytes};
 ghost use Rattle.usb_kernel.specs.Tickets.{tickets};
 ghost use Rattle.usb_answers.specs.Fates.{fate_line};
 ghost use Rattle.usb_answers.specs.EndWords.{word_of};
 
-use std::alloc::Global;
 use usb_desc::NoMemory;
 use usb_device::{Host, TicketEnd};
-use usb_lines::ticket_line;
+use usb_lines::write_ticket;
 
 /// How a ticket ended.
 fn word_of(end: Option<TicketEnd>) -> &'static str
@@ -29,15 +28,13 @@ pub fn tickets(host: &Host) -> u64
     host.tickets()
 }
 
-/// The fate line of a ticket, with its LF.
-pub fn fate_line(alloc: Global, host: &Host, ticket: u64) -> Result<String, NoMemory>
+/// Appends the fate line of a ticket, with its LF.
+pub fn write_fate(line: &mut String, host: &Host, ticket: u64) -> Result<(), NoMemory>
     requires below { ticket < length (tickets host.now.kernel.past) }
-    ensures line { IfOk result (λ line. string_bytes line ≡ fate_line host.now ticket) }
+    ensures line { OnOk result
+        (string_bytes line.new ≡ string_bytes line.old ++ fate_line host.now ticket) }
 {
     let info = host.kernel().ticket(ticket);
     let how = word_of(host.ticket_end(ticket));
-    match ticket_line(alloc, ticket, &info, how) {
-        Ok(line) => Ok(line),
-        Err(_) => Err(NoMemory),
-    }
+    write_ticket(line, ticket, &info, how)
 }

@@ -3,7 +3,6 @@
 #![tactic(auto)]
 
 mod answer;
-mod answering;
 mod buffers;
 mod claiming;
 mod closing;
@@ -13,6 +12,7 @@ mod endpoints;
 mod fates;
 mod laws;
 mod names;
+mod now;
 mod opening;
 mod polling;
 mod session;
@@ -22,7 +22,7 @@ mod summary;
 mod transferring;
 mod waiting;
 
-pub use fates::{fate_line, tickets};
+pub use fates::{tickets, write_fate};
 pub use laws::{
     each_ticket_is_accounted_for, fates_are_final, handles_are_served_in_order, scripts_go_on,
 };

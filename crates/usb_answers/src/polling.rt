@@ -1,60 +1,63 @@
-//! `poll`: the oldest pending transfer is taken.
+//! `pending` and `poll`: the transfers of an endpoint that were submitted and not taken.
 
-ghost use Rattle.std.specs.Prelude.{◌≡◌, false, IfOk, string_bytes};
-ghost use Rattle.usb_answers.specs.State.{State};
-ghost use Rattle.usb_answers.specs.Names.{named};
-ghost use Rattle.usb_answers.specs.Polls.{poll_barred_by, polled};
+ghost use Rattle.std.specs.Prelude.{◌≡◌, slice_get};
+ghost use Rattle.usb_endpoint.specs.Handles.{Stands};
+ghost use Rattle.usb_endpoint.specs.AnyEndpoints.{state_of};
+ghost use Rattle.usb_device.specs.HostBus.{bus_of};
+ghost use Rattle.usb_answers.specs.Pending.{pending_answer};
+ghost use Rattle.usb_answers.specs.Polls.{polled, poll_answer};
 ghost use Rattle.usb_answers.specs.Answered.{Answers};
-ghost use Rattle.usb_answers.specs.Answers.{poll_answer};
-ghost use Rattle.usb_answers.specs.Relation.{Represents, Gave};
+ghost use Rattle.usb_answers.specs.OpenCalls.{CallKeeps, CallAnswers};
 
 use crate::names::{open_at, put_at, take_at};
 use crate::session::Session;
 use futures::task::Poll;
-use std::alloc::Global;
 use usb_desc::NoMemory;
-use usb_lines::{condition_line, polled_line};
-use usb_xfer::Completion;
+use usb_device::Host;
+use usb_endpoint::AnyEndpoint;
+use usb_lines::{write_condition, write_count, write_polled};
+use usb_script::Name;
+
+/// Polls an endpoint that is open.
+fn poll_open(endpoint: &mut AnyEndpoint, host: &mut Host, line: &mut String) -> Result<(), NoMemory>
+    requires stands { Stands (bus_of host.old) (state_of endpoint.old) }
+    ensures keeps { CallKeeps host.old host.new (state_of endpoint.old) (state_of endpoint.new) }
+    ensures answered { CallAnswers host.old host.new (state_of endpoint.old) (state_of endpoint.new)
+        line.old line.new result (λ state e h. polled state e (slice_get h.tickets h.taken)) }
+{
+    if endpoint.pending() == 0 {
+        return write_condition(line);
+    }
+    match endpoint.poll_next_complete(host) {
+        Poll::Ready(completion) => write_polled(line, &Some(completion)),
+        Poll::Pending => write_polled(line, &None),
+    }
+}
 
 impl Session {
-    /// Whether a poll or a wait is barred: the endpoint isn't open, or nothing is pending.
-    pub fn poll_is_barred(&self, endpoint: u8) -> bool
-        ensures barred { result ≡ poll_barred_by (named self.now.endpoints endpoint) }
+    /// `pending`: how many transfers of an endpoint are pending.
+    pub(crate) fn pending(&self, line: &mut String, name: Name) -> Result<(), NoMemory>
+        ensures answered { Answers self.now self.now line.old line.new result
+            (λ state. pending_answer state name) }
     {
-        let Some(endpoint) = open_at(&self.endpoints, endpoint) else {
-            return true;
-        };
-        endpoint.pending() == 0
-    }
-
-    /// Takes the oldest pending transfer of an endpoint, where it is reaped.
-    pub fn poll(&mut self, name: u8) -> Option<Completion>
-        requires allowed { poll_barred_by (named self.old.endpoints name) ≡ false }
-        ensures gave { (state : State) → Represents self.old state → Gave self.new result (polled state name) }
-        ensures spare { self.new.host.kernel.spare ≡ self.old.host.kernel.spare }
-    {
-        let Some(mut endpoint) = take_at(&mut self.endpoints, name) else {
-            unreachable!()
-        };
-        let polled = endpoint.poll_next_complete(&mut self.host);
-        put_at(&mut self.endpoints, name, endpoint);
-        match polled {
-            Poll::Ready(completion) => Some(completion),
-            Poll::Pending => None,
+        match open_at(&self.endpoints, name.number()) {
+            Some(endpoint) => write_count(line, endpoint.pending()),
+            None => write_condition(line),
         }
     }
 
-    /// The answer to `poll`.
-    pub(crate) fn poll_line(&mut self, alloc: Global, endpoint: u8) -> Result<String, NoMemory>
-        ensures answered { Answers self.old self.new result (λ state. poll_answer state endpoint) }
+    /// `poll`: the oldest pending transfer of an endpoint is taken, where it is reaped.
+    pub(crate) fn poll(&mut self, line: &mut String, name: Name) -> Result<(), NoMemory>
+        ensures answered { Answers self.old self.new line.old line.new result
+            (λ state. poll_answer state name) }
         ensures spare { self.new.host.kernel.spare ≡ self.old.host.kernel.spare }
     {
-        if self.poll_is_barred(endpoint) {
-            let line = condition_line(alloc)?;
-            return Ok(line);
-        }
-        let done = self.poll(endpoint);
-        let line = polled_line(alloc, &done)?;
-        Ok(line)
+        let number = name.number();
+        let Some(mut endpoint) = take_at(&mut self.endpoints, number) else {
+            return write_condition(line);
+        };
+        let polled = poll_open(&mut endpoint, &mut self.host, line);
+        put_at(&mut self.endpoints, number, endpoint);
+        polled
     }
 }

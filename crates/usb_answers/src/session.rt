@@ -58,7 +58,7 @@ fn device_of_item(alloc: Global, item: &Item) -> Result<Option<(u8, SimDevice)>,
             configuration,
             descriptors,
         } => {
-            let bytes = descriptors.clone()?;
+            let bytes = Bytes::from_slice(alloc, descriptors.as_slice())?;
             let simulated = SimDevice {
                 bus: *bus,
                 address: *address,
@@ -67,7 +67,7 @@ fn device_of_item(alloc: Global, item: &Item) -> Result<Option<(u8, SimDevice)>,
                 bytes,
                 drivers: Bytes::from_vec(Vec::new(alloc)),
             };
-            Ok(Some((*device, simulated)))
+            Ok(Some((device.number(), simulated)))
         }
         _ => Ok(None),
     }

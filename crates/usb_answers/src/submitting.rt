@@ -1,19 +1,23 @@
 //! `submitin` and `submitout`: a transfer is handed in.
 
-ghost use Rattle.std.specs.Prelude.{◌≡◌, ◌||◌, not, nat_le, false, OnOk, OnErr, Bool};
+ghost use Rattle.std.specs.Prelude.{◌≡◌};
 ghost use Rattle.usb_desc.specs.declared.types.Direction.{Direction};
-ghost use Rattle.usb_desc.specs.Fields.{direction_of_address};
+ghost use Rattle.usb_endpoint.specs.Handles.{Stands};
 ghost use Rattle.usb_endpoint.specs.AnyEndpoints.{state_of};
-ghost use Rattle.usb_device.specs.EndpointRefusals.{same_direction};
-ghost use Rattle.usb_answers.specs.State.{State};
-ghost use Rattle.usb_answers.specs.Names.{named};
-ghost use Rattle.usb_answers.specs.Submits.{has_direction, submit_barred_by, submitted};
-ghost use Rattle.usb_answers.specs.Relation.{Represents};
+ghost use Rattle.usb_device.specs.HostBus.{bus_of};
+ghost use Rattle.usb_answers.specs.Buffers.{in_buffer, out_buffer};
+ghost use Rattle.usb_answers.specs.Submits.{has_direction, bars_submission, submit_on, submit_answer};
+ghost use Rattle.usb_answers.specs.Answered.{Answers};
+ghost use Rattle.usb_answers.specs.OpenCalls.{CallKeeps, CallAnswers};
 
-use crate::names::{open_at, put_at, take_at};
+use crate::buffers::{in_buffer, out_buffer};
+use crate::names::{put_at, take_at};
 use crate::session::Session;
 use usb_desc::{Direction, NoMemory};
+use usb_device::Host;
 use usb_endpoint::AnyEndpoint;
+use usb_lines::{write_condition, write_ok};
+use usb_script::{Data, Length, Name};
 use usb_xfer::Buffer;
 
 /// How many transfers of an endpoint may be pending.
@@ -22,60 +26,93 @@ const MOST_PENDING: usize = 64;
 /// How many tickets may be unreaped.
 pub const MOST_UNREAPED: usize = 1024;
 
-/// Whether two directions are the same.
-fn is_same(a: Direction, b: Direction) -> bool
-    ensures same { result ≡ same_direction a b }
-{
-    match a {
-        Direction::Out => matches!(b, Direction::Out),
-        Direction::In => matches!(b, Direction::In),
-    }
-}
-
 /// Whether an endpoint has this direction.
 pub fn has_direction(endpoint: &AnyEndpoint, direction: Direction) -> bool
     ensures has { result ≡ has_direction direction (state_of endpoint.now) }
 {
-    is_same(
-        Direction::from_address(endpoint.endpoint_address()),
-        direction,
-    )
+    Direction::from_address(endpoint.endpoint_address()) == direction
 }
 
-/// Whether a submission is barred by the endpoint's direction, or by so many pending or unreaped transfers.
-fn bars_submission(has_direction: bool, pending: usize, unreaped: usize) -> bool
-    ensures barred { result ≡ (not has_direction || (nat_le 64 pending || nat_le 1024 unreaped)) }
+/// Whether a submission is barred: the endpoint has the other direction, or too many transfers are
+/// pending or unreaped.
+fn bars_submission(host: &Host, direction: Direction, endpoint: &AnyEndpoint) -> bool
+    ensures barred { result ≡
+        bars_submission host.now.kernel.past direction (state_of endpoint.now) }
 {
-    !has_direction || pending >= MOST_PENDING || unreaped >= MOST_UNREAPED
+    !has_direction(endpoint, direction)
+        || endpoint.pending() >= MOST_PENDING
+        || host.kernel().unreaped() >= MOST_UNREAPED
+}
+
+/// Submits a buffer to an endpoint that is open.
+fn submit_open(
+    endpoint: &mut AnyEndpoint,
+    host: &mut Host,
+    line: &mut String,
+    direction: Direction,
+    buffer: Buffer,
+) -> Result<(), NoMemory>
+    requires stands { Stands (bus_of host.old) (state_of endpoint.old) }
+    ensures keeps { CallKeeps host.old host.new (state_of endpoint.old) (state_of endpoint.new) }
+    ensures answered { CallAnswers host.old host.new (state_of endpoint.old) (state_of endpoint.new)
+        line.old line.new result (λ state e h. submit_on state direction e buffer h) }
+{
+    if bars_submission(host, direction, endpoint) {
+        return write_condition(line);
+    }
+    match endpoint.submit(host, buffer) {
+        Ok(()) => write_ok(line),
+        Err(_) => Err(NoMemory),
+    }
 }
 
 impl Session {
-    /// Whether a submission is barred: the endpoint isn't open or has the other direction, or too many transfers are pending or
-    /// unreaped.
-    pub fn submit_is_barred(&self, direction: Direction, endpoint: u8) -> bool
-        ensures barred { result ≡ submit_barred_by self.now.host.kernel.past direction (named self.now.endpoints endpoint) }
-    {
-        let Some(endpoint) = open_at(&self.endpoints, endpoint) else {
-            return true;
-        };
-        let has = has_direction(endpoint, direction);
-        bars_submission(has, endpoint.pending(), self.host.kernel().unreaped())
-    }
-
-    /// Submits a buffer to an endpoint. An `Err` is want of memory.
-    pub fn submit(&mut self, name: u8, buffer: Buffer) -> Result<(), NoMemory>
-        requires allowed { (direction : Direction) × (submit_barred_by self.old.host.kernel.past direction (named self.old.endpoints name) ≡ false) }
-        ensures stands { OnOk result ((state : State) → Represents self.old state → Represents self.new (submitted state name buffer)) }
+    fn submit(
+        &mut self,
+        line: &mut String,
+        direction: Direction,
+        name: Name,
+        buffer: Buffer,
+    ) -> Result<(), NoMemory>
+        ensures answered { Answers self.old self.new line.old line.new result
+            (λ state. submit_answer state direction name buffer) }
         ensures spare { self.new.host.kernel.spare ≡ self.old.host.kernel.spare }
     {
-        let Some(mut endpoint) = take_at(&mut self.endpoints, name) else {
-            unreachable!()
+        let number = name.number();
+        let Some(mut endpoint) = take_at(&mut self.endpoints, number) else {
+            return write_condition(line);
         };
-        let tried = endpoint.submit(&mut self.host, buffer);
-        put_at(&mut self.endpoints, name, endpoint);
-        match tried {
-            Ok(()) => Ok(()),
-            Err(_) => Err(NoMemory),
-        }
+        let submitted = submit_open(&mut endpoint, &mut self.host, line, direction, buffer);
+        put_at(&mut self.endpoints, number, endpoint);
+        submitted
+    }
+
+    /// `submitin`: a transfer that asks for so many bytes is handed in.
+    pub(crate) fn submit_in(
+        &mut self,
+        line: &mut String,
+        name: Name,
+        length: Length,
+    ) -> Result<(), NoMemory>
+        ensures answered { Answers self.old self.new line.old line.new result
+            (λ state. submit_answer state Direction.In name (in_buffer length)) }
+        ensures spare { self.new.host.kernel.spare ≡ self.old.host.kernel.spare }
+    {
+        let buffer = in_buffer(*line.allocator(), length)?;
+        self.submit(line, Direction::In, name, buffer)
+    }
+
+    /// `submitout`: a transfer of these bytes is handed in.
+    pub(crate) fn submit_out(
+        &mut self,
+        line: &mut String,
+        name: Name,
+        bytes: Data,
+    ) -> Result<(), NoMemory>
+        ensures answered { Answers self.old self.new line.old line.new result
+            (λ state. submit_answer state Direction.Out name (out_buffer bytes)) }
+        ensures spare { self.new.host.kernel.spare ≡ self.old.host.kernel.spare }
+    {
+        self.submit(line, Direction::Out, name, out_buffer(bytes))
     }
 }

@@ -1,71 +1,131 @@
 //! `xferin` and `xferout`: a blocking transfer, with the steps of the line.
 
-ghost use Rattle.std.specs.Prelude.{◌≡◌, ◌≤◌, ◌+◌, ◌==◌, ◌||◌, not, nat_le, length, false, Some, IfOk, OnOk};
-ghost use Rattle.std.specs.List.{All};
+ghost use Rattle.std.specs.Prelude.{◌≡◌, ◌≤◌, ◌+◌, length, OnOk};
 ghost use Rattle.usb_desc.specs.declared.types.Direction.{Direction};
-ghost use Rattle.usb_script.specs.ItemRanges.{IsStepInRange};
-ghost use Rattle.usb_answers.specs.State.{State};
-ghost use Rattle.usb_answers.specs.Names.{named};
-ghost use Rattle.usb_answers.specs.Transfers.{transfer_barred_by, transferred};
-ghost use Rattle.usb_answers.specs.Relation.{Represents, Gave};
+ghost use Rattle.usb_endpoint.specs.Handles.{Stands};
+ghost use Rattle.usb_endpoint.specs.AnyEndpoints.{state_of};
+ghost use Rattle.usb_device.specs.HostBus.{bus_of};
+ghost use Rattle.usb_answers.specs.Buffers.{in_buffer, out_buffer};
+ghost use Rattle.usb_answers.specs.Transfers.{bars_transfer, transfer_on, transfer_answer};
+ghost use Rattle.usb_answers.specs.Answered.{Answers};
+ghost use Rattle.usb_answers.specs.OpenCalls.{CallKeeps, CallAnswers};
 
-use crate::names::{open_at, put_at, take_at};
+use crate::buffers::{in_buffer, out_buffer};
+use crate::names::{put_at, take_at};
 use crate::session::Session;
-use crate::stepping::lend;
 use crate::submitting::{MOST_UNREAPED, has_direction};
-use std::alloc::Global;
 use usb_desc::{Direction, NoMemory};
-use usb_device::blocking_is_by_steps;
-use usb_kernel::KernelStep;
-use usb_xfer::{Buffer, Completion};
+use usb_device::{Host, blocking_is_by_steps};
+use usb_endpoint::AnyEndpoint;
+use usb_lines::{write_condition, write_waited};
+use usb_script::{Data, Length, Name, Steps, Timeout};
+use usb_xfer::Buffer;
 
-/// Whether a blocking transfer is barred by the endpoint's direction, or by so many pending or unreaped transfers.
-fn bars_transfer(has_direction: bool, pending: usize, unreaped: usize) -> bool
-    ensures barred { result ≡ (not has_direction || (not (pending == 0) || nat_le 1024 unreaped)) }
+/// Whether a blocking transfer is barred: the endpoint has the other direction, a transfer of it is
+/// pending, or too many are unreaped.
+fn bars_transfer(host: &Host, direction: Direction, endpoint: &AnyEndpoint) -> bool
+    ensures barred { result ≡ bars_transfer host.now.kernel.past direction (state_of endpoint.now) }
 {
-    !has_direction || pending != 0 || unreaped >= MOST_UNREAPED
+    !has_direction(endpoint, direction)
+        || endpoint.pending() != 0
+        || host.kernel().unreaped() >= MOST_UNREAPED
+}
+
+/// Makes a blocking transfer at an endpoint that is open.
+fn transfer_open(
+    endpoint: &mut AnyEndpoint,
+    host: &mut Host,
+    line: &mut String,
+    direction: Direction,
+    buffer: Buffer,
+    timeout: Timeout,
+) -> Result<(), NoMemory>
+    requires stands { Stands (bus_of host.old) (state_of endpoint.old) }
+    ensures keeps { CallKeeps host.old host.new (state_of endpoint.old) (state_of endpoint.new) }
+    ensures answered { CallAnswers host.old host.new (state_of endpoint.old) (state_of endpoint.new)
+        line.old line.new result (λ state e h. transfer_on state direction e buffer timeout h) }
+{
+    if bars_transfer(host, direction, endpoint) {
+        return write_condition(line);
+    }
+    let tried = endpoint.transfer_blocking(host, buffer, timeout.nanoseconds());
+    blocking_is_by_steps();
+    match tried {
+        Ok(completion) => write_waited(line, &Some(completion)),
+        Err(_) => Err(NoMemory),
+    }
 }
 
 impl Session {
-    /// Whether a blocking transfer is barred: the endpoint isn't open or has the other direction, a transfer of it is pending, or
-    /// too many are unreaped.
-    pub fn transfer_is_barred(&self, direction: Direction, endpoint: u8) -> bool
-        ensures barred { result ≡ transfer_barred_by self.now.host.kernel.past direction (named self.now.endpoints endpoint) }
+    fn transfer(
+        &mut self,
+        line: &mut String,
+        direction: Direction,
+        name: Name,
+        buffer: Buffer,
+        timeout: Timeout,
+        steps: Steps,
+    ) -> Result<(), NoMemory>
+        requires room { length steps ≤ self.old.host.kernel.spare }
+        ensures answered { Answers self.old self.new line.old line.new result
+            (λ state. transfer_answer state direction name buffer timeout steps) }
+        ensures spare { self.new.host.kernel.spare + length steps ≡ self.old.host.kernel.spare }
     {
-        let Some(endpoint) = open_at(&self.endpoints, endpoint) else {
-            return true;
+        let number = name.number();
+        self.host.lend_steps(steps.into_vec());
+        let Some(mut endpoint) = take_at(&mut self.endpoints, number) else {
+            self.host.rest();
+            return write_condition(line);
         };
-        let has = has_direction(endpoint, direction);
-        bars_transfer(has, endpoint.pending(), self.host.kernel().unreaped())
+        let transferred = transfer_open(
+            &mut endpoint,
+            &mut self.host,
+            line,
+            direction,
+            buffer,
+            timeout,
+        );
+        put_at(&mut self.endpoints, number, endpoint);
+        self.host.rest();
+        transferred
     }
 
-    /// Submits a buffer to an endpoint, waits for its completion, at most `timeout` nanoseconds of the kernel's clock before it is
-    /// cancelled, and takes it. The steps are applied meanwhile, and those that are left right after it.
-    pub fn transfer(
+    /// `xferin`: a transfer that asks for so many bytes is handed in and waited for, at most so many
+    /// nanoseconds of the kernel's clock before it is cancelled, and taken. The steps are applied
+    /// meanwhile, and those that are left right after it.
+    pub(crate) fn transfer_in(
         &mut self,
-        alloc: Global,
-        name: u8,
-        buffer: Buffer,
-        timeout: u64,
-        steps: &[KernelStep],
-    ) -> Result<Completion, NoMemory>
-        requires allowed { (direction : Direction) × (transfer_barred_by self.old.host.kernel.past direction (named self.old.endpoints name) ≡ false) }
-        requires spare { length steps.now ≤ self.old.host.kernel.spare }
-        requires in_range { All IsStepInRange steps.now }
-        ensures gave { IfOk result (λ c. (state : State) → Represents self.old state → Gave self.new (Some c) (transferred state name buffer timeout steps.now)) }
-        ensures spare { OnOk result (self.new.host.kernel.spare + length steps.now ≡ self.old.host.kernel.spare) }
+        line: &mut String,
+        name: Name,
+        bytes: Length,
+        timeout: Timeout,
+        steps: Steps,
+    ) -> Result<(), NoMemory>
+        requires room { length steps ≤ self.old.host.kernel.spare }
+        ensures answered { Answers self.old self.new line.old line.new result
+            (λ state. transfer_answer state Direction.In name (in_buffer bytes) timeout steps) }
+        ensures spare { OnOk result
+            (self.new.host.kernel.spare + length steps ≡ self.old.host.kernel.spare) }
     {
-        lend(&mut self.host, alloc, steps)?;
-        let Some(mut endpoint) = take_at(&mut self.endpoints, name) else {
-            unreachable!()
-        };
-        let tried = endpoint.transfer_blocking(&mut self.host, buffer, timeout);
-        blocking_is_by_steps();
-        put_at(&mut self.endpoints, name, endpoint);
-        self.host.rest();
-        match tried {
-            Ok(completion) => Ok(completion),
-            Err(_) => Err(NoMemory),
-        }
+        let buffer = in_buffer(*line.allocator(), bytes)?;
+        self.transfer(line, Direction::In, name, buffer, timeout, steps)
+    }
+
+    /// `xferout`: a transfer of these bytes, likewise.
+    pub(crate) fn transfer_out(
+        &mut self,
+        line: &mut String,
+        name: Name,
+        bytes: Data,
+        timeout: Timeout,
+        steps: Steps,
+    ) -> Result<(), NoMemory>
+        requires room { length steps ≤ self.old.host.kernel.spare }
+        ensures answered { Answers self.old self.new line.old line.new result
+            (λ state. transfer_answer state Direction.Out name (out_buffer bytes) timeout steps) }
+        ensures spare { self.new.host.kernel.spare + length steps ≡ self.old.host.kernel.spare }
+    {
+        let buffer = out_buffer(bytes);
+        self.transfer(line, Direction::Out, name, buffer, timeout, steps)
     }
 }

@@ -1,47 +1,67 @@
 //! `wait`: the oldest pending transfer is waited for, with the steps of the line.
 
-ghost use Rattle.std.specs.Prelude.{◌≡◌, ◌≤◌, ◌+◌, length, false, IfOk, OnOk};
-ghost use Rattle.std.specs.List.{All};
-ghost use Rattle.usb_script.specs.ItemRanges.{IsStepInRange};
-ghost use Rattle.usb_answers.specs.State.{State};
-ghost use Rattle.usb_answers.specs.Names.{named};
-ghost use Rattle.usb_answers.specs.Polls.{poll_barred_by};
-ghost use Rattle.usb_answers.specs.Waits.{waited};
-ghost use Rattle.usb_answers.specs.Relation.{Represents, Gave};
+ghost use Rattle.std.specs.Prelude.{◌≡◌, ◌≤◌, ◌+◌, length, slice_get};
+ghost use Rattle.usb_endpoint.specs.Handles.{Stands};
+ghost use Rattle.usb_endpoint.specs.AnyEndpoints.{state_of};
+ghost use Rattle.usb_device.specs.HostBus.{bus_of};
+ghost use Rattle.usb_answers.specs.Waits.{waited, wait_answer};
+ghost use Rattle.usb_answers.specs.Answered.{Answers};
+ghost use Rattle.usb_answers.specs.OpenCalls.{CallKeeps, CallAnswers};
 
 use crate::names::{put_at, take_at};
 use crate::session::Session;
-use crate::stepping::lend;
-use std::alloc::Global;
 use usb_desc::NoMemory;
-use usb_device::wait_is_by_steps;
-use usb_kernel::KernelStep;
-use usb_xfer::Completion;
+use usb_device::{Host, wait_is_by_steps};
+use usb_endpoint::AnyEndpoint;
+use usb_lines::{write_condition, write_waited};
+use usb_script::{Name, Steps, Timeout};
+
+/// Waits at an endpoint that is open.
+fn wait_open(
+    endpoint: &mut AnyEndpoint,
+    host: &mut Host,
+    line: &mut String,
+    timeout: Timeout,
+) -> Result<(), NoMemory>
+    requires stands { Stands (bus_of host.old) (state_of endpoint.old) }
+    ensures keeps { CallKeeps host.old host.new (state_of endpoint.old) (state_of endpoint.new) }
+    ensures answered { CallAnswers host.old host.new (state_of endpoint.old) (state_of endpoint.new)
+        line.old line.new result
+        (λ state e h. waited state e timeout (slice_get h.tickets h.taken)) }
+{
+    if endpoint.pending() == 0 {
+        return write_condition(line);
+    }
+    let done = endpoint.wait_next_complete(host, timeout.nanoseconds());
+    wait_is_by_steps();
+    write_waited(line, &done)
+}
 
 impl Session {
-    /// Waits for the oldest pending transfer of an endpoint and takes it, at most `timeout` nanoseconds of the kernel's clock. The
-    /// steps are applied meanwhile, and those that are left right after it.
-    pub fn wait(
+    /// `wait`: the oldest pending transfer of an endpoint is waited for, at most so many nanoseconds
+    /// of the kernel's clock, and taken where it is reaped. The steps are applied meanwhile, and those
+    /// that are left right after it.
+    pub(crate) fn wait(
         &mut self,
-        alloc: Global,
-        name: u8,
-        timeout: u64,
-        steps: &[KernelStep],
-    ) -> Result<Option<Completion>, NoMemory>
-        requires allowed { poll_barred_by (named self.old.endpoints name) ≡ false }
-        requires spare { length steps.now ≤ self.old.host.kernel.spare }
-        requires in_range { All IsStepInRange steps.now }
-        ensures gave { IfOk result (λ value. (state : State) → Represents self.old state → Gave self.new value (waited state name timeout steps.now)) }
-        ensures spare { OnOk result (self.new.host.kernel.spare + length steps.now ≡ self.old.host.kernel.spare) }
+        line: &mut String,
+        name: Name,
+        timeout: Timeout,
+        steps: Steps,
+    ) -> Result<(), NoMemory>
+        requires room { length steps ≤ self.old.host.kernel.spare }
+        ensures answered { Answers self.old self.new line.old line.new result
+            (λ state. wait_answer state name timeout steps) }
+        ensures spare { self.new.host.kernel.spare + length steps ≡ self.old.host.kernel.spare }
     {
-        lend(&mut self.host, alloc, steps)?;
-        let Some(mut endpoint) = take_at(&mut self.endpoints, name) else {
-            unreachable!()
+        let number = name.number();
+        self.host.lend_steps(steps.into_vec());
+        let Some(mut endpoint) = take_at(&mut self.endpoints, number) else {
+            self.host.rest();
+            return write_condition(line);
         };
-        let done = endpoint.wait_next_complete(&mut self.host, timeout);
-        wait_is_by_steps();
-        put_at(&mut self.endpoints, name, endpoint);
+        let waited = wait_open(&mut endpoint, &mut self.host, line, timeout);
+        put_at(&mut self.endpoints, number, endpoint);
         self.host.rest();
-        Ok(done)
+        waited
     }
 }

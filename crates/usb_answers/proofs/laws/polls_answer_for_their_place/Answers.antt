@@ -1,4 +1,4 @@
-use Rattle.usb_answers.proofs.DoneLemmas.{completions-taken}
+use Rattle.usb_answers.proofs.TakeLemmas.{completions-taken}
 use Rattle.usb_answers.proofs.PlaceLemmas.{polls-for_their_place}
 use Rattle.usb_answers.proofs.laws.polls_answer_for_their_place.Goals as goal
 

@@ -1,38 +1,35 @@
-use Rattle.std.proofs.Common.{sym, ◌∙◌, ap}
-use Rattle.usb_endpoint.specs.EndpointState.{EndpointState}
-use Rattle.usb_endpoint.specs.AnyEndpoints.{state_of}
-use Rattle.usb_answers.specs.SessionState.{SessionState}
-use Rattle.usb_answers.specs.Names.{named, is_free}
-use Rattle.usb_answers.proofs.NameLemmas.{freed-free}
-use Rattle.usb_answers.proofs.CodeLemmas.{cancel-open, none-code, stands-code, sound-code, cancel-keeps, cancel-spare, cancel-code}
+use Rattle.std.proofs.Common.{◌≡◌, sym, ◌∙◌, subst}
+use Rattle.usb_answers.specs.SessionState.{IsSound}
+use Rattle.usb_answers.specs.Answer.{ok_answer}
+use Rattle.usb_answers.specs.Closes.{cancelled, cancel_answer}
+use Rattle.usb_answers.proofs.TakenOut.{PutBack, made_with, put_back, free_again, stands-made, sound-called, answers-called, same-none, answers-none}
 use Rattle.usb_answers.proofs.session.Session.cancel.Goals as goal
+use Rattle.usb_answers.proofs.session.Session.cancel.Goals.{After-put_at, After-write_condition}
 
-pub unreachable-requires : goal.unreachable-requires
-unreachable-requires c =
-    cancel-open (named c.args.self.now.endpoints c.args.name)
-    (none-code c.args.self.now c.self.inside.host c.self.inside.devices.items c.self.inside.interfaces.items c.self.inside.endpoints.items c.args.name c.self.view_is (sym c.take_at.ensures.taken ∙ c.in_default.is))
-    c.requires.open
+back : (c : After-put_at) → PutBack c.self.inside.endpoints.items c.put_at.new.names.items c.number-number.result c.in-Some.endpoint c.cancel_open-cancelled.new.endpoint
+back c = put_back _ _ _ _ _ _ _ c.take_at.ensures.taken c.in-Some.is c.take_at.ensures.rest c.put_at.ensures.after
 
-pub cancel_all-requires : goal.cancel_all-requires
-cancel_all-requires c = record { stands = stands-code c.self.inside.host c.self.inside.devices.items c.self.inside.interfaces.items c.self.inside.endpoints.items c.args.name c.in-Some.endpoint c.self.invariant (sym c.take_at.ensures.taken ∙ c.in-Some.is) }
-
-pub put_at-requires : goal.put_at-requires
-put_at-requires c = record {
-  free = ap (λ l. is_free l c.args.name) c.take_at.ensures.rest ∙ freed-free c.self.inside.endpoints.items c.args.name c.in-Some.endpoint (sym c.take_at.ensures.taken ∙ c.in-Some.is);
-}
+same : (c : After-write_condition) → c.take_at.new.names.items ≡ c.self.inside.endpoints.items
+same c = same-none _ _ _ _ c.take_at.ensures.taken c.in_default.is c.take_at.ensures.rest
 
 pub invariant_of-self : goal.invariant_of-self
-invariant_of-self c =
-    sound-code c.self.inside.host c.cancel_all.new.bus c.self.inside.devices.items c.self.inside.interfaces.items c.self.inside.endpoints.items c.take_at.new.names.items c.put_at.new.names.items c.args.name c.in-Some.endpoint c.cancel_all.new.self c.self.invariant
-    (sym c.take_at.ensures.taken ∙ c.in-Some.is) c.take_at.ensures.rest c.put_at.ensures.after
-    (cancel-keeps c.self.inside.host c.cancel_all.new.bus (state_of c.in-Some.endpoint).pending c.cancel_all.ensures.bus c.self.invariant.idle) c.cancel_all.ensures.stands (ap (λ (h : EndpointState). h.key) c.cancel_all.ensures.rest) c.cancel_all.ensures.others
+invariant_of-self c = subst (λ l. IsSound (made_with c.self.inside c.self.inside.host l)) (sym (same c)) c.self.invariant
 
-pub returns-clause-stands : goal.returns-clause-stands
-returns-clause-stands c =
-    cancel-code c.args.self.now c.self.inside.host c.cancel_all.new.bus c.self.inside.devices.items c.self.inside.interfaces.items c.self.inside.endpoints.items c.take_at.new.names.items c.put_at.new.names.items c.args.name c.in-Some.endpoint c.cancel_all.new.self c.self.view_is
-    (sym c.take_at.ensures.taken ∙ c.in-Some.is) c.take_at.ensures.rest c.put_at.ensures.after c.cancel_all.ensures.bus c.cancel_all.ensures.rest
+pub returns-in_default-clause-answered : goal.returns-in_default-clause-answered
+unfolding cancel_answer
+returns-in_default-clause-answered c =
+    answers-none c.self.inside _ _ _ _ c.args.line.now c.write_condition.new.out _ (λ state h. ok_answer (cancelled state h)) c.self.view_is (sym c.take_at.ensures.taken ∙ c.in_default.is) (same c) c.number-number.ensures.value c.write_condition.ensures.text
 
-pub returns-clause-spare : goal.returns-clause-spare
-returns-clause-spare c =
-    cancel-spare c.self.inside.host c.cancel_all.new.bus (state_of c.in-Some.endpoint).pending c.cancel_all.ensures.bus
-    ∙ ap (λ (v : SessionState). v.host.kernel.spare) c.self.view_is
+pub cancel_open-cancelled-requires : goal.cancel_open-cancelled-requires
+cancel_open-cancelled-requires c = record { stands = stands-made c.self.inside _ _ _ c.self.invariant c.take_at.ensures.taken c.in-Some.is }
+
+pub put_at-requires : goal.put_at-requires
+put_at-requires c = record { free = free_again _ _ _ _ _ c.take_at.ensures.taken c.in-Some.is c.take_at.ensures.rest }
+
+pub invariant_of-self-2 : goal.invariant_of-self-2
+invariant_of-self-2 c = sound-called c.self.inside _ _ _ _ _ c.self.invariant (back c) c.cancel_open-cancelled.ensures.keeps
+
+pub returns-clause-answered : goal.returns-clause-answered
+unfolding cancel_answer
+returns-clause-answered c =
+    answers-called c.self.inside _ _ _ _ _ _ _ c.args.line.now c.cancel_open-cancelled.new.line _ (λ state e h. ok_answer (cancelled state h)) c.self.view_is (back c) c.number-number.ensures.value c.cancel_open-cancelled.ensures.answered

@@ -1,10 +1,25 @@
-use Rattle.std.proofs.Common.{sym, ◌∙◌, ap, Some, refl}
+use Rattle.std.proofs.Common.{sym, ◌∙◌, ap}
 use Rattle.std.specs.Option.{option_copied}
-use Rattle.usb_answers.proofs.CodeLemmas.{none-code, named-code}
+use Rattle.usb_endpoint.specs.AnyEndpoints.{state_of}
+use Rattle.usb_answers.specs.Names.{named}
+use Rattle.usb_answers.proofs.TakenOut.{named-made, none_made}
+use Rattle.usb_answers.proofs.PollCode.{pending-answered, pending-barred}
 use Rattle.usb_answers.proofs.session.Session.pending.Goals as goal
 
 pub returns-in-Some : goal.returns-in-Some
-returns-in-Some c = record { count = rw (named-code c.args.self.now c.self.inside.host c.self.inside.devices.items c.self.inside.interfaces.items c.self.inside.endpoints.items c.args.endpoint c.in-Some.endpoint.now c.self.view_is (rw (← c.deref.ensures.value) (sym c.open_at.ensures.value ∙ ap option_copied c.in-Some.is))) (ap (λ n. Some n) c.pending.ensures.count) }
+returns-in-Some c = record {
+  answered =
+      pending-answered c.args.self.now c.args.name c.pending.result (state_of c.in-Some.endpoint.now) c.args.line.now c.write_count.new.out c.write_count.result
+      (ap (named c.args.self.now.endpoints) (sym c.number.ensures.value)
+      ∙ named-made c.self.inside c.args.self.now c.number.result c.in-Some.endpoint.now c.self.view_is (rw (← c.deref.ensures.value) (sym c.open_at.ensures.value ∙ ap option_copied c.in-Some.is)))
+      c.pending.ensures.count c.write_count.ensures.text;
+}
 
 pub returns-in-None : goal.returns-in-None
-returns-in-None c = record { count = rw (none-code c.args.self.now c.self.inside.host c.self.inside.devices.items c.self.inside.interfaces.items c.self.inside.endpoints.items c.args.endpoint c.self.view_is (rw (← c.deref.ensures.value) (sym c.open_at.ensures.value ∙ ap option_copied c.in-None.is))) refl }
+returns-in-None c = record {
+  answered =
+      pending-barred c.args.self.now c.args.name c.args.line.now c.write_condition.new.out c.write_condition.result
+      (ap (named c.args.self.now.endpoints) (sym c.number.ensures.value)
+      ∙ none_made c.self.inside c.args.self.now c.number.result c.self.view_is (rw (← c.deref.ensures.value) (sym c.open_at.ensures.value ∙ ap option_copied c.in-None.is)))
+      c.write_condition.ensures.text;
+}

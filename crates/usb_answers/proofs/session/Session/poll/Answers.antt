@@ -1,47 +1,34 @@
-use Rattle.std.proofs.Common.{sym, ◌∙◌, ap}
-use Rattle.usb_endpoint.specs.AnyEndpoints.{state_of}
-use Rattle.usb_answers.specs.SessionState.{SessionState}
-use Rattle.usb_answers.specs.Names.{named, is_free}
-use Rattle.usb_answers.proofs.NameLemmas.{freed-free}
-use Rattle.usb_answers.proofs.CodeLemmas.{poll-open, none-code, named-code, stands-code, sound-code, done_of, poll-keeps, poll-spare, poll-key, poll-code}
-use Rattle.usb_answers.proofs.Queue.{allowed-some}
+use Rattle.std.proofs.Common.{◌≡◌, slice_get, sym, ◌∙◌, subst}
+use Rattle.usb_answers.specs.SessionState.{IsSound}
+use Rattle.usb_answers.specs.Polls.{poll_answer, polled}
+use Rattle.usb_answers.proofs.TakenOut.{PutBack, made_with, put_back, free_again, stands-made, sound-called, answers-called, same-none, answers-none}
 use Rattle.usb_answers.proofs.session.Session.poll.Goals as goal
-use Rattle.usb_answers.proofs.session.Session.poll.Goals.{in-Ready, in-Pending}
+use Rattle.usb_answers.proofs.session.Session.poll.Goals.{After-put_at, After-write_condition}
 
-pub unreachable-requires : goal.unreachable-requires
-unreachable-requires c =
-    poll-open (named c.args.self.now.endpoints c.args.name)
-    (none-code c.args.self.now c.self.inside.host c.self.inside.devices.items c.self.inside.interfaces.items c.self.inside.endpoints.items c.args.name c.self.view_is (sym c.take_at.ensures.taken ∙ c.in_default.is))
-    c.requires.allowed
+back : (c : After-put_at) → PutBack c.self.inside.endpoints.items c.put_at.new.names.items c.number-number.result c.in-Some.endpoint c.poll_open-polled.new.endpoint
+back c = put_back _ _ _ _ _ _ _ c.take_at.ensures.taken c.in-Some.is c.take_at.ensures.rest c.put_at.ensures.after
 
-pub poll_next_complete-polled-requires-clause-some : goal.poll_next_complete-polled-requires-clause-some
-poll_next_complete-polled-requires-clause-some c =
-    allowed-some c.args.self.now c.args.name (state_of c.in-Some.endpoint) (named-code c.args.self.now c.self.inside.host c.self.inside.devices.items c.self.inside.interfaces.items c.self.inside.endpoints.items c.args.name c.in-Some.endpoint c.self.view_is (sym c.take_at.ensures.taken ∙ c.in-Some.is)) c.requires.allowed
-
-pub poll_next_complete-polled-requires-clause-stands : goal.poll_next_complete-polled-requires-clause-stands
-poll_next_complete-polled-requires-clause-stands c = stands-code c.self.inside.host c.self.inside.devices.items c.self.inside.interfaces.items c.self.inside.endpoints.items c.args.name c.in-Some.endpoint c.self.invariant (sym c.take_at.ensures.taken ∙ c.in-Some.is)
-
-pub put_at-requires : goal.put_at-requires
-put_at-requires c = record {
-  free = ap (λ l. is_free l c.args.name) c.take_at.ensures.rest ∙ freed-free c.self.inside.endpoints.items c.args.name c.in-Some.endpoint (sym c.take_at.ensures.taken ∙ c.in-Some.is);
-}
+same : (c : After-write_condition) → c.take_at.new.names.items ≡ c.self.inside.endpoints.items
+same c = same-none _ _ _ _ c.take_at.ensures.taken c.in_default.is c.take_at.ensures.rest
 
 pub invariant_of-self : goal.invariant_of-self
-invariant_of-self c =
-    sound-code c.self.inside.host c.poll_next_complete-polled.new.bus c.self.inside.devices.items c.self.inside.interfaces.items c.self.inside.endpoints.items c.take_at.new.names.items c.put_at.new.names.items c.args.name c.in-Some.endpoint c.poll_next_complete-polled.new.self c.self.invariant
-    (sym c.take_at.ensures.taken ∙ c.in-Some.is) c.take_at.ensures.rest c.put_at.ensures.after
-    (poll-keeps c.poll_next_complete-polled.result c.self.inside.host c.poll_next_complete-polled.new.bus (state_of c.in-Some.endpoint) (state_of c.poll_next_complete-polled.new.self) c.poll_next_complete-polled.ensures.ready c.poll_next_complete-polled.ensures.pending c.self.invariant.idle) c.poll_next_complete-polled.ensures.stands (poll-key c.poll_next_complete-polled.result c.self.inside.host c.poll_next_complete-polled.new.bus (state_of c.in-Some.endpoint) (state_of c.poll_next_complete-polled.new.self) c.poll_next_complete-polled.ensures.ready c.poll_next_complete-polled.ensures.pending) c.poll_next_complete-polled.ensures.others
+invariant_of-self c = subst (λ l. IsSound (made_with c.self.inside c.self.inside.host l)) (sym (same c)) c.self.invariant
 
-pub returns-clause-gave : goal.returns-clause-gave
-returns-clause-gave c =
-    let gave = poll-code c.poll_next_complete-polled.result c.args.self.now c.self.inside.host c.poll_next_complete-polled.new.bus c.self.inside.devices.items c.self.inside.interfaces.items c.self.inside.endpoints.items c.take_at.new.names.items c.put_at.new.names.items c.args.name c.in-Some.endpoint c.poll_next_complete-polled.new.self c.self.view_is
-    (sym c.take_at.ensures.taken ∙ c.in-Some.is) c.take_at.ensures.rest c.put_at.ensures.after c.poll_next_complete-polled.ensures.ready c.poll_next_complete-polled.ensures.pending in
-    elim c.match-polled.branch [
-      | in-Ready w ↦ rw (w.result-is ∙ sym (ap done_of w.in-Ready.is)) gave
-      | in-Pending w ↦ rw (w.result-is ∙ sym (ap done_of w.in-Pending.is)) gave
-    ]
+pub returns-in_default-clause-answered : goal.returns-in_default-clause-answered
+unfolding poll_answer
+returns-in_default-clause-answered c =
+    answers-none c.self.inside _ _ _ _ c.args.line.now c.write_condition.new.out _ (λ state h. polled state c.args.name (slice_get h.tickets h.taken)) c.self.view_is (sym c.take_at.ensures.taken ∙ c.in_default.is) (same c) c.number-number.ensures.value c.write_condition.ensures.text
 
-pub returns-clause-spare : goal.returns-clause-spare
-returns-clause-spare c =
-    poll-spare c.poll_next_complete-polled.result c.self.inside.host c.poll_next_complete-polled.new.bus (state_of c.in-Some.endpoint) (state_of c.poll_next_complete-polled.new.self) c.poll_next_complete-polled.ensures.ready c.poll_next_complete-polled.ensures.pending
-    ∙ ap (λ (v : SessionState). v.host.kernel.spare) c.self.view_is
+pub poll_open-polled-requires : goal.poll_open-polled-requires
+poll_open-polled-requires c = record { stands = stands-made c.self.inside _ _ _ c.self.invariant c.take_at.ensures.taken c.in-Some.is }
+
+pub put_at-requires : goal.put_at-requires
+put_at-requires c = record { free = free_again _ _ _ _ _ c.take_at.ensures.taken c.in-Some.is c.take_at.ensures.rest }
+
+pub invariant_of-self-2 : goal.invariant_of-self-2
+invariant_of-self-2 c = sound-called c.self.inside _ _ _ _ _ c.self.invariant (back c) c.poll_open-polled.ensures.keeps
+
+pub returns-clause-answered : goal.returns-clause-answered
+unfolding poll_answer
+returns-clause-answered c =
+    answers-called c.self.inside _ _ _ _ _ _ _ c.args.line.now c.poll_open-polled.new.line _ (λ state e h. polled state e (slice_get h.tickets h.taken)) c.self.view_is (back c) c.number-number.ensures.value c.poll_open-polled.ensures.answered

@@ -1,50 +1,34 @@
-use Rattle.std.proofs.Common.{sym, ◌∙◌, ap, length}
-use Rattle.usb_kernel.specs.Tickets.{tickets}
-use Rattle.usb_endpoint.specs.AnyEndpoints.{state_of}
-use Rattle.usb_answers.specs.SessionState.{SessionState}
-use Rattle.usb_answers.specs.Names.{named, is_free}
-use Rattle.usb_answers.proofs.NameLemmas.{freed-free}
-use Rattle.usb_answers.proofs.CodeLemmas.{submit-open, none-code, named-code, stands-code, sound-code, ok-holds, submit-keeps, submit-spare, submit-key, submit-code}
-use Rattle.usb_answers.proofs.Queue.{allowed-few}
+use Rattle.std.proofs.Common.{◌≡◌, sym, ◌∙◌, subst}
+use Rattle.usb_answers.specs.SessionState.{IsSound}
+use Rattle.usb_answers.specs.Submits.{submit_on, submit_answer}
+use Rattle.usb_answers.proofs.TakenOut.{PutBack, made_with, put_back, free_again, stands-made, sound-called, answers-called, same-none, answers-none}
 use Rattle.usb_answers.proofs.session.Session.submit.Goals as goal
-use Rattle.usb_answers.proofs.session.Session.submit.Goals.{in-Ok, in-Err}
+use Rattle.usb_answers.proofs.session.Session.submit.Goals.{After-put_at, After-drop-buffer-inside}
 
-pub unreachable-requires : goal.unreachable-requires
-unreachable-requires c =
-    submit-open c.args.self.now.host.kernel.past c.requires.allowed.0 (named c.args.self.now.endpoints c.args.name)
-    (none-code c.args.self.now c.self.inside.host c.self.inside.devices.items c.self.inside.interfaces.items c.self.inside.endpoints.items c.args.name c.self.view_is (sym c.take_at.ensures.taken ∙ c.in_default.is))
-    c.requires.allowed.1
+back : (c : After-put_at) → PutBack c.self.inside.endpoints.items c.put_at.new.names.items c.number-number.result c.in-Some.endpoint c.submit_open-submitted.new.endpoint
+back c = put_back _ _ _ _ _ _ _ c.take_at.ensures.taken c.in-Some.is c.take_at.ensures.rest c.put_at.ensures.after
 
-pub submit-tried-requires-clause-few : goal.submit-tried-requires-clause-few
-submit-tried-requires-clause-few c =
-    allowed-few c.args.self.now c.args.self.now.host.kernel.past c.requires.allowed.0 c.args.name (state_of c.in-Some.endpoint) (named-code c.args.self.now c.self.inside.host c.self.inside.devices.items c.self.inside.interfaces.items c.self.inside.endpoints.items c.args.name c.in-Some.endpoint c.self.view_is (sym c.take_at.ensures.taken ∙ c.in-Some.is)) c.requires.allowed.1
-
-pub submit-tried-requires-clause-stands : goal.submit-tried-requires-clause-stands
-submit-tried-requires-clause-stands c = stands-code c.self.inside.host c.self.inside.devices.items c.self.inside.interfaces.items c.self.inside.endpoints.items c.args.name c.in-Some.endpoint c.self.invariant (sym c.take_at.ensures.taken ∙ c.in-Some.is)
-
-pub put_at-requires : goal.put_at-requires
-put_at-requires c = record {
-  free = ap (λ l. is_free l c.args.name) c.take_at.ensures.rest ∙ freed-free c.self.inside.endpoints.items c.args.name c.in-Some.endpoint (sym c.take_at.ensures.taken ∙ c.in-Some.is);
-}
+same : (c : After-drop-buffer-inside) → c.take_at.new.names.items ≡ c.self.inside.endpoints.items
+same c = same-none _ _ _ _ c.take_at.ensures.taken c.in_default.is c.take_at.ensures.rest
 
 pub invariant_of-self : goal.invariant_of-self
-invariant_of-self c =
-    sound-code c.self.inside.host c.submit-tried.new.bus c.self.inside.devices.items c.self.inside.interfaces.items c.self.inside.endpoints.items c.take_at.new.names.items c.put_at.new.names.items c.args.name c.in-Some.endpoint c.submit-tried.new.self c.self.invariant
-    (sym c.take_at.ensures.taken ∙ c.in-Some.is) c.take_at.ensures.rest c.put_at.ensures.after
-    (submit-keeps c.submit-tried.result c.self.inside.host c.submit-tried.new.bus (state_of c.in-Some.endpoint) (state_of c.submit-tried.new.self) c.args.buffer c.submit-tried.ensures.bus c.submit-tried.ensures.err c.self.invariant.idle) c.submit-tried.ensures.stands (submit-key c.submit-tried.result c.self.inside.host c.submit-tried.new.bus (state_of c.in-Some.endpoint) (state_of c.submit-tried.new.self) (length (tickets c.self.inside.host.kernel.past)) c.submit-tried.ensures.pending c.submit-tried.ensures.err) c.submit-tried.ensures.others
+invariant_of-self c = subst (λ l. IsSound (made_with c.self.inside c.self.inside.host l)) (sym (same c)) c.self.invariant
 
-pub returns-clause-stands : goal.returns-clause-stands
-returns-clause-stands c =
-    elim c.match-tried.branch [
-      | in-Ok w ↦ rw w.result-is
-          (submit-code c.args.self.now c.self.inside.host c.submit-tried.new.bus c.self.inside.devices.items c.self.inside.interfaces.items c.self.inside.endpoints.items c.take_at.new.names.items c.put_at.new.names.items c.args.name c.in-Some.endpoint c.submit-tried.new.self c.args.buffer c.self.view_is
-          (sym c.take_at.ensures.taken ∙ c.in-Some.is) c.take_at.ensures.rest c.put_at.ensures.after
-          (ok-holds c.submit-tried.result w.in-Ok.field-0 w.in-Ok.is c.submit-tried.ensures.bus)
-          (ok-holds c.submit-tried.result w.in-Ok.field-0 w.in-Ok.is c.submit-tried.ensures.pending))
-      | in-Err w ↦ rw w.result-is tt
-    ]
+pub returns-in_default-clause-answered : goal.returns-in_default-clause-answered
+unfolding submit_answer
+returns-in_default-clause-answered c =
+    answers-none c.self.inside _ _ _ _ c.args.line.now c.write_condition.new.out _ (λ state h. submit_on state c.args.direction c.args.name c.args.buffer h) c.self.view_is (sym c.take_at.ensures.taken ∙ c.in_default.is) (same c) c.number-number.ensures.value c.write_condition.ensures.text
 
-pub returns-clause-spare : goal.returns-clause-spare
-returns-clause-spare c =
-    submit-spare c.submit-tried.result c.self.inside.host c.submit-tried.new.bus (state_of c.in-Some.endpoint) (state_of c.submit-tried.new.self) c.args.buffer c.submit-tried.ensures.bus c.submit-tried.ensures.err
-    ∙ ap (λ (v : SessionState). v.host.kernel.spare) c.self.view_is
+pub submit_open-submitted-requires : goal.submit_open-submitted-requires
+submit_open-submitted-requires c = record { stands = stands-made c.self.inside _ _ _ c.self.invariant c.take_at.ensures.taken c.in-Some.is }
+
+pub put_at-requires : goal.put_at-requires
+put_at-requires c = record { free = free_again _ _ _ _ _ c.take_at.ensures.taken c.in-Some.is c.take_at.ensures.rest }
+
+pub invariant_of-self-2 : goal.invariant_of-self-2
+invariant_of-self-2 c = sound-called c.self.inside _ _ _ _ _ c.self.invariant (back c) c.submit_open-submitted.ensures.keeps
+
+pub returns-clause-answered : goal.returns-clause-answered
+unfolding submit_answer
+returns-clause-answered c =
+    answers-called c.self.inside _ _ _ _ _ _ _ c.args.line.now c.submit_open-submitted.new.line _ (λ state e h. submit_on state c.args.direction e c.args.buffer h) c.self.view_is (back c) c.number-number.ensures.value c.submit_open-submitted.ensures.answered

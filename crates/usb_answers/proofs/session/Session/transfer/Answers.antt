@@ -1,55 +1,45 @@
-use Rattle.std.proofs.Common.{sym, ◌∙◌, ap}
-use Rattle.usb_endpoint.specs.EndpointState.{EndpointState}
-use Rattle.usb_endpoint.specs.AnyEndpoints.{state_of}
-use Rattle.usb_answers.specs.SessionState.{SessionState}
-use Rattle.usb_answers.specs.Names.{named, is_free}
-use Rattle.usb_answers.proofs.NameLemmas.{freed-free}
-use Rattle.usb_answers.proofs.CodeLemmas.{none-code, named-code, stands-code, ok-holds, err-holds}
-use Rattle.usb_answers.proofs.Lent.{stands-lent, line-sound, line-spare}
-use Rattle.usb_answers.proofs.WaitCode.{transfer-open, allowed-none, blocked-used, unmade-used, transfer-code}
+use Rattle.std.proofs.Common.{◌≡◌, sym, ◌∙◌}
+use Rattle.usb_answers.specs.Transfers.{transfer_on, transfer_answer}
+use Rattle.usb_answers.specs.Steps.{then_rested, lent}
+use Rattle.usb_answers.proofs.TakenOut.{PutBack, put_back, free_again, stands-made, same-none}
+use Rattle.usb_answers.proofs.Lent.{lent_is, stands-lent, sound-lent, answers-lent, sound-stepped, answers-stepped, spare-lent, line-same}
 use Rattle.usb_answers.proofs.session.Session.transfer.Goals as goal
+use Rattle.usb_answers.proofs.session.Session.transfer.Goals.{After-rest-2, After-drop-buffer-inside}
 
-pub unreachable-requires : goal.unreachable-requires
-unreachable-requires c =
-    transfer-open c.args.self.now.host.kernel.past c.requires.allowed.0 (named c.args.self.now.endpoints c.args.name)
-    (none-code c.args.self.now c.self.inside.host c.self.inside.devices.items c.self.inside.interfaces.items c.self.inside.endpoints.items c.args.name c.self.view_is (sym c.take_at.ensures.taken ∙ c.in_default.is))
-    c.requires.allowed.1
+back : (c : After-rest-2) → PutBack c.self.inside.endpoints.items c.put_at.new.names.items c.number-number.result c.in-Some.endpoint c.transfer_open-transferred.new.endpoint
+back c = put_back _ _ _ _ _ _ _ c.take_at.ensures.taken c.in-Some.is c.take_at.ensures.rest c.put_at.ensures.after
 
-pub transfer_blocking-tried-requires-clause-none : goal.transfer_blocking-tried-requires-clause-none
-transfer_blocking-tried-requires-clause-none c = (allowed-none c.args.self.now c.args.self.now.host.kernel.past c.requires.allowed.0 c.args.name (state_of c.in-Some.endpoint) (named-code c.args.self.now c.self.inside.host c.self.inside.devices.items c.self.inside.interfaces.items c.self.inside.endpoints.items c.args.name c.in-Some.endpoint c.self.view_is (sym c.take_at.ensures.taken ∙ c.in-Some.is)) c.requires.allowed.1)
+same : (c : After-drop-buffer-inside) → c.take_at.new.names.items ≡ c.self.inside.endpoints.items
+same c = same-none _ _ _ _ c.take_at.ensures.taken c.in_default.is c.take_at.ensures.rest
 
-pub transfer_blocking-tried-requires-clause-stands : goal.transfer_blocking-tried-requires-clause-stands
-transfer_blocking-tried-requires-clause-stands c =
-    stands-lent c.self.inside.host c.lend.new.host c.args.steps.now (state_of c.in-Some.endpoint) (ok-holds c.lend.result c.in_ok-lend.field-0 c.in_ok-lend.was c.lend.ensures.lent)
-    (stands-code c.self.inside.host c.self.inside.devices.items c.self.inside.interfaces.items c.self.inside.endpoints.items c.args.name c.in-Some.endpoint c.self.invariant (sym c.take_at.ensures.taken ∙ c.in-Some.is))
+pub invariant_of-self : goal.invariant_of-self
+invariant_of-self c = sound-stepped c.self.inside _ _ _ _ c.self.invariant c.lend_steps.ensures.steps c.rest.ensures.rest (same c)
+
+pub returns-in_default-clause-answered : goal.returns-in_default-clause-answered
+unfolding transfer_answer
+returns-in_default-clause-answered c =
+    answers-stepped c.self.inside _ _ _ _ _ _ _ c.args.line.now c.write_condition.new.out _ (λ state h. then_rested (transfer_on (lent state c.args.steps) c.args.direction c.args.name c.args.buffer c.args.timeout h)) c.self.view_is
+    (lent_is c.self.inside.host _ _ _ c.lend_steps.ensures.steps c.into_vec.ensures.value) c.rest.ensures.rest (sym c.take_at.ensures.taken ∙ c.in_default.is) (same c) c.number-number.ensures.value c.write_condition.ensures.text
+
+pub returns-in_default-clause-spare : goal.returns-in_default-clause-spare
+returns-in_default-clause-spare c =
+    spare-lent c.self.inside _ _ _ _ _ c.self.view_is (lent_is c.self.inside.host _ _ _ c.lend_steps.ensures.steps c.into_vec.ensures.value) (line-same c.lend_steps.new.self) c.rest.ensures.rest c.requires.room
+
+pub transfer_open-transferred-requires : goal.transfer_open-transferred-requires
+transfer_open-transferred-requires c = record { stands = stands-lent _ _ _ _ c.lend_steps.ensures.steps (stands-made c.self.inside _ _ _ c.self.invariant c.take_at.ensures.taken c.in-Some.is) }
 
 pub put_at-requires : goal.put_at-requires
-put_at-requires c = record {
-  free = ap (λ l. is_free l c.args.name) c.take_at.ensures.rest ∙ freed-free c.self.inside.endpoints.items c.args.name c.in-Some.endpoint (sym c.take_at.ensures.taken ∙ c.in-Some.is);
-}
-
-pub invariant_of-self-in-Ok : goal.invariant_of-self-in-Ok
-invariant_of-self-in-Ok c =
-    line-sound c.self.inside.host c.lend.new.host c.transfer_blocking-tried.new.bus c.rest.new.self c.args.steps.now c.self.inside.devices.items c.self.inside.interfaces.items c.self.inside.endpoints.items c.take_at.new.names.items c.put_at.new.names.items c.args.name c.in-Some.endpoint c.transfer_blocking-tried.new.self c.self.invariant
-    (record { lent = (ok-holds c.lend.result c.in_ok-lend.field-0 c.in_ok-lend.was c.lend.ensures.lent); used = blocked-used c.blocking_is_by_steps.ensures c.args.timeout c.lend.new.host c.transfer_blocking-tried.new.bus (state_of c.in-Some.endpoint) c.args.buffer c.in-Ok.completion c.in-Ok.ensures.transferred; rest = c.rest.ensures.rest })
-    (sym c.take_at.ensures.taken ∙ c.in-Some.is) c.take_at.ensures.rest c.put_at.ensures.after c.transfer_blocking-tried.ensures.stands (ap (λ (h : EndpointState). h.key) c.transfer_blocking-tried.ensures.rest) c.transfer_blocking-tried.ensures.others
+put_at-requires c = record { free = free_again _ _ _ _ _ c.take_at.ensures.taken c.in-Some.is c.take_at.ensures.rest }
 
 pub invariant_of-self-2 : goal.invariant_of-self-2
-invariant_of-self-2 c =
-    line-sound c.self.inside.host c.lend.new.host c.transfer_blocking-tried.new.bus c.rest.new.self c.args.steps.now c.self.inside.devices.items c.self.inside.interfaces.items c.self.inside.endpoints.items c.take_at.new.names.items c.put_at.new.names.items c.args.name c.in-Some.endpoint c.transfer_blocking-tried.new.self c.self.invariant
-    (record { lent = (ok-holds c.lend.result c.in_ok-lend.field-0 c.in_ok-lend.was c.lend.ensures.lent); used = unmade-used c.lend.new.host c.transfer_blocking-tried.new.bus (err-holds c.transfer_blocking-tried.result c.in-Err.field-0 c.in-Err.is c.transfer_blocking-tried.ensures.err); rest = c.rest.ensures.rest })
-    (sym c.take_at.ensures.taken ∙ c.in-Some.is) c.take_at.ensures.rest c.put_at.ensures.after c.transfer_blocking-tried.ensures.stands (ap (λ (h : EndpointState). h.key) c.transfer_blocking-tried.ensures.rest) c.transfer_blocking-tried.ensures.others
+invariant_of-self-2 c = sound-lent c.self.inside _ _ _ _ _ _ _ _ c.self.invariant c.lend_steps.ensures.steps (back c) c.transfer_open-transferred.ensures.keeps c.rest-2.ensures.rest
 
-pub returns-in-Ok-clause-gave : goal.returns-in-Ok-clause-gave
-returns-in-Ok-clause-gave c =
-    transfer-code c.blocking_is_by_steps.ensures c.args.self.now c.self.inside.host c.lend.new.host c.transfer_blocking-tried.new.bus c.rest.new.self c.args.steps.now c.self.inside.devices.items c.self.inside.interfaces.items c.self.inside.endpoints.items c.take_at.new.names.items c.put_at.new.names.items c.args.name c.args.timeout c.in-Some.endpoint c.transfer_blocking-tried.new.self c.args.buffer c.in-Ok.completion c.self.view_is
-    (sym c.take_at.ensures.taken ∙ c.in-Some.is) c.take_at.ensures.rest c.put_at.ensures.after
-    (allowed-none c.args.self.now c.args.self.now.host.kernel.past c.requires.allowed.0 c.args.name (state_of c.in-Some.endpoint) (named-code c.args.self.now c.self.inside.host c.self.inside.devices.items c.self.inside.interfaces.items c.self.inside.endpoints.items c.args.name c.in-Some.endpoint c.self.view_is (sym c.take_at.ensures.taken ∙ c.in-Some.is)) c.requires.allowed.1) c.transfer_blocking-tried.ensures.rest (ok-holds c.lend.result c.in_ok-lend.field-0 c.in_ok-lend.was c.lend.ensures.lent) c.in-Ok.ensures.transferred c.rest.ensures.rest
+pub returns-clause-answered : goal.returns-clause-answered
+unfolding transfer_answer
+returns-clause-answered c =
+    answers-lent c.self.inside _ _ _ _ _ _ _ _ _ _ c.args.line.now c.transfer_open-transferred.new.line _ (λ state e h. transfer_on state c.args.direction e c.args.buffer c.args.timeout h) c.self.view_is
+    (lent_is c.self.inside.host _ _ _ c.lend_steps.ensures.steps c.into_vec.ensures.value) (back c) c.number-number.ensures.value c.transfer_open-transferred.ensures.answered c.rest-2.ensures.rest
 
-pub returns-in-Ok-clause-spare : goal.returns-in-Ok-clause-spare
-returns-in-Ok-clause-spare c =
-    let spare = ap (λ (v : SessionState). v.host.kernel.spare) c.self.view_is in
-    line-spare c.self.inside.host c.args.steps.now c.lend.new.host c.transfer_blocking-tried.new.bus c.rest.new.self
-    (record { lent = (ok-holds c.lend.result c.in_ok-lend.field-0 c.in_ok-lend.was c.lend.ensures.lent); used = blocked-used c.blocking_is_by_steps.ensures c.args.timeout c.lend.new.host c.transfer_blocking-tried.new.bus (state_of c.in-Some.endpoint) c.args.buffer c.in-Ok.completion c.in-Ok.ensures.transferred; rest = c.rest.ensures.rest })
-    (rw (← spare) at c.requires.spare)
-    ∙ spare
+pub returns-clause-spare : goal.returns-clause-spare
+returns-clause-spare c =
+    spare-lent c.self.inside _ _ _ _ _ c.self.view_is (lent_is c.self.inside.host _ _ _ c.lend_steps.ensures.steps c.into_vec.ensures.value) c.transfer_open-transferred.ensures.keeps.line c.rest-2.ensures.rest c.requires.room

@@ -1,50 +1,45 @@
-use Rattle.std.proofs.Common.{sym, ◌∙◌, ap}
-use Rattle.usb_endpoint.specs.AnyEndpoints.{state_of}
-use Rattle.usb_answers.specs.SessionState.{SessionState}
-use Rattle.usb_answers.specs.Names.{named, is_free}
-use Rattle.usb_answers.proofs.NameLemmas.{freed-free}
-use Rattle.usb_answers.proofs.CodeLemmas.{poll-open, none-code, named-code, stands-code, ok-holds}
-use Rattle.usb_answers.proofs.Queue.{allowed-some}
-use Rattle.usb_answers.proofs.Lent.{stands-lent, line-sound, line-spare}
-use Rattle.usb_answers.proofs.WaitCode.{wait-used, wait-key, wait-code}
+use Rattle.std.proofs.Common.{◌≡◌, slice_get, sym, ◌∙◌}
+use Rattle.usb_answers.specs.Waits.{waited, wait_answer}
+use Rattle.usb_answers.specs.Steps.{then_rested, lent}
+use Rattle.usb_answers.proofs.TakenOut.{PutBack, put_back, free_again, stands-made, same-none}
+use Rattle.usb_answers.proofs.Lent.{lent_is, stands-lent, sound-lent, answers-lent, sound-stepped, answers-stepped, spare-lent, line-same}
 use Rattle.usb_answers.proofs.session.Session.wait.Goals as goal
+use Rattle.usb_answers.proofs.session.Session.wait.Goals.{After-rest-2, After-write_condition}
 
-pub unreachable-requires : goal.unreachable-requires
-unreachable-requires c =
-    poll-open (named c.args.self.now.endpoints c.args.name)
-    (none-code c.args.self.now c.self.inside.host c.self.inside.devices.items c.self.inside.interfaces.items c.self.inside.endpoints.items c.args.name c.self.view_is (sym c.take_at.ensures.taken ∙ c.in_default.is))
-    c.requires.allowed
+back : (c : After-rest-2) → PutBack c.self.inside.endpoints.items c.put_at.new.names.items c.number-number.result c.in-Some.endpoint c.wait_open-waited.new.endpoint
+back c = put_back _ _ _ _ _ _ _ c.take_at.ensures.taken c.in-Some.is c.take_at.ensures.rest c.put_at.ensures.after
 
-pub wait_next_complete-done-requires-clause-some : goal.wait_next_complete-done-requires-clause-some
-wait_next_complete-done-requires-clause-some c = allowed-some c.args.self.now c.args.name (state_of c.in-Some.endpoint) (named-code c.args.self.now c.self.inside.host c.self.inside.devices.items c.self.inside.interfaces.items c.self.inside.endpoints.items c.args.name c.in-Some.endpoint c.self.view_is (sym c.take_at.ensures.taken ∙ c.in-Some.is)) c.requires.allowed
+same : (c : After-write_condition) → c.take_at.new.names.items ≡ c.self.inside.endpoints.items
+same c = same-none _ _ _ _ c.take_at.ensures.taken c.in_default.is c.take_at.ensures.rest
 
-pub wait_next_complete-done-requires-clause-stands : goal.wait_next_complete-done-requires-clause-stands
-wait_next_complete-done-requires-clause-stands c =
-    stands-lent c.self.inside.host c.lend.new.host c.args.steps.now (state_of c.in-Some.endpoint) (ok-holds c.lend.result c.in_ok-lend.field-0 c.in_ok-lend.was c.lend.ensures.lent)
-    (stands-code c.self.inside.host c.self.inside.devices.items c.self.inside.interfaces.items c.self.inside.endpoints.items c.args.name c.in-Some.endpoint c.self.invariant (sym c.take_at.ensures.taken ∙ c.in-Some.is))
+pub invariant_of-self : goal.invariant_of-self
+invariant_of-self c = sound-stepped c.self.inside _ _ _ _ c.self.invariant c.lend_steps.ensures.steps c.rest.ensures.rest (same c)
+
+pub returns-in_default-clause-answered : goal.returns-in_default-clause-answered
+unfolding wait_answer
+returns-in_default-clause-answered c =
+    answers-stepped c.self.inside _ _ _ _ _ _ _ c.args.line.now c.write_condition.new.out _ (λ state h. then_rested (waited (lent state c.args.steps) c.args.name c.args.timeout (slice_get h.tickets h.taken))) c.self.view_is
+    (lent_is c.self.inside.host _ _ _ c.lend_steps.ensures.steps c.into_vec.ensures.value) c.rest.ensures.rest (sym c.take_at.ensures.taken ∙ c.in_default.is) (same c) c.number-number.ensures.value c.write_condition.ensures.text
+
+pub returns-in_default-clause-spare : goal.returns-in_default-clause-spare
+returns-in_default-clause-spare c =
+    spare-lent c.self.inside _ _ _ _ _ c.self.view_is (lent_is c.self.inside.host _ _ _ c.lend_steps.ensures.steps c.into_vec.ensures.value) (line-same c.lend_steps.new.self) c.rest.ensures.rest c.requires.room
+
+pub wait_open-waited-requires : goal.wait_open-waited-requires
+wait_open-waited-requires c = record { stands = stands-lent _ _ _ _ c.lend_steps.ensures.steps (stands-made c.self.inside _ _ _ c.self.invariant c.take_at.ensures.taken c.in-Some.is) }
 
 pub put_at-requires : goal.put_at-requires
-put_at-requires c = record {
-  free = ap (λ l. is_free l c.args.name) c.take_at.ensures.rest ∙ freed-free c.self.inside.endpoints.items c.args.name c.in-Some.endpoint (sym c.take_at.ensures.taken ∙ c.in-Some.is);
-}
+put_at-requires c = record { free = free_again _ _ _ _ _ c.take_at.ensures.taken c.in-Some.is c.take_at.ensures.rest }
 
 pub invariant_of-self-2 : goal.invariant_of-self-2
-invariant_of-self-2 c =
-    line-sound c.self.inside.host c.lend.new.host c.wait_next_complete-done.new.bus c.rest.new.self c.args.steps.now c.self.inside.devices.items c.self.inside.interfaces.items c.self.inside.endpoints.items c.take_at.new.names.items c.put_at.new.names.items c.args.name c.in-Some.endpoint c.wait_next_complete-done.new.self c.self.invariant
-    (record { lent = (ok-holds c.lend.result c.in_ok-lend.field-0 c.in_ok-lend.was c.lend.ensures.lent); used = wait-used c.wait_is_by_steps.ensures c.wait_next_complete-done.result c.args.timeout c.lend.new.host c.wait_next_complete-done.new.bus (state_of c.in-Some.endpoint) (state_of c.wait_next_complete-done.new.self) c.wait_next_complete-done.ensures.found c.wait_next_complete-done.ensures.ended; rest = c.rest.ensures.rest })
-    (sym c.take_at.ensures.taken ∙ c.in-Some.is) c.take_at.ensures.rest c.put_at.ensures.after c.wait_next_complete-done.ensures.stands (wait-key c.wait_next_complete-done.result c.args.timeout c.lend.new.host c.wait_next_complete-done.new.bus (state_of c.in-Some.endpoint) (state_of c.wait_next_complete-done.new.self) c.wait_next_complete-done.ensures.found c.wait_next_complete-done.ensures.ended) c.wait_next_complete-done.ensures.others
+invariant_of-self-2 c = sound-lent c.self.inside _ _ _ _ _ _ _ _ c.self.invariant c.lend_steps.ensures.steps (back c) c.wait_open-waited.ensures.keeps c.rest-2.ensures.rest
 
-pub returns-clause-gave : goal.returns-clause-gave
-returns-clause-gave c =
-    wait-code c.wait_is_by_steps.ensures c.wait_next_complete-done.result c.args.self.now c.self.inside.host c.lend.new.host c.wait_next_complete-done.new.bus c.rest.new.self c.args.steps.now c.self.inside.devices.items c.self.inside.interfaces.items c.self.inside.endpoints.items c.take_at.new.names.items c.put_at.new.names.items c.args.name c.args.timeout c.in-Some.endpoint c.wait_next_complete-done.new.self c.self.view_is
-    (sym c.take_at.ensures.taken ∙ c.in-Some.is) c.take_at.ensures.rest c.put_at.ensures.after
-    (allowed-some c.args.self.now c.args.name (state_of c.in-Some.endpoint) (named-code c.args.self.now c.self.inside.host c.self.inside.devices.items c.self.inside.interfaces.items c.self.inside.endpoints.items c.args.name c.in-Some.endpoint c.self.view_is (sym c.take_at.ensures.taken ∙ c.in-Some.is)) c.requires.allowed)
-    (ok-holds c.lend.result c.in_ok-lend.field-0 c.in_ok-lend.was c.lend.ensures.lent) c.wait_next_complete-done.ensures.found c.wait_next_complete-done.ensures.ended c.rest.ensures.rest
+pub returns-clause-answered : goal.returns-clause-answered
+unfolding wait_answer
+returns-clause-answered c =
+    answers-lent c.self.inside _ _ _ _ _ _ _ _ _ _ c.args.line.now c.wait_open-waited.new.line _ (λ state e h. waited state e c.args.timeout (slice_get h.tickets h.taken)) c.self.view_is
+    (lent_is c.self.inside.host _ _ _ c.lend_steps.ensures.steps c.into_vec.ensures.value) (back c) c.number-number.ensures.value c.wait_open-waited.ensures.answered c.rest-2.ensures.rest
 
 pub returns-clause-spare : goal.returns-clause-spare
 returns-clause-spare c =
-    let spare = ap (λ (v : SessionState). v.host.kernel.spare) c.self.view_is in
-    line-spare c.self.inside.host c.args.steps.now c.lend.new.host c.wait_next_complete-done.new.bus c.rest.new.self
-    (record { lent = (ok-holds c.lend.result c.in_ok-lend.field-0 c.in_ok-lend.was c.lend.ensures.lent); used = wait-used c.wait_is_by_steps.ensures c.wait_next_complete-done.result c.args.timeout c.lend.new.host c.wait_next_complete-done.new.bus (state_of c.in-Some.endpoint) (state_of c.wait_next_complete-done.new.self) c.wait_next_complete-done.ensures.found c.wait_next_complete-done.ensures.ended; rest = c.rest.ensures.rest })
-    (rw (← spare) at c.requires.spare)
-    ∙ spare
+    spare-lent c.self.inside _ _ _ _ _ c.self.view_is (lent_is c.self.inside.host _ _ _ c.lend_steps.ensures.steps c.into_vec.ensures.value) c.wait_open-waited.ensures.keeps.line c.rest-2.ensures.rest c.requires.room

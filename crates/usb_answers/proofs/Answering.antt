@@ -1,0 +1,39 @@
+-- What a session answers, from what it keeps of a state.
+use Rattle.std.proofs.Common.{◌≡◌, ℕ, List, ◌++◌, Option, Some, None, refl, ap, sym, ◌∙◌, subst}
+use Rattle.std.specs.Option.{option_map}
+use Rattle.usb_answers.specs.Names.{named, is_free}
+use Rattle.usb_answers.specs.State.{State, Endpoint, kept}
+use Rattle.usb_answers.specs.Answer.{Answer, told, if_open}
+use Rattle.usb_answers.specs.SessionState.{SessionState}
+use Rattle.usb_answers.specs.Relation.{Represents}
+use Rattle.usb_answers.specs.Answered.{Answered}
+use Rattle.usb_answers.proofs.NameLemmas.{named-map, is_free-map}
+
+-- what was asked is told, or the call is barred
+pub told-answered : (s : SessionState) (state : State) (before after line : List ℕ) → Represents s state → after ≡ before ++ line → Answered s before after (told state line)
+told-answered s state before after line r is = record { state = r; line = is }
+
+-- nothing is open under the name, or something is
+pub answered-none : {X : Type 0} (s : SessionState) (before after : List ℕ) (o : Option X) (call : X → Answer) (otherwise : Answer) → o ≡ None → Answered s before after otherwise → Answered s before after (if_open o call otherwise)
+answered-none s before after o call otherwise none is = subst (λ p. Answered s before after (if_open p call otherwise)) (sym none) is
+
+pub answered-some : {X : Type 0} (s : SessionState) (before after : List ℕ) (o : Option X) (x : X) (call : X → Answer) (otherwise : Answer) → o ≡ Some x → Answered s before after (call x) → Answered s before after (if_open o call otherwise)
+answered-some s before after o x call otherwise some is = subst (λ p. Answered s before after (if_open p call otherwise)) (sym some) is
+
+-- the host is the state's
+pub host_is : (s : SessionState) (state : State) → Represents s state → s.host ≡ state.host
+host_is s state r = ap (λ (v : SessionState). v.host) r.is
+
+-- of an endpoint the session keeps the tickets that were not taken
+pub named_kept : (s : SessionState) (state : State) (e : ℕ) → Represents s state → named s.endpoints e ≡ option_map kept (named state.endpoints e)
+named_kept s state e r = ap (λ (v : SessionState). named v.endpoints e) r.is ∙ named-map kept state.endpoints e
+
+pub free_kept : (s : SessionState) (state : State) (e : ℕ) → Represents s state → is_free s.endpoints e ≡ is_free state.endpoints e
+free_kept s state e r = ap (λ (v : SessionState). is_free v.endpoints e) r.is ∙ is_free-map kept state.endpoints e
+
+none_by : (o : Option Endpoint) → option_map kept o ≡ None → o ≡ None
+none_by None is = refl
+none_by (Some h) is = absurd (cc)
+
+pub none_kept : (s : SessionState) (state : State) (e : ℕ) → Represents s state → named s.endpoints e ≡ None → named state.endpoints e ≡ None
+none_kept s state e r is = none_by (named state.endpoints e) (sym (named_kept s state e r) ∙ is)

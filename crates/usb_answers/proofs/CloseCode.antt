@@ -1,0 +1,115 @@
+-- An endpoint is taken out of its name and closed.
+use Rattle.std.proofs.Common.{◌≡◌, ℕ, arith, List, [], ◌∷◌, ◌++◌, ◌+◌, length, length-append, map, Option, Some, None, true, false, Result, Ok, Err, String, string_bytes, ap, sym, ◌∙◌, subst}
+use Rattle.std.specs.Prelude.{is_some, OnOk}
+use Rattle.std.specs.declared.alloc.Global.{Global}
+use Rattle.std.specs.Option.{option_map}
+use Rattle.usb_endpoint.specs.declared.any_endpoint.AnyEndpoint.{AnyEndpoint}
+use Rattle.usb_endpoint.specs.AnyEndpoints.{state_of}
+use Rattle.usb_endpoint.specs.EndpointState.{EndpointState}
+use Rattle.usb_endpoint.specs.Handles.{KeepsOthers}
+use Rattle.usb_endpoint.specs.Closes.{all_discarded, all_abandoned, after_close}
+use Rattle.usb_device.specs.HostState.{HostState}
+use Rattle.usb_device.specs.HostBus.{bus_of}
+use Rattle.usb_device.specs.HostFrames.{LineGoesOn}
+use Rattle.usb_device.specs.HostCalls.{host_discarded, host_left}
+use Rattle.usb_device.specs.TicketEnds.{host_abandoned}
+use Rattle.usb_device.proofs.CallFrames.{keeps-open, keeps-abandoned, line-left, interfaces-left}
+use Rattle.usb_device.proofs.WaitFrames.{line-keeps, line-trans}
+use Rattle.usb_lines.specs.Calls.{condition_line, ok_line}
+use Rattle.usb_answers.specs.declared.session.Session.TheInside.{Inside}
+use Rattle.usb_answers.specs.Names.{named, freed}
+use Rattle.usb_answers.specs.State.{State, Endpoint, kept}
+use Rattle.usb_answers.specs.Answer.{barred, ok_answer, if_open}
+use Rattle.usb_answers.specs.Closes.{closed, closed_at, close_answer, without_endpoint}
+use Rattle.usb_answers.specs.SessionState.{SessionState, IsSound}
+use Rattle.usb_answers.specs.SessionFacts.{made_of}
+use Rattle.usb_answers.specs.Relation.{Represents}
+use Rattle.usb_answers.specs.Answered.{Answered, Answers}
+use Rattle.usb_answers.proofs.Answering.{named_kept, none_kept, host_is, told-answered}
+use Rattle.usb_answers.proofs.Called.{KeepsSession, open_at, sound-freed, represents-freed, taken-map, freed-map}
+use Rattle.usb_answers.proofs.SubmitCode.{line-all_discarded}
+use Rattle.usb_answers.proofs.TakenOut.{made_with, named-made, none_made, keeps-line}
+
+line-all_abandoned : (h : HostState) (ts : List ℕ) → LineGoesOn h (all_abandoned host_abandoned h ts)
+line-all_abandoned h [] = line-keeps h h (keeps-open h)
+line-all_abandoned h (t ∷ ts) =
+    line-trans h (host_abandoned h t) (all_abandoned host_abandoned (host_abandoned h t) ts) (line-keeps h (host_abandoned h t) (keeps-abandoned h t)) (line-all_abandoned (host_abandoned h t) ts)
+
+abbrev before_left : HostState → EndpointState → HostState
+before_left h e = all_abandoned host_abandoned (all_discarded host_discarded h e.pending) e.pending
+
+line-before_left : (h : HostState) (e : EndpointState) → LineGoesOn h (before_left h e)
+line-before_left h e =
+    line-trans h (all_discarded host_discarded h e.pending) (before_left h e) (line-all_discarded h e.pending) (line-all_abandoned (all_discarded host_discarded h e.pending) e.pending)
+
+-- the line, what is claimed and the places for steps are kept
+keeps-closed : (h : HostState) (e : EndpointState) → h.steps ≡ [] → KeepsSession h (after_close host_discarded host_abandoned host_left h e)
+keeps-closed h e idle =
+    let before = keeps-line h (before_left h e) idle (line-before_left h e) in
+    let line = line-left (before_left h e) e.key in
+    record {
+      idle = line.steps ∙ before.idle;
+      devices = ap length line.devices ∙ before.devices;
+      interfaces = interfaces-left (before_left h e) e.key ∙ before.interfaces;
+    }
+
+pub closed-sound : (i : Inside) (now : HostState) (mid : List (Option AnyEndpoint)) (n : ℕ) (x : AnyEndpoint) → IsSound (made_of i) → named i.endpoints.items n ≡ Some x → mid ≡ freed i.endpoints.items n → now ≡ after_close host_discarded host_abandoned host_left i.host (state_of x) → KeepsOthers (bus_of i.host) (bus_of now) (state_of x).key → IsSound (made_with i now mid)
+closed-sound i now mid n x sound was rest bus others =
+    sound-freed (made_of i) now (map (option_map state_of) mid) n (state_of x) sound (taken-map i.endpoints.items n x was) (freed-map i.endpoints.items mid n rest)
+    (subst (KeepsSession i.host) (sym bus) (keeps-closed i.host (state_of x) sound.idle)) others
+
+pub closed-spare : (h now : HostState) (e : EndpointState) → h.steps ≡ [] → now ≡ after_close host_discarded host_abandoned host_left h e → now.kernel.spare ≡ h.kernel.spare
+closed-spare h now e idle bus =
+    let before = line-before_left h e in
+    let none : length before.front + length (before_left h e).steps ≡ 0 = sym (length-append before.front (before_left h e).steps) ∙ ap length (sym before.steps ∙ idle) in
+    ap (λ (g : HostState). g.kernel.spare) bus ∙ (line-left (before_left h e) e.key).spare ∙ omega (arith, before.spare, none)
+
+pub freed-made : (i : Inside) (S : SessionState) (mid : List (Option AnyEndpoint)) (n : ℕ) → made_of i ≡ S → mid ≡ freed i.endpoints.items n → map (option_map state_of) mid ≡ freed S.endpoints n
+freed-made i S mid n view rest = freed-map i.endpoints.items mid n rest ∙ ap (λ (v : SessionState). freed v.endpoints n) view
+
+pub is_some-made : (i : Inside) (S : SessionState) (n : ℕ) (x : AnyEndpoint) → made_of i ≡ S → named i.endpoints.items n ≡ Some x → true ≡ is_some (named S.endpoints n)
+is_some-made i S n x view was = sym (ap is_some (named-made i S n x view was))
+
+pub is_none-made : (i : Inside) (S : SessionState) (n : ℕ) → made_of i ≡ S → named i.endpoints.items n ≡ None → false ≡ is_some (named S.endpoints n)
+is_none-made i S n view none = sym (ap is_some (none_made i S n view none))
+
+pub closed-represents : (i : Inside) (S : SessionState) (now : HostState) (mid : List (Option AnyEndpoint)) (n : ℕ) (x : AnyEndpoint) → made_of i ≡ S → named i.endpoints.items n ≡ Some x → mid ≡ freed i.endpoints.items n → now ≡ after_close host_discarded host_abandoned host_left i.host (state_of x) → (state : State) → Represents S state → Represents (made_with i now mid) (closed state n)
+unfolding closed
+closed-represents i S now mid n x view was rest bus state r =
+    let s = subst (λ v. Represents v state) (sym view) r in
+    let o = open_at S state n (state_of x) r (named-made i S n x view was) in
+    rw o.is
+    (subst (λ (g : HostState). Represents (made_with i now mid) (record state { host = g; endpoints = freed state.endpoints n }))
+    (bus ∙ ap (λ (g : HostState). after_close host_discarded host_abandoned host_left g (state_of x)) (host_is (made_of i) state s) ∙ ap (after_close host_discarded host_abandoned host_left state.host) (sym o.same))
+    (represents-freed (made_of i) state now (map (option_map state_of) mid) n s (freed-map i.endpoints.items mid n rest)))
+
+pub nothing-closed : (i : Inside) (S : SessionState) (mid : List (Option AnyEndpoint)) (n : ℕ) → made_of i ≡ S → named i.endpoints.items n ≡ None → mid ≡ i.endpoints.items → (state : State) → Represents S state → Represents (made_with i i.host mid) (closed state n)
+unfolding closed
+nothing-closed i S mid n view none rest state r =
+    rw (none_kept S state n r (none_made i S n view none))
+    (subst (λ l. Represents (made_with i i.host l) state) (sym rest) (subst (λ v. Represents v state) (sym view) r))
+
+-- what a close answers
+was_open : (s : SessionState) (state : State) (e : ℕ) (before after : List ℕ) (o : Option Endpoint) → is_some (option_map kept o) ≡ true → Represents s (closed_at state e o) → after ≡ before ++ ok_line → Answered s before after (if_open o (λ h. ok_answer (without_endpoint state e h)) (barred state))
+was_open s state e before after None some r is = absurd (cc)
+was_open s state e before after (Some h) some r is = told-answered s (without_endpoint state e h) before after ok_line r is
+
+was_free : (s : SessionState) (state : State) (e : ℕ) (before after : List ℕ) (o : Option Endpoint) → is_some (option_map kept o) ≡ false → Represents s (closed_at state e o) → after ≡ before ++ condition_line → Answered s before after (if_open o (λ h. ok_answer (without_endpoint state e h)) (barred state))
+was_free s state e before after None some r is = told-answered s state before after condition_line r is
+was_free s state e before after (Some h) some r is = absurd (cc)
+
+pub close-answered : {E : Type 0} (S s : SessionState) (n e : ℕ) (before text : String Global) (result : Result Unit E) → n ≡ e → is_some (named S.endpoints n) ≡ true → ((state : State) → Represents S state → Represents s (closed state n)) → OnOk result (string_bytes text ≡ string_bytes before ++ ok_line) → Answers S s before text result (λ state. close_answer state e)
+unfolding close_answer closed
+close-answered S s n e before text (Err error) same some now is = tt
+close-answered S s n e before text (Ok done) same some now is =
+    λ state r.
+    subst (λ m. Answered s (string_bytes before) (string_bytes text) (if_open (named state.endpoints m) (λ h. ok_answer (without_endpoint state m h)) (barred state))) same
+    (was_open s state n (string_bytes before) (string_bytes text) (named state.endpoints n) (sym (ap is_some (named_kept S state n r)) ∙ some) (now state r) is)
+
+pub close-barred : {E : Type 0} (S s : SessionState) (n e : ℕ) (before text : String Global) (result : Result Unit E) → n ≡ e → is_some (named S.endpoints n) ≡ false → ((state : State) → Represents S state → Represents s (closed state n)) → OnOk result (string_bytes text ≡ string_bytes before ++ condition_line) → Answers S s before text result (λ state. close_answer state e)
+unfolding close_answer closed
+close-barred S s n e before text (Err error) same some now is = tt
+close-barred S s n e before text (Ok done) same some now is =
+    λ state r.
+    subst (λ m. Answered s (string_bytes before) (string_bytes text) (if_open (named state.endpoints m) (λ h. ok_answer (without_endpoint state m h)) (barred state))) same
+    (was_free s state n (string_bytes before) (string_bytes text) (named state.endpoints n) (sym (ap is_some (named_kept S state n r)) ∙ some) (now state r) is)

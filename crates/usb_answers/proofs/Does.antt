@@ -1,0 +1,130 @@
+-- What a line does.
+use Rattle.std.proofs.Common.{◌≡◌, ℕ, ◌≤◌, Bool, true, false, List, [], ◌∷◌, codes, length, Option, Some, None, Result, Ok, Err, refl, ap, sym, ◌∙◌, subst, slice_get}
+use Rattle.std.specs.Prelude.{nat_eq, if◌then◌else◌}
+use Rattle.std.specs.List.{starts_with}
+use Rattle.std.proofs.lemmas.Bool.{cond_both}
+use Rattle.usb_xfer.specs.BufferState.{BufferState}
+use Rattle.usb_xfer.specs.declared.transfer.Completion.{Completion}
+use Rattle.usb_error.specs.ErrorState.{ErrorState}
+use Rattle.usb_kernel.specs.declared.step.KernelStep.{KernelStep}
+use Rattle.usb_kernel.specs.Tickets.{tickets}
+use Rattle.usb_bus.specs.Completions.{transfer_completion}
+use Rattle.usb_device.proofs.CountLemmas.{KeepsCount, count-trans, rest-count}
+use Rattle.usb_device.proofs.FollowLemmas.{KeepsTickets, on-then, on-kept, on-rest}
+use Rattle.usb_lines.specs.Calls.{ok_line, condition_line, error_line}
+use Rattle.usb_lines.specs.Completions.{done_line}
+use Rattle.usb_answers.specs.Names.{named, is_free, set_name}
+use Rattle.usb_answers.specs.State.{State, Endpoint}
+use Rattle.usb_answers.specs.Answer.{Answer, told, barred, ok_answer, error_answer, if_open}
+use Rattle.usb_answers.specs.Submits.{submitted}
+use Rattle.usb_answers.specs.Polls.{taken_from}
+use Rattle.usb_answers.specs.Closes.{without_endpoint}
+use Rattle.usb_answers.specs.Steps.{lent, rested, stepped_all, then_rested}
+use Rattle.usb_answers.specs.Accounts.{TookFew}
+use Rattle.usb_answers.specs.Served.{Handle}
+
+-- the host went on, and no endpoint was opened or closed, and no ticket submitted or taken
+pub record Quiet (old new : State) : Type 0 where
+  pub keeps : KeepsTickets old.host new.host
+  pub count : KeepsCount old.host new.host
+  pub endpoints : new.endpoints ≡ old.endpoints
+
+-- whether a line begins as that of a completion
+abbrev pub says_done : List ℕ → Bool
+says_done line = starts_with nat_eq line (codes "done")
+
+-- what an answer does from a state on, and the endpoints that it closes: the host goes on, endpoints are opened and tickets submitted;
+-- and then there is nothing more, or a ticket is taken and its completion printed, or an endpoint is closed. `few` is what is asked of
+-- the state before the line: no more tickets of an endpoint were taken than it has
+pub data Acts (few : Type 0) (a : Answer) : State → List Handle → Type 0 where
+  goes : {state next : State} {closed : List Handle} → Quiet state next → Acts few a next closed → Acts few a state closed
+  opens : {state : State} {closed : List Handle} (e : ℕ) (x : Endpoint) → is_free state.endpoints e ≡ true → x.tickets ≡ [] → x.taken ≡ 0
+      → Acts few a (record state { endpoints = set_name state.endpoints e x }) closed → Acts few a state closed
+  submits : {state : State} {closed : List Handle} (e : ℕ) (b : BufferState) (h : Endpoint) → named state.endpoints e ≡ Some h
+      → (few → h.taken ≤ length h.tickets) → Acts few a (submitted state e b h) closed → Acts few a state closed
+  ends : {state : State} → says_done a.line ≡ false → Quiet state a.state → Acts few a state []
+  takes : {state : State} (e t : ℕ) (h : Endpoint) (c : Completion) → named state.endpoints e ≡ Some h → (few → slice_get h.tickets h.taken ≡ Some t)
+      → transfer_completion state.host.kernel.past t ≡ Some c → a.line ≡ done_line c → Quiet (taken_from state e t) a.state → Acts few a state []
+  closes : {state : State} (e : ℕ) (h : Endpoint) (lines : List (List ℕ)) → named state.endpoints e ≡ Some h → says_done a.line ≡ false
+      → Quiet (without_endpoint state e h) a.state → Acts few a state (record { endpoint = h; past = state.host.kernel.past; lines = lines } ∷ [])
+
+-- what the answer of a line does that closes no endpoint
+abbrev pub Does : State → Answer → Type 0
+Does state a = Acts (TookFew state) a state []
+
+pub quiet-then : {a b c : State} → Quiet a b → Quiet b c → Quiet a c
+quiet-then {a} {b} {c} first second =
+    record {
+      keeps = on-then a.host b.host c.host first.keeps second.keeps;
+      count = count-trans a.host b.host c.host first.count second.count;
+      endpoints = second.endpoints ∙ first.endpoints;
+    }
+
+-- journal and tickets are as they were
+pub quiet-aside : (old new : State) → new.host.kernel.past ≡ old.host.kernel.past → new.host.tickets ≡ old.host.tickets → new.endpoints ≡ old.endpoints → Quiet old new
+quiet-aside old new past same endpoints =
+    record {
+      keeps = on-kept old.host new.host past same;
+      count = record { count = ap (λ l. length l) same; past = ap (λ p. length (tickets p)) past };
+      endpoints = endpoints;
+    }
+
+pub quiet-same : (state : State) → Quiet state state
+quiet-same state = quiet-aside state state refl refl refl
+
+quiet-rested : (state : State) → Quiet state (rested state)
+quiet-rested state = record { keeps = on-rest state.host; count = rest-count state.host; endpoints = refl }
+
+quiet-lent : (state : State) (steps : List KernelStep) → Quiet state (lent state steps)
+quiet-lent state steps = quiet-aside state (lent state steps) refl refl refl
+
+pub quiet-stepped : (state : State) (steps : List KernelStep) → Quiet state (stepped_all state steps)
+unfolding stepped_all
+quiet-stepped state steps = quiet-then (quiet-lent state steps) (quiet-rested (lent state steps))
+
+-- a line that only asks, and the lines of calls that give no value
+pub told-does : {few : Type 0} (state : State) (line : List ℕ) → says_done line ≡ false → Acts few (told state line) state []
+told-does state line other = ends other (quiet-same state)
+
+pub barred-does : {few : Type 0} (state : State) → Acts few (barred state) state []
+barred-does state = told-does state condition_line refl
+
+pub ok-does : {few : Type 0} (state : State) → Acts few (ok_answer state) state []
+ok-does state = told-does state ok_line refl
+
+pub error-does : {few : Type 0} (state : State) (error : ErrorState) → Acts few (error_answer state error) state []
+unfolding error_line
+error-does state error = told-does state (error_line error) refl
+
+-- a call on what is open under a name
+pub call-does : {X : Type 0} {state : State} (o : Option X) (call : X → Answer) → ((x : X) → o ≡ Some x → Does state (call x)) → Does state (if_open o call (barred state))
+call-does {state} None call does = barred-does state
+call-does (Some x) call does = does x refl
+
+-- one that asks what is printed
+pub ask-does : {X : Type 0} {state : State} (o : Option X) (line : X → List ℕ) → ((x : X) → says_done (line x) ≡ false) → Does state (if_open o (λ x. told state (line x)) (barred state))
+ask-does {state} o line other = call-does o _ (λ x is. told-does state (line x) (other x))
+
+-- one that is allowed where a name is free, one that is barred for another reason, and one that may be refused
+pub free-does : {state : State} {free : Bool} {call : Answer} → (free ≡ true → Does state call) → Does state (if free then call else barred state)
+free-does {state} {free} {call} does = cond_both free call (barred state) (Does state) does (λ no_. barred-does state)
+
+pub bar-does : {state : State} {bars : Bool} {call : Answer} → (bars ≡ false → Does state call) → Does state (if bars then barred state else call)
+bar-does {state} {bars} {call} does = cond_both bars (barred state) call (Does state) (λ yes_. barred-does state) does
+
+pub try-does : {X : Type 0} {state : State} (call : Result X ErrorState → Answer) (tried : Result X ErrorState) → ((error : ErrorState) → call (Err error) ≡ error_answer state error) → ((x : X) → Does state (call (Ok x))) → Does state (call tried)
+try-does {state} call (Err error) refused does = subst (Does state) (sym (refused error)) (error-does state error)
+try-does call (Ok x) refused does = does x
+
+-- with the steps of its line
+rest-does : {few : Type 0} {a : Answer} {state : State} {closed : List Handle} → Acts few a state closed → Acts few (then_rested a) state closed
+rest-does (goes quiet rest) = goes quiet (rest-does rest)
+rest-does (opens e x free none zero_ rest) = opens e x free none zero_ (rest-does rest)
+rest-does (submits e b h here few rest) = submits e b h here few (rest-does rest)
+rest-does {a} (ends other quiet) = ends other (quiet-then quiet (quiet-rested a.state))
+rest-does {a} (takes e t h c here front came line quiet) = takes e t h c here front came line (quiet-then quiet (quiet-rested a.state))
+rest-does {a} (closes e h lines here other quiet) = closes e h lines here other (quiet-then quiet (quiet-rested a.state))
+
+pub stepping-does : {X : Type 0} {state : State} {steps : List KernelStep} (o : Option X) (call : X → Answer) → ((x : X) → o ≡ Some x → Does (lent state steps) (call x)) → Does state (if_open o (λ x. then_rested (call x)) (barred (stepped_all state steps)))
+stepping-does {state} {steps} None call does = ends refl (quiet-stepped state steps)
+stepping-does {state} {steps} (Some x) call does = goes (quiet-lent state steps) (rest-does (does x refl))

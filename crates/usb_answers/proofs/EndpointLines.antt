@@ -1,0 +1,162 @@
+-- What the lines on endpoints do.
+use Rattle.std.proofs.Common.{◌≡◌, ℕ, ◌≤◌, arith, List, [], ◌∷◌, ◌++◌, length, drop, length-drop, Option, Some, None, Result, Bool, true, false, refl, ap, sym, ◌∙◌, slice_get}
+use Rattle.std.specs.Prelude.{not, ◌||◌, ◌==◌, nat_le, is_some}
+use Rattle.std.specs.Option.{option_map}
+use Rattle.std.proofs.lemmas.Bool.{cond_both, or_parts, eqb-true, not-false}
+use Rattle.usb_desc.specs.declared.types.Direction.{Direction}
+use Rattle.usb_desc.specs.declared.types.TransferType.{TransferType}
+use Rattle.usb_xfer.specs.BufferState.{BufferState}
+use Rattle.usb_xfer.specs.declared.transfer.Completion.{Completion}
+use Rattle.usb_error.specs.ErrorState.{ErrorState}
+use Rattle.usb_kernel.specs.declared.event.Event.{Event}
+use Rattle.usb_kernel.specs.declared.step.KernelStep.{KernelStep}
+use Rattle.usb_kernel.specs.Info.{unreaped}
+use Rattle.usb_kernel.proofs.Places.{slice_get-append_seam}
+use Rattle.usb_bus.specs.Completions.{transfer_completion}
+use Rattle.usb_endpoint.specs.EndpointState.{EndpointState}
+use Rattle.usb_device.specs.HostState.{HostState}
+use Rattle.usb_device.specs.HostWaits.{host_waited}
+use Rattle.usb_device.specs.HostBlocking.{host_blocked}
+use Rattle.usb_device.specs.EndpointOpens.{host_asked, host_tries, with_endpoint}
+use Rattle.usb_device.proofs.CountLemmas.{asked-count, entered-count, waited-count, blocked-count, all_discarded-count}
+use Rattle.usb_device.proofs.FollowLemmas.{on-asked, on-waited, on-blocked, on-all_discarded}
+use Rattle.usb_device.proofs.FoundLemmas.{blocked-found}
+use Rattle.usb_lines.specs.Calls.{ok_line}
+use Rattle.usb_lines.specs.Completions.{done_line, polled_line, waited_line}
+use Rattle.usb_answers.specs.Names.{named, is_free, change_named}
+use Rattle.usb_answers.specs.State.{State, Endpoint, kept, pending, tickets_of, with_host}
+use Rattle.usb_answers.specs.Answer.{told, barred, ok_answer, silent, if_open}
+use Rattle.usb_answers.specs.OpenAt.{InterfaceAt, interface_at}
+use Rattle.usb_answers.specs.Endpoints.{new_endpoint, endpoint_as, endpoint_answer}
+use Rattle.usb_answers.specs.Submits.{with_submission, submitted, submit_answer, has_direction}
+use Rattle.usb_answers.specs.Polls.{one_taken, taken_from, took, polled, poll_answer}
+use Rattle.usb_answers.specs.Waits.{wait_ended, waited, wait_answer}
+use Rattle.usb_answers.specs.Transfers.{bars_transfer, with_taken, transferred, transfer_answer}
+use Rattle.usb_answers.specs.Closes.{cancel_answer, without_endpoint, close_answer, closed_at, closed}
+use Rattle.usb_answers.specs.Steps.{lent, steps_answer}
+use Rattle.usb_answers.specs.Served.{closed_as, closed_under}
+use Rattle.usb_answers.proofs.NameLemmas.{named-change_same, change-change}
+use Rattle.usb_answers.proofs.Does.{Quiet, Acts, Does, says_done, goes, opens, submits, ends, takes, closes, quiet-aside, quiet-same, quiet-stepped, told-does, barred-does, free-does, bar-does, try-does, ok-does, call-does, stepping-does}
+
+-- an endpoint is opened
+endpoint_as-does : (state : State) (e address : ℕ) (kind : TransferType) (x : InterfaceAt) (tried : Result ℕ ErrorState) → is_free state.endpoints e ≡ true → Does state (endpoint_as state e address kind x tried)
+endpoint_as-does state e address kind x tried free =
+    try-does (endpoint_as state e address kind x) tried (λ error. refl) (λ maximum.
+    goes (quiet-aside state (with_host state (with_endpoint state.host x.handle.key address)) refl refl refl)
+    (opens e (new_endpoint state.host x.claimed.device address kind maximum) free refl refl (ok-does _)))
+
+pub endpoint-does : (state : State) (e i address : ℕ) (kind : TransferType) (direction : Direction) → Does state (endpoint_answer state e i address kind direction)
+unfolding endpoint_answer
+endpoint-does state e i address kind direction =
+    call-does (interface_at state i) _ (λ x is.
+    free-does (λ free.
+    let host = host_asked state.host x.claimed.opened in
+    goes (record { keeps = on-asked state.host x.claimed.opened; count = asked-count state.host x.claimed.opened; endpoints = refl })
+    (endpoint_as-does (with_host state host) e address kind x (host_tries host x.handle.key x.claimed address kind direction) free)))
+
+-- a ticket is submitted
+pub submit-does : (state : State) (direction : Direction) (e : ℕ) (b : BufferState) → Does state (submit_answer state direction e b)
+unfolding submit_answer
+submit-does state direction e b =
+    call-does (named state.endpoints e) _ (λ h here.
+    bar-does (λ no_. submits e b h here (λ few. few e h here) (ok-does (submitted state e b h))))
+
+-- the ticket at the place of those that were taken is taken
+took-does : (line : Option Completion → List ℕ) (state : State) (e t : ℕ) (h : Endpoint) (o : Option Completion) → says_done (line None) ≡ false → ((c : Completion) → line (Some c) ≡ done_line c) → named state.endpoints e ≡ Some h → slice_get h.tickets h.taken ≡ Some t → transfer_completion state.host.kernel.past t ≡ o → Does state (took line state e t o)
+took-does line state e t h None other done here front is = told-does state (line None) other
+took-does line state e t h (Some c) other done here front is = takes e t h c here (λ few. front) is (done c) (quiet-same (taken_from state e t))
+
+polled-does : (state : State) (e : ℕ) (h : Endpoint) (o : Option ℕ) → named state.endpoints e ≡ Some h → slice_get h.tickets h.taken ≡ o → Does state (polled state e o)
+polled-does state e h None here front = barred-does state
+polled-does state e h (Some t) here front = took-does polled_line state e t h (transfer_completion state.host.kernel.past t) refl (λ c. refl) here front refl
+
+pub poll-does : (state : State) (e : ℕ) → Does state (poll_answer state e)
+unfolding poll_answer
+poll-does state e = call-does (named state.endpoints e) _ (λ h here. polled-does state e h (slice_get h.tickets h.taken) here refl)
+
+wait_ended-does : (state : State) (e t : ℕ) (h : Endpoint) (p : Bool × HostState) → named state.endpoints e ≡ Some h → slice_get h.tickets h.taken ≡ Some t → Quiet state (with_host state p.1) → Does state (wait_ended state e t p)
+wait_ended-does state e t h p here front quiet =
+    cond_both p.0 _ (told (with_host state p.1) (waited_line None)) (Does state)
+    (λ yes_. goes quiet (took-does waited_line (with_host state p.1) e t h (transfer_completion p.1.kernel.past t) refl (λ c. refl) here front refl))
+    (λ no_. ends refl quiet)
+
+waited-does : (state : State) (e timeout : ℕ) (h : Endpoint) (o : Option ℕ) → named state.endpoints e ≡ Some h → slice_get h.tickets h.taken ≡ o → Does state (waited state e timeout o)
+waited-does state e timeout h None here front = barred-does state
+waited-does state e timeout h (Some t) here front =
+    wait_ended-does state e t h (host_waited state.host t timeout) here front
+    (record { keeps = on-waited state.host t timeout; count = waited-count state.host t timeout; endpoints = refl })
+
+pub wait-does : (state : State) (e timeout : ℕ) (steps : List KernelStep) → Does state (wait_answer state e timeout steps)
+unfolding wait_answer
+wait-does state e timeout steps =
+    stepping-does (named state.endpoints e) _ (λ h here. waited-does (lent state steps) e timeout h (slice_get h.tickets h.taken) here refl)
+
+-- a blocking transfer at an endpoint where none is pending: its ticket is submitted, comes, and is taken
+transfer-free : (past : List Event) (direction : Direction) (h : EndpointState) → bars_transfer past direction h ≡ false → length h.pending ≡ 0
+transfer-free past direction h allowed =
+    let others = or_parts (not (has_direction direction h)) (not (length h.pending == 0) || nat_le 1024 (unreaped past)) allowed in
+    let none = or_parts (not (length h.pending == 0)) (nat_le 1024 (unreaped past)) others.1 in
+    eqb-true (length h.pending) 0 (not-false (length h.pending == 0) none.0)
+
+option-taken : (n : ℕ) (o : Option Endpoint) → option_map one_taken (option_map (with_submission n) o) ≡ option_map (with_taken n) o
+option-taken n None = refl
+option-taken n (Some h) = refl
+
+pushed-taken : (n : ℕ) (es : List (Option Endpoint)) (e : ℕ) → change_named one_taken (change_named (with_submission n) es e) e ≡ change_named (with_taken n) es e
+unfolding change_named
+pushed-taken n es e = change-change (option_map (with_submission n)) (option_map one_taken) (option_map (with_taken n)) es e (λ o at. option-taken n o)
+
+some-of : {X : Type 0} (o : Option X) → is_some o ≡ true → (x : X) × (o ≡ Some x)
+some-of None is = absurd (cc)
+some-of (Some x) is = (x, refl)
+
+pushed-front : (n : ℕ) (xs : List ℕ) (x : ℕ) → n ≤ length xs → length (drop n xs) ≡ 0 → slice_get (xs ++ x ∷ []) n ≡ Some x
+pushed-front n xs x within none = let all : n ≡ length xs = omega (arith, length-drop n xs) in ap (slice_get (xs ++ x ∷ [])) all ∙ slice_get-append_seam xs x
+
+transferred-does : (state : State) (e : ℕ) (b : BufferState) (timeout : ℕ) (h : Endpoint) → named state.endpoints e ≡ Some h → length (pending h) ≡ 0 → Does state (transferred state e b timeout h)
+transferred-does state e b timeout h here none =
+    let n = tickets_of state in
+    let sent = submitted state e b h in
+    let last = with_host sent (host_blocked sent.host n timeout) in
+    let one = entered-count state.host (kept h) b in
+    let found = some-of (transfer_completion last.host.kernel.past n) (blocked-found sent.host n timeout (omega (arith, one.past))) in
+    submits e b h here (λ few. few e h here) (goes (record { keeps = on-blocked sent.host n timeout; count = blocked-count sent.host n timeout; endpoints = refl })
+    (takes e n (with_submission n h) found.0 (named-change_same (with_submission n) state.endpoints e ∙ ap (option_map (with_submission n)) here)
+    (λ few. pushed-front h.taken h.tickets n (few e h here) none) found.1 (ap waited_line found.1)
+    (quiet-aside (taken_from last e n) (transferred state e b timeout h).state refl refl (sym (pushed-taken n state.endpoints e)))))
+
+pub transfer-does : (state : State) (direction : Direction) (e : ℕ) (b : BufferState) (timeout : ℕ) (steps : List KernelStep) → Does state (transfer_answer state direction e b timeout steps)
+unfolding transfer_answer
+transfer-does state direction e b timeout steps =
+    let now = lent state steps in
+    stepping-does (named state.endpoints e) _ (λ h here.
+    bar-does
+    (λ allowed. transferred-does now e b timeout h here (transfer-free now.host.kernel.past direction (kept h) allowed)))
+
+-- the pending transfers of an endpoint are discarded
+pub cancel-does : (state : State) (e : ℕ) → Does state (cancel_answer state e)
+unfolding cancel_answer
+cancel-does state e =
+    call-does (named state.endpoints e) _ (λ h here. ends refl (record { keeps = on-all_discarded state.host (pending h); count = all_discarded-count state.host (pending h); endpoints = refl }))
+
+-- an endpoint is closed
+closed_at-does : {few : Type 0} (state : State) (e : ℕ) (lines : List (List ℕ)) (line : List ℕ) (o : Option Endpoint) → named state.endpoints e ≡ o → says_done line ≡ false → Acts few (told (closed_at state e o) line) state (closed_as state.host.kernel.past lines o)
+closed_at-does state e lines line None here other = told-does state line other
+closed_at-does state e lines line (Some h) here other = closes e h lines here other (quiet-same (without_endpoint state e h))
+
+pub closed-does : {few : Type 0} (state : State) (e : ℕ) (lines : ℕ → List (List ℕ)) → Acts few (silent (closed state e)) state (closed_under state lines e)
+unfolding closed
+closed-does state e lines = closed_at-does state e (lines e) [] (named state.endpoints e) refl refl
+
+pub close-does : {few : Type 0} (state : State) (e : ℕ) (lines : ℕ → List (List ℕ)) → Acts few (close_answer state e) state (closed_under state lines e)
+unfolding close_answer
+close-does {few} state e lines = by (named state.endpoints e) refl
+  where
+    by : (o : Option Endpoint) → named state.endpoints e ≡ o → Acts few (if_open o (λ h. ok_answer (without_endpoint state e h)) (barred state)) state (closed_as state.host.kernel.past (lines e) o)
+    by None here = barred-does state
+    by (Some h) here = closed_at-does state e (lines e) ok_line (Some h) here refl
+
+-- steps are applied
+pub steps-does : (state : State) (steps : List KernelStep) → Does state (steps_answer state steps)
+unfolding steps_answer
+steps-does state steps = ends refl (quiet-stepped state steps)

@@ -1,0 +1,32 @@
+-- What each line does.
+use Rattle.std.proofs.Common.{ℕ, List, [], refl}
+use Rattle.usb_script.specs.declared.item.Item.{Item}
+use Rattle.usb_script.specs.declared.item.Item.TheVariants as item
+use Rattle.usb_answers.specs.State.{State}
+use Rattle.usb_answers.specs.Buffers.{in_buffer, out_buffer}
+use Rattle.usb_answers.specs.Answers.{answer}
+use Rattle.usb_answers.specs.Accounts.{TookFew}
+use Rattle.usb_answers.specs.Served.{closed_by}
+use Rattle.usb_answers.proofs.Does.{Acts, told-does}
+use Rattle.usb_answers.proofs.DeviceLines.{now-does, open-does, device_descriptor-does, descriptors-does, claim-does, pending-does}
+use Rattle.usb_answers.proofs.EndpointLines.{endpoint-does, submit-does, poll-does, wait-does, transfer-does, cancel-does, close-does, steps-does}
+
+pub answer-does : (state : State) (lines : ℕ → List (List ℕ)) (line : Item) → Acts (TookFew state) (answer state line) state (closed_by state lines line)
+unfolding answer
+answer-does state lines (item.Device k bus address speed configuration descriptors) = told-does state [] refl
+answer-does state lines item.Now = now-does state
+answer-does state lines (item.Open d bus address) = open-does state d bus address
+answer-does state lines (item.DeviceDescriptor d) = device_descriptor-does state d
+answer-does state lines (item.Descriptors d) = descriptors-does state d
+answer-does state lines (item.Claim d number i) = claim-does state d number i
+answer-does state lines (item.Endpoint e i address kind) = endpoint-does state e i address _ _
+answer-does state lines (item.SubmitIn e n) = submit-does state _ e (in_buffer n)
+answer-does state lines (item.SubmitOut e bytes) = submit-does state _ e (out_buffer bytes)
+answer-does state lines (item.Pending e) = pending-does state e
+answer-does state lines (item.Poll e) = poll-does state e
+answer-does state lines (item.Wait e timeout steps) = wait-does state e timeout steps
+answer-does state lines (item.TransferIn e n timeout steps) = transfer-does state _ e (in_buffer n) timeout steps
+answer-does state lines (item.TransferOut e bytes timeout steps) = transfer-does state _ e (out_buffer bytes) timeout steps
+answer-does state lines (item.Cancel e) = cancel-does state e
+answer-does state lines (item.CloseEndpoint e) = close-does state e lines
+answer-does state lines (item.Steps steps) = steps-does state steps

@@ -1,0 +1,29 @@
+use Rattle.std.proofs.Common.{ap}
+use Rattle.std.specs.Option.{option_copied}
+use Rattle.usb_lines.specs.Descriptors.{descriptors_line}
+use Rattle.usb_device.specs.declared.opened.OpenDevice.{OpenDevice}
+use Rattle.usb_device.proofs.LedgerLemmas.{some-at}
+use Rattle.usb_answers.specs.Describes.{descriptors_answer}
+use Rattle.usb_answers.specs.SessionFacts.{made_of}
+use Rattle.usb_answers.proofs.NameLemmas.{found_at}
+use Rattle.usb_answers.proofs.Telling.{answers-same}
+use Rattle.usb_answers.proofs.Devices.{asked-none, asked-some}
+use Rattle.usb_answers.proofs.session.Session.descriptors.Goals as goal
+
+pub returns-in_default : goal.returns-in_default
+unfolding descriptors_answer
+returns-in_default c =
+    record {
+      answered = answers-same _ _ _ c.self.view_is c.write_condition.ensures.text
+          (λ state r. asked-none (made_of c.self.inside) state c.args.device (λ (o : OpenDevice). descriptors_line o.descriptors) (found_at _ _ _ _ _ _ c.deref.ensures.value c.number.ensures.value c.open_at.ensures.value (ap option_copied c.in_default.is)) r);
+    }
+
+pub returns : goal.returns
+unfolding descriptors_answer
+returns c =
+    let there = some-at c.self.inside.host.devices c.in-Some.device.now (c.self.invariant.devices_stand c.args.device c.in-Some.device.now (found_at _ _ _ _ _ _ c.deref.ensures.value c.number.ensures.value c.open_at.ensures.value (ap option_copied c.in-Some.is))) in
+    record {
+      answered = answers-same _ _ _ c.self.view_is
+          (rw (← c.descriptors.ensures.descriptors there.0 there.1) c.write_descriptors.ensures.text)
+          (λ state r. asked-some (made_of c.self.inside) state c.args.device c.in-Some.device.now there.0 (λ (o : OpenDevice). descriptors_line o.descriptors) (found_at _ _ _ _ _ _ c.deref.ensures.value c.number.ensures.value c.open_at.ensures.value (ap option_copied c.in-Some.is)) there.1 r);
+    }

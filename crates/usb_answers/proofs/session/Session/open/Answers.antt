@@ -1,0 +1,37 @@
+use Rattle.std.proofs.Common.{◌≡◌, ◌∙◌, ap}
+use Rattle.usb_lines.specs.Calls.{error_line}
+use Rattle.usb_answers.specs.Names.{set_name}
+use Rattle.usb_answers.specs.Opens.{open_answer}
+use Rattle.usb_answers.specs.SessionState.{SessionState}
+use Rattle.usb_answers.specs.SessionFacts.{made_of}
+use Rattle.usb_answers.proofs.NameLemmas.{free_at}
+use Rattle.usb_answers.proofs.Telling.{answers, answers-same, same-host}
+use Rattle.usb_answers.proofs.Devices.{open-sound, open-gives, open-refused, open-barred, open-spare}
+use Rattle.usb_answers.proofs.session.Session.open.Goals as goal
+
+pub returns-then-not-is_free-clause-answered : goal.returns-then-not-is_free-clause-answered
+returns-then-not-is_free-clause-answered c =
+    answers-same _ _ _ c.self.view_is c.write_condition.ensures.text
+    (λ state r. open-barred (made_of c.self.inside) state c.args.name c.args.bus c.args.address r (free_at _ _ _ _ _ _ c.deref.ensures.value c.number.ensures.value c.is_free.ensures.free c.if-not-is_free.true))
+
+pub invariant_of-self : goal.invariant_of-self
+invariant_of-self c =
+    open-sound (made_of c.self.inside) c.open_at.new.host c.put_at.new.names.items c.args.name c.in-Ok.device c.args.bus c.args.address c.self.invariant c.in-Ok.ensures.ok c.in-Ok.ensures.stands
+    (free_at _ _ _ _ _ _ c.deref.ensures.value c.number.ensures.value c.is_free.ensures.free c.if-not-is_free.false)
+    (rw (← c.number-in-Ok.ensures.value) c.put_at.ensures.after)
+
+pub returns-in-Ok-clause-answered : goal.returns-in-Ok-clause-answered
+returns-in-Ok-clause-answered c =
+    let after : c.put_at.new.names.items ≡ set_name c.self.inside.devices.items c.args.name c.in-Ok.device = rw (← c.number-in-Ok.ensures.value) c.put_at.ensures.after in
+    answers _ _ _ c.self.view_is c.write_ok.ensures.text
+    (λ state r. open-gives (made_of c.self.inside) state c.open_at.new.host c.put_at.new.names.items c.args.name c.in-Ok.device c.args.bus c.args.address r (free_at _ _ _ _ _ _ c.deref.ensures.value c.number.ensures.value c.is_free.ensures.free c.if-not-is_free.false) c.in-Ok.ensures.tried c.in-Ok.ensures.ok after)
+
+pub returns-in-Ok-clause-spare : goal.returns-in-Ok-clause-spare
+returns-in-Ok-clause-spare c =
+    open-spare c.self.inside.host c.open_at.new.host c.args.bus c.args.address c.in-Ok.ensures.ok ∙ ap (λ (v : SessionState). v.host.kernel.spare) c.self.view_is
+
+pub returns-in-Err-Cause-clause-answered : goal.returns-in-Err-Cause-clause-answered
+returns-in-Err-Cause-clause-answered c =
+    answers _ _ _ c.self.view_is (rw c.in-Err-Cause.error-is at c.write_error.ensures.text)
+    (λ state r. same-host (made_of c.self.inside) c.open_at.new.host (error_line c.in-Err-Cause.error) (open_answer state c.args.name c.args.bus c.args.address) c.in-Err-Cause.ensures.err
+    (open-refused (made_of c.self.inside) state c.args.name c.args.bus c.args.address c.in-Err-Cause.error r (free_at _ _ _ _ _ _ c.deref.ensures.value c.number.ensures.value c.is_free.ensures.free c.if-not-is_free.false) (rw c.in-Err-Cause.field-0-is at c.in-Err-Cause.ensures.tried)))

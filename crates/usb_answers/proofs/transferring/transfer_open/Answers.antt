@@ -1,0 +1,28 @@
+use Rattle.std.proofs.Common.{ap, sym, ◌∙◌, subst}
+use Rattle.usb_endpoint.specs.EndpointState.{EndpointState}
+use Rattle.usb_endpoint.specs.AnyEndpoints.{state_of}
+use Rattle.usb_answers.specs.Transfers.{transfer_on}
+use Rattle.usb_answers.specs.OpenCalls.{CallAnswers}
+use Rattle.usb_answers.proofs.WaitCode.{transfer-barred, transfer-made, transfer-line}
+use Rattle.usb_answers.proofs.transferring.transfer_open.Goals as goal
+
+pub returns-then-bars_transfer-clause-answered : goal.returns-then-bars_transfer-clause-answered
+returns-then-bars_transfer-clause-answered c =
+    transfer-barred c.args.host.now (state_of c.args.endpoint.now) c.args.line.now c.write_condition.new.out c.write_condition.result c.args.direction c.args.buffer c.args.timeout
+    (sym c.bars_transfer.ensures.barred ∙ c.if-bars_transfer.true) c.write_condition.ensures.text
+
+pub returns-in-Ok-clause-keeps : goal.returns-in-Ok-clause-keeps
+returns-in-Ok-clause-keeps c = record {
+  line = transfer-line c.blocking_is_by_steps.ensures c.args.host.now c.transfer_blocking-tried.new.bus (state_of c.args.endpoint.now) c.args.buffer c.nanoseconds.result c.in-Ok.completion c.in-Ok.ensures.transferred;
+  stands = c.transfer_blocking-tried.ensures.stands;
+  others = c.transfer_blocking-tried.ensures.others;
+  key = ap (λ (h : EndpointState). h.key) c.transfer_blocking-tried.ensures.rest;
+}
+
+pub returns-in-Ok-clause-answered : goal.returns-in-Ok-clause-answered
+returns-in-Ok-clause-answered c =
+    let x = state_of c.args.endpoint.now in
+    let y = state_of c.transfer_blocking-tried.new.self in
+    subst (λ n. CallAnswers c.args.host.now c.transfer_blocking-tried.new.bus x y c.args.line.now c.write_waited.new.out c.write_waited.result (λ state e h. transfer_on state c.args.direction e c.args.buffer n h)) c.nanoseconds.ensures.value
+    (transfer-made c.blocking_is_by_steps.ensures c.args.host.now c.transfer_blocking-tried.new.bus x y c.args.line.now c.write_waited.new.out c.write_waited.result c.args.direction c.args.buffer c.nanoseconds.result c.in-Ok.completion
+    (sym c.bars_transfer.ensures.barred ∙ c.if-bars_transfer.false) c.transfer_blocking-tried.ensures.rest c.in-Ok.ensures.transferred c.write_waited.ensures.text)

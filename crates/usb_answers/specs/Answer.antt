@@ -1,0 +1,35 @@
+-- The answer of a line: the state behind it, and what is printed.
+use Rattle.std.specs.Prelude.{ℕ, List, [], Option, Some, None}
+use Rattle.usb_error.specs.ErrorState.{ErrorState}
+use Rattle.usb_lines.specs.Calls.{ok_line, condition_line, error_line}
+use Rattle.usb_answers.specs.State.{State}
+
+-- the state behind a line, and what is printed, which is empty where the line has no answer
+pub record Answer : Type 0 where
+  pub state : State
+  pub line : List ℕ
+
+-- what was asked is told
+abbrev pub told : State → List ℕ → Answer
+told state line = record { state = state; line = line }
+
+-- a barred call does nothing
+abbrev pub barred : State → Answer
+barred state = told state condition_line
+
+-- a call is done that gives no value
+abbrev pub ok_answer : State → Answer
+ok_answer state = told state ok_line
+
+-- a call is refused
+abbrev pub error_answer : State → ErrorState → Answer
+error_answer state error = told state (error_line error)
+
+-- a line that has no answer
+abbrev pub silent : State → Answer
+silent state = told state []
+
+-- a call on what is open under a name, where something is, and else this
+abbrev pub if_open : {X : Type 0} → Option X → (X → Answer) → Answer → Answer
+if_open None call otherwise = otherwise
+if_open (Some x) call otherwise = call x

@@ -1,0 +1,26 @@
+-- What is open under a name of a device or of an interface, as the host has it.
+use Rattle.std.specs.Prelude.{ℕ, Option, option_and_then, slice_get}
+use Rattle.std.specs.Option.{option_map}
+use Rattle.usb_device.specs.declared.opened.OpenDevice.{OpenDevice}
+use Rattle.usb_device.specs.HostState.{ClaimedInterface}
+use Rattle.usb_device.specs.HandleStates.{InterfaceState}
+use Rattle.usb_answers.specs.Names.{named}
+use Rattle.usb_answers.specs.State.{State}
+
+-- an open device, and its key
+pub record DeviceAt : Type 0 where
+  pub key : ℕ
+  pub opened : OpenDevice
+
+-- a claimed interface, and the handle that has it
+pub record InterfaceAt : Type 0 where
+  pub handle : InterfaceState
+  pub claimed : ClaimedInterface
+
+abbrev pub device_at : State → ℕ → Option DeviceAt
+device_at state d =
+    option_and_then (λ key. option_map (λ o. record { key = key; opened = o }) (slice_get state.host.devices key)) (named state.devices d)
+
+abbrev pub interface_at : State → ℕ → Option InterfaceAt
+interface_at state i =
+    option_and_then (λ (f : InterfaceState). option_map (λ c. record { handle = f; claimed = c }) (slice_get state.host.interfaces f.key)) (named state.interfaces i)

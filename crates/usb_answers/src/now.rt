@@ -1,0 +1,19 @@
+//! `now`: the time on the clock.
+
+ghost use Rattle.std.specs.Prelude.{◌≡◌, OnOk, string_bytes};
+ghost use Rattle.usb_answers.specs.State.{State};
+ghost use Rattle.usb_answers.specs.Answered.{Answers};
+ghost use Rattle.usb_answers.specs.Now.{now_answer};
+
+use crate::session::Session;
+use usb_desc::NoMemory;
+use usb_lines::write_now;
+
+impl Session {
+    /// `now`: the time on the kernel's clock.
+    pub(crate) fn now(&self, line: &mut String) -> Result<(), NoMemory>
+        ensures answered { Answers self.now self.now line.old line.new result now_answer }
+    {
+        write_now(line, self.host.kernel().now())
+    }
+}
