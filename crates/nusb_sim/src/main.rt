@@ -4,9 +4,15 @@
 #[cfg(test)]
 mod tests;
 
+use std::io::BufWriter;
 use std::process::ExitCode;
 use std::{env, io};
-use usb_session::{OpenGate, Seen, StdSink, StdSource, lack_memory, refuse_words, run_program};
+use usb_session::{
+    OpenGate, Seen, StdSink, StdSource, end_program, lack_memory, refuse_words, run_program,
+};
+
+/// How many bytes of answers are gathered before they are handed to the system, unless a line is longer.
+const GATHERED: usize = 65536;
 
 /// The program's words, without its name.
 fn read_words(rt: &HostRuntime) -> io::Result<Vec<String>> {
@@ -21,8 +27,11 @@ fn read_words(rt: &HostRuntime) -> io::Result<Vec<String>> {
 
 fn main(rt: HostRuntime) -> ExitCode {
     let mut source = StdSource::new(rt.stdin());
-    let mut sink = StdSink::new(rt.stdout());
     let mut diag = StdSink::new(rt.stderr());
+    let Ok(output) = BufWriter::with_capacity(rt.alloc(), GATHERED, rt.stdout()) else {
+        return ExitCode::from(lack_memory(&mut diag));
+    };
+    let mut sink = StdSink::new(output);
     let words = match read_words(&rt) {
         Ok(words) => words,
         Err(error) if matches!(error.kind(), io::ErrorKind::OutOfMemory) => {
@@ -40,5 +49,5 @@ fn main(rt: HostRuntime) -> ExitCode {
         OpenGate,
         &Seen::new(),
     );
-    ExitCode::from(status)
+    ExitCode::from(end_program(status, &mut sink, &mut diag))
 }

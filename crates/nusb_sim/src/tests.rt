@@ -6,13 +6,14 @@ mod lines;
 mod live;
 
 use std::alloc::{AllocError, Global};
+use std::io::{BufWriter, Cursor};
 use std::process::Abort;
 use std::sync::Wait;
 use std::test::Fail;
 use std::thread::Threads;
 use usb_session::{
-    MemSink, MemSource, OpenGate, Seen, StdSink, StdSource, SureSink, SureSource, run_program,
-    run_session,
+    MemSink, MemSource, OpenGate, Seen, StdSink, StdSource, SureSink, SureSource, end_program,
+    run_program, run_session,
 };
 
 /// The lines that open a device with a bulk IN endpoint 81 of 64 bytes and a bulk OUT endpoint 02, and their answers.
@@ -260,5 +261,28 @@ fn reads_and_writes_by_standard_traits(rt: HostRuntime) -> Result<(), Fail> {
     let summary = run_session(rt.alloc(), &mut source, &mut sink)?;
     assert_eq!(rt; summary.calls, 1);
     assert_eq!(rt; output.as_slice(), b"condition\n".as_slice());
+    Ok(())
+}
+
+/// The room of the output, the status at which a run of one answer ends, and what is reported.
+const ROOMS: [(usize, u8, &str); 3] = [(64, 0, ""), (10, 0, ""), (9, 6, "nusb_sim: write fault\n")];
+
+#[test]
+fn hands_on_what_was_gathered_before_the_status_is_told(rt: HostRuntime) -> Result<(), Fail> {
+    for (room, status, report) in ROOMS {
+        let mut kept = Vec::new(rt.alloc());
+        kept.resize(room, 0)?;
+        let output = BufWriter::new(rt.alloc(), Cursor::new(kept.as_mut_slice()))?;
+        let mut sink = StdSink::new(output);
+        let mut source = SureSource::new(Vec::from_slice(rt.alloc(), b"poll e0\n")?);
+        let mut diag = MemSink::new(rt.alloc(), 64, Vec::new(rt.alloc()))?;
+        run_session(rt.alloc(), &mut source, &mut sink)?;
+        assert_eq!(rt;
+            end_program(0, &mut sink, &mut diag),
+            status,
+            "with room for {room}"
+        );
+        assert_eq!(rt; diag.bytes(), report.as_bytes(), "with room for {room}");
+    }
     Ok(())
 }

@@ -1,11 +1,11 @@
 -- The run over the items of a script, and what the sink got.
-use Rattle.std.proofs.Common.{◌≡◌, ℕ, ◌+◌, ◌-◌, ◌<◌, ◌≤◌, Bool, true, false, List, [], length, get_or, take, drop, count_by, refl, ap, sym, ◌∙◌, subst, arith}
+use Rattle.std.proofs.Common.{◌≡◌, ℕ, ◌+◌, ◌-◌, ◌<◌, Bool, true, false, cond, List, [], ◌∷◌, ◌++◌, length, count_by, refl, ap, sym, ◌∙◌, arith}
 use Rattle.std.specs.declared.option.Option.{Option}
 use Rattle.std.specs.Io.KnownBytes.{Appends}
-use Rattle.std.proofs.lemmas.List.{append-nil, take_all, at_drop_more}
-use Rattle.std.proofs.lemmas.List.Sums.{count_by_more_yes, count_by_more_no, sum_by-cons}
+use Rattle.std.proofs.lemmas.List.{append-nil}
+use Rattle.std.proofs.lemmas.List.Sums.{sum_by-cons}
 use Rattle.usb_script.specs.declared.item.Item.{Item}
-use Rattle.usb_script.specs.ItemKinds.{is_call, steps_in, step_count}
+use Rattle.usb_script.specs.ItemKinds.{is_call}
 use Rattle.usb_device.specs.HostState.{HostState}
 use Rattle.usb_device.specs.Finishes.{HasEnds}
 use Rattle.usb_answers.specs.SessionState.{SessionState}
@@ -22,7 +22,6 @@ use Rattle.usb_answers.specs.Sums.{counts_of, sum_of}
 use Rattle.usb_answers.specs.Accounts.{Accounted}
 use Rattle.usb_answers.proofs.AccountLemmas.{accounted-start, accounted-answer}
 use Rattle.usb_answers.proofs.FateLemmas.{fate_lines_from-step, fate_lines_from-end, fate_lines-all}
-use Rattle.usb_answers.proofs.RunLemmas.{output_from-step, last_host-step, output_from-end, last_host-end}
 use Rattle.usb_session.specs.Causes.{Wrote, WrotePrefix}
 use Rattle.usb_session.specs.Running.{AllAnswered}
 use Rattle.usb_session.proofs.OutsideLemmas.{Wrote_none, Wrote_more, Wrote_all, Wrote_prefix}
@@ -39,22 +38,26 @@ pub running-start : (old : Option (List ℕ)) (s : SessionState) (items : List I
 unfolding output final_host
 running-start old s items r = record { now = start items; stands = r; accounted = accounted-start items; wrote = Wrote_none old (output_from (start items) items); leads = refl }
 
-pub running-on : {old mid : Option (List ℕ)} {whole : List ℕ} {last : HostState} (new : Option (List ℕ)) (s next : SessionState) (items : List Item) (i : ℕ) (item : Item) (line : List ℕ) → i < length items → item ≡ get_or items i item → Running old mid s (drop i items) whole last → ((state : State) → Represents s state → Answered next line (answer state item)) → Appends mid new line → Running old new next (drop (i + 1) items) whole last
-running-on new s next items i item line within here run answered appends =
+-- the line of the first item that is left
+line-left : (now : State) (item : Item) (items : List Item) (line : List ℕ) → line ≡ (answer now item).line → line ++ output_from (answer now item).state items ≡ output_from now (item ∷ items)
+line-left now item items line same = ap (λ l. l ++ output_from (answer now item).state items) same
+
+pub running-on : {old mid : Option (List ℕ)} {whole : List ℕ} {last : HostState} (new : Option (List ℕ)) (s next : SessionState) (item : Item) (items : List Item) (line : List ℕ) → Running old mid s (item ∷ items) whole last → ((state : State) → Represents s state → Answered next [] line (answer state item)) → Appends mid new line → Running old new next items whole last
+running-on new s next item items line run answered appends =
     let a = answered run.now run.stands in
     record {
       now = (answer run.now item).state;
       stands = a.state;
       accounted = accounted-answer run.now item run.stands.few run.accounted;
-      wrote = Wrote_more new line (output_from (answer run.now item).state (drop (i + 1) items)) run.wrote appends (output_from-step items i item run.now line within here a.same);
-      leads = last_host-step items i item run.now within here ∙ run.leads;
+      wrote = Wrote_more new line (output_from (answer run.now item).state items) run.wrote appends (line-left run.now item items line a.line);
+      leads = run.leads;
     }
 
 -- the sink failed within a line
-pub running-cut : {old mid : Option (List ℕ)} {whole : List ℕ} {last : HostState} (new : Option (List ℕ)) (s next : SessionState) (items : List Item) (i : ℕ) (item : Item) (line : List ℕ) → i < length items → item ≡ get_or items i item → Running old mid s (drop i items) whole last → ((state : State) → Represents s state → Answered next line (answer state item)) → WrotePrefix mid new line → WrotePrefix old new whole
-running-cut new s next items i item line within here run answered cut =
+pub running-cut : {old mid : Option (List ℕ)} {whole : List ℕ} {last : HostState} (new : Option (List ℕ)) (s next : SessionState) (item : Item) (items : List Item) (line : List ℕ) → Running old mid s (item ∷ items) whole last → ((state : State) → Represents s state → Answered next [] line (answer state item)) → WrotePrefix mid new line → WrotePrefix old new whole
+running-cut new s next item items line run answered cut =
     let a = answered run.now run.stands in
-    Wrote_prefix new line (output_from (answer run.now item).state (drop (i + 1) items)) run.wrote cut (output_from-step items i item run.now line within here a.same)
+    Wrote_prefix new line (output_from (answer run.now item).state items) run.wrote cut (line-left run.now item items line a.line)
 
 -- memory was wanting before the first line
 pub running-none : (old : Option (List ℕ)) (whole : List ℕ) → WrotePrefix old old whole
@@ -65,19 +68,19 @@ pub running-stopped : {old new : Option (List ℕ)} {s : SessionState} {items : 
 running-stopped {items = items} run = (output_from run.now items, run.wrote)
 
 -- all items are answered
-pub running-done : {old new : Option (List ℕ)} (s : SessionState) (items : List Item) (i : ℕ) → length items ≤ i → Running old new s (drop i items) (output items) (final_host items) → AllAnswered old new s items
-running-done {old} {new} s items i past run =
-    record {
-      now = run.now;
-      stands = run.stands;
-      accounted = run.accounted;
-      wrote = subst (λ (left : List ℕ). Wrote old new (output items) left) (output_from-end items i run.now past) run.wrote;
-      leads = sym (last_host-end items i run.now past) ∙ run.leads;
-    }
+pub running-done : {old new : Option (List ℕ)} (s : SessionState) (items : List Item) → Running old new s [] (output items) (final_host items) → AllAnswered old new s items
+running-done s items run = record { now = run.now; stands = run.stands; accounted = run.accounted; wrote = run.wrote; leads = run.leads }
 
--- the calls of all items
-pub calls-all : (items : List Item) (i calls : ℕ) → length items ≤ i → calls ≡ count_by is_call (take i items) → calls ≡ count_by is_call items
-calls-all items i calls past counted = counted ∙ ap (count_by is_call) (take_all i items past)
+-- a call is counted, and what is no call is not
+pub calls-yes : (item : Item) (items : List Item) (b : Bool) → b ≡ is_call item → b ≡ true → count_by is_call (item ∷ items) ≡ 1 + count_by is_call items
+calls-yes item items b is passes =
+    let call : is_call item ≡ true = sym is ∙ passes in
+    sum_by-cons (λ x. cond (is_call x) 1 0) item items ∙ rw call refl
+
+pub calls-no : (item : Item) (items : List Item) (b : Bool) → b ≡ is_call item → b ≡ false → count_by is_call (item ∷ items) ≡ count_by is_call items
+calls-no item items b is fails =
+    let other : is_call item ≡ false = sym is ∙ fails in
+    sum_by-cons (λ x. cond (is_call x) 1 0) item items ∙ rw other (omega arith)
 
 -- the fate lines are written
 pub answered-end : {old mid : Option (List ℕ)} (new : Option (List ℕ)) (s : SessionState) (host : HostState) (items : List Item) → AllAnswered old mid s items → ((state : State) → Represents s state → host ≡ ended state) → Appends mid new (fate_lines host) → Appends old new (output items)
@@ -101,18 +104,6 @@ host-ended s host items done ends = ends done.now done.stands done.accounted
 pub answered-sum : {old new : Option (List ℕ)} (s : SessionState) (host : HostState) (items : List Item) (calls : ℕ) (summary : Summary) → AllAnswered old new s items → ((state : State) → Represents s state → host ≡ ended state) → summary ≡ counts_of calls host → calls ≡ count_by is_call items → summary ≡ sum_of items
 answered-sum s host items calls summary done ends sums counted =
     sums ∙ ap (counts_of calls) (host-final s host items done ends) ∙ ap (λ n. counts_of n (final_host items)) counted
-
--- the steps of an item and of those behind it
-pub step_count-step : (items : List Item) (i : ℕ) (item : Item) → i < length items → item ≡ get_or items i item → step_count (drop i items) ≡ steps_in item + step_count (drop (i + 1) items)
-step_count-step items i item within here =
-    at_drop_more step_count items i item within ∙ sum_by-cons steps_in (get_or items i item) (drop (i + 1) items) ∙ ap (λ (x : Item). steps_in x + step_count (drop (i + 1) items)) (sym here)
-
--- the calls so far
-pub calls_yes : (items : List Item) (i : ℕ) (item : Item) (b : Bool) → i < length items → item ≡ get_or items i item → b ≡ is_call item → b ≡ true → count_by is_call (take (i + 1) items) ≡ count_by is_call (take i items) + 1
-calls_yes items i item b within here e passes = count_by_more_yes is_call items i item within (ap is_call (sym here) ∙ sym e ∙ passes)
-
-pub calls_no : (items : List Item) (i : ℕ) (item : Item) (b : Bool) → i < length items → item ≡ get_or items i item → b ≡ is_call item → b ≡ false → count_by is_call (take (i + 1) items) ≡ count_by is_call (take i items)
-calls_no items i item b within here e fails = count_by_more_no is_call items i item within (ap is_call (sym here) ∙ sym e ∙ fails)
 
 -- the fate lines
 pub fates-start : (old : Option (List ℕ)) (h : HostState) → Wrote old old (fate_lines h) (fate_lines_from h 0 (length (tickets h.kernel.past) - 0))

@@ -12,8 +12,8 @@ mod sure;
 mod writing;
 
 pub use memory::{MemSink, MemSource};
-pub use outside::{Failed, Sink, Source};
-pub use program::{lack_memory, refuse_words, run_program};
+pub use outside::{Failed, Gathers, Sink, Source};
+pub use program::{end_program, lack_memory, refuse_words, run_program};
 pub use run::run_session;
 pub use standard::{StdSink, StdSource};
 pub use sure::{SureSink, SureSource};

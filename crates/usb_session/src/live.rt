@@ -21,7 +21,8 @@ fn run_line(
     dropped: u64,
     reclaimed: u64,
 ) -> Result<String, AllocError>
-    ensures text { IfOk result (λ line. string_bytes line ≡ run_line n submitted taken dropped reclaimed) }
+    ensures text { IfOk result
+        (λ line. string_bytes line ≡ run_line n submitted taken dropped reclaimed) }
 {
     format!(in alloc;
         "live {n} submitted {submitted} taken {taken} dropped {dropped} reclaimed {reclaimed}\n"
@@ -37,7 +38,8 @@ pub(crate) fn live<R: Threads + Wait + Sync, K: Sink, G: Gate + Send>(
     gate: G,
     seen: &Seen,
 ) -> Result<(), SessionError>
-    ensures told { IsLive n (K.written sink.old) (K.written sink.new) (K.faults sink.old) (K.faults sink.new) result }
+    ensures told { IsLive n (K.written sink.old) (K.written sink.new) (K.faults sink.old)
+        (K.faults sink.new) result }
 {
     let Ok(run) = live_run(rt, alloc, n, gate, seen, None) else {
         return Err(SessionError::Memory);

@@ -132,7 +132,8 @@ impl Sink for MemSink {
         ensures cause { HasCause self.old.faults self.new.faults result }
         ensures calls { self.new.calls ≡ next_call self.old.calls }
         ensures schedule { (self.new.fail_at ≡ self.old.fail_at) × (self.new.room ≡ self.old.room) }
-        ensures fails { IsErr result ↔ (Contains self.old.fail_at self.new.calls ⊎ ((length self.old.bytes ≡ self.old.room) × (0 < length bytes.now))) }
+        ensures fails { IsErr result ↔ (Contains self.old.fail_at self.new.calls ⊎
+            ((length self.old.bytes ≡ self.old.room) × (0 < length bytes.now))) }
     {
         self.calls = self.calls.saturating_add(1);
         let free = self.room - self.bytes.len();

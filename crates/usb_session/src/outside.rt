@@ -1,9 +1,9 @@
 //! Where a script comes from, and where its answers go.
 
-ghost use Rattle.std.specs.Prelude.{ℕ, List, ◌<◌, ◌↔◌, length, IfOk, IsErr};
+ghost use Rattle.std.specs.Prelude.{ℕ, List, ◌<◌, ◌↔◌, length, IfOk, OnOk, IsErr};
 ghost use Rattle.std.specs.declared.option.Option.{Option};
 ghost use Rattle.std.specs.Io.{ReadsAtMost, WritesAtMost};
-ghost use Rattle.std.specs.Io.KnownBytes.{ReadConsumes, WriteAppends};
+ghost use Rattle.std.specs.Io.KnownBytes.{Keeps, ReadConsumes, WriteAppends};
 ghost use Rattle.usb_session.specs.Causes.{HasCause, CountsFaults};
 
 use std::error::Error;
@@ -52,4 +52,16 @@ pub trait Sink {
         ensures some { 0 < length bytes.now → IfOk result (λ n. 0 < n) }
         ensures bytes { WriteAppends (written self.old) (written self.new) result bytes.now }
         ensures cause { HasCause (faults self.old) (faults self.new) result };
+}
+
+/// A sink that may hold bytes that it took, until it is told to hand them on.
+pub trait Gathers: Sink {
+    // Whether nothing that was taken is still held.
+    ghost is_handed_on: { Self → Type 0 };
+
+    /// Hands on the bytes that were taken and are still held.
+    fn hand_on(&mut self) -> Result<(), Failed>
+        ensures done { OnOk result (is_handed_on self.new) }
+        ensures bytes { Keeps (Self.written self.old) (Self.written self.new) }
+        ensures cause { HasCause (Self.faults self.old) (Self.faults self.new) result };
 }

@@ -1,8 +1,8 @@
 //! The program.
 
-ghost use Rattle.std.specs.Prelude.{ℕ, List, ◌≡◌, ◌⊎◌, ◌↔◌, ◌≤◌, ◌++◌, true, false, Some, map, string_bytes, decimal, IfSome, OnOk, OnErr};
-ghost use Rattle.std.specs.Io.KnownBytes.{Appends};
-ghost use Rattle.usb_session.specs.Causes.{HasCause, WrotePrefix, FailedLast, TookAtMost};
+ghost use Rattle.std.specs.Prelude.{ℕ, List, ◌≡◌, ◌≢◌, ◌⊎◌, ◌↔◌, ◌≤◌, ◌++◌, true, false, Some, map, string_bytes, decimal, IfSome, OnOk, OnErr};
+ghost use Rattle.std.specs.Io.KnownBytes.{Appends, Keeps};
+ghost use Rattle.usb_session.specs.Causes.{Rose, HasCause, WrotePrefix, FailedLast, TookAtMost};
 ghost use Rattle.usb_script.specs.Parse.{script_of};
 ghost use Rattle.usb_session.specs.Session.{streams, IsAnswered, HasReason, IsSmooth, IsQuiet};
 ghost use Rattle.usb_answers.specs.declared.summary.Summary.{Summary};
@@ -10,7 +10,7 @@ ghost use Rattle.usb_session.specs.Live.{live_count, IsLive};
 ghost use Rattle.usb_session.specs.Program.{is_session, is_usage, status_of, report_of, error_line, usage_line, Reports, RunsSession, RunsLive};
 
 use crate::live::live;
-use crate::outside::{Failed, Sink, Source};
+use crate::outside::{Failed, Gathers, Sink, Source};
 use crate::run::run_session;
 use crate::writing::offer;
 use itoa::Buffer;
@@ -65,8 +65,10 @@ fn status_of<T>(answer: &Result<T, SessionError>) -> u8
 
 /// Writes a number between two pieces.
 fn offer_number<G: Sink>(diag: &mut G, front: &[u8], number: u32, back: &[u8]) -> Result<(), Failed>
-    ensures ok { OnOk result (Appends (G.written diag.old) (G.written diag.new) (front.now ++ (decimal number ++ back.now))) }
-    ensures err { OnErr result (WrotePrefix (G.written diag.old) (G.written diag.new) (front.now ++ (decimal number ++ back.now))) }
+    ensures ok { OnOk result (Appends (G.written diag.old) (G.written diag.new)
+        (front.now ++ (decimal number ++ back.now))) }
+    ensures err { OnErr result (WrotePrefix (G.written diag.old) (G.written diag.new)
+        (front.now ++ (decimal number ++ back.now))) }
     ensures cause { HasCause (G.faults diag.old) (G.faults diag.new) result }
 {
     offer(diag, front)?;
@@ -77,8 +79,10 @@ fn offer_number<G: Sink>(diag: &mut G, front: &[u8], number: u32, back: &[u8]) -
 
 /// Writes the line that reports an error.
 fn offer_error<G: Sink>(diag: &mut G, error: &SessionError) -> Result<(), Failed>
-    ensures ok { OnOk result (Appends (G.written diag.old) (G.written diag.new) (error_line error.now)) }
-    ensures err { OnErr result (WrotePrefix (G.written diag.old) (G.written diag.new) (error_line error.now)) }
+    ensures ok { OnOk result
+        (Appends (G.written diag.old) (G.written diag.new) (error_line error.now)) }
+    ensures err { OnErr result
+        (WrotePrefix (G.written diag.old) (G.written diag.new) (error_line error.now)) }
     ensures cause { HasCause (G.faults diag.old) (G.faults diag.new) result }
 {
     match error {
@@ -94,7 +98,8 @@ fn offer_error<G: Sink>(diag: &mut G, error: &SessionError) -> Result<(), Failed
 
 /// Reports an answer, as far as the sink takes the line.
 fn report<G: Sink, T>(diag: &mut G, answer: &Result<T, SessionError>)
-    ensures line { Reports (G.written diag.old) (G.written diag.new) (G.faults diag.old) (G.faults diag.new) (report_of answer.now) }
+    ensures line { Reports (G.written diag.old) (G.written diag.new) (G.faults diag.old)
+        (G.faults diag.new) (report_of answer.now) }
 {
     if let Err(error) = answer {
         let _ = offer_error(diag, error);
@@ -103,7 +108,8 @@ fn report<G: Sink, T>(diag: &mut G, answer: &Result<T, SessionError>)
 
 /// Writes the line on how the program is used.
 fn report_usage<G: Sink>(diag: &mut G)
-    ensures line { Reports (G.written diag.old) (G.written diag.new) (G.faults diag.old) (G.faults diag.new) usage_line }
+    ensures line { Reports (G.written diag.old) (G.written diag.new) (G.faults diag.old)
+        (G.faults diag.new) usage_line }
 {
     let _ = offer(diag, b"usage: nusb_sim [session|generate N|live N]\n");
 }
@@ -111,7 +117,8 @@ fn report_usage<G: Sink>(diag: &mut G)
 /// Reports words that couldn't be read as text, and answers the status of a faulty command line.
 pub fn refuse_words<D: Sink>(diag: &mut D) -> u8
     ensures status { result ≡ 2 }
-    ensures line { Reports (D.written diag.old) (D.written diag.new) (D.faults diag.old) (D.faults diag.new) usage_line }
+    ensures line { Reports (D.written diag.old) (D.written diag.new) (D.faults diag.old)
+        (D.faults diag.new) usage_line }
 {
     report_usage(diag);
     USAGE
@@ -120,9 +127,30 @@ pub fn refuse_words<D: Sink>(diag: &mut D) -> u8
 /// Reports that there was no memory for the words, and answers the status of that.
 pub fn lack_memory<D: Sink>(diag: &mut D) -> u8
     ensures status { result ≡ 7 }
-    ensures line { Reports (D.written diag.old) (D.written diag.new) (D.faults diag.old) (D.faults diag.new) (error_line SessionError.Memory) }
+    ensures line { Reports (D.written diag.old) (D.written diag.new) (D.faults diag.old)
+        (D.faults diag.new) (error_line SessionError.Memory) }
 {
     let answer: Result<Summary, SessionError> = Err(SessionError::Memory);
+    report(diag, &answer);
+    status_of(&answer)
+}
+
+/// Ends a run of this status, and answers the program's: the sink hands on what it still holds. Where that fails of a run
+/// that was done, writing failed, which is reported; any other status stays.
+pub fn end_program<K: Gathers, D: Sink>(status: u8, sink: &mut K, diag: &mut D) -> u8
+    ensures stays { status ≢ 0 → (result ≡ status) × (diag.new ≡ diag.old) }
+    ensures done { result ≡ 0 → K.is_handed_on sink.new × (diag.new ≡ diag.old) }
+    ensures fault { status ≡ 0 → result ≢ 0 →
+        (result ≡ 6) × Rose (K.faults sink.old) (K.faults sink.new) }
+    ensures line { status ≡ 0 → result ≢ 0 → Reports (D.written diag.old) (D.written diag.new)
+        (D.faults diag.old) (D.faults diag.new) (error_line SessionError.WriteFault) }
+    ensures bytes { Keeps (K.written sink.old) (K.written sink.new) }
+{
+    let handed_on = sink.hand_on();
+    if status != 0 || handed_on.is_ok() {
+        return status;
+    }
+    let answer: Result<Summary, SessionError> = Err(SessionError::WriteFault);
     report(diag, &answer);
     status_of(&answer)
 }
@@ -139,34 +167,54 @@ pub fn run_program<R: Threads + Wait + Sync, S: Source, K: Sink, D: Sink, G: Gat
     seen: &Seen,
 ) -> u8
     ensures usage { result ≡ 2 ↔ (is_usage (map string_bytes words.now.items) ≡ true) }
-    ensures usage_line { result ≡ 2 → Reports (D.written diag.old) (D.written diag.new) (D.faults diag.old) (D.faults diag.new) usage_line }
+    ensures usage_line { result ≡ 2 → Reports (D.written diag.old) (D.written diag.new)
+        (D.faults diag.old) (D.faults diag.new) usage_line }
     // Nothing is read where no session is asked for, and nothing is written where the words ask for nothing.
-    ensures unread { is_session (map string_bytes words.now.items) ≡ false → source.new ≡ source.old }
+    ensures unread { is_session (map string_bytes words.now.items) ≡ false →
+        source.new ≡ source.old }
     ensures unwritten { is_usage (map string_bytes words.now.items) ≡ true → sink.new ≡ sink.old }
-    ensures session { is_session (map string_bytes words.now.items) ≡ true → RunsSession (streams S.left S.faults K.written K.faults source.old source.new sink.old sink.new)
+    ensures session { is_session (map string_bytes words.now.items) ≡ true → RunsSession
+        (streams S.left S.faults K.written K.faults source.old source.new sink.old sink.new)
         (D.written diag.old) (D.written diag.new) (D.faults diag.old) (D.faults diag.new) result }
-    ensures live { (n : ℕ) → live_count (map string_bytes words.now.items) ≡ Some n → RunsLive n (K.written sink.old) (K.written sink.new) (K.faults sink.old) (K.faults sink.new)
+    ensures live { (n : ℕ) → live_count (map string_bytes words.now.items) ≡ Some n →
+        RunsLive n (K.written sink.old) (K.written sink.new) (K.faults sink.old) (K.faults sink.new)
         (D.written diag.old) (D.written diag.new) (D.faults diag.old) (D.faults diag.new) result }
     // Of a session: the whole output was written exactly where the status is 0.
     ensures done { is_session (map string_bytes words.now.items) ≡ true → result ≡ 0 →
-        (summary : Summary) × IsAnswered (streams S.left S.faults K.written K.faults source.old source.new sink.old sink.new) summary }
-    ensures malformed { result ≡ 3 → (line : ℕ) × HasReason (streams S.left S.faults K.written K.faults source.old source.new sink.old sink.new) (SessionError.Malformed line) }
-    ensures too_long { result ≡ 4 → HasReason (streams S.left S.faults K.written K.faults source.old source.new sink.old sink.new) SessionError.TooLong }
-    ensures read_fault { result ≡ 5 → HasReason (streams S.left S.faults K.written K.faults source.old source.new sink.old sink.new) SessionError.ReadFault }
+        (summary : Summary) × IsAnswered
+        (streams S.left S.faults K.written K.faults source.old source.new sink.old sink.new)
+        summary }
+    ensures malformed { result ≡ 3 → (line : ℕ) × HasReason
+        (streams S.left S.faults K.written K.faults source.old source.new sink.old sink.new)
+        (SessionError.Malformed line) }
+    ensures too_long { result ≡ 4 → HasReason
+        (streams S.left S.faults K.written K.faults source.old source.new sink.old sink.new)
+        SessionError.TooLong }
+    ensures read_fault { result ≡ 5 → HasReason
+        (streams S.left S.faults K.written K.faults source.old source.new sink.old sink.new)
+        SessionError.ReadFault }
     ensures write_fault { is_session (map string_bytes words.now.items) ≡ true → result ≡ 6 →
-        HasReason (streams S.left S.faults K.written K.faults source.old source.new sink.old sink.new) SessionError.WriteFault }
+        HasReason
+        (streams S.left S.faults K.written K.faults source.old source.new sink.old sink.new)
+        SessionError.WriteFault }
     ensures memory { is_session (map string_bytes words.now.items) ≡ true → result ≡ 7 →
-        HasReason (streams S.left S.faults K.written K.faults source.old source.new sink.old sink.new) SessionError.Memory }
+        HasReason
+        (streams S.left S.faults K.written K.faults source.old source.new sink.old sink.new)
+        SessionError.Memory }
     // Where nothing fails, the status is what the script's bytes parse to, or want of memory.
     ensures exact { is_session (map string_bytes words.now.items) ≡ true →
-        (bytes : List ℕ) → IsQuiet (streams S.left S.faults K.written K.faults source.old source.new sink.old sink.new) bytes →
+        (bytes : List ℕ) → IsQuiet
+        (streams S.left S.faults K.written K.faults source.old source.new sink.old sink.new) bytes →
         (result ≡ 7) ⊎ (result ≡ status_of (script_of bytes)) }
     // After a read that failed nothing more is read, and never more than one byte past the longest script.
-    ensures stops { result ≡ 5 → FailedLast (S.faults source.old) (S.faults source.new) (S.has_failed source.new) }
+    ensures stops { result ≡ 5 →
+        FailedLast (S.faults source.old) (S.faults source.new) (S.has_failed source.new) }
     ensures most { TookAtMost 1048577 (S.left source.old) (S.left source.new) }
     // A valid script is answered, unless memory runs out.
     ensures complete { is_session (map string_bytes words.now.items) ≡ true →
-        IsSmooth (streams S.left S.faults K.written K.faults source.old source.new sink.old sink.new) → (result ≡ 0) ⊎ (result ≡ 7) }
+        IsSmooth
+        (streams S.left S.faults K.written K.faults source.old source.new sink.old sink.new)
+        → (result ≡ 0) ⊎ (result ≡ 7) }
 {
     if is_session(words.as_slice()) {
         let answer = run_session(alloc, source, sink);

@@ -17,10 +17,13 @@ fn read_piece<S: Source>(
     room: &mut [u8],
 ) -> Result<bool, SessionError>
     requires { 0 < length room.old }
-    ensures ok { IfOk result (λ more. ReadPiece (S.left source.old) (S.left source.new) bytes.old.items bytes.new.items (length room.old)) }
+    ensures ok { IfOk result (λ more. ReadPiece (S.left source.old)
+        (S.left source.new) bytes.old.items bytes.new.items (length room.old)) }
     ensures more { IfOk result (λ more. IsTrue more ↔ (vec_len bytes.old < vec_len bytes.new)) }
-    ensures fault { IsErrOf result SessionError.ReadFault → FailedLast (S.faults source.old) (S.faults source.new) (S.has_failed source.new) }
-    ensures none { IfErr result (λ e. e ≢ SessionError.ReadFault → S.faults source.new ≡ S.faults source.old) }
+    ensures fault { IsErrOf result SessionError.ReadFault →
+        FailedLast (S.faults source.old) (S.faults source.new) (S.has_failed source.new) }
+    ensures none { IfErr result
+        (λ e. e ≢ SessionError.ReadFault → S.faults source.new ≡ S.faults source.old) }
     ensures quiet { IfOk result (λ more. S.faults source.new ≡ S.faults source.old) }
     ensures few { TookAtMost (length room.old) (S.left source.old) (S.left source.new) }
     ensures later { S.faults source.old ≤ S.faults source.new }
@@ -36,11 +39,15 @@ fn read_piece<S: Source>(
 
 /// The script that the source gives, to its end.
 pub fn read_script<S: Source>(alloc: Global, source: &mut S) -> Result<Vec<u8>, SessionError>
-    ensures ok { IfOk result (λ bytes. ReadWhole (S.left source.old) (S.left source.new) bytes.items) }
+    ensures ok { IfOk result
+        (λ bytes. ReadWhole (S.left source.old) (S.left source.new) bytes.items) }
     ensures few { IfOk result (λ bytes. vec_len bytes < 1048577) }
-    ensures long { IsErrOf result SessionError.TooLong → TookTooMany (S.left source.old) (S.left source.new) }
-    ensures fault { IsErrOf result SessionError.ReadFault → FailedLast (S.faults source.old) (S.faults source.new) (S.has_failed source.new) }
-    ensures none { IfErr result (λ e. e ≢ SessionError.ReadFault → S.faults source.new ≡ S.faults source.old) }
+    ensures long { IsErrOf result SessionError.TooLong →
+        TookTooMany (S.left source.old) (S.left source.new) }
+    ensures fault { IsErrOf result SessionError.ReadFault →
+        FailedLast (S.faults source.old) (S.faults source.new) (S.has_failed source.new) }
+    ensures none { IfErr result
+        (λ e. e ≢ SessionError.ReadFault → S.faults source.new ≡ S.faults source.old) }
     ensures quiet { IfOk result (λ bytes. S.faults source.new ≡ S.faults source.old) }
     ensures most { TookAtMost 1048577 (S.left source.old) (S.left source.new) }
     ensures later { S.faults source.old ≤ S.faults source.new }

@@ -21,7 +21,7 @@ use crate::outside::{Failed, Sink, Source};
 use crate::reading::read_script;
 use crate::writing::offer;
 use std::alloc::Global;
-use usb_answers::{Host, Session, Summary, fate_line, tickets};
+use usb_answers::{Host, Session, Summary, tickets, write_fate};
 use usb_script::{Item, SessionError, parse_script};
 
 /// Writes a piece.
@@ -38,45 +38,53 @@ fn write_piece<K: Sink>(sink: &mut K, bytes: &[u8]) -> Result<(), SessionError>
     }
 }
 
-/// Writes the fate line of each ticket of a host, by number.
-fn write_fates<K: Sink>(alloc: Global, host: &Host, sink: &mut K) -> Result<(), SessionError>
-    ensures ok { OnOk result (Appends (K.written sink.old) (K.written sink.new) (fate_lines host.now)) }
-    ensures err { OnErr result (WrotePrefix (K.written sink.old) (K.written sink.new) (fate_lines host.now)) }
-    ensures cause { IsErrOf result SessionError.WriteFault → Rose (K.faults sink.old) (K.faults sink.new) }
+/// Writes the fate line of each ticket of a host, by number. The text is used for each line.
+fn write_fates<K: Sink>(line: &mut String, host: &Host, sink: &mut K) -> Result<(), SessionError>
+    ensures ok { OnOk result
+        (Appends (K.written sink.old) (K.written sink.new) (fate_lines host.now)) }
+    ensures err { OnErr result
+        (WrotePrefix (K.written sink.old) (K.written sink.new) (fate_lines host.now)) }
+    ensures cause { IsErrOf result SessionError.WriteFault →
+        Rose (K.faults sink.old) (K.faults sink.new) }
     ensures only { IfErr result IsWritingError }
     ensures later { K.faults sink.old ≤ K.faults sink.new }
 {
     for ticket in 0..tickets(host) {
-        let line = fate_line(alloc, host, ticket)?;
+        line.clear();
+        write_fate(line, host, ticket)?;
         write_piece(sink, line.as_bytes())?;
     }
     Ok(())
 }
 
-/// Answers each item in order, and counts the calls.
+/// Answers each item in order, and counts the calls. The text is used for each line.
 fn answer_each<K: Sink>(
-    alloc: Global,
-    items: &[Item],
+    line: &mut String,
+    items: Vec<Item>,
     session: &mut Session,
     sink: &mut K,
 ) -> Result<u32, SessionError>
-    requires bounded { IsBounded items.now }
-    requires stands { Represents session.old (start items.now) }
-    requires room { step_count items.now ≤ session.old.host.kernel.spare }
-    ensures ok { OnOk result (AllAnswered (K.written sink.old) (K.written sink.new) session.new items.now) }
-    ensures calls { IfOk result (λ n. n ≡ count_by is_call items.now) }
-    ensures err { OnErr result (WrotePrefix (K.written sink.old) (K.written sink.new) (output items.now)) }
-    ensures cause { IsErrOf result SessionError.WriteFault → Rose (K.faults sink.old) (K.faults sink.new) }
+    requires bounded { IsBounded items.items }
+    requires stands { Represents session.old (start items.items) }
+    requires room { step_count items.items ≤ session.old.host.kernel.spare }
+    ensures ok { OnOk result
+        (AllAnswered (K.written sink.old) (K.written sink.new) session.new items.items) }
+    ensures calls { IfOk result (λ n. n ≡ count_by is_call items.items) }
+    ensures err { OnErr result
+        (WrotePrefix (K.written sink.old) (K.written sink.new) (output items.items)) }
+    ensures cause { IsErrOf result SessionError.WriteFault →
+        Rose (K.faults sink.old) (K.faults sink.new) }
     ensures only { IfErr result IsWritingError }
     ensures later { K.faults sink.old ≤ K.faults sink.new }
 {
     let mut calls = 0u32;
     for item in items {
-        let line = session.answer(alloc, item)?;
-        write_piece(sink, line.as_bytes())?;
         if item.is_call() {
             calls += 1;
         }
+        line.clear();
+        session.answer(line, item)?;
+        write_piece(sink, line.as_bytes())?;
     }
     Ok(calls)
 }
@@ -85,29 +93,33 @@ fn answer_each<K: Sink>(
 /// could not be written.
 fn answer_items<K: Sink>(
     alloc: Global,
-    items: &[Item],
+    items: Vec<Item>,
     steps: usize,
     sink: &mut K,
 ) -> Result<Summary, SessionError>
-    requires bounded { IsBounded items.now }
-    requires steps { steps ≡ step_count items.now }
-    ensures ok { OnOk result (Appends (K.written sink.old) (K.written sink.new) (output items.now)) }
-    ensures summary { IfOk result (λ s. s ≡ sum_of items.now) }
-    ensures ended { IfOk result (λ _. HasEnds (final_host items.now).tickets) }
-    ensures reaped { IfOk result (λ _. HasCompletions (final_host items.now).kernel.past) }
-    ensures counted { IfOk result (λ _. IsCounted items.now) }
-    ensures served { IfOk result (λ _. HandlesAreServed items.now) }
-    ensures fates { IfOk result (λ _. HasFinalFates items.now) }
-    ensures err { OnErr result (WrotePrefix (K.written sink.old) (K.written sink.new) (output items.now)) }
-    ensures cause { IsErrOf result SessionError.WriteFault → Rose (K.faults sink.old) (K.faults sink.new) }
+    requires bounded { IsBounded items.items }
+    requires steps { steps ≡ step_count items.items }
+    ensures ok { OnOk result
+        (Appends (K.written sink.old) (K.written sink.new) (output items.items)) }
+    ensures summary { IfOk result (λ s. s ≡ sum_of items.items) }
+    ensures ended { IfOk result (λ _. HasEnds (final_host items.items).tickets) }
+    ensures reaped { IfOk result (λ _. HasCompletions (final_host items.items).kernel.past) }
+    ensures counted { IfOk result (λ _. IsCounted items.items) }
+    ensures served { IfOk result (λ _. HandlesAreServed items.items) }
+    ensures fates { IfOk result (λ _. HasFinalFates items.items) }
+    ensures err { OnErr result
+        (WrotePrefix (K.written sink.old) (K.written sink.new) (output items.items)) }
+    ensures cause { IsErrOf result SessionError.WriteFault →
+        Rose (K.faults sink.old) (K.faults sink.new) }
     ensures only { IfErr result IsWritingError }
     ensures later { K.faults sink.old ≤ K.faults sink.new }
 {
-    let mut session = Session::new(alloc, items, steps)?;
-    let answered = answer_each(alloc, items, &mut session, sink);
+    let mut session = Session::new(alloc, items.as_slice(), steps)?;
+    let mut line = String::new(alloc);
+    let answered = answer_each(&mut line, items, &mut session, sink);
     let host = session.end();
     let calls = answered?;
-    write_fates(alloc, &host, sink)?;
+    write_fates(&mut line, &host, sink)?;
     Ok(Summary::of(&host, calls))
 }
 
@@ -117,15 +129,20 @@ fn answer_source<S: Source, K: Sink>(
     source: &mut S,
     sink: &mut K,
 ) -> Result<Summary, SessionError>
-    ensures ok { IfOk result (IsAnswered (streams S.left S.faults K.written K.faults source.old source.new sink.old sink.new)) }
-    ensures err { IfErr result (HasReason (streams S.left S.faults K.written K.faults source.old source.new sink.old sink.new)) }
-    ensures later { IsLater (streams S.left S.faults K.written K.faults source.old source.new sink.old sink.new) }
-    ensures stops { IsErrOf result SessionError.ReadFault → FailedLast (S.faults source.old) (S.faults source.new) (S.has_failed source.new) }
+    ensures ok { IfOk result (IsAnswered
+        (streams S.left S.faults K.written K.faults source.old source.new sink.old sink.new)) }
+    ensures err { IfErr result (HasReason
+        (streams S.left S.faults K.written K.faults source.old source.new sink.old sink.new)) }
+    ensures later { IsLater
+        (streams S.left S.faults K.written K.faults source.old source.new sink.old sink.new) }
+    ensures stops { IsErrOf result SessionError.ReadFault →
+        FailedLast (S.faults source.old) (S.faults source.new) (S.has_failed source.new) }
     ensures most { TookAtMost 1048577 (S.left source.old) (S.left source.new) }
 {
     let bytes = read_script(alloc, source)?;
     let script = parse_script(alloc, bytes.as_slice())?;
-    answer_items(alloc, script.items(), script.step_count(), sink)
+    let steps = script.step_count();
+    answer_items(alloc, script.into_items(), steps, sink)
 }
 
 /// Reads a script to its end, at most 2^20 + 1 bytes, answers it, and writes the answers. Each line is offered to the
@@ -140,17 +157,25 @@ pub fn run_session<S: Source, K: Sink>(
     source: &mut S,
     sink: &mut K,
 ) -> Result<Summary, SessionError>
-    ensures ok { IfOk result (IsAnswered (streams S.left S.faults K.written K.faults source.old source.new sink.old sink.new)) }
-    ensures err { IfErr result (HasReason (streams S.left S.faults K.written K.faults source.old source.new sink.old sink.new)) }
-    ensures later { IsLater (streams S.left S.faults K.written K.faults source.old source.new sink.old sink.new) }
+    ensures ok { IfOk result (IsAnswered
+        (streams S.left S.faults K.written K.faults source.old source.new sink.old sink.new)) }
+    ensures err { IfErr result (HasReason
+        (streams S.left S.faults K.written K.faults source.old source.new sink.old sink.new)) }
+    ensures later { IsLater
+        (streams S.left S.faults K.written K.faults source.old source.new sink.old sink.new) }
     // Each ticket was taken, dropped or reclaimed.
     ensures ends { IfOk result (λ s. s.taken + s.dropped + s.reclaimed ≡ s.tickets) }
     // A valid script is answered, unless memory runs out.
-    ensures complete { IsSmooth (streams S.left S.faults K.written K.faults source.old source.new sink.old sink.new) → IfErr result (λ e. e ≡ SessionError.Memory) }
+    ensures complete { IsSmooth
+        (streams S.left S.faults K.written K.faults source.old source.new sink.old sink.new) →
+        IfErr result (λ e. e ≡ SessionError.Memory) }
     // Where nothing fails, the answer is what the script's bytes parse to, or want of memory.
-    ensures exact { (bytes : List ℕ) → IsQuiet (streams S.left S.faults K.written K.faults source.old source.new sink.old sink.new) bytes → IsExact bytes result }
+    ensures exact { (bytes : List ℕ) → IsQuiet
+        (streams S.left S.faults K.written K.faults source.old source.new sink.old sink.new) bytes →
+        IsExact bytes result }
     // After a read that failed nothing more is read, and never more than one byte past the longest script.
-    ensures stops { IsErrOf result SessionError.ReadFault → FailedLast (S.faults source.old) (S.faults source.new) (S.has_failed source.new) }
+    ensures stops { IsErrOf result SessionError.ReadFault →
+        FailedLast (S.faults source.old) (S.faults source.new) (S.has_failed source.new) }
     ensures most { TookAtMost 1048577 (S.left source.old) (S.left source.new) }
 {
     answer_source(alloc, source, sink)

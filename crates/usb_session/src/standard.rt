@@ -2,7 +2,7 @@
 
 ghost use Rattle.std.specs.Prelude.{◌≡◌, IsTrue};
 
-use crate::outside::{Failed, Sink, Source};
+use crate::outside::{Failed, Gathers, Sink, Source};
 use std::io::{Read, Write};
 
 /// A reader that counts its faults.
@@ -52,13 +52,18 @@ impl<R: Read> Source for StdSource<R> {
 pub struct StdSink<W: Write> {
     output: W,
     faults: u64,
+    is_handed_on: bool,
 }
 
 impl<W: Write> StdSink<W> {
     pub fn new(output: W) -> StdSink<W>
         ensures output { result.output ≡ output }
     {
-        StdSink { output, faults: 0 }
+        StdSink {
+            output,
+            faults: 0,
+            is_handed_on: true,
+        }
     }
 }
 
@@ -68,9 +73,28 @@ impl<W: Write> Sink for StdSink<W> {
     ghost faults = { λ s. s.faults };
 
     fn write(&mut self, bytes: &[u8]) -> Result<usize, Failed> {
+        self.is_handed_on = false;
         match self.output.write(bytes) {
             Ok(count) if 0 < count || bytes.is_empty() => Ok(count),
             _ => {
+                self.faults = self.faults.saturating_add(1);
+                Err(Failed)
+            }
+        }
+    }
+}
+
+/// What the writer still holds is handed on by its flush.
+impl<W: Write> Gathers for StdSink<W> {
+    ghost is_handed_on = { λ s. IsTrue s.is_handed_on };
+
+    fn hand_on(&mut self) -> Result<(), Failed> {
+        match self.output.flush() {
+            Ok(()) => {
+                self.is_handed_on = true;
+                Ok(())
+            }
+            Err(_) => {
                 self.faults = self.faults.saturating_add(1);
                 Err(Failed)
             }

@@ -10,7 +10,7 @@ use Rattle.usb_session.proofs.run.answer_items.Goals as goal
 pub returns-in_err-session-clause-err : goal.returns-in_err-session-clause-err
 returns-in_err-session-clause-err g c =
     let p = err_from_is_err_and c.from_residual.result c.from_residual.ensures.1 in
-    rw p.1 (running-none (g.K.Sink.written c.args.sink.now) (output c.args.items.now))
+    rw p.1 (running-none (g.K.Sink.written c.args.sink.now) (output c.args.items.items))
 
 pub answer_each-answered-requires-clause-room : goal.answer_each-answered-requires-clause-room
 answer_each-answered-requires-clause-room g c = omega (arith, c.in_ok-session.ensures.spare, c.requires.steps)
@@ -18,39 +18,39 @@ answer_each-answered-requires-clause-room g c = omega (arith, c.in_ok-session.en
 pub returns-in_err-write_fates-clause-err : goal.returns-in_err-write_fates-clause-err
 returns-in_err-write_fates-clause-err g c =
     let p = err_from_is_err_and c.from_residual-in_err-write_fates.result c.from_residual-in_err-write_fates.ensures.1 in
-    rw p.1 (answered-cut (g.K.Sink.written c.write_fates.new.sink) c.answer_each-answered.new.session c.end-host.result c.args.items.now c.in_ok-calls.ensures.ok c.end-host.ensures.host c.in_err-write_fates.ensures.err)
+    rw p.1 (answered-cut (g.K.Sink.written c.write_fates.new.sink) c.answer_each-answered.new.session c.end-host.result c.args.items.items c.in_ok-calls.ensures.ok c.end-host.ensures.host c.in_err-write_fates.ensures.err)
 
 pub returns-clause-ok : goal.returns-clause-ok
-returns-clause-ok g c = answered-end (g.K.Sink.written c.write_fates.new.sink) c.answer_each-answered.new.session c.end-host.result c.args.items.now c.in_ok-calls.ensures.ok c.end-host.ensures.host c.in_ok-write_fates.ensures.ok
+returns-clause-ok g c = answered-end (g.K.Sink.written c.write_fates.new.sink) c.answer_each-answered.new.session c.end-host.result c.args.items.items c.in_ok-calls.ensures.ok c.end-host.ensures.host c.in_ok-write_fates.ensures.ok
 
 pub returns-clause-summary : goal.returns-clause-summary
-returns-clause-summary g c = answered-sum c.answer_each-answered.new.session c.end-host.result c.args.items.now c.in_ok-calls.calls c.of.result c.in_ok-calls.ensures.ok c.end-host.ensures.host c.of.ensures.value c.in_ok-calls.ensures.calls
+returns-clause-summary g c = answered-sum c.answer_each-answered.new.session c.end-host.result c.args.items.items c.in_ok-calls.calls c.of.result c.in_ok-calls.ensures.ok c.end-host.ensures.host c.of.ensures.value c.in_ok-calls.ensures.calls
 
 pub of-requires : goal.of-requires
-of-requires g c = record { ended = host-ended c.answer_each-answered.new.session c.end-host.result c.args.items.now c.in_ok-calls.ensures.ok c.end-host.ensures.ended }
+of-requires g c = record { ended = host-ended c.answer_each-answered.new.session c.end-host.result c.args.items.items c.in_ok-calls.ensures.ok c.end-host.ensures.ended }
 
 pub returns-clause-ended : goal.returns-clause-ended
 returns-clause-ended g c =
-    subst (λ (h : HostState). HasEnds h.tickets) (host-final c.answer_each-answered.new.session c.end-host.result c.args.items.now c.in_ok-calls.ensures.ok c.end-host.ensures.host)
-    (host-ended c.answer_each-answered.new.session c.end-host.result c.args.items.now c.in_ok-calls.ensures.ok c.end-host.ensures.ended)
+    subst (λ (h : HostState). HasEnds h.tickets) (host-final c.answer_each-answered.new.session c.end-host.result c.args.items.items c.in_ok-calls.ensures.ok c.end-host.ensures.host)
+    (host-ended c.answer_each-answered.new.session c.end-host.result c.args.items.items c.in_ok-calls.ensures.ok c.end-host.ensures.ended)
 
 pub returns-clause-reaped : goal.returns-clause-reaped
 returns-clause-reaped g c =
-    subst (λ (h : HostState). HasCompletions h.kernel.past) (host-final c.answer_each-answered.new.session c.end-host.result c.args.items.now c.in_ok-calls.ensures.ok c.end-host.ensures.host) c.end-host.ensures.reaped
+    subst (λ (h : HostState). HasCompletions h.kernel.past) (host-final c.answer_each-answered.new.session c.end-host.result c.args.items.items c.in_ok-calls.ensures.ok c.end-host.ensures.host) c.end-host.ensures.reaped
 
 pub returns-clause-counted : goal.returns-clause-counted
-returns-clause-counted g c = final-counted c.args.items.now
+returns-clause-counted g c = final-counted c.args.items.items
 
 pub returns-clause-served : goal.returns-clause-served
 returns-clause-served g c =
-    served-handles c.args.items.now
-    (subst (λ (h : HostState). HasEnds h.tickets) (host-final c.answer_each-answered.new.session c.end-host.result c.args.items.now c.in_ok-calls.ensures.ok c.end-host.ensures.host)
-    (host-ended c.answer_each-answered.new.session c.end-host.result c.args.items.now c.in_ok-calls.ensures.ok c.end-host.ensures.ended))
+    served-handles c.args.items.items
+    (subst (λ (h : HostState). HasEnds h.tickets) (host-final c.answer_each-answered.new.session c.end-host.result c.args.items.items c.in_ok-calls.ensures.ok c.end-host.ensures.host)
+    (host-ended c.answer_each-answered.new.session c.end-host.result c.args.items.items c.in_ok-calls.ensures.ok c.end-host.ensures.ended))
 
 pub returns-clause-fates : goal.returns-clause-fates
 returns-clause-fates g c =
-    let final = host-final c.answer_each-answered.new.session c.end-host.result c.args.items.now c.in_ok-calls.ensures.ok c.end-host.ensures.host in
-    fates-of_scripts c.args.items.now
+    let final = host-final c.answer_each-answered.new.session c.end-host.result c.args.items.items c.in_ok-calls.ensures.ok c.end-host.ensures.host in
+    fates-of_scripts c.args.items.items
     (subst (λ (h : HostState). HasEnds h.tickets) final
-    (host-ended c.answer_each-answered.new.session c.end-host.result c.args.items.now c.in_ok-calls.ensures.ok c.end-host.ensures.ended))
+    (host-ended c.answer_each-answered.new.session c.end-host.result c.args.items.items c.in_ok-calls.ensures.ok c.end-host.ensures.ended))
     (subst (λ (h : HostState). HasCompletions h.kernel.past) final c.end-host.ensures.reaped)
