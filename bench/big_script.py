@@ -1,63 +1,166 @@
 #!/usr/bin/env python3
-"""Writes a script of at most 2^20 bytes to standard output, in which nearly each line is a call.
+"""Writes a script of nearly SIZE bytes (2^20 where none is given, the most that a script has) to standard output.
 
-usage: bench/big_script.py polls|cycles|flight|behind|waits|refused|descriptors
+usage: bench/big_script.py KIND [SIZE]
 
-polls        polls of an endpoint with nothing pending
-cycles       a transfer, its packet, its reap and its poll, again and again
-flight       32 transfers in flight, of which the oldest gets its packet, is reaped, polled and replaced, again and again
-behind       a transfer to the other endpoint that stays open, and then as in cycles
-waits        a blocking transfer with a packet and a reap of its own, again and again
-refused      transfers of an invalid length, until 64 are pending
-descriptors  the printed descriptors of one device, again and again: a walk of all its descriptors a line
 """
+import itertools
 import sys
 
 LIMIT = 1 << 20
-DEVICE = (
-    "1201000200000040aaaabbbb000100000001"
-    "090220000101008032"
-    "0904000002ff000000"
-    "07058102400000"
-    "07050202400000"
-)
-HEAD = f"device k0 1 6 3 1 {DEVICE}\nopen d0 1 6\nclaim d0 0 i0\nendpoint e0 i0 81 bulk-in\n"
 
 
-def body(kind):
-    number = 0
-    if kind == "behind":
-        yield "endpoint e1 i0 02 bulk-out\nsubmitout e1 00\n"
-    while True:
-        if kind == "polls":
-            yield "poll e0\n"
-        elif kind == "cycles":
-            yield f"submitin e0 64\n! pkt k0 81 01 ; reap {number}\npoll e0\n"
-        elif kind == "behind":
-            yield f"submitin e0 64\n! pkt k0 81 01 ; reap {number + 1}\npoll e0\n"
-        elif kind == "flight":
-            turn = "" if number < 32 else "! pkt k0 81 01 ; reap\npoll e0\n"
-            yield f"{turn}submitin e0 64\n"
-        elif kind == "waits":
-            yield "xferin e0 64 100 : pkt k0 81 01 ; reap\n"
-        elif kind == "refused":
-            yield "submitin e0 63\n"
-        elif kind == "descriptors":
-            yield "descriptors d0\n"
-        else:
-            sys.exit(__doc__)
-        number += 1
+def device(settings):
+    """The bytes of a device in hexadecimal: its device descriptor, and a configuration with these settings."""
+    body = "".join(settings)
+    total = (9 + len(body) // 2).to_bytes(2, "little").hex()
+    return f"1201000200000040aaaabbbb000100000001{'0902'}{total}{len(settings):02x}01008032{body}"
+
+
+def setting(number, *endpoints):
+    return f"0904{number:02x}00{len(endpoints):02x}ff000000" + "".join(endpoints)
+
+
+def bulk(address, maximum=64):
+    return f"0705{address:02x}02{maximum.to_bytes(2, 'little').hex()}00"
+
+
+TWO_ENDPOINTS = device([setting(0, bulk(0x81), bulk(0x02))])
+BYTEWISE = device([setting(0, bulk(0x02, 1))])
+MANY_INTERFACES = device([setting(number, bulk(0x81)) for number in range(200)])
+
+OPENED = f"device k0 1 6 3 1 {TWO_ENDPOINTS}\nopen d0 1 6\nclaim d0 0 i0\n"
+IN = f"{OPENED}endpoint e0 i0 81 bulk-in\n"
+OUT = f"{OPENED}endpoint e0 i0 02 bulk-out\n"
+
+
+def polls(_size):
+    """polls of an endpoint with nothing pending"""
+    yield IN
+    yield from itertools.repeat("poll e0\n")
+
+
+def cycles(_size):
+    """a transfer, its packet, its reap and its poll, again and again"""
+    yield IN
+    for number in itertools.count():
+        yield f"submitin e0 64\n! pkt k0 81 01 ; reap {number}\npoll e0\n"
+
+
+def behind(_size):
+    """the same, behind a transfer of another endpoint that stays open"""
+    yield f"{IN}endpoint e1 i0 02 bulk-out\nsubmitout e1 00\n"
+    for number in itertools.count(1):
+        yield f"submitin e0 64\n! pkt k0 81 01 ; reap {number}\npoll e0\n"
+
+
+def flight(_size):
+    """32 transfers in flight, of which the oldest gets its packet, is reaped, polled and replaced, again and again"""
+    yield IN
+    yield from itertools.repeat("submitin e0 64\n", 32)
+    yield from itertools.repeat("! pkt k0 81 01 ; reap\npoll e0\nsubmitin e0 64\n")
+
+
+def cancels(_size):
+    """a transfer, its cancel, its reap and its poll, again and again"""
+    yield IN
+    yield from itertools.repeat("submitin e0 64\ncancel e0\n! reap\npoll e0\n")
+
+
+def waits(_size):
+    """a blocking transfer with a packet and a reap of its own, again and again"""
+    yield IN
+    yield from itertools.repeat("xferin e0 64 100 : pkt k0 81 01 ; reap\n")
+
+
+def refused(_size):
+    """transfers of an invalid length, until 64 are pending, and then submissions that are barred"""
+    yield IN
+    yield from itertools.repeat("submitin e0 63\n")
+
+
+def armed(size):
+    """refusals, and then the transfers that use them up, each with its poll"""
+    yield IN
+    refusal, use = "! refuse k0 submit 5\n", "submitin e0 64\npoll e0\n"
+    count = (size - len(IN)) // len(refusal + use)
+    yield from itertools.repeat(refusal, count)
+    yield from itertools.repeat(use, count)
+
+
+def submitout(_size):
+    """an OUT transfer of 30,000 bytes, its cancel, its reap and its poll, again and again"""
+    yield OUT
+    data = bytes(range(256)) * 118
+    yield from itertools.repeat(f"submitout e0 {data[:30000].hex()}\ncancel e0\n! reap\npoll e0\n")
+
+
+def steps(size):
+    """an OUT transfer, and one line of acknowledgements that take a byte each"""
+    head = f"device k0 1 6 3 1 {BYTEWISE}\nopen d0 1 6\nclaim d0 0 i0\nendpoint e0 i0 02 bulk-out\n"
+    step, end = "ack k0 02", "\n! reap\npoll e0\n"
+    # (a word of bytes has at most 65536 of them)
+    count = (size - len(head) - len(end)) // 16
+    yield f"{head}submitout e0 {'5a' * count}\n! {' ; '.join([step] * count)}{end}"
+
+
+def claims(_size):
+    """claims of an interface that is in use, again and again"""
+    yield OPENED
+    yield from itertools.repeat("claim d0 0 i1\n")
+
+
+def closes(_size):
+    """an endpoint that is opened and closed, again and again"""
+    yield OPENED
+    yield from itertools.repeat("endpoint e0 i0 81 bulk-in\nclose e0\n")
+
+
+def descriptors(_size):
+    """the printed descriptors of a device, again and again: a walk of all its descriptors a line"""
+    yield IN
+    yield from itertools.repeat("descriptors d0\n")
+
+
+def printed(_size):
+    """the printed descriptors of a device with 200 interfaces of one endpoint each, behind each a comment, 512 bytes in all"""
+    yield f"device k0 1 6 3 1 {MANY_INTERFACES}\nopen d0 1 6\n"
+    line = "descriptors d0\n#"
+    yield from itertools.repeat(f"{line:.<511}\n")
+
+
+def comments(_size):
+    """comments"""
+    yield OPENED
+    yield from itertools.repeat("# a comment\n")
+
+
+KINDS = {
+    kind.__name__: kind
+    for kind in (
+        polls, cycles, behind, flight, cancels, waits, refused, armed, submitout, steps, claims, closes, descriptors, printed,
+        comments,
+    )
+}
+
+
+def script(kind, size=LIMIT):
+    """The pieces of a kind's script that fit into this size."""
+    pieces, room = [], size
+    for piece in KINDS[kind](size):
+        room -= len(piece)
+        if room < 0:
+            break
+        pieces.append(piece)
+    return "".join(pieces)
 
 
 def main():
-    kind = sys.argv[1] if len(sys.argv) == 2 else ""
-    size = len(HEAD)
-    sys.stdout.write(HEAD)
-    for lines in body(kind):
-        size += len(lines)
-        if size > LIMIT:
-            break
-        sys.stdout.write(lines)
+    words = sys.argv[1:]
+    if len(words) not in (1, 2) or words[0] not in KINDS:
+        sys.exit(__doc__ + "\n".join(f"{name:12} {it.__doc__}" for name, it in KINDS.items()))
+    sys.stdout.write(script(words[0], *map(int, words[1:])))
 
 
-main()
+if __name__ == "__main__":
+    main()

@@ -1,307 +1,358 @@
 //! The host: open devices, claimed interfaces, endpoints, and what became of each ticket.
 
-use crate::descriptors;
-use crate::kernel::{Kernel, Step, Ticket};
+use crate::descriptors::{self, DeviceDescriptor, Direction, TransferType};
+use crate::errno;
+use crate::kernel::{Device, Kernel, Outcome, Step, Ticket, Transfer};
+use crate::names::Name;
+use crate::refusal::Refusal;
+use crate::text::{Show, Text};
 use std::collections::VecDeque;
+use std::rc::Rc;
 
-#[derive(Clone, Copy, PartialEq)]
+/// An open device.
+#[derive(Clone)]
+pub struct OpenDevice {
+    name: Name,
+    pub descriptor: DeviceDescriptor,
+    pub device: Rc<Device>,
+}
+
+struct Interface {
+    device: OpenDevice,
+    number: u8,
+    /// By bits 0 to 3 and 7 of the endpoint's address.
+    is_used: [bool; 32],
+}
+
+/// The key of an interface, and that of an endpoint: those of closed ones aren't used again.
+pub type InterfaceKey = usize;
+pub type EndpointKey = usize;
+
+struct Endpoint {
+    interface: InterfaceKey,
+    device: Name,
+    address: u8,
+    /// The maximum packet size.
+    maximum: usize,
+    pending: VecDeque<Ticket>,
+    /// How many tickets keep the address in use, with one for the endpoint itself while it is open.
+    uses: usize,
+}
+
+/// What is handed in: the length that is wanted, or the bytes.
+pub enum Data {
+    In(usize),
+    Out(Vec<u8>),
+}
+
+impl Data {
+    fn direction(&self) -> Direction {
+        match self {
+            Data::In(_) => Direction::In,
+            Data::Out(_) => Direction::Out,
+        }
+    }
+}
+
+/// How a ticket's life ended.
+#[derive(Clone, Copy)]
 pub enum End {
     Taken,
     Dropped,
     Reclaimed,
 }
 
+impl Show for End {
+    fn show(&self, text: &mut Text) {
+        text.word(match self {
+            End::Taken => "taken",
+            End::Dropped => "dropped",
+            End::Reclaimed => "reclaimed",
+        });
+    }
+}
+
+/// What became of a ticket.
+#[derive(Clone, Copy)]
 pub enum Fate {
+    /// It is pending.
     Held,
-    Abandoned { endpoint: usize },
+    /// Its endpoint was closed before it was reaped.
+    Abandoned(EndpointKey),
     Ended(End),
 }
 
-pub struct OpenDevice {
-    pub number: u8,
-    pub configuration: u8,
-    pub bytes: Vec<u8>,
-}
-
-struct Interface {
-    device: usize,
-    number: u8,
-    owners: usize,
-    used: [bool; 32],
-}
-
-struct Owner {
-    interface: usize,
-    bit: usize,
-    is_open: bool,
-    tickets: usize,
-}
-
-/// A handle of an endpoint.
-pub struct Endpoint {
-    pub key: usize,
-    pub device: u8,
-    pub address: u8,
-    pub maximum: usize,
-    pub pending: VecDeque<usize>,
-}
-
+/// A finished transfer that the host took.
 pub struct Completion {
-    pub status: u16,
-    pub refused: bool,
+    pub outcome: Outcome,
     pub count: usize,
     pub requested: usize,
     pub bytes: Vec<u8>,
 }
 
+/// The steps of a call that are left.
+pub type Steps = std::vec::IntoIter<Step>;
+
 #[derive(Default)]
 pub struct Host {
     pub kernel: Kernel,
-    pub devices: Vec<OpenDevice>,
     interfaces: Vec<Interface>,
-    owners: Vec<Owner>,
+    endpoints: Vec<Endpoint>,
+    /// By ticket.
     pub fates: Vec<Fate>,
-    steps: VecDeque<Step>,
 }
 
-pub type Refusal = (&'static str, String);
+const MOST_PENDING: usize = 64;
+const MOST_UNREAPED: usize = 1024;
 
-const SECOND: u64 = 1_000_000_000;
-
-fn plain(kind: &'static str, text: &str) -> Refusal {
-    (kind, text.to_string())
+fn place(address: u8) -> usize {
+    usize::from(address & 15 | address >> 3 & 16)
 }
 
-fn coded(kind: &'static str, text: &str, errno: u16) -> Refusal {
-    (kind, format!("{text} (errno {errno})"))
+impl Interface {
+    /// The endpoint at an address of the setting 0.
+    fn endpoint(&self, address: u8) -> Option<descriptors::Endpoint<'_>> {
+        self.device
+            .device
+            .active_configuration()?
+            .settings()
+            .find(|s| (s.interface_number(), s.alternate_setting()) == (self.number, 0))?
+            .endpoints()
+            .find(|e| e.address() == address)
+    }
 }
 
 impl Host {
-    pub fn open_device(&mut self, bus: u8, address: u8) -> Result<usize, Refusal> {
-        let device = self.kernel.open(bus, address).ok_or_else(|| coded("Disconnected", "device not found", 2))?;
-        if descriptors::device(&device.bytes).is_none() {
-            return Err(plain("Other", "invalid device descriptor"));
-        }
-        self.devices.push(OpenDevice {
-            number: device.number,
-            configuration: device.configuration,
-            bytes: device.bytes.clone(),
-        });
-        Ok(self.devices.len() - 1)
-    }
-
-    pub fn claim(&mut self, device: usize, number: u8) -> Result<usize, Refusal> {
-        self.kernel.claim(self.devices[device].number, number).map_err(|errno| match errno {
-            19 => coded("Disconnected", "device disconnected", errno),
-            16 => coded("Busy", "interface is busy", errno),
-            _ => coded("NotFound", "interface not found", errno),
-        })?;
-        self.interfaces.push(Interface { device, number, owners: 1, used: [false; 32] });
-        Ok(self.interfaces.len() - 1)
-    }
-
-    fn find_endpoint(&self, interface: usize, address: u8) -> Option<&[u8]> {
-        let claimed = &self.interfaces[interface];
-        let device = &self.devices[claimed.device];
-        let configuration = descriptors::configurations(&device.bytes)
-            .find(|c| descriptors::configuration_value(c) == device.configuration)?;
-        let setting = descriptors::alt_settings(configuration).find(|s| {
-            descriptors::interface_number(s) == claimed.number && descriptors::alternate_setting(s) == 0
-        })?;
-        descriptors::endpoints(setting).find(|e| descriptors::endpoint_address(e) == address)
-    }
-
-    pub fn open_endpoint(&mut self, interface: usize, address: u8, kind: u8, is_in: bool) -> Result<Endpoint, Refusal> {
-        let device = self.interfaces[interface].device;
-        if let Some(value) = self.kernel.configuration(self.devices[device].number) {
-            self.devices[device].configuration = value;
-        }
-        let endpoint = self
-            .find_endpoint(interface, address)
-            .ok_or_else(|| plain("NotFound", "specified endpoint does not exist on this interface"))?;
-        let maximum = descriptors::max_packet_size(endpoint);
-        if (address >= 0x80) != is_in {
-            return Err(plain("Other", "incorrect endpoint direction"));
-        }
-        if descriptors::transfer_type(endpoint) != kind {
-            return Err(plain("Other", "incorrect endpoint type"));
-        }
-        if maximum == 0 {
-            return Err(plain("Other", "endpoint has max packet size 0"));
-        }
-        let bit = 2 * (address as usize % 16) + address as usize / 128;
-        if self.interfaces[interface].used[bit] {
-            return Err(plain("Busy", "endpoint already in use"));
-        }
-        self.interfaces[interface].used[bit] = true;
-        self.interfaces[interface].owners += 1;
-        self.owners.push(Owner { interface, bit, is_open: true, tickets: 0 });
-        Ok(Endpoint {
-            key: self.owners.len() - 1,
-            device: self.devices[device].number,
-            address,
-            maximum,
-            pending: VecDeque::new(),
+    pub fn open_device(&self, bus: u8, address: u8) -> Result<OpenDevice, Refusal> {
+        let (name, device) = self
+            .kernel
+            .find(bus, address)
+            .ok_or(Refusal::DeviceNotFound)?;
+        let descriptor =
+            DeviceDescriptor::new(&device.bytes).ok_or(Refusal::InvalidDeviceDescriptor)?;
+        Ok(OpenDevice {
+            name,
+            descriptor,
+            device,
         })
     }
 
-    fn disown(&mut self, interface: usize) {
+    pub fn claim(&mut self, device: OpenDevice, number: u8) -> Result<InterfaceKey, Refusal> {
+        self.kernel
+            .claim(device.name, number)
+            .map_err(|errno| match errno {
+                errno::NODEV => Refusal::DeviceDisconnected,
+                errno::BUSY => Refusal::InterfaceIsBusy,
+                _ => Refusal::InterfaceNotFound,
+            })?;
+        self.interfaces.push(Interface {
+            device,
+            number,
+            is_used: [false; 32],
+        });
+        Ok(self.interfaces.len() - 1)
+    }
+
+    pub fn open_endpoint(
+        &mut self,
+        interface: InterfaceKey,
+        address: u8,
+        kind: TransferType,
+        direction: Direction,
+    ) -> Result<EndpointKey, Refusal> {
         let claimed = &mut self.interfaces[interface];
-        claimed.owners -= 1;
-        if claimed.owners == 0 {
-            let device = self.devices[claimed.device].number;
-            self.kernel.release(device, claimed.number);
+        let endpoint = claimed.endpoint(address).ok_or(Refusal::NoSuchEndpoint)?;
+        let maximum = endpoint.max_packet_size();
+        if Direction::of_address(address) != direction {
+            return Err(Refusal::IncorrectEndpointDirection);
         }
-    }
-
-    pub fn close_interface(&mut self, interface: usize) {
-        self.disown(interface);
-    }
-
-    /// An endpoint that is closed and has no ticket left frees its bit.
-    fn settle(&mut self, key: usize) {
-        let owner = &self.owners[key];
-        if !owner.is_open && owner.tickets == 0 {
-            let interface = owner.interface;
-            self.interfaces[interface].used[owner.bit] = false;
-            self.disown(interface);
+        if endpoint.transfer_type() != kind {
+            return Err(Refusal::IncorrectEndpointType);
         }
-    }
-
-    fn end(&mut self, ticket: usize, key: usize, end: End) {
-        self.fates[ticket] = Fate::Ended(end);
-        self.owners[key].tickets -= 1;
-        self.settle(key);
-    }
-
-    fn reaped(&mut self, ticket: usize) {
-        if let Fate::Abandoned { endpoint } = self.fates[ticket] {
-            self.end(ticket, endpoint, End::Reclaimed);
+        if maximum == 0 {
+            return Err(Refusal::EndpointHasNoPacketSize);
         }
-    }
-
-    pub fn step(&mut self, step: &Step) {
-        if let Some(ticket) = self.kernel.step(step) {
-            self.reaped(ticket);
+        if std::mem::replace(&mut claimed.is_used[place(address)], true) {
+            return Err(Refusal::EndpointAlreadyInUse);
         }
+        let (device, pending) = (claimed.device.name, VecDeque::new());
+        self.endpoints.push(Endpoint {
+            interface,
+            device,
+            address,
+            maximum,
+            pending,
+            uses: 1,
+        });
+        Ok(self.endpoints.len() - 1)
     }
 
-    fn reap(&mut self, ticket: usize) {
-        if self.kernel.reap(ticket) {
-            self.reaped(ticket);
+    /// How many transfers of an endpoint are pending.
+    pub fn pending(&self, endpoint: EndpointKey) -> usize {
+        self.endpoints[endpoint].pending.len()
+    }
+
+    /// Whether the endpoint has the direction of a transfer, and there is room for it.
+    fn has_room(&self, key: EndpointKey, data: &Data) -> bool {
+        let endpoint = &self.endpoints[key];
+        Direction::of_address(endpoint.address) == data.direction()
+            && endpoint.pending.len() < MOST_PENDING
+            && self.kernel.unreaped < MOST_UNREAPED
+    }
+
+    /// Hands a transfer in, or gives none where the call is barred.
+    pub fn submit(&mut self, key: EndpointKey, data: Data) -> Option<()> {
+        if !self.has_room(key, &data) {
+            return None;
         }
-    }
-
-    pub fn lend_steps(&mut self, steps: &[Step]) {
-        self.steps.extend(steps.iter().cloned());
-    }
-
-    pub fn rest(&mut self) {
-        while let Some(step) = self.steps.pop_front() {
-            self.step(&step);
-        }
-    }
-
-    /// Goes on by a step or a reap, and tells whether there was one.
-    fn turn(&mut self) -> bool {
-        if let Some(step) = self.steps.pop_front() {
-            self.step(&step);
-            return true;
-        }
-        match self.kernel.lowest_finished() {
-            Some(ticket) => self.reap(ticket),
-            None => return false,
-        }
-        true
-    }
-
-    pub fn submit(&mut self, endpoint: &mut Endpoint, bytes: Vec<u8>, requested: usize) {
-        let invalid = endpoint.address >= 0x80 && (requested == 0 || requested % endpoint.maximum != 0);
-        let ticket = Ticket {
+        let endpoint = &mut self.endpoints[key];
+        let maximum = endpoint.maximum;
+        let is_whole = match data {
+            Data::In(length) => length > 0 && length.is_multiple_of(maximum),
+            Data::Out(_) => true,
+        };
+        let (requested, bytes) = match data {
+            Data::In(length) => (length, Vec::new()),
+            Data::Out(bytes) => (bytes.len(), bytes),
+        };
+        let transfer = Transfer {
             device: endpoint.device,
             endpoint: endpoint.address,
-            maximum: endpoint.maximum,
+            maximum,
             requested,
             bytes,
             count: 0,
-            status: None,
-            refused: false,
-            reaped: false,
+            outcome: None,
+            is_reaped: false,
         };
-        let number = if invalid { self.kernel.enter(ticket, Some(22)) } else { self.kernel.submit(ticket) };
+        let ticket = if is_whole {
+            self.kernel.submit(transfer)
+        } else {
+            self.kernel.refuse(transfer, errno::INVAL)
+        };
         self.fates.push(Fate::Held);
-        self.owners[endpoint.key].tickets += 1;
-        endpoint.pending.push_back(number);
+        endpoint.uses += 1;
+        endpoint.pending.push_back(ticket);
+        Some(())
     }
 
-    /// The oldest pending transfer, where it is reaped.
-    pub fn poll(&mut self, endpoint: &mut Endpoint) -> Option<Completion> {
-        let front = *endpoint.pending.front()?;
-        let ticket = &mut self.kernel.tickets[front];
-        if !ticket.reaped {
-            return None;
-        }
-        endpoint.pending.pop_front();
-        let completion = Completion {
-            status: ticket.status.unwrap_or(0),
-            refused: ticket.refused,
-            count: ticket.count,
-            requested: ticket.requested,
-            bytes: std::mem::take(&mut ticket.bytes),
-        };
-        self.end(front, endpoint.key, End::Taken);
-        Some(completion)
+    /// Takes the oldest pending transfer, where it was reaped.
+    pub fn poll(&mut self, key: EndpointKey) -> Option<Completion> {
+        let pending = &mut self.endpoints[key].pending;
+        let ticket = *pending.front()?;
+        let transfer = &mut self.kernel.transfers[ticket];
+        let outcome = transfer.outcome.filter(|_| transfer.is_reaped)?;
+        pending.pop_front();
+        let bytes = std::mem::take(&mut transfer.bytes);
+        let (count, requested) = (transfer.count, transfer.requested);
+        self.end(ticket, key, End::Taken);
+        Some(Completion {
+            outcome,
+            count,
+            requested,
+            bytes,
+        })
     }
 
-    pub fn wait(&mut self, endpoint: &mut Endpoint, timeout: u64) -> Option<Completion> {
+    /// Waits at most this long for the oldest pending transfer.
+    pub fn wait(&mut self, key: EndpointKey, time: u64, steps: &mut Steps) -> Option<Completion> {
         let start = self.kernel.clock;
         loop {
-            if let Some(completion) = self.poll(endpoint) {
+            if let Some(completion) = self.poll(key) {
                 return Some(completion);
             }
-            if self.kernel.clock - start >= timeout || !self.turn() {
+            if self.kernel.clock - start >= time || !self.turn(steps) {
                 return None;
             }
         }
     }
 
-    pub fn transfer(&mut self, endpoint: &mut Endpoint, bytes: Vec<u8>, requested: usize, timeout: u64) -> Completion {
-        self.submit(endpoint, bytes, requested);
-        if let Some(completion) = self.wait(endpoint, timeout) {
-            return completion;
+    /// Hands a transfer in and waits for it, or gives none where the call is barred. When the time
+    /// is up it is cancelled.
+    pub fn transfer(
+        &mut self,
+        key: EndpointKey,
+        data: Data,
+        time: u64,
+        steps: &mut Steps,
+    ) -> Option<Completion> {
+        if self.pending(key) > 0 {
+            return None;
         }
-        self.cancel(endpoint);
-        loop {
-            if let Some(completion) = self.wait(endpoint, SECOND) {
-                return completion;
-            }
+        self.submit(key, data)?;
+        self.wait(key, time, steps).or_else(|| {
+            self.cancel(key);
+            self.wait(key, u64::MAX, steps)
+        })
+    }
+
+    /// Goes on by a step or by a reap, and tells whether there was one.
+    fn turn(&mut self, steps: &mut Steps) -> bool {
+        match steps.next() {
+            Some(step) => self.step(step),
+            None => match self.kernel.lowest_finished() {
+                Some(ticket) => self.reap(ticket),
+                None => return false,
+            },
+        }
+        true
+    }
+
+    pub fn step(&mut self, step: Step) {
+        if let Some(ticket) = self.kernel.step(step) {
+            self.reaped(ticket);
         }
     }
 
-    pub fn cancel(&mut self, endpoint: &Endpoint) {
-        for ticket in endpoint.pending.iter().rev() {
-            self.kernel.discard(*ticket);
+    fn reap(&mut self, ticket: Ticket) {
+        if let Some(ticket) = self.kernel.reap(ticket) {
+            self.reaped(ticket);
         }
     }
 
-    pub fn close_endpoint(&mut self, endpoint: Endpoint) {
-        self.cancel(&endpoint);
-        for ticket in &endpoint.pending {
-            if self.kernel.tickets[*ticket].reaped {
-                self.end(*ticket, endpoint.key, End::Dropped);
+    fn reaped(&mut self, ticket: Ticket) {
+        if let Fate::Abandoned(endpoint) = self.fates[ticket] {
+            self.end(ticket, endpoint, End::Reclaimed);
+        }
+    }
+
+    fn end(&mut self, ticket: Ticket, endpoint: EndpointKey, end: End) {
+        self.fates[ticket] = Fate::Ended(end);
+        self.leave(endpoint);
+    }
+
+    /// Ends one use of an endpoint's address.
+    fn leave(&mut self, key: EndpointKey) {
+        let endpoint = &mut self.endpoints[key];
+        endpoint.uses -= 1;
+        if endpoint.uses == 0 {
+            self.interfaces[endpoint.interface].is_used[place(endpoint.address)] = false;
+        }
+    }
+
+    /// Discards what is pending and unfinished, from the last to the first.
+    pub fn cancel(&mut self, key: EndpointKey) {
+        for ticket in self.endpoints[key].pending.iter().rev() {
+            self.kernel.discard(*ticket, errno::NOENT);
+        }
+    }
+
+    pub fn close_endpoint(&mut self, key: EndpointKey) {
+        self.cancel(key);
+        for ticket in std::mem::take(&mut self.endpoints[key].pending) {
+            if self.kernel.transfers[ticket].is_reaped {
+                self.end(ticket, key, End::Dropped);
             } else {
-                self.fates[*ticket] = Fate::Abandoned { endpoint: endpoint.key };
+                self.fates[ticket] = Fate::Abandoned(key);
             }
         }
-        self.owners[endpoint.key].is_open = false;
-        self.settle(endpoint.key);
+        self.leave(key);
     }
 
+    /// Discards and reaps all that is left.
     pub fn finish(&mut self) {
-        for ticket in 0..self.kernel.tickets.len() {
-            self.kernel.discard(ticket);
-        }
-        for ticket in 0..self.kernel.tickets.len() {
+        for ticket in 0..self.kernel.transfers.len() {
+            self.kernel.discard(ticket, errno::NOENT);
             self.reap(ticket);
         }
     }

@@ -1,234 +1,325 @@
 //! The simulated kernel: devices, and the tickets of submitted transfers.
 
-use crate::descriptors;
+use crate::descriptors::{Configuration, Direction, configurations};
+use crate::errno::{self, Errno};
+use crate::names::{Name, Names};
+use crate::text::{Show, Text};
 use std::cmp::Reverse;
-use std::collections::{BinaryHeap, HashMap, VecDeque};
+use std::collections::{BinaryHeap, VecDeque};
+use std::rc::Rc;
 
+/// A ticket's number.
+pub type Ticket = usize;
+
+/// What a simulated device is.
 pub struct Device {
-    pub number: u8,
     pub bus: u8,
     pub address: u8,
     pub configuration: u8,
     pub bytes: Vec<u8>,
-    pub plugged: bool,
-    pub claimed: [bool; 256],
 }
 
-#[derive(Clone, Debug)]
+impl Device {
+    pub fn active_configuration(&self) -> Option<Configuration<'_>> {
+        configurations(&self.bytes).find(|c| c.value() == self.configuration)
+    }
+
+    fn has_interface(&self, number: u8) -> bool {
+        self.active_configuration()
+            .is_some_and(|c| c.settings().any(|s| s.interface_number() == number))
+    }
+}
+
+/// A device that is plugged in.
+struct Plug {
+    device: Rc<Device>,
+    claimed: [bool; 256],
+    /// The errnos of the next submissions.
+    refusals: VecDeque<Errno>,
+    /// By the endpoint's address its tickets, the oldest in front. Some may be finished.
+    open: Vec<VecDeque<Ticket>>,
+}
+
 pub enum Step {
-    Packet { device: u8, endpoint: u8, bytes: Vec<u8> },
-    Ack { device: u8, endpoint: u8 },
-    Fail { device: u8, endpoint: u8, errno: u16 },
-    Unplug { device: u8 },
-    Clock { to: u64 },
-    /// Nothing has a deadline, so nothing is due.
+    Packet {
+        device: Name,
+        endpoint: u8,
+        bytes: Vec<u8>,
+    },
+    Acknowledge {
+        device: Name,
+        endpoint: u8,
+    },
+    Fail {
+        device: Name,
+        endpoint: u8,
+        errno: Errno,
+    },
+    Unplug {
+        device: Name,
+    },
+    Clock {
+        to: u64,
+    },
     Timer,
-    Refuse { device: u8, errno: u16 },
-    Reap { ticket: Option<u64> },
+    RefuseSubmit {
+        device: Name,
+        errno: Errno,
+    },
+    Reap {
+        ticket: Option<Ticket>,
+    },
+}
+
+/// How a transfer ended.
+#[derive(Clone, Copy)]
+pub enum Outcome {
+    Complete,
+    Failed(Errno),
+    /// It was refused when it was handed in, so that nobody can have cancelled it.
+    Refused(Errno),
+}
+
+impl Show for Outcome {
+    fn show(&self, text: &mut Text) {
+        use errno::*;
+        let (Outcome::Failed(errno) | Outcome::Refused(errno)) = *self else {
+            text.word("ok");
+            return;
+        };
+        match errno {
+            NOENT | CONNRESET | TIMEDOUT if matches!(self, Outcome::Failed(_)) => {
+                text.word("cancelled")
+            }
+            PIPE => text.word("stall"),
+            NODEV | SHUTDOWN => text.word("disconnected"),
+            TIME | COMM | PROTO | OVERFLOW | ILSEQ => text.word("fault"),
+            INVAL => text.word("invalid"),
+            _ => text.word("unknown:").number(errno.into()),
+        };
+    }
 }
 
 /// A transfer that was handed in.
-pub struct Ticket {
-    pub device: u8,
+pub struct Transfer {
+    pub device: Name,
     pub endpoint: u8,
+    /// The endpoint's maximum packet size.
     pub maximum: usize,
     /// What an IN transfer wants, and the length of an OUT transfer's bytes.
     pub requested: usize,
-    /// The bytes of an OUT transfer, or those that have come in.
+    /// The bytes of an OUT transfer, or those that have come in, until the host takes them.
     pub bytes: Vec<u8>,
+    /// How many bytes have come in, or were acknowledged.
     pub count: usize,
-    pub status: Option<u16>,
-    /// Whether the kernel refused it, so that nobody can have cancelled it.
-    pub refused: bool,
-    pub reaped: bool,
+    pub outcome: Option<Outcome>,
+    pub is_reaped: bool,
 }
 
 #[derive(Default)]
 pub struct Kernel {
-    pub devices: Vec<Device>,
-    pub tickets: Vec<Ticket>,
+    plugs: Names<Plug>,
+    /// By ticket.
+    pub transfers: Vec<Transfer>,
+    /// Nanoseconds.
     pub clock: u64,
     pub unreaped: usize,
-    armed: Vec<(u8, u16)>,
-    open: HashMap<(u8, u8), VecDeque<usize>>,
-    finished: BinaryHeap<Reverse<usize>>,
+    /// The finished tickets, some of which may have been reaped.
+    finished: BinaryHeap<Reverse<Ticket>>,
 }
 
-const IN: u8 = 0x80;
-
 impl Kernel {
-    fn plugged(&self, number: u8) -> Option<&Device> {
-        self.devices.iter().find(|d| d.number == number && d.plugged)
+    pub fn plug(&mut self, name: Name, device: Device) {
+        self.plugs.set(
+            name,
+            Plug {
+                device: Rc::new(device),
+                claimed: [false; 256],
+                refusals: VecDeque::new(),
+                open: vec![VecDeque::new(); 256],
+            },
+        );
     }
 
-    pub fn open(&self, bus: u8, address: u8) -> Option<&Device> {
-        self.devices.iter().find(|d| d.plugged && d.bus == bus && d.address == address)
+    /// The device at this bus and address.
+    pub fn find(&self, bus: u8, address: u8) -> Option<(Name, Rc<Device>)> {
+        self.plugs
+            .iter()
+            .find(|(_, plug)| (plug.device.bus, plug.device.address) == (bus, address))
+            .map(|(name, plug)| (name, plug.device.clone()))
     }
 
-    pub fn configuration(&self, number: u8) -> Option<u8> {
-        self.plugged(number).map(|d| d.configuration)
-    }
-
-    pub fn claim(&mut self, number: u8, interface: u8) -> Result<(), u16> {
-        let device = self.plugged(number).ok_or(19u16)?;
-        let active = descriptors::configurations(&device.bytes)
-            .find(|c| descriptors::configuration_value(c) == device.configuration);
-        let has = active.is_some_and(|c| {
-            descriptors::alt_settings(c).any(|s| descriptors::interface_number(s) == interface)
-        });
-        if !has {
-            return Err(2);
+    pub fn claim(&mut self, name: Name, interface: u8) -> Result<(), Errno> {
+        let plug = self.plugs.get_mut(name).ok_or(errno::NODEV)?;
+        if !plug.device.has_interface(interface) {
+            return Err(errno::NOENT);
         }
-        if device.claimed[interface as usize] {
-            return Err(16);
+        let claimed = &mut plug.claimed[usize::from(interface)];
+        if *claimed {
+            return Err(errno::BUSY);
         }
-        self.set_claim(number, interface, true);
+        *claimed = true;
         Ok(())
     }
 
-    pub fn release(&mut self, number: u8, interface: u8) {
-        self.set_claim(number, interface, false);
-    }
-
-    fn set_claim(&mut self, number: u8, interface: u8, claimed: bool) {
-        if let Some(device) = self.devices.iter_mut().find(|d| d.number == number) {
-            device.claimed[interface as usize] = claimed;
+    /// The errno with which a submission is refused. One that the script asked for is used up.
+    fn refusal(&mut self, name: Name) -> Option<Errno> {
+        match self.plugs.get_mut(name) {
+            Some(plug) => plug.refusals.pop_front(),
+            None => Some(errno::NODEV),
         }
     }
 
-    /// The errno with which a submission to a device is refused. It uses an armed refusal up.
-    fn refusal(&mut self, number: u8) -> Option<u16> {
-        if self.plugged(number).is_none() {
-            return Some(19);
+    /// Hands a transfer in.
+    pub fn submit(&mut self, transfer: Transfer) -> Ticket {
+        match self.refusal(transfer.device) {
+            Some(errno) => self.refuse(transfer, errno),
+            None => self.accept(transfer),
         }
-        let at = self.armed.iter().position(|(device, _)| *device == number)?;
-        Some(self.armed.remove(at).1)
     }
 
-    pub fn submit(&mut self, ticket: Ticket) -> usize {
-        let refusal = self.refusal(ticket.device);
-        self.enter(ticket, refusal)
-    }
-
-    /// The next ticket, refused or not. A refused one is finished and reaped at once.
-    pub fn enter(&mut self, mut ticket: Ticket, refusal: Option<u16>) -> usize {
-        let number = self.tickets.len();
-        ticket.status = refusal;
-        ticket.refused = refusal.is_some();
-        ticket.reaped = refusal.is_some();
-        if refusal.is_none() {
-            self.unreaped += 1;
-            self.open.entry((ticket.device, ticket.endpoint)).or_default().push_back(number);
+    fn accept(&mut self, transfer: Transfer) -> Ticket {
+        let ticket = self.transfers.len();
+        if let Some(plug) = self.plugs.get_mut(transfer.device) {
+            plug.open[usize::from(transfer.endpoint)].push_back(ticket);
         }
-        self.tickets.push(ticket);
-        number
+        self.unreaped += 1;
+        self.transfers.push(transfer);
+        ticket
     }
 
-    /// The oldest ticket of an endpoint that is not finished.
-    fn oldest(&mut self, device: u8, endpoint: u8) -> Option<usize> {
-        let open = self.open.get_mut(&(device, endpoint))?;
-        while let Some(&number) = open.front() {
-            if self.tickets[number].status.is_none() {
-                return Some(number);
+    /// Gives a refused transfer its ticket, which is finished and reaped at once.
+    pub fn refuse(&mut self, transfer: Transfer, errno: Errno) -> Ticket {
+        let outcome = Some(Outcome::Refused(errno));
+        self.transfers.push(Transfer {
+            outcome,
+            is_reaped: true,
+            ..transfer
+        });
+        self.transfers.len() - 1
+    }
+
+    /// The oldest unfinished ticket of an endpoint.
+    fn oldest(&mut self, name: Name, endpoint: u8) -> Option<Ticket> {
+        let open = &mut self.plugs.get_mut(name)?.open[usize::from(endpoint)];
+        while let Some(&ticket) = open.front() {
+            if self.transfers[ticket].outcome.is_none() {
+                return Some(ticket);
             }
             open.pop_front();
         }
         None
     }
 
-    fn finish(&mut self, number: usize, errno: u16) {
-        self.tickets[number].status = Some(errno);
-        self.finished.push(Reverse(number));
+    fn oldest_towards(&mut self, direction: Direction, name: Name, endpoint: u8) -> Option<Ticket> {
+        let has_direction = Direction::of_address(endpoint) == direction;
+        has_direction.then(|| self.oldest(name, endpoint)).flatten()
     }
 
-    fn packet(&mut self, device: u8, endpoint: u8, bytes: &[u8]) {
-        if endpoint & IN == 0 {
-            return;
-        }
-        let Some(number) = self.oldest(device, endpoint) else { return };
-        let ticket = &mut self.tickets[number];
-        if bytes.len() > ticket.maximum {
-            return self.finish(number, 75);
-        }
-        ticket.bytes.extend_from_slice(bytes);
-        ticket.count += bytes.len();
-        if bytes.len() < ticket.maximum || ticket.count >= ticket.requested {
-            self.finish(number, 0);
-        }
+    fn finish(&mut self, ticket: Ticket, outcome: Outcome) {
+        self.transfers[ticket].outcome = Some(outcome);
+        self.finished.push(Reverse(ticket));
     }
 
-    fn ack(&mut self, device: u8, endpoint: u8) {
-        if endpoint & IN != 0 {
-            return;
+    fn packet(&mut self, ticket: Ticket, mut bytes: Vec<u8>) {
+        let transfer = &mut self.transfers[ticket];
+        if bytes.len() > transfer.maximum {
+            return self.finish(ticket, Outcome::Failed(errno::OVERFLOW));
         }
-        let Some(number) = self.oldest(device, endpoint) else { return };
-        let ticket = &mut self.tickets[number];
-        ticket.count = (ticket.count + ticket.maximum).min(ticket.requested);
-        if ticket.count == ticket.requested {
-            self.finish(number, 0);
+        transfer.count += bytes.len();
+        let is_done = bytes.len() < transfer.maximum || transfer.count >= transfer.requested;
+        if transfer.bytes.is_empty() {
+            transfer.bytes = bytes;
+        } else {
+            transfer.bytes.append(&mut bytes);
+        }
+        if is_done {
+            self.finish(ticket, Outcome::Complete);
         }
     }
 
-    fn unplug(&mut self, number: u8) {
-        let Some(device) = self.devices.iter_mut().find(|d| d.number == number && d.plugged) else {
+    fn acknowledge(&mut self, ticket: Ticket) {
+        let transfer = &mut self.transfers[ticket];
+        transfer.count = transfer.requested.min(transfer.count + transfer.maximum);
+        if transfer.count == transfer.requested {
+            self.finish(ticket, Outcome::Complete);
+        }
+    }
+
+    fn unplug(&mut self, name: Name) {
+        let Some(plug) = self.plugs.take(name) else {
             return;
         };
-        device.plugged = false;
-        for ticket in 0..self.tickets.len() {
-            if self.tickets[ticket].device == number && self.tickets[ticket].status.is_none() {
-                self.finish(ticket, 108);
-            }
+        for ticket in plug.open.into_iter().flatten() {
+            self.discard(ticket, errno::SHUTDOWN);
         }
     }
 
-    pub fn discard(&mut self, number: usize) {
-        if self.tickets[number].status.is_none() {
-            self.finish(number, 2);
+    /// Ends a ticket that isn't finished.
+    pub fn discard(&mut self, ticket: Ticket, errno: Errno) {
+        if self.transfers[ticket].outcome.is_none() {
+            self.finish(ticket, Outcome::Failed(errno));
         }
     }
 
-    /// The least ticket that is finished and not reaped.
-    pub fn lowest_finished(&mut self) -> Option<usize> {
-        while let Some(&Reverse(number)) = self.finished.peek() {
-            if !self.tickets[number].reaped {
-                return Some(number);
+    /// Of the tickets that are finished and not reaped the least.
+    pub fn lowest_finished(&mut self) -> Option<Ticket> {
+        while let Some(&Reverse(ticket)) = self.finished.peek() {
+            if !self.transfers[ticket].is_reaped {
+                return Some(ticket);
             }
             self.finished.pop();
         }
         None
     }
 
-    /// Reaps a ticket, and tells whether it did.
-    pub fn reap(&mut self, number: usize) -> bool {
-        let Some(ticket) = self.tickets.get_mut(number) else { return false };
-        if ticket.status.is_none() || ticket.reaped {
-            return false;
+    /// Reaps a ticket that is finished and not reaped, and gives it back.
+    pub fn reap(&mut self, ticket: Ticket) -> Option<Ticket> {
+        let transfer = self.transfers.get_mut(ticket)?;
+        if transfer.outcome.is_none() || transfer.is_reaped {
+            return None;
         }
-        ticket.reaped = true;
+        transfer.is_reaped = true;
         self.unreaped -= 1;
-        true
+        Some(ticket)
     }
 
-    /// Applies a step, and gives the ticket that it reaped.
-    pub fn step(&mut self, step: &Step) -> Option<usize> {
+    /// Takes a step, and gives the ticket that it reaped.
+    pub fn step(&mut self, step: Step) -> Option<Ticket> {
         match step {
-            Step::Packet { device, endpoint, bytes } => self.packet(*device, *endpoint, bytes),
-            Step::Ack { device, endpoint } => self.ack(*device, *endpoint),
-            Step::Fail { device, endpoint, errno } => {
-                if let Some(number) = self.oldest(*device, *endpoint) {
-                    self.finish(number, *errno);
-                }
+            Step::Packet {
+                device,
+                endpoint,
+                bytes,
+            } => {
+                let ticket = self.oldest_towards(Direction::In, device, endpoint)?;
+                self.packet(ticket, bytes);
             }
-            Step::Unplug { device } => self.unplug(*device),
-            Step::Clock { to } => self.clock = self.clock.max(*to),
+            Step::Acknowledge { device, endpoint } => {
+                let ticket = self.oldest_towards(Direction::Out, device, endpoint)?;
+                self.acknowledge(ticket);
+            }
+            Step::Fail {
+                device,
+                endpoint,
+                errno,
+            } => {
+                let ticket = self.oldest(device, endpoint)?;
+                self.finish(ticket, Outcome::Failed(errno));
+            }
+            Step::Unplug { device } => self.unplug(device),
+            Step::Clock { to } => self.clock = self.clock.max(to),
+            // No transfer has a deadline, so none is due.
             Step::Timer => {}
-            Step::Refuse { device, errno } => self.armed.push((*device, *errno)),
-            Step::Reap { ticket } => {
-                let number = match ticket {
-                    Some(number) => usize::try_from(*number).ok()?,
-                    None => self.lowest_finished()?,
-                };
-                return self.reap(number).then_some(number);
+            Step::RefuseSubmit { device, errno } => {
+                self.plugs.get_mut(device)?.refusals.push_back(errno);
+            }
+            Step::Reap {
+                ticket: Some(ticket),
+            } => return self.reap(ticket),
+            Step::Reap { ticket: None } => {
+                let ticket = self.lowest_finished()?;
+                return self.reap(ticket);
             }
         }
         None

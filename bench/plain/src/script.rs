@@ -1,192 +1,301 @@
-//! The script language (docs/SCRIPT.md).
+//! The grammar of a script.
 
-use crate::kernel::Step;
+use crate::descriptors::{Direction, TransferType};
+use crate::errno::Errno;
+use crate::fault::Fault;
+use crate::hex;
+use crate::host::Data;
+use crate::kernel::{Device, Step};
+use crate::names::Name;
 
-pub enum Item {
-    Device { number: u8, bus: u8, address: u8, configuration: u8, bytes: Vec<u8> },
-    Now,
-    Open { name: u8, bus: u8, address: u8 },
-    DeviceDescriptor { name: u8 },
-    Descriptors { name: u8 },
-    Claim { device: u8, number: u8, name: u8 },
-    Endpoint { name: u8, interface: u8, address: u8, kind: u8, is_in: bool },
-    SubmitIn { endpoint: u8, length: usize },
-    SubmitOut { endpoint: u8, bytes: Vec<u8> },
-    Pending { endpoint: u8 },
-    Poll { endpoint: u8 },
-    Wait { endpoint: u8, timeout: u64, steps: Vec<Step> },
-    TransferIn { endpoint: u8, length: usize, timeout: u64, steps: Vec<Step> },
-    TransferOut { endpoint: u8, bytes: Vec<u8>, timeout: u64, steps: Vec<Step> },
-    Cancel { endpoint: u8 },
-    Close { endpoint: u8 },
+pub struct Script {
+    pub devices: Vec<(Name, Device)>,
+    pub lines: Vec<Line>,
+}
+
+/// A line behind those of the devices.
+pub enum Line {
     Steps(Vec<Step>),
+    Call(Call),
 }
 
-const BULK: u8 = 2;
-const INTERRUPT: u8 = 3;
-
-fn number(word: &str, limit: u64) -> Option<u64> {
-    let fits = (1..=19).contains(&word.len()) && word.bytes().all(|b| b.is_ascii_digit());
-    word.parse().ok().filter(|n| fits && *n <= limit)
+pub enum Call {
+    Now,
+    Open(Open),
+    DeviceDescriptor(Name),
+    Descriptors(Name),
+    Claim(Claim),
+    OpenEndpoint(OpenEndpoint),
+    /// A call on an open endpoint.
+    Endpoint(Name, EndpointCall),
 }
 
-fn byte(word: &str) -> Option<u8> {
-    number(word, 255).map(|n| n as u8)
+pub struct Open {
+    pub device: Name,
+    pub bus: u8,
+    pub address: u8,
 }
 
-fn errno(word: &str) -> Option<u16> {
-    number(word, 4095).filter(|n| *n > 0).map(|n| n as u16)
+pub struct Claim {
+    pub device: Name,
+    pub number: u8,
+    pub interface: Name,
 }
 
-fn time(word: &str) -> Option<u64> {
-    number(word, 1_000_000_000_000_000_000)
+pub struct OpenEndpoint {
+    pub endpoint: Name,
+    pub interface: Name,
+    pub address: u8,
+    pub kind: TransferType,
+    pub direction: Direction,
 }
 
-fn timeout(word: &str) -> Option<u64> {
-    if word == "max" { Some(u64::MAX) } else { time(word) }
+pub enum EndpointCall {
+    Submit(Data),
+    Pending,
+    Poll,
+    Wait(Patience),
+    Transfer(Data, Patience),
+    Cancel,
+    Close,
 }
 
-fn name(word: &str, letter: char) -> Option<u8> {
-    let digits = word.strip_prefix(letter)?;
-    let plain = digits == "0" || !digits.starts_with('0');
-    number(digits, 63).filter(|_| plain).map(|n| n as u8)
+/// How long a call waits, in nanoseconds, and the steps that are taken meanwhile.
+pub struct Patience {
+    pub time: u64,
+    pub steps: Vec<Step>,
 }
 
-fn digit(b: u8) -> Option<u8> {
-    (b as char).to_digit(16).map(|d| d as u8)
-}
+const MOST_BYTES: usize = 65536;
+const MOST_TIME: u64 = 1_000_000_000_000_000_000;
 
-fn address(word: &str) -> Option<u8> {
-    match word.as_bytes() {
-        [high, low] => Some(digit(*high)? * 16 + digit(*low)?),
-        _ => None,
-    }
-}
-
-fn bytes(word: &str) -> Option<Vec<u8>> {
-    if word == "-" {
-        return Some(Vec::new());
-    }
-    if word.len() % 2 != 0 || word.len() > 2 * 65536 {
+fn number<T: TryFrom<u64>>(word: &[u8], most: u64) -> Option<T> {
+    // (19 digits fit into 64 bits)
+    if !(1..=19).contains(&word.len()) {
         return None;
     }
-    word.as_bytes().chunks(2).map(|pair| Some(digit(pair[0])? * 16 + digit(pair[1])?)).collect()
+    let mut number = 0;
+    for byte in word {
+        number = 10 * number + u64::from(byte.checked_sub(b'0').filter(|digit| *digit < 10)?);
+    }
+    T::try_from(number).ok().filter(|_| number <= most)
 }
 
-fn kind(word: &str) -> Option<(u8, bool)> {
+fn byte(word: &[u8]) -> Option<u8> {
+    number(word, 255)
+}
+
+fn errno(word: &[u8]) -> Option<Errno> {
+    number(word, 4095).filter(|errno| *errno > 0)
+}
+
+fn length(word: &[u8]) -> Option<usize> {
+    number(word, MOST_BYTES as u64)
+}
+
+fn clock(word: &[u8]) -> Option<u64> {
+    number(word, MOST_TIME)
+}
+
+fn time(word: &[u8]) -> Option<u64> {
+    if word == b"max" {
+        Some(u64::MAX)
+    } else {
+        clock(word)
+    }
+}
+
+fn name(word: &[u8], letter: u8) -> Option<Name> {
+    let digits = word.strip_prefix(&[letter])?;
+    let has_leading_zero = digits.len() > 1 && digits[0] == b'0';
+    number(digits, 63).filter(|_| !has_leading_zero)
+}
+
+fn bytes(word: &[u8]) -> Option<Vec<u8>> {
     match word {
-        "bulk-in" => Some((BULK, true)),
-        "bulk-out" => Some((BULK, false)),
-        "int-in" => Some((INTERRUPT, true)),
-        "int-out" => Some((INTERRUPT, false)),
-        _ => None,
+        b"-" => Some(Vec::new()),
+        _ => hex::bytes(word).filter(|bytes| bytes.len() <= MOST_BYTES),
     }
 }
 
-fn step(words: &[&str]) -> Option<Step> {
-    Some(match words {
-        ["pkt", k, hh, data] => Step::Packet { device: name(k, 'k')?, endpoint: address(hh)?, bytes: bytes(data)? },
-        ["ack", k, hh] => Step::Ack { device: name(k, 'k')?, endpoint: address(hh)? },
-        ["fail", k, hh, n] => Step::Fail { device: name(k, 'k')?, endpoint: address(hh)?, errno: errno(n)? },
-        ["unplug", k] => Step::Unplug { device: name(k, 'k')? },
-        ["timer"] => Step::Timer,
-        ["clock", to] => Step::Clock { to: time(to)? },
-        ["refuse", k, "submit", n] => Step::Refuse { device: name(k, 'k')?, errno: errno(n)? },
-        ["reap"] => Step::Reap { ticket: None },
-        ["reap", t] => Step::Reap { ticket: Some(number(t, 4_294_967_295)?) },
+fn endpoint_kind(word: &[u8]) -> Option<(TransferType, Direction)> {
+    Some(match word {
+        b"bulk-in" => (TransferType::Bulk, Direction::In),
+        b"bulk-out" => (TransferType::Bulk, Direction::Out),
+        b"int-in" => (TransferType::Interrupt, Direction::In),
+        b"int-out" => (TransferType::Interrupt, Direction::Out),
         _ => return None,
     })
 }
 
-fn steps(words: &[&str]) -> Option<Vec<Step>> {
-    words.split(|word| *word == ";").map(step).collect()
-}
-
-/// The steps behind a call, where there are any.
-fn own_steps(words: &[&str]) -> Option<Vec<Step>> {
-    match words {
-        [] => Some(Vec::new()),
-        [":", words @ ..] => steps(words),
-        _ => None,
-    }
-}
-
-fn item(words: &[&str]) -> Option<Item> {
-    Some(match words {
-        ["device", k, bus, place, speed, value, data] => {
-            byte(speed)?;
-            Item::Device {
-                number: name(k, 'k')?,
-                bus: byte(bus)?,
-                address: byte(place)?,
-                configuration: byte(value)?,
-                bytes: bytes(data)?,
-            }
-        }
-        ["now"] => Item::Now,
-        ["open", d, bus, place] => Item::Open { name: name(d, 'd')?, bus: byte(bus)?, address: byte(place)? },
-        ["devdesc", d] => Item::DeviceDescriptor { name: name(d, 'd')? },
-        ["descriptors", d] => Item::Descriptors { name: name(d, 'd')? },
-        ["claim", d, n, i] => Item::Claim { device: name(d, 'd')?, number: byte(n)?, name: name(i, 'i')? },
-        ["endpoint", e, i, hh, word] => {
-            let (kind, is_in) = kind(word)?;
-            Item::Endpoint { name: name(e, 'e')?, interface: name(i, 'i')?, address: address(hh)?, kind, is_in }
-        }
-        ["submitin", e, n] => Item::SubmitIn { endpoint: name(e, 'e')?, length: number(n, 65536)? as usize },
-        ["submitout", e, data] => Item::SubmitOut { endpoint: name(e, 'e')?, bytes: bytes(data)? },
-        ["pending", e] => Item::Pending { endpoint: name(e, 'e')? },
-        ["poll", e] => Item::Poll { endpoint: name(e, 'e')? },
-        ["wait", e, t, own @ ..] => {
-            Item::Wait { endpoint: name(e, 'e')?, timeout: timeout(t)?, steps: own_steps(own)? }
-        }
-        ["xferin", e, n, t, own @ ..] => Item::TransferIn {
-            endpoint: name(e, 'e')?,
-            length: number(n, 65536)? as usize,
-            timeout: timeout(t)?,
-            steps: own_steps(own)?,
-        },
-        ["xferout", e, data, t, own @ ..] => Item::TransferOut {
-            endpoint: name(e, 'e')?,
+fn step(words: &[&[u8]]) -> Option<Step> {
+    Some(match *words {
+        [b"pkt", k, hh, data] => Step::Packet {
+            device: name(k, b'k')?,
+            endpoint: hex::byte(hh)?,
             bytes: bytes(data)?,
-            timeout: timeout(t)?,
-            steps: own_steps(own)?,
         },
-        ["cancel", e] => Item::Cancel { endpoint: name(e, 'e')? },
-        ["close", e] => Item::Close { endpoint: name(e, 'e')? },
-        ["!", words @ ..] => Item::Steps(steps(words)?),
+        [b"ack", k, hh] => Step::Acknowledge {
+            device: name(k, b'k')?,
+            endpoint: hex::byte(hh)?,
+        },
+        [b"fail", k, hh, n] => Step::Fail {
+            device: name(k, b'k')?,
+            endpoint: hex::byte(hh)?,
+            errno: errno(n)?,
+        },
+        [b"unplug", k] => Step::Unplug {
+            device: name(k, b'k')?,
+        },
+        [b"timer"] => Step::Timer,
+        [b"clock", to] => Step::Clock { to: clock(to)? },
+        [b"refuse", k, b"submit", n] => Step::RefuseSubmit {
+            device: name(k, b'k')?,
+            errno: errno(n)?,
+        },
+        [b"reap"] => Step::Reap { ticket: None },
+        [b"reap", t] => Step::Reap {
+            ticket: Some(number(t, u64::from(u32::MAX))?),
+        },
         _ => return None,
     })
 }
 
-/// A device line stands before the first other line, and no name and no place is used twice.
-fn is_allowed(items: &[Item], next: &Item) -> bool {
-    let Item::Device { number, bus, address, .. } = next else { return true };
-    items.iter().all(|item| match item {
-        Item::Device { number: n, bus: b, address: a, .. } => n != number && (b, a) != (bus, address),
-        _ => false,
+/// One step or more, joined by `;`.
+fn steps(words: &[&[u8]]) -> Option<Vec<Step>> {
+    words.split(|word| *word == b";").map(step).collect()
+}
+
+/// A time, and the steps behind it, which may be missing.
+fn patience(words: &[&[u8]]) -> Option<Patience> {
+    let (word, rest) = words.split_first()?;
+    let steps = match rest {
+        [] => Vec::new(),
+        [b":", words @ ..] => steps(words)?,
+        _ => return None,
+    };
+    let time = time(word)?;
+    Some(Patience { time, steps })
+}
+
+fn device(words: &[&[u8]]) -> Option<(Name, Device)> {
+    let [k, bus, address, speed, configuration, data] = *words else {
+        return None;
+    };
+    byte(speed)?;
+    let device = Device {
+        bus: byte(bus)?,
+        address: byte(address)?,
+        configuration: byte(configuration)?,
+        bytes: bytes(data)?,
+    };
+    Some((name(k, b'k')?, device))
+}
+
+/// A call on an open endpoint, without the endpoint's name.
+fn endpoint_call(verb: &[u8], rest: &[&[u8]]) -> Option<EndpointCall> {
+    Some(match (verb, rest) {
+        (b"poll", []) => EndpointCall::Poll,
+        (b"pending", []) => EndpointCall::Pending,
+        (b"submitin", [n]) => EndpointCall::Submit(Data::In(length(n)?)),
+        (b"submitout", [data]) => EndpointCall::Submit(Data::Out(bytes(data)?)),
+        (b"wait", rest) => EndpointCall::Wait(patience(rest)?),
+        (b"xferin", [n, rest @ ..]) => {
+            EndpointCall::Transfer(Data::In(length(n)?), patience(rest)?)
+        }
+        (b"xferout", [data, rest @ ..]) => {
+            EndpointCall::Transfer(Data::Out(bytes(data)?), patience(rest)?)
+        }
+        (b"cancel", []) => EndpointCall::Cancel,
+        (b"close", []) => EndpointCall::Close,
+        _ => return None,
     })
 }
 
-/// The items of a script, or the number of its first malformed line.
-pub fn parse(script: &[u8]) -> Result<Vec<Item>, usize> {
-    let mut items = Vec::new();
-    let mut lines: Vec<&[u8]> = script.split(|b| *b == b'\n').collect();
-    if lines.last().is_some_and(|line| line.is_empty()) {
-        lines.pop();
-    }
-    for (at, line) in lines.into_iter().enumerate() {
-        let line = line.strip_suffix(b"\r").unwrap_or(line);
-        let first = line.iter().find(|b| **b != b' ');
-        if first.is_none() || first == Some(&b'#') {
-            continue;
+fn call(words: &[&[u8]]) -> Option<Call> {
+    Some(match *words {
+        [b"now"] => Call::Now,
+        [b"open", d, bus, address] => Call::Open(Open {
+            device: name(d, b'd')?,
+            bus: byte(bus)?,
+            address: byte(address)?,
+        }),
+        [b"devdesc", d] => Call::DeviceDescriptor(name(d, b'd')?),
+        [b"descriptors", d] => Call::Descriptors(name(d, b'd')?),
+        [b"claim", d, n, i] => Call::Claim(Claim {
+            device: name(d, b'd')?,
+            number: byte(n)?,
+            interface: name(i, b'i')?,
+        }),
+        [b"endpoint", e, i, hh, word] => {
+            let (kind, direction) = endpoint_kind(word)?;
+            Call::OpenEndpoint(OpenEndpoint {
+                endpoint: name(e, b'e')?,
+                interface: name(i, b'i')?,
+                address: hex::byte(hh)?,
+                kind,
+                direction,
+            })
         }
-        if !line.iter().all(|b| (0x20..0x7f).contains(b)) {
-            return Err(at + 1);
-        }
-        let text = std::str::from_utf8(line).map_err(|_| at + 1)?;
-        let words: Vec<&str> = text.split(' ').filter(|word| !word.is_empty()).collect();
-        let next = item(&words).filter(|next| is_allowed(&items, next)).ok_or(at + 1)?;
-        items.push(next);
+        [verb, e, ref rest @ ..] => Call::Endpoint(name(e, b'e')?, endpoint_call(verb, rest)?),
+        _ => return None,
+    })
+}
+
+/// Splits a line at its spaces, where it has no other bytes than a line may have.
+fn split<'a>(line: &'a [u8], words: &mut Vec<&'a [u8]>) -> Option<()> {
+    words.clear();
+    if !line.iter().all(|byte| matches!(byte, b' '..=b'~')) {
+        return None;
     }
-    Ok(items)
+    words.extend(
+        line.split(|byte| *byte == b' ')
+            .filter(|word| !word.is_empty()),
+    );
+    Some(())
+}
+
+impl Script {
+    /// Reads a script of at most 2^20 bytes.
+    pub fn parse(text: &[u8]) -> Result<Script, Fault> {
+        let mut script = Script {
+            devices: Vec::new(),
+            lines: Vec::new(),
+        };
+        let mut words = Vec::new();
+        for (number, line) in (1..).zip(text.split(|byte| *byte == b'\n')) {
+            let line = line.strip_suffix(b"\r").unwrap_or(line);
+            let first = line.iter().find(|byte| **byte != b' ');
+            if matches!(first, None | Some(b'#')) {
+                continue;
+            }
+            split(line, &mut words)
+                .and_then(|()| script.add(&words))
+                .ok_or(Fault::Malformed(number))?;
+        }
+        Ok(script)
+    }
+
+    fn add(&mut self, words: &[&[u8]]) -> Option<()> {
+        match words {
+            [b"device", words @ ..] => {
+                let (name, device) = device(words)?;
+                if !self.allows(name, &device) {
+                    return None;
+                }
+                self.devices.push((name, device));
+            }
+            [b"!", words @ ..] => self.lines.push(Line::Steps(steps(words)?)),
+            _ => self.lines.push(Line::Call(call(words)?)),
+        }
+        Some(())
+    }
+
+    /// A device line stands before all others, and no name and no place is used twice.
+    fn allows(&self, name: Name, device: &Device) -> bool {
+        let is_other = |(n, d): &(Name, Device)| {
+            *n != name && (d.bus, d.address) != (device.bus, device.address)
+        };
+        self.lines.is_empty() && self.devices.iter().all(is_other)
+    }
 }
