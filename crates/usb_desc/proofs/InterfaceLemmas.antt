@@ -1,12 +1,13 @@
 -- Lemmas on settings that are put together by their interface number.
-use Rattle.std.proofs.Common.{◌≡◌, ℕ, zero, suc, ◌+◌, ◌<◌, ◌≤◌, true, cond, eqb, ltb, List, [], ◌∷◌, ◌++◌, length, set, get_or, refl, sym, ap, ◌∙◌, arith, append-nil, subst, Result, Ok, Err, OnOk, map, filter}
+use Rattle.std.proofs.Common.{◌≡◌, ℕ, zero, suc, ◌+◌, ◌-◌, ◌<◌, ◌≤◌, true, cond, eqb, ltb, List, [], ◌∷◌, ◌++◌, length, set, get_or, refl, sym, ap, ◌∙◌, arith, append-nil, subst, Result, Ok, Err, OnOk, map, filter}
 use Rattle.std.specs.Prelude.{insert}
 use Rattle.std.specs.List.{range_with_len}
 use Rattle.std.proofs.lemmas.Bool.{false≢true, cases_Bool, cases_eq, cond-true, cond-false, eq-eqb, ne_eqb, eqb-true, lt-ltb, le-ltb}
 use Rattle.std.specs.List.Sorted.{IsStrictlyIncreasing}
-use Rattle.std.proofs.lemmas.List.Kept.{IsStrictlyIncreasing-filter}
+use Rattle.std.proofs.lemmas.List.Kept.{AllPairs-from_increasing, IsStrictlyIncreasing-filter}
 use Rattle.std.proofs.lemmas.List.FromFn.{length-range_with_len, get_or-range_with_len}
-use Rattle.std.proofs.lemmas.List.{get_or_read}
+use Rattle.std.proofs.lemmas.List.{get_or_read, length-map}
+use Rattle.std.proofs.Math.ListN.{get_or-map}
 use Rattle.std.proofs.lemmas.List.Elements.{filter-append}
 use mathlib.Core.Logic.{inl, inr}
 use Rattle.usb_desc.specs.Fields.{interface_number}
@@ -204,3 +205,23 @@ pub numbers_rise : (settings : List (List ℕ)) → IsStrictlyIncreasing (map nu
 unfolding interfaces_among
 numbers_rise settings =
     subst IsStrictlyIncreasing (sym (numbers_are (range_with_len 0 256) settings)) (IsStrictlyIncreasing-filter (λ number. has_any (settings_of settings number)) (range_with_len 0 256) (range_increasing 0 256))
+
+-- each interface's number is below those of the later ones
+numbers_below : (settings : List (List ℕ)) (groups : List (List (List ℕ))) → groups ≡ interfaces_among settings → (i j : ℕ) → i < j → j < length groups → number_of (get_or groups i []) < number_of (get_or groups j [])
+numbers_below settings groups are i j later inside =
+    let rise : IsStrictlyIncreasing (map number_of groups) = subst (λ gs. IsStrictlyIncreasing (map number_of gs)) (sym are) (numbers_rise settings) in
+    let pair = AllPairs-from_increasing (map number_of groups) rise i j (number_of []) later (rw (length-map groups number_of) inside) in
+    rw (sym (get_or-map number_of groups i []), sym (get_or-map number_of groups j [])) pair
+
+-- a place that is sought from the back is that of the number, since the numbers rise
+pub place_from_back : (number : ℕ) (settings : List (List ℕ)) (groups : List (List (List ℕ))) (place : ℕ) → groups ≡ interfaces_among settings → place ≤ length groups → (0 < place → number_of (get_or groups (place - 1) []) < number) → ((k : ℕ) → place ≤ k → k < length groups → number ≤ number_of (get_or groups k [])) → IsPlace number groups place
+place_from_back number settings groups place are within below behind = record {
+  within = within;
+  below = λ k low.
+      let last = below (omega arith) in
+      elim (cases_eq k (place - 1)) [
+        | inl same ↦ subst (λ i. number_of (get_or groups i []) < number) (sym same) last
+        | inr other ↦ let lower = numbers_below settings groups are k (place - 1) (omega arith) (omega arith) in omega arith
+      ];
+  at = λ inside. behind place (omega arith) inside;
+}

@@ -37,7 +37,8 @@ impl EndpointBitSet {
     /// differ.
     pub fn mask(ep: u8) -> u32
         ensures value { result ≡ mask_of ep }
-        ensures apart { (other : ℕ) → IsEndpointAddress ep → IsEndpointAddress other → mask_of other ≡ result → other ≡ ep }
+        ensures apart { (other : ℕ) → IsEndpointAddress ep → IsEndpointAddress other
+            → mask_of other ≡ result → other ≡ ep }
     {
         1 << (2 * (ep % 16) + ep / 128)
     }

@@ -157,10 +157,14 @@ impl<'a> Iterator for DescriptorIter<'a> {
 
 /// The first descriptor, and the bytes behind it; `None` where no descriptor stands at the front.
 pub(crate) fn split_first(bytes: &[u8]) -> Option<(&[u8], &[u8])>
-    ensures begins { MatchOption result (begins_descriptor bytes.now ≡ false) (λ _. begins_descriptor bytes.now ≡ true) }
+    ensures begins { MatchOption result
+        (begins_descriptor bytes.now ≡ false)
+        (λ _. begins_descriptor bytes.now ≡ true) }
     ensures parts { MatchOption result ⊤
         (λ p. (p.0.now ≡ first_descriptor bytes.now) × (p.1.now ≡ behind_first bytes.now)) }
-    ensures walks { MatchOption result (chain bytes.now ≡ []) (λ p. chain bytes.now ≡ p.0.now ∷ chain p.1.now) }
+    ensures walks { MatchOption result
+        (chain bytes.now ≡ [])
+        (λ p. chain bytes.now ≡ p.0.now ∷ chain p.1.now) }
     ensures joined { MatchOption result ⊤ (λ p. bytes.now ≡ p.0.now ++ p.1.now) }
     ensures form { MatchOption result ⊤ (λ p. IsDescriptor p.0.now) }
 {
@@ -194,7 +198,8 @@ fn begins_group(descriptor: &[u8], kind: u8, least: u8) -> bool
 fn run_len(bytes: &[u8], kind: u8) -> usize
     ensures within { result ≤ length bytes.now }
     ensures run { run_bytes kind (chain bytes.now) ≡ take result bytes.now }
-    ensures behind { (least : ℕ) → groups kind least bytes.now ≡ groups kind least (drop result bytes.now) }
+    ensures behind { (least : ℕ) → groups kind least bytes.now
+        ≡ groups kind least (drop result bytes.now) }
 {
     let mut rest = bytes;
     while let Some((descriptor, behind)) = split_first(rest) {

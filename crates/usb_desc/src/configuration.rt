@@ -25,7 +25,8 @@ use std::num::NonZeroU8;
 
 // How many bytes the configuration at the front counts, where there is one.
 fn configuration_len(buf: &[u8]) -> Option<usize>
-    ensures value { result ≡ (if spec.is_configuration buf.now then Some (spec.total_length buf.now) else None) }
+    ensures value { result
+        ≡ (if spec.is_configuration buf.now then Some (spec.total_length buf.now) else None) }
 {
     if buf.len() < CONFIGURATION_LEN {
         return None;
@@ -110,9 +111,11 @@ impl<'a> ConfigurationDescriptor<'a> {
         self.bytes[5]
     }
 
-    /// `iConfiguration`, the index of the string that describes the configuration, byte 6; `None` for 0.
+    /// `iConfiguration`, the index of the string that describes the configuration, byte 6; `None`
+    /// for 0.
     pub fn string_index(&self) -> Option<NonZeroU8>
-        ensures field { option_map non_zero_u8_get result ≡ fields.configuration_string_index self.now }
+        ensures field { option_map non_zero_u8_get result
+            ≡ fields.configuration_string_index self.now }
     {
         string_index(self.bytes[6])
     }

@@ -107,7 +107,8 @@ impl DeviceDescriptor {
 
     /// `iManufacturer`, the index of the string that names the manufacturer, byte 14; `None` for 0.
     pub fn manufacturer_string_index(&self) -> Option<NonZeroU8>
-        ensures field { option_map non_zero_u8_get result ≡ fields.manufacturer_string_index self.now }
+        ensures field { option_map non_zero_u8_get result
+            ≡ fields.manufacturer_string_index self.now }
     {
         string_index(self.bytes[14])
     }
@@ -121,7 +122,8 @@ impl DeviceDescriptor {
 
     /// `iSerialNumber`, the index of the string with the serial number, byte 16; `None` for 0.
     pub fn serial_number_string_index(&self) -> Option<NonZeroU8>
-        ensures field { option_map non_zero_u8_get result ≡ fields.serial_number_string_index self.now }
+        ensures field { option_map non_zero_u8_get result
+            ≡ fields.serial_number_string_index self.now }
     {
         string_index(self.bytes[16])
     }

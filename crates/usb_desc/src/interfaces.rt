@@ -1,7 +1,7 @@
 //! The interfaces of a configuration, with the settings of each put together: USB 2.0, section
 //! 9.6.5.
 
-ghost use Rattle.std.specs.Prelude.{◌≡◌, ◌≢◌, ℕ, ◌<◌, ◌≤◌, List, [], ◌∷◌, ◌++◌, All, IfOk, OnOk, length, slice_index_or};
+ghost use Rattle.std.specs.Prelude.{◌≡◌, ◌≢◌, ℕ, ◌-◌, ◌<◌, ◌≤◌, List, [], ◌∷◌, ◌++◌, All, IfOk, OnOk, length, slice_index_or};
 ghost use Rattle.std.specs.Iterator.{YieldsFirst, item_count};
 ghost use Rattle.usb_desc.specs.Fields.{interface_number};
 ghost use Rattle.usb_desc.specs.Interfaces as spec;
@@ -75,18 +75,21 @@ impl<'a> InterfaceDescriptors<'a> {
     }
 }
 
-// The place of the first interface whose number is not below this one.
+// The place behind the last interface whose number is below this one. It is sought from the back,
+// since settings mostly come by rising number.
 fn place_of(groups: &[InterfaceDescriptors], number: u8) -> usize
     ensures within { result ≤ length groups.now }
-    ensures below { (k : ℕ) → k < result → spec.number_of (slice_index_or groups.now k []) < number }
-    ensures at { result < length groups.now → number ≤ spec.number_of (slice_index_or groups.now result []) }
+    ensures below { 0 < result
+        → spec.number_of (slice_index_or groups.now (result - 1) []) < number }
+    ensures behind { (k : ℕ) → result ≤ k → k < length groups.now
+        → number ≤ spec.number_of (slice_index_or groups.now k []) }
 {
-    for (place, group) in groups.iter().enumerate() {
-        if group.interface_number() >= number {
-            return place;
+    'places: for place in (0..groups.len()).rev() {
+        if groups[place].interface_number() < number {
+            return place + 1;
         }
     }
-    groups.len()
+    0
 }
 
 // Puts one more setting among those of interfaces by rising number.

@@ -12,8 +12,6 @@ mod interface;
 mod interfaces;
 mod layout;
 mod string;
-#[cfg(test)]
-mod tests;
 mod types;
 
 pub use bitset::EndpointBitSet;

@@ -58,7 +58,9 @@ pub fn validate_string_descriptor(bytes: &[u8]) -> bool
 /// The text of a string descriptor: UTF-16 from byte 2 on, low bytes first. An odd last byte is
 /// left out, and a surrogate that has no partner becomes U+FFFD.
 pub fn decode_string_descriptor(alloc: Global, bytes: &[u8]) -> Result<String, StringError>
-    ensures text { IfOk result (λ made. (spec.is_string bytes.now ≡ true) × (string_bytes made ≡ spec.text bytes.now)) }
+    ensures text { IfOk result
+        (λ made. (spec.is_string bytes.now ≡ true)
+        × (string_bytes made ≡ spec.text bytes.now)) }
     ensures invalid { result ≡ Err StringError.Invalid ↔ (spec.is_string bytes.now ≡ false) }
 {
     if !validate_string_descriptor(bytes) {

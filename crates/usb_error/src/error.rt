@@ -2,11 +2,11 @@
 
 ghost use Rattle.std.specs.Prelude.{◌≡◌};
 
-use crate::errno::{ACCES, BUSY, INVAL, NODEV, NOENT, PERM};
 use crate::kind::ErrorKind;
 use crate::message::Message;
 use std::fmt;
 use std::marker::Model;
+use usb_xfer::errno::{ACCES, BUSY, INVAL, NODEV, NOENT, PERM};
 
 /// Why an operation failed. Its text is the message, and then ` (errno N)` where the system gave a
 /// code.

@@ -10,13 +10,13 @@ use Rattle.usb_kernel.specs.Devices.{has_device_number, device_of, change_device
 use Rattle.usb_kernel.specs.Claims.{has_interface, claim_rows, claim_result, with_claim, after_claim, without_claim}
 use Rattle.usb_kernel.specs.ClaimLaws.{is_claimed, ClaimedIsBusy, ClaimMakesClaimed, SecondClaimIsBusy, ClaimsKeep, ReleasesKeep, StepsKeep, ReleaseEnds, ReleaseUndoes, RefusedClaims}
 use Rattle.usb_kernel.proofs.InterfaceLemmas.{contains-insert, contains-insert_other, contains-remove, contains-remove_other, remove-insert}
-use Rattle.usb_kernel.proofs.DeviceLemmas.{placed}
+use Rattle.usb_kernel.proofs.DeviceLemmas.{placed, same-change}
 
 -- the device of a number after a change of it, and of another
-abbrev KeepsNumber : (DeviceState → DeviceState) → Type 0
+abbrev pub KeepsNumber : (DeviceState → DeviceState) → Type 0
 KeepsNumber change = (d : DeviceState) → (change d).number ≡ d.number
 
-device-changed : (change : DeviceState → DeviceState) → KeepsNumber change → (ds : List DeviceState) (k : ℕ) → device_of (change_device change k ds) k ≡ option_map change (device_of ds k)
+pub device-changed : (change : DeviceState → DeviceState) → KeepsNumber change → (ds : List DeviceState) (k : ℕ) → device_of (change_device change k ds) k ≡ option_map change (device_of ds k)
 device-changed change keeps [] k = refl
 device-changed change keeps (d ∷ ds) k =
     elim (cases_Bool (has_device_number k d)) [
@@ -24,7 +24,7 @@ device-changed change keeps (d ∷ ds) k =
       | inr apart ↦ rw (apart, apart) (device-changed change keeps ds k)
     ]
 
-device-other : (change : DeviceState → DeviceState) → KeepsNumber change → (ds : List DeviceState) (k j : ℕ) → k ≢ j → device_of (change_device change k ds) j ≡ device_of ds j
+pub device-other : (change : DeviceState → DeviceState) → KeepsNumber change → (ds : List DeviceState) (k j : ℕ) → k ≢ j → device_of (change_device change k ds) j ≡ device_of ds j
 device-other change keeps [] k j other = refl
 device-other change keeps (d ∷ ds) k j other =
     elim (cases_eq d.number k) [
@@ -115,7 +115,7 @@ keeps-change change keeps devices j k i stays claimed =
     of None is same = rw is at claimed
     of (Some d) is same = stays same d (rw is at claimed)
 
-insert-keeps : (ns : List ℕ) (i j : ℕ) → contains ns i ≡ true → contains (insert ns j) i ≡ true
+pub insert-keeps : (ns : List ℕ) (i j : ℕ) → contains ns i ≡ true → contains (insert ns j) i ≡ true
 insert-keeps ns i j here =
     elim (cases_eq j i) [
       | inl same ↦ rw same (contains-insert ns i)
@@ -164,10 +164,6 @@ release-undoes devices k i ok =
     free-again d free = ap (λ (ns : List ℕ). record d { claimed = ns }) (remove-insert d.claimed i free)
 
 -- what is written back of the device that is claimed
-same-change : (ds : List DeviceState) (k : ℕ) → change_device (λ d. d) k ds ≡ ds
-same-change [] k = refl
-same-change (d ∷ ds) k = elim (d.number == k) as (λ v. cond v (d ∷ ds) (d ∷ change_device (λ x. x) k ds) ≡ d ∷ ds) [ true ↦ refl | false ↦ ap (λ xs. d ∷ xs) (same-change ds k) ]
-
 pub claim-written : (ds : List DeviceState) (k i at : ℕ) (d new : DeviceState) (r : Result (Unit {0}) ℕ) → position (has_device_number k) ds ≡ Some at → d ≡ get_or ds at d → r ≡ claim_result ds k i → OnOk r (new ≡ with_claim i d) → OnErr r (new ≡ d) → set ds at new ≡ after_claim ds k i
 claim-written ds k i at d new (Ok x) place read is ok err =
     let p = placed (with_claim i) ds k at d place read in

@@ -1,6 +1,6 @@
 -- The device that a number names.
 use Rattle.std.proofs.Common.{◌≡◌, ℕ, ◌+◌, ◌<◌, suc, zero, arith, true, false, List, [], ◌∷◌, length, set, get_or, Some, None, refl, ap, sym, ◌∙◌, inl, inr, cond}
-use Rattle.std.specs.Prelude.{position, is_some}
+use Rattle.std.specs.Prelude.{position, is_some, ◌==◌}
 use Rattle.std.specs.List.{position_from}
 use Rattle.std.proofs.lemmas.Bool.{cases_Bool}
 use Rattle.std.proofs.lemmas.Option.{none-some}
@@ -48,3 +48,8 @@ unplaced change ds k none = nowhere change ds k 0 (sym (position_from-zero (has_
 -- whether there is a plugged device of a number
 pub is_some-if_plugged : (d : DeviceState) → is_some (if_plugged d) ≡ d.plugged
 is_some-if_plugged d = elim d.plugged as (λ v. is_some (cond v (Some d) None) ≡ v) [ true ↦ refl | false ↦ refl ]
+
+-- a change that changes nothing
+pub same-change : (ds : List DeviceState) (k : ℕ) → change_device (λ d. d) k ds ≡ ds
+same-change [] k = refl
+same-change (d ∷ ds) k = elim (d.number == k) as (λ v. cond v (d ∷ ds) (d ∷ change_device (λ x. x) k ds) ≡ d ∷ ds) [ true ↦ refl | false ↦ ap (λ xs. d ∷ xs) (same-change ds k) ]

@@ -13,7 +13,11 @@ use Rattle.usb_kernel.specs.Tickets.{Ticket, tickets}
 use Rattle.usb_kernel.specs.Fates.{Fate, finish, reap}
 use Rattle.usb_kernel.specs.Journal.{fate, oldest}
 use Rattle.usb_kernel.specs.Completions.{completion, completion_if, reapable}
-use Rattle.usb_kernel.specs.Devices.{plugged_device}
+use Rattle.usb_kernel.specs.declared.step.KernelCall.TheVariants as call
+use Rattle.usb_kernel.specs.Devices.{plugged_device, unplugged}
+use Rattle.usb_kernel.specs.Claims.{no_rows}
+use Rattle.usb_kernel.specs.Calls.{errno_of, called, reset_by, after_reset}
+use Rattle.usb_kernel.specs.Value.{KernelState}
 use Rattle.usb_kernel.specs.Steps.{stepped, after_reap_of, reaped_by, after_discard, is_unfinished}
 use Rattle.usb_kernel.specs.Timers.{due, discarded_in_order, timer_turned}
 use Rattle.usb_kernel.specs.Extends.{Extends}
@@ -60,6 +64,14 @@ extends-step devices clock past (step.Clock to) = extends-same past
 extends-step devices clock past step.Timer = extends-turned clock past
 extends-step devices clock past (step.Reap ticket) = extends-reap_of past (reaped_by past ticket)
 extends-step devices clock past (step.Refuse d call errno) = extends-same past
+
+pub extends-reset : (k : KernelState) (d : ℕ) → Extends k.past (after_reset k d).past
+unfolding after_reset called
+extends-reset k d =
+    elim (errno_of k d call.Reset no_rows) as (λ e. Extends k.past (reset_by (called k d call.Reset no_rows unplugged) d e).past) [
+      | Some errno ↦ extends-same k.past
+      | None ↦ extends-event k.past (Unplug d)
+    ]
 
 -- what each event keeps, stays
 pub kept-along : (Q : List Event → Type 0) → ((past : List Event) (event : Event) → Q past → Q (event ∷ past)) → (old new : List Event) → Extends old new → Q old → Q new

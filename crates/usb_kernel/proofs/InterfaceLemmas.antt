@@ -1,9 +1,10 @@
 -- Sets of interface numbers, and their flags.
 use Rattle.std.proofs.Common.{◌≡◌, ◌≢◌, ℕ, ◌+◌, ◌<◌, zero, suc, arith, Bool, true, false, List, [], ◌∷◌, ◌++◌, length, set, get_or, refl, ap, sym, ◌∙◌, inl, inr}
-use Rattle.std.specs.Prelude.{◌||◌, ◌==◌, nat_lt, replicate}
+use Rattle.std.specs.Prelude.{◌||◌, ◌==◌, nat_lt, not, replicate}
+use Rattle.std.specs.List.{list_any}
 use Rattle.std.proofs.lemmas.Bool.{cases_Bool, cases_eq, ne_eqb, eq-eqb}
 use Rattle.std.proofs.lemmas.List.Sums.{fold-append}
-use Rattle.usb_kernel.specs.Interfaces.{contains, insert, remove, set_of}
+use Rattle.usb_kernel.specs.Interfaces.{contains, is_empty, insert, remove, set_of}
 use Rattle.usb_kernel.specs.Flags.{numbers_from}
 
 -- what is put in is there, and all else is as before
@@ -146,3 +147,9 @@ insert-all flags i within = insert-flags flags 0 i within ∙ ap (insert (number
 
 pub remove-all : (flags : List Bool) (i : ℕ) → numbers_from 0 (set flags i false) ≡ remove (numbers_from 0 flags) i
 remove-all flags i = remove-flags flags 0 i ∙ ap (remove (numbers_from 0 flags)) (omega arith)
+
+pub is_empty-flags : (flags : List Bool) (n : ℕ) → is_empty (numbers_from n flags) ≡ not (list_any (λ flag. flag) flags)
+unfolding numbers_from
+is_empty-flags [] n = refl
+is_empty-flags (true ∷ flags) n = refl
+is_empty-flags (false ∷ flags) n = is_empty-flags flags (n + 1)

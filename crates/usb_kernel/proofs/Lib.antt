@@ -13,6 +13,9 @@ pub mod InterfaceLemmas
 pub mod DeviceLemmas
 pub mod Wholes
 pub mod ClaimLemmas
+pub mod CallLemmas
+pub mod ArmedLemmas
+pub mod CallsKept
 pub mod WorkedRows
 pub mod WorkedTimers
 pub mod WorkedCalls

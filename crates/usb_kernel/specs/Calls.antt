@@ -1,6 +1,6 @@
 -- The calls on devices with the refusals that are armed for them. Each is refused with 19 where no plugged device has the number,
 -- else by the first refusal that is armed for it, which is used up, and else by the first of its rows.
-use Rattle.std.specs.Prelude.{ℕ, ◌-◌, ◌==◌, ◌&&◌, ◌||◌, not, false, List, ◌∷◌, length, nat_lt, Option, Some, None, find, Result, Ok, Err, if◌then◌else◌}
+use Rattle.std.specs.Prelude.{ℕ, ◌-◌, ◌==◌, ◌&&◌, ◌||◌, not, false, List, ◌∷◌, Option, Some, None, find, Result, Ok, Err, if◌then◌else◌}
 use Rattle.std.specs.List.{list_any}
 use Rattle.std.specs.Option.{option_map_or}
 use Rattle.usb_desc.specs.Configurations.{configurations, alt_settings}
@@ -9,7 +9,7 @@ use Rattle.usb_kernel.specs.declared.event.Event.TheVariants.{Unplug}
 use Rattle.usb_kernel.specs.declared.devices.DeviceState.{DeviceState}
 use Rattle.usb_kernel.specs.declared.step.KernelCall.{KernelCall}
 use Rattle.usb_kernel.specs.declared.step.KernelCall.TheVariants as call
-use Rattle.usb_kernel.specs.Interfaces.{contains, insert, remove}
+use Rattle.usb_kernel.specs.Interfaces.{contains, is_empty, insert, remove}
 use Rattle.usb_kernel.specs.Devices.{plugged_device, change_device, unplugged}
 use Rattle.usb_kernel.specs.Claims.{is_at, active_configuration, has_interface, no_rows}
 use Rattle.usb_kernel.specs.Refusals.{armed_errno, disarmed, call_refusal, armed_left}
@@ -69,8 +69,8 @@ after_open k bus address = after_open_by k (find (is_at bus address) k.devices)
 abbrev pub set_configuration_rows : ℕ → DeviceState → Option ℕ
 set_configuration_rows value d =
     if not (value == 0) && not (list_any (has_value value) (configurations d.bytes)) then Some 22
-    else if nat_lt 0 (length d.claimed) then Some 16
-    else None
+    else if is_empty d.claimed then None
+    else Some 16
 
 abbrev pub with_configuration : ℕ → DeviceState → DeviceState
 with_configuration value d = record d { configuration = value }

@@ -23,13 +23,13 @@ abbrev pub configuration_result : List DeviceState → ℕ → Result ℕ ℕ
 configuration_result devices k = ok_or (option_map (λ d. d.configuration) (plugged_device devices k)) 19
 
 -- and else by rows of their own
+abbrev pub ok_unless : Option ℕ → Result (Unit {0}) ℕ
+ok_unless None = Ok tt
+ok_unless (Some errno) = Err errno
+
 abbrev pub result_by : (DeviceState → Option ℕ) → Option DeviceState → Result (Unit {0}) ℕ
 result_by rows None = Err 19
 result_by rows (Some d) = ok_unless (rows d)
-  where
-    ok_unless : Option ℕ → Result (Unit {0}) ℕ
-    ok_unless None = Ok tt
-    ok_unless (Some errno) = Err errno
 
 -- the interfaces of a device are those of its active configuration (USB 2.0, 9.2.3)
 abbrev pub active_configuration : DeviceState → Option (List ℕ)

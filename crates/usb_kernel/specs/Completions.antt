@@ -30,7 +30,7 @@ refused_done t s errno = done_of t (refused_of s) (refused_fate errno) errno
 abbrev pub finished : ℕ → Ticket → Fate → Option Done
 finished t s f = option_map (λ errno. done_of t s f errno) f.status
 
--- the completion of a ticket that is finished and not reaped
+-- the completion that a ticket will have at its reap, where it is finished and not reaped
 abbrev pub done_if : ℕ → Fate → Ticket → Option Done
 done_if t f s = if waits f then finished t s f else None
 

@@ -44,7 +44,7 @@ wanted_of (Sent bytes) = length bytes
 abbrev pub finish : ℕ → Fate → Fate
 finish errno f = if is_none f.status then record f { status = Some errno } else f
 
--- a packet of its own that fits is appended. It finishes the ticket where it is shorter than the maximum, or reaches the wanted length
+-- a packet that belongs to the ticket, and is no longer than the maximum, is appended. It finishes the ticket where it is shorter than the maximum, or reaches the wanted length
 abbrev pub accept : Ticket → List ℕ → Fate → Fate
 accept s b f =
     let g : Fate = record f { packets = f.packets ++ b ∷ [] } in
@@ -54,7 +54,7 @@ accept s b f =
 abbrev pub with_packet : Ticket → List ℕ → Fate → Fate
 with_packet s b f = if nat_lt s.maximum (length b) then finish 75 f else accept s b f
 
--- an acknowledgement of its own finishes the ticket where all bytes are acknowledged then
+-- an acknowledgement that belongs to the ticket finishes it where all bytes are acknowledged then
 abbrev pub with_ack : Ticket → Fate → Fate
 with_ack s f =
     let g : Fate = record f { acks = f.acks + 1 } in

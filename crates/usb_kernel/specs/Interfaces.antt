@@ -1,9 +1,13 @@
 -- Sets of interface numbers. A set is the list of its numbers, ascending.
-use Rattle.std.specs.Prelude.{ℕ, Bool, List, [], ◌∷◌, filter, not, ◌==◌, nat_lt, if◌then◌else◌}
+use Rattle.std.specs.Prelude.{ℕ, Bool, true, false, List, [], ◌∷◌, filter, not, ◌==◌, nat_lt, if◌then◌else◌}
 use Rattle.std.specs.List.{list_any, fold}
 
 abbrev pub contains : List ℕ → ℕ → Bool
 contains numbers i = list_any (λ n. n == i) numbers
+
+abbrev pub is_empty : List ℕ → Bool
+is_empty [] = true
+is_empty (n ∷ ns) = false
 
 abbrev pub insert : List ℕ → ℕ → List ℕ
 insert [] i = i ∷ []

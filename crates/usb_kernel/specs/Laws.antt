@@ -14,6 +14,8 @@ use Rattle.usb_kernel.specs.Completions.{completion, reapable, waiting, lowest}
 use Rattle.usb_kernel.specs.Submits.{after_submit, after_refuse}
 use Rattle.usb_kernel.specs.Steps.{after_discard, after_reap, stepped}
 use Rattle.usb_kernel.specs.Timers.{timer_turned}
+use Rattle.usb_kernel.specs.Value.{KernelState}
+use Rattle.usb_kernel.specs.Calls.{after_reset}
 use Rattle.usb_kernel.specs.Extends.{Extends}
 use Rattle.usb_kernel.specs.Ahead.{IsAhead, IsUntouched}
 use Rattle.usb_kernel.specs.Openings.{IsOtherEndpoint, open_after_service}
@@ -48,6 +50,9 @@ DiscardExtends = (past : List Event) (t : ℕ) → Extends past (after_discard p
 
 abbrev pub ReapExtends : Type 0
 ReapExtends = (past : List Event) (t : ℕ) → Extends past (after_reap past t)
+
+abbrev pub ResetExtends : Type 0
+ResetExtends = (k : KernelState) (d : ℕ) → Extends k.past (after_reset k d).past
 
 -- a journal goes on to itself, and goes on in turn
 abbrev pub ExtendsItself : Type 0

@@ -16,6 +16,7 @@ pub mod Value
 pub mod Discards
 pub mod Timers
 pub mod Calls
+pub mod DeviceCalls
 pub mod Steps
 pub mod Deadlines
 pub mod Legal
@@ -29,3 +30,4 @@ pub mod Openings
 pub mod Waits
 pub mod Laws
 pub mod ClaimLaws
+pub mod CallLaws

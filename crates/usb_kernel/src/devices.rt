@@ -57,7 +57,7 @@ impl DeviceState {
     }
 
     /// Whether its active configuration has an interface.
-    fn has_interface(&self, number: u8) -> bool
+    pub(crate) fn has_interface(&self, number: u8) -> bool
         ensures has { result ≡ has_interface number self.now }
     {
         match find_configuration(self.bytes.as_slice(), self.configuration) {

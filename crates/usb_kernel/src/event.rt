@@ -43,7 +43,8 @@ pub enum Event {
         device: u8,
         endpoint: u8,
     },
-    /// The packet of an acknowledgement on an OUT endpoint went to an IN endpoint.
+    /// The packet of an acknowledgement on an OUT endpoint went to an IN endpoint. No call leaves
+    /// this event yet.
     Echo {
         device: u8,
         output: u8,

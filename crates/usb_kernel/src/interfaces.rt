@@ -1,7 +1,7 @@
 //! Sets of interface numbers.
 
 ghost use Rattle.std.specs.Prelude.{◌≡◌, []};
-ghost use Rattle.usb_kernel.specs.Interfaces.{contains, insert, remove, set_of};
+ghost use Rattle.usb_kernel.specs.Interfaces.{contains, is_empty, insert, remove, set_of};
 
 use std::marker::Model;
 
@@ -46,6 +46,13 @@ impl InterfaceSet {
         ensures contains { result ≡ contains self.now number }
     {
         self.flags[number as usize]
+    }
+
+    /// Whether no number is in the set.
+    pub fn is_empty(&self) -> bool
+        ensures empty { result ≡ is_empty self.now }
+    {
+        !self.flags.iter().any(|flag| *flag)
     }
 
     /// Puts a number in. One that is there stays there.

@@ -7,7 +7,10 @@ ghost use Rattle.usb_kernel.specs.Submissions.{submit_event, IsWhole, IsErrno};
 ghost use Rattle.usb_kernel.specs.Legal.{IsLegal, IsLawful};
 ghost use Rattle.usb_kernel.specs.Completions.{reapable, lowest};
 ghost use Rattle.usb_kernel.specs.Devices.{fresh_device, devices_unplugged};
-ghost use Rattle.usb_kernel.specs.Claims.{open_result, descriptors_result, configuration_result, claim_result, after_claim, release_result, after_release, clear_halt_result};
+ghost use Rattle.usb_kernel.specs.Refusals.{call_refusal, armed_left};
+ghost use Rattle.usb_kernel.specs.Claims.{ok_unless, open_result, descriptors_result, configuration_result, claim_result, after_claim, no_rows, release_result, after_release, clear_halt_result};
+ghost use Rattle.usb_kernel.specs.Calls.{errno_of, asked, called, same, set_configuration_rows, with_configuration, detach_and_claim_rows, with_claimed_only, detach_rows, without_driver, attach_rows, with_driver, set_interface_rows, after_reset};
+ghost use Rattle.usb_kernel.specs.DeviceCalls.{call_errno, after_call};
 ghost use Rattle.usb_kernel.specs.Submits.{submit_refusal, submit_result, after_submit, armed_after_submit, refuse_result, after_refuse, number_of};
 ghost use Rattle.usb_kernel.specs.Steps.{after_packet, after_ack, after_fail, after_unplug, after_reap, after_discard, reaped_by, after_reap_of, reapable_of, stepped, step_done, devices_stepped, clock_stepped, armed_stepped, HasErrno};
 ghost use Rattle.usb_kernel.specs.Timers.{timer_turned};
@@ -17,6 +20,7 @@ ghost use Rattle.std.specs.Io.BufRead.{Rests};
 ghost use Rattle.usb_kernel.specs.contracts.kernel.Kernel.{the_row};
 
 use crate::bytes::Bytes;
+use crate::calls::{DeviceCall, answer};
 use crate::devices::{
     DeviceState, SimDevice, claim_interface, fresh_devices, number_at, plugged, release_interface,
     unplug_device,
@@ -587,6 +591,123 @@ impl Kernel {
     {
         match plugged(&self.devices, device) {
             Some(_) => Ok(()),
+            None => Err(errno::NODEV),
+        }
+    }
+
+    /// The errno of a call that comes before its rows: 19 where no plugged device has the number,
+    /// else that of the first refusal that is armed for it, which is used up.
+    fn refusal(&mut self, device: u8, call: KernelCall) -> Option<u16>
+        ensures errno { result ≡ call_refusal self.old.devices self.old.armed device call }
+        ensures armed { self.new ≡ record self.old
+            { armed = armed_left self.old.devices self.old.armed device call } }
+    {
+        if plugged(&self.devices, device).is_none() {
+            return Some(errno::NODEV);
+        }
+        let errno = self.armed.errno(device, call);
+        self.armed.disarm(device, call);
+        errno
+    }
+
+    /// A call with rows of its own.
+    fn call(&mut self, device: u8, call: DeviceCall) -> Result<(), u16>
+        ensures result { result ≡ ok_unless (call_errno self.old device call) }
+        ensures rest { self.new ≡ after_call self.old device call }
+    {
+        if let Some(errno) = self.refusal(device, call.kind()) {
+            return Err(errno);
+        }
+        answer(&mut self.devices, device, call)
+    }
+
+    /// Sets the configuration of a device. The errno is 19 where no plugged device has the number,
+    /// that of an armed refusal, 22 where no configuration has the value, 0 being allowed, and 16
+    /// where an interface is claimed.
+    pub fn set_configuration(&mut self, device: u8, value: u8) -> Result<(), u16>
+        ensures result { result ≡ ok_unless
+            (errno_of self.old device KernelCall.SetConfig (set_configuration_rows value)) }
+        ensures rest { self.new ≡ called self.old device KernelCall.SetConfig
+            (set_configuration_rows value) (with_configuration value) }
+    {
+        self.call(device, DeviceCall::SetConfiguration { value })
+    }
+
+    /// Resets a device, which is then gone, and its tickets are finished. The errno is 19 where no
+    /// plugged device has the number, and else that of an armed refusal. A reset that is not
+    /// refused uses one place of `spare`.
+    pub fn reset(&mut self, device: u8) -> Result<(), u16>
+        requires spare { 1 ≤ self.old.spare }
+        ensures result { result ≡ ok_unless (errno_of self.old device KernelCall.Reset no_rows) }
+        ensures rest { self.new ≡ after_reset self.old device }
+    {
+        if let Some(errno) = self.refusal(device, KernelCall::Reset) {
+            return Err(errno);
+        }
+        self.unplug(device);
+        Ok(())
+    }
+
+    /// Claims an interface and detaches its kernel driver. The errno is 19 where no plugged device
+    /// has the number, that of an armed refusal, 2 where its active configuration does not have the
+    /// interface, and 16 where the interface is claimed.
+    pub fn detach_and_claim(&mut self, device: u8, interface: u8) -> Result<(), u16>
+        ensures result { result ≡ ok_unless
+            (errno_of self.old device KernelCall.DetachClaim (detach_and_claim_rows interface)) }
+        ensures rest { self.new ≡ called self.old device KernelCall.DetachClaim
+            (detach_and_claim_rows interface) (with_claimed_only interface) }
+    {
+        self.call(device, DeviceCall::DetachAndClaim { interface })
+    }
+
+    /// Detaches the kernel driver of an interface. The errno is 19 where no plugged device has the
+    /// number, that of an armed refusal, 22 where its active configuration does not have the
+    /// interface, and 61 where no driver is bound.
+    pub fn detach(&mut self, device: u8, interface: u8) -> Result<(), u16>
+        ensures result { result ≡ ok_unless
+            (errno_of self.old device KernelCall.Detach (detach_rows interface)) }
+        ensures rest { self.new ≡ called self.old device KernelCall.Detach
+            (detach_rows interface) (without_driver interface) }
+    {
+        self.call(device, DeviceCall::Detach { interface })
+    }
+
+    /// Attaches the kernel driver of an interface. The errno is 19 where no plugged device has the
+    /// number, that of an armed refusal, 22 where its active configuration does not have the
+    /// interface, and 16 where a driver is bound or the interface is claimed.
+    pub fn attach(&mut self, device: u8, interface: u8) -> Result<(), u16>
+        ensures result { result ≡ ok_unless
+            (errno_of self.old device KernelCall.Attach (attach_rows interface)) }
+        ensures rest { self.new ≡ called self.old device KernelCall.Attach
+            (attach_rows interface) (with_driver interface) }
+    {
+        self.call(device, DeviceCall::Attach { interface })
+    }
+
+    /// Selects a setting of an interface. The errno is 19 where no plugged device has the number,
+    /// that of an armed refusal, and 22 where its active configuration has no such setting. The
+    /// kernel does not keep the setting.
+    pub fn set_interface(&mut self, device: u8, interface: u8, setting: u8) -> Result<(), u16>
+        ensures result { result ≡ ok_unless
+            (errno_of self.old device KernelCall.Alt (set_interface_rows interface setting)) }
+        ensures rest { self.new
+            ≡ called self.old device KernelCall.Alt (set_interface_rows interface setting) same }
+    {
+        self.call(device, DeviceCall::SetInterface { interface, setting })
+    }
+
+    /// The code of a device's speed. The errno is 19 where no plugged device has the number, and
+    /// else that of an armed refusal.
+    pub fn speed(&mut self, device: u8) -> Result<u8, u16>
+        ensures speed { result
+            ≡ asked self.old device KernelCall.Speed no_rows (λ d. d.speed) }
+        ensures rest { self.new ≡ called self.old device KernelCall.Speed no_rows same }
+    {
+        if let Some(errno) = self.refusal(device, KernelCall::Speed) {
+            return Err(errno);
+        }
+        match plugged(&self.devices, device) {
+            Some(device) => Ok(device.speed),
             None => Err(errno::NODEV),
         }
     }

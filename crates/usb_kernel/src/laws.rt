@@ -1,9 +1,10 @@
 //! Laws of journals. Each is the contract of a function that does nothing.
 
-ghost use Rattle.usb_kernel.specs.Laws.{ReapedIsFinal, CompletionIsFinal, EventExtends, SubmitExtends, RefuseExtends, StepExtends, TimerExtends, DiscardExtends, ReapExtends, ExtendsItself, ExtendsInTurn, TicketStays, StatusStays, ReapedStays, CompletionStays, LaterAreUntouched};
+ghost use Rattle.usb_kernel.specs.Laws.{ReapedIsFinal, CompletionIsFinal, EventExtends, SubmitExtends, RefuseExtends, StepExtends, TimerExtends, DiscardExtends, ReapExtends, ResetExtends, ExtendsItself, ExtendsInTurn, TicketStays, StatusStays, ReapedStays, CompletionStays, LaterAreUntouched};
 ghost use Rattle.usb_kernel.specs.Laws.{SubmitOpens, SubmitSparesOthers, RefuseOpensNone, PacketServesOldest, PacketSparesOthers, AckServesOldest, AckSparesOthers, FailTakesOldest, FailSparesOthers, DiscardCloses, ReapClosesNone, UnplugCloses, UnplugSparesOthers, EchoIsAckAndPacket, EchoClosesAsBoth, EchoNeedsBoth, EchoClosesNone};
 ghost use Rattle.usb_kernel.specs.Laws.{DiscardFinishes, FinishedIsReapable, ReapableHasLowest, LowestIsReapable, LowestIsLeast, WaitingAreTickets, ReapEndsWaiting, ReapLeavesOneLess, SubmitLeavesWaiting, RefuseLeavesWaiting, OthersAddWaiting};
 ghost use Rattle.usb_kernel.specs.ClaimLaws.{ClaimedIsBusy, ClaimMakesClaimed, SecondClaimIsBusy, ClaimsKeep, ReleasesKeep, StepsKeep, ReleaseEnds, ReleaseUndoes, RefusedClaims};
+ghost use Rattle.usb_kernel.specs.CallLaws.{UnpluggedIsRefused, ArmedComesFirst, ArmedIsUsedOnce, OthersStayArmed, RefusedChangesNone, ClaimedIsRefused, CallsKeepClaims, ResetsKeepClaims, DetachAndClaimActs, DetachActs, AttachActs, StartIsExclusive, CallsStayExclusive, ResetsStayExclusive, ClaimsStayExclusive, ReleasesStayExclusive, StepsStayExclusive, ResetIsUnplug, RefusedReset, ResetUnplugs};
 
 /// Whatever comes after its reap, a ticket's fate stays, and its completion with it.
 pub fn reaped_is_final()
@@ -20,6 +21,7 @@ pub fn calls_extend_journals()
     ensures timer { TimerExtends }
     ensures discard { DiscardExtends }
     ensures reap { ReapExtends }
+    ensures reset { ResetExtends }
 {}
 
 /// A journal goes on to itself, and goes on in turn.
@@ -105,4 +107,47 @@ pub fn claimed_once()
     ensures ends { ReleaseEnds }
     ensures undoes { ReleaseUndoes }
     ensures refused { RefusedClaims }
+{}
+
+/// A call on a device that is not plugged is refused with 19. Else the first refusal that is armed
+/// for it comes before its rows, and is used up by it alone. A call that is refused changes no
+/// device.
+pub fn refusals_come_first()
+    ensures unplugged { UnpluggedIsRefused }
+    ensures first { ArmedComesFirst }
+    ensures once { ArmedIsUsedOnce }
+    ensures others { OthersStayArmed }
+    ensures refused { RefusedChangesNone }
+{}
+
+/// While an interface is claimed, it is claimed by no other call, no driver is attached to it, and
+/// its device keeps the configuration. Only a release ends the claim.
+pub fn claims_outlast_calls()
+    ensures refused { ClaimedIsRefused }
+    ensures calls { CallsKeepClaims }
+    ensures resets { ResetsKeepClaims }
+{}
+
+/// What the calls on drivers make of an interface where they are not refused.
+pub fn drivers_come_and_go()
+    ensures detach_and_claim { DetachAndClaimActs }
+    ensures detach { DetachActs }
+    ensures attach { AttachActs }
+{}
+
+/// No interface is ever claimed and has a driver.
+pub fn claims_and_drivers_exclude_each_other()
+    ensures start { StartIsExclusive }
+    ensures calls { CallsStayExclusive }
+    ensures resets { ResetsStayExclusive }
+    ensures claims { ClaimsStayExclusive }
+    ensures releases { ReleasesStayExclusive }
+    ensures steps { StepsStayExclusive }
+{}
+
+/// A reset that is not refused is the step of an unplug, and then the device is not plugged.
+pub fn resets_are_unplugs()
+    ensures acts { ResetIsUnplug }
+    ensures refused { RefusedReset }
+    ensures unplugged { ResetUnplugs }
 {}

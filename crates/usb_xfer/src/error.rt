@@ -6,6 +6,9 @@ ghost use Rattle.usb_xfer.specs.TransferStatus.{status_of};
 ghost use Rattle.usb_xfer.specs.TransferTexts.{errno_text, error_word};
 ghost use Rattle.usb_xfer.specs.TransferTexts.{status_word as word_of};
 
+use crate::errno::{
+    COMM, CONNRESET, ILSEQ, INVAL, NODEV, NOENT, OVERFLOW, PIPE, PROTO, SHUTDOWN, TIME, TIMEDOUT,
+};
 use std::alloc::{AllocError, Global};
 use std::error::Error;
 use std::fmt;
@@ -34,11 +37,11 @@ impl TransferError {
         ensures table { result ≡ error_of_errno errno }
     {
         match errno {
-            2 | 104 | 110 => TransferError::Cancelled,
-            32 => TransferError::Stall,
-            19 | 108 => TransferError::Disconnected,
-            62 | 70 | 71 | 75 | 84 => TransferError::Fault,
-            22 => TransferError::InvalidArgument,
+            NOENT | CONNRESET | TIMEDOUT => TransferError::Cancelled,
+            PIPE => TransferError::Stall,
+            NODEV | SHUTDOWN => TransferError::Disconnected,
+            TIME | COMM | PROTO | OVERFLOW | ILSEQ => TransferError::Fault,
+            INVAL => TransferError::InvalidArgument,
             code => TransferError::Unknown(code as u32),
         }
     }
@@ -114,7 +117,8 @@ pub fn status_word(alloc: Global, refused: bool, errno: u16) -> Result<String, A
 
 /// Appends `errno N`. Without memory the text stays as it was.
 pub fn format_os_error_code(out: &mut String, code: u32) -> Result<(), NoMemory>
-    ensures appended { OnOk result (string_bytes out.new ≡ string_bytes out.old ++ errno_text code) }
+    ensures appended { OnOk result
+        (string_bytes out.new ≡ string_bytes out.old ++ errno_text code) }
     ensures err { OnErr result (string_bytes out.new ≡ string_bytes out.old) }
 {
     let alloc = *out.allocator();

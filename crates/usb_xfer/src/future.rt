@@ -3,7 +3,8 @@
 ghost use Rattle.std.specs.Prelude.{◌≡◌, Ok, Err, MatchResult, IsOkAnd, IsErrAnd};
 ghost use Rattle.std.specs.Result.{ForOk, ForErr};
 
-/// A value that comes when it is waited for. What a wait gives is stated by the future's type, in `gives`.
+/// A value that comes when it is waited for. What a wait gives is stated by the future's type, in
+/// `gives`.
 pub trait MaybeFuture {
     /// The type of the value.
     type Output;
@@ -34,16 +35,16 @@ impl<M: MaybeFuture> MapFuture for M {}
 
 /// Functions of what is in the result that a future gives.
 pub trait MapResult<T, E>: MaybeFuture<Output = Result<T, E>> + Sized {
-    /// The future of this one's result, with what `f` answers for its value in an `Ok`. An `Err` stays, and `f` is not
-    /// called.
+    /// The future of this one's result, with what `f` answers for its value in an `Ok`. An `Err`
+    /// stays, and `f` is not called.
     fn map_ok<U, F: FnOnce(T) -> U>(self, f: F) -> MapOk<Self, F>
         ensures map { result ≡ record { future = self; f = f } }
     {
         MapOk { future: self, f }
     }
 
-    /// The future of this one's result, with what `f` answers for its error in an `Err`. An `Ok` stays, and `f` is not
-    /// called.
+    /// The future of this one's result, with what `f` answers for its error in an `Err`. An `Ok`
+    /// stays, and `f` is not called.
     fn map_err<U, F: FnOnce(E) -> U>(self, f: F) -> MapErr<Self, F>
         ensures map { result ≡ record { future = self; f = f } }
     {
@@ -88,7 +89,8 @@ impl<M: MaybeFuture, U, F: FnOnce(M::Output) -> U> MaybeFuture for Map<M, F> {
     }
 }
 
-/// What `map_ok` makes: a wait gives the future's error, or what the function answers for its value.
+/// What `map_ok` makes: a wait gives the future's error, or what the function answers for its
+/// value.
 pub struct MapOk<M, F> {
     future: M,
     f: F,
@@ -98,7 +100,8 @@ impl<T, E, U, M: MaybeFuture<Output = Result<T, E>>, F: FnOnce(T) -> U> MaybeFut
     for MapOk<M, F> {
     type Output = Result<U, E>;
 
-    ghost can_wait = { λ m. M.can_wait m.future × ((x : _) → M.gives m.future x → ForOk x (F.pre m.f)) };
+    ghost can_wait = { λ m. M.can_wait m.future
+        × ((x : _) → M.gives m.future x → ForOk x (F.pre m.f)) };
 
     ghost gives = { λ m y. (x : _) × M.gives m.future x
         × MatchResult x (λ v. IsOkAnd y (F.post m.f v)) (λ e. y ≡ Err e) };
@@ -112,7 +115,8 @@ impl<T, E, U, M: MaybeFuture<Output = Result<T, E>>, F: FnOnce(T) -> U> MaybeFut
     }
 }
 
-/// What `map_err` makes: a wait gives the future's value, or what the function answers for its error.
+/// What `map_err` makes: a wait gives the future's value, or what the function answers for its
+/// error.
 pub struct MapErr<M, F> {
     future: M,
     f: F,
@@ -122,7 +126,8 @@ impl<T, E, U, M: MaybeFuture<Output = Result<T, E>>, F: FnOnce(E) -> U> MaybeFut
     for MapErr<M, F> {
     type Output = Result<T, U>;
 
-    ghost can_wait = { λ m. M.can_wait m.future × ((x : _) → M.gives m.future x → ForErr x (F.pre m.f)) };
+    ghost can_wait = { λ m. M.can_wait m.future
+        × ((x : _) → M.gives m.future x → ForErr x (F.pre m.f)) };
 
     ghost gives = { λ m y. (x : _) × M.gives m.future x
         × MatchResult x (λ v. y ≡ Ok v) (λ e. IsErrAnd y (F.post m.f e)) };

@@ -1,7 +1,9 @@
-//! Buffers, transfers in their typed states, why a transfer failed, and how those that wait are woken.
+//! Buffers, transfers in their typed states, why a transfer failed, and how those that wait are
+//! woken.
 #![tactic(auto)]
 
 mod buffer;
+pub mod errno;
 mod error;
 mod future;
 mod marker;
@@ -16,6 +18,3 @@ pub use marker::{Bulk, BulkOrInterrupt, EndpointDirection, EndpointType, In, Int
 pub use notify::{Notify, NotifyState, notify_is_send_and_sync};
 pub use slots::{Idle, Pending, Slots, take_completed_from_option, take_completed_from_queue};
 pub use transfer::{Completion, Held, TransferData};
-
-#[cfg(test)]
-mod tests;

@@ -15,7 +15,8 @@ pub struct NotifyState {
     waker: Option<Waker>,
 }
 
-/// Where tasks and threads wait until something has moved, as a transfer that ended. Contracts see the number of its source.
+/// Where tasks and threads wait until something has moved, as a transfer that ended. Contracts see
+/// the number of its source.
 #[derive(Drop)]
 pub struct Notify {
     source: Source,
@@ -45,8 +46,8 @@ impl Notify {
         }
     }
 
-    /// Registers the task with the source: it is polled again after the next `notify`. A task that was registered before is
-    /// polled again at once.
+    /// Registers the task with the source: it is polled again after the next `notify`. A task that
+    /// was registered before is polled again at once.
     pub fn subscribe(&self, rt: &impl Wait, cx: &mut Context<'_>)
         ensures armed { IsArmed cx.new }
         ensures heard { Hears cx.new self.now }
@@ -66,7 +67,8 @@ impl Notify {
         self.moved.notify_all();
     }
 
-    /// How often it notified, from 0 again after 2^64 times. A thread asks before it tries, for `wait_past`.
+    /// How often it notified, from 0 again after 2^64 times. A thread asks before it tries, for
+    /// `wait_past`.
     pub fn moves(&self, rt: &impl Wait) -> u64 {
         self.state.lock(rt).moves
     }
@@ -78,7 +80,8 @@ impl Notify {
             .wait_while(rt, self.state.lock(rt), |s| s.moves == seen);
     }
 
-    /// Calls `check` until it gives a value, which is the answer, and waits for a `notify` between two calls.
+    /// Calls `check` until it gives a value, which is the answer, and waits for a `notify` between
+    /// two calls.
     pub fn wait<T, F: FnMut() -> Option<T>>(&self, rt: &impl Wait, mut check: F) -> T
         requires callable { F.IsAlwaysCallable check }
 

@@ -153,7 +153,8 @@ pub fn take_completed_from_option<P, S: Slots<P>>(
     s: &mut S,
 ) -> Option<Idle<P>>
     requires stands { ForSome o.old (λ p. IsTrue (S.stands s.old p)) }
-    ensures taken { IfSome result (λ idle. TookOption S.value S.taken s.old o.old idle o.new s.new) }
+    ensures taken { IfSome result
+        (λ idle. TookOption S.value S.taken s.old o.old idle o.new s.new) }
     ensures left { IfNone result (LeftOption S.value s.old o.old o.new s.new) }
 {
     match o {

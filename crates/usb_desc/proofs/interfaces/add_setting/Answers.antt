@@ -1,22 +1,19 @@
-use Rattle.std.proofs.Common.{◌≡◌, ◌∙◌, ◌<◌, sym, ap, arith, length, [], get_or}
+use Rattle.std.proofs.Common.{ℕ, List, ◌≡◌, ◌∙◌, ◌<◌, sym, ap, arith, length, [], get_or}
 use Rattle.std.proofs.lemmas.List.{get_or_read}
 use Rattle.usb_desc.specs.Fields.{interface_number}
 use Rattle.usb_desc.specs.Interfaces as spec
 use Rattle.std.specs.Prelude.{insert}
-use Rattle.usb_desc.proofs.InterfaceLemmas.{IsPlace, added_same, added_new, on_ok_then}
+use Rattle.usb_desc.proofs.InterfaceLemmas.{IsPlace, added_same, added_new, on_ok_then, place_from_back}
 use Rattle.usb_desc.proofs.interfaces.add_setting.Goals as goal
 use Rattle.usb_desc.proofs.interfaces.add_setting.Goals.{After-place_of-place, else-place-len-via-then-place-len+else-interface_number-number, else-place-len-via-else-place-len}
 
 -- the place that was found is that of the setting's number
-found : (c : After-place_of-place) → IsPlace (interface_number c.args.setting) c.args.groups.now.items c.place_of-place.result
-found c =
+found : (c : After-place_of-place) (settings : List (List ℕ)) → c.args.groups.now.items ≡ spec.interfaces_among settings → IsPlace (interface_number c.args.setting) c.args.groups.now.items c.place_of-place.result
+found c settings are =
     let value = c.deref.ensures.value in
     let field = c.interface_number-number.ensures.field in
-    record {
-      within = rw value at c.place_of-place.ensures.within;
-      below = simp (value, field) at c.place_of-place.ensures.below;
-      at = simp (value, field) at c.place_of-place.ensures.at;
-    }
+    let place = c.place_of-place.ensures in
+    place_from_back _ settings _ _ are (rw value at place.within) (simp (value, field) at place.below) (simp (value, field) at place.behind)
 
 pub returns-then-interface_number-number : goal.returns-then-interface_number-number
 returns-then-interface_number-number c =
@@ -29,7 +26,7 @@ returns-then-interface_number-number c =
     let same : spec.number_of c.index.result.now ≡ interface_number setting = sym c.interface_number.ensures.first ∙ c.if-interface_number-number.true ∙ c.interface_number-number.ensures.field in
     record {
       added = λ settings are. on_ok_then c.push.result c.push.ensures.items (λ pushed.
-          added_same setting groups place low settings are is c.index.result.now c.index_mut-group.result.now c.push.new.self inside c.index.ensures same c.index_mut-group.ensures.value pushed);
+          added_same setting groups place low settings are (is settings are) c.index.result.now c.index_mut-group.result.now c.push.new.self inside c.index.ensures same c.index_mut-group.ensures.value pushed);
     }
 
 -- no interface with the setting's number stands at the place
@@ -52,5 +49,5 @@ returns-in_ok-insert c =
       added = λ settings are.
           c.in_ok-insert.ensures.items
           ∙ ap (insert groups place) c.in_ok-group.ensures.items
-          ∙ added_new setting groups place low settings are is (absent c);
+          ∙ added_new setting groups place low settings are (is settings are) (absent c);
     }

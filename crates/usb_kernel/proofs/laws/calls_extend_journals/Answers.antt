@@ -1,4 +1,4 @@
-use Rattle.usb_kernel.proofs.Extends.{extends-event, extends-if, extends-step, extends-turned}
+use Rattle.usb_kernel.proofs.Extends.{extends-event, extends-if, extends-step, extends-turned, extends-reset}
 use Rattle.usb_kernel.proofs.laws.calls_extend_journals.Goals as goal
 
 pub returns : goal.returns
@@ -10,4 +10,5 @@ returns c = record {
   timer = extends-turned;
   discard = λ past t. extends-if _ past _;
   reap = λ past t. extends-if _ past _;
+  reset = extends-reset;
 }
