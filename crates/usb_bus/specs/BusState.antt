@@ -2,8 +2,8 @@
 use Rattle.std.specs.Prelude.{ℕ, Bool, false, List, Option, Some, None, ◌==◌, if◌then◌else◌}
 use Rattle.usb_kernel.specs.declared.event.Event.{Event}
 
--- the events so far, the latest first; the clock in nanoseconds; for each ticket the key of the endpoint that holds it, while
--- it has no end; which keys are those of open endpoints; and a number that falls at each turn at which time is not up
+-- the events so far, the latest first; the clock in nanoseconds; for each ticket the key of the endpoint that holds it, until
+-- it is taken or given up; which keys are those of open endpoints; and a number that falls at each turn at which time is not up
 pub record BusState : Type 0 where
   pub past : List Event
   pub clock : ℕ

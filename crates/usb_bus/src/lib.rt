@@ -14,6 +14,3 @@ pub use completion::completion_from;
 pub use kernel_bus::KernelBus;
 pub use route::{Route, Turn};
 pub use transfers::{TransferOutcome, submit_buffer, transfer, turn_until_complete};
-
-#[cfg(test)]
-mod tests;

@@ -8,7 +8,8 @@ use Rattle.usb_device.specs.HostWaits.{host_waited}
 abbrev pub or_then : Bool × HostState → (HostState → HostState) → HostState
 or_then p next = if p.0 then p.1 else next p.1
 
--- waits of a second (10^9 nanoseconds), at most so many, until one finds the ticket
+-- turns until the ticket is found, by waits of a second (10^9 nanoseconds): where one is in vain the next begins, at most so
+-- many. (Each in vain has taken a step of the line, so one more than there are steps is enough)
 abbrev pub waited_by_seconds : ℕ → HostState → ℕ → HostState
 waited_by_seconds zero h t = h
 waited_by_seconds (suc n) h t = or_then (host_waited h t 1000000000) (λ g. waited_by_seconds n g t)

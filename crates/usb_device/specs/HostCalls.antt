@@ -44,7 +44,7 @@ host_refused h to t errno = refused_with h to t errno (buffer_held t.held)
 unfoldable pub host_discarded : HostState → ℕ → HostState
 host_discarded h t = with_past h (after_discard h.kernel.past t)
 
--- the handle of an endpoint is open no more. Without a ticket that has no end the endpoint has gone
+-- the handle of an endpoint is closed. The endpoint lives on only while a ticket of it has no end
 abbrev pub closed_if : HostState → ℕ → Option HostEndpoint → HostState
 closed_if h k None = h
 closed_if h k (Some e) =

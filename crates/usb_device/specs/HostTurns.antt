@@ -21,8 +21,7 @@ host_stepped h s = came (record h { kernel = after_step h.kernel s }) (step_done
 unfoldable pub host_reaped : HostState → ℕ → HostState
 host_reaped h t = came (with_past h (after_reap h.kernel.past t)) (reapable h.kernel.past t)
 
--- a turn: the next step of the line; with none left, the reap of the lowest ticket that is finished
--- and not reaped; else time is up
+-- the reap of a ticket, if there is one
 abbrev pub reaped_of : HostState → Option ℕ → HostState
 reaped_of h None = h
 reaped_of h (Some t) = host_reaped h t
@@ -31,6 +30,8 @@ abbrev pub turned_of : HostState → List KernelStep → HostState
 turned_of h [] = reaped_of h (lowest h.kernel.past)
 turned_of h (s ∷ ss) = host_stepped (record h { steps = ss }) s
 
+-- a turn: the next step of the line; with none left, the reap of the lowest ticket that is finished
+-- and not reaped; else time is up, and nothing happens
 unfoldable pub host_turned : HostState → HostState
 host_turned h = turned_of h h.steps
 

@@ -17,7 +17,7 @@ claim_ended interfaces tickets endpoints i =
     else Some (record { device = c.device; number = c.number }))
     (slice_get interfaces i)
 
--- and where an endpoint may have gone: that of its interface. A control endpoint has none
+-- the claim that ends where an endpoint may live no more: that of its interface, if nothing owns it. A control endpoint has none
 unfoldable pub claim_of : List ClaimedInterface → List HostTicket → List HostEndpoint → ℕ →
     Option EndedClaim
 claim_of interfaces tickets endpoints k =
@@ -32,13 +32,13 @@ without_ended devices (Some claim) = after_release devices claim.device claim.nu
 abbrev pub with_devices : HostState → List DeviceState → HostState
 with_devices h devices = record h { kernel = record h.kernel { devices = devices } }
 
--- an owner of the interface has gone
+-- an owner of the interface is there no more: its claim ends if nothing owns it
 unfoldable pub owner_gone : HostState → ℕ → HostState
 owner_gone h i =
     with_devices h
     (without_ended h.kernel.devices (claim_ended h.interfaces h.tickets h.endpoints i))
 
--- an endpoint may have gone
+-- the endpoint of a key may live no more: the claim of its interface ends if nothing owns it
 unfoldable pub settled : HostState → ℕ → HostState
 settled h k =
     with_devices h

@@ -10,7 +10,7 @@ use Rattle.usb_device.specs.Releases.{settled}
 abbrev pub with_ticket : HostState → ℕ → HostTicket → HostState
 with_ticket h t ticket = record h { tickets = set h.tickets t ticket }
 
--- a ticket gets its end. With its last ticket an endpoint that is closed goes
+-- a ticket gets its end. Where it was the last without one of an endpoint that is closed, this endpoint lives no more (Owners.antt)
 abbrev pub ended_as : HostState → ℕ → TicketEnd → Option HostTicket → HostState
 ended_as h t end None = h
 ended_as h t end (Some (HeldBy hold)) = settled (with_ticket h t (Ended end)) hold.key

@@ -1,4 +1,4 @@
-//! Laws of waits at a host. Each is the contract of a function that does nothing.
+//! Laws of waits and of ends at a host. Each is the contract of a function that does nothing.
 
 ghost use Rattle.usb_device.specs.EndLaws.{EndsStay, DroppedWhereReaped};
 ghost use Rattle.usb_device.specs.WaitLaws.{WaitIsBySteps, BlockingIsBySteps, TurnGoesOn, WaitGoesOn, BlockingGoesOn, RestGoesOn, RestLeavesNone, LineUsesPlaces};

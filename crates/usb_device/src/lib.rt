@@ -37,6 +37,3 @@ pub use usb_xfer::{
     Buffer, Bulk, BulkOrInterrupt, Completion, EndpointDirection, EndpointType, In, Interrupt, Out,
     TransferError,
 };
-
-#[cfg(test)]
-mod tests;

@@ -1,4 +1,4 @@
--- The ends of pending tickets.
+-- How pending tickets are discarded and given up.
 use Rattle.std.specs.Prelude.{ℕ, List, [], ◌∷◌}
 use Rattle.usb_endpoint.specs.EndpointState.{EndpointState}
 

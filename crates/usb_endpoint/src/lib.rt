@@ -14,6 +14,3 @@ pub use laws::{
     calls_keep_other_endpoints, completions_come_in_order, tickets_end_once, waits_have_one_outcome,
 };
 pub use next_complete::NextComplete;
-
-#[cfg(test)]
-mod tests;

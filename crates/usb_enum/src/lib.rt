@@ -12,8 +12,6 @@ mod numbers;
 mod probe;
 mod selector;
 mod string_descriptor;
-#[cfg(test)]
-mod tests;
 mod udev;
 
 pub use bus::{BusInfo, list_buses};

@@ -26,6 +26,3 @@ pub use row::Row;
 pub use runs::{LiveRun, live_run};
 pub use seats::{CellStep, HandlerSeat, OwnerSeat, handler_seat_is_send, owner_seat_is_send};
 pub use view::{Handled, HandlerCell, Owned, OwnerCell, Side, Transfer, View};
-
-#[cfg(test)]
-mod tests;

@@ -9,8 +9,6 @@ mod numbers;
 mod ports;
 mod speed;
 mod sysfs;
-#[cfg(test)]
-mod tests;
 mod text;
 mod text_map;
 mod tree;

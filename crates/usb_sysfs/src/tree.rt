@@ -1,6 +1,6 @@
 //! The tree of attributes that stands in for the file system under `/sys`.
 
-ghost use Rattle.std.specs.Prelude.{◌≡◌, [], Some, OnOk, OnErr, IfOk, ◌++◌, string_bytes, map};
+ghost use Rattle.std.specs.Prelude.{◌≡◌, [], Some, OnOk, OnErr, IfOk, IsOk, ◌++◌, string_bytes, map};
 ghost use Rattle.std.specs.Option.{option_copied};
 ghost use Rattle.std.specs.Map.{lookup};
 ghost use Rattle.std.specs.Str.{bytes_eq};
@@ -145,11 +145,13 @@ impl AttrTree {
         self.entries.put(self.alloc, name, path)
     }
 
-    /// Lets the listing of devices fail with this errno.
-    pub fn fail_listing(&mut self, errno: u16)
+    /// Lets the listing of devices fail with this errno, which takes no memory.
+    pub fn fail_listing(&mut self, errno: u16) -> Result<(), NoMemory>
+        ensures ok { IsOk result }
         ensures refusal { self.new ≡ record self.old { refusal = Some errno } }
     {
         self.refusal = Some(errno);
+        Ok(())
     }
 
     /// The names of a folder's sub-folders, where it has any.

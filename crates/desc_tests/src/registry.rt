@@ -1,0 +1,42 @@
+//! A registry of texts, which are not Copy: serial numbers go on, and a stale key finds nothing.
+
+use std::alloc::Global;
+use std::process::Abort;
+use std::test::Fail;
+use usb_registry::{Key, Registry};
+
+/// Puts a text of one letter in.
+fn put(texts: &mut Registry<String>, alloc: Global, c: char) -> Result<Key, Fail> {
+    let mut text = String::new(alloc);
+    text.push(c)?;
+    match texts.insert(text) {
+        Ok(key) => Ok(key),
+        Err(_) => Err("no memory".into()),
+    }
+}
+
+fn expect_stale<R: Abort + AllocGlobal>(rt: &R, texts: &mut Registry<String>) -> Result<(), Fail> {
+    assert!(rt; texts.is_empty());
+    let first = put(texts, rt.alloc(), 'a')?;
+    let second = put(texts, rt.alloc(), 'b')?;
+    let third = put(texts, rt.alloc(), 'c')?;
+    assert!(rt; texts.remove(second).is_some());
+    let fourth = put(texts, rt.alloc(), 'd')?;
+    assert_eq!(rt; (first.serial, third.serial, fourth.serial), (0, 2, 3));
+    assert_eq!(rt; texts.len(), 3);
+    assert!(rt; texts.get(second).is_none());
+    assert!(rt; texts.remove(second).is_none());
+    assert!(rt; texts.replace(second, String::new(rt.alloc())).is_err());
+    if let Some(text) = texts.get_mut(fourth) {
+        text.push('x')?;
+    }
+    let text = texts.get(fourth).ok_or("gone")?;
+    assert_eq!(rt; text.as_str(), "dx");
+    Ok(())
+}
+
+#[test]
+fn a_stale_key_finds_nothing(rt: HostRuntime) -> Result<(), Fail> {
+    let mut texts = Registry::new(rt.alloc());
+    expect_stale(&rt, &mut texts)
+}

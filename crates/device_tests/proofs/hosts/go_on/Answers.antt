@@ -1,0 +1,9 @@
+use Rattle.usb_endpoint.proofs.Frames.{Stands-later}
+use Rattle.usb_device.proofs.HandleFrames.{stands-turned}
+use Rattle.device_tests.proofs.hosts.go_on.Goals as goal
+
+pub returns-clause-interfaces : goal.returns-clause-interfaces
+returns-clause-interfaces c = λ i stands. stands-turned _ _ i c.turn.ensures.ok stands
+
+pub returns-clause-endpoints : goal.returns-clause-endpoints
+returns-clause-endpoints c = λ e stands. Stands-later _ _ e stands c.turn.ensures.state

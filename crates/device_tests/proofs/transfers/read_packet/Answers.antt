@@ -1,0 +1,11 @@
+use Rattle.std.proofs.Common.{sym, ◌∙◌, ap, subst}
+use Rattle.usb_bus.specs.BusState.{BusState}
+use Rattle.usb_endpoint.specs.Handles.{Stands}
+use Rattle.usb_device.specs.HostBus.{bus_of}
+use Rattle.usb_device.proofs.InterfaceFrames.{bus-handle_closed}
+use Rattle.device_tests.proofs.transfers.read_packet.Goals as goal
+
+pub submit-requires-clause-stands : goal.submit-requires-clause-stands
+submit-requires-clause-stands c κs =
+    let same = ap bus_of c.close-2.ensures.closed ∙ bus-handle_closed c.endpoint-opened.new.host c.in_ok-interface.interface.key in
+    subst (λ (b : BusState). Stands b c.in_ok-endpoint.endpoint) (sym same) c.in_ok-endpoint.ensures.stands

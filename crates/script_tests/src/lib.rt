@@ -1,0 +1,11 @@
+//! Tests of the grammar of scripts: the crate `usb_script`.
+#![tactic(auto)]
+
+#[cfg(test)]
+mod calls;
+#[cfg(test)]
+mod fields;
+#[cfg(test)]
+mod scripts;
+#[cfg(test)]
+mod steps;
