@@ -18,7 +18,7 @@ use Rattle.usb_answers.specs.Opens.{open_answer, opened_as}
 use Rattle.usb_answers.specs.SessionState.{SessionState, IsSound}
 use Rattle.usb_answers.specs.Relation.{Represents, session_of}
 use Rattle.usb_answers.proofs.NameLemmas.{length-set_name, names-set}
-use Rattle.usb_answers.proofs.Telling.{Gives, barred-gives}
+use Rattle.usb_answers.proofs.Answering.{Gives, barred-gives}
 
 below : (k a b : ℕ) → k < a → a ≤ b → k < b
 below k a b less more = omega (arith, less, more)

@@ -23,8 +23,7 @@ use Rattle.usb_answers.specs.SessionState.{SessionState, IsSound}
 use Rattle.usb_answers.specs.Relation.{Represents, session_of}
 use Rattle.usb_answers.proofs.NameLemmas.{length-set_name, map-set, is_free-map, names-set}
 use Rattle.usb_answers.proofs.Called.{KeepsSession, sound-host, represents-host}
-use Rattle.usb_answers.proofs.Answering.{free_kept}
-use Rattle.usb_answers.proofs.Telling.{Gives, barred-gives}
+use Rattle.usb_answers.proofs.Answering.{Gives, barred-gives, free_kept}
 
 -- a look at the active configuration
 asked-keeps : (h now : HostState) (key : ℕ) → h.steps ≡ [] → now ≡ host_asked h key → KeepsSession h now

@@ -1,5 +1,5 @@
 -- The fate lines.
-use Rattle.std.proofs.Common.{◌≡◌, ℕ, ◌<◌, ◌+◌, ◌-◌, suc, arith, List, [], ◌++◌, length, Option, Some, None, Bool, true, false, cond, refl, ap, sym, ◌∙◌, slice_get}
+use Rattle.std.proofs.Common.{◌≡◌, ℕ, ◌<◌, ◌+◌, ◌-◌, suc, arith, List, ◌++◌, length, Option, Some, None, Bool, true, false, cond, refl, ap, sym, ◌∙◌, slice_get}
 use Rattle.std.specs.Option.{option_map}
 use Rattle.std.specs.Prelude.{IsSome, option_and_then}
 use Rattle.usb_kernel.specs.declared.submission.TicketInfo.{TicketInfo}
@@ -34,9 +34,6 @@ fate_lines_from-step h k n below =
     let more : n - k ≡ suc (n - (k + 1)) = omega arith in
     let next : suc k ≡ k + 1 = omega arith in
     rw (more, ← next) refl
-
-pub fate_lines_from-end : (h : HostState) (k n : ℕ) → n ≡ k → fate_lines_from h k (n - k) ≡ []
-fate_lines_from-end h k n all = let none : n - k ≡ 0 = omega arith in rw none refl
 
 pub fate_lines-all : (h : HostState) → fate_lines h ≡ fate_lines_from h 0 (length (tickets h.kernel.past) - 0)
 unfolding fate_lines

@@ -18,7 +18,7 @@ use Rattle.usb_answers.specs.SessionState.{SessionState, IsSound}
 use Rattle.usb_answers.specs.Relation.{Represents, session_of}
 use Rattle.usb_answers.proofs.NameLemmas.{length-set_name, names-set}
 use Rattle.usb_answers.proofs.Devices.{device-none, device-some}
-use Rattle.usb_answers.proofs.Telling.{Gives, barred-gives}
+use Rattle.usb_answers.proofs.Answering.{Gives, barred-gives}
 
 -- the claimed interface has the next key
 key-next : (next key : ℕ) (t : Result (Unit {0}) ErrorState) → claimed_key next t ≡ Ok key → key ≡ next

@@ -25,7 +25,6 @@ pub mod SubmitCode
 pub mod SumLemmas
 pub mod TakeLemmas
 pub mod TakenOut
-pub mod Telling
 pub mod TimesLemmas
 pub mod WaitCode
 mod WorkedOutput

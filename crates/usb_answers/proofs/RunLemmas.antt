@@ -1,8 +1,8 @@
--- The run over the items.
-use Rattle.std.proofs.Common.{◌≡◌, ℕ, ◌<◌, ◌≤◌, ◌+◌, arith, List, [], ◌++◌, length, get_or, drop, map, replicate, Option, Some, None, refl, ap, sym, ◌∙◌, subst}
+-- A session at its beginning.
+use Rattle.std.proofs.Common.{◌≡◌, ℕ, ◌≤◌, arith, List, [], length, map, replicate, Option, Some, None, refl, ap, sym, ◌∙◌, subst}
 use Rattle.std.specs.Prelude.{max}
 use Rattle.std.specs.Option.{option_map}
-use Rattle.std.proofs.lemmas.List.{at_drop_more, at_drop_all, length-replicate}
+use Rattle.std.proofs.lemmas.List.{length-replicate}
 use Rattle.std.proofs.lemmas.Option.{none-some}
 use Rattle.usb_kernel.specs.declared.devices.SimDevice.{SimDevice}
 use Rattle.usb_kernel.specs.Value.{KernelState}
@@ -16,30 +16,11 @@ use Rattle.usb_script.specs.declared.item.Item.{Item}
 use Rattle.usb_script.specs.ItemKinds.{step_count}
 use Rattle.usb_answers.specs.Names.{named}
 use Rattle.usb_answers.specs.State.{State, Endpoint, kept}
-use Rattle.usb_answers.specs.Answers.{answer}
-use Rattle.usb_answers.specs.Ends.{ended}
-use Rattle.usb_answers.specs.Fates.{fate_lines}
-use Rattle.usb_answers.specs.Output.{devices_of, output_from, last_host, start}
+use Rattle.usb_answers.specs.Output.{devices_of, start}
 use Rattle.usb_answers.specs.SessionState.{SessionState, IsSound}
 use Rattle.usb_answers.specs.SessionFacts.{session_made}
 use Rattle.usb_answers.specs.Relation.{Represents, session_of}
 use Rattle.usb_answers.proofs.NameLemmas.{named-replicate, map-replicate}
-
--- one item on: its line and the output behind it
-pub output_from-step : (items : List Item) (i : ℕ) (item : Item) (state : State) (line : List ℕ) → i < length items → item ≡ get_or items i item → line ≡ (answer state item).line → line ++ output_from (answer state item).state (drop (i + 1) items) ≡ output_from state (drop i items)
-output_from-step items i item state line within here is =
-    rw is (ap (λ (x : Item). (answer state x).line ++ output_from (answer state x).state (drop (i + 1) items)) here ∙ sym (at_drop_more (output_from state) items i item within))
-
-pub last_host-step : (items : List Item) (i : ℕ) (item : Item) (state : State) → i < length items → item ≡ get_or items i item → last_host (answer state item).state (drop (i + 1) items) ≡ last_host state (drop i items)
-last_host-step items i item state within here =
-    ap (λ (x : Item). last_host (answer state x).state (drop (i + 1) items)) here ∙ sym (at_drop_more (last_host state) items i item within)
-
--- no item is left
-pub output_from-end : (items : List Item) (i : ℕ) (state : State) → length items ≤ i → output_from state (drop i items) ≡ fate_lines (ended state)
-output_from-end items i state past = at_drop_all (output_from state) items i past
-
-pub last_host-end : (items : List Item) (i : ℕ) (state : State) → length items ≤ i → last_host state (drop i items) ≡ ended state
-last_host-end items i state past = at_drop_all (last_host state) items i past
 
 -- the host at the beginning
 larger : (a b : ℕ) → a ≡ 0 → max a b ≡ b

@@ -81,8 +81,8 @@ abbrev answers : List Line → List ℕ
 answers lines = flat_map (λ line. with_end line.2) lines
 
 -- the bytes of the lines are a script of their items, and what is written for these are the answers and then the fates of the tickets
-abbrev IsAnswered : List Line → List (List ℕ) → Type 0
-IsAnswered lines fates = (script_of (script lines) ≡ Ok (items lines)) × (output (items lines) ≡ answers lines ++ flat_map with_end fates)
+abbrev IsWorkedOut : List Line → List (List ℕ) → Type 0
+IsWorkedOut lines fates = (script_of (script lines) ≡ Ok (items lines)) × (output (items lines) ≡ answers lines ++ flat_map with_end fates)
 
 -- a device with a bulk IN endpoint 81 and a bulk OUT endpoint 02, with packets of at most 64 bytes
 abbrev bulk_bytes : List ℕ
@@ -131,14 +131,14 @@ unusable_bytes = 18 ∷ 1 ∷ 0 ∷ 2 ∷ 0 ∷ 0 ∷ 0 ∷ 64 ∷ 170 ∷ 170 �
     ∷ []
 
 -- no line, and nothing is written
-no_line : IsAnswered
+no_line : IsWorkedOut
     []
     []
 unfolding script_on_literals output_on_literals
 no_line = (refl, refl)
 
 -- one packet: the transfer is pending until it is reaped
-first_packet : IsAnswered
+first_packet : IsWorkedOut
     (with_endpoint
     ((codes "submitin e0 64", item.SubmitIn 0 64, codes "ok")
     ∷ (codes "poll e0", item.Poll 0, codes "pending")
@@ -152,7 +152,7 @@ unfolding script_on_literals output_on_literals
 first_packet = (refl, refl)
 
 -- two packets: the second is reaped first, and waits behind the first
-second_reaped_first : IsAnswered
+second_reaped_first : IsWorkedOut
     (with_endpoint
     ((codes "submitin e0 64", item.SubmitIn 0 64, codes "ok")
     ∷ (codes "submitin e0 64", item.SubmitIn 0 64, codes "ok")
@@ -169,7 +169,7 @@ unfolding script_on_literals output_on_literals
 second_reaped_first = (refl, refl)
 
 -- an endpoint is closed with a ticket that is reaped, one that is finished and one that is open
-closed_with_tickets : IsAnswered
+closed_with_tickets : IsWorkedOut
     (with_endpoint
     ((codes "submitin e0 64", item.SubmitIn 0 64, codes "ok")
     ∷ (codes "submitin e0 64", item.SubmitIn 0 64, codes "ok")
@@ -184,7 +184,7 @@ unfolding script_on_literals output_on_literals
 closed_with_tickets = (refl, refl)
 
 -- the address of a closed endpoint stays in use until the last of its tickets is reaped
-address_in_use : IsAnswered
+address_in_use : IsWorkedOut
     (with_endpoint
     ((codes "submitin e0 64", item.SubmitIn 0 64, codes "ok")
     ∷ (codes "submitin e0 64", item.SubmitIn 0 64, codes "ok")
@@ -204,7 +204,7 @@ unfolding script_on_literals output_on_literals
 address_in_use = (refl, refl)
 
 -- a blocking transfer to which nothing comes is cancelled; the second gets its packet while it waits; the packet of the third comes too late
-blocking_transfers : IsAnswered
+blocking_transfers : IsWorkedOut
     (with_endpoint
     ((codes "xferin e0 64 5", item.TransferIn 0 64 5 [], codes "done cancelled 0 64 -")
     ∷ (codes "xferin e0 64 100 : pkt k0 81 05 ; clock 50 ; reap", item.TransferIn 0 64 100 (Packet 0 129 (5 ∷ []) ∷ Clock 50 ∷ Reap None ∷ []), codes "done ok 1 64 05")
@@ -217,7 +217,7 @@ unfolding script_on_literals output_on_literals
 blocking_transfers = (refl, refl)
 
 -- waits of an OUT endpoint: the first leaves the step behind the reap, which is taken right after it
-waits : IsAnswered
+waits : IsWorkedOut
     (with_endpoint
     ((codes "endpoint e1 i0 02 bulk-out", item.Endpoint 1 0 2 BulkOut, codes "ok")
     ∷ (codes "submitout e1 010203", item.SubmitOut 1 (1 ∷ 2 ∷ 3 ∷ []), codes "ok")
@@ -240,7 +240,7 @@ unfolding script_on_literals output_on_literals
 waits = (refl, refl)
 
 -- a blocking transfer is barred while others are pending, and its steps are taken all the same; the others are cancelled but for the finished one
-cancelled_transfers : IsAnswered
+cancelled_transfers : IsWorkedOut
     (with_endpoint
     ((codes "submitin e0 64", item.SubmitIn 0 64, codes "ok")
     ∷ (codes "submitin e0 64", item.SubmitIn 0 64, codes "ok")
@@ -262,7 +262,7 @@ unfolding script_on_literals output_on_literals
 cancelled_transfers = (refl, refl)
 
 -- two submissions that the kernel refuses, one of a wrong length, and an unplug, behind which all are refused
-refused_and_unplugged : IsAnswered
+refused_and_unplugged : IsWorkedOut
     (with_endpoint
     ((codes "! refuse k0 submit 5 ; refuse k0 submit 2", item.Steps (Refuse 0 Submit 5 ∷ Refuse 0 Submit 2 ∷ []), [])
     ∷ (codes "submitin e0 64", item.SubmitIn 0 64, codes "ok")
@@ -290,7 +290,7 @@ unfolding script_on_literals output_on_literals
 refused_and_unplugged = (refl, refl)
 
 -- what is open at the end is closed: the endpoints, and with them their tickets
-left_open : IsAnswered
+left_open : IsWorkedOut
     (with_endpoint
     ((codes "endpoint e1 i0 02 bulk-out", item.Endpoint 1 0 2 BulkOut, codes "ok")
     ∷ (codes "submitin e0 64", item.SubmitIn 0 64, codes "ok")
@@ -305,7 +305,7 @@ unfolding script_on_literals output_on_literals
 left_open = (refl, refl)
 
 -- steps with nothing to act on change nothing, and the clock never falls
-idle_steps : IsAnswered
+idle_steps : IsWorkedOut
     (with_endpoint
     ((codes "! pkt k0 81 01 ; ack k0 02 ; fail k0 81 32 ; reap ; reap 7", item.Steps (Packet 0 129 (1 ∷ []) ∷ Ack 0 2 ∷ Fail 0 129 32 ∷ Reap None ∷ Reap (Some 7) ∷ []), [])
     ∷ (codes "! unplug k9 ; pkt k9 81 01 ; clock 9 ; clock 4", item.Steps (Unplug 9 ∷ Packet 9 129 (1 ∷ []) ∷ Clock 9 ∷ Clock 4 ∷ []), [])
@@ -321,7 +321,7 @@ unfolding script_on_literals output_on_literals
 idle_steps = (refl, refl)
 
 -- two devices with the same endpoints: a reap without a number takes the least that is finished
-two_devices : IsAnswered
+two_devices : IsWorkedOut
     (bulk_device
     ∷ (codes "device k1 1 7 3 1 1201000200000040aaaabbbb0001000000010902200001010080320904000002ff0000000705810240000007050202400000", item.Device 1 1 7 3 1 bulk_bytes, [])
     ∷ (codes "open d0 1 6", item.Open 0 1 6, codes "ok")
@@ -344,7 +344,7 @@ unfolding script_on_literals output_on_literals
 two_devices = (refl, refl)
 
 -- calls that are refused or barred, and the two that print descriptors
-refused_calls : IsAnswered
+refused_calls : IsWorkedOut
     (bulk_device
     ∷ (codes "open d0 1 7", item.Open 0 1 7, codes "error Disconnected device not found (errno 2)")
     ∷ (codes "devdesc d0", item.DeviceDescriptor 0, codes "condition")
@@ -377,7 +377,7 @@ unfolding script_on_literals output_on_literals
 refused_calls = (refl, refl)
 
 -- a device without descriptors, one without an active configuration, and one with an endpoint whose packets have no bytes
-refused_devices : IsAnswered
+refused_devices : IsWorkedOut
     ((codes "device k0 1 1 3 1 -", item.Device 0 1 1 3 1 [], [])
     ∷ (codes "device k1 1 2 3 0 1201000200000040aaaabbbb0001000000010902200001010080320904000002ff0000000705810240000007050202400000", item.Device 1 1 2 3 0 bulk_bytes, [])
     ∷ (codes "device k2 1 3 3 1 1201000200000040aaaabbbb0001000000010902190001010080320904000001ff00000007058102000000", item.Device 2 1 3 3 1 unusable_bytes, [])
@@ -393,7 +393,7 @@ unfolding script_on_literals output_on_literals
 refused_devices = (refl, refl)
 
 -- packets of 4 bytes: a length is reached by two of them, one that is too long is a fault, an empty one ends a transfer, and a transfer that is cancelled keeps its bytes
-packets : IsAnswered
+packets : IsWorkedOut
     (with_interface
     ((codes "endpoint e7 i9 81 int-in", item.Endpoint 7 9 129 InterruptIn, codes "ok")
     ∷ (codes "submitin e7 8", item.SubmitIn 7 8, codes "ok")
@@ -422,7 +422,7 @@ unfolding script_on_literals output_on_literals
 packets = (refl, refl)
 
 -- each acknowledgement takes up to 4 bytes; a failure keeps the count so far
-acknowledgements : IsAnswered
+acknowledgements : IsWorkedOut
     (with_interface
     ((codes "endpoint e8 i9 02 int-out", item.Endpoint 8 9 2 InterruptOut, codes "ok")
     ∷ (codes "submitout e8 01020304050607", item.SubmitOut 8 (1 ∷ 2 ∷ 3 ∷ 4 ∷ 5 ∷ 6 ∷ 7 ∷ []), codes "ok")

@@ -9,7 +9,7 @@ pub record Answer : Type 0 where
   pub state : State
   pub line : List ℕ
 
--- what was asked is told
+-- this state, and this line
 abbrev pub told : State → List ℕ → Answer
 told state line = record { state = state; line = line }
 

@@ -1,4 +1,5 @@
--- The end of a session: what is open is closed, endpoints by number and then interfaces by number; then the tickets are discarded by number, and reaped by number.
+-- The end of a session: what is open is closed, endpoints by number and then interfaces by number (to close a device changes nothing);
+-- then the tickets are discarded by number, and reaped by number.
 use Rattle.std.specs.Prelude.{ℕ, zero, suc, Option, Some, None}
 use Rattle.usb_device.specs.HostState.{HostState}
 use Rattle.usb_device.specs.Handles.{handle_closed}

@@ -1,4 +1,4 @@
--- Names, from 0 to the length of the list: what is open under each.
+-- Names: the numbers below the length of the list. What is open under each.
 use Rattle.std.specs.Prelude.{ℕ, zero, suc, List, [], ◌∷◌, Bool, true, false, Option, Some, None, slice_get}
 use Rattle.std.specs.Option.{option_map}
 

@@ -1,4 +1,4 @@
--- What is printed of tickets, by the place of those that were taken.
+-- What is printed of an endpoint's tickets: where n were taken, it is the n-th that comes next, counted from 0.
 use Rattle.std.specs.Prelude.{ℕ, ◌≡◌, ◌+◌, slice_get, Some}
 use Rattle.usb_xfer.specs.declared.transfer.Completion.{Completion}
 use Rattle.usb_bus.specs.Completions.{transfer_completion}
@@ -11,8 +11,8 @@ use Rattle.usb_answers.specs.Answer.{Answer}
 use Rattle.usb_answers.specs.Answers.{answer}
 use Rattle.usb_answers.specs.Served.{taken_under}
 
--- a poll answers for the ticket at the place of those that were taken: with the completion that the journal has of it, and `pending`
--- exactly where it has none
+-- a poll answers for the endpoint's n-th ticket, counted from 0, where n were taken: with the completion that the journal has of it,
+-- and `pending` exactly where it has none
 abbrev pub PollsAnswerForTheirPlace : Type 0
 PollsAnswerForTheirPlace =
     (state : State) (e : ℕ) (h : Endpoint) (t : ℕ) → named state.endpoints e ≡ Some h → slice_get h.tickets h.taken ≡ Some t →

@@ -15,16 +15,16 @@ abbrev pub taken_from : State → ℕ → ℕ → State
 taken_from state e t =
     record state { host = host_taken state.host t; endpoints = change_named one_taken state.endpoints e }
 
--- a ticket is taken where it has a completion, and what is printed tells
+-- the answer for a ticket: where it has a completion it is taken, and the line prints that; else nothing changes, and the line says so
 abbrev pub took : (Option Completion → List ℕ) → State → ℕ → ℕ → Option Completion → Answer
 took line state e t None = told state (line None)
 took line state e t (Some completion) = told (taken_from state e t) (line (Some completion))
 
--- it is barred where nothing is pending
+-- a poll is barred where nothing is pending
 abbrev pub polled : State → ℕ → Option ℕ → Answer
 polled state e None = barred state
 polled state e (Some t) = took polled_line state e t (transfer_completion state.host.kernel.past t)
 
--- or where the endpoint is not open. The oldest pending ticket stands at the place of those that were taken
+-- a poll of an endpoint that is not open is barred. Where n tickets were taken, the oldest pending one is the endpoint's n-th, counted from 0
 unfoldable pub poll_answer : State → ℕ → Answer
 poll_answer state e = if_open (named state.endpoints e) (λ h. polled state e (slice_get h.tickets h.taken)) (barred state)

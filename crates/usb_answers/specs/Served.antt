@@ -22,7 +22,8 @@ use Rattle.usb_answers.specs.Answers.{answer}
 use Rattle.usb_answers.specs.Ends.{endpoints_closed}
 use Rattle.usb_answers.specs.Output.{start, final_host}
 
--- an endpoint as it is when it is closed, the journal then, and the lines that printed its completions
+-- a closed endpoint (no handle in a caller's sense): the endpoint as it is when it is closed, the journal then, and the lines that
+-- printed its completions
 pub record Handle : Type 0 where
   pub endpoint : Endpoint
   pub past : List Event
@@ -32,11 +33,11 @@ pub record Handle : Type 0 where
 abbrev pub taken_under : State → ℕ → ℕ
 taken_under state e = option_map_or (λ (h : Endpoint). h.taken) (named state.endpoints e) 0
 
--- the line of an answer that takes a ticket of what is open under a name
+-- the line of an answer, where the answer takes a ticket of what is open under a name
 abbrev pub line_taking : State → Answer → ℕ → List (List ℕ)
 line_taking state a e = if nat_lt (taken_under state e) (taken_under a.state e) then a.line ∷ [] else []
 
--- what was printed so of what is open under each name, behind an answer. With its opening it begins anew
+-- the completions printed for each name since it was last opened, after one more answer
 abbrev pub lines_behind : State → Answer → (ℕ → List (List ℕ)) → ℕ → List (List ℕ)
 lines_behind state a lines e = (if is_none (named state.endpoints e) then [] else lines e) ++ line_taking state a e
 
@@ -71,7 +72,8 @@ handles items = handles_from (start items) (λ e. []) items
 abbrev pub end_given_up : List Event → ℕ → TicketEnd
 end_given_up past t = if is_some (completion past t) then Dropped else Reclaimed
 
--- an endpoint's tickets stand in the order of their submission; the first of them were taken, in this order, each with the completion that the last journal gives; and the others were given up at its close
+-- an endpoint's tickets stand in the order of their submission; the first of them were taken, in this order, each with the completion that the last journal gives (of a
+-- completion a wait prints the line that a poll prints); and the others were given up at its close
 pub record IsServedInOrder (last : HostState) (h : Handle) : Type 0 where
   pub rising : IsStrictlyIncreasing h.endpoint.tickets
   pub few : h.endpoint.taken ≤ length h.endpoint.tickets

@@ -23,7 +23,7 @@ pub record State : Type 0 where
   pub interfaces : List (Option InterfaceState)
   pub endpoints : List (Option Endpoint)
 
--- the tickets of an endpoint that wait to be taken
+-- the pending tickets of an endpoint
 abbrev pub pending : Endpoint → List ℕ
 pending e = drop e.taken e.tickets
 

@@ -5,13 +5,15 @@ use Rattle.usb_device.specs.HostTurns.{host_rest}
 use Rattle.usb_answers.specs.State.{State, with_host}
 use Rattle.usb_answers.specs.Answer.{Answer, told, silent}
 
+-- the steps of a line are lent to the host
 abbrev pub lent : State → List KernelStep → State
 lent state steps = with_host state (record state.host { steps = steps })
 
+-- the steps that are left are applied
 abbrev pub rested : State → State
 rested state = with_host state (host_rest state.host)
 
--- right after a call
+-- an answer, and then the steps that are left
 abbrev pub then_rested : Answer → Answer
 then_rested a = told (rested a.state) a.line
 

@@ -23,17 +23,17 @@ use Rattle.usb_answers.specs.Steps.{lent, then_rested, stepped_all}
 abbrev pub bars_transfer : List Event → Direction → EndpointState → Bool
 bars_transfer past direction h = not (has_direction direction h) || (not (length h.pending == 0) || nat_le 1024 (unreaped past))
 
--- a ticket came and was taken
+-- an endpoint to which one more ticket was submitted, and which it took
 abbrev pub with_taken : ℕ → Endpoint → Endpoint
 with_taken t h = record h { tickets = h.tickets ++ t ∷ []; taken = h.taken + 1 }
 
--- its completion is printed, which it has then
+-- ticket t is taken, and the completion that the journal now has of it is printed
 abbrev pub transfer_ended : State → ℕ → ℕ → HostState → Answer
 transfer_ended state e t host =
     told (record state { host = host_taken host t; endpoints = change_named (with_taken t) state.endpoints e })
     (waited_line (transfer_completion host.kernel.past t))
 
--- the buffer gets the next number, and its completion is waited for
+-- the buffer is submitted as the next ticket, its completion is waited for, and it is taken
 abbrev pub transferred : State → ℕ → BufferState → ℕ → Endpoint → Answer
 transferred state e b timeout h =
     transfer_ended state e (tickets_of state)

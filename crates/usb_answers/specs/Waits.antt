@@ -17,12 +17,12 @@ wait_ended state e t p =
     if p.0 then took waited_line (with_host state p.1) e t (transfer_completion p.1.kernel.past t)
     else told (with_host state p.1) (waited_line None)
 
--- it is barred where nothing is pending
+-- a wait is barred where nothing is pending
 abbrev pub waited : State → ℕ → ℕ → Option ℕ → Answer
 waited state e timeout None = barred state
 waited state e timeout (Some t) = wait_ended state e t (host_waited state.host t timeout)
 
--- or where the endpoint is not open. The steps of a barred call are applied all the same
+-- a wait for an endpoint that is not open is barred. The steps of a barred call are applied all the same
 unfoldable pub wait_answer : State → ℕ → ℕ → List KernelStep → Answer
 wait_answer state e timeout steps =
     if_open (named state.endpoints e) (λ h. then_rested (waited (lent state steps) e timeout (slice_get h.tickets h.taken))) (barred (stepped_all state steps))

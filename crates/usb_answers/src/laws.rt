@@ -21,8 +21,8 @@ pub fn fates_are_final()
     ensures scripts { FatesOfScripts }
 {}
 
-/// A poll answers for the ticket at the place of those that were taken: with the completion that the journal has of it, and
-/// `pending` exactly where the journal has none. A line with a completion is printed only where a ticket is taken.
+/// A poll answers for the endpoint's n-th ticket, counted from 0, where n were taken: with the completion that the journal has
+/// of it, and `pending` exactly where the journal has none. A line with a completion is printed only where a ticket is taken.
 pub fn polls_answer_for_their_place()
     ensures poll { PollsAnswerForTheirPlace }
     ensures taken { CompletionsAreTaken }

@@ -14,7 +14,7 @@ use crate::line_bytes::Data;
 use crate::name::Name;
 use crate::reading::LineError;
 use crate::wait::wait_call;
-use crate::words::{byte, hex_byte};
+use crate::words::{byte, hex_byte, reads};
 use std::alloc::Global;
 
 /// `now`, `open d B B`, `devdesc d`, `descriptors d`, or a further call
@@ -23,20 +23,20 @@ pub fn device_call(alloc: Global, name: &[u8], words: &[&[u8]]) -> Result<Item, 
     ensures value { Gives (λ i. i) result (device_call_of name.now (texts words.now)) }
     ensures few { IfOk result (λ item. steps_in item ≤ length words.now) }
 {
-    if name == b"now".as_slice() {
+    if reads(name, b"now") {
         no_word(words)?;
         Ok(Item::Now)
-    } else if name == b"open".as_slice() {
+    } else if reads(name, b"open") {
         let (device, bus, address) = three_words(words)?;
         Ok(Item::Open {
             device: Name::parse(b'd', device)?,
             bus: byte(bus)?,
             address: byte(address)?,
         })
-    } else if name == b"devdesc".as_slice() {
+    } else if reads(name, b"devdesc") {
         let device = Name::parse(b'd', one_word(words)?)?;
         Ok(Item::DeviceDescriptor { device })
-    } else if name == b"descriptors".as_slice() {
+    } else if reads(name, b"descriptors") {
         let device = Name::parse(b'd', one_word(words)?)?;
         Ok(Item::Descriptors { device })
     } else {
@@ -50,14 +50,14 @@ fn interface_call(alloc: Global, name: &[u8], words: &[&[u8]]) -> Result<Item, L
     ensures value { Gives (λ i. i) result (interface_call_of name.now (texts words.now)) }
     ensures few { IfOk result (λ item. steps_in item ≤ length words.now) }
 {
-    if name == b"claim".as_slice() {
+    if reads(name, b"claim") {
         let (device, number, interface) = three_words(words)?;
         Ok(Item::Claim {
             device: Name::parse(b'd', device)?,
             number: byte(number)?,
             interface: Name::parse(b'i', interface)?,
         })
-    } else if name == b"endpoint".as_slice() {
+    } else if reads(name, b"endpoint") {
         let (endpoint, interface, address, kind) = four_words(words)?;
         Ok(Item::Endpoint {
             endpoint: Name::parse(b'e', endpoint)?,
@@ -77,28 +77,28 @@ fn endpoint_call(alloc: Global, name: &[u8], words: &[&[u8]]) -> Result<Item, Li
     ensures value { Gives (λ i. i) result (endpoint_call_of name.now (texts words.now)) }
     ensures few { IfOk result (λ item. steps_in item ≤ length words.now) }
 {
-    if name == b"submitin".as_slice() {
+    if reads(name, b"submitin") {
         let (endpoint, wanted) = two_words(words)?;
         Ok(Item::SubmitIn {
             endpoint: Name::parse(b'e', endpoint)?,
             length: Length::parse(wanted)?,
         })
-    } else if name == b"submitout".as_slice() {
+    } else if reads(name, b"submitout") {
         let (endpoint, sent) = two_words(words)?;
         Ok(Item::SubmitOut {
             endpoint: Name::parse(b'e', endpoint)?,
             bytes: Data::parse(alloc, sent)?,
         })
-    } else if name == b"pending".as_slice() {
+    } else if reads(name, b"pending") {
         let endpoint = Name::parse(b'e', one_word(words)?)?;
         Ok(Item::Pending { endpoint })
-    } else if name == b"poll".as_slice() {
+    } else if reads(name, b"poll") {
         let endpoint = Name::parse(b'e', one_word(words)?)?;
         Ok(Item::Poll { endpoint })
-    } else if name == b"cancel".as_slice() {
+    } else if reads(name, b"cancel") {
         let endpoint = Name::parse(b'e', one_word(words)?)?;
         Ok(Item::Cancel { endpoint })
-    } else if name == b"close".as_slice() {
+    } else if reads(name, b"close") {
         let endpoint = Name::parse(b'e', one_word(words)?)?;
         Ok(Item::CloseEndpoint { endpoint })
     } else {

@@ -6,6 +6,7 @@ ghost use Rattle.usb_script.specs.Outcome.{Gives};
 ghost use Rattle.usb_script.specs.Words.{kind_of};
 
 use crate::reading::LineError;
+use crate::words::reads;
 use usb_desc::{Direction, TransferType};
 
 /// The transfer type and the direction of an endpoint that a script opens.
@@ -43,13 +44,13 @@ impl EndpointKind {
     pub(crate) fn parse(word: &[u8]) -> Result<EndpointKind, LineError>
         ensures value { Gives (λ kind. kind) result (kind_of word.now) }
     {
-        if word == b"bulk-in".as_slice() {
+        if reads(word, b"bulk-in") {
             Ok(EndpointKind::BulkIn)
-        } else if word == b"bulk-out".as_slice() {
+        } else if reads(word, b"bulk-out") {
             Ok(EndpointKind::BulkOut)
-        } else if word == b"int-in".as_slice() {
+        } else if reads(word, b"int-in") {
             Ok(EndpointKind::InterruptIn)
-        } else if word == b"int-out".as_slice() {
+        } else if reads(word, b"int-out") {
             Ok(EndpointKind::InterruptOut)
         } else {
             Err(LineError::Malformed)

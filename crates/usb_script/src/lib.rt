@@ -15,8 +15,6 @@ mod reading;
 mod script;
 mod step;
 mod steps;
-#[cfg(test)]
-mod tests;
 mod timeout;
 mod wait;
 mod words;

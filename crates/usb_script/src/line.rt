@@ -15,7 +15,7 @@ use crate::line_bytes::Data;
 use crate::name::Name;
 use crate::reading::{LineError, Reading};
 use crate::steps::steps;
-use crate::words::{byte, skip_spaces, split_words};
+use crate::words::{byte, reads, skip_spaces, split_words};
 use std::alloc::Global;
 
 /// `! STEP ; ..`, `device k B B B B BYTES`, or a call
@@ -24,10 +24,10 @@ fn named_line(alloc: Global, name: &[u8], words: &[&[u8]]) -> Result<Item, LineE
     ensures value { Gives (λ i. i) result (named_of name.now (texts words.now)) }
     ensures few { IfOk result (λ item. steps_in item ≤ length words.now + 1) }
 {
-    if name == b"!".as_slice() {
+    if reads(name, b"!") {
         let steps = steps(alloc, words)?;
         Ok(Item::Steps(steps))
-    } else if name == b"device".as_slice() {
+    } else if reads(name, b"device") {
         let (device, bus, address, speed, configuration, descriptors) = six_words(words)?;
         Ok(Item::Device {
             device: Name::parse(b'k', device)?,
@@ -61,26 +61,34 @@ fn is_printable(line: &[u8]) -> bool
     line.iter().all(|b| 32 <= *b && *b <= 126)
 }
 
-/// The item of a line.
+/// The item of a line, which is split into these words.
 #[tactic(auto, unfolding(crate::specs::LineForms::item_of))]
-fn item_line(alloc: Global, line: &[u8]) -> Result<Item, LineError>
+fn item_line<'a>(
+    alloc: Global,
+    words: &mut Vec<&'a [u8]>,
+    line: &'a [u8],
+) -> Result<Item, LineError>
     ensures value { Gives (λ i. i) result (item_of line.now) }
     ensures few { IfOk result (λ item. steps_in item ≤ length line.now) }
 {
-    let words = split_words(alloc, line)?;
+    split_words(line, words)?;
     form(alloc, words.as_slice())
 }
 
 /// What a line gives that isn't skipped.
 #[tactic(auto, unfolding(crate::specs::LineForms::item_reading_of))]
-fn read_item(alloc: Global, line: &[u8]) -> Result<Reading, LineError>
+fn read_item<'a>(
+    alloc: Global,
+    words: &mut Vec<&'a [u8]>,
+    line: &'a [u8],
+) -> Result<Reading, LineError>
     ensures value { Gives (λ r. r) result (item_reading_of line.now) }
     ensures few { IfOk result (λ reading. steps_read reading ≤ length line.now) }
 {
     if !is_printable(line) {
         return Err(LineError::Malformed);
     }
-    let item = item_line(alloc, line)?;
+    let item = item_line(alloc, words, line)?;
     Ok(Reading::Read(item))
 }
 
@@ -104,22 +112,30 @@ fn is_skipped(line: &[u8]) -> bool
 
 /// What a line without its CR gives.
 #[tactic(auto, unfolding(crate::specs::LineForms::own_reading_of))]
-fn read_own(alloc: Global, line: &[u8]) -> Result<Reading, LineError>
+fn read_own<'a>(
+    alloc: Global,
+    words: &mut Vec<&'a [u8]>,
+    line: &'a [u8],
+) -> Result<Reading, LineError>
     ensures value { Gives (λ r. r) result (own_reading_of line.now) }
     ensures few { IfOk result (λ reading. steps_read reading ≤ length line.now) }
 {
     if is_skipped(line) {
         Ok(Reading::Skipped)
     } else {
-        read_item(alloc, line)
+        read_item(alloc, words, line)
     }
 }
 
-/// What a line gives, which may have a CR at its end.
+/// What a line gives, which may have a CR at its end. It is split into these words, which are used for each line.
 #[tactic(auto, unfolding(crate::specs::LineForms::reading_of))]
-pub fn read_line(alloc: Global, line: &[u8]) -> Result<Reading, LineError>
+pub fn read_line<'a>(
+    alloc: Global,
+    words: &mut Vec<&'a [u8]>,
+    line: &'a [u8],
+) -> Result<Reading, LineError>
     ensures value { Gives (λ r. r) result (reading_of line.now) }
     ensures few { IfOk result (λ reading. steps_read reading ≤ length line.now) }
 {
-    read_own(alloc, without_cr(line))
+    read_own(alloc, words, without_cr(line))
 }

@@ -5,6 +5,7 @@ ghost use Rattle.usb_script.specs.Words.{at_most_bytes, bytes_of};
 ghost use Rattle.usb_script.specs.Outcome.{Gives};
 
 use crate::reading::LineError;
+use crate::words::reads;
 use std::alloc::Global;
 use std::marker::Model;
 use usb_kernel::Bytes;
@@ -63,7 +64,7 @@ impl Data {
     pub(crate) fn parse(alloc: Global, word: &[u8]) -> Result<Data, LineError>
         ensures value { Gives (λ held. held) result (bytes_of word.now) }
     {
-        if word == b"-".as_slice() {
+        if reads(word, b"-") {
             return Ok(Data {
                 bytes: Bytes::from_vec(Vec::new(alloc)),
             });

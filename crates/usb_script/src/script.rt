@@ -103,14 +103,19 @@ fn add_item(items: &mut Vec<Item>, item: Item) -> Result<(), LineError>
     Ok(())
 }
 
-/// The items with those of one more line.
-fn add_line(alloc: Global, items: &mut Vec<Item>, line: &[u8]) -> Result<(), LineError>
+/// The items with those of one more line, which is split into these words.
+fn add_line<'a>(
+    alloc: Global,
+    items: &mut Vec<Item>,
+    words: &mut Vec<&'a [u8]>,
+    line: &'a [u8],
+) -> Result<(), LineError>
     ensures value { Gives (λ _. items.new.items) result (with_line items.old.items line.now) }
     ensures few { OnOk result (length items.new.items ≤ length items.old.items + 1) }
     ensures steps { OnOk result
         (step_count items.new.items ≤ step_count items.old.items + length line.now) }
 {
-    match read_line(alloc, line)? {
+    match read_line(alloc, words, line)? {
         Reading::Skipped => Ok(()),
         Reading::Read(item) => add_item(items, item),
     }
@@ -126,11 +131,12 @@ pub fn parse_script(alloc: Global, bytes: &[u8]) -> Result<Script, SessionError>
         return Err(SessionError::TooLong);
     }
     let mut items = Vec::new(alloc);
+    let mut words = Vec::new(alloc);
     let mut rest = bytes;
     let mut line = 1u32;
     while !rest.is_empty() {
         let (first, after) = first_line(rest);
-        match add_line(alloc, &mut items, first) {
+        match add_line(alloc, &mut items, &mut words, first) {
             Ok(()) => {}
             Err(LineError::Malformed) => return Err(SessionError::Malformed { line }),
             Err(LineError::Memory) => return Err(SessionError::Memory),

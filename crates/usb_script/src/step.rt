@@ -10,7 +10,7 @@ use crate::fields::{no_word, one_word, three_words, two_words};
 use crate::line_bytes::Data;
 use crate::name::Name;
 use crate::reading::LineError;
-use crate::words::{MAX_TIME, call, errno, hex_byte, number};
+use crate::words::{MAX_TIME, call, errno, hex_byte, number, reads};
 use std::alloc::Global;
 use usb_kernel::KernelStep;
 
@@ -38,20 +38,20 @@ fn endpoint_step(alloc: Global, name: &[u8], words: &[&[u8]]) -> Result<KernelSt
     ensures value { Gives (λ s. s) result (endpoint_step_of name.now (texts words.now)) }
     ensures range { IfOk result IsStepInRange }
 {
-    if name == b"pkt".as_slice() {
+    if reads(name, b"pkt") {
         let (device, endpoint, sent) = three_words(words)?;
         Ok(KernelStep::Packet {
             device: Name::parse(b'k', device)?.number(),
             endpoint: hex_byte(endpoint)?,
             bytes: Data::parse(alloc, sent)?.into_bytes(),
         })
-    } else if name == b"ack".as_slice() {
+    } else if reads(name, b"ack") {
         let (device, endpoint) = two_words(words)?;
         Ok(KernelStep::Ack {
             device: Name::parse(b'k', device)?.number(),
             endpoint: hex_byte(endpoint)?,
         })
-    } else if name == b"fail".as_slice() {
+    } else if reads(name, b"fail") {
         let (device, endpoint, code) = three_words(words)?;
         Ok(KernelStep::Fail {
             device: Name::parse(b'k', device)?.number(),
@@ -70,18 +70,18 @@ fn named_step(alloc: Global, name: &[u8], words: &[&[u8]]) -> Result<KernelStep,
     ensures value { Gives (λ s. s) result (step_named name.now (texts words.now)) }
     ensures range { IfOk result IsStepInRange }
 {
-    if name == b"unplug".as_slice() {
+    if reads(name, b"unplug") {
         let device = Name::parse(b'k', one_word(words)?)?.number();
         Ok(KernelStep::Unplug { device })
-    } else if name == b"clock".as_slice() {
+    } else if reads(name, b"clock") {
         let to = number(MAX_TIME, one_word(words)?)?;
         Ok(KernelStep::Clock { to })
-    } else if name == b"timer".as_slice() {
+    } else if reads(name, b"timer") {
         no_word(words)?;
         Ok(KernelStep::Timer)
-    } else if name == b"reap".as_slice() {
+    } else if reads(name, b"reap") {
         reap_step(words)
-    } else if name == b"refuse".as_slice() {
+    } else if reads(name, b"refuse") {
         let (device, kind, code) = three_words(words)?;
         Ok(KernelStep::Refuse {
             device: Name::parse(b'k', device)?.number(),

@@ -8,6 +8,7 @@ ghost use Rattle.usb_script.specs.KernelSteps.{IsFirstPart, steps_of, own_steps_
 use crate::item::Steps;
 use crate::reading::LineError;
 use crate::step::step;
+use crate::words::reads;
 use std::alloc::Global;
 
 /// The words before the first semicolon, and what begins with it.
@@ -17,7 +18,7 @@ fn first_part<'w, 'a>(words: &'w [&'a [u8]]) -> (&'w [&'a [u8]], &'w [&'a [u8]])
     ensures all { length result.0.now + length result.1.now ≡ length words.now }
 {
     for (i, word) in words.iter().enumerate() {
-        if *word == b";".as_slice() {
+        if reads(*word, b";") {
             return words.split_at(i);
         }
     }
@@ -51,7 +52,7 @@ pub fn own_steps(alloc: Global, words: &[&[u8]]) -> Result<Steps, LineError>
     match words {
         [] => Ok(Steps::from_vec(Vec::new(alloc))),
         [colon, behind @ ..] => {
-            if *colon == b":".as_slice() {
+            if reads(*colon, b":") {
                 steps(alloc, behind)
             } else {
                 Err(LineError::Malformed)

@@ -6,7 +6,7 @@ ghost use Rattle.usb_script.specs.Words.{at_most, number_of, time_of};
 ghost use Rattle.usb_script.specs.Outcome.{Gives};
 
 use crate::reading::LineError;
-use crate::words::{MAX_TIME, decimal};
+use crate::words::{MAX_TIME, decimal, reads};
 use std::marker::Model;
 
 /// For how long a call waits at most, in nanoseconds: at most 10^18, or [`u64::MAX`]. A contract
@@ -70,7 +70,7 @@ impl Timeout {
     pub(crate) fn parse(word: &[u8]) -> Result<Timeout, LineError>
         ensures value { Gives (λ timeout. timeout) result (time_of word.now) }
     {
-        if word == b"max".as_slice() {
+        if reads(word, b"max") {
             return Ok(Timeout::max());
         }
         Timeout::from_digits(word).ok_or(LineError::Malformed)

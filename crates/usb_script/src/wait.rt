@@ -14,6 +14,7 @@ use crate::name::Name;
 use crate::reading::LineError;
 use crate::steps::own_steps;
 use crate::timeout::Timeout;
+use crate::words::reads;
 use std::alloc::Global;
 
 /// `wait e TIME`, `xferin e N TIME`, `xferout e BYTES TIME`, and steps
@@ -22,14 +23,14 @@ pub fn wait_call(alloc: Global, name: &[u8], words: &[&[u8]]) -> Result<Item, Li
     ensures value { Gives (λ i. i) result (wait_call_of name.now (texts words.now)) }
     ensures few { IfOk result (λ item. steps_in item ≤ length words.now) }
 {
-    if name == b"wait".as_slice() {
+    if reads(name, b"wait") {
         let (endpoint, timeout, own) = two_and_more(words)?;
         Ok(Item::Wait {
             endpoint: Name::parse(b'e', endpoint)?,
             timeout: Timeout::parse(timeout)?,
             steps: own_steps(alloc, own)?,
         })
-    } else if name == b"xferin".as_slice() {
+    } else if reads(name, b"xferin") {
         let (endpoint, wanted, timeout, own) = three_and_more(words)?;
         Ok(Item::TransferIn {
             endpoint: Name::parse(b'e', endpoint)?,
@@ -37,7 +38,7 @@ pub fn wait_call(alloc: Global, name: &[u8], words: &[&[u8]]) -> Result<Item, Li
             timeout: Timeout::parse(timeout)?,
             steps: own_steps(alloc, own)?,
         })
-    } else if name == b"xferout".as_slice() {
+    } else if reads(name, b"xferout") {
         let (endpoint, sent, timeout, own) = three_and_more(words)?;
         let endpoint = Name::parse(b'e', endpoint)?;
         let bytes = Data::parse(alloc, sent)?;

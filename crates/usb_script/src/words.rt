@@ -1,8 +1,9 @@
 //! Words of a line, and what each of them spells.
 
-ghost use Rattle.std.specs.Prelude.{◌≡◌, ◌<◌, ◌≤◌, ◌≢◌, ℕ, length, slice_index, [], ◌∷◌, IfOk, IfErr, IfSome, IfNone};
+ghost use Rattle.std.specs.Prelude.{◌≡◌, ◌<◌, ◌≤◌, ◌≢◌, ℕ, length, slice_index, [], ◌∷◌, IfOk, OnOk, IfErr, IfSome, IfNone};
 ghost use Rattle.usb_script.specs.declared.reading.LineError.TheVariants.{Memory};
 ghost use Rattle.usb_script.specs.Fields.{texts};
+ghost use Rattle.std.specs.Str.{bytes_eq};
 ghost use Rattle.hex.specs.Hex.{hex_digit_value};
 ghost use Rattle.usb_script.specs.Lines.{words_of, is_skipped};
 ghost use Rattle.usb_script.specs.Outcome.{Gives};
@@ -10,11 +11,18 @@ ghost use Rattle.usb_script.specs.Words.{digits_after, decimal_of, number_of, nu
 ghost use Rattle.usb_kernel.specs.Submissions.{IsErrno};
 
 use crate::reading::LineError;
-use std::alloc::Global;
 use usb_kernel::KernelCall;
 
 /// The latest time, and the longest that a call waits but for `max`, in nanoseconds.
 pub const MAX_TIME: u64 = 1_000_000_000_000_000_000;
+
+/// Whether a word reads so. Most words differ by their lengths alone, and the compiler knows that of a text.
+#[inline(always)]
+pub fn reads(word: &[u8], text: &[u8]) -> bool
+    ensures value { result ≡ bytes_eq word.now text.now }
+{
+    word.len() == text.len() && word == text
+}
 
 /// The line without the spaces before its first word.
 pub fn skip_spaces(line: &[u8]) -> &[u8]
@@ -58,19 +66,19 @@ fn next_word(line: &[u8]) -> Option<(&[u8], &[u8])>
     Some(rest.split_at(len))
 }
 
-/// The words of a line.
-pub fn split_words(alloc: Global, line: &[u8]) -> Result<Vec<&[u8]>, LineError>
-    ensures value { IfOk result (λ words. texts words.items ≡ words_of line.now) }
-    ensures few { IfOk result (λ words. length words.items ≤ length line.now) }
+/// The words of a line, in place of those that are there.
+pub fn split_words<'a>(line: &'a [u8], words: &mut Vec<&'a [u8]>) -> Result<(), LineError>
+    ensures value { OnOk result (texts words.new.items ≡ words_of line.now) }
+    ensures few { OnOk result (length words.new.items ≤ length line.now) }
     ensures only { IfErr result (λ e. e ≡ Memory) }
 {
-    let mut words = Vec::new(alloc);
+    words.clear();
     let mut rest = line;
     while let Some((word, after)) = next_word(rest) {
         words.push(word)?;
         rest = after;
     }
-    Ok(words)
+    Ok(())
 }
 
 /// The number that the digits make.
@@ -187,7 +195,7 @@ pub fn errno(word: &[u8]) -> Result<u16, LineError>
 pub fn call(word: &[u8]) -> Result<KernelCall, LineError>
     ensures value { Gives (λ c. c) result (call_of word.now) }
 {
-    if word == b"submit".as_slice() {
+    if reads(word, b"submit") {
         Ok(KernelCall::Submit)
     } else {
         Err(LineError::Malformed)

@@ -15,12 +15,6 @@ Appends_more (Some xs1) None c xs ys p q = absurd p
 Appends_more (Some xs1) (Some xs2) None xs ys p q = absurd q
 Appends_more (Some xs1) (Some xs2) (Some xs3) xs ys p q = rw (q, p) (append_assoc xs1 xs ys)
 
-Appends_kept : (a b c : Option (List ℕ)) (xs : List ℕ) → Appends a b xs → Keeps b c → Appends a c xs
-Appends_kept None b c xs p q = tt
-Appends_kept (Some xs1) None c xs p q = absurd p
-Appends_kept (Some xs1) (Some xs2) None xs p q = absurd q
-Appends_kept (Some xs1) (Some xs2) (Some xs3) xs p q = q ∙ p
-
 pub Wrote_none : (old : Option (List ℕ)) (whole : List ℕ) → Wrote old old whole whole
 Wrote_none old whole = record { done = []; appended = Appends_none old; complete = refl }
 
@@ -28,10 +22,6 @@ Wrote_none old whole = record { done = []; appended = Appends_none old; complete
 pub Wrote_more : {old mid : Option (List ℕ)} {whole left : List ℕ} (new : Option (List ℕ)) (piece rest : List ℕ) → Wrote old mid whole left → Appends mid new piece → piece ++ rest ≡ left → Wrote old new whole rest
 Wrote_more {old = old} {mid = mid} new piece rest w a e =
     record { done = w.done ++ piece; appended = Appends_more old mid new w.done piece w.appended a; complete = append_assoc w.done piece rest ∙ ap (λ (x : List ℕ). w.done ++ x) e ∙ w.complete }
-
-pub Wrote_kept : {old mid : Option (List ℕ)} {whole left : List ℕ} (new : Option (List ℕ)) → Wrote old mid whole left → Keeps mid new → Wrote old new whole left
-Wrote_kept {old = old} {mid = mid} new w k =
-    record { done = w.done; appended = Appends_kept old mid new w.done w.appended k; complete = w.complete }
 
 pub Wrote_all : {old new : Option (List ℕ)} {whole left : List ℕ} → Wrote old new whole left → left ≡ [] → Appends old new whole
 Wrote_all {old = old} {new = new} w none =

@@ -21,7 +21,7 @@ use Rattle.usb_answers.specs.Relation.{Represents}
 use Rattle.usb_answers.specs.Sums.{counts_of, sum_of}
 use Rattle.usb_answers.specs.Accounts.{Accounted}
 use Rattle.usb_answers.proofs.AccountLemmas.{accounted-start, accounted-answer}
-use Rattle.usb_answers.proofs.FateLemmas.{fate_lines_from-step, fate_lines_from-end, fate_lines-all}
+use Rattle.usb_answers.proofs.FateLemmas.{fate_lines_from-step, fate_lines-all}
 use Rattle.usb_session.specs.Causes.{Wrote, WrotePrefix}
 use Rattle.usb_session.specs.Running.{AllAnswered}
 use Rattle.usb_session.proofs.OutsideLemmas.{Wrote_none, Wrote_more, Wrote_all, Wrote_prefix}
@@ -62,10 +62,6 @@ running-cut new s next item items line run answered cut =
 -- memory was wanting before the first line
 pub running-none : (old : Option (List ℕ)) (whole : List ℕ) → WrotePrefix old old whole
 running-none old whole = (whole, Wrote_none old whole)
-
--- memory was wanting between two lines
-pub running-stopped : {old new : Option (List ℕ)} {s : SessionState} {items : List Item} {whole : List ℕ} {last : HostState} → Running old new s items whole last → WrotePrefix old new whole
-running-stopped {items = items} run = (output_from run.now items, run.wrote)
 
 -- all items are answered
 pub running-done : {old new : Option (List ℕ)} (s : SessionState) (items : List Item) → Running old new s [] (output items) (final_host items) → AllAnswered old new s items
@@ -118,6 +114,3 @@ pub fates-cut : {old mid : Option (List ℕ)} (new : Option (List ℕ)) (h : Hos
 fates-cut new h t n line below all is wrote cut =
     let within : t < length (tickets h.kernel.past) = omega arith in
     Wrote_prefix new line (fate_lines_from h (t + 1) (length (tickets h.kernel.past) - (t + 1))) wrote cut (rw is (sym (fate_lines_from-step h t (length (tickets h.kernel.past)) within)))
-
-pub fates-end : {old new : Option (List ℕ)} (h : HostState) (t : ℕ) → length (tickets h.kernel.past) ≡ t → Wrote old new (fate_lines h) (fate_lines_from h t (length (tickets h.kernel.past) - t)) → Appends old new (fate_lines h)
-fates-end h t all wrote = Wrote_all wrote (fate_lines_from-end h t (length (tickets h.kernel.past)) all)

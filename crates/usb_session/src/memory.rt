@@ -34,7 +34,12 @@ impl Model for MemSource {
 
 impl MemSource {
     pub fn new(bytes: Vec<u8>, fail_at: Vec<u64>) -> MemSource
-        ensures fresh { result ≡ record { rest = bytes.items; calls = 0; fail_at = fail_at.items; faults = 0 } }
+        ensures fresh { result ≡ record {
+          rest = bytes.items;
+          calls = 0;
+          fail_at = fail_at.items;
+          faults = 0;
+        } }
     {
         MemSource {
             bytes,
@@ -98,7 +103,13 @@ impl Model for MemSink {
 
 impl MemSink {
     pub fn new(alloc: Global, room: usize, fail_at: Vec<u64>) -> Result<MemSink, NoMemory>
-        ensures empty { IfOk result (λ s. s ≡ record { bytes = []; room = room; calls = 0; fail_at = fail_at.items; faults = 0 }) }
+        ensures empty { IfOk result (λ s. s ≡ record {
+          bytes = [];
+          room = room;
+          calls = 0;
+          fail_at = fail_at.items;
+          faults = 0;
+        }) }
     {
         let Ok(bytes) = Vec::with_capacity(alloc, room) else {
             return Err(NoMemory);

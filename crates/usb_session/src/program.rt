@@ -135,8 +135,8 @@ pub fn lack_memory<D: Sink>(diag: &mut D) -> u8
     status_of(&answer)
 }
 
-/// Ends a run of this status, and answers the program's: the sink hands on what it still holds. Where that fails of a run
-/// that was done, writing failed, which is reported; any other status stays.
+/// Ends a run that has this status, and answers the status of the program: the sink hands on what it still holds. Where
+/// that fails and the status was 0, it is 6, and the write fault is reported; any other status stays.
 pub fn end_program<K: Gathers, D: Sink>(status: u8, sink: &mut K, diag: &mut D) -> u8
     ensures stays { status ≢ 0 → (result ≡ status) × (diag.new ≡ diag.old) }
     ensures done { result ≡ 0 → K.is_handed_on sink.new × (diag.new ≡ diag.old) }
@@ -169,7 +169,7 @@ pub fn run_program<R: Threads + Wait + Sync, S: Source, K: Sink, D: Sink, G: Gat
     ensures usage { result ≡ 2 ↔ (is_usage (map string_bytes words.now.items) ≡ true) }
     ensures usage_line { result ≡ 2 → Reports (D.written diag.old) (D.written diag.new)
         (D.faults diag.old) (D.faults diag.new) usage_line }
-    // Nothing is read where no session is asked for, and nothing is written where the words ask for nothing.
+    // Nothing is read where no session is asked for, and nothing is written where the usage line is due.
     ensures unread { is_session (map string_bytes words.now.items) ≡ false →
         source.new ≡ source.old }
     ensures unwritten { is_usage (map string_bytes words.now.items) ≡ true → sink.new ≡ sink.old }
@@ -179,7 +179,7 @@ pub fn run_program<R: Threads + Wait + Sync, S: Source, K: Sink, D: Sink, G: Gat
     ensures live { (n : ℕ) → live_count (map string_bytes words.now.items) ≡ Some n →
         RunsLive n (K.written sink.old) (K.written sink.new) (K.faults sink.old) (K.faults sink.new)
         (D.written diag.old) (D.written diag.new) (D.faults diag.old) (D.faults diag.new) result }
-    // Of a session: the whole output was written exactly where the status is 0.
+    // Of a session: where the status is 0, the whole output was written.
     ensures done { is_session (map string_bytes words.now.items) ≡ true → result ≡ 0 →
         (summary : Summary) × IsAnswered
         (streams S.left S.faults K.written K.faults source.old source.new sink.old sink.new)
@@ -210,7 +210,7 @@ pub fn run_program<R: Threads + Wait + Sync, S: Source, K: Sink, D: Sink, G: Gat
     ensures stops { result ≡ 5 →
         FailedLast (S.faults source.old) (S.faults source.new) (S.has_failed source.new) }
     ensures most { TookAtMost 1048577 (S.left source.old) (S.left source.new) }
-    // A valid script is answered, unless memory runs out.
+    // A valid script, whose source tells its bytes, is answered where no read or write fails, unless memory runs out.
     ensures complete { is_session (map string_bytes words.now.items) ≡ true →
         IsSmooth
         (streams S.left S.faults K.written K.faults source.old source.new sink.old sink.new)

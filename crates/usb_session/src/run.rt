@@ -165,7 +165,7 @@ pub fn run_session<S: Source, K: Sink>(
         (streams S.left S.faults K.written K.faults source.old source.new sink.old sink.new) }
     // Each ticket was taken, dropped or reclaimed.
     ensures ends { IfOk result (λ s. s.taken + s.dropped + s.reclaimed ≡ s.tickets) }
-    // A valid script is answered, unless memory runs out.
+    // A valid script, whose source tells its bytes, is answered where no read or write fails, unless memory runs out.
     ensures complete { IsSmooth
         (streams S.left S.faults K.written K.faults source.old source.new sink.old sink.new) →
         IfErr result (λ e. e ≡ SessionError.Memory) }

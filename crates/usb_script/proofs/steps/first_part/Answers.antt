@@ -2,8 +2,8 @@ use Rattle.std.proofs.Common.{[], arith, rules}
 use Rattle.usb_script.proofs.StepsOfLine.{first_part_at}
 use Rattle.usb_script.proofs.steps.first_part.Goals as goal
 
-pub returns-then-eq-clause-parts : goal.returns-then-eq-clause-parts
-returns-then-eq-clause-parts c =
+pub returns-then-reads-clause-parts : goal.returns-then-reads-clause-parts
+returns-then-reads-clause-parts c =
     rw (c.split_at.ensures.front, c.split_at.ensures.back)
     (first_part_at c.args.words.now c.loop-i.i (record { ref_ptr = (0, 0); now = [] }) (omega arith) c.loop-i.invariant (λ _. search rules))
 

@@ -8,7 +8,7 @@ use Rattle.usb_answers.specs.Claims.{claim_answer}
 use Rattle.usb_answers.specs.SessionState.{SessionState}
 use Rattle.usb_answers.specs.SessionFacts.{made_of}
 use Rattle.usb_answers.proofs.NameLemmas.{found_at, free_at}
-use Rattle.usb_answers.proofs.Telling.{answers, answers-same, same-host}
+use Rattle.usb_answers.proofs.Answering.{answers, answers-same, same-host}
 use Rattle.usb_answers.proofs.Interfaces.{claim-sound, claim-gives, claim-refused, claim-none, claim-used, claim-spare}
 use Rattle.usb_answers.proofs.session.Session.claim.Goals as goal
 

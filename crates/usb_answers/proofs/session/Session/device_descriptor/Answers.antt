@@ -6,7 +6,7 @@ use Rattle.usb_device.proofs.LedgerLemmas.{some-at}
 use Rattle.usb_answers.specs.Describes.{device_descriptor_answer}
 use Rattle.usb_answers.specs.SessionFacts.{made_of}
 use Rattle.usb_answers.proofs.NameLemmas.{found_at}
-use Rattle.usb_answers.proofs.Telling.{answers-same}
+use Rattle.usb_answers.proofs.Answering.{answers-same}
 use Rattle.usb_answers.proofs.Devices.{asked-none, asked-some}
 use Rattle.usb_answers.proofs.session.Session.device_descriptor.Goals as goal
 

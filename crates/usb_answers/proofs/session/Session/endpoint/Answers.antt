@@ -7,7 +7,7 @@ use Rattle.usb_answers.specs.Names.{set_name}
 use Rattle.usb_answers.specs.SessionState.{SessionState}
 use Rattle.usb_answers.specs.SessionFacts.{made_of}
 use Rattle.usb_answers.proofs.NameLemmas.{found_at, free_at, map-set, is_free-map}
-use Rattle.usb_answers.proofs.Telling.{answers, answers-same}
+use Rattle.usb_answers.proofs.Answering.{answers, answers-same}
 use Rattle.usb_answers.proofs.EndpointOpened.{endpoint-sound, endpoint-gives, endpoint-refused, endpoint-none, endpoint-used, asked-sound, asked-spare, opened-spare}
 use Rattle.usb_answers.proofs.session.Session.endpoint.Goals as goal
 

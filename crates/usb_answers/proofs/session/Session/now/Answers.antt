@@ -3,7 +3,7 @@ use Rattle.usb_kernel.specs.Value.{KernelState}
 use Rattle.usb_lines.specs.Completions.{now_line}
 use Rattle.usb_answers.specs.Now.{now_answer}
 use Rattle.usb_answers.specs.SessionState.{SessionState}
-use Rattle.usb_answers.proofs.Telling.{answers-same}
+use Rattle.usb_answers.proofs.Answering.{answers-same}
 use Rattle.usb_answers.proofs.session.Session.now.Goals as goal
 
 pub returns : goal.returns

@@ -5,7 +5,7 @@ use Rattle.usb_answers.specs.Opens.{open_answer}
 use Rattle.usb_answers.specs.SessionState.{SessionState}
 use Rattle.usb_answers.specs.SessionFacts.{made_of}
 use Rattle.usb_answers.proofs.NameLemmas.{free_at}
-use Rattle.usb_answers.proofs.Telling.{answers, answers-same, same-host}
+use Rattle.usb_answers.proofs.Answering.{answers, answers-same, same-host}
 use Rattle.usb_answers.proofs.Devices.{open-sound, open-gives, open-refused, open-barred, open-spare}
 use Rattle.usb_answers.proofs.session.Session.open.Goals as goal
 
