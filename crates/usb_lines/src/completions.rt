@@ -1,10 +1,11 @@
 //! The lines of completions, and of what else a queue tells.
 
-ghost use Rattle.std.specs.Prelude.{◌≡◌, ◌++◌, OnOk, string_bytes};
+ghost use Rattle.std.specs.Prelude.{◌≡◌, ◌++◌, OnOk, decimal, string_bytes};
 ghost use Rattle.usb_xfer.specs.TransferTexts.{word_of_status};
 ghost use Rattle.usb_lines.specs.Completions.{done_line, polled_line, waited_line, count_line, now_line};
+ghost use Rattle.usb_lines.specs.Words.{part};
 
-use crate::words::push_bytes;
+use crate::words::{end_line, push_bytes, push_number, push_number_part, push_space};
 use usb_desc::NoMemory;
 use usb_xfer::{Completion, TransferError};
 
@@ -20,9 +21,23 @@ pub fn push_status(out: &mut String, status: &Result<(), TransferError>) -> Resu
         Err(TransferError::Disconnected) => out.push_str("disconnected")?,
         Err(TransferError::Fault) => out.push_str("fault")?,
         Err(TransferError::InvalidArgument) => out.push_str("invalid")?,
-        Err(TransferError::Unknown(code)) => write!(out, "unknown:{code}")?,
+        Err(TransferError::Unknown(code)) => {
+            out.push_str("unknown:")?;
+            push_number(out, u64::from(*code))?;
+        }
     }
     Ok(())
+}
+
+/// Appends the transferred and the requested length, each with a space before it.
+fn push_lengths(out: &mut String, done: &Completion) -> Result<(), NoMemory>
+    ensures text { OnOk result (string_bytes out.new ≡ string_bytes out.old
+        ++ part (decimal done.now.actual_len) ++ part (decimal done.now.buffer.requested)) }
+{
+    let count = done.actual_len;
+    let requested = done.buffer.requested_len();
+    push_number_part(out, count as u64)?;
+    push_number_part(out, requested as u64)
 }
 
 #[tactic(auto, unfolding(crate::specs::Completions::done_line))]
@@ -31,12 +46,10 @@ fn write_done(out: &mut String, done: &Completion) -> Result<(), NoMemory>
 {
     out.push_str("done ")?;
     push_status(out, &done.status)?;
-    let count = done.actual_len;
-    let requested = done.buffer.requested_len();
-    write!(out, " {count} {requested} ")?;
+    push_lengths(out, done)?;
+    push_space(out)?;
     push_bytes(out, done.buffer.as_slice())?;
-    out.push_str("\n")?;
-    Ok(())
+    end_line(out)
 }
 
 /// Appends the answer of a poll: a completion, or `pending`.
@@ -72,8 +85,9 @@ pub fn write_waited(out: &mut String, done: &Option<Completion>) -> Result<(), N
 pub fn write_count(out: &mut String, count: usize) -> Result<(), NoMemory>
     ensures text { OnOk result (string_bytes out.new ≡ string_bytes out.old ++ count_line count) }
 {
-    write!(out, "count {count}\n")?;
-    Ok(())
+    out.push_str("count")?;
+    push_number_part(out, count as u64)?;
+    end_line(out)
 }
 
 /// Appends the clock in nanoseconds.
@@ -81,6 +95,7 @@ pub fn write_count(out: &mut String, count: usize) -> Result<(), NoMemory>
 pub fn write_now(out: &mut String, clock: u64) -> Result<(), NoMemory>
     ensures text { OnOk result (string_bytes out.new ≡ string_bytes out.old ++ now_line clock) }
 {
-    write!(out, "now {clock}\n")?;
-    Ok(())
+    out.push_str("now")?;
+    push_number_part(out, clock)?;
+    end_line(out)
 }

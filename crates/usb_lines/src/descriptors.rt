@@ -1,10 +1,14 @@
 //! The line of a device's configurations.
 
-ghost use Rattle.std.specs.Prelude.{◌≡◌, ◌++◌, OnOk, string_bytes, drop, flat_map};
+ghost use Rattle.std.specs.Prelude.{◌≡◌, ◌++◌, OnOk, decimal, string_bytes, drop, flat_map};
 ghost use Rattle.usb_desc.specs.Configurations.{configurations};
-ghost use Rattle.usb_lines.specs.Descriptors.{type_word, endpoint_part, class_words, setting_part, interface_part, configuration_part, descriptors_line};
+ghost use Rattle.usb_desc.specs.Fields.{address, transfer_type, max_packet_size, interval};
+ghost use Rattle.usb_lines.specs.Descriptors.{type_word, endpoint_part, number_word, class_words, setting_part, interface_part, configuration_part, descriptors_line};
+ghost use Rattle.usb_lines.specs.Words.{part, two_digits};
 
-use crate::words::{push_class_code, push_two_digits};
+use crate::words::{
+    end_line, push_class_code, push_number, push_number_part, push_space, push_two_digits,
+};
 use usb_desc::{
     ConfigurationDescriptor, EndpointDescriptor, InterfaceDescriptor, InterfaceDescriptors,
     NoMemory, TransferType, concatenated,
@@ -21,19 +25,49 @@ fn type_word(kind: TransferType) -> &'static str
     }
 }
 
+/// Appends the address and the type of an endpoint, each with a space before it.
+fn push_address(out: &mut String, endpoint: &EndpointDescriptor) -> Result<(), NoMemory>
+    ensures text { OnOk result (string_bytes out.new ≡ string_bytes out.old
+        ++ part (two_digits (address endpoint.now))
+        ++ part (type_word (transfer_type endpoint.now))) }
+{
+    push_space(out)?;
+    push_two_digits(out, endpoint.address())?;
+    push_space(out)?;
+    out.push_str(type_word(endpoint.transfer_type()))?;
+    Ok(())
+}
+
+/// Appends the maximum packet size and the interval of an endpoint, each with a space before it.
+fn push_sizes(out: &mut String, endpoint: &EndpointDescriptor) -> Result<(), NoMemory>
+    ensures text { OnOk result (string_bytes out.new ≡ string_bytes out.old
+        ++ part (decimal (max_packet_size endpoint.now))
+        ++ part (decimal (interval endpoint.now))) }
+{
+    let maximum = endpoint.max_packet_size();
+    push_number_part(out, maximum as u64)?;
+    push_number_part(out, u64::from(endpoint.interval()))
+}
+
 /// Appends an endpoint: ` ep HH TYPE MAX INTERVAL`.
 #[tactic(auto, unfolding(crate::specs::Descriptors::endpoint_words))]
 fn push_endpoint(out: &mut String, endpoint: &EndpointDescriptor) -> Result<(), NoMemory>
     ensures text { OnOk result
         (string_bytes out.new ≡ string_bytes out.old ++ endpoint_part endpoint.now) }
 {
-    out.push_str(" ep ")?;
-    push_two_digits(out, endpoint.address())?;
-    let kind = type_word(endpoint.transfer_type());
-    let maximum = endpoint.max_packet_size();
-    let interval = endpoint.interval();
-    write!(out, " {kind} {maximum} {interval}")?;
-    Ok(())
+    out.push_str(" ep")?;
+    push_address(out, endpoint)?;
+    push_sizes(out, endpoint)
+}
+
+/// Appends the numbers of a setting's interface and of the setting, with a dot between them.
+fn push_numbers(out: &mut String, setting: &InterfaceDescriptor) -> Result<(), NoMemory>
+    ensures text { OnOk result
+        (string_bytes out.new ≡ string_bytes out.old ++ number_word setting.now) }
+{
+    push_number(out, u64::from(setting.interface_number()))?;
+    out.push_str(".")?;
+    push_number(out, u64::from(setting.alternate_setting()))
 }
 
 /// Appends a setting without its endpoints.
@@ -42,9 +76,9 @@ fn push_class(out: &mut String, setting: &InterfaceDescriptor) -> Result<(), NoM
     ensures text { OnOk result
         (string_bytes out.new ≡ string_bytes out.old ++ class_words setting.now) }
 {
-    let number = setting.interface_number();
-    let alternate = setting.alternate_setting();
-    write!(out, "if {number}.{alternate} ")?;
+    out.push_str("if ")?;
+    push_numbers(out, setting)?;
+    push_space(out)?;
     push_class_code(out, setting.class(), setting.subclass(), setting.protocol())?;
     Ok(())
 }
@@ -56,7 +90,7 @@ fn push_setting(out: &mut String, setting: &InterfaceDescriptor) -> Result<(), N
     ensures text { OnOk result
         (string_bytes out.new ≡ string_bytes out.old ++ setting_part setting.now) }
 {
-    out.push_str(" ")?;
+    push_space(out)?;
     push_class(out, setting)?;
     for endpoint in setting.endpoints() {
         push_endpoint(out, &endpoint)?;
@@ -84,8 +118,8 @@ fn push_configuration(
     ensures text { OnOk result
         (string_bytes out.new ≡ string_bytes out.old ++ configuration_part configuration.now) }
 {
-    let value = configuration.configuration_value();
-    write!(out, " cfg {value}")?;
+    out.push_str(" cfg")?;
+    push_number_part(out, u64::from(configuration.configuration_value()))?;
     for interface in configuration.interfaces(*out.allocator())? {
         push_interface(out, &interface)?;
     }
@@ -127,6 +161,5 @@ pub fn write_descriptors(out: &mut String, bytes: &[u8]) -> Result<(), NoMemory>
 {
     out.push_str("desc")?;
     push_configurations(out, bytes)?;
-    out.push_str("\n")?;
-    Ok(())
+    end_line(out)
 }

@@ -1,21 +1,21 @@
-use Rattle.std.proofs.Common.{◌≡◌, ℕ, ◌+◌, ◌/◌, ◌%◌, ◌<◌, List, [], ◌∷◌, ◌++◌, length, drop, slice_index, arith, append_assoc, suc, ap, ◌∙◌}
+use Rattle.std.proofs.Common.{◌≡◌, ℕ, ◌/◌, ◌%◌, List, [], ◌∷◌, ◌++◌, take, drop, slice_index, append_assoc, refl, ap, ◌∙◌}
 use Rattle.std.specs.Prelude.{string_bytes}
-use Rattle.std.proofs.Math.Seq.{drop-cons}
+use Rattle.std.proofs.lemmas.List.{take-append-drop}
 use Rattle.hex.specs.Hex.{encode_with, encode_lower, lower_digits}
 use Rattle.usb_lines.proofs.words.push_hex.Goals as goal
 
--- the digits of one byte more
-one_more : (text bytes after : List ℕ) (i a b : ℕ) → i < length bytes → a ≡ slice_index lower_digits (slice_index bytes i / 16) → b ≡ slice_index lower_digits (slice_index bytes i % 16) → after ≡ (text ++ a ∷ []) ++ b ∷ [] → after ++ encode_lower (drop (i + 1) bytes) ≡ text ++ encode_lower (drop i bytes)
+encode_with-append : (t xs ys : List ℕ) → encode_with t (xs ++ ys) ≡ encode_with t xs ++ encode_with t ys
 unfolding encode_with
-one_more text bytes after i a b within high low is =
-    let next : i + 1 ≡ suc i = omega arith in
-    rw (is, high, low, next, drop-cons bytes i 0 within) (simp append_assoc)
+encode_with-append t [] ys = refl
+encode_with-append t (x ∷ xs) ys =
+    ap (λ l. slice_index t (x / 16) ∷ slice_index t (x % 16) ∷ l) (encode_with-append t xs ys)
 
-pub loop-byte-preserved : goal.loop-byte-preserved
-loop-byte-preserved c =
-    let text = string_bytes c.loop-byte.out in
-    let high = c.in_ok-push.ensures.bytes ∙ ap (λ l. text ++ l) (c.push.ensures.ascii c.digit.ensures.ascii) in
-    let low = c.in_ok-push-2.ensures.bytes ∙ ap (λ l. string_bytes c.push.new.self ++ l) (c.push-in-loop-byte.ensures.ascii c.digit-in-loop-byte.ensures.ascii) in
-    one_more text c.args.bytes.now (string_bytes c.push-in-loop-byte.new.self) c.loop-byte.byte-index c.digit.result c.digit-in-loop-byte.result c.loop-byte-test.true c.digit.ensures.digit c.digit-in-loop-byte.ensures.digit
-    (low ∙ ap (λ l. l ++ c.digit-in-loop-byte.result ∷ []) high)
-    ∙ c.loop-byte.invariant
+-- the digits of one part more
+one_more : (text after left part behind : List ℕ) → after ≡ text ++ encode_lower part → part ≡ take 32 left → behind ≡ drop 32 left → after ++ encode_lower behind ≡ text ++ encode_lower left
+one_more text after left part behind is front back =
+    rw (is, front, back, append_assoc, ← encode_with-append lower_digits (take 32 left) (drop 32 left), take-append-drop 32 left)
+
+pub loop-left-preserved : goal.loop-left-preserved
+loop-left-preserved c =
+    one_more (string_bytes c.loop-left.out) (string_bytes c.push_hex_part.new.out) c.loop-left.left.now c.split_at.result.0.now c.split_at.result.1.now c.in_ok-push_hex_part.ensures.text c.split_at.ensures.front c.split_at.ensures.back
+    ∙ c.loop-left.invariant
