@@ -3,7 +3,7 @@ use Rattle.std.specs.Prelude.{ℕ, List, [], ◌∷◌, nat_eq, if◌then◌else
 use Rattle.usb_error.specs.declared.kind.ErrorKind.{ErrorKind}
 use Rattle.usb_error.specs.declared.kind.ErrorKind.TheVariants.{Disconnected, Busy, PermissionDenied as denied, NotFound, Other}
 use Rattle.usb_error.specs.declared.message.Message.{Message}
-use Rattle.usb_error.specs.declared.message.Message.TheVariants.{DeviceNotFound, DeviceDisconnected, PermissionDenied, FailedToOpenDevice, FailedToReadDescriptors, InvalidDeviceDescriptor, FailedToReadConfigurationValue, InterfaceNotFound, InterfaceIsBusy, FailedToClaimInterface, NoSuchEndpoint, IncorrectEndpointDirection, IncorrectEndpointType, EndpointHasNoPacketSize, EndpointAlreadyInUse, ListingNotFound, ListingDenied, FailedToOpenListing}
+use Rattle.usb_error.specs.declared.message.Message.TheVariants.{DeviceNotFound, DeviceDisconnected, PermissionDenied, FailedToOpenDevice, FailedToReadDescriptors, InvalidDeviceDescriptor, FailedToReadConfigurationValue, ConfigurationNotFound, DeviceIsBusy, FailedToSetConfiguration, FailedToResetDevice, InterfaceNotFound, InterfaceIsBusy, FailedToClaimInterface, NoKernelDriverAttached, FailedToDetachKernelDriver, KernelDriverAlreadyAttached, FailedToAttachKernelDriver, AlternateSettingNotFound, FailedToSetAlternateSetting, FailedToClearHalt, EndpointsAreInUse, InterfaceStillInUse, NoSuchEndpoint, IncorrectEndpointDirection, IncorrectEndpointType, EndpointHasNoPacketSize, EndpointAlreadyInUse, ListingNotFound, ListingDenied, FailedToOpenListing}
 use Rattle.usb_error.specs.ErrorState.{ErrorState, coded, plain}
 
 -- a table of the errnos that have an error of their own, each with its kind and its message
@@ -31,6 +31,25 @@ open_error errno = error_in open_table FailedToOpenDevice errno
 abbrev pub read_descriptors_error : ℕ → ErrorState
 read_descriptors_error errno = coded Other FailedToReadDescriptors errno
 
+-- setting a configuration: ENODEV, the device is gone; EINVAL, it has no such configuration;
+-- EBUSY, it is in use
+abbrev pub set_configuration_table : ErrorTable
+set_configuration_table =
+    (19, Disconnected, DeviceDisconnected)
+    ∷ (22, NotFound, ConfigurationNotFound)
+    ∷ (16, Busy, DeviceIsBusy)
+    ∷ []
+
+abbrev pub set_configuration_error : ℕ → ErrorState
+set_configuration_error errno = error_in set_configuration_table FailedToSetConfiguration errno
+
+-- resetting a device: ENODEV, it is gone; EBUSY, it is in use
+abbrev pub reset_table : ErrorTable
+reset_table = (19, Disconnected, DeviceDisconnected) ∷ (16, Busy, DeviceIsBusy) ∷ []
+
+abbrev pub reset_error : ℕ → ErrorState
+reset_error errno = error_in reset_table FailedToResetDevice errno
+
 -- claiming an interface: ENODEV, the device is gone; EINVAL and ENOENT, there is no such interface;
 -- EBUSY, it is in use
 abbrev pub claim_table : ErrorTable
@@ -44,6 +63,46 @@ claim_table =
 abbrev pub claim_error : ℕ → ErrorState
 claim_error errno = error_in claim_table FailedToClaimInterface errno
 
+-- detaching a kernel driver: ENODEV, the device is gone; EINVAL, there is no such interface;
+-- ENODATA, it has no driver
+abbrev pub detach_table : ErrorTable
+detach_table =
+    (19, Disconnected, DeviceDisconnected)
+    ∷ (22, NotFound, InterfaceNotFound)
+    ∷ (61, Other, NoKernelDriverAttached)
+    ∷ []
+
+abbrev pub detach_error : ℕ → ErrorState
+detach_error errno = error_in detach_table FailedToDetachKernelDriver errno
+
+-- attaching a kernel driver: ENODEV, the device is gone; EINVAL, there is no such interface;
+-- EBUSY, it has a driver
+abbrev pub attach_table : ErrorTable
+attach_table =
+    (19, Disconnected, DeviceDisconnected)
+    ∷ (22, NotFound, InterfaceNotFound)
+    ∷ (16, Busy, KernelDriverAlreadyAttached)
+    ∷ []
+
+abbrev pub attach_error : ℕ → ErrorState
+attach_error errno = error_in attach_table FailedToAttachKernelDriver errno
+
+-- setting an alternate setting: ENODEV, the device is gone; EINVAL, the interface has no such
+-- setting
+abbrev pub alt_setting_table : ErrorTable
+alt_setting_table =
+    (19, Disconnected, DeviceDisconnected) ∷ (22, NotFound, AlternateSettingNotFound) ∷ []
+
+abbrev pub alt_setting_error : ℕ → ErrorState
+alt_setting_error errno = error_in alt_setting_table FailedToSetAlternateSetting errno
+
+-- clearing a halt: ENODEV, the device is gone
+abbrev pub clear_halt_table : ErrorTable
+clear_halt_table = (19, Disconnected, DeviceDisconnected) ∷ []
+
+abbrev pub clear_halt_error : ℕ → ErrorState
+clear_halt_error errno = error_in clear_halt_table FailedToClearHalt errno
+
 -- reading the active configuration while a device is opened, whatever the errno
 abbrev pub configuration_error : ErrorState
 configuration_error = plain Other FailedToReadConfigurationValue
@@ -51,6 +110,14 @@ configuration_error = plain Other FailedToReadConfigurationValue
 -- the device's own descriptor is invalid
 abbrev pub invalid_device_descriptor_error : ErrorState
 invalid_device_descriptor_error = plain Other InvalidDeviceDescriptor
+
+-- an endpoint of the interface is open, and its alternate setting is to be set
+abbrev pub settings_in_use_error : ErrorState
+settings_in_use_error = plain Busy EndpointsAreInUse
+
+-- the interface has another owner, and is to be released
+abbrev pub interface_in_use_error : ErrorState
+interface_in_use_error = plain Busy InterfaceStillInUse
 
 -- asking for an endpoint: these are looked at in this order
 abbrev pub no_endpoint_error : ErrorState

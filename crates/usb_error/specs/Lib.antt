@@ -4,3 +4,8 @@ pub mod ErrorState
 pub mod Errors
 pub mod Texts
 pub mod Outcomes
+pub mod Active
+pub mod DescriptorErrors
+pub mod FaultState
+pub mod IoKinds
+pub mod Faults

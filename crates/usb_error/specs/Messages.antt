@@ -1,7 +1,7 @@
 -- The text of a message.
 use Rattle.std.specs.Prelude.{ℕ, List, codes}
 use Rattle.usb_error.specs.declared.message.Message.{Message}
-use Rattle.usb_error.specs.declared.message.Message.TheVariants.{DeviceNotFound, DeviceDisconnected, PermissionDenied, FailedToOpenDevice, FailedToReadDescriptors, InvalidDeviceDescriptor, FailedToReadConfigurationValue, InterfaceNotFound, InterfaceIsBusy, FailedToClaimInterface, NoSuchEndpoint, IncorrectEndpointDirection, IncorrectEndpointType, EndpointHasNoPacketSize, EndpointAlreadyInUse, ListingNotFound, ListingDenied, FailedToOpenListing}
+use Rattle.usb_error.specs.declared.message.Message.TheVariants.{DeviceNotFound, DeviceDisconnected, PermissionDenied, FailedToOpenDevice, FailedToReadDescriptors, InvalidDeviceDescriptor, FailedToReadConfigurationValue, ConfigurationNotFound, DeviceIsBusy, FailedToSetConfiguration, FailedToResetDevice, InterfaceNotFound, InterfaceIsBusy, FailedToClaimInterface, NoKernelDriverAttached, FailedToDetachKernelDriver, KernelDriverAlreadyAttached, FailedToAttachKernelDriver, AlternateSettingNotFound, FailedToSetAlternateSetting, FailedToClearHalt, EndpointsAreInUse, InterfaceStillInUse, DeviceIsNotConfigured, NoActiveDescriptor, NoSuchEndpoint, IncorrectEndpointDirection, IncorrectEndpointType, EndpointHasNoPacketSize, EndpointAlreadyInUse, ListingNotFound, ListingDenied, FailedToOpenListing}
 
 abbrev pub message_text : Message → List ℕ
 message_text DeviceNotFound = codes "device not found"
@@ -11,9 +11,24 @@ message_text FailedToOpenDevice = codes "failed to open device"
 message_text FailedToReadDescriptors = codes "failed to read descriptors"
 message_text InvalidDeviceDescriptor = codes "invalid device descriptor"
 message_text FailedToReadConfigurationValue = codes "failed to read sysfs bConfigurationValue"
+message_text ConfigurationNotFound = codes "configuration not found"
+message_text DeviceIsBusy = codes "device is busy"
+message_text FailedToSetConfiguration = codes "failed to set configuration"
+message_text FailedToResetDevice = codes "failed to reset device"
 message_text InterfaceNotFound = codes "interface not found"
 message_text InterfaceIsBusy = codes "interface is busy"
 message_text FailedToClaimInterface = codes "failed to claim interface"
+message_text NoKernelDriverAttached = codes "no kernel driver attached"
+message_text FailedToDetachKernelDriver = codes "failed to detach kernel driver"
+message_text KernelDriverAlreadyAttached = codes "kernel driver already attached"
+message_text FailedToAttachKernelDriver = codes "failed to attach kernel driver"
+message_text AlternateSettingNotFound = codes "alternate setting not found"
+message_text FailedToSetAlternateSetting = codes "failed to set alternate setting"
+message_text FailedToClearHalt = codes "failed to clear halt"
+message_text EndpointsAreInUse = codes "can't change alternate setting while endpoints are in use"
+message_text InterfaceStillInUse = codes "interface is still in use"
+message_text DeviceIsNotConfigured = codes "device is not configured"
+message_text NoActiveDescriptor = codes "no descriptor found for active configuration"
 message_text NoSuchEndpoint = codes "specified endpoint does not exist on this interface"
 message_text IncorrectEndpointDirection = codes "incorrect endpoint direction"
 message_text IncorrectEndpointType = codes "incorrect endpoint type"

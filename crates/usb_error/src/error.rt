@@ -6,7 +6,7 @@ use crate::kind::ErrorKind;
 use crate::message::Message;
 use std::fmt;
 use std::marker::Model;
-use usb_xfer::errno::{ACCES, BUSY, INVAL, NODEV, NOENT, PERM};
+use usb_xfer::errno::{ACCES, BUSY, INVAL, NODATA, NODEV, NOENT, PERM};
 
 /// Why an operation failed. Its text is the message, and then ` (errno N)` where the system gave a
 /// code.
@@ -27,7 +27,7 @@ impl Model for Error {
 
 impl Error {
     ghost use Rattle.usb_error.specs.ErrorState.{coded as coded_error, plain as plain_error};
-    ghost use Rattle.usb_error.specs.Errors.{open_error, read_descriptors_error, claim_error, configuration_error, invalid_device_descriptor_error, no_endpoint_error, wrong_direction_error, wrong_type_error, no_packet_size_error, endpoint_in_use_error, listing_error};
+    ghost use Rattle.usb_error.specs.Errors.{open_error, read_descriptors_error, set_configuration_error, reset_error, claim_error, detach_error, attach_error, alt_setting_error, clear_halt_error, configuration_error, invalid_device_descriptor_error, settings_in_use_error, interface_in_use_error, no_endpoint_error, wrong_direction_error, wrong_type_error, no_packet_size_error, endpoint_in_use_error, listing_error};
 
     /// The general category of the error.
     pub fn kind(&self) -> ErrorKind
@@ -60,7 +60,7 @@ impl Error {
         }
     }
 
-    fn plain(kind: ErrorKind, message: Message) -> Error
+    pub(crate) fn plain(kind: ErrorKind, message: Message) -> Error
         ensures error { result ≡ plain_error kind message }
     {
         Error {
@@ -94,6 +94,29 @@ impl Error {
         Error::coded(ErrorKind::Other, Message::FailedToReadDescriptors, errno)
     }
 
+    /// The error of a configuration that was not set.
+    pub fn set_configuration(errno: u16) -> Error
+        ensures error { result ≡ set_configuration_error errno }
+    {
+        match errno {
+            NODEV => Error::coded(ErrorKind::Disconnected, Message::DeviceDisconnected, errno),
+            INVAL => Error::coded(ErrorKind::NotFound, Message::ConfigurationNotFound, errno),
+            BUSY => Error::coded(ErrorKind::Busy, Message::DeviceIsBusy, errno),
+            _ => Error::coded(ErrorKind::Other, Message::FailedToSetConfiguration, errno),
+        }
+    }
+
+    /// The error of a device that was not reset.
+    pub fn reset(errno: u16) -> Error
+        ensures error { result ≡ reset_error errno }
+    {
+        match errno {
+            NODEV => Error::coded(ErrorKind::Disconnected, Message::DeviceDisconnected, errno),
+            BUSY => Error::coded(ErrorKind::Busy, Message::DeviceIsBusy, errno),
+            _ => Error::coded(ErrorKind::Other, Message::FailedToResetDevice, errno),
+        }
+    }
+
     /// The error of an interface that was not claimed.
     pub fn claim(errno: u16) -> Error
         ensures error { result ≡ claim_error errno }
@@ -103,6 +126,59 @@ impl Error {
             INVAL | NOENT => Error::coded(ErrorKind::NotFound, Message::InterfaceNotFound, errno),
             BUSY => Error::coded(ErrorKind::Busy, Message::InterfaceIsBusy, errno),
             _ => Error::coded(ErrorKind::Other, Message::FailedToClaimInterface, errno),
+        }
+    }
+
+    /// The error of a kernel driver that was not detached.
+    pub fn detach(errno: u16) -> Error
+        ensures error { result ≡ detach_error errno }
+    {
+        match errno {
+            NODEV => Error::coded(ErrorKind::Disconnected, Message::DeviceDisconnected, errno),
+            INVAL => Error::coded(ErrorKind::NotFound, Message::InterfaceNotFound, errno),
+            NODATA => Error::coded(ErrorKind::Other, Message::NoKernelDriverAttached, errno),
+            _ => Error::coded(ErrorKind::Other, Message::FailedToDetachKernelDriver, errno),
+        }
+    }
+
+    /// The error of a kernel driver that was not attached.
+    pub fn attach(errno: u16) -> Error
+        ensures error { result ≡ attach_error errno }
+    {
+        match errno {
+            NODEV => Error::coded(ErrorKind::Disconnected, Message::DeviceDisconnected, errno),
+            INVAL => Error::coded(ErrorKind::NotFound, Message::InterfaceNotFound, errno),
+            BUSY => Error::coded(ErrorKind::Busy, Message::KernelDriverAlreadyAttached, errno),
+            _ => Error::coded(ErrorKind::Other, Message::FailedToAttachKernelDriver, errno),
+        }
+    }
+
+    /// The error of an alternate setting that was not set.
+    pub fn set_alt_setting(errno: u16) -> Error
+        ensures error { result ≡ alt_setting_error errno }
+    {
+        match errno {
+            NODEV => Error::coded(ErrorKind::Disconnected, Message::DeviceDisconnected, errno),
+            INVAL => Error::coded(
+                ErrorKind::NotFound,
+                Message::AlternateSettingNotFound,
+                errno,
+            ),
+            _ => Error::coded(
+                ErrorKind::Other,
+                Message::FailedToSetAlternateSetting,
+                errno,
+            ),
+        }
+    }
+
+    /// The error of an endpoint whose halt was not cleared.
+    pub fn clear_halt(errno: u16) -> Error
+        ensures error { result ≡ clear_halt_error errno }
+    {
+        match errno {
+            NODEV => Error::coded(ErrorKind::Disconnected, Message::DeviceDisconnected, errno),
+            _ => Error::coded(ErrorKind::Other, Message::FailedToClearHalt, errno),
         }
     }
 
@@ -134,6 +210,20 @@ impl Error {
             ),
             _ => Error::coded(ErrorKind::Other, Message::FailedToOpenListing, errno),
         }
+    }
+
+    /// An endpoint of the interface is open, so its alternate setting stays.
+    pub fn settings_in_use() -> Error
+        ensures error { result ≡ settings_in_use_error }
+    {
+        Error::plain(ErrorKind::Busy, Message::EndpointsAreInUse)
+    }
+
+    /// Another owner of the interface is left, so it is not released.
+    pub fn interface_in_use() -> Error
+        ensures error { result ≡ interface_in_use_error }
+    {
+        Error::plain(ErrorKind::Busy, Message::InterfaceStillInUse)
     }
 
     /// The interface has no endpoint of the address.
