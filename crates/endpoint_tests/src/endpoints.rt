@@ -1,11 +1,11 @@
 //! Endpoints on the bus over a kernel alone. Expected values come from the rules of the simulation.
 
-ghost use Rattle.std.specs.Prelude.{◌≡◌, ◌<◌, ◌≤◌, [], IfOk};
+ghost use Rattle.std.specs.Prelude.{◌≡◌, [], IfOk};
 ghost use Rattle.usb_kernel.specs.Steps.{HasErrno};
 ghost use Rattle.usb_bus.specs.KernelBusCalls.{bus_of};
 ghost use Rattle.usb_endpoint.specs.Handles.{Stands};
 
-use crate::buses::new_bus;
+use crate::cases::{Case, expect};
 use futures::task::Poll;
 use std::alloc::Global;
 use std::process::Abort;
@@ -26,19 +26,14 @@ fn open(alloc: Global, bus: &mut KernelBus) -> Result<Endpoint<Bulk, In>, NoMemo
 }
 
 /// Submits a buffer that asks for this many bytes.
-fn submit(
-    bus: &mut KernelBus,
-    endpoint: &mut Endpoint<Bulk, In>,
-    len: usize,
-) -> Result<(), NoMemory>
-    requires small { len ≤ 128 }
+fn submit(bus: &mut KernelBus, endpoint: &mut Endpoint<Bulk, In>, len: u8) -> Result<(), NoMemory>
     requires stands { Stands (bus_of bus.old) endpoint.old }
     ensures stands { Stands (bus_of bus.new) endpoint.new }
 {
     if endpoint.pending() >= 64 {
         return Err(NoMemory);
     }
-    let buffer = endpoint.allocate(len)?;
+    let buffer = endpoint.allocate(len as usize)?;
     match endpoint.submit(bus, buffer) {
         Ok(()) => Ok(()),
         Err(_) => Err(NoMemory),
@@ -61,10 +56,16 @@ fn apply(
 }
 
 /// A short packet, which finishes the oldest open ticket.
-fn packet(bus: &mut KernelBus, endpoint: &Endpoint<Bulk, In>, bytes: Bytes) -> Result<(), NoMemory>
+fn packet(
+    alloc: Global,
+    bus: &mut KernelBus,
+    endpoint: &Endpoint<Bulk, In>,
+    bytes: &[u8],
+) -> Result<(), NoMemory>
     requires stands { Stands (bus_of bus.old) endpoint.now }
     ensures stands { Stands (bus_of bus.new) endpoint.now }
 {
+    let bytes = Bytes::from_slice(alloc, bytes)?;
     let step = KernelStep::Packet {
         device: 0,
         endpoint: 0x81,
@@ -87,8 +88,84 @@ fn poll(bus: &mut KernelBus, endpoint: &mut Endpoint<Bulk, In>) -> Option<Comple
     }
 }
 
+/// What is done at a new endpoint.
+#[derive(Clone, Copy)]
+pub enum Transfers {
+    /// Three finished transfers are reaped in this order, and the polls find completions of these
+    /// lengths.
+    Polls([u64; 3], [usize; 5]),
+    /// It is closed with three transfers: the third is discarded.
+    Close,
+    /// A blocking transfer times out.
+    TimeOut,
+    /// A finished transfer is waited for.
+    Waits,
+    /// A transfer asks for this many bytes, and is refused at once or not.
+    Length(u8, bool),
+}
+
+pub fn expect_transfers(
+    rt: &impl Abort,
+    alloc: Global,
+    bus: &mut KernelBus,
+    row: usize,
+    transfers: Transfers,
+) {
+    assert!(rt; is_so(alloc, bus, transfers), "row {row}");
+}
+
+/// Whether a new endpoint gives what it should, and its close leaves it.
+fn is_so(alloc: Global, bus: &mut KernelBus, transfers: Transfers) -> bool {
+    let Ok(mut endpoint) = open(alloc, bus) else {
+        return false;
+    };
+    let is_so = is_so_at(alloc, bus, &mut endpoint, transfers);
+    endpoint.close(bus);
+    matches!(is_so, Ok(true)) && is_left(bus.kernel().journal(), transfers)
+}
+
+/// Whether the journal has what the close of the endpoint leaves.
+fn is_left(journal: &[Event], transfers: Transfers) -> bool {
+    match transfers {
+        Transfers::Close => {
+            journal.len() == 7 && matches!(journal.last(), Some(Event::Discard { ticket: 2 }))
+        }
+        Transfers::TimeOut => journal.len() == 3,
+        _ => true,
+    }
+}
+
+fn is_so_at(
+    alloc: Global,
+    bus: &mut KernelBus,
+    endpoint: &mut Endpoint<Bulk, In>,
+    transfers: Transfers,
+) -> Result<bool, NoMemory>
+    requires none { endpoint.old.pending ≡ [] }
+    requires stands { Stands (bus_of bus.old) endpoint.old }
+    ensures stands { Stands (bus_of bus.new) endpoint.new }
+{
+    match transfers {
+        Transfers::Polls(order, lengths) => has_lengths(alloc, bus, endpoint, order, lengths),
+        Transfers::Close => has_three(alloc, bus, endpoint),
+        Transfers::TimeOut => Ok(times_out(bus, endpoint)),
+        Transfers::Waits => waits_with_time(alloc, bus, endpoint),
+        Transfers::Length(len, is_refused) => has_answer(bus, endpoint, len, is_refused),
+    }
+}
+
+/// Submits three transfers.
+fn submit_three(bus: &mut KernelBus, endpoint: &mut Endpoint<Bulk, In>) -> Result<(), NoMemory>
+    requires stands { Stands (bus_of bus.old) endpoint.old }
+    ensures stands { Stands (bus_of bus.new) endpoint.new }
+{
+    submit(bus, endpoint, 64)?;
+    submit(bus, endpoint, 64)?;
+    submit(bus, endpoint, 64)
+}
+
 /// Three transfers of 1, 2 and 3 bytes, all finished.
-fn submit_three(
+fn finish_three(
     alloc: Global,
     bus: &mut KernelBus,
     endpoint: &mut Endpoint<Bulk, In>,
@@ -96,12 +173,10 @@ fn submit_three(
     requires stands { Stands (bus_of bus.old) endpoint.old }
     ensures stands { Stands (bus_of bus.new) endpoint.new }
 {
-    submit(bus, endpoint, 64)?;
-    submit(bus, endpoint, 64)?;
-    submit(bus, endpoint, 64)?;
-    packet(bus, endpoint, Bytes::from_slice(alloc, &[1])?)?;
-    packet(bus, endpoint, Bytes::from_slice(alloc, &[1, 2])?)?;
-    packet(bus, endpoint, Bytes::from_slice(alloc, &[1, 2, 3])?)
+    submit_three(bus, endpoint)?;
+    packet(alloc, bus, endpoint, &[1])?;
+    packet(alloc, bus, endpoint, &[1, 2])?;
+    packet(alloc, bus, endpoint, &[1, 2, 3])
 }
 
 /// Reaps a ticket, and then polls: the length of what came, or 0 where nothing did.
@@ -127,175 +202,135 @@ fn length_of(completion: Option<Completion>) -> usize {
     }
 }
 
-/// What the polls give of three finished transfers that are reaped in an order: one after each
-/// reap, and two at the end.
-fn polls_of(
+/// Whether the polls give these lengths of three finished transfers that are reaped in an order:
+/// one after each reap, and two at the end.
+fn has_lengths(
     alloc: Global,
     bus: &mut KernelBus,
     endpoint: &mut Endpoint<Bulk, In>,
     order: [u64; 3],
-) -> Result<[usize; 5], NoMemory>
+    lengths: [usize; 5],
+) -> Result<bool, NoMemory>
     requires stands { Stands (bus_of bus.old) endpoint.old }
     ensures stands { Stands (bus_of bus.new) endpoint.new }
 {
-    submit_three(alloc, bus, endpoint)?;
+    finish_three(alloc, bus, endpoint)?;
     let first = reap_and_poll(bus, endpoint, order[0])?;
     let second = reap_and_poll(bus, endpoint, order[1])?;
     let third = reap_and_poll(bus, endpoint, order[2])?;
     let fourth = length_of(poll(bus, endpoint));
     let fifth = length_of(poll(bus, endpoint));
-    Ok([first, second, third, fourth, fifth])
+    Ok([first, second, third, fourth, fifth] == lengths)
 }
 
-fn expect_polls(
-    rt: &impl Abort,
-    alloc: Global,
-    bus: &mut KernelBus,
-    order: [u64; 3],
-    lengths: &[usize; 5],
-) -> Result<(), Fail> {
-    let mut endpoint = open(alloc, bus)?;
-    let polls = polls_of(alloc, bus, &mut endpoint, order);
-    endpoint.close(bus);
-    assert_eq!(rt; polls?.as_slice(), lengths.as_slice());
-    Ok(())
-}
-
-/// Compares what the polls of a new endpoint give.
-fn expect_order(
-    rt: &impl Abort,
-    alloc: Global,
-    order: [u64; 3],
-    lengths: &[usize; 5],
-) -> Result<(), Fail> {
-    let mut bus = new_bus(alloc)?;
-    expect_polls(rt, alloc, &mut bus, order, lengths)
-}
+/// The orders of three reaps, and the lengths that the polls give.
+const ORDERS: [([u64; 3], [usize; 5]); 6] = [
+    ([0, 1, 2], [1, 2, 3, 0, 0]),
+    ([0, 2, 1], [1, 0, 2, 3, 0]),
+    ([1, 0, 2], [0, 1, 2, 3, 0]),
+    ([1, 2, 0], [0, 0, 1, 2, 3]),
+    ([2, 0, 1], [0, 1, 2, 3, 0]),
+    ([2, 1, 0], [0, 0, 1, 2, 3]),
+];
 
 #[test]
 fn completions_come_in_order_of_submission(rt: HostRuntime) -> Result<(), Fail> {
-    let rows: [([u64; 3], [usize; 5]); 6] = [
-        ([0, 1, 2], [1, 2, 3, 0, 0]),
-        ([0, 2, 1], [1, 0, 2, 3, 0]),
-        ([1, 0, 2], [0, 1, 2, 3, 0]),
-        ([1, 2, 0], [0, 0, 1, 2, 3]),
-        ([2, 0, 1], [0, 1, 2, 3, 0]),
-        ([2, 1, 0], [0, 0, 1, 2, 3]),
-    ];
-    for (order, lengths) in rows {
-        expect_order(&rt, rt.alloc(), order, &lengths)?;
+    for (row, (order, lengths)) in ORDERS.iter().enumerate() {
+        expect(
+            &rt,
+            rt.alloc(),
+            Case::Transfers(row, Transfers::Polls(*order, *lengths)),
+        )?;
     }
     Ok(())
 }
 
-/// Three transfers, of which the first is reaped, the second finished and the third open.
-fn prepare_close(
+/// Whether three transfers are pending, of which the first is reaped, the second finished and the
+/// third open.
+fn has_three(
     alloc: Global,
     bus: &mut KernelBus,
     endpoint: &mut Endpoint<Bulk, In>,
-) -> Result<(), NoMemory>
+) -> Result<bool, NoMemory>
     requires stands { Stands (bus_of bus.old) endpoint.old }
     ensures stands { Stands (bus_of bus.new) endpoint.new }
 {
-    submit(bus, endpoint, 64)?;
-    submit(bus, endpoint, 64)?;
-    submit(bus, endpoint, 64)?;
-    packet(bus, endpoint, Bytes::from_slice(alloc, &[1])?)?;
-    packet(bus, endpoint, Bytes::from_slice(alloc, &[1, 2])?)?;
-    apply(bus, endpoint, KernelStep::Reap { ticket: Some(0) })
-}
-
-/// How many transfers were pending when the endpoint was closed.
-fn pending_at_close(alloc: Global, bus: &mut KernelBus) -> Result<usize, NoMemory> {
-    let mut endpoint = open(alloc, bus)?;
-    let prepared = prepare_close(alloc, bus, &mut endpoint);
-    let pending = endpoint.pending();
-    endpoint.close(bus);
-    prepared?;
-    Ok(pending)
-}
-
-fn expect_discard(rt: &impl Abort, journal: &[Event]) -> Result<(), Fail> {
-    assert_eq!(rt; journal.len(), 7);
-    let last = journal.last().ok_or("an empty journal")?;
-    assert!(rt; matches!(last, Event::Discard { ticket: 2 }));
-    Ok(())
-}
-
-fn expect_close(rt: &impl Abort, alloc: Global, bus: &mut KernelBus) -> Result<(), Fail> {
-    assert_eq!(rt; pending_at_close(alloc, bus)?, 3);
-    expect_discard(rt, bus.kernel().journal())
+    submit_three(bus, endpoint)?;
+    packet(alloc, bus, endpoint, &[1])?;
+    packet(alloc, bus, endpoint, &[1, 2])?;
+    apply(bus, endpoint, KernelStep::Reap { ticket: Some(0) })?;
+    Ok(endpoint.pending() == 3)
 }
 
 #[test]
 fn a_close_discards_what_is_open(rt: HostRuntime) -> Result<(), Fail> {
-    let mut bus = new_bus(rt.alloc())?;
-    expect_close(&rt, rt.alloc(), &mut bus)
+    expect(&rt, rt.alloc(), Case::Transfers(0, Transfers::Close))
 }
 
-/// A blocking transfer for 5 nanoseconds: its completion, and how many are pending then.
-fn time_out(alloc: Global, bus: &mut KernelBus) -> Result<(Option<Completion>, usize), NoMemory> {
-    let mut endpoint = open(alloc, bus)?;
-    let completion = match endpoint.allocate(64) {
+/// A blocking transfer of 64 bytes for 5 nanoseconds.
+fn transfer(bus: &mut KernelBus, endpoint: &mut Endpoint<Bulk, In>) -> Option<Completion>
+    requires none { endpoint.old.pending ≡ [] }
+    requires stands { Stands (bus_of bus.old) endpoint.old }
+    ensures stands { Stands (bus_of bus.new) endpoint.new }
+{
+    match endpoint.allocate(64) {
         Ok(buffer) => endpoint.transfer_blocking(bus, buffer, 5).ok(),
         Err(_) => None,
-    };
-    let pending = endpoint.pending();
-    endpoint.close(bus);
-    Ok((completion, pending))
+    }
 }
 
-fn expect_timed_out(rt: &impl Abort, alloc: Global, bus: &mut KernelBus) -> Result<(), Fail> {
-    let (completion, pending) = time_out(alloc, bus)?;
-    let completion = completion.ok_or("no memory")?;
-    assert_eq!(rt;
-        (completion.actual_len, completion.status, pending),
-        (0, Err(TransferError::Cancelled), 0)
-    );
-    assert_eq!(rt; bus.kernel().journal().len(), 3);
-    Ok(())
+/// Whether a blocking transfer is cancelled with no byte, and none is pending then.
+fn times_out(bus: &mut KernelBus, endpoint: &mut Endpoint<Bulk, In>) -> bool
+    requires none { endpoint.old.pending ≡ [] }
+    requires stands { Stands (bus_of bus.old) endpoint.old }
+    ensures stands { Stands (bus_of bus.new) endpoint.new }
+{
+    match transfer(bus, endpoint) {
+        Some(completion) => is_cancelled(&completion) && endpoint.pending() == 0,
+        None => false,
+    }
+}
+
+fn is_cancelled(completion: &Completion) -> bool {
+    completion.actual_len == 0 && completion.status == Err(TransferError::Cancelled)
 }
 
 #[test]
 fn a_blocking_transfer_that_times_out_is_cancelled(rt: HostRuntime) -> Result<(), Fail> {
-    let mut bus = new_bus(rt.alloc())?;
-    expect_timed_out(&rt, rt.alloc(), &mut bus)
+    expect(&rt, rt.alloc(), Case::Transfers(0, Transfers::TimeOut))
 }
 
-/// A finished transfer is not reaped by a wait of time 0, and is by a longer one.
-fn waits_of(
+/// The length of what a wait finds, or 0 where it finds nothing.
+fn wait(bus: &mut KernelBus, endpoint: &mut Endpoint<Bulk, In>, timeout: u64) -> usize
+    requires stands { Stands (bus_of bus.old) endpoint.old }
+    ensures stands { Stands (bus_of bus.new) endpoint.new }
+{
+    if endpoint.pending() == 0 {
+        return 0;
+    }
+    length_of(endpoint.wait_next_complete(bus, timeout))
+}
+
+/// Whether a finished transfer of 2 bytes is not reaped by a wait of time 0, and is by a longer
+/// one.
+fn waits_with_time(
     alloc: Global,
     bus: &mut KernelBus,
     endpoint: &mut Endpoint<Bulk, In>,
-) -> Result<[usize; 2], NoMemory>
+) -> Result<bool, NoMemory>
     requires stands { Stands (bus_of bus.old) endpoint.old }
     ensures stands { Stands (bus_of bus.new) endpoint.new }
 {
     submit(bus, endpoint, 64)?;
-    packet(bus, endpoint, Bytes::from_slice(alloc, &[1, 2])?)?;
-    if endpoint.pending() == 0 {
-        return Err(NoMemory);
-    }
-    let at_once = length_of(endpoint.wait_next_complete(bus, 0));
-    if endpoint.pending() == 0 {
-        return Err(NoMemory);
-    }
-    let later = length_of(endpoint.wait_next_complete(bus, 1));
-    Ok([at_once, later])
-}
-
-fn expect_waits(rt: &impl Abort, alloc: Global, bus: &mut KernelBus) -> Result<(), Fail> {
-    let mut endpoint = open(alloc, bus)?;
-    let waits = waits_of(alloc, bus, &mut endpoint);
-    endpoint.close(bus);
-    assert_eq!(rt; waits?.as_slice(), [0, 2].as_slice());
-    Ok(())
+    packet(alloc, bus, endpoint, &[1, 2])?;
+    let at_once = wait(bus, endpoint, 0);
+    let later = wait(bus, endpoint, 1);
+    Ok(at_once == 0 && later == 2)
 }
 
 #[test]
 fn a_wait_of_time_zero_only_looks(rt: HostRuntime) -> Result<(), Fail> {
-    let mut bus = new_bus(rt.alloc())?;
-    expect_waits(&rt, rt.alloc(), &mut bus)
+    expect(&rt, rt.alloc(), Case::Transfers(0, Transfers::Waits))
 }
 
 /// The completion of a transfer that asks for this many bytes, as the next one of its endpoint,
@@ -303,9 +338,8 @@ fn a_wait_of_time_zero_only_looks(rt: HostRuntime) -> Result<(), Fail> {
 fn submitted(
     bus: &mut KernelBus,
     endpoint: &mut Endpoint<Bulk, In>,
-    len: usize,
+    len: u8,
 ) -> Result<Option<Completion>, NoMemory>
-    requires small { len ≤ 128 }
     requires stands { Stands (bus_of bus.old) endpoint.old }
     ensures stands { Stands (bus_of bus.new) endpoint.new }
 {
@@ -319,72 +353,65 @@ fn submitted(
     }
 }
 
-/// The completion of a transfer of a new endpoint that asks for this many bytes.
-fn submitted_alone(
-    rt: &impl Abort,
-    alloc: Global,
+/// Whether a transfer that asks for this many bytes is refused as invalid, or else is pending.
+fn has_answer(
     bus: &mut KernelBus,
-    len: usize,
-) -> Result<Option<Completion>, NoMemory>
-    requires small { len ≤ 128 }
+    endpoint: &mut Endpoint<Bulk, In>,
+    len: u8,
+    is_refused: bool,
+) -> Result<bool, NoMemory>
+    requires stands { Stands (bus_of bus.old) endpoint.old }
+    ensures stands { Stands (bus_of bus.new) endpoint.new }
 {
-    let mut endpoint = open(alloc, bus)?;
-    assert_eq!(rt;
-        (endpoint.endpoint_address(), endpoint.max_packet_size()),
-        (0x81, 64)
-    );
-    let completion = submitted(bus, &mut endpoint, len);
-    endpoint.close(bus);
-    completion
+    if endpoint.endpoint_address() != 0x81 || endpoint.max_packet_size() != 64 {
+        return Ok(false);
+    }
+    match submitted(bus, endpoint, len)? {
+        Some(completion) => {
+            Ok(is_refused && completion.status == Err(TransferError::InvalidArgument))
+        }
+        None => Ok(!is_refused),
+    }
 }
 
-/// Compares whether a transfer that asks for this many bytes is refused.
-fn expect_length(
-    rt: &impl Abort,
-    alloc: Global,
-    bus: &mut KernelBus,
-    len: usize,
-    is_refused: bool,
-) -> Result<(), Fail>
-    requires small { len ≤ 128 }
-{
-    let completion = submitted_alone(rt, alloc, bus, len)?;
-    let status = completion.map(|completion| completion.status);
-    let expected = is_refused.then_some(Err(TransferError::InvalidArgument));
-    assert_eq!(rt; status, expected, "of {len}");
-    Ok(())
-}
+/// Lengths of transfers, and whether they are refused.
+const LENGTHS: [(u8, bool); 5] = [
+    (0, true),
+    (63, true),
+    (64, false),
+    (100, true),
+    (128, false),
+];
 
 #[test]
 fn an_invalid_length_is_refused(rt: HostRuntime) -> Result<(), Fail> {
-    for (len, is_refused) in [
-        (0, true),
-        (63, true),
-        (64, false),
-        (100, true),
-        (128, false),
-    ] {
-        let mut bus = new_bus(rt.alloc())?;
-        expect_length(&rt, rt.alloc(), &mut bus, len, is_refused)?;
+    for (row, (len, is_refused)) in LENGTHS.iter().enumerate() {
+        expect(
+            &rt,
+            rt.alloc(),
+            Case::Transfers(row, Transfers::Length(*len, *is_refused)),
+        )?;
     }
     Ok(())
 }
 
 /// The debug text of a new endpoint.
-fn debug_text(alloc: Global, bus: &mut KernelBus) -> Result<String, Fail> {
-    let endpoint = open(alloc, bus)?;
+fn debug_text(alloc: Global, bus: &mut KernelBus) -> Option<String> {
+    let endpoint = open(alloc, bus).ok()?;
     let text = format!(in alloc; "{endpoint:?}");
     endpoint.close(bus);
-    Ok(text?)
+    text.ok()
+}
+
+pub fn expect_text(rt: &impl Abort, alloc: Global, bus: &mut KernelBus) {
+    let is_right = match debug_text(alloc, bus) {
+        Some(text) => text.as_str() == "Endpoint { address: 0x81, type: Bulk, direction: In }",
+        None => false,
+    };
+    assert!(rt; is_right);
 }
 
 #[test]
 fn the_debug_text_names_address_type_and_direction(rt: HostRuntime) -> Result<(), Fail> {
-    let mut bus = new_bus(rt.alloc())?;
-    let text = debug_text(rt.alloc(), &mut bus)?;
-    assert_eq!(rt;
-        text.as_str(),
-        "Endpoint { address: 0x81, type: Bulk, direction: In }"
-    );
-    Ok(())
+    expect(&rt, rt.alloc(), Case::Text)
 }

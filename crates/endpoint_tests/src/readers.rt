@@ -6,7 +6,7 @@ ghost use Rattle.usb_kernel.specs.Steps.{HasErrno};
 ghost use Rattle.usb_bus.specs.KernelBusCalls.{bus_of};
 ghost use Rattle.usb_endpoint.specs.Handles.{Stands};
 
-use crate::buses::new_bus;
+use crate::cases::{Case, expect};
 use futures::task::Poll;
 use std::alloc::Global;
 use std::process::Abort;
@@ -58,12 +58,14 @@ fn packet(
 }
 
 /// What a read of up to 3 bytes gave.
-#[derive(Clone, Copy, Debug, PartialEq, Eq, Drop)]
-enum Outcome {
+#[derive(Clone, Copy, PartialEq, Eq, Drop)]
+pub enum Outcome {
     /// So many bytes, of which the first is this one.
     Bytes(usize, u8),
     /// No byte.
     Nothing,
+    /// The front of the queue is not reaped.
+    Pending,
     Stall,
     TimedOut,
     NothingPending,
@@ -101,187 +103,202 @@ fn read_message(bus: &mut KernelBus, reader: &mut EndpointRead<Bulk>) -> Outcome
     told(count, dest[0])
 }
 
-/// Two packets of one transfer, and then an empty one of the next: plain reads join them.
-fn read_all(
-    alloc: Global,
-    bus: &mut KernelBus,
-    reader: &mut EndpointRead<Bulk>,
-) -> Result<[Outcome; 3], NoMemory>
-    requires stands { Stands (bus_of bus.old) reader.old.endpoint }
-    ensures stands { Stands (bus_of bus.new) reader.new.endpoint }
-{
-    reader.set_num_transfers(bus, 3)?;
-    packet(alloc, bus, reader, &[1, 2, 3, 4])?;
-    packet(alloc, bus, reader, &[5])?;
-    packet(alloc, bus, reader, &[])?;
-    let first = read(bus, reader);
-    let second = read(bus, reader);
-    reader.set_read_timeout(0);
-    let third = read(bus, reader);
-    Ok([first, second, third])
-}
-
-fn expect_reads(rt: &impl Abort, alloc: Global, bus: &mut KernelBus) -> Result<(), Fail> {
-    let mut reader = new_reader(alloc, bus)?;
-    let reads = read_all(alloc, bus, &mut reader);
-    let pending = reader.pending();
-    reader.close(bus);
-    let expected = [
-        Outcome::Bytes(3, 1),
-        Outcome::Bytes(2, 4),
-        Outcome::TimedOut,
-    ];
-    assert_eq!(rt; reads?.as_slice(), expected.as_slice());
-    assert_eq!(rt; pending, 3);
-    Ok(())
-}
-
-#[test]
-fn plain_reads_join_transfers_and_give_up_in_time(rt: HostRuntime) -> Result<(), Fail> {
-    let mut bus = new_bus(rt.alloc())?;
-    expect_reads(&rt, rt.alloc(), &mut bus)
-}
-
-/// The same packets: reads that stop at short packets give the first message, and nothing more
-/// until its end is taken.
-fn read_messages(
-    alloc: Global,
-    bus: &mut KernelBus,
-    reader: &mut EndpointRead<Bulk>,
-) -> Result<([Outcome; 5], [bool; 4]), NoMemory>
-    requires stands { Stands (bus_of bus.old) reader.old.endpoint }
-    ensures stands { Stands (bus_of bus.new) reader.new.endpoint }
-{
-    reader.set_num_transfers(bus, 3)?;
-    packet(alloc, bus, reader, &[1, 2, 3, 4])?;
-    packet(alloc, bus, reader, &[5])?;
-    packet(alloc, bus, reader, &[])?;
-    let early = reader.until_short_packet().consume_end().is_ok();
-    let first = read_message(bus, reader);
-    let second = read_message(bus, reader);
-    let third = read_message(bus, reader);
-    let is_end = reader.until_short_packet().is_end();
-    let ended = reader.until_short_packet().consume_end().is_ok();
-    let fourth = read_message(bus, reader);
-    let again = reader.until_short_packet().consume_end().is_ok();
-    reader.cancel_all(bus);
-    let fifth = read_message(bus, reader);
-    Ok((
-        [first, second, third, fourth, fifth],
-        [early, is_end, ended, again],
-    ))
-}
-
-fn expect_messages(rt: &impl Abort, alloc: Global, bus: &mut KernelBus) -> Result<(), Fail> {
-    let mut reader = new_reader(alloc, bus)?;
-    let messages = read_messages(alloc, bus, &mut reader);
-    reader.close(bus);
-    let (reads, ends) = messages?;
-    let expected = [
-        Outcome::Bytes(3, 1),
-        Outcome::Bytes(2, 4),
-        Outcome::Nothing,
-        Outcome::Nothing,
-        Outcome::NothingPending,
-    ];
-    assert_eq!(rt; reads.as_slice(), expected.as_slice());
-    assert_eq!(rt; ends.as_slice(), [false, true, true, true].as_slice());
-    Ok(())
-}
-
-#[test]
-fn reads_until_a_short_packet_stop_there(rt: HostRuntime) -> Result<(), Fail> {
-    let mut bus = new_bus(rt.alloc())?;
-    expect_messages(&rt, rt.alloc(), &mut bus)
-}
-
-/// A transfer stalls after a packet of 4 bytes: its bytes are read, and then its error is told
-/// again and again.
-fn read_past_a_stall(
-    alloc: Global,
-    bus: &mut KernelBus,
-    reader: &mut EndpointRead<Bulk>,
-) -> Result<[Outcome; 4], NoMemory>
-    requires stands { Stands (bus_of bus.old) reader.old.endpoint }
-    ensures stands { Stands (bus_of bus.new) reader.new.endpoint }
-{
-    reader.set_num_transfers(bus, 2)?;
-    packet(alloc, bus, reader, &[1, 2, 3, 4])?;
-    let step = KernelStep::Fail {
-        device: 0,
-        endpoint: 0x81,
-        errno: 32,
-    };
-    apply(bus, reader, step)?;
-    let first = read(bus, reader);
-    let second = read(bus, reader);
-    let third = read(bus, reader);
-    let fourth = read_message(bus, reader);
-    Ok([first, second, third, fourth])
-}
-
-fn expect_stall(rt: &impl Abort, alloc: Global, bus: &mut KernelBus) -> Result<(), Fail> {
-    let mut reader = new_reader(alloc, bus)?;
-    let reads = read_past_a_stall(alloc, bus, &mut reader);
-    let has_error = reader.has_error();
-    reader.close(bus);
-    let expected = [
-        Outcome::Bytes(3, 1),
-        Outcome::Bytes(1, 4),
-        Outcome::Stall,
-        Outcome::Stall,
-    ];
-    assert_eq!(rt; reads?.as_slice(), expected.as_slice());
-    assert!(rt; has_error);
-    Ok(())
-}
-
-#[test]
-fn an_error_comes_after_its_bytes_and_lasts(rt: HostRuntime) -> Result<(), Fail> {
-    let mut bus = new_bus(rt.alloc())?;
-    expect_stall(&rt, rt.alloc(), &mut bus)
-}
-
-/// How many bytes a look at the front gives, or 9 where it is pending.
-fn poll(bus: &mut KernelBus, reader: &mut EndpointRead<Bulk>) -> usize
+/// A look at the front, of up to 3 bytes.
+fn look(bus: &mut KernelBus, reader: &mut EndpointRead<Bulk>) -> Outcome
     requires stands { Stands (bus_of bus.old) reader.old.endpoint }
     ensures stands { Stands (bus_of bus.new) reader.new.endpoint }
 {
     let mut dest = [0; 3];
     match reader.poll_read(bus, &mut dest) {
-        Poll::Ready(Ok(count)) => count,
-        Poll::Ready(Err(_)) => 8,
-        Poll::Pending => 9,
+        Poll::Ready(count) => told(count, dest[0]),
+        Poll::Pending => Outcome::Pending,
     }
 }
 
-/// Looks before the packet, before its reap and after it.
-fn polls_of(
-    alloc: Global,
-    bus: &mut KernelBus,
-    reader: &mut EndpointRead<Bulk>,
-) -> Result<[usize; 3], NoMemory>
-    requires stands { Stands (bus_of bus.old) reader.old.endpoint }
-    ensures stands { Stands (bus_of bus.new) reader.new.endpoint }
-{
-    let first = poll(bus, reader);
-    packet(alloc, bus, reader, &[1, 2])?;
-    let second = poll(bus, reader);
-    apply(bus, reader, KernelStep::Reap { ticket: None })?;
-    let third = poll(bus, reader);
-    Ok([first, second, third])
+/// A step with a reader, and what it gives.
+#[derive(Clone, Copy)]
+pub enum Step {
+    /// So many transfers are to be on their way.
+    Transfers(usize),
+    /// A read gives up at once.
+    NoTime,
+    /// A packet of these bytes comes.
+    Packet(&'static [u8]),
+    /// The oldest transfer stalls.
+    Stall,
+    /// The next finished transfer is reaped.
+    Reap,
+    /// All transfers are cancelled.
+    CancelAll,
+    /// A plain read.
+    Read(Outcome),
+    /// A read that stops at a short packet.
+    ReadMessage(Outcome),
+    /// A look at the front.
+    Look(Outcome),
+    /// Whether a message's end comes next.
+    IsEnd(bool),
+    /// The end of a message is taken, if it comes next.
+    ConsumeEnd(bool),
+    /// So many transfers are pending.
+    Pending(usize),
+    /// An error came.
+    HasError,
 }
 
-fn expect_looks(rt: &impl Abort, alloc: Global, bus: &mut KernelBus) -> Result<(), Fail> {
-    let mut reader = new_reader(alloc, bus)?;
-    let polls = polls_of(alloc, bus, &mut reader);
-    reader.close(bus);
-    assert_eq!(rt; polls?.as_slice(), [9, 9, 2].as_slice());
+/// Joined reads, reads that stop at short packets, an error that comes after its bytes and lasts,
+/// and looks.
+const CASES: [(&str, &[Step]); 4] = [
+    (
+        "plain reads join transfers and give up in time",
+        &[
+            Step::Transfers(3),
+            Step::Packet(&[1, 2, 3, 4]),
+            Step::Packet(&[5]),
+            Step::Packet(&[]),
+            Step::Read(Outcome::Bytes(3, 1)),
+            Step::Read(Outcome::Bytes(2, 4)),
+            Step::NoTime,
+            Step::Read(Outcome::TimedOut),
+            Step::Pending(3),
+        ],
+    ),
+    (
+        "reads until a short packet stop there, until its end is taken",
+        &[
+            Step::Transfers(3),
+            Step::Packet(&[1, 2, 3, 4]),
+            Step::Packet(&[5]),
+            Step::Packet(&[]),
+            Step::ConsumeEnd(false),
+            Step::ReadMessage(Outcome::Bytes(3, 1)),
+            Step::ReadMessage(Outcome::Bytes(2, 4)),
+            Step::ReadMessage(Outcome::Nothing),
+            Step::IsEnd(true),
+            Step::ConsumeEnd(true),
+            Step::ReadMessage(Outcome::Nothing),
+            Step::ConsumeEnd(true),
+            Step::CancelAll,
+            Step::ReadMessage(Outcome::NothingPending),
+        ],
+    ),
+    (
+        "an error comes after its bytes and lasts",
+        &[
+            Step::Transfers(2),
+            Step::Packet(&[1, 2, 3, 4]),
+            Step::Stall,
+            Step::Read(Outcome::Bytes(3, 1)),
+            Step::Read(Outcome::Bytes(1, 4)),
+            Step::Read(Outcome::Stall),
+            Step::ReadMessage(Outcome::Stall),
+            Step::HasError,
+        ],
+    ),
+    (
+        "a look is pending until the front is reaped",
+        &[
+            Step::Look(Outcome::Pending),
+            Step::Packet(&[1, 2]),
+            Step::Look(Outcome::Pending),
+            Step::Reap,
+            Step::Look(Outcome::Bytes(2, 1)),
+        ],
+    ),
+];
+
+#[test]
+fn readers_give_what_came(rt: HostRuntime) -> Result<(), Fail> {
+    for (name, steps) in &CASES {
+        expect(&rt, rt.alloc(), Case::Reader(*name, *steps))?;
+    }
     Ok(())
 }
 
-#[test]
-fn a_look_is_pending_until_the_front_is_reaped(rt: HostRuntime) -> Result<(), Fail> {
-    let mut bus = new_bus(rt.alloc())?;
-    expect_looks(&rt, rt.alloc(), &mut bus)
+pub fn expect_reader(
+    rt: &impl Abort,
+    alloc: Global,
+    bus: &mut KernelBus,
+    name: &str,
+    steps: &[Step],
+) {
+    let right = right_steps_of_new(alloc, bus, steps);
+    assert!(rt;
+        right == steps.len(),
+        "{name}: only {right} steps were right"
+    );
 }
+
+/// Makes the steps with a new reader, which is closed again. Says how many gave what they should
+/// before one didn't.
+fn right_steps_of_new(alloc: Global, bus: &mut KernelBus, steps: &[Step]) -> usize {
+    let Ok(mut reader) = new_reader(alloc, bus) else {
+        return 0;
+    };
+    let right = right_steps(alloc, bus, &mut reader, steps);
+    reader.close(bus);
+    right
+}
+
+fn right_steps(
+    alloc: Global,
+    bus: &mut KernelBus,
+    reader: &mut EndpointRead<Bulk>,
+    steps: &[Step],
+) -> usize
+    requires stands { Stands (bus_of bus.old) reader.old.endpoint }
+    ensures stands { Stands (bus_of bus.new) reader.new.endpoint }
+{
+    for (number, step) in steps.iter().enumerate() {
+        if !is_so(alloc, bus, reader, *step) {
+            return number;
+        }
+    }
+    steps.len()
+}
+
+/// Makes a step, and says whether it gives what it should.
+fn is_so(alloc: Global, bus: &mut KernelBus, reader: &mut EndpointRead<Bulk>, step: Step) -> bool
+    requires stands { Stands (bus_of bus.old) reader.old.endpoint }
+    ensures stands { Stands (bus_of bus.new) reader.new.endpoint }
+{
+    match step {
+        Step::Transfers(count) => start(bus, reader, count).is_ok(),
+        Step::Packet(bytes) => packet(alloc, bus, reader, bytes).is_ok(),
+        Step::Stall => apply(bus, reader, STALL).is_ok(),
+        Step::Reap => apply(bus, reader, KernelStep::Reap { ticket: None }).is_ok(),
+        Step::NoTime => {
+            reader.set_read_timeout(0);
+            true
+        }
+        Step::CancelAll => {
+            reader.cancel_all(bus);
+            true
+        }
+        Step::Read(outcome) => read(bus, reader) == outcome,
+        Step::ReadMessage(outcome) => read_message(bus, reader) == outcome,
+        Step::Look(outcome) => look(bus, reader) == outcome,
+        Step::IsEnd(is_end) => reader.until_short_packet().is_end() == is_end,
+        Step::ConsumeEnd(is_end) => reader.until_short_packet().consume_end().is_ok() == is_end,
+        Step::Pending(pending) => reader.pending() == pending,
+        Step::HasError => reader.has_error(),
+    }
+}
+
+/// Submits transfers until one fewer than so many are on their way, as the next read submits one.
+fn start(bus: &mut KernelBus, reader: &mut EndpointRead<Bulk>, count: usize) -> Result<(), NoMemory>
+    requires stands { Stands (bus_of bus.old) reader.old.endpoint }
+    ensures stands { Stands (bus_of bus.new) reader.new.endpoint }
+{
+    if count > 64 {
+        return Err(NoMemory);
+    }
+    reader.set_num_transfers(bus, count)
+}
+
+/// A stall of the reader's endpoint.
+const STALL: KernelStep = KernelStep::Fail {
+    device: 0,
+    endpoint: 0x81,
+    errno: 32,
+};

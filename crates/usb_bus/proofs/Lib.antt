@@ -1,3 +1,2 @@
-pub mod TransferLemmas
 pub mod SlotLemmas
 pub mod KernelBusLemmas

@@ -5,7 +5,6 @@ pub mod Submitted
 pub mod Later
 pub mod Turns
 pub mod Values
-pub mod TransferOutcomes
 pub mod Holds
 pub mod KernelBusState
 pub mod KernelBusCalls

@@ -7,10 +7,8 @@ mod completion;
 mod kernel_bus;
 mod kernel_slots;
 mod route;
-mod transfers;
 
 pub use bus::Bus;
 pub use completion::completion_from;
 pub use kernel_bus::KernelBus;
 pub use route::{Route, Turn};
-pub use transfers::{TransferOutcome, submit_buffer, transfer, turn_until_complete};
