@@ -1,18 +1,16 @@
 //! What is opened and claimed, and what is refused. Expected values come from the rules of the
 //! simulation.
 
-ghost use Rattle.std.specs.Prelude.{IfOk};
-ghost use Rattle.std.specs.List.{All};
-ghost use Rattle.usb_kernel.specs.Steps.{HasErrno};
 ghost use Rattle.usb_endpoint.specs.EndpointState.{EndpointState};
 ghost use Rattle.usb_endpoint.specs.Handles.{Stands};
 ghost use Rattle.usb_device.specs.HandleStates.{StandsInterface};
 ghost use Rattle.usb_device.specs.HostBus.{bus_of};
 
-use crate::hosts::{claim, go_on, message_of, new_host, open, packet, reap, submit_three};
+use crate::cases::{Case, expect};
+use crate::hosts::{claim, go_on, message_of, open, submit_three};
 use std::alloc::Global;
 use std::process::Abort;
-use usb_device::{Bulk, Device, Error, Fail, Host, In, Interface, KernelStep, NoMemory, TicketEnd};
+use usb_device::{Bulk, Device, Error, Fail, Host, In, Interface, TicketEnd};
 use usb_error::Message;
 
 /// Why a device is not opened at an address of bus 1. It is closed again where it is opened.
@@ -30,65 +28,48 @@ fn open_refusal(
     }
 }
 
-fn expect_opens(rt: &impl Abort, alloc: Global, host: &mut Host) -> Result<(), std::test::Fail> {
-    let refusal = open_refusal(alloc, host, 7)?;
-    assert_eq!(rt; refusal, Some(Message::DeviceNotFound));
-    assert_eq!(rt; open_refusal(alloc, host, 6)?, None);
-    Ok(())
+pub fn expect_opens(rt: &impl Abort, alloc: Global, host: &mut Host) {
+    let elsewhere = open_refusal(alloc, host, 7);
+    assert!(rt; matches!(elsewhere, Ok(Some(Message::DeviceNotFound))));
+    assert!(rt; matches!(open_refusal(alloc, host, 6), Ok(None)));
 }
 
 #[test]
 fn opens_the_device_of_an_address(rt: HostRuntime) -> Result<(), std::test::Fail> {
-    let mut host = new_host(rt.alloc(), Vec::new(rt.alloc()))?;
-    expect_opens(&rt, rt.alloc(), &mut host)
+    expect(&rt, rt.alloc(), Case::Opens)
 }
 
 /// The debug text of the device.
-fn device_text(alloc: Global, host: &mut Host) -> Result<String, std::test::Fail> {
-    let device = Device::open_at(alloc, host, 1, 6)?;
+fn device_text(alloc: Global, host: &mut Host) -> Option<String> {
+    let device = Device::open_at(alloc, host, 1, 6).ok()?;
     let text = format!(in alloc; "{device:?}");
     device.close(host);
-    Ok(text?)
+    text.ok()
 }
 
 /// The debug text of its interface 0.
-fn interface_text(alloc: Global, host: &mut Host) -> Result<String, std::test::Fail> {
-    let interface = claim(alloc, host)?;
+fn interface_text(alloc: Global, host: &mut Host) -> Option<String> {
+    let interface = claim(alloc, host).ok()?;
     let text = format!(in alloc; "{interface:?}");
     interface.close(host);
-    Ok(text?)
+    text.ok()
 }
 
-fn expect_texts(rt: &impl Abort, alloc: Global, host: &mut Host) -> Result<(), std::test::Fail> {
-    let text = device_text(alloc, host)?;
-    assert_eq!(rt; text.as_str(), "Device");
-    let text = interface_text(alloc, host)?;
-    assert_eq!(rt; text.as_str(), "Interface { number: 0 }");
-    Ok(())
+fn is_text(text: Option<String>, expected: &str) -> bool {
+    match text {
+        Some(text) => text.as_str() == expected,
+        None => false,
+    }
+}
+
+pub fn expect_texts(rt: &impl Abort, alloc: Global, host: &mut Host) {
+    assert!(rt; is_text(device_text(alloc, host), "Device"));
+    assert!(rt; is_text(interface_text(alloc, host), "Interface { number: 0 }"));
 }
 
 #[test]
 fn debug_texts_name_the_handles(rt: HostRuntime) -> Result<(), std::test::Fail> {
-    let mut host = new_host(rt.alloc(), Vec::new(rt.alloc()))?;
-    expect_texts(&rt, rt.alloc(), &mut host)
-}
-
-/// Packets for the first two of three transfers, and then reaps: that of the first, and the others
-/// in an order.
-fn two_packets(alloc: Global, order: [u64; 2]) -> Result<Vec<KernelStep>, NoMemory>
-    ensures errnos { IfOk result (λ steps. All HasErrno steps.items) }
-{
-    let steps = vec![in alloc;
-        packet(alloc, &[1])?,
-        packet(alloc, &[1, 2])?,
-        reap(0),
-        reap(order[0]),
-        reap(order[1]),
-    ];
-    match steps {
-        Ok(steps) => Ok(steps),
-        Err(_) => Err(NoMemory),
-    }
+    expect(&rt, rt.alloc(), Case::Texts)
 }
 
 /// Why endpoint 0x81 of an interface is not opened. It is closed again where it is opened.
@@ -120,51 +101,60 @@ fn close_three(host: &mut Host, interface: &Interface) -> Result<(), Fail<Error>
     }
 }
 
-/// Why endpoint 0x81 is not opened again after its close, and then after each of the next two
-/// steps.
-fn refusals_of(host: &mut Host, interface: &Interface) -> Result<[Option<Message>; 3], Fail<Error>>
+/// Why endpoint 0x81 is not opened after the next step.
+fn refusal_after_step(
+    host: &mut Host,
+    interface: &Interface,
+) -> Result<Option<Message>, Fail<Error>>
+    requires stands { StandsInterface host.old interface.now }
+    ensures stands { StandsInterface host.new interface.now }
+{
+    go_on(host);
+    endpoint_refusal(host, interface)
+}
+
+/// Whether endpoint 0x81 is busy after its close and after the next step, and not after one more.
+fn is_busy_for_a_step(host: &mut Host, interface: &Interface) -> Result<bool, Fail<Error>>
     requires stands { StandsInterface host.old interface.now }
     ensures stands { StandsInterface host.new interface.now }
 {
     close_three(host, interface)?;
     let at_once = endpoint_refusal(host, interface)?;
-    go_on(host);
-    let after_one = endpoint_refusal(host, interface)?;
-    go_on(host);
-    let after_both = endpoint_refusal(host, interface)?;
-    Ok([at_once, after_one, after_both])
+    let after_one = refusal_after_step(host, interface)?;
+    let after_both = refusal_after_step(host, interface)?;
+    let busy = Some(Message::EndpointAlreadyInUse);
+    Ok(at_once == busy && after_one == busy && after_both.is_none())
+}
+
+/// The same of a newly claimed interface.
+fn is_busy_when_claimed(alloc: Global, host: &mut Host) -> bool {
+    let Ok(interface) = claim(alloc, host) else {
+        return false;
+    };
+    let is_busy = is_busy_for_a_step(host, &interface);
+    interface.close(host);
+    matches!(is_busy, Ok(true))
 }
 
 /// The first of three transfers is reaped, the second finished and the third open when their
 /// endpoint is closed.
-fn expect_busy(rt: &impl Abort, alloc: Global, host: &mut Host) -> Result<(), std::test::Fail> {
-    let interface = claim(alloc, host)?;
-    let refusals = refusals_of(host, &interface);
-    interface.close(host);
-    let busy = Some(Message::EndpointAlreadyInUse);
-    assert_eq!(rt; refusals?.as_slice(), [busy, busy, None].as_slice());
-    Ok(())
+pub fn expect_busy(rt: &impl Abort, alloc: Global, host: &mut Host) {
+    assert!(rt; is_busy_when_claimed(alloc, host));
+    expect_ends(rt, host);
 }
 
 fn expect_ends(rt: &impl Abort, host: &Host) {
     let reclaimed = Some(TicketEnd::Reclaimed);
-    let ends = [host.ticket_end(0), host.ticket_end(1), host.ticket_end(2)];
-    assert_eq!(rt;
-        ends.as_slice(),
-        [Some(TicketEnd::Dropped), reclaimed, reclaimed].as_slice()
-    );
+    assert!(rt; host.ticket_end(0) == Some(TicketEnd::Dropped));
+    assert!(rt; host.ticket_end(1) == reclaimed && host.ticket_end(2) == reclaimed);
 }
 
 #[test]
 fn a_closed_endpoint_is_busy_until_its_tickets_are_reaped(
     rt: HostRuntime,
 ) -> Result<(), std::test::Fail> {
-    for order in [[1, 2], [2, 1]] {
-        let mut host = new_host(rt.alloc(), two_packets(rt.alloc(), order)?)?;
-        expect_busy(&rt, rt.alloc(), &mut host)?;
-        expect_ends(&rt, &host);
-    }
-    Ok(())
+    expect(&rt, rt.alloc(), Case::Busy([1, 2]))?;
+    expect(&rt, rt.alloc(), Case::Busy([2, 1]))
 }
 
 /// Why interface 0 is not claimed. Its handle is closed again where it is.
@@ -190,15 +180,13 @@ fn refusal_while_open(alloc: Global, host: &mut Host) -> Result<Option<Message>,
 }
 
 /// The interface's handle is closed, and its endpoint is the owner that is left.
-fn expect_release(rt: &impl Abort, alloc: Global, host: &mut Host) -> Result<(), std::test::Fail> {
-    let refusal = refusal_while_open(alloc, host)?;
-    assert_eq!(rt; refusal, Some(Message::InterfaceIsBusy));
-    assert_eq!(rt; claim_refusal(alloc, host)?, None);
-    Ok(())
+pub fn expect_release(rt: &impl Abort, alloc: Global, host: &mut Host) {
+    let while_open = refusal_while_open(alloc, host);
+    assert!(rt; matches!(while_open, Ok(Some(Message::InterfaceIsBusy))));
+    assert!(rt; matches!(claim_refusal(alloc, host), Ok(None)));
 }
 
 #[test]
 fn an_interface_is_released_with_its_last_owner(rt: HostRuntime) -> Result<(), std::test::Fail> {
-    let mut host = new_host(rt.alloc(), Vec::new(rt.alloc()))?;
-    expect_release(&rt, rt.alloc(), &mut host)
+    expect(&rt, rt.alloc(), Case::Release)
 }

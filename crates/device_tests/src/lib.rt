@@ -1,8 +1,10 @@
 //! Tests of the host, of what is opened at it, and of transfers there: the crate `usb_device`.
 //!
-//! A function that owns a host is slow to prove, so few do, and lend it to the others.
+//! A function that owns a host is slow to prove, so one does, and lends it to the others.
 #![tactic(auto)]
 
+#[cfg(test)]
+mod cases;
 #[cfg(test)]
 mod claims;
 #[cfg(test)]

@@ -1,18 +1,60 @@
 //! Transfers of a host's endpoints. Expected values come from the rules of the simulation.
 
-ghost use Rattle.std.specs.Prelude.{IfOk};
-ghost use Rattle.std.specs.List.{All};
-ghost use Rattle.usb_kernel.specs.Steps.{HasErrno};
 ghost use Rattle.usb_endpoint.specs.Handles.{Stands};
 ghost use Rattle.usb_device.specs.HostBus.{bus_of};
 
-use crate::hosts::{go_on, length_of, new_host, open, packet, poll, reap, submit, submit_three};
+use crate::cases::{Case, expect};
+use crate::hosts::{go_on, length_of, open, poll, submit, submit_three};
 use std::alloc::Global;
 use std::process::Abort;
 use usb_device::{
-    Buffer, Bulk, Completion, Device, Endpoint, Error, Fail, Host, In, KernelStep, NoMemory,
-    TicketEnd, TransferError,
+    Buffer, Bulk, Completion, Device, Endpoint, Error, Fail, Host, In, NoMemory, TicketEnd,
+    TransferError,
 };
+
+/// What is done at a new endpoint.
+#[derive(Clone, Copy)]
+pub enum Transfers {
+    /// Three transfers are reaped, and the polls find completions of these lengths.
+    Polls([usize; 5]),
+    /// A blocking transfer times out.
+    TimeOut,
+    /// A transfer is waited for.
+    Waits,
+    /// The device is unplugged.
+    Unplug,
+}
+
+/// Whether a new endpoint gives what it should. It is closed again.
+fn is_so(alloc: Global, host: &mut Host, transfers: Transfers) -> bool {
+    let Ok(mut endpoint) = open(alloc, host) else {
+        return false;
+    };
+    let is_so = is_so_at(host, &mut endpoint, transfers);
+    endpoint.close(host);
+    matches!(is_so, Ok(true))
+}
+
+fn is_so_at(
+    host: &mut Host,
+    endpoint: &mut Endpoint<Bulk, In>,
+    transfers: Transfers,
+) -> Result<bool, NoMemory>
+    requires stands { Stands (bus_of host.old) endpoint.old }
+    ensures stands { Stands (bus_of host.new) endpoint.new }
+{
+    match transfers {
+        Transfers::Polls(lengths) => has_lengths(host, endpoint, lengths),
+        Transfers::TimeOut => Ok(times_out(host, endpoint)),
+        Transfers::Waits => waits_with_time(host, endpoint),
+        Transfers::Unplug => is_unplugged(host, endpoint),
+    }
+}
+
+/// Compares what a new endpoint gives.
+pub fn expect_transfers(rt: &impl Abort, alloc: Global, host: &mut Host, transfers: Transfers) {
+    assert!(rt; is_so(alloc, host, transfers));
+}
 
 /// Applies the next step of the line, and then polls.
 fn go_on_and_poll(host: &mut Host, endpoint: &mut Endpoint<Bulk, In>) -> Option<Completion>
@@ -23,9 +65,13 @@ fn go_on_and_poll(host: &mut Host, endpoint: &mut Endpoint<Bulk, In>) -> Option<
     poll(host, endpoint)
 }
 
-/// What the polls give of three transfers that three steps finish: one after each of the next three
-/// steps, and two at the end.
-fn polls_of(host: &mut Host, endpoint: &mut Endpoint<Bulk, In>) -> Result<[usize; 5], NoMemory>
+/// Whether the polls give these lengths of three transfers that three steps finish: one after each
+/// of the next three steps, and two at the end.
+fn has_lengths(
+    host: &mut Host,
+    endpoint: &mut Endpoint<Bulk, In>,
+    lengths: [usize; 5],
+) -> Result<bool, NoMemory>
     requires stands { Stands (bus_of host.old) endpoint.old }
     ensures stands { Stands (bus_of host.new) endpoint.new }
 {
@@ -35,54 +81,36 @@ fn polls_of(host: &mut Host, endpoint: &mut Endpoint<Bulk, In>) -> Result<[usize
     let third = length_of(go_on_and_poll(host, endpoint));
     let fourth = length_of(poll(host, endpoint));
     let fifth = length_of(poll(host, endpoint));
-    Ok([first, second, third, fourth, fifth])
+    Ok([first, second, third, fourth, fifth] == lengths)
 }
 
-/// Packets of 1, 2 and 3 bytes, and then reaps in an order.
-fn three_packets(alloc: Global, order: [u64; 3]) -> Result<Vec<KernelStep>, NoMemory>
-    ensures errnos { IfOk result (λ steps. All HasErrno steps.items) }
-{
-    let steps = vec![in alloc;
-        packet(alloc, &[1])?,
-        packet(alloc, &[1, 2])?,
-        packet(alloc, &[1, 2, 3])?,
-        reap(order[0]),
-        reap(order[1]),
-        reap(order[2]),
-    ];
-    match steps {
-        Ok(steps) => Ok(steps),
-        Err(_) => Err(NoMemory),
-    }
-}
-
-fn expect_polls(
+pub fn expect_polls(
     rt: &impl Abort,
     alloc: Global,
     host: &mut Host,
     order: [u64; 3],
-    lengths: &[usize; 5],
-) -> Result<(), std::test::Fail> {
-    let mut endpoint = open(alloc, host)?;
-    let polls = polls_of(host, &mut endpoint);
-    endpoint.close(host);
-    assert_eq!(rt; polls?.as_slice(), lengths.as_slice(), "of {order:?}");
-    Ok(())
+    lengths: [usize; 5],
+) {
+    assert!(rt;
+        is_so(alloc, host, Transfers::Polls(lengths)),
+        "of {order:?}"
+    );
 }
+
+/// The orders of three reaps, and the lengths that the polls give.
+const ORDERS: [([u64; 3], [usize; 5]); 6] = [
+    ([0, 1, 2], [1, 2, 3, 0, 0]),
+    ([0, 2, 1], [1, 0, 2, 3, 0]),
+    ([1, 0, 2], [0, 1, 2, 3, 0]),
+    ([1, 2, 0], [0, 0, 1, 2, 3]),
+    ([2, 0, 1], [0, 1, 2, 3, 0]),
+    ([2, 1, 0], [0, 0, 1, 2, 3]),
+];
 
 #[test]
 fn completions_come_in_order_of_submission(rt: HostRuntime) -> Result<(), std::test::Fail> {
-    let rows: [([u64; 3], [usize; 5]); 6] = [
-        ([0, 1, 2], [1, 2, 3, 0, 0]),
-        ([0, 2, 1], [1, 0, 2, 3, 0]),
-        ([1, 0, 2], [0, 1, 2, 3, 0]),
-        ([1, 2, 0], [0, 0, 1, 2, 3]),
-        ([2, 0, 1], [0, 1, 2, 3, 0]),
-        ([2, 1, 0], [0, 0, 1, 2, 3]),
-    ];
-    for (order, lengths) in rows {
-        let mut host = new_host(rt.alloc(), three_packets(rt.alloc(), order)?)?;
-        expect_polls(&rt, rt.alloc(), &mut host, order, &lengths)?;
+    for (order, lengths) in &ORDERS {
+        expect(&rt, rt.alloc(), Case::Polls(*order, *lengths))?;
     }
     Ok(())
 }
@@ -101,36 +129,33 @@ fn transfer(host: &mut Host, endpoint: &mut Endpoint<Bulk, In>) -> Option<Comple
     }
 }
 
-/// A blocking transfer at a new endpoint, and how many are pending then.
-fn time_out(alloc: Global, host: &mut Host) -> Result<(Option<Completion>, usize), Fail<Error>> {
-    let mut endpoint = open(alloc, host)?;
-    let completion = transfer(host, &mut endpoint);
-    let pending = endpoint.pending();
-    endpoint.close(host);
-    Ok((completion, pending))
+/// Whether a blocking transfer is cancelled with no byte, and none is pending then.
+fn times_out(host: &mut Host, endpoint: &mut Endpoint<Bulk, In>) -> bool
+    requires stands { Stands (bus_of host.old) endpoint.old }
+    ensures stands { Stands (bus_of host.new) endpoint.new }
+{
+    match transfer(host, endpoint) {
+        Some(completion) => {
+            is_end(&completion, 0, Err(TransferError::Cancelled)) && endpoint.pending() == 0
+        }
+        None => false,
+    }
+}
+
+/// Whether a transfer ended with so many bytes and with this status.
+fn is_end(completion: &Completion, len: usize, status: Result<(), TransferError>) -> bool {
+    completion.actual_len == len && completion.status == status
 }
 
 /// The clock goes to the end of the time, and no packet comes.
-fn expect_timed_out(
-    rt: &impl Abort,
-    alloc: Global,
-    host: &mut Host,
-) -> Result<(), std::test::Fail> {
-    let (completion, pending) = time_out(alloc, host)?;
-    let completion = completion.ok_or("no memory")?;
-    assert_eq!(rt;
-        (completion.actual_len, completion.status, pending),
-        (0, Err(TransferError::Cancelled), 0)
-    );
-    assert_eq!(rt; host.ticket_end(0), Some(TicketEnd::Taken));
-    Ok(())
+pub fn expect_timed_out(rt: &impl Abort, alloc: Global, host: &mut Host) {
+    expect_transfers(rt, alloc, host, Transfers::TimeOut);
+    assert!(rt; host.ticket_end(0) == Some(TicketEnd::Taken));
 }
 
 #[test]
 fn a_blocking_transfer_that_times_out_is_cancelled(rt: HostRuntime) -> Result<(), std::test::Fail> {
-    let steps = vec![in rt.alloc(); KernelStep::Clock { to: 5 }]?;
-    let mut host = new_host(rt.alloc(), steps)?;
-    expect_timed_out(&rt, rt.alloc(), &mut host)
+    expect(&rt, rt.alloc(), Case::TimeOut)
 }
 
 /// The length of what a wait finds, or 0 where it finds nothing.
@@ -144,100 +169,71 @@ fn wait(host: &mut Host, endpoint: &mut Endpoint<Bulk, In>, timeout: u64) -> usi
     length_of(endpoint.wait_next_complete(host, timeout))
 }
 
-/// What a wait of time 0 and then one of time 1 find of a transfer, after the next step.
-fn waits_of(host: &mut Host, endpoint: &mut Endpoint<Bulk, In>) -> Result<[usize; 2], NoMemory>
+/// Whether a wait of time 0 finds nothing of a transfer after the next step, and one of time 1
+/// finds its 2 bytes.
+fn waits_with_time(host: &mut Host, endpoint: &mut Endpoint<Bulk, In>) -> Result<bool, NoMemory>
     requires stands { Stands (bus_of host.old) endpoint.old }
     ensures stands { Stands (bus_of host.new) endpoint.new }
 {
     submit(host, endpoint)?;
     go_on(host);
-    Ok([wait(host, endpoint, 0), wait(host, endpoint, 1)])
-}
-
-fn expect_waits(rt: &impl Abort, alloc: Global, host: &mut Host) -> Result<(), std::test::Fail> {
-    let mut endpoint = open(alloc, host)?;
-    let waits = waits_of(host, &mut endpoint);
-    endpoint.close(host);
-    assert_eq!(rt; waits?.as_slice(), [0, 2].as_slice());
-    Ok(())
+    let at_once = wait(host, endpoint, 0);
+    let later = wait(host, endpoint, 1);
+    Ok(at_once == 0 && later == 2)
 }
 
 #[test]
 fn a_wait_of_time_zero_only_looks(rt: HostRuntime) -> Result<(), std::test::Fail> {
-    let steps = vec![in rt.alloc(); packet(rt.alloc(), &[1, 2])?]?;
-    let mut host = new_host(rt.alloc(), steps)?;
-    expect_waits(&rt, rt.alloc(), &mut host)
+    expect(&rt, rt.alloc(), Case::Waits)
 }
 
-/// What a poll gives, where it gives something: how many bytes came, and how the transfer ended.
-fn polled(
+/// Whether a poll gives a transfer that ended with so many bytes and with this status.
+fn polls_as(
     host: &mut Host,
     endpoint: &mut Endpoint<Bulk, In>,
-) -> Option<(usize, Result<(), TransferError>)>
+    len: usize,
+    status: Result<(), TransferError>,
+) -> bool
     requires stands { Stands (bus_of host.old) endpoint.old }
     ensures stands { Stands (bus_of host.new) endpoint.new }
 {
-    let completion = poll(host, endpoint)?;
-    Some((completion.actual_len, completion.status))
-}
-
-/// What the polls give of two transfers after four steps, and then of one more transfer.
-fn three_polls(
-    host: &mut Host,
-    endpoint: &mut Endpoint<Bulk, In>,
-) -> Result<[Option<(usize, Result<(), TransferError>)>; 3], NoMemory>
-    requires stands { Stands (bus_of host.old) endpoint.old }
-    ensures stands { Stands (bus_of host.new) endpoint.new }
-{
-    submit(host, endpoint)?;
-    submit(host, endpoint)?;
-    go_on(host);
-    go_on(host);
-    go_on(host);
-    go_on(host);
-    let first = polled(host, endpoint);
-    let second = polled(host, endpoint);
-    submit(host, endpoint)?;
-    let third = polled(host, endpoint);
-    Ok([first, second, third])
-}
-
-/// A packet of 1 byte, and then device 0 is unplugged. Both transfers are reaped.
-fn unplug_steps(alloc: Global) -> Result<Vec<KernelStep>, NoMemory>
-    ensures errnos { IfOk result (λ steps. All HasErrno steps.items) }
-{
-    let steps = vec![in alloc;
-        packet(alloc, &[1])?,
-        KernelStep::Unplug { device: 0 },
-        reap(0),
-        reap(1),
-    ];
-    match steps {
-        Ok(steps) => Ok(steps),
-        Err(_) => Err(NoMemory),
+    match poll(host, endpoint) {
+        Some(completion) => is_end(&completion, len, status),
+        None => false,
     }
 }
 
-fn expect_unplugged(
-    rt: &impl Abort,
-    alloc: Global,
-    host: &mut Host,
-) -> Result<(), std::test::Fail> {
-    let mut endpoint = open(alloc, host)?;
-    let polls = three_polls(host, &mut endpoint);
-    endpoint.close(host);
-    let gone = Some((0, Err(TransferError::Disconnected)));
-    assert_eq!(rt;
-        polls?.as_slice(),
-        [Some((1, Ok(()))), gone, gone].as_slice()
-    );
+/// Submits two transfers, and then applies four steps.
+fn submit_two(host: &mut Host, endpoint: &mut Endpoint<Bulk, In>) -> Result<(), NoMemory>
+    requires stands { Stands (bus_of host.old) endpoint.old }
+    ensures stands { Stands (bus_of host.new) endpoint.new }
+{
+    submit(host, endpoint)?;
+    submit(host, endpoint)?;
+    go_on(host);
+    go_on(host);
+    go_on(host);
+    go_on(host);
     Ok(())
+}
+
+/// Whether one of two transfers has its packet of 1 byte, the other ended as the device went, and
+/// so does one more.
+fn is_unplugged(host: &mut Host, endpoint: &mut Endpoint<Bulk, In>) -> Result<bool, NoMemory>
+    requires stands { Stands (bus_of host.old) endpoint.old }
+    ensures stands { Stands (bus_of host.new) endpoint.new }
+{
+    submit_two(host, endpoint)?;
+    let first = polls_as(host, endpoint, 1, Ok(()));
+    let second = polls_as(host, endpoint, 0, Err(TransferError::Disconnected));
+    submit(host, endpoint)?;
+    let third = polls_as(host, endpoint, 0, Err(TransferError::Disconnected));
+    Ok(first && second && third)
 }
 
 #[test]
 fn an_unplug_finishes_what_is_open(rt: HostRuntime) -> Result<(), std::test::Fail> {
-    let mut host = new_host(rt.alloc(), unplug_steps(rt.alloc())?)?;
-    expect_unplugged(&rt, rt.alloc(), &mut host)
+    expect(&rt, rt.alloc(), Case::Unplug)
 }
 
 /// Reads one packet from bulk IN endpoint 0x81 of the device at bus 1 and address 6, within a
@@ -261,24 +257,15 @@ fn read_packet(alloc: Global, host: &mut Host) -> Result<Option<Completion>, Fai
     done
 }
 
-/// A packet of 3 bytes.
-fn packet_steps(alloc: Global) -> Result<Vec<KernelStep>, NoMemory>
-    ensures errnos { IfOk result (λ steps. All HasErrno steps.items) }
-{
-    match vec![in alloc; packet(alloc, &[1, 2, 3])?] {
-        Ok(steps) => Ok(steps),
-        Err(_) => Err(NoMemory),
-    }
-}
-
-fn expect_packet(rt: &impl Abort, alloc: Global, host: &mut Host) -> Result<(), std::test::Fail> {
-    let done = read_packet(alloc, host)?.ok_or("no packet")?;
-    assert_eq!(rt; done.buffer.as_slice(), [1, 2, 3].as_slice());
-    Ok(())
+pub fn expect_packet(rt: &impl Abort, alloc: Global, host: &mut Host) {
+    let is_read = match read_packet(alloc, host) {
+        Ok(Some(done)) => done.buffer.as_slice() == [1, 2, 3].as_slice(),
+        _ => false,
+    };
+    assert!(rt; is_read);
 }
 
 #[test]
 fn a_short_driver_reads_a_packet(rt: HostRuntime) -> Result<(), std::test::Fail> {
-    let mut host = new_host(rt.alloc(), packet_steps(rt.alloc())?)?;
-    expect_packet(&rt, rt.alloc(), &mut host)
+    expect(&rt, rt.alloc(), Case::Packet)
 }

@@ -4,9 +4,8 @@ ghost use Rattle.std.specs.Prelude.{◌≡◌, IfOk};
 ghost use Rattle.usb_desc.specs.declared.types.TransferType.{TransferType};
 ghost use Rattle.usb_kernel.specs.Submissions.{IsWhole};
 
-use crate::kernels::{
-    expect_finished, expect_reap, expect_step, expect_ticket, new_kernel, wanting,
-};
+use crate::cases::{Case, expect};
+use crate::kernels::{expect_finished, expect_reap, expect_step, expect_ticket, expect_wanting};
 use std::alloc::Global;
 use std::process::Abort;
 use std::test::Fail;
@@ -31,26 +30,42 @@ fn control(alloc: Global, deadline: u64) -> Result<Submission, NoMemory>
     })
 }
 
-fn submit_three(rt: &impl Abort, alloc: Global, kernel: &mut Kernel) -> Result<(), NoMemory> {
-    expect_ticket(rt, kernel, control(alloc, 100)?, 0);
-    expect_ticket(rt, kernel, control(alloc, 200)?, 1);
-    expect_ticket(rt, kernel, wanting(alloc, 0)?, 2);
+/// Submits a control transfer with a deadline, which gets this ticket.
+fn expect_control(
+    rt: &impl Abort,
+    alloc: Global,
+    kernel: &mut Kernel,
+    deadline: u64,
+    ticket: u64,
+) -> Result<(), NoMemory> {
+    expect_ticket(rt, kernel, control(alloc, deadline)?, ticket);
     Ok(())
 }
 
-fn expect_first_due(rt: &impl Abort, kernel: &mut Kernel) -> Result<(), Fail> {
+fn submit_three(rt: &impl Abort, alloc: Global, kernel: &mut Kernel) -> Result<(), NoMemory> {
+    expect_control(rt, alloc, kernel, 100, 0)?;
+    expect_control(rt, alloc, kernel, 200, 1)?;
+    expect_wanting(rt, alloc, kernel, 0, 2)
+}
+
+/// Reaps a ticket: its status, whether it was refused, and its count.
+fn reaped(kernel: &mut Kernel, ticket: u64) -> Option<(u16, bool, usize)> {
+    let done = kernel.reap(ticket)?;
+    Some((done.status, done.refused, done.count))
+}
+
+fn expect_first_due(rt: &impl Abort, kernel: &mut Kernel) -> Result<(), NoMemory> {
     kernel.idle(99);
     expect_step(rt, kernel, KernelStep::Timer)?;
     expect_finished(rt, kernel, None);
     expect_step(rt, kernel, KernelStep::Clock { to: 100 })?;
     expect_step(rt, kernel, KernelStep::Timer)?;
-    let first = kernel.reap(0).ok_or("no completion")?;
-    assert_eq!(rt; (first.status, first.refused, first.count), (2, false, 0));
+    assert_eq!(rt; reaped(kernel, 0), Some((2, false, 0)));
     expect_finished(rt, kernel, None);
     Ok(())
 }
 
-fn expect_due(rt: &impl Abort, alloc: Global, kernel: &mut Kernel) -> Result<(), Fail> {
+pub fn expect_due(rt: &impl Abort, alloc: Global, kernel: &mut Kernel) -> Result<(), NoMemory> {
     submit_three(rt, alloc, kernel)?;
     expect_first_due(rt, kernel)?;
     kernel.idle(1000);
@@ -62,24 +77,29 @@ fn expect_due(rt: &impl Abort, alloc: Global, kernel: &mut Kernel) -> Result<(),
 
 #[test]
 fn a_turn_of_the_timer_discards_what_is_due(rt: HostRuntime) -> Result<(), Fail> {
-    let mut kernel = new_kernel(rt.alloc())?;
-    expect_due(&rt, rt.alloc(), &mut kernel)
+    expect(&rt, rt.alloc(), Case::Timer)
 }
 
-fn expect_clock(rt: &impl Abort, kernel: &mut Kernel) -> Result<(), Fail> {
+/// Times until which the kernel idles, and what its clock shows then.
+const IDLE: [(u64, u64); 2] = [(4, 5), (9, 9)];
+
+fn expect_idle(rt: &impl Abort, kernel: &mut Kernel) {
+    for (until, now) in &IDLE {
+        kernel.idle(*until);
+        assert_eq!(rt; kernel.now(), *now, "until {until}");
+    }
+}
+
+pub fn expect_clock(rt: &impl Abort, kernel: &mut Kernel) -> Result<(), NoMemory> {
     assert_eq!(rt; kernel.now(), 0);
     expect_step(rt, kernel, KernelStep::Clock { to: 5 })?;
     expect_step(rt, kernel, KernelStep::Clock { to: 3 })?;
     assert_eq!(rt; kernel.now(), 5);
-    for (until, now) in [(4, 5), (9, 9)] {
-        kernel.idle(until);
-        assert_eq!(rt; kernel.now(), now, "until {until}");
-    }
+    expect_idle(rt, kernel);
     Ok(())
 }
 
 #[test]
 fn the_clock_never_falls(rt: HostRuntime) -> Result<(), Fail> {
-    let mut kernel = new_kernel(rt.alloc())?;
-    expect_clock(&rt, &mut kernel)
+    expect(&rt, rt.alloc(), Case::Clock)
 }

@@ -123,6 +123,28 @@ pub fn expect_ticket(rt: &impl Abort, kernel: &mut Kernel, submission: Submissio
     assert_eq!(rt; queued, Some(ticket));
 }
 
+/// Submits a bulk transfer that wants 64 bytes, and that gets this ticket.
+pub fn expect_wanting(
+    rt: &impl Abort,
+    alloc: Global,
+    kernel: &mut Kernel,
+    device: u8,
+    ticket: u64,
+) -> Result<(), NoMemory> {
+    expect_ticket(rt, kernel, wanting(alloc, device)?, ticket);
+    Ok(())
+}
+
+/// Applies a packet that gives no completion.
+pub fn expect_packet(
+    rt: &impl Abort,
+    alloc: Global,
+    kernel: &mut Kernel,
+    bytes: &[u8],
+) -> Result<(), NoMemory> {
+    expect_step(rt, kernel, packet(alloc, bytes)?)
+}
+
 /// What a submission that is refused gives.
 pub fn refused(submitted: Result<Submitted, Submission>) -> Option<Done> {
     match submitted {
@@ -131,11 +153,24 @@ pub fn refused(submitted: Result<Submitted, Submission>) -> Option<Done> {
     }
 }
 
+/// The status of a submission of a bulk transfer, where it is refused.
+pub fn refusal(alloc: Global, kernel: &mut Kernel, device: u8) -> Result<Option<u16>, NoMemory> {
+    match refused(kernel.submit(wanting(alloc, device)?)) {
+        Some(done) => Ok(Some(done.status)),
+        None => Ok(None),
+    }
+}
+
+/// Reaps a ticket: its status and its count.
+fn reaped(kernel: &mut Kernel, ticket: u64) -> Option<(u16, usize)> {
+    let done = kernel.reap(ticket)?;
+    Some((done.status, done.count))
+}
+
 /// Reaps a ticket, and compares its status and its count.
 pub fn expect_reap(rt: &impl Abort, kernel: &mut Kernel, ticket: u64, status: u16, count: usize) {
-    let done = kernel.reap(ticket);
     assert_eq!(rt;
-        done.map(|done| (done.status, done.count)),
+        reaped(kernel, ticket),
         Some((status, count)),
         "of {ticket}"
     );

@@ -2,7 +2,6 @@
 use Rattle.std.proofs.Common.{◌≡◌, ℕ, List, ◌++◌, Option, Some, None, Result, Ok, Err, refl, ap, sym, ◌∙◌, subst}
 use Rattle.std.specs.Prelude.{OnOk}
 use Rattle.std.specs.Option.{option_map}
-use Rattle.usb_device.specs.HostState.{HostState}
 use Rattle.usb_lines.specs.Calls.{condition_line}
 use Rattle.usb_answers.specs.Names.{named, is_free}
 use Rattle.usb_answers.specs.State.{State, Endpoint, kept}
@@ -32,10 +31,6 @@ answers-same {line = line} {f = f} before after r view text gives =
 -- a barred call
 pub barred-gives : (s : SessionState) (state : State) → Represents s state → Gives s condition_line (barred state)
 barred-gives s state r = record { state = r; same = refl }
-
--- a host that is as it was
-pub same-host : (s : SessionState) (now : HostState) (line : List ℕ) (a : Answer) → now ≡ s.host → Gives s line a → Gives (record s { host = now }) line a
-same-host s now line a same gives = subst (λ (h : HostState). Gives (record s { host = h }) line a) (sym same) gives
 
 -- what was asked is told, or the call is barred
 pub told-answered : (s : SessionState) (state : State) (before after line : List ℕ) → Represents s state → after ≡ before ++ line → Answered s before after (told state line)

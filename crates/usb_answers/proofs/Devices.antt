@@ -1,5 +1,6 @@
 -- Devices: they are opened, and tell of themselves.
 use Rattle.std.proofs.Common.{◌≡◌, ℕ, ◌<◌, ◌≤◌, arith, List, length, Option, Some, None, Result, Ok, Err, true, false, refl, ap, sym, ◌∙◌, subst, slice_get, inl, inr}
+use Rattle.usb_desc.specs.declared.error.Fail.{Fail}
 use Rattle.usb_error.specs.ErrorState.{ErrorState}
 use Rattle.usb_lines.specs.Calls.{ok_line, condition_line, error_line}
 use Rattle.usb_bus.specs.BusState.{BusState}
@@ -8,16 +9,19 @@ use Rattle.usb_device.specs.declared.opened.OpenDevice.{OpenDevice}
 use Rattle.usb_device.specs.HostState.{HostState}
 use Rattle.usb_device.specs.HostBus.{bus_of}
 use Rattle.usb_device.specs.HandleStates.{StandsDevice}
-use Rattle.usb_device.specs.Opens.{open_tried, opened_by, host_opened, with_key, open_key}
+use Rattle.usb_device.specs.CallErrors.{Leaves}
+use Rattle.usb_device.specs.Opens.{host_opened, open_key}
+use Rattle.usb_device.proofs.Left.{left}
 use Rattle.usb_device.proofs.InterfaceFrames.{StandsInterface-same, opened-is, opened-length}
 use Rattle.usb_answers.specs.Names.{named, is_free, set_name}
-use Rattle.usb_answers.specs.State.{State}
+use Rattle.usb_answers.specs.State.{State, with_host}
 use Rattle.usb_answers.specs.OpenAt.{device_at}
 use Rattle.usb_answers.specs.Answer.{Answer, told, barred, if_open}
 use Rattle.usb_answers.specs.Opens.{open_answer, opened_as}
 use Rattle.usb_answers.specs.SessionState.{SessionState, IsSound}
 use Rattle.usb_answers.specs.Relation.{Represents, session_of}
 use Rattle.usb_answers.proofs.NameLemmas.{length-set_name, names-set}
+use Rattle.usb_answers.proofs.Called.{represents-host}
 use Rattle.usb_answers.proofs.Answering.{Gives, barred-gives}
 
 below : (k a b : ℕ) → k < a → a ≤ b → k < b
@@ -26,36 +30,56 @@ below k a b less more = omega (arith, less, more)
 opened-more : (h now : HostState) (bus address : ℕ) → now ≡ host_opened h bus address → length h.devices ≤ length now.devices
 opened-more h now bus address is = subst (λ (g : HostState). length h.devices ≤ length g.devices) (sym is) (opened-length h bus address)
 
--- a session in which one more device is open
-pub open-sound : (s : SessionState) (now : HostState) (after : List (Option ℕ)) (d key bus address : ℕ) → IsSound s → now ≡ host_opened s.host bus address → StandsDevice now key → is_free s.devices d ≡ true → after ≡ set_name s.devices d key → IsSound (record s { host = now; devices = after })
-open-sound s now after d key bus address sound is stands free put =
+-- a session whose host tried to open a device
+pub opened-sound : (s : SessionState) (now : HostState) (bus address : ℕ) → IsSound s → now ≡ host_opened s.host bus address → IsSound (record s { host = now })
+opened-sound s now bus address sound is =
     let made = is ∙ opened-is s.host bus address in
     let more = opened-more s.host now bus address is in
     record {
       idle = ap (λ (g : HostState). g.steps) made ∙ sound.idle;
-      device_names = ap (λ (l : List (Option ℕ)). length l) put ∙ length-set_name s.devices d key ∙ sound.device_names;
+      device_names = sound.device_names;
       interface_names = sound.interface_names;
       endpoint_names = sound.endpoint_names;
-      devices_stand = λ e k at. elim (names-set s.devices after d e key k free put at) [
-        | inl here ↦ subst (StandsDevice now) (sym here.1) stands
-        | inr there ↦ below k (length s.host.devices) (length now.devices) (sound.devices_stand e k there.1) more
-      ];
+      devices_stand = λ d k at. below k (length s.host.devices) (length now.devices) (sound.devices_stand d k at) more;
       interfaces_stand = λ i f at. StandsInterface-same s.host now f (ap (λ (g : HostState). g.interfaces) made) more (sound.interfaces_stand i f at);
       interfaces_differ = sound.interfaces_differ;
       endpoints_stand = λ e h at. subst (λ (b : BusState). Stands b h) (sym (ap bus_of made)) (sound.endpoints_stand e h at);
       endpoints_differ = sound.endpoints_differ;
     }
 
+pub open-left : {A : Type 0} (s : SessionState) (now : HostState) (bus address : ℕ) (r : Result A (Fail ErrorState)) → IsSound s → Leaves r now (host_opened s.host bus address) s.host → IsSound (record s { host = now })
+open-left s now bus address r sound is =
+    left (λ (h : HostState). IsSound (record s { host = h })) r now (host_opened s.host bus address) s.host is (opened-sound s (host_opened s.host bus address) bus address sound refl) sound
+
+-- and one in which the device is open
+pub open-sound : (s : SessionState) (now : HostState) (after : List (Option ℕ)) (d key bus address : ℕ) → IsSound s → now ≡ host_opened s.host bus address → StandsDevice now key → is_free s.devices d ≡ true → after ≡ set_name s.devices d key → IsSound (record s { host = now; devices = after })
+open-sound s now after d key bus address sound is stands free put =
+    let tried = opened-sound s now bus address sound is in
+    record {
+      idle = tried.idle;
+      device_names = ap (λ (l : List (Option ℕ)). length l) put ∙ length-set_name s.devices d key ∙ sound.device_names;
+      interface_names = sound.interface_names;
+      endpoint_names = sound.endpoint_names;
+      devices_stand = λ e k at. elim (names-set s.devices after d e key k free put at) [
+        | inl here ↦ subst (StandsDevice now) (sym here.1) stands
+        | inr there ↦ tried.devices_stand e k there.1
+      ];
+      interfaces_stand = tried.interfaces_stand;
+      interfaces_differ = sound.interfaces_differ;
+      endpoints_stand = tried.endpoints_stand;
+      endpoints_differ = sound.endpoints_differ;
+    }
+
 -- the state in which it is open
-open-by : (state : State) (now : HostState) (after : List (Option ℕ)) (d key : ℕ) (t : Result OpenDevice ErrorState) → Represents (session_of state) state → with_key (length state.host.devices) t ≡ Ok key → now ≡ opened_by state.host t → after ≡ set_name state.devices d key → Gives (record (session_of state) { host = now; devices = after }) ok_line (opened_as state d t)
-open-by state now after d key (Err error) r tried is put = absurd (cc)
-open-by state now after d key (Ok o) r tried is put =
-    let same : length state.host.devices ≡ key = cc in
+open-by : (state : State) (host now : HostState) (after : List (Option ℕ)) (d key : ℕ) (t : Result ℕ ErrorState) → Represents (session_of state) state → t ≡ Ok key → now ≡ host → after ≡ set_name state.devices d key → Gives (record (session_of state) { host = now; devices = after }) ok_line (opened_as (with_host state host) d t)
+open-by state host now after d key (Err error) r tried is put = absurd (cc)
+open-by state host now after d key (Ok k) r tried is put =
+    let same : k ≡ key = cc in
     record {
       state = record {
         is =
             ap (λ (g : HostState). record (session_of state) { host = g; devices = after }) is
-            ∙ ap (λ (l : List (Option ℕ)). record (session_of state) { host = opened_by state.host (Ok o); devices = l }) (put ∙ ap (set_name state.devices d) (sym same));
+            ∙ ap (λ (l : List (Option ℕ)). record (session_of state) { host = host; devices = l }) (put ∙ ap (set_name state.devices d) (sym same));
         few = r.few;
       };
       same = refl;
@@ -65,28 +89,32 @@ abbrev OpenGives : State → ℕ → ℕ → ℕ → ℕ → HostState → List 
 OpenGives state d key bus address now after v = is_free v.devices d ≡ true → open_key v.host bus address ≡ Ok key → now ≡ host_opened v.host bus address → after ≡ set_name v.devices d key → Gives (record v { host = now; devices = after }) ok_line (open_answer state d bus address)
 
 open-of : (state : State) (now : HostState) (after : List (Option ℕ)) (d key bus address : ℕ) → Represents (session_of state) state → OpenGives state d key bus address now after (session_of state)
-unfolding open_answer open_key host_opened
-open-of state now after d key bus address r free tried is put = rw free (open-by state now after d key (open_tried state.host.kernel.devices bus address) r tried is put)
+unfolding open_answer
+open-of state now after d key bus address r free tried is put = rw free (open-by state (host_opened state.host bus address) now after d key (open_key state.host bus address) r tried is put)
 
 pub open-gives : (s : SessionState) (state : State) (now : HostState) (after : List (Option ℕ)) (d key bus address : ℕ) → Represents s state → OpenGives state d key bus address now after s
 open-gives s state now after d key bus address r =
     subst (OpenGives state d key bus address now after) (sym r.is) (open-of state now after d key bus address (record { is = refl; few = r.few }))
 
 -- or that in which it is refused
-refused-by : (state : State) (d key : ℕ) (error : ErrorState) (t : Result OpenDevice ErrorState) → with_key key t ≡ Err error → Represents (session_of state) state → Gives (session_of state) (error_line error) (opened_as state d t)
-refused-by state d key error (Err other) tried r = record { state = r; same = let same : other ≡ error = cc in ap error_line same }
-refused-by state d key error (Ok o) tried r = absurd (cc)
+refused-by : (state : State) (host now : HostState) (d : ℕ) (error : ErrorState) (t : Result ℕ ErrorState) → Represents (session_of state) state → t ≡ Err error → now ≡ host → Gives (record (session_of state) { host = now }) (error_line error) (opened_as (with_host state host) d t)
+refused-by state host now d error (Err other) r tried is =
+    record {
+      state = subst (λ (g : HostState). Represents (record (session_of state) { host = now }) (with_host state g)) is (represents-host (session_of state) state now r);
+      same = let same : other ≡ error = cc in ap error_line same;
+    }
+refused-by state host now d error (Ok key) r tried is = absurd (cc)
 
-abbrev OpenRefused : State → ℕ → ℕ → ℕ → ErrorState → SessionState → Type 0
-OpenRefused state d bus address error v = is_free v.devices d ≡ true → open_key v.host bus address ≡ Err error → Gives v (error_line error) (open_answer state d bus address)
+abbrev OpenRefused : State → ℕ → ℕ → ℕ → ErrorState → HostState → SessionState → Type 0
+OpenRefused state d bus address error now v = is_free v.devices d ≡ true → open_key v.host bus address ≡ Err error → now ≡ host_opened v.host bus address → Gives (record v { host = now }) (error_line error) (open_answer state d bus address)
 
-refused-of : (state : State) (d bus address : ℕ) (error : ErrorState) → Represents (session_of state) state → OpenRefused state d bus address error (session_of state)
-unfolding open_answer open_key
-refused-of state d bus address error r free tried = rw free (refused-by state d (length state.host.devices) error (open_tried state.host.kernel.devices bus address) tried r)
+refused-of : (state : State) (now : HostState) (d bus address : ℕ) (error : ErrorState) → Represents (session_of state) state → OpenRefused state d bus address error now (session_of state)
+unfolding open_answer
+refused-of state now d bus address error r free tried is = rw free (refused-by state (host_opened state.host bus address) now d error (open_key state.host bus address) r tried is)
 
-pub open-refused : (s : SessionState) (state : State) (d bus address : ℕ) (error : ErrorState) → Represents s state → OpenRefused state d bus address error s
-open-refused s state d bus address error r =
-    subst (OpenRefused state d bus address error) (sym r.is) (refused-of state d bus address error (record { is = refl; few = r.few }))
+pub open-refused : (s : SessionState) (state : State) (now : HostState) (d bus address : ℕ) (error : ErrorState) → Represents s state → OpenRefused state d bus address error now s
+open-refused s state now d bus address error r =
+    subst (OpenRefused state d bus address error now) (sym r.is) (refused-of state now d bus address error (record { is = refl; few = r.few }))
 
 -- or that in which it is barred
 pub open-barred : (s : SessionState) (state : State) (d bus address : ℕ) → Represents s state → is_free s.devices d ≡ false → Gives s condition_line (open_answer state d bus address)
@@ -95,8 +123,9 @@ open-barred s state d bus address r used =
     let here : is_free state.devices d ≡ false = ap (λ (v : SessionState). is_free v.devices d) (sym r.is) ∙ used in
     rw here (barred-gives s state r)
 
-pub open-spare : (h now : HostState) (bus address : ℕ) → now ≡ host_opened h bus address → now.kernel.spare ≡ h.kernel.spare
-open-spare h now bus address is = ap (λ (g : HostState). g.kernel.spare) (is ∙ opened-is h bus address)
+pub open-spare : {A : Type 0} (h now : HostState) (bus address : ℕ) (r : Result A (Fail ErrorState)) → Leaves r now (host_opened h bus address) h → now.kernel.spare ≡ h.kernel.spare
+open-spare h now bus address r is =
+    left (λ (g : HostState). g.kernel.spare ≡ h.kernel.spare) r now (host_opened h bus address) h is (ap (λ (g : HostState). g.kernel.spare) (opened-is h bus address)) refl
 
 -- what is open under a name of a device
 pub device-none : (s : SessionState) (state : State) (d : ℕ) → Represents s state → named s.devices d ≡ None → device_at state d ≡ None

@@ -15,7 +15,7 @@ use Rattle.usb_device.specs.HandleStates.{InterfaceState}
 use Rattle.usb_script.specs.declared.item.Item.{Item}
 use Rattle.usb_script.specs.ItemKinds.{step_count}
 use Rattle.usb_answers.specs.Names.{named}
-use Rattle.usb_answers.specs.State.{State, Endpoint, kept}
+use Rattle.usb_answers.specs.State.{Endpoint, kept}
 use Rattle.usb_answers.specs.Output.{devices_of, start}
 use Rattle.usb_answers.specs.SessionState.{SessionState, IsSound}
 use Rattle.usb_answers.specs.SessionFacts.{session_made}

@@ -17,7 +17,8 @@ use Rattle.usb_bus.specs.Completions.{transfer_completion}
 use Rattle.usb_endpoint.specs.EndpointState.{EndpointState}
 use Rattle.usb_device.specs.Owners.{is_used_among, is_owned_among}
 use Rattle.usb_device.specs.Releases.{claim_ended, claim_of, owner_gone, settled}
-use Rattle.usb_device.specs.Opens.{descriptors_tried, open_tried}
+use Rattle.usb_kernel.specs.Calls.{called}
+use Rattle.usb_device.specs.Opens.{descriptors_tried, open_tried, host_opened, open_key}
 use Rattle.usb_device.specs.InterfaceClaims.{host_claimed}
 use Rattle.usb_device.specs.EndpointOpens.{host_asked, endpoint_of_setting, host_tries}
 use Rattle.usb_device.specs.HostCalls.{host_submitted, host_refused, host_discarded, host_left}
@@ -59,7 +60,7 @@ use Rattle.usb_answers.specs.Served.{Handle, handles}
 
 -- all that an output unfolds
 unfoldable output_on_literals : ⊤
-unfolding output start answer now_answer open_answer device_descriptor_answer descriptors_answer claim_answer endpoint_answer submit_answer pending_answer poll_answer wait_answer transfer_answer cancel_answer close_answer steps_answer stepped_all closed interface_closed all_closed ended fate_line fate_lines named is_free change_named freed set_name is_used_among is_owned_among claim_ended claim_of owner_gone settled descriptors_tried open_tried host_claimed host_asked endpoint_of_setting host_tries host_submitted host_refused host_discarded host_left host_ended host_taken host_abandoned came host_stepped host_reaped host_waited host_blocked handle_closed finished transfer_completion completion unreaped chain groups concatenated configurations interfaces_among hex_word error_line done_line count_line now_line ticket_line device_line class_words product_words string_words class_code endpoint_words interface_words setting_words configuration_words descriptors_line digits encode_with
+unfolding output start answer now_answer open_answer device_descriptor_answer descriptors_answer claim_answer endpoint_answer submit_answer pending_answer poll_answer wait_answer transfer_answer cancel_answer close_answer steps_answer stepped_all closed interface_closed all_closed ended fate_line fate_lines named is_free change_named freed set_name is_used_among is_owned_among claim_ended claim_of owner_gone settled called descriptors_tried open_tried host_opened open_key host_claimed host_asked endpoint_of_setting host_tries host_submitted host_refused host_discarded host_left host_ended host_taken host_abandoned came host_stepped host_reaped host_waited host_blocked handle_closed finished transfer_completion completion unreaped chain groups concatenated configurations interfaces_among hex_word error_line done_line count_line now_line ticket_line device_line class_words product_words string_words class_code endpoint_words interface_words setting_words configuration_words descriptors_line digits encode_with
 output_on_literals = tt
 
 -- a line of a script, the item that it is, and the line that it is answered, which is empty where it has no answer

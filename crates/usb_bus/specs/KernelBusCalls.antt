@@ -7,7 +7,9 @@ use Rattle.usb_xfer.specs.Transfers.{buffer_held}
 use Rattle.usb_kernel.specs.declared.event.Event.{Event}
 use Rattle.usb_kernel.specs.declared.step.KernelStep.{KernelStep}
 use Rattle.usb_kernel.specs.declared.submission.Submission.{Submission}
-use Rattle.usb_kernel.specs.Claims.{clear_halt_result}
+use Rattle.usb_kernel.specs.declared.step.KernelCall.TheVariants as call
+use Rattle.usb_kernel.specs.Claims.{no_rows, ok_unless}
+use Rattle.usb_kernel.specs.Calls.{errno_of, called, same}
 use Rattle.usb_kernel.specs.Completions.{waiting, lowest}
 use Rattle.usb_kernel.specs.Steps.{after_discard, after_reap, after_step}
 use Rattle.usb_kernel.specs.Timers.{timer_turned}
@@ -105,12 +107,13 @@ abbrev pub bus_idled : KernelBusState → ℕ → KernelBusState
 bus_idled h until =
     record h { kernel = record h.kernel { clock = max h.kernel.clock until; past = timer_turned (max h.kernel.clock until) h.kernel.past } }
 
--- a halt is cleared: none is kept
+-- a halt is cleared: the kernel's answer, and what is left of the kernel
 abbrev pub bus_halt_cleared : KernelBusState → ℕ → ℕ → KernelBusState
-bus_halt_cleared h device endpoint = h
+bus_halt_cleared h device endpoint =
+    record h { kernel = called h.kernel device call.Halt no_rows same }
 
 abbrev pub bus_halt_result : KernelBusState → ℕ → ℕ → Result (Unit {0}) ℕ
-bus_halt_result h device endpoint = clear_halt_result h.kernel.devices device
+bus_halt_result h device endpoint = ok_unless (errno_of h.kernel device call.Halt no_rows)
 
 -- a step of the simulation between two calls
 abbrev pub bus_stepped : KernelBusState → KernelStep → KernelBusState

@@ -1,5 +1,5 @@
 -- The number of tickets over the calls of a host: as many at the host as in the journal.
-use Rattle.std.proofs.Common.{ℕ, zero, suc, arith, ◌≡◌, ◌+◌, Bool, true, false, List, [], ◌∷◌, length, length-set, length-append, slice_get, Option, Some, None, refl, ◌∙◌, ap}
+use Rattle.std.proofs.Common.{ℕ, zero, suc, arith, ◌≡◌, ◌+◌, Bool, true, false, List, [], ◌∷◌, length, length-set, length-append, slice_get, Option, Some, None, Result, Ok, Err, refl, ◌∙◌, ap}
 use Rattle.std.specs.Prelude.{is_some, if◌then◌else◌}
 use Rattle.std.proofs.lemmas.Bool.{cond_both}
 use Rattle.usb_xfer.specs.BufferState.{BufferState}
@@ -20,7 +20,7 @@ use Rattle.usb_endpoint.specs.Closes.{all_discarded, all_abandoned, after_close}
 use Rattle.usb_device.specs.declared.ends.TicketEnd.{TicketEnd}
 use Rattle.usb_device.specs.declared.ends.TicketEnd.TheVariants.{Taken, Dropped, Reclaimed}
 use Rattle.usb_device.specs.declared.opened.OpenDevice.{OpenDevice}
-use Rattle.usb_device.specs.HostState.{HostState, HostTicket, HostEndpoint, ClaimedInterface, HeldBy, Abandoned, Ended}
+use Rattle.usb_device.specs.HostState.{HostState, HostTicket, HostEndpoint, ClaimedInterface, fresh_interface, HeldBy, Abandoned, Ended}
 use Rattle.usb_device.specs.Releases.{settled, owner_gone}
 use Rattle.usb_device.specs.TicketEnds.{ended_as, host_ended, host_taken, given_up, host_abandoned, reclaimed_if, came}
 use Rattle.usb_device.specs.HostTurns.{with_past, host_stepped, host_reaped, all_stepped, host_rest}
@@ -28,7 +28,9 @@ use Rattle.usb_device.specs.HostCalls.{host_submitted, host_refused, host_discar
 use Rattle.usb_device.specs.HostWaits.{is_found, is_late, reap_and, wait_reaps, wait_steps, host_waited}
 use Rattle.usb_device.specs.HostBlocking.{or_then, waited_by_seconds, host_blocked}
 use Rattle.usb_device.specs.Handles.{handle_gone, handle_closed}
-use Rattle.usb_device.specs.InterfaceClaims.{claimed_on, host_claimed}
+use Rattle.usb_error.specs.ErrorState.{ErrorState}
+use Rattle.usb_kernel.specs.Calls.{called}
+use Rattle.usb_device.specs.InterfaceClaims.{claim_tried, kernel_claimed, claimed_by, claimed_on, host_claimed}
 use Rattle.usb_device.specs.EndpointOpens.{asked_on, host_asked}
 
 -- no ticket was added
@@ -199,15 +201,22 @@ pub handle_closed-count : (h : HostState) (i : ℕ) → KeepsCount h (handle_clo
 unfolding handle_closed
 handle_closed-count h i = handle_gone-count h i (slice_get h.interfaces i)
 
+claimed_by-count : (h g : HostState) (c : ClaimedInterface) (r : Result (Unit {0}) ErrorState) → KeepsCount h g → KeepsCount h (claimed_by g c r)
+claimed_by-count h g c (Err error) keeps = keeps
+claimed_by-count h g c (Ok done) keeps = record { count = keeps.count; past = keeps.past }
+
 claimed_on-count : (h : HostState) (key number : ℕ) (o : Option OpenDevice) → KeepsCount h (claimed_on h key number o)
+unfolding called
 claimed_on-count h key number None = count-same h
-claimed_on-count h key number (Some o) = record { count = refl; past = refl }
+claimed_on-count h key number (Some o) =
+    claimed_by-count h (record h { kernel = kernel_claimed h.kernel o number }) (fresh_interface key o.device number) (claim_tried h o number) (record { count = refl; past = refl })
 
 pub claimed-count : (h : HostState) (key number : ℕ) → KeepsCount h (host_claimed h key number)
 unfolding host_claimed
 claimed-count h key number = claimed_on-count h key number (slice_get h.devices key)
 
 asked_on-count : (h : HostState) (key : ℕ) (o : Option OpenDevice) → KeepsCount h (asked_on h key o)
+unfolding called
 asked_on-count h key None = count-same h
 asked_on-count h key (Some o) = record { count = refl; past = refl }
 

@@ -17,7 +17,7 @@ use Rattle.usb_bus.specs.declared.route.Route.{Route}
 use Rattle.usb_device.specs.declared.ends.TicketEnd.{TicketEnd}
 use Rattle.usb_device.specs.declared.ends.TicketEnd.TheVariants.{Taken, Dropped, Reclaimed}
 use Rattle.usb_device.specs.declared.opened.OpenDevice.{OpenDevice}
-use Rattle.usb_device.specs.HostState.{HostState, HostTicket, HostEndpoint, ClaimedInterface, HeldBy, Abandoned, Ended}
+use Rattle.usb_device.specs.HostState.{HostState, HostTicket, HostEndpoint, ClaimedInterface, fresh_interface, HeldBy, Abandoned, Ended}
 use Rattle.usb_device.specs.HostBus.{end_at, ended_at}
 use Rattle.usb_device.specs.EndLaws.{KeepsEnds, EndsStay}
 use Rattle.usb_device.specs.Releases.{settled, owner_gone}
@@ -27,7 +27,7 @@ use Rattle.usb_device.specs.HostCalls.{submitted_with, host_submitted, refused_w
 use Rattle.usb_device.specs.Finishes.{discarded_below, reaped_below, finished}
 use Rattle.usb_device.specs.Handles.{handle_gone, handle_closed}
 use Rattle.usb_device.specs.Opens.{open_tried, opened_by, host_opened}
-use Rattle.usb_device.specs.InterfaceClaims.{claimed_on, host_claimed}
+use Rattle.usb_device.specs.InterfaceClaims.{claim_tried, kernel_claimed, claimed_by, claimed_on, host_claimed}
 use Rattle.usb_device.specs.EndpointOpens.{asked_on, host_asked}
 
 same : (h : HostState) → KeepsEnds h h
@@ -158,11 +158,15 @@ opened-by-ends h (Ok o) = λ t end at. at
 
 opened-ends : (h : HostState) (bus address : ℕ) → KeepsEnds h (host_opened h bus address)
 unfolding host_opened
-opened-ends h bus address = opened-by-ends h (open_tried h.kernel.devices bus address)
+opened-ends h bus address = let step = open_tried bus address h.kernel in opened-by-ends (record h { kernel = step.kernel }) step.answer
+
+claimed_by-ends : (h : HostState) (c : ClaimedInterface) (r : Result (Unit {0}) ErrorState) → KeepsEnds h (claimed_by h c r)
+claimed_by-ends h c (Err error) = same h
+claimed_by-ends h c (Ok done) = λ t end at. at
 
 claimed-by : (h : HostState) (key number : ℕ) (o : Option OpenDevice) → KeepsEnds h (claimed_on h key number o)
 claimed-by h key number None = same h
-claimed-by h key number (Some o) = λ t end at. at
+claimed-by h key number (Some o) = claimed_by-ends (record h { kernel = kernel_claimed h.kernel o number }) (fresh_interface key o.device number) (claim_tried h o number)
 
 claimed-ends : (h : HostState) (key number : ℕ) → KeepsEnds h (host_claimed h key number)
 unfolding host_claimed

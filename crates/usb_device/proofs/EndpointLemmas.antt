@@ -1,5 +1,5 @@
 -- Endpoints are opened.
-use Rattle.std.proofs.Common.{ℕ, zero, suc, arith, ◌≡◌, ◌<◌, Bool, true, false, List, [], ◌∷◌, ◌++◌, length, set, slice_get, Option, Some, None, Ok, refl, ◌∙◌, ap, inl, inr, length-set}
+use Rattle.std.proofs.Common.{ℕ, zero, suc, arith, ◌≡◌, ◌<◌, Bool, true, false, List, [], ◌∷◌, ◌++◌, length, set, slice_get, Option, Some, None, Ok, refl, ◌∙◌, ap, inl, inr}
 use Rattle.std.specs.Prelude.{not, ◌==◌}
 use Rattle.std.proofs.lemmas.Grind.{common_steps}
 use Rattle.std.proofs.lemmas.Bool.{cases_Bool}
@@ -16,27 +16,15 @@ use Rattle.usb_endpoint.specs.EndpointState.{EndpointState}
 use Rattle.usb_endpoint.specs.Handles.{Stands, KeepsOthers}
 use Rattle.usb_device.specs.Owners.{is_in_use}
 use Rattle.usb_device.specs.EndpointRefusals.{endpoint_tried, same_direction, is_type}
+use Rattle.usb_kernel.specs.declared.step.KernelCall.TheVariants as call
+use Rattle.usb_kernel.specs.Claims.{no_rows}
+use Rattle.usb_kernel.specs.Calls.{called, same}
+use Rattle.usb_device.proofs.InterfaceFrames.{asked-is, asked-length}
 use Rattle.usb_device.specs.EndpointOpens.{active_value, host_asked, asked_on, endpoint_in, endpoint_of_setting, host_tries}
 
-pub asked-at : (h : HostState) (key : ℕ) (o : OpenDevice) → slice_get h.devices key ≡ Some o → host_asked h key ≡ record h { devices = set h.devices key (record o { configuration = active_value h.kernel.devices o }) }
+pub asked-at : (h : HostState) (key : ℕ) (o : OpenDevice) → slice_get h.devices key ≡ Some o → host_asked h key ≡ record h { kernel = called h.kernel o.device call.GetConfig no_rows same; devices = set h.devices key (record o { configuration = active_value h.kernel o }) }
 unfolding host_asked
 asked-at h key o at = ap (asked_on h key) at
-
-asked_on-made : (h : HostState) (key : ℕ) (o : Option OpenDevice) → asked_on h key o ≡ record h { devices = (asked_on h key o).devices }
-asked_on-made h key None = refl
-asked_on-made h key (Some o) = refl
-
-pub asked-made : (h : HostState) (key : ℕ) → host_asked h key ≡ record h { devices = (host_asked h key).devices }
-unfolding host_asked
-asked-made h key = asked_on-made h key (slice_get h.devices key)
-
-asked_on-length : (h : HostState) (key : ℕ) (o : Option OpenDevice) → length (asked_on h key o).devices ≡ length h.devices
-asked_on-length h key None = refl
-asked_on-length h key (Some o) = length-set h.devices key _
-
-pub asked-length : (h : HostState) (key : ℕ) → length (host_asked h key).devices ≡ length h.devices
-unfolding host_asked
-asked-length h key = asked_on-length h key (slice_get h.devices key)
 
 pub tries-at : (h : HostState) (i : ℕ) (c : ClaimedInterface) (o : OpenDevice) (address : ℕ) (kind : TransferType) (direction : Direction) → slice_get h.devices c.opened ≡ Some o
     → host_tries h i c address kind direction ≡ endpoint_tried (endpoint_of_setting o c.number c.setting address) address kind direction (is_in_use h i address)
@@ -98,7 +86,7 @@ key-kept (x ∷ xs) e zero open_ = open_
 key-kept (x ∷ xs) e (suc k) open_ = key-kept xs e k open_
 
 asked-endpoints : (h : HostState) (key : ℕ) → (host_asked h key).endpoints ≡ h.endpoints
-asked-endpoints h key = ap (λ (x : HostState). x.endpoints) (asked-made h key)
+asked-endpoints h key = ap (λ (x : HostState). x.endpoints) (asked-is h key)
 
 pub endpoint-stands : (h new : HostState) (device i address : ℕ) (n : EndpointState) → new ≡ with_endpoint (host_asked h device) i address → n.key ≡ length h.endpoints → n.pending ≡ [] → Stands (bus_of new) n
 endpoint-stands h new device i address n is key none =
@@ -113,7 +101,7 @@ pub endpoint-others : (h new : HostState) (device i address key : ℕ) → new �
 endpoint-others h new device i address key is =
     let e : HostEndpoint = record { interface = Some i; address = address; is_open = true } in
     let endpoints : new.endpoints ≡ h.endpoints ++ e ∷ [] = ap (λ (x : HostState). x.endpoints) is ∙ ap (λ (es : List HostEndpoint). es ++ e ∷ []) (asked-endpoints h device) in
-    let tickets : new.tickets ≡ h.tickets = ap (λ (x : HostState). x.tickets) is ∙ ap (λ (x : HostState). x.tickets) (asked-made h device) in
+    let tickets : new.tickets ≡ h.tickets = ap (λ (x : HostState). x.tickets) is ∙ ap (λ (x : HostState). x.tickets) (asked-is h device) in
     record {
       tickets = λ t k other held. ap (λ (ts : List HostTicket). owner_at ts t) tickets ∙ held;
       keys = λ k other open_. ap (λ (es : List HostEndpoint). key_at es k) endpoints ∙ key-kept h.endpoints e k open_;
@@ -124,7 +112,7 @@ pub endpoint-interface : (h new : HostState) (i : InterfaceState) (device addres
 endpoint-interface h new i device address stands is =
     record {
       claim = stands.claim;
-      at = ap (λ (x : HostState). slice_get x.interfaces i.key) (is ∙ ap (λ x. with_endpoint x i.key address) (asked-made h device)) ∙ stands.at;
+      at = ap (λ (x : HostState). slice_get x.interfaces i.key) (is ∙ ap (λ x. with_endpoint x i.key address) (asked-is h device)) ∙ stands.at;
       number = stands.number;
       open_handle = stands.open_handle;
       device = rw (ap (λ (x : HostState). length x.devices) is ∙ asked-length h device) stands.device;
@@ -134,7 +122,7 @@ pub asked-interface : (h new : HostState) (i : InterfaceState) (device : ℕ) �
 asked-interface h new i device stands is =
     record {
       claim = stands.claim;
-      at = ap (λ (x : HostState). slice_get x.interfaces i.key) (is ∙ asked-made h device) ∙ stands.at;
+      at = ap (λ (x : HostState). slice_get x.interfaces i.key) (is ∙ asked-is h device) ∙ stands.at;
       number = stands.number;
       open_handle = stands.open_handle;
       device = rw (ap (λ (x : HostState). length x.devices) is ∙ asked-length h device) stands.device;

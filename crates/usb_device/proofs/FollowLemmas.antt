@@ -1,5 +1,5 @@
 -- What becomes of tickets while nothing is taken and no endpoint is closed.
-use Rattle.std.proofs.Common.{ℕ, zero, suc, arith, ◌≡◌, ◌≢◌, ◌<◌, ◌⊎◌, Bool, true, false, List, [], ◌∷◌, ◌++◌, length, set, slice_get, Option, Some, None, inl, inr, refl, ◌∙◌, ap}
+use Rattle.std.proofs.Common.{ℕ, zero, suc, arith, ◌≡◌, ◌≢◌, ◌<◌, ◌⊎◌, Bool, true, false, List, [], ◌∷◌, ◌++◌, length, set, slice_get, Option, Some, None, Result, Ok, Err, inl, inr, refl, ◌∙◌, ap}
 use Rattle.std.specs.Prelude.{if◌then◌else◌, is_some}
 use Rattle.std.proofs.lemmas.Bool.{cases_eq, cases_Bool, cond_both}
 use Rattle.std.proofs.lemmas.Option.{none-some}
@@ -22,7 +22,7 @@ use Rattle.usb_endpoint.specs.Submits.{is_valid, transfer_by, entered}
 use Rattle.usb_endpoint.specs.Closes.{all_discarded}
 use Rattle.usb_device.specs.declared.ends.TicketEnd.TheVariants.{Taken, Dropped, Reclaimed}
 use Rattle.usb_device.specs.declared.opened.OpenDevice.{OpenDevice}
-use Rattle.usb_device.specs.HostState.{HostState, HostTicket, HostEndpoint, ClaimedInterface, Hold, HeldBy, Abandoned, Ended}
+use Rattle.usb_device.specs.HostState.{HostState, HostTicket, HostEndpoint, ClaimedInterface, fresh_interface, Hold, HeldBy, Abandoned, Ended}
 use Rattle.usb_device.specs.Releases.{settled, owner_gone}
 use Rattle.usb_device.specs.TicketEnds.{host_ended, host_taken, host_abandoned, reclaimed_if, came}
 use Rattle.usb_device.specs.HostTurns.{host_stepped, host_reaped, all_stepped, host_rest}
@@ -31,7 +31,9 @@ use Rattle.usb_device.specs.HostWaits.{is_found, is_late, reap_and, wait_reaps, 
 use Rattle.usb_device.specs.HostBlocking.{or_then, waited_by_seconds, host_blocked}
 use Rattle.usb_device.specs.Finishes.{discarded_below, reaped_below, finished}
 use Rattle.usb_device.specs.Handles.{handle_gone, handle_closed}
-use Rattle.usb_device.specs.InterfaceClaims.{claimed_on, host_claimed}
+use Rattle.usb_error.specs.ErrorState.{ErrorState}
+use Rattle.usb_kernel.specs.Calls.{called}
+use Rattle.usb_device.specs.InterfaceClaims.{claim_tried, kernel_claimed, claimed_by, claimed_on, host_claimed}
 use Rattle.usb_device.specs.EndpointOpens.{asked_on, host_asked}
 use Rattle.usb_device.proofs.CloseLemmas.{ended-past, ended-others, by_set}
 use Rattle.usb_device.proofs.HostFrames.{uses-stepped, uses-reaped, uses-discarded}
@@ -218,15 +220,21 @@ pub on-handle_closed : (h : HostState) (i : ℕ) → KeepsTickets h (handle_clos
 unfolding handle_closed
 on-handle_closed h i = handle_gone-on h i (slice_get h.interfaces i)
 
+claimed_by-on : (h g : HostState) (c : ClaimedInterface) (r : Result (Unit {0}) ErrorState) → g.kernel.past ≡ h.kernel.past → g.tickets ≡ h.tickets → KeepsTickets h (claimed_by g c r)
+claimed_by-on h g c (Err error) past tickets = on-kept h g past tickets
+claimed_by-on h g c (Ok done) past tickets = on-kept h (claimed_by g c (Ok done)) past tickets
+
 claimed_on-on : (h : HostState) (key number : ℕ) (o : Option OpenDevice) → KeepsTickets h (claimed_on h key number o)
+unfolding called
 claimed_on-on h key number None = on-same h
-claimed_on-on h key number (Some o) = on-kept h (claimed_on h key number (Some o)) refl refl
+claimed_on-on h key number (Some o) = claimed_by-on h (record h { kernel = kernel_claimed h.kernel o number }) (fresh_interface key o.device number) (claim_tried h o number) refl refl
 
 pub on-claimed : (h : HostState) (key number : ℕ) → KeepsTickets h (host_claimed h key number)
 unfolding host_claimed
 on-claimed h key number = claimed_on-on h key number (slice_get h.devices key)
 
 asked_on-on : (h : HostState) (key : ℕ) (o : Option OpenDevice) → KeepsTickets h (asked_on h key o)
+unfolding called
 asked_on-on h key None = on-same h
 asked_on-on h key (Some o) = on-kept h (asked_on h key (Some o)) refl refl
 

@@ -1,5 +1,5 @@
 -- Handles over calls that may be refused.
-use Rattle.std.proofs.Common.{ℕ, arith, ◌≡◌, Result, Ok, Err, sym, ap, subst, length, ◌∙◌}
+use Rattle.std.proofs.Common.{ℕ, arith, ◌≡◌, Result, Ok, Err, refl, sym, ap, subst, length}
 use Rattle.std.specs.Prelude.{OnOk, OnErr, List}
 use Rattle.usb_xfer.specs.BufferState.{BufferState}
 use Rattle.usb_endpoint.specs.EndpointState.{EndpointState}
@@ -12,10 +12,15 @@ use Rattle.usb_device.specs.HostTurns.{host_turned}
 use Rattle.usb_device.specs.HostCalls.{host_submitted, host_refused, host_discarded, host_left}
 use Rattle.usb_device.specs.TicketEnds.{host_abandoned}
 use Rattle.usb_device.specs.HandleStates.{InterfaceState, StandsInterface}
+use Rattle.usb_desc.specs.declared.error.Fail.{Fail}
+use Rattle.usb_error.specs.ErrorState.{ErrorState}
+use Rattle.usb_device.specs.CallErrors.{Leaves}
+use Rattle.usb_device.proofs.Left.{left}
+use Rattle.usb_device.specs.Opens.{host_opened}
 use Rattle.usb_device.specs.InterfaceClaims.{host_claimed}
 use Rattle.usb_device.proofs.WaitFrames.{went-turned}
 use Rattle.usb_device.proofs.EndpointCalls.{keeps-entered, interfaces-closed, line-closed}
-use Rattle.usb_device.proofs.InterfaceFrames.{StandsInterface-same, bus-claimed}
+use Rattle.usb_device.proofs.InterfaceFrames.{opened-is, StandsInterface-same, bus-claimed}
 
 -- a handle stands while the interfaces and the devices stay
 stands-stays : (h g : HostState) (i : InterfaceState) → g.interfaces ≡ h.interfaces → g.devices ≡ h.devices → StandsInterface h i → StandsInterface g i
@@ -43,7 +48,12 @@ stands-closed h g e i is stands =
     subst (λ (x : HostState). StandsInterface x i) (sym is)
     (stands-stays h (after_close host_discarded host_abandoned host_left h e) i (interfaces-closed h e) (line-closed h e).devices stands)
 
--- over a claim, also one in vain, the bus stays
-pub bus-claim : {A B : Type 0} (h g : HostState) (key number : ℕ) (r : Result A B) → OnOk r (g ≡ host_claimed h key number) → OnErr r (g ≡ h) → bus_of g ≡ bus_of h
-bus-claim h g key number (Ok x) ok err = ap bus_of ok ∙ bus-claimed h key number
-bus-claim h g key number (Err x) ok err = ap bus_of err
+-- over an open and over a claim, also one in vain, the bus stays
+bus-opened : (h : HostState) (bus address : ℕ) → bus_of (host_opened h bus address) ≡ bus_of h
+bus-opened h bus address = ap bus_of (opened-is h bus address)
+
+pub bus-open : {A : Type 0} (h g : HostState) (bus address : ℕ) (r : Result A (Fail ErrorState)) → Leaves r g (host_opened h bus address) h → bus_of g ≡ bus_of h
+bus-open h g bus address r is = left (λ (x : HostState). bus_of x ≡ bus_of h) r g (host_opened h bus address) h is (bus-opened h bus address) refl
+
+pub bus-claim : {A : Type 0} (h g : HostState) (key number : ℕ) (r : Result A (Fail ErrorState)) → Leaves r g (host_claimed h key number) h → bus_of g ≡ bus_of h
+bus-claim h g key number r is = left (λ (x : HostState). bus_of x ≡ bus_of h) r g (host_claimed h key number) h is (bus-claimed h key number) refl

@@ -6,13 +6,18 @@ use Rattle.usb_device.specs.HostState.{HostState, ClaimedInterface}
 use Rattle.usb_device.specs.HostBus.{bus_of}
 use Rattle.usb_device.specs.Releases.{owner_gone}
 use Rattle.usb_device.specs.Handles.{handle_gone, handle_closed}
-use Rattle.usb_device.specs.InterfaceClaims.{claimed_on, host_claimed}
+use Rattle.usb_kernel.specs.declared.step.KernelCall.TheVariants as call
+use Rattle.usb_kernel.specs.Claims.{claim_rows, with_claim, no_rows}
+use Rattle.usb_kernel.specs.Value.{KernelState}
+use Rattle.usb_kernel.proofs.Answered.{asks-is, called-is}
+use Rattle.usb_device.specs.InterfaceClaims.{claim_tried, kernel_claimed, claimed_by, claimed_on, host_claimed}
 use Rattle.usb_device.specs.HostState.{fresh_interface}
 use Rattle.usb_device.specs.EndpointOpens.{asked_on, host_asked}
 use Rattle.usb_device.specs.HandleStates.{InterfaceState, StandsInterface}
 use Rattle.usb_error.specs.ErrorState.{ErrorState}
 use Rattle.usb_device.specs.Opens.{open_tried, opened_by, host_opened}
 use Rattle.usb_device.proofs.HostKeeps.{KeepsLine}
+use Rattle.usb_device.proofs.TryLemmas.{open-arms}
 
 -- a handle stands while the interfaces stay
 pub StandsInterface-same : (h g : HostState) (f : InterfaceState) → g.interfaces ≡ h.interfaces → length h.devices ≤ length g.devices → StandsInterface h f → StandsInterface g f
@@ -66,10 +71,16 @@ StandsInterface-other h i f ne stands =
       device = omega (arith, stands.device, same);
     }
 
--- a claim adds an interface, and changes devices of the kernel
-claimed_on-is : (h : HostState) (key number : ℕ) (o : Option OpenDevice) → claimed_on h key number o ≡ record h { kernel = record h.kernel { devices = (claimed_on h key number o).kernel.devices }; interfaces = (claimed_on h key number o).interfaces }
+-- a claim adds an interface, and changes devices of the kernel and what is armed there
+claimed_by-is : (h : HostState) (k : KernelState) (c : ClaimedInterface) (r : Result (Unit {0}) ErrorState) → k ≡ record h.kernel { devices = k.devices; armed = k.armed }
+    → claimed_by (record h { kernel = k }) c r ≡ record h { kernel = record h.kernel { devices = (claimed_by (record h { kernel = k }) c r).kernel.devices; armed = (claimed_by (record h { kernel = k }) c r).kernel.armed }; interfaces = (claimed_by (record h { kernel = k }) c r).interfaces }
+claimed_by-is h k c (Err error) is = ap (λ (x : KernelState). record h { kernel = x }) is
+claimed_by-is h k c (Ok done) is = ap (λ (x : KernelState). record h { kernel = x; interfaces = h.interfaces ++ c ∷ [] }) is
+
+claimed_on-is : (h : HostState) (key number : ℕ) (o : Option OpenDevice) → claimed_on h key number o ≡ record h { kernel = record h.kernel { devices = (claimed_on h key number o).kernel.devices; armed = (claimed_on h key number o).kernel.armed }; interfaces = (claimed_on h key number o).interfaces }
 claimed_on-is h key number None = refl
-claimed_on-is h key number (Some o) = refl
+claimed_on-is h key number (Some o) =
+    claimed_by-is h (kernel_claimed h.kernel o number) (fresh_interface key o.device number) (claim_tried h o number) (called-is h.kernel o.device call.Claim (claim_rows number) (with_claim number))
 
 pub bus-claimed : (h : HostState) (key number : ℕ) → bus_of (host_claimed h key number) ≡ bus_of h
 unfolding host_claimed
@@ -86,9 +97,13 @@ get-push [] y x k at = absurd (none-some x at)
 get-push (z ∷ zs) y x zero at = at
 get-push (z ∷ zs) y x (suc k) at = get-push zs y x k at
 
+claimed_by-stays : (h : HostState) (d : ClaimedInterface) (r : Result (Unit {0}) ErrorState) (k : ℕ) (c : ClaimedInterface) → slice_get h.interfaces k ≡ Some c → slice_get (claimed_by h d r).interfaces k ≡ Some c
+claimed_by-stays h d (Err error) k c at = at
+claimed_by-stays h d (Ok done) k c at = get-push h.interfaces d c k at
+
 claimed_on-stays : (h : HostState) (key number k : ℕ) (c : ClaimedInterface) (o : Option OpenDevice) → slice_get h.interfaces k ≡ Some c → slice_get (claimed_on h key number o).interfaces k ≡ Some c
 claimed_on-stays h key number k c None at = at
-claimed_on-stays h key number k c (Some o) at = get-push h.interfaces (fresh_interface key o.device number) c k at
+claimed_on-stays h key number k c (Some o) at = claimed_by-stays (record h { kernel = kernel_claimed h.kernel o number }) (fresh_interface key o.device number) (claim_tried h o number) k c at
 
 -- each handle stands over a claim
 pub StandsInterface-claimed : (h : HostState) (key number : ℕ) (f : InterfaceState) → StandsInterface h f → StandsInterface (host_claimed h key number) f
@@ -103,12 +118,15 @@ StandsInterface-claimed h key number f stands =
       device = omega (arith, stands.device, same);
     }
 
--- a look at the active configuration keeps all but what the open device keeps of it
-asked_on-is : (h : HostState) (key : ℕ) (o : Option OpenDevice) → asked_on h key o ≡ record h { devices = (asked_on h key o).devices }
-asked_on-is h key None = refl
-asked_on-is h key (Some o) = refl
+-- a look at the active configuration changes what the open device keeps of it, and what is armed
+abbrev pub armed_as : KernelState → KernelState → KernelState
+armed_as k left = record k { armed = left.armed }
 
-pub asked-is : (h : HostState) (key : ℕ) → host_asked h key ≡ record h { devices = (host_asked h key).devices }
+asked_on-is : (h : HostState) (key : ℕ) (o : Option OpenDevice) → asked_on h key o ≡ record h { kernel = armed_as h.kernel (asked_on h key o).kernel; devices = (asked_on h key o).devices }
+asked_on-is h key None = refl
+asked_on-is h key (Some o) = ap (λ (k : KernelState). record h { kernel = k; devices = (asked_on h key (Some o)).devices }) (asks-is h.kernel o.device call.GetConfig no_rows)
+
+pub asked-is : (h : HostState) (key : ℕ) → host_asked h key ≡ record h { kernel = armed_as h.kernel (host_asked h key).kernel; devices = (host_asked h key).devices }
 unfolding host_asked
 asked-is h key = asked_on-is h key (slice_get h.devices key)
 
@@ -120,19 +138,22 @@ pub asked-length : (h : HostState) (key : ℕ) → length (host_asked h key).dev
 unfolding host_asked
 asked-length h key = asked_on-length h key (slice_get h.devices key)
 
--- a device that is opened is one more, and nothing else changes
-opened_by-is : (h : HostState) (tried : Result OpenDevice ErrorState) → opened_by h tried ≡ record h { devices = (opened_by h tried).devices }
+-- a device that is opened is one more, and nothing else changes but what is armed
+opened_by-is : (h : HostState) (r : Result OpenDevice ErrorState) → opened_by h r ≡ record h { devices = (opened_by h r).devices }
 opened_by-is h (Err error) = refl
 opened_by-is h (Ok o) = refl
 
-pub opened-is : (h : HostState) (bus address : ℕ) → host_opened h bus address ≡ record h { devices = (host_opened h bus address).devices }
+pub opened-is : (h : HostState) (bus address : ℕ) → host_opened h bus address ≡ record h { kernel = armed_as h.kernel (open_tried bus address h.kernel).kernel; devices = (host_opened h bus address).devices }
 unfolding host_opened
-opened-is h bus address = opened_by-is h (open_tried h.kernel.devices bus address)
+opened-is h bus address =
+    let step = open_tried bus address h.kernel in
+    opened_by-is (record h { kernel = step.kernel }) step.answer
+    ∙ ap (λ (k : KernelState). record h { kernel = k; devices = (opened_by (record h { kernel = step.kernel }) step.answer).devices }) (open-arms bus address h.kernel)
 
-opened_by-length : (h : HostState) (tried : Result OpenDevice ErrorState) → length h.devices ≤ length (opened_by h tried).devices
+opened_by-length : (h : HostState) (r : Result OpenDevice ErrorState) → length h.devices ≤ length (opened_by h r).devices
 opened_by-length h (Err error) = omega arith
 opened_by-length h (Ok o) = let longer = length-append h.devices (o ∷ []) in omega (arith, longer)
 
 pub opened-length : (h : HostState) (bus address : ℕ) → length h.devices ≤ length (host_opened h bus address).devices
 unfolding host_opened
-opened-length h bus address = opened_by-length h (open_tried h.kernel.devices bus address)
+opened-length h bus address = let step = open_tried bus address h.kernel in opened_by-length (record h { kernel = step.kernel }) step.answer

@@ -4,6 +4,8 @@ pub mod LedgerLemmas
 pub mod ArrivalLemmas
 pub mod HostCallLemmas
 pub mod EnterLemmas
+pub mod Left
+pub mod TryLemmas
 pub mod OpeningLemmas
 pub mod EndpointLemmas
 pub mod BusLemmas

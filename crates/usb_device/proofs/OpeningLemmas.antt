@@ -1,14 +1,14 @@
 -- Devices are opened and interfaces claimed.
-use Rattle.std.proofs.Common.{ℕ, arith, ◌≡◌, ◌<◌, List, [], ◌∷◌, ◌++◌, length, set, slice_get, Option, Some, None, Result, Ok, Err, refl, ◌∙◌, ap}
-use Rattle.std.specs.Prelude.{IfOk, IfErr}
+use Rattle.std.proofs.Common.{ℕ, arith, ◌≡◌, ◌<◌, List, [], ◌∷◌, ◌++◌, length, set, slice_get, Option, Some, Result, Ok, Err, refl, ◌∙◌, ap, sym}
+use Rattle.std.specs.Prelude.{IfOk, IfErr, OnOk, OnErr}
 use Rattle.usb_desc.specs.declared.error.Fail.{Fail}
 use Rattle.usb_desc.specs.declared.error.Fail.TheVariants.{Cause, Memory}
-use Rattle.usb_kernel.specs.declared.devices.DeviceState.{DeviceState}
-use Rattle.usb_kernel.specs.Claims.{claim_result, after_claim}
+use Rattle.usb_kernel.specs.Calls.{open_answer, after_open}
+use Rattle.usb_kernel.proofs.Answered.{opens-use_none}
 use Rattle.usb_error.specs.ErrorState.{ErrorState}
 use Rattle.usb_device.specs.declared.opened.OpenDevice.{OpenDevice}
 use Rattle.usb_device.specs.HostState.{HostState}
-use Rattle.usb_device.specs.Opens.{open_tried, open_key, with_key, host_opened, with_opened, opened_by}
+use Rattle.usb_device.specs.Opens.{descriptors_tried, open_tried, open_key, with_key, host_opened, with_opened, opened_by}
 use Rattle.usb_error.specs.Outcomes.{Tried}
 use Rattle.std.specs.Prelude.{◌-◌, map}
 use Rattle.usb_kernel.specs.declared.step.KernelStep.{KernelStep}
@@ -20,34 +20,77 @@ use Rattle.usb_device.specs.Handles.{handle_closed}
 use Rattle.usb_device.specs.HandleStates.{StandsDevice, StandsInterface}
 use Rattle.usb_kernel.proofs.Places.{slice_get-append_seam}
 use Rattle.std.proofs.Common.{length-append}
-use Rattle.usb_device.specs.InterfaceClaims.{claimed_key, host_claimed, claimed_on, claim_tried}
+use Rattle.usb_device.specs.InterfaceClaims.{claimed_key, host_claimed, kernel_claimed, claimed_by, claimed_on, claim_tried}
+use Rattle.usb_device.specs.CallErrors.{Leaves}
+use Rattle.usb_device.proofs.Left.{left}
+use Rattle.usb_device.proofs.TryLemmas.{open-uses_none, open-arms}
+use Rattle.usb_device.proofs.InterfaceFrames.{line-claimed}
 use Rattle.usb_device.specs.LedgerState.{LedgerState, host_ticket}
-use Rattle.usb_device.specs.Releases.{with_devices, without_ended, claim_ended, owner_gone}
+use Rattle.usb_device.specs.Releases.{without_ended, claim_ended, owner_gone}
 
-pub opened-key : (h : HostState) (bus address : ℕ) (o : OpenDevice) (r : Result ℕ (Fail ErrorState)) → open_tried h.kernel.devices bus address ≡ Ok o → IfOk r (λ key. key ≡ length h.devices) → IfErr r (λ error. error ≡ Memory) → Tried r (open_key h bus address)
+-- a device is opened: the key, and the host
+pub opened-key : (h : HostState) (bus address : ℕ) (o : OpenDevice) (r : Result ℕ (Fail ErrorState)) → (open_tried bus address h.kernel).answer ≡ Ok o → IfOk r (λ key. key ≡ length h.devices) → IfErr r (λ error. error ≡ Memory) → Tried r (open_key h bus address)
 unfolding open_key
 opened-key h bus address o (Ok key) is here err = rw (is, here) refl
 opened-key h bus address o (Err (Cause error)) is here err = absurd (cc)
 opened-key h bus address o (Err Memory) is here err = tt
 
-pub opened-host : (h : HostState) (bus address : ℕ) (o : OpenDevice) → open_tried h.kernel.devices bus address ≡ Ok o → host_opened h bus address ≡ with_opened h o
+pub opened-leaves :
+    (h mid new : HostState) (bus address : ℕ) (o : OpenDevice) (r : Result ℕ (Fail ErrorState))
+    → (open_tried bus address h.kernel).answer ≡ Ok o → mid ≡ record h { kernel = (open_tried bus address h.kernel).kernel }
+    → OnOk r (new ≡ with_opened mid o) → OnErr r (new ≡ mid) → IfErr r (λ error. error ≡ Memory)
+    → Leaves r new (host_opened h bus address) h
 unfolding host_opened
-opened-host h bus address o is = ap (opened_by h) is
+opened-leaves h mid new bus address o (Ok key) is made ok err memory =
+    let left : HostState = record h { kernel = (open_tried bus address h.kernel).kernel } in
+    ok ∙ ap (λ (m : HostState). with_opened m o) made ∙ sym (ap (opened_by left) is)
+opened-leaves h mid new bus address o (Err (Cause error)) is made ok err memory = absurd (cc)
+opened-leaves h mid new bus address o (Err Memory) is made ok err memory =
+    err ∙ made ∙ ap (λ (k : KernelState). record h { kernel = k }) (open-uses_none bus address h.kernel o is)
 
-pub open-refused : (h : HostState) (bus address : ℕ) (error : Fail ErrorState) → Tried {A = OpenDevice} (Err error) (open_tried h.kernel.devices bus address) → Tried {A = ℕ} (Err error) (open_key h bus address)
+-- or it is refused
+pub open-refused : (h : HostState) (bus address : ℕ) (error : Fail ErrorState) → Tried {A = OpenDevice} (Err error) (open_tried bus address h.kernel).answer → Tried {A = ℕ} (Err error) (open_key h bus address)
 unfolding open_key
 open-refused h bus address (Cause error) is = ap (with_key (length h.devices)) is
 open-refused h bus address Memory is = tt
 
--- a claim that is refused changes nothing
-pub refused-same : (devices : List DeviceState) (k i errno : ℕ) → claim_result devices k i ≡ Err errno → after_claim devices k i ≡ devices
-refused-same devices k i errno refused = rw refused refl
+pub refused-leaves :
+    (h new : HostState) (kernel : KernelState) (bus address : ℕ) (error : Fail ErrorState)
+    → Tried {A = OpenDevice} (Err error) (open_tried bus address h.kernel).answer → new ≡ record h { kernel = kernel }
+    → Leaves {A = OpenDevice} (Err error) kernel (open_tried bus address h.kernel).kernel h.kernel
+    → Leaves {A = ℕ} (Err error) new (host_opened h bus address) h
+unfolding host_opened
+refused-leaves h new kernel bus address (Cause error) is made left =
+    let after : HostState = record h { kernel = (open_tried bus address h.kernel).kernel } in
+    made ∙ ap (λ (k : KernelState). record h { kernel = k }) left ∙ sym (ap (opened_by after) is)
+refused-leaves h new kernel bus address Memory is made left = made ∙ ap (λ (k : KernelState). record h { kernel = k }) left
+
+-- whatever an open answers, only what is armed changes at the kernel
+pub left-arms : (r : Result OpenDevice (Fail ErrorState)) (kernel k : KernelState) (bus address : ℕ) → Leaves r kernel (open_tried bus address k).kernel k → kernel ≡ record k { armed = kernel.armed }
+left-arms r kernel k bus address is = left (λ (x : KernelState). x ≡ record k { armed = x.armed }) r kernel (open_tried bus address k).kernel k is (open-arms bus address k) refl
+
+-- descriptors that the kernel refuses, or that want memory
+pub read-refused :
+    (k new : KernelState) (bus address device : ℕ) (error : Fail ErrorState) → open_answer k bus address ≡ Ok device
+    → Tried {A = List ℕ} (Err error) (descriptors_tried device (after_open k bus address)).answer
+    → Leaves {A = List ℕ} (Err error) new (descriptors_tried device (after_open k bus address)).kernel (after_open k bus address)
+    → Leaves {A = OpenDevice} (Err error) new (open_tried bus address k).kernel k
+unfolding open_tried
+read-refused k new bus address device (Cause error) opened tried left = rw (opened, tried) left
+read-refused k new bus address device Memory opened tried left = left ∙ opens-use_none k bus address device opened
 
 -- what a claim leaves
-pub claimed-at : (h : HostState) (key number : ℕ) (o : OpenDevice) → slice_get h.devices key ≡ Some o
-    → host_claimed h key number ≡ record (with_devices h (after_claim h.kernel.devices o.device number)) { interfaces = h.interfaces ++ fresh_interface key o.device number ∷ [] }
+pub claimed-refused : (h : HostState) (key number : ℕ) (o : OpenDevice) (error : ErrorState) → slice_get h.devices key ≡ Some o → claim_tried h o number ≡ Err error
+    → host_claimed h key number ≡ record h { kernel = kernel_claimed h.kernel o number }
 unfolding host_claimed
-claimed-at h key number o at = ap (claimed_on h key number) at
+claimed-refused h key number o error at refused =
+    ap (claimed_on h key number) at ∙ ap (claimed_by (record h { kernel = kernel_claimed h.kernel o number }) (fresh_interface key o.device number)) refused
+
+pub claimed-at : (h : HostState) (key number : ℕ) (o : OpenDevice) (done : Unit {0}) → slice_get h.devices key ≡ Some o → claim_tried h o number ≡ Ok done
+    → host_claimed h key number ≡ record h { kernel = kernel_claimed h.kernel o number; interfaces = h.interfaces ++ fresh_interface key o.device number ∷ [] }
+unfolding host_claimed
+claimed-at h key number o done at made =
+    ap (claimed_on h key number) at ∙ ap (claimed_by (record h { kernel = kernel_claimed h.kernel o number }) (fresh_interface key o.device number)) made
 
 -- a handle that is closed
 pub closed-made : (k : KernelState) (devices : List OpenDevice) (l : LedgerState) (steps : List KernelStep) (i : ℕ) (c : ClaimedInterface) (l' : LedgerState) (ended : Option EndedClaim) (k' : KernelState) → slice_get l.interfaces i ≡ Some c
@@ -64,32 +107,27 @@ opened-below h (Ok o) key is =
 
 pub opened-stands : (h : HostState) (bus address key : ℕ) → open_key h bus address ≡ Ok key → StandsDevice (host_opened h bus address) key
 unfolding open_key host_opened
-opened-stands h bus address key is = opened-below h (open_tried h.kernel.devices bus address) key is
+opened-stands h bus address key is = let step = open_tried bus address h.kernel in opened-below (record h { kernel = step.kernel }) step.answer key is
 
 -- and that of an interface that was claimed
-claimed-next : (h : HostState) (number key : ℕ) (tried : Result (Unit {0}) ErrorState) → claimed_key (length h.interfaces) tried ≡ Ok key → key ≡ length h.interfaces
-claimed-next h number key (Err error) is = absurd (cc)
-claimed-next h number key (Ok done) is = cc
+claimed-next : (next key : ℕ) (tried : Result (Unit {0}) ErrorState) → claimed_key next tried ≡ Ok key → (key ≡ next) × (tried ≡ Ok tt)
+claimed-next next key (Err error) is = absurd (cc)
+claimed-next next key (Ok done) is = (cc, refl)
 
 pub claimed-stands : (h new : HostState) (device number key : ℕ) (o : OpenDevice) → slice_get h.devices device ≡ Some o → StandsDevice h device → claimed_key (length h.interfaces) (claim_tried h o number) ≡ Ok key → new ≡ host_claimed h device number → StandsInterface new (record { key = key; number = number })
 claimed-stands h new device number key o at stands is made =
-    let next : key ≡ length h.interfaces = claimed-next h number key (claim_tried h o number) is in
-    let after = made ∙ claimed-at h device number o at in
+    let next = claimed-next (length h.interfaces) key (claim_tried h o number) is in
+    let after = made ∙ claimed-at h device number o tt at next.1 in
     let claim : ClaimedInterface = fresh_interface device o.device number in
     record {
       claim = claim;
-      at = ap (λ (x : HostState). slice_get x.interfaces key) after ∙ ap (slice_get (h.interfaces ++ claim ∷ [])) next ∙ slice_get-append_seam h.interfaces claim;
+      at = ap (λ (x : HostState). slice_get x.interfaces key) after ∙ ap (slice_get (h.interfaces ++ claim ∷ [])) next.0 ∙ slice_get-append_seam h.interfaces claim;
       number = refl;
       open_handle = omega arith;
       device = rw (ap (λ (x : HostState). length x.devices) after) stands;
     }
 
 -- the handle of the device stands as before
-claimed-places : (h : HostState) (key number : ℕ) (o : Option OpenDevice) → length (claimed_on h key number o).devices ≡ length h.devices
-claimed-places h key number None = refl
-claimed-places h key number (Some o) = refl
-
-pub claimed-device : (h new : HostState) (device number : ℕ) → StandsDevice h device → new ≡ host_claimed h device number → StandsDevice new device
-unfolding host_claimed
-claimed-device h new device number stands made =
-    rw (ap (λ (x : HostState). length x.devices) made ∙ claimed-places h device number (slice_get h.devices device)) stands
+pub claimed-device : {A : Type 0} (h new : HostState) (device number : ℕ) (r : Result A (Fail ErrorState)) → StandsDevice h device → Leaves r new (host_claimed h device number) h → StandsDevice new device
+claimed-device h new device number r stands is =
+    left (λ (g : HostState). StandsDevice g device) r new (host_claimed h device number) h is (rw (ap (λ (ds : List OpenDevice). length ds) (line-claimed h device number).devices) stands) stands

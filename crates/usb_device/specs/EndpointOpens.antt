@@ -5,8 +5,10 @@ use Rattle.usb_desc.specs.declared.types.Direction.{Direction}
 use Rattle.usb_desc.specs.declared.types.TransferType.{TransferType}
 use Rattle.usb_desc.specs.Configurations.{configurations, alt_settings, endpoints}
 use Rattle.usb_desc.specs.Lookups.{has_value, has_setting, has_address}
-use Rattle.usb_kernel.specs.declared.devices.DeviceState.{DeviceState}
-use Rattle.usb_kernel.specs.Claims.{configuration_result}
+use Rattle.usb_kernel.specs.declared.step.KernelCall.TheVariants as call
+use Rattle.usb_kernel.specs.Claims.{no_rows}
+use Rattle.usb_kernel.specs.Calls.{asked, called, same}
+use Rattle.usb_kernel.specs.Value.{KernelState}
 use Rattle.usb_desc.specs.declared.error.Fail.{Fail}
 use Rattle.usb_error.specs.ErrorState.{ErrorState}
 use Rattle.usb_bus.specs.declared.route.Route.{Route}
@@ -19,15 +21,18 @@ use Rattle.usb_error.specs.Outcomes.{Tried, result_map}
 
 -- the value of the active configuration: the kernel's, or the one that the open device keeps where
 -- the kernel refuses
-abbrev pub active_value : List DeviceState → OpenDevice → ℕ
-active_value devices o = result_unwrap_or (configuration_result devices o.device) o.configuration
+abbrev pub active_value : KernelState → OpenDevice → ℕ
+active_value k o =
+    result_unwrap_or (asked k o.device call.GetConfig no_rows (λ d. d.configuration))
+    o.configuration
 
 -- the kernel was asked for it, and the open device keeps what it gave
 abbrev pub asked_on : HostState → ℕ → Option OpenDevice → HostState
 asked_on h key None = h
 asked_on h key (Some o) =
     record h {
-      devices = set h.devices key (record o { configuration = active_value h.kernel.devices o });
+      kernel = called h.kernel o.device call.GetConfig no_rows same;
+      devices = set h.devices key (record o { configuration = active_value h.kernel o });
     }
 
 unfoldable pub host_asked : HostState → ℕ → HostState

@@ -4,7 +4,9 @@ use Rattle.usb_xfer.specs.BufferState.{BufferState}
 use Rattle.usb_xfer.specs.declared.transfer.TransferData.{TransferData}
 use Rattle.usb_xfer.specs.Transfers.{buffer_held}
 use Rattle.usb_kernel.specs.Value.{KernelState}
-use Rattle.usb_kernel.specs.Claims.{clear_halt_result}
+use Rattle.usb_kernel.specs.declared.step.KernelCall.TheVariants as call
+use Rattle.usb_kernel.specs.Claims.{no_rows, ok_unless}
+use Rattle.usb_kernel.specs.Calls.{errno_of, called, same}
 use Rattle.usb_kernel.specs.Submits.{kernel_submitted, kernel_refused}
 use Rattle.usb_kernel.specs.Timers.{timer_turned}
 use Rattle.usb_kernel.specs.Steps.{after_discard}
@@ -63,9 +65,10 @@ host_idled h until =
       };
     }
 
--- the kernel's answer to a clear_halt, which changes nothing
+-- a halt was cleared: the kernel's answer, and what is left of the kernel
 abbrev pub host_halt_result : HostState → ℕ → ℕ → Result (Unit {0}) ℕ
-host_halt_result h device endpoint = clear_halt_result h.kernel.devices device
+host_halt_result h device endpoint = ok_unless (errno_of h.kernel device call.Halt no_rows)
 
 abbrev pub host_halt_cleared : HostState → ℕ → ℕ → HostState
-host_halt_cleared h device endpoint = h
+host_halt_cleared h device endpoint =
+    record h { kernel = called h.kernel device call.Halt no_rows same }

@@ -1,5 +1,5 @@
 -- What a host keeps while it goes on.
-use Rattle.std.specs.Prelude.{ℕ, ◌≡◌, ◌-◌, List, ◌++◌, length}
+use Rattle.std.specs.Prelude.{◌≡◌, ◌-◌, List, ◌++◌, length}
 use Rattle.usb_kernel.specs.declared.step.KernelStep.{KernelStep}
 use Rattle.usb_bus.specs.Later.{IsLater}
 use Rattle.usb_device.specs.HostState.{HostState}

@@ -8,6 +8,7 @@ pub mod Finishes
 pub mod HostBus
 pub mod Handles
 pub mod CallErrors
+pub mod Tries
 pub mod Opens
 pub mod InterfaceClaims
 pub mod EndpointRefusals

@@ -1,36 +1,51 @@
 -- A device is opened at its bus and address.
 use Rattle.std.specs.Prelude.{ℕ, List, [], ◌∷◌, ◌++◌, length, Result, Ok, Err}
 use Rattle.usb_desc.specs.Configurations.{device_of}
-use Rattle.usb_kernel.specs.declared.devices.DeviceState.{DeviceState}
-use Rattle.usb_kernel.specs.Claims.{open_result, descriptors_result, configuration_result}
+use Rattle.usb_kernel.specs.declared.step.KernelCall.TheVariants as call
+use Rattle.usb_kernel.specs.Claims.{no_rows}
+use Rattle.usb_kernel.specs.Calls.{open_answer, after_open, asked, called, same}
+use Rattle.usb_kernel.specs.Value.{KernelState}
 use Rattle.usb_error.specs.ErrorState.{ErrorState}
 use Rattle.usb_error.specs.Errors.{open_error, read_descriptors_error, configuration_error, invalid_device_descriptor_error}
 use Rattle.usb_device.specs.declared.opened.OpenDevice.{OpenDevice}
 use Rattle.usb_device.specs.HostState.{HostState}
-use Rattle.usb_error.specs.Outcomes.{◌>>=◌}
-use Rattle.usb_device.specs.CallErrors.{or_error, or_missing}
+use Rattle.usb_device.specs.Tries.{Step, ◌>>=◌, asking, present, giving}
 
--- all descriptors of a device, as the kernel gives them
-unfoldable pub descriptors_tried : List DeviceState → ℕ → Result (List ℕ) ErrorState
-descriptors_tried devices device =
-    or_error read_descriptors_error (descriptors_result devices device)
+-- the kernel opens the first plugged device at an address of a bus
+abbrev pub device_tried : ℕ → ℕ → KernelState → Step ℕ
+device_tried bus address =
+    asking open_error (λ k. open_answer k bus address) (λ k. after_open k bus address)
+
+-- it gives all descriptors of a device
+unfoldable pub descriptors_tried : ℕ → KernelState → Step (List ℕ)
+descriptors_tried device =
+    asking read_descriptors_error
+    (λ k. asked k device call.ReadDesc no_rows (λ d. d.bytes))
+    (λ k. called k device call.ReadDesc no_rows same)
+
+-- it gives the value of the active configuration
+abbrev pub configuration_tried : ℕ → KernelState → Step ℕ
+configuration_tried device =
+    asking (λ errno. configuration_error)
+    (λ k. asked k device call.GetConfig no_rows (λ d. d.configuration))
+    (λ k. called k device call.GetConfig no_rows same)
 
 -- the kernel opens the device and gives its descriptors, of which the first has to be a device
 -- descriptor, and its active configuration
-unfoldable pub open_tried : List DeviceState → ℕ → ℕ → Result OpenDevice ErrorState
-open_tried devices bus address = do
-  device ← or_error open_error (open_result devices bus address)
-  bytes ← descriptors_tried devices device
-  device_descriptor ← or_missing invalid_device_descriptor_error (device_of bytes)
-  value ← or_error (λ errno. configuration_error) (configuration_result devices device)
-  Ok (record {
+unfoldable pub open_tried : ℕ → ℕ → KernelState → Step OpenDevice
+open_tried bus address = do
+  device ← device_tried bus address
+  bytes ← descriptors_tried device
+  device_descriptor ← present invalid_device_descriptor_error (device_of bytes)
+  value ← configuration_tried device
+  giving (record {
     device = device;
     configuration = value;
     device_descriptor = device_descriptor;
     descriptors = bytes;
   })
 
--- one more device is open
+-- one more device is open, where it was not refused
 abbrev pub with_opened : HostState → OpenDevice → HostState
 with_opened h o = record h { devices = h.devices ++ o ∷ [] }
 
@@ -38,8 +53,12 @@ abbrev pub opened_by : HostState → Result OpenDevice ErrorState → HostState
 opened_by h (Err error) = h
 opened_by h (Ok o) = with_opened h o
 
+-- the host after an open that did not want memory: what is left of the kernel, and the open device
+abbrev pub opened_on : HostState → Step OpenDevice → HostState
+opened_on h step = opened_by (record h { kernel = step.kernel }) step.answer
+
 unfoldable pub host_opened : HostState → ℕ → ℕ → HostState
-host_opened h bus address = opened_by h (open_tried h.kernel.devices bus address)
+host_opened h bus address = opened_on h (open_tried bus address h.kernel)
 
 -- the device has the next key
 abbrev pub with_key : ℕ → Result OpenDevice ErrorState → Result ℕ ErrorState
@@ -47,4 +66,4 @@ with_key key (Err error) = Err error
 with_key key (Ok o) = Ok key
 
 unfoldable pub open_key : HostState → ℕ → ℕ → Result ℕ ErrorState
-open_key h bus address = with_key (length h.devices) (open_tried h.kernel.devices bus address)
+open_key h bus address = with_key (length h.devices) (open_tried bus address h.kernel).answer

@@ -1,10 +1,11 @@
 //! Interfaces of open devices are claimed, and their handles closed.
 
-ghost use Rattle.std.specs.Prelude.{◌≡◌, ◌<◌, length, slice_get, OnOk, OnErr};
+ghost use Rattle.std.specs.Prelude.{◌≡◌, ◌<◌, length, slice_get};
 ghost use Rattle.std.specs.Option.{ForSome};
 ghost use Rattle.usb_device.specs.HostState.{HostState};
 ghost use Rattle.usb_device.specs.Handles.{handle_closed};
 ghost use Rattle.usb_device.specs.InterfaceClaims.{claim_tried, claimed_key, host_claimed};
+ghost use Rattle.usb_device.specs.CallErrors.{Leaves};
 ghost use Rattle.usb_error.specs.Outcomes.{Tried};
 
 use crate::host::{Host, release};
@@ -18,8 +19,7 @@ impl Host {
         requires device { device < length self.old.devices }
         ensures tried { ForSome (slice_get self.old.devices device) (λ o. Tried result
             (claimed_key (length self.old.interfaces) (claim_tried self.old o number))) }
-        ensures ok { OnOk result (self.new ≡ host_claimed self.old device number) }
-        ensures err { OnErr result (self.new ≡ self.old) }
+        ensures host { Leaves result self.new (host_claimed self.old device number) self.old }
     {
         let at_kernel = self.devices[device].device;
         if self.ledger.reserve_claim().is_err() {

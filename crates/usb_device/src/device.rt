@@ -1,6 +1,6 @@
 //! Handles of open devices and of claimed interfaces.
 
-ghost use Rattle.std.specs.Prelude.{◌≡◌, ◌+◌, ◌<◌, length, slice_get, Some, OnOk, OnErr, IfOk};
+ghost use Rattle.std.specs.Prelude.{◌≡◌, ◌+◌, ◌<◌, length, slice_get, Some, IfOk};
 ghost use Rattle.std.specs.Option.{ForSome, option_copied};
 ghost use Rattle.usb_desc.specs.Configurations as spec;
 ghost use Rattle.usb_desc.specs.Fields.{direction_of_address};
@@ -12,6 +12,7 @@ ghost use Rattle.usb_device.specs.EndpointOpens.{OpensEndpoint};
 ghost use Rattle.usb_device.specs.Handles.{handle_closed};
 ghost use Rattle.usb_device.specs.InterfaceClaims.{ClaimsInterface};
 ghost use Rattle.usb_device.specs.Opens.{host_opened, open_key};
+ghost use Rattle.usb_device.specs.CallErrors.{Leaves};
 ghost use Rattle.usb_error.specs.Outcomes.{Tried};
 
 use crate::host::Host;
@@ -67,8 +68,8 @@ impl fmt::Debug for Interface {
 impl Device {
     /// Opens the first plugged device at an address of a bus. The kernel opens it, then gives its
     /// descriptors, of which the first must be a device descriptor (USB 2.0, section 9.6.1), and
-    /// then its active configuration. What is refused first is the error, and then nothing has
-    /// changed.
+    /// then its active configuration. What is refused first is the error, and each of the three
+    /// uses up the refusal that is armed for it. Where memory is wanting nothing has changed.
     pub fn open_at(
         alloc: Global,
         host: &mut Host,
@@ -76,8 +77,7 @@ impl Device {
         address: u8,
     ) -> Result<Device, Fail<Error>>
         ensures tried { Tried result (open_key host.old bus address) }
-        ensures ok { OnOk result (host.new ≡ host_opened host.old bus address) }
-        ensures err { OnErr result (host.new ≡ host.old) }
+        ensures host { Leaves result host.new (host_opened host.old bus address) host.old }
         ensures stands { IfOk result (StandsDevice host.new) }
     {
         match host.open_device(alloc, bus, address) {
@@ -122,8 +122,8 @@ impl Device {
         host.configurations(self.key)
     }
 
-    /// Claims an interface, which has the setting 0 then. Where the kernel refuses, or memory is
-    /// wanting, nothing has changed.
+    /// Claims an interface, which has the setting 0 then. Where the kernel refuses, nothing has
+    /// changed but that an armed refusal is used up, and where memory is wanting nothing has.
     pub fn claim_interface(&self, host: &mut Host, interface: u8) -> Result<Interface, Fail<Error>>
         requires stands { StandsDevice host.old self.now }
         ensures claims { ClaimsInterface host.old host.new self.now interface result }
@@ -158,8 +158,8 @@ impl Interface {
     }
 
     /// Opens an endpoint (USB 2.0, section 9.6.6) of the interface in its current alternate
-    /// setting. The kernel is asked for the active configuration first; the open device keeps what
-    /// it gives, and else the last value counts.
+    /// setting. The kernel is asked for the active configuration first, which uses up the refusal
+    /// that is armed for it; the open device keeps what it gives, and else the last value counts.
     ///
     /// # Errors
     ///

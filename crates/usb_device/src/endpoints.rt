@@ -3,6 +3,9 @@
 ghost use Rattle.std.specs.Prelude.{◌≡◌, ◌<◌, length, slice_get, set, OnOk, OnErr, IfOk};
 ghost use Rattle.std.specs.Option.{ForSome, option_copied};
 ghost use Rattle.usb_desc.specs.Fields.{direction_of_address};
+ghost use Rattle.usb_kernel.specs.declared.step.KernelCall.{KernelCall};
+ghost use Rattle.usb_kernel.specs.Claims.{no_rows};
+ghost use Rattle.usb_kernel.specs.Calls.{called, same};
 ghost use Rattle.usb_device.specs.HostState.{HostState, ClaimedInterface};
 ghost use Rattle.usb_device.specs.OwnerRows.{claim_state};
 ghost use Rattle.usb_device.specs.EndpointRefusals.{endpoint_tried};
@@ -64,8 +67,9 @@ fn maximum_of(
 /// The value of the active configuration: the kernel's, or where the kernel refuses the one that
 /// the open device keeps.
 fn active_value(kernel: &mut Kernel, opened: &OpenDevice) -> u8
-    ensures value { result ≡ active_value kernel.old.devices opened.now }
-    ensures kernel { kernel.new ≡ kernel.old }
+    ensures value { result ≡ active_value kernel.old opened.now }
+    ensures kernel { kernel.new
+        ≡ called kernel.old opened.now.device KernelCall.GetConfig no_rows same }
 {
     match kernel.configuration(opened.device) {
         Ok(value) => value,

@@ -358,10 +358,10 @@ impl Host {
         self.kernel.timer_turn();
     }
 
-    /// Clears the halt of an endpoint at the kernel, which keeps none.
+    /// Clears the halt of an endpoint at the kernel, which keeps none. An armed refusal is used up.
     fn ask_clear_halt(&mut self, device: u8, endpoint: u8) -> Result<(), u16>
         ensures result { result ≡ host_halt_result self.old device endpoint }
-        ensures rest { self.new ≡ self.old }
+        ensures cleared { self.new ≡ host_halt_cleared self.old device endpoint }
     {
         self.kernel.clear_halt(device, endpoint)
     }

@@ -5,6 +5,7 @@ ghost use Rattle.std.specs.Option.{ForSome};
 ghost use Rattle.usb_desc.specs.Configurations as spec;
 ghost use Rattle.usb_device.specs.HostState.{HostState};
 ghost use Rattle.usb_device.specs.Opens.{descriptors_tried, open_tried, open_key, host_opened, with_opened};
+ghost use Rattle.usb_device.specs.CallErrors.{Leaves};
 ghost use Rattle.usb_error.specs.Outcomes.{Tried};
 
 use crate::host::Host;
@@ -17,8 +18,9 @@ use usb_kernel::{Bytes, Kernel};
 /// All descriptors of a device.
 #[tactic(auto, unfolding(crate::specs::Opens::descriptors_tried))]
 fn read_descriptors(kernel: &mut Kernel, alloc: Global, device: u8) -> Result<Bytes, Fail<Error>>
-    ensures tried { Tried result (descriptors_tried kernel.old.devices device) }
-    ensures kernel { kernel.new ≡ kernel.old }
+    ensures tried { Tried result (descriptors_tried device kernel.old).answer }
+    ensures kernel { Leaves result kernel.new
+        (descriptors_tried device kernel.old).kernel kernel.old }
 {
     let bytes = match kernel.read_descriptors(device) {
         Ok(bytes) => bytes,
@@ -39,8 +41,9 @@ fn open_at(
     bus: u8,
     address: u8,
 ) -> Result<OpenDevice, Fail<Error>>
-    ensures tried { Tried result (open_tried kernel.old.devices bus address) }
-    ensures kernel { kernel.new ≡ kernel.old }
+    ensures tried { Tried result (open_tried bus address kernel.old).answer }
+    ensures kernel { Leaves result kernel.new
+        (open_tried bus address kernel.old).kernel kernel.old }
 {
     let device = match kernel.open(bus, address) {
         Ok(device) => device,
@@ -73,8 +76,7 @@ impl Host {
         address: u8,
     ) -> Result<usize, Fail<Error>>
         ensures tried { Tried result (open_key self.old bus address) }
-        ensures ok { OnOk result (self.new ≡ host_opened self.old bus address) }
-        ensures err { OnErr result (self.new ≡ self.old) }
+        ensures host { Leaves result self.new (host_opened self.old bus address) self.old }
     {
         match open_at(&mut self.kernel, alloc, bus, address) {
             Ok(opened) => self.keep_device(opened),

@@ -1,6 +1,6 @@
 -- What calls on devices keep, and what they make of an interface.
 use Rattle.std.proofs.Common.{◌≡◌, ℕ, Bool, true, false, cond, List, [], ◌∷◌, map, Option, Some, None, refl, ap, sym, ◌∙◌, inl, inr}
-use Rattle.std.specs.Prelude.{◌==◌, ◌&&◌, ◌||◌, not, option_and_then, is_some, is_ok, IsSome}
+use Rattle.std.specs.Prelude.{◌==◌, ◌&&◌, ◌||◌, not, option_and_then, is_some, IsSome}
 use Rattle.std.specs.List.{list_any}
 use Rattle.std.specs.Option.{option_map, option_map_or}
 use Rattle.std.proofs.lemmas.Bool.{cases_Bool, cases_eq}
@@ -15,12 +15,12 @@ use Rattle.usb_kernel.specs.declared.step.KernelCall.TheVariants as call
 use Rattle.usb_kernel.specs.declared.step.KernelStep.TheVariants as step
 use Rattle.usb_kernel.specs.Interfaces.{contains, is_empty, remove}
 use Rattle.usb_kernel.specs.Devices.{fresh_device, device_of, if_plugged, plugged_device, change_device, unplugged}
-use Rattle.usb_kernel.specs.Claims.{has_interface, claim_rows, with_claim, after_claim, without_claim, no_rows, ok_unless}
+use Rattle.usb_kernel.specs.Claims.{has_interface, claim_rows, with_claim, without_claim, no_rows}
 use Rattle.usb_kernel.specs.Refusals.{armed_errno, armed_left}
 use Rattle.usb_kernel.specs.Calls.{errno_of, devices_called, called, same, set_configuration_rows, with_configuration, detach_and_claim_rows, with_claimed_only, detach_rows, without_driver, attach_rows, with_driver, set_interface_rows, reset_by, after_reset}
 use Rattle.usb_kernel.specs.DeviceCalls.{after_call}
 use Rattle.usb_kernel.specs.ClaimLaws.{is_claimed}
-use Rattle.usb_kernel.specs.CallLaws.{ClaimedIsRefused, configuration_of, CallsKeepClaims, ResetsKeepClaims, DetachAndClaimActs, DetachActs, AttachActs, StartIsExclusive, CallsStayExclusive, ResetsStayExclusive, ClaimsStayExclusive, ReleasesStayExclusive, StepsStayExclusive, ResetIsUnplug, RefusedReset, ResetUnplugs}
+use Rattle.usb_kernel.specs.CallLaws.{ClaimedIsRefused, configuration_of, CallsKeepClaims, ResetsKeepClaims, DetachAndClaimActs, DetachActs, AttachActs, StartIsExclusive, CallsStayExclusive, ResetsStayExclusive, ReleasesStayExclusive, StepsStayExclusive, ResetIsUnplug, RefusedReset, ResetUnplugs}
 use Rattle.usb_kernel.specs.Value.{KernelState}
 use Rattle.usb_kernel.proofs.InterfaceLemmas.{contains-insert, contains-insert_other, contains-remove, contains-remove_other}
 use Rattle.usb_kernel.proofs.QueueLinks.{unarmed}
@@ -39,7 +39,7 @@ at-change P change keeps ds l d stays now =
     of (Some x) is here p = stays x here is p
 
 -- a call that is not refused finds its device plugged, and no row refuses it
-record Accepted (k : KernelState) (d : ℕ) (c : KernelCall) (rows : DeviceState → Option ℕ) : Type 0 where
+pub record Accepted (k : KernelState) (d : ℕ) (c : KernelCall) (rows : DeviceState → Option ℕ) : Type 0 where
   pub x : DeviceState
   pub device : device_of k.devices d ≡ Some x
   pub plugged : x.plugged ≡ true
@@ -64,8 +64,14 @@ accepted-by k d c rows (Some x) is none = by_armed (armed_errno k.armed d c) ref
         let found = plugged-device (device_of k.devices d) x is in
         record { x = x; device = found.0; plugged = found.1; armed = armed; row = rw (is, armed) at none }
 
-accepted : (k : KernelState) (d : ℕ) (c : KernelCall) (rows : DeviceState → Option ℕ) → errno_of k d c rows ≡ None → Accepted k d c rows
+pub accepted : (k : KernelState) (d : ℕ) (c : KernelCall) (rows : DeviceState → Option ℕ) → errno_of k d c rows ≡ None → Accepted k d c rows
 accepted k d c rows none = accepted-by k d c rows (plugged_device k.devices d) refl none
+
+-- and finds no refusal armed
+pub keeps-armed : (k : KernelState) (d : ℕ) (c : KernelCall) (rows : DeviceState → Option ℕ) → Accepted k d c rows → armed_left k.devices k.armed d c ≡ k.armed
+keeps-armed k d c rows a =
+    let plugged : plugged_device k.devices d ≡ Some a.x = rw (a.device, a.plugged) refl in
+    rw plugged (unarmed k.armed d c a.armed)
 
 -- what is true of a device stays true over a call
 call-keeps : (P : Option DeviceState → Type 0) (k : KernelState) (l d : ℕ) (c : KernelCall) (rows : DeviceState → Option ℕ) (change : DeviceState → DeviceState) → KeepsNumber change → ((x : DeviceState) → rows x ≡ None → P (Some x) → P (Some (change x))) → P (device_of k.devices d) → P (device_of (called k l c rows change).devices d)
@@ -132,6 +138,8 @@ calls-keep k l d i c claimed = over c
     over : (c : DeviceCall) → Keeps i (configuration_of k.devices d) (device_of (after_call k l c).devices d)
     over (device.SetConfiguration value) =
         call-keeps (Keeps i (configuration_of k.devices d)) k l d call.SetConfig (set_configuration_rows value) (with_configuration value) (λ x. refl) (λ x row keeps. absurd (is_some-none (set_configuration_rows value x) (configuration-rows value i x keeps.0) row)) (claimed, refl)
+    over (device.Claim j) =
+        call-keeps (Keeps i (configuration_of k.devices d)) k l d call.Claim (claim_rows j) (with_claim j) (λ x. refl) (λ x row keeps. (insert-keeps x.claimed i j keeps.0, keeps.1)) (claimed, refl)
     over (device.DetachAndClaim j) =
         call-keeps (Keeps i (configuration_of k.devices d)) k l d call.DetachClaim (detach_and_claim_rows j) (with_claimed_only j) (λ x. refl) (λ x row keeps. (insert-keeps x.claimed i j keeps.0, keeps.1)) (claimed, refl)
     over (device.Detach j) = call-keeps (Keeps i (configuration_of k.devices d)) k l d call.Detach (detach_rows j) (without_driver j) (λ x. refl) (λ x row keeps. keeps) (claimed, refl)
@@ -151,7 +159,7 @@ resets-keep k l d i claimed =
     rw (reset-devices k l) (call-keeps (Keeps i (configuration_of k.devices d)) k l d call.Reset no_rows unplugged (λ x. refl) (λ x row keeps. keeps) (claimed, refl))
 
 -- what a call that is not refused makes of its device
-acts : (k : KernelState) (d : ℕ) (c : KernelCall) (rows : DeviceState → Option ℕ) (change : DeviceState → DeviceState) → KeepsNumber change → (a : Accepted k d c rows) → errno_of k d c rows ≡ None → device_of (called k d c rows change).devices d ≡ Some (change a.x)
+pub acts : (k : KernelState) (d : ℕ) (c : KernelCall) (rows : DeviceState → Option ℕ) (change : DeviceState → DeviceState) → KeepsNumber change → (a : Accepted k d c rows) → errno_of k d c rows ≡ None → device_of (called k d c rows change).devices d ≡ Some (change a.x)
 unfolding called
 acts k d c rows change keeps a none = rw (none, device-changed change keeps k.devices d, a.device) refl
 
@@ -215,17 +223,7 @@ released-exclusive j x apart i claimed =
       | inr other ↦ apart i (sym (contains-remove_other x.claimed j i other) ∙ claimed)
     ]
 
-pub calls-exclusive : CallsStayExclusive
-calls-exclusive k l (device.SetConfiguration value) apart d = call-keeps IsExclusiveIn k l d call.SetConfig (set_configuration_rows value) (with_configuration value) (λ x. refl) (λ x row p. p) (apart d)
-calls-exclusive k l (device.DetachAndClaim j) apart d = call-keeps IsExclusiveIn k l d call.DetachClaim (detach_and_claim_rows j) (with_claimed_only j) (λ x. refl) (λ x row p. claimed_only-exclusive j x p) (apart d)
-calls-exclusive k l (device.Detach j) apart d = call-keeps IsExclusiveIn k l d call.Detach (detach_rows j) (without_driver j) (λ x. refl) (λ x row p. detached-exclusive j x p) (apart d)
-calls-exclusive k l (device.Attach j) apart d = call-keeps IsExclusiveIn k l d call.Attach (attach_rows j) (with_driver j) (λ x. refl) (attached-exclusive j) (apart d)
-calls-exclusive k l (device.SetInterface j setting) apart d = call-keeps IsExclusiveIn k l d call.Alt (set_interface_rows j setting) same (λ x. refl) (λ x row p. p) (apart d)
-
-pub resets-exclusive : ResetsStayExclusive
-resets-exclusive k l apart d = rw (reset-devices k l) (call-keeps IsExclusiveIn k l d call.Reset no_rows unplugged (λ x. refl) (λ x row p. p) (apart d))
-
--- a claim with no armed refusal is a call
+-- an interface that may be claimed has no driver
 unbound-row : (i : ℕ) (x : DeviceState) → claim_rows i x ≡ None → contains x.bound i ≡ false
 unbound-row i x row =
     elim (cases_Bool (contains x.bound i)) [
@@ -240,20 +238,16 @@ unbound-row i x row =
           | false ↦ refl
         ])
 
-abbrev unarmed_kernel : List DeviceState → KernelState
-unarmed_kernel devices = record { past = []; devices = devices; clock = 0; armed = []; spare = 0 }
+pub calls-exclusive : CallsStayExclusive
+calls-exclusive k l (device.SetConfiguration value) apart d = call-keeps IsExclusiveIn k l d call.SetConfig (set_configuration_rows value) (with_configuration value) (λ x. refl) (λ x row p. p) (apart d)
+calls-exclusive k l (device.Claim j) apart d = call-keeps IsExclusiveIn k l d call.Claim (claim_rows j) (with_claim j) (λ x. refl) (λ x row p. claimed-exclusive j x (unbound-row j x row) p) (apart d)
+calls-exclusive k l (device.DetachAndClaim j) apart d = call-keeps IsExclusiveIn k l d call.DetachClaim (detach_and_claim_rows j) (with_claimed_only j) (λ x. refl) (λ x row p. claimed_only-exclusive j x p) (apart d)
+calls-exclusive k l (device.Detach j) apart d = call-keeps IsExclusiveIn k l d call.Detach (detach_rows j) (without_driver j) (λ x. refl) (λ x row p. detached-exclusive j x p) (apart d)
+calls-exclusive k l (device.Attach j) apart d = call-keeps IsExclusiveIn k l d call.Attach (attach_rows j) (with_driver j) (λ x. refl) (attached-exclusive j) (apart d)
+calls-exclusive k l (device.SetInterface j setting) apart d = call-keeps IsExclusiveIn k l d call.Alt (set_interface_rows j setting) same (λ x. refl) (λ x row p. p) (apart d)
 
-claim-called : (devices : List DeviceState) (l j : ℕ) → after_claim devices l j ≡ (called (unarmed_kernel devices) l call.Claim (claim_rows j) (with_claim j)).devices
-unfolding called
-claim-called devices l j = by_device (plugged_device devices l) refl
-  where
-    by_device : (o : Option DeviceState) → plugged_device devices l ≡ o → after_claim devices l j ≡ devices_called devices l (with_claim j) (errno_of (unarmed_kernel devices) l call.Claim (claim_rows j))
-    by_device None is = rw is refl
-    by_device (Some x) is = rw is (elim (claim_rows j x) as (λ v. cond (is_ok (ok_unless v)) (change_device (with_claim j) l devices) devices ≡ devices_called devices l (with_claim j) v) [ None ↦ refl | Some errno ↦ refl ])
-
-pub claims-exclusive : ClaimsStayExclusive
-claims-exclusive devices l j apart d =
-    rw (claim-called devices l j) (call-keeps IsExclusiveIn (unarmed_kernel devices) l d call.Claim (claim_rows j) (with_claim j) (λ x. refl) (λ x row p. claimed-exclusive j x (unbound-row j x row) p) (apart d))
+pub resets-exclusive : ResetsStayExclusive
+resets-exclusive k l apart d = rw (reset-devices k l) (call-keeps IsExclusiveIn k l d call.Reset no_rows unplugged (λ x. refl) (λ x row p. p) (apart d))
 
 pub releases-exclusive : ReleasesStayExclusive
 releases-exclusive devices l j apart d = at-change IsExclusiveIn (without_claim j) (λ x. refl) devices l d (λ x here at p. released-exclusive j x p) (apart d)
@@ -291,5 +285,4 @@ unfolding after_reset called
 reset-unplug k d none =
     let a = accepted k d call.Reset no_rows none in
     let plugged : plugged_device k.devices d ≡ Some a.x = rw (a.device, a.plugged) refl in
-    let armed : armed_left k.devices k.armed d call.Reset ≡ k.armed = rw plugged (unarmed k.armed d call.Reset a.armed) in
     rw (none, plugged, unarmed k.armed d call.Reset a.armed) refl

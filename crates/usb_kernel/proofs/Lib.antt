@@ -16,6 +16,8 @@ pub mod ClaimLemmas
 pub mod CallLemmas
 pub mod ArmedLemmas
 pub mod CallsKept
+pub mod ClaimCalls
+pub mod Answered
 pub mod WorkedRows
 pub mod WorkedTimers
 pub mod WorkedCalls

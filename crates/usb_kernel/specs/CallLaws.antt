@@ -1,5 +1,5 @@
 -- Laws of the calls on devices.
-use Rattle.std.specs.Prelude.{ℕ, ◌≡◌, ◌≢◌, Bool, true, false, List, drop, filter, map, Option, Some, None, IsSome, option_map, is_some}
+use Rattle.std.specs.Prelude.{ℕ, ◌≡◌, ◌≢◌, Bool, true, false, List, drop, filter, map, Option, Some, None, IsSome, option_map, is_some, Ok}
 use Rattle.std.specs.Option.{option_map_or}
 use Rattle.usb_kernel.specs.declared.calls.DeviceCall.{DeviceCall}
 use Rattle.usb_kernel.specs.declared.devices.DeviceState.{DeviceState}
@@ -11,9 +11,9 @@ use Rattle.usb_kernel.specs.declared.step.KernelStep.{KernelStep}
 use Rattle.usb_kernel.specs.declared.step.KernelStep.TheVariants as step
 use Rattle.usb_kernel.specs.Interfaces.{contains}
 use Rattle.usb_kernel.specs.Devices.{fresh_device, device_of, plugged_device}
-use Rattle.usb_kernel.specs.Claims.{claim_rows, after_claim, after_release, no_rows}
+use Rattle.usb_kernel.specs.Claims.{claim_rows, after_release, no_rows}
 use Rattle.usb_kernel.specs.Refusals.{call_number, is_armed_for, armed_errno, armed_left}
-use Rattle.usb_kernel.specs.Calls.{errno_of, called, set_configuration_rows, detach_and_claim_rows, with_claimed_only, detach_rows, without_driver, attach_rows, with_driver, after_reset}
+use Rattle.usb_kernel.specs.Calls.{errno_of, called, same, open_answer, after_open, set_configuration_rows, detach_and_claim_rows, with_claimed_only, detach_rows, without_driver, attach_rows, with_driver, after_reset}
 use Rattle.usb_kernel.specs.DeviceCalls.{after_call}
 use Rattle.usb_kernel.specs.ClaimLaws.{is_claimed}
 use Rattle.usb_kernel.specs.Steps.{after_step, devices_stepped}
@@ -54,6 +54,16 @@ abbrev pub RefusedChangesNone : Type 0
 RefusedChangesNone =
     (k : KernelState) (d errno : ℕ) (c : KernelCall) (rows : DeviceState → Option ℕ) (change : DeviceState → DeviceState)
     → errno_of k d c rows ≡ Some errno → (called k d c rows change).devices ≡ k.devices
+
+-- a call that only asks and is not refused has used no refusal up, and neither has an open that is not
+abbrev pub AnswersUseNone : Type 0
+AnswersUseNone =
+    (k : KernelState) (d : ℕ) (c : KernelCall) (rows : DeviceState → Option ℕ)
+    → errno_of k d c rows ≡ None → called k d c rows same ≡ k
+
+abbrev pub OpensUseNone : Type 0
+OpensUseNone =
+    (k : KernelState) (bus address d : ℕ) → open_answer k bus address ≡ Ok d → after_open k bus address ≡ k
 
 -- while an interface is claimed, each call that would claim it or attach its driver is refused, and so is each configuration
 abbrev pub ClaimedIsRefused : Type 0
@@ -114,9 +124,6 @@ CallsStayExclusive = (k : KernelState) (l : ℕ) (c : DeviceCall) → IsExclusiv
 
 abbrev pub ResetsStayExclusive : Type 0
 ResetsStayExclusive = (k : KernelState) (l : ℕ) → IsExclusive k.devices → IsExclusive (after_reset k l).devices
-
-abbrev pub ClaimsStayExclusive : Type 0
-ClaimsStayExclusive = (devices : List DeviceState) (l j : ℕ) → IsExclusive devices → IsExclusive (after_claim devices l j)
 
 abbrev pub ReleasesStayExclusive : Type 0
 ReleasesStayExclusive = (devices : List DeviceState) (l j : ℕ) → IsExclusive devices → IsExclusive (after_release devices l j)

@@ -1,4 +1,4 @@
-//! The calls that change a device, beside a claim and its release.
+//! The calls on a device that are refused by rows of their own.
 
 ghost use Rattle.std.specs.Prelude.{◌≡◌, false, OnOk, OnErr};
 ghost use Rattle.std.specs.List.{list_any};
@@ -6,7 +6,7 @@ ghost use Rattle.std.specs.Option.{option_map_or};
 ghost use Rattle.usb_desc.specs.Configurations.{configurations, alt_settings};
 ghost use Rattle.usb_desc.specs.Lookups.{has_value, has_setting};
 ghost use Rattle.usb_kernel.specs.Devices.{if_plugged, plugged_device, change_device};
-ghost use Rattle.usb_kernel.specs.Claims.{active_configuration, result_by};
+ghost use Rattle.usb_kernel.specs.Claims.{active_configuration, claim_rows, result_by};
 ghost use Rattle.usb_kernel.specs.Calls.{set_configuration_rows, detach_and_claim_rows, detach_rows, attach_rows, set_interface_rows};
 ghost use Rattle.usb_kernel.specs.DeviceCalls.{kind_of, call_rows, call_change};
 
@@ -20,6 +20,7 @@ use usb_desc::find_configuration;
 #[derive(Clone, Copy)]
 pub(crate) enum DeviceCall {
     SetConfiguration { value: u8 },
+    Claim { interface: u8 },
     DetachAndClaim { interface: u8 },
     Detach { interface: u8 },
     Attach { interface: u8 },
@@ -33,6 +34,7 @@ impl DeviceCall {
     {
         match self {
             DeviceCall::SetConfiguration { .. } => KernelCall::SetConfig,
+            DeviceCall::Claim { .. } => KernelCall::Claim,
             DeviceCall::DetachAndClaim { .. } => KernelCall::DetachClaim,
             DeviceCall::Detach { .. } => KernelCall::Detach,
             DeviceCall::Attach { .. } => KernelCall::Attach,
@@ -61,6 +63,19 @@ impl DeviceState {
             return None;
         }
         Some(errno::BUSY)
+    }
+
+    /// The errno with which a claim is refused.
+    fn claim_refusal(&self, interface: u8) -> Option<u16>
+        ensures errno { result ≡ claim_rows interface self.now }
+    {
+        if !self.has_interface(interface) {
+            return Some(errno::NOENT);
+        }
+        if self.claimed.contains(interface) || self.bound.contains(interface) {
+            return Some(errno::BUSY);
+        }
+        None
     }
 
     /// The errno with which a claim that detaches the driver is refused.
@@ -131,6 +146,7 @@ impl DeviceState {
     {
         match call {
             DeviceCall::SetConfiguration { value } => self.configuration_refusal(value),
+            DeviceCall::Claim { interface } => self.claim_refusal(interface),
             DeviceCall::DetachAndClaim { interface } => self.detach_and_claim_refusal(interface),
             DeviceCall::Detach { interface } => self.detach_refusal(interface),
             DeviceCall::Attach { interface } => self.attach_refusal(interface),
@@ -146,6 +162,7 @@ impl DeviceState {
     {
         match call {
             DeviceCall::SetConfiguration { value } => self.configuration = value,
+            DeviceCall::Claim { interface } => self.claimed.insert(interface),
             DeviceCall::DetachAndClaim { interface } => {
                 self.claimed.insert(interface);
                 self.bound.remove(interface);

@@ -1,8 +1,8 @@
 //! Simulated devices.
 
-ghost use Rattle.std.specs.Prelude.{◌≡◌, ◌+◌, ◌<◌, map, IfOk, OnOk, OnErr, position, find, option_copied, is_some};
+ghost use Rattle.std.specs.Prelude.{◌≡◌, map, IfOk, position, find, option_copied, option_map, is_some};
 ghost use Rattle.usb_kernel.specs.Devices.{fresh_device, has_device_number, device_of, if_plugged, plugged_device, unplugged, devices_unplugged};
-ghost use Rattle.usb_kernel.specs.Claims.{is_at, open_result, result_by, has_interface, claim_rows, claim_result, with_claim, after_claim, no_rows, release_result, without_claim, after_release};
+ghost use Rattle.usb_kernel.specs.Claims.{is_at, result_by, has_interface, no_rows, release_result, without_claim, after_release};
 
 use crate::bytes::Bytes;
 use crate::errno;
@@ -64,35 +64,6 @@ impl DeviceState {
             Some(configuration) => configuration.has_interface(number),
             None => false,
         }
-    }
-
-    /// The errno with which a claim is refused while it is plugged.
-    fn claim_refusal(&self, interface: u8) -> Option<u16>
-        ensures errno { result ≡ claim_rows interface self.now }
-    {
-        if !self.has_interface(interface) {
-            return Some(errno::NOENT);
-        }
-        if self.claimed.contains(interface) || self.bound.contains(interface) {
-            return Some(errno::BUSY);
-        }
-        None
-    }
-
-    /// Claims an interface.
-    fn claim(&mut self, interface: u8) -> Result<(), u16>
-        ensures result { result ≡ result_by (claim_rows interface) (if_plugged self.old) }
-        ensures ok { OnOk result (self.new ≡ with_claim interface self.old) }
-        ensures err { OnErr result (self.new ≡ self.old) }
-    {
-        if !self.plugged {
-            return Err(errno::NODEV);
-        }
-        if let Some(errno) = self.claim_refusal(interface) {
-            return Err(errno);
-        }
-        self.claimed.insert(interface);
-        Ok(())
     }
 
     /// Ends the claim of an interface. The answer is errno 19 where the device is unplugged.
@@ -170,30 +141,12 @@ fn first_at(devices: &[DeviceState], bus: u8, address: u8) -> Option<&DeviceStat
         .find(|d| d.plugged && d.bus == bus && d.address == address)
 }
 
-/// Its number, else errno 2.
-pub(crate) fn number_at(devices: &[DeviceState], bus: u8, address: u8) -> Result<u8, u16>
-    ensures result { result ≡ open_result devices.now bus address }
+/// Its number.
+pub(crate) fn number_at(devices: &[DeviceState], bus: u8, address: u8) -> Option<u8>
+    ensures number { result ≡ option_map (λ d. d.number) (find (is_at bus address) devices.now) }
 {
-    match first_at(devices, bus, address) {
-        Some(device) => Ok(device.number),
-        None => Err(errno::NOENT),
-    }
-}
-
-/// Claims an interface.
-pub(crate) fn claim_interface(
-    devices: &mut Vec<DeviceState>,
-    number: u8,
-    interface: u8,
-) -> Result<(), u16>
-    ensures result { result ≡ claim_result devices.old.items number interface }
-    ensures devices { devices.new.items ≡ after_claim devices.old.items number interface }
-{
-    let Some(at) = place_of(devices, number) else {
-        return Err(errno::NODEV);
-    };
-    let device = &mut devices[at];
-    device.claim(interface)
+    let device = first_at(devices, bus, address)?;
+    Some(device.number)
 }
 
 /// Ends the claim of an interface.

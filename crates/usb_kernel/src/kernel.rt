@@ -7,9 +7,9 @@ ghost use Rattle.usb_kernel.specs.Submissions.{submit_event, IsWhole, IsErrno};
 ghost use Rattle.usb_kernel.specs.Legal.{IsLegal, IsLawful};
 ghost use Rattle.usb_kernel.specs.Completions.{reapable, lowest};
 ghost use Rattle.usb_kernel.specs.Devices.{fresh_device, devices_unplugged};
-ghost use Rattle.usb_kernel.specs.Refusals.{call_refusal, armed_left};
-ghost use Rattle.usb_kernel.specs.Claims.{ok_unless, open_result, descriptors_result, configuration_result, claim_result, after_claim, no_rows, release_result, after_release, clear_halt_result};
-ghost use Rattle.usb_kernel.specs.Calls.{errno_of, asked, called, same, set_configuration_rows, with_configuration, detach_and_claim_rows, with_claimed_only, detach_rows, without_driver, attach_rows, with_driver, set_interface_rows, after_reset};
+ghost use Rattle.usb_kernel.specs.Refusals.{armed_errno, disarmed, call_refusal, armed_left};
+ghost use Rattle.usb_kernel.specs.Claims.{ok_unless, claim_rows, with_claim, no_rows, release_result, after_release};
+ghost use Rattle.usb_kernel.specs.Calls.{errno_of, asked, called, same, open_answer, after_open, set_configuration_rows, with_configuration, detach_and_claim_rows, with_claimed_only, detach_rows, without_driver, attach_rows, with_driver, set_interface_rows, after_reset};
 ghost use Rattle.usb_kernel.specs.DeviceCalls.{call_errno, after_call};
 ghost use Rattle.usb_kernel.specs.Submits.{submit_refusal, submit_result, after_submit, armed_after_submit, refuse_result, after_refuse, number_of};
 ghost use Rattle.usb_kernel.specs.Steps.{after_packet, after_ack, after_fail, after_unplug, after_reap, after_discard, reaped_by, after_reap_of, reapable_of, stepped, step_done, devices_stepped, clock_stepped, armed_stepped, HasErrno};
@@ -22,8 +22,7 @@ ghost use Rattle.usb_kernel.specs.contracts.kernel.Kernel.{the_row};
 use crate::bytes::Bytes;
 use crate::calls::{DeviceCall, answer};
 use crate::devices::{
-    DeviceState, SimDevice, claim_interface, fresh_devices, number_at, plugged, release_interface,
-    unplug_device,
+    DeviceState, SimDevice, fresh_devices, number_at, plugged, release_interface, unplug_device,
 };
 use crate::errno;
 use crate::event::Event;
@@ -531,37 +530,38 @@ impl Kernel {
         Some(done)
     }
 
-    /// The number of the first plugged device at an address of a bus, else errno 2.
+    /// The number of the first plugged device at an address of a bus. The errno is 2 where there is
+    /// none, and else that of an armed refusal.
     pub fn open(&mut self, bus: u8, address: u8) -> Result<u8, u16>
-        ensures number { result ≡ open_result self.old.devices bus address }
-        ensures rest { self.new ≡ self.old }
+        ensures number { result ≡ open_answer self.old bus address }
+        ensures rest { self.new ≡ after_open self.old bus address }
     {
-        number_at(&self.devices, bus, address)
+        let Some(device) = number_at(&self.devices, bus, address) else {
+            return Err(errno::NOENT);
+        };
+        match self.armed_refusal(device, KernelCall::OpenDevice) {
+            Some(errno) => Err(errno),
+            None => Ok(device),
+        }
     }
 
-    /// The descriptors of a device, else errno 19.
+    /// The descriptors of a device. The errno is 19 where no plugged device has the number, and
+    /// else that of an armed refusal.
     pub fn read_descriptors(&mut self, device: u8) -> Result<&[u8], u16>
-        ensures bytes { IfOk result
-            (λ bytes. descriptors_result self.old.devices device ≡ Ok bytes.now) }
-        ensures err { IfErr result
-            (λ errno. descriptors_result self.old.devices device ≡ Err errno) }
-        ensures* rest { sem 𝓛 (Rests the_row self.entry (λ kernel. kernel ≡ self.old)) }
+        ensures bytes { IfOk result (λ bytes.
+            asked self.old device KernelCall.ReadDesc no_rows (λ d. d.bytes) ≡ Ok bytes.now) }
+        ensures err { IfErr result (λ errno.
+            asked self.old device KernelCall.ReadDesc no_rows (λ d. d.bytes) ≡ Err errno) }
+        ensures* rest { sem 𝓛 (Rests the_row self.entry
+            (λ kernel. kernel ≡ called self.old device KernelCall.ReadDesc no_rows same)) }
     {
+        if let Some(errno) = self.refusal(device, KernelCall::ReadDesc) {
+            return Err(errno);
+        }
         match plugged(&self.devices, device) {
             Some(device) => Ok(device.bytes.as_slice()),
             None => Err(errno::NODEV),
         }
-    }
-
-    /// Claims an interface. The errno is 19 where no plugged device has the number, 2 where its
-    /// active configuration does not have the interface, and 16 where the interface is claimed or
-    /// has a kernel driver.
-    pub fn claim(&mut self, device: u8, interface: u8) -> Result<(), u16>
-        ensures result { result ≡ claim_result self.old.devices device interface }
-        ensures devices { self.new.devices ≡ after_claim self.old.devices device interface }
-        ensures rest { self.new ≡ record self.old { devices = self.new.devices } }
-    {
-        claim_interface(&mut self.devices, device, interface)
     }
 
     /// Ends the claim of an interface, on an unplugged device too. The answer is errno 19 there.
@@ -573,26 +573,43 @@ impl Kernel {
         release_interface(&mut self.devices, device, interface)
     }
 
-    /// The value of a device's active configuration, else errno 19.
+    /// The value of a device's active configuration. The errno is 19 where no plugged device has
+    /// the number, and else that of an armed refusal.
     pub fn configuration(&mut self, device: u8) -> Result<u8, u16>
-        ensures value { result ≡ configuration_result self.old.devices device }
-        ensures rest { self.new ≡ self.old }
+        ensures value { result
+            ≡ asked self.old device KernelCall.GetConfig no_rows (λ d. d.configuration) }
+        ensures rest { self.new ≡ called self.old device KernelCall.GetConfig no_rows same }
     {
+        if let Some(errno) = self.refusal(device, KernelCall::GetConfig) {
+            return Err(errno);
+        }
         match plugged(&self.devices, device) {
             Some(device) => Ok(device.configuration),
             None => Err(errno::NODEV),
         }
     }
 
-    /// Clears the halt of an endpoint, else errno 19. No halt is kept.
+    /// Clears the halt of an endpoint. The errno is 19 where no plugged device has the number, and
+    /// else that of an armed refusal. No halt is kept.
     pub fn clear_halt(&mut self, device: u8, _endpoint: u8) -> Result<(), u16>
-        ensures result { result ≡ clear_halt_result self.old.devices device }
-        ensures rest { self.new ≡ self.old }
+        ensures result { result ≡ ok_unless (errno_of self.old device KernelCall.Halt no_rows) }
+        ensures rest { self.new ≡ called self.old device KernelCall.Halt no_rows same }
     {
-        match plugged(&self.devices, device) {
-            Some(_) => Ok(()),
-            None => Err(errno::NODEV),
+        match self.refusal(device, KernelCall::Halt) {
+            Some(errno) => Err(errno),
+            None => Ok(()),
         }
+    }
+
+    /// The errno of the first refusal that is armed for a call, which is used up.
+    fn armed_refusal(&mut self, device: u8, call: KernelCall) -> Option<u16>
+        ensures errno { result ≡ armed_errno self.old.armed device call }
+        ensures armed { self.new ≡ record self.old
+            { armed = disarmed self.old.armed device call } }
+    {
+        let errno = self.armed.errno(device, call);
+        self.armed.disarm(device, call);
+        errno
     }
 
     /// The errno of a call that comes before its rows: 19 where no plugged device has the number,
@@ -605,9 +622,7 @@ impl Kernel {
         if plugged(&self.devices, device).is_none() {
             return Some(errno::NODEV);
         }
-        let errno = self.armed.errno(device, call);
-        self.armed.disarm(device, call);
-        errno
+        self.armed_refusal(device, call)
     }
 
     /// A call with rows of its own.
@@ -631,6 +646,18 @@ impl Kernel {
             (set_configuration_rows value) (with_configuration value) }
     {
         self.call(device, DeviceCall::SetConfiguration { value })
+    }
+
+    /// Claims an interface. The errno is 19 where no plugged device has the number, that of an
+    /// armed refusal, 2 where its active configuration does not have the interface, and 16 where
+    /// the interface is claimed or has a kernel driver.
+    pub fn claim(&mut self, device: u8, interface: u8) -> Result<(), u16>
+        ensures result { result ≡ ok_unless
+            (errno_of self.old device KernelCall.Claim (claim_rows interface)) }
+        ensures rest { self.new ≡ called self.old device KernelCall.Claim
+            (claim_rows interface) (with_claim interface) }
+    {
+        self.call(device, DeviceCall::Claim { interface })
     }
 
     /// Resets a device, which is then gone, and its tickets are finished. The errno is 19 where no

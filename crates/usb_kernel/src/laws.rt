@@ -4,7 +4,7 @@ ghost use Rattle.usb_kernel.specs.Laws.{ReapedIsFinal, CompletionIsFinal, EventE
 ghost use Rattle.usb_kernel.specs.Laws.{SubmitOpens, SubmitSparesOthers, RefuseOpensNone, PacketServesOldest, PacketSparesOthers, AckServesOldest, AckSparesOthers, FailTakesOldest, FailSparesOthers, DiscardCloses, ReapClosesNone, UnplugCloses, UnplugSparesOthers, EchoIsAckAndPacket, EchoClosesAsBoth, EchoNeedsBoth, EchoClosesNone};
 ghost use Rattle.usb_kernel.specs.Laws.{DiscardFinishes, FinishedIsReapable, ReapableHasLowest, LowestIsReapable, LowestIsLeast, WaitingAreTickets, ReapEndsWaiting, ReapLeavesOneLess, SubmitLeavesWaiting, RefuseLeavesWaiting, OthersAddWaiting};
 ghost use Rattle.usb_kernel.specs.ClaimLaws.{ClaimedIsBusy, ClaimMakesClaimed, SecondClaimIsBusy, ClaimsKeep, ReleasesKeep, StepsKeep, ReleaseEnds, ReleaseUndoes, RefusedClaims};
-ghost use Rattle.usb_kernel.specs.CallLaws.{UnpluggedIsRefused, ArmedComesFirst, ArmedIsUsedOnce, OthersStayArmed, RefusedChangesNone, ClaimedIsRefused, CallsKeepClaims, ResetsKeepClaims, DetachAndClaimActs, DetachActs, AttachActs, StartIsExclusive, CallsStayExclusive, ResetsStayExclusive, ClaimsStayExclusive, ReleasesStayExclusive, StepsStayExclusive, ResetIsUnplug, RefusedReset, ResetUnplugs};
+ghost use Rattle.usb_kernel.specs.CallLaws.{UnpluggedIsRefused, ArmedComesFirst, ArmedIsUsedOnce, OthersStayArmed, RefusedChangesNone, AnswersUseNone, OpensUseNone, ClaimedIsRefused, CallsKeepClaims, ResetsKeepClaims, DetachAndClaimActs, DetachActs, AttachActs, StartIsExclusive, CallsStayExclusive, ResetsStayExclusive, ReleasesStayExclusive, StepsStayExclusive, ResetIsUnplug, RefusedReset, ResetUnplugs};
 
 /// Whatever comes after its reap, a ticket's fate stays, and its completion with it.
 pub fn reaped_is_final()
@@ -120,6 +120,12 @@ pub fn refusals_come_first()
     ensures refused { RefusedChangesNone }
 {}
 
+/// A call that only asks and is not refused has used no refusal up, and neither has an open.
+pub fn answers_use_no_refusal()
+    ensures answers { AnswersUseNone }
+    ensures opens { OpensUseNone }
+{}
+
 /// While an interface is claimed, it is claimed by no other call, no driver is attached to it, and
 /// its device keeps the configuration. Only a release ends the claim.
 pub fn claims_outlast_calls()
@@ -140,7 +146,6 @@ pub fn claims_and_drivers_exclude_each_other()
     ensures start { StartIsExclusive }
     ensures calls { CallsStayExclusive }
     ensures resets { ResetsStayExclusive }
-    ensures claims { ClaimsStayExclusive }
     ensures releases { ReleasesStayExclusive }
     ensures steps { StepsStayExclusive }
 {}

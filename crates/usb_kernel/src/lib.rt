@@ -23,11 +23,11 @@ pub use event::{Body, Event};
 pub use interfaces::InterfaceSet;
 pub use kernel::{Kernel, is_send_and_sync};
 pub use laws::{
-    calls_extend_journals, claimed_once, claims_and_drivers_exclude_each_other,
-    claims_outlast_calls, drivers_come_and_go, echo_is_two_events, extensions_compose,
-    extensions_keep_tickets, finished_can_be_reaped, later_are_untouched, oldest_is_served,
-    reaped_is_final, refusals_come_first, resets_are_unplugs, submissions_open_tickets,
-    tickets_are_closed, waiting_tickets_are_counted,
+    answers_use_no_refusal, calls_extend_journals, claimed_once,
+    claims_and_drivers_exclude_each_other, claims_outlast_calls, drivers_come_and_go,
+    echo_is_two_events, extensions_compose, extensions_keep_tickets, finished_can_be_reaped,
+    later_are_untouched, oldest_is_served, reaped_is_final, refusals_come_first,
+    resets_are_unplugs, submissions_open_tickets, tickets_are_closed, waiting_tickets_are_counted,
 };
 pub use step::{Armed, KernelCall, KernelStep};
 pub use submission::{Done, Submission, Submitted, TicketInfo};

@@ -1,11 +1,13 @@
 use Rattle.std.proofs.Common.{◌∙◌, ap}
 use Rattle.usb_device.specs.HostBus.{bus_of}
-use Rattle.usb_device.proofs.InterfaceFrames.{opened-is}
-use Rattle.usb_device.proofs.HandleFrames.{bus-claim}
+use Rattle.usb_device.proofs.HandleFrames.{bus-open, bus-claim}
 use Rattle.device_tests.proofs.hosts.claim.Goals as goal
+
+pub returns-in_err-device-clause-bus : goal.returns-in_err-device-clause-bus
+returns-in_err-device-clause-bus c = bus-open c.args.host.now c.open_at.new.host 1 6 c.open_at.result c.open_at.ensures.host
 
 pub returns-clause-bus : goal.returns-clause-bus
 returns-clause-bus c =
     let claims = c.claim_interface-claimed in
-    let opened = ap bus_of (c.in_ok-device.ensures.ok ∙ opened-is c.args.host.now 1 6) in
-    ap bus_of c.close.ensures.host ∙ (bus-claim c.open_at.new.host claims.new.host c.in_ok-device.device 0 claims.result claims.ensures.claims.ok claims.ensures.claims.err ∙ opened)
+    let opened = bus-open c.args.host.now c.open_at.new.host 1 6 c.open_at.result c.open_at.ensures.host in
+    ap bus_of c.close.ensures.host ∙ (bus-claim c.open_at.new.host claims.new.host c.in_ok-device.device 0 claims.result claims.ensures.claims.host ∙ opened)

@@ -1,4 +1,5 @@
-use Rattle.usb_kernel.proofs.ClaimLemmas.{claimed-busy, claim-claims, second-busy, claims-keep, releases-keep, steps-keep, release-ends, release-undoes, claim-refused}
+use Rattle.usb_kernel.proofs.ClaimLemmas.{releases-keep, steps-keep, release-ends}
+use Rattle.usb_kernel.proofs.ClaimCalls.{claimed-busy, claim-claims, second-busy, claims-keep, release-undoes, claim-refused}
 use Rattle.usb_kernel.proofs.laws.claimed_once.Goals as goal
 
 pub returns : goal.returns

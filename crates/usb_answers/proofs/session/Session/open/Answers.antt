@@ -1,12 +1,10 @@
-use Rattle.std.proofs.Common.{◌≡◌, ◌∙◌, ap}
-use Rattle.usb_lines.specs.Calls.{error_line}
+use Rattle.std.proofs.Common.{ℕ, ◌≡◌, ◌∙◌, ap, Ok, Err}
 use Rattle.usb_answers.specs.Names.{set_name}
-use Rattle.usb_answers.specs.Opens.{open_answer}
 use Rattle.usb_answers.specs.SessionState.{SessionState}
 use Rattle.usb_answers.specs.SessionFacts.{made_of}
 use Rattle.usb_answers.proofs.NameLemmas.{free_at}
-use Rattle.usb_answers.proofs.Answering.{answers, answers-same, same-host}
-use Rattle.usb_answers.proofs.Devices.{open-sound, open-gives, open-refused, open-barred, open-spare}
+use Rattle.usb_answers.proofs.Answering.{answers, answers-same}
+use Rattle.usb_answers.proofs.Devices.{open-sound, open-left, open-gives, open-refused, open-barred, open-spare}
 use Rattle.usb_answers.proofs.session.Session.open.Goals as goal
 
 pub returns-then-not-is_free-clause-answered : goal.returns-then-not-is_free-clause-answered
@@ -16,7 +14,7 @@ returns-then-not-is_free-clause-answered c =
 
 pub invariant_of-self : goal.invariant_of-self
 invariant_of-self c =
-    open-sound (made_of c.self.inside) c.open_at.new.host c.put_at.new.names.items c.args.name c.in-Ok.device c.args.bus c.args.address c.self.invariant c.in-Ok.ensures.ok c.in-Ok.ensures.stands
+    open-sound (made_of c.self.inside) c.open_at.new.host c.put_at.new.names.items c.args.name c.in-Ok.device c.args.bus c.args.address c.self.invariant c.in-Ok.ensures.host c.in-Ok.ensures.stands
     (free_at _ _ _ _ _ _ c.deref.ensures.value c.number.ensures.value c.is_free.ensures.free c.if-not-is_free.false)
     (rw (← c.number-in-Ok.ensures.value) c.put_at.ensures.after)
 
@@ -24,14 +22,27 @@ pub returns-in-Ok-clause-answered : goal.returns-in-Ok-clause-answered
 returns-in-Ok-clause-answered c =
     let after : c.put_at.new.names.items ≡ set_name c.self.inside.devices.items c.args.name c.in-Ok.device = rw (← c.number-in-Ok.ensures.value) c.put_at.ensures.after in
     answers _ _ _ c.self.view_is c.write_ok.ensures.text
-    (λ state r. open-gives (made_of c.self.inside) state c.open_at.new.host c.put_at.new.names.items c.args.name c.in-Ok.device c.args.bus c.args.address r (free_at _ _ _ _ _ _ c.deref.ensures.value c.number.ensures.value c.is_free.ensures.free c.if-not-is_free.false) c.in-Ok.ensures.tried c.in-Ok.ensures.ok after)
+    (λ state r. open-gives (made_of c.self.inside) state c.open_at.new.host c.put_at.new.names.items c.args.name c.in-Ok.device c.args.bus c.args.address r (free_at _ _ _ _ _ _ c.deref.ensures.value c.number.ensures.value c.is_free.ensures.free c.if-not-is_free.false) c.in-Ok.ensures.tried c.in-Ok.ensures.host after)
 
 pub returns-in-Ok-clause-spare : goal.returns-in-Ok-clause-spare
 returns-in-Ok-clause-spare c =
-    open-spare c.self.inside.host c.open_at.new.host c.args.bus c.args.address c.in-Ok.ensures.ok ∙ ap (λ (v : SessionState). v.host.kernel.spare) c.self.view_is
+    open-spare c.self.inside.host c.open_at.new.host c.args.bus c.args.address (Ok c.in-Ok.device) c.in-Ok.ensures.host ∙ ap (λ (v : SessionState). v.host.kernel.spare) c.self.view_is
 
 pub returns-in-Err-Cause-clause-answered : goal.returns-in-Err-Cause-clause-answered
 returns-in-Err-Cause-clause-answered c =
     answers _ _ _ c.self.view_is (rw c.in-Err-Cause.error-is at c.write_error.ensures.text)
-    (λ state r. same-host (made_of c.self.inside) c.open_at.new.host (error_line c.in-Err-Cause.error) (open_answer state c.args.name c.args.bus c.args.address) c.in-Err-Cause.ensures.err
-    (open-refused (made_of c.self.inside) state c.args.name c.args.bus c.args.address c.in-Err-Cause.error r (free_at _ _ _ _ _ _ c.deref.ensures.value c.number.ensures.value c.is_free.ensures.free c.if-not-is_free.false) (rw c.in-Err-Cause.field-0-is at c.in-Err-Cause.ensures.tried)))
+    (λ state r. open-refused (made_of c.self.inside) state c.open_at.new.host c.args.name c.args.bus c.args.address c.in-Err-Cause.error r (free_at _ _ _ _ _ _ c.deref.ensures.value c.number.ensures.value c.is_free.ensures.free c.if-not-is_free.false) (rw c.in-Err-Cause.field-0-is at c.in-Err-Cause.ensures.tried) (rw c.in-Err-Cause.field-0-is at c.in-Err-Cause.ensures.host))
+
+pub invariant_of-self-in-Err-Cause : goal.invariant_of-self-in-Err-Cause
+invariant_of-self-in-Err-Cause c = open-left {A = ℕ} (made_of c.self.inside) c.open_at.new.host c.args.bus c.args.address (Err c.in-Err-Cause.field-0) c.self.invariant c.in-Err-Cause.ensures.host
+
+pub invariant_of-self-in-Err-Memory : goal.invariant_of-self-in-Err-Memory
+invariant_of-self-in-Err-Memory c = open-left {A = ℕ} (made_of c.self.inside) c.open_at.new.host c.args.bus c.args.address (Err c.in-Err-Memory.field-0) c.self.invariant c.in-Err-Memory.ensures.host
+
+pub returns-in-Err-Cause-clause-spare : goal.returns-in-Err-Cause-clause-spare
+returns-in-Err-Cause-clause-spare c =
+    open-spare {A = ℕ} c.self.inside.host c.open_at.new.host c.args.bus c.args.address (Err c.in-Err-Cause.field-0) c.in-Err-Cause.ensures.host ∙ ap (λ (v : SessionState). v.host.kernel.spare) c.self.view_is
+
+pub returns-in-Err-Memory-clause-spare : goal.returns-in-Err-Memory-clause-spare
+returns-in-Err-Memory-clause-spare c =
+    open-spare {A = ℕ} c.self.inside.host c.open_at.new.host c.args.bus c.args.address (Err c.in-Err-Memory.field-0) c.in-Err-Memory.ensures.host ∙ ap (λ (v : SessionState). v.host.kernel.spare) c.self.view_is

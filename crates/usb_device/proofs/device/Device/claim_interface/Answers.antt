@@ -1,4 +1,4 @@
-use Rattle.std.proofs.Common.{refl}
+use Rattle.std.proofs.Common.{ℕ, refl, Ok, Err}
 use Rattle.usb_device.proofs.LedgerLemmas.{some-at}
 use Rattle.usb_device.proofs.OpeningLemmas.{claimed-stands, claimed-device}
 use Rattle.usb_device.proofs.device.Device.claim_interface.Goals as goal
@@ -12,8 +12,7 @@ returns-in-Ok-clause-claims c =
       at = there.1;
       tried = (rw key at c.in-Ok.ensures.tried) there.0 there.1;
       number = refl;
-      ok = rw key at c.in-Ok.ensures.ok;
-      err = tt;
+      host = rw key at c.in-Ok.ensures.host;
     }
 
 pub returns-in-Ok-clause-stands : goal.returns-in-Ok-clause-stands
@@ -21,12 +20,12 @@ returns-in-Ok-clause-stands c =
     let key = c.self.view_is in
     let there = some-at c.args.host.now.devices c.args.self.now c.requires.stands in
     let tried = rw key at c.in-Ok.ensures.tried in
-    claimed-stands c.args.host.now c.claim.new.self c.args.self.now c.args.interface c.in-Ok.key there.0 there.1 c.requires.stands (tried there.0 there.1) (rw key at c.in-Ok.ensures.ok)
+    claimed-stands c.args.host.now c.claim.new.self c.args.self.now c.args.interface c.in-Ok.key there.0 there.1 c.requires.stands (tried there.0 there.1) (rw key at c.in-Ok.ensures.host)
 
 pub returns-in-Ok-clause-device : goal.returns-in-Ok-clause-device
 returns-in-Ok-clause-device c =
     let key = c.self.view_is in
-    claimed-device c.args.host.now c.claim.new.self c.args.self.now c.args.interface c.requires.stands (rw key at c.in-Ok.ensures.ok)
+    claimed-device c.args.host.now c.claim.new.self c.args.self.now c.args.interface (Ok c.in-Ok.key) c.requires.stands (rw key at c.in-Ok.ensures.host)
 
 pub returns-in-Err-clause-claims : goal.returns-in-Err-clause-claims
 returns-in-Err-clause-claims c =
@@ -37,6 +36,10 @@ returns-in-Err-clause-claims c =
       at = there.1;
       tried = (rw key at c.in-Err.ensures.tried) there.0 there.1;
       number = tt;
-      ok = tt;
-      err = c.in-Err.ensures.err;
+      host = rw key at c.in-Err.ensures.host;
     }
+
+pub returns-in-Err-clause-device : goal.returns-in-Err-clause-device
+returns-in-Err-clause-device c =
+    let key = c.self.view_is in
+    claimed-device {A = ℕ} c.args.host.now c.claim.new.self c.args.self.now c.args.interface (Err c.in-Err.error) c.requires.stands (rw key at c.in-Err.ensures.host)

@@ -5,7 +5,8 @@ use Rattle.usb_device.specs.HostState.{HostState, ClaimedInterface}
 use Rattle.usb_device.specs.Owners.{is_in_use}
 use Rattle.usb_device.specs.EndpointOpens.{host_asked, host_tries, endpoint_route}
 use Rattle.usb_device.proofs.LedgerLemmas.{some-at}
-use Rattle.usb_device.proofs.EndpointLemmas.{asked-made, asked-length, tried-unused, tried-some}
+use Rattle.usb_device.proofs.InterfaceFrames.{asked-is, asked-length}
+use Rattle.usb_device.proofs.EndpointLemmas.{tried-unused, tried-some}
 use Rattle.usb_device.proofs.host.Host.open_endpoint.Goals as goal
 
 -- the interface of a key, and the host whose kernel was asked for the configuration of its device
@@ -25,7 +26,7 @@ asked view now next i opened seen within opened_of asks =
       claim = there.0;
       at = there.1;
       made = made;
-      interfaces = ap (λ (h : HostState). h.interfaces) (made ∙ asked-made now there.0.opened);
+      interfaces = ap (λ (h : HostState). h.interfaces) (made ∙ asked-is now there.0.opened);
       places = ap (λ (h : HostState). length h.devices) made ∙ asked-length now there.0.opened;
     }
 
@@ -94,6 +95,6 @@ returns-clause-packets c =
 pub returns-clause-route : goal.returns-clause-route
 returns-clause-route c = λ x here.
     let device = c.device-device.ensures.device x (ap (λ (h : HostState). slice_get h.interfaces c.args.interface) c.self.view_is ∙ here) in
-    let made = c.ask_configuration.ensures.asked ∙ asked-made c.args.self.now c.opened-opened.result in
+    let made = c.ask_configuration.ensures.asked ∙ asked-is c.args.self.now c.opened-opened.result in
     let key = c.in-Ok-open_endpoint.ensures.key ∙ ap (λ (h : HostState). length h.endpoints) (c.self-2.view_is ∙ made) in
     ap (λ d. endpoint_route (record x { device = d }) c.args.address c.args.kind c.in-Ok.maximum c.in-Ok-open_endpoint.key) device ∙ ap (endpoint_route x c.args.address c.args.kind c.in-Ok.maximum) key
