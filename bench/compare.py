@@ -19,7 +19,7 @@ LANGUAGE = pathlib.Path(__file__).parent.parent / "docs/SCRIPT.md"
 ANSWERS = ["ok", "condition", "error", "device", "desc", "count", "pending", "none", "done", "now", "ticket"]
 STATUSES = ["ok", "cancelled", "stall", "disconnected", "fault", "invalid", "unknown"]
 ENDS = ["taken", "dropped", "reclaimed"]
-ERRORS = ["Disconnected", "Busy", "NotFound", "Other"]
+ERRORS = ["Disconnected", "Busy", "PermissionDenied", "NotFound", "Other"]
 
 CONFIGURATIONS = [
     # interface 0 with bulk IN 81 and bulk OUT 02 of 64 bytes
@@ -63,6 +63,10 @@ def address(r):
     return r.choice(["81", "82", "83", "01", "02", "91"])
 
 
+# the calls for which a refusal may be armed, those that a line makes more often
+CALLS = ["open", "readdesc", "getconfig", "claim"] * 3 + ["setconfig", "reset", "detachclaim", "detach", "attach", "alt", "halt", "speed"]
+
+
 def step(r):
     k = name(r, "k", 3)
     return r.choice([
@@ -75,6 +79,7 @@ def step(r):
         lambda: f"clock {r.randrange(4000)}",
         lambda: f"clock {r.randrange(5) * 10**9}",
         lambda: f"refuse {k} submit {r.choice([2, 12, 16, 19, 22, 28, 32, 71, 104, 108, 110])}",
+        lambda: f"refuse {k} {r.choice(CALLS)} {r.choice([1, 2, 5, 13, 16, 19, 22, 61, 71, 4095])}",
         lambda: "reap",
         lambda: "reap",
         lambda: f"reap {r.randrange(12)}",
@@ -138,7 +143,7 @@ def burst(r):
 MALFORMED = [
     "poll", "poll e64", "poll e00", "poll d0", "\tnow", "now\t", "! ", "!", "! reap ;", "! ; reap", "! now", "clock 1", "now x",
     "now # x", "# \x01", "poll e0 : reap", "wait e0 1 :", "wait e0 1 reap", "wait e0 1000000000000000001", "! clock max",
-    "! fail k0 81 0", "! fail k0 81 4096", "! refuse k0 claim 5", "! reap 4294967296", "submitin e0 65537", "submitin e0 +1",
+    "! fail k0 81 0", "! fail k0 81 4096", "! refuse k0 close 5", "! reap 4294967296", "submitin e0 65537", "submitin e0 +1",
     "submitout e0 1", "submitout e0 0g", "submitin e0 00000000000000000064", "open d0 1 256", "endpoint e0 i0 8 bulk-in",
     "endpoint e0 i0 81 iso-in", "device k0 1 6 3 1 -", "device k5 9 9 3 1 -",
 ]

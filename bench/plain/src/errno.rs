@@ -2,7 +2,9 @@
 
 pub type Errno = u16;
 
+pub const PERM: Errno = 1;
 pub const NOENT: Errno = 2;
+pub const ACCES: Errno = 13;
 pub const BUSY: Errno = 16;
 pub const NODEV: Errno = 19;
 pub const INVAL: Errno = 22;

@@ -2,7 +2,7 @@
 
 use crate::descriptors::{self, DeviceDescriptor, Direction, TransferType};
 use crate::errno;
-use crate::kernel::{Device, Kernel, Outcome, Step, Ticket, Transfer};
+use crate::kernel::{Device, Kernel, KernelCall, Outcome, Step, Ticket, Transfer};
 use crate::names::Name;
 use crate::refusal::Refusal;
 use crate::text::{Show, Text};
@@ -123,13 +123,22 @@ impl Interface {
 }
 
 impl Host {
-    pub fn open_device(&self, bus: u8, address: u8) -> Result<OpenDevice, Refusal> {
-        let (name, device) = self
-            .kernel
+    pub fn open_device(&mut self, bus: u8, address: u8) -> Result<OpenDevice, Refusal> {
+        let kernel = &mut self.kernel;
+        let (name, device) = kernel
             .find(bus, address)
-            .ok_or(Refusal::DeviceNotFound)?;
+            .ok_or(Refusal::Open(errno::NOENT))?;
+        kernel
+            .not_refused(name, KernelCall::Open)
+            .map_err(Refusal::Open)?;
+        kernel
+            .not_refused(name, KernelCall::ReadDescriptors)
+            .map_err(Refusal::ReadDescriptors)?;
         let descriptor =
             DeviceDescriptor::new(&device.bytes).ok_or(Refusal::InvalidDeviceDescriptor)?;
+        kernel
+            .not_refused(name, KernelCall::Configuration)
+            .map_err(|_| Refusal::Configuration)?;
         Ok(OpenDevice {
             name,
             descriptor,
@@ -140,11 +149,7 @@ impl Host {
     pub fn claim(&mut self, device: OpenDevice, number: u8) -> Result<InterfaceKey, Refusal> {
         self.kernel
             .claim(device.name, number)
-            .map_err(|errno| match errno {
-                errno::NODEV => Refusal::DeviceDisconnected,
-                errno::BUSY => Refusal::InterfaceIsBusy,
-                _ => Refusal::InterfaceNotFound,
-            })?;
+            .map_err(Refusal::Claim)?;
         self.interfaces.push(Interface {
             device,
             number,
@@ -161,6 +166,10 @@ impl Host {
         direction: Direction,
     ) -> Result<EndpointKey, Refusal> {
         let claimed = &mut self.interfaces[interface];
+        // The kernel is asked for the active configuration, which stays as it was.
+        let _ = self
+            .kernel
+            .not_refused(claimed.device.name, KernelCall::Configuration);
         let endpoint = claimed.endpoint(address).ok_or(Refusal::NoSuchEndpoint)?;
         let maximum = endpoint.max_packet_size();
         if Direction::of_address(address) != direction {

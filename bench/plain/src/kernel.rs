@@ -34,10 +34,28 @@ impl Device {
 struct Plug {
     device: Rc<Device>,
     claimed: [bool; 256],
-    /// The errnos of the next submissions.
-    refusals: VecDeque<Errno>,
+    /// By call the errnos of the next ones.
+    refusals: [VecDeque<Errno>; 13],
     /// By the endpoint's address its tickets, the oldest in front. Some may be finished.
     open: Vec<VecDeque<Ticket>>,
+}
+
+/// A call on a device for which a script may ask for a refusal.
+#[derive(Clone, Copy)]
+pub enum KernelCall {
+    Open,
+    ReadDescriptors,
+    Configuration,
+    SetConfiguration,
+    Reset,
+    Claim,
+    DetachAndClaim,
+    Detach,
+    Attach,
+    SetInterface,
+    ClearHalt,
+    Speed,
+    Submit,
 }
 
 pub enum Step {
@@ -62,8 +80,9 @@ pub enum Step {
         to: u64,
     },
     Timer,
-    RefuseSubmit {
+    Refuse {
         device: Name,
+        call: KernelCall,
         errno: Errno,
     },
     Reap {
@@ -135,7 +154,7 @@ impl Kernel {
             Plug {
                 device: Rc::new(device),
                 claimed: [false; 256],
-                refusals: VecDeque::new(),
+                refusals: Default::default(),
                 open: vec![VecDeque::new(); 256],
             },
         );
@@ -150,6 +169,7 @@ impl Kernel {
     }
 
     pub fn claim(&mut self, name: Name, interface: u8) -> Result<(), Errno> {
+        self.not_refused(name, KernelCall::Claim)?;
         let plug = self.plugs.get_mut(name).ok_or(errno::NODEV)?;
         if !plug.device.has_interface(interface) {
             return Err(errno::NOENT);
@@ -162,17 +182,25 @@ impl Kernel {
         Ok(())
     }
 
-    /// The errno with which a submission is refused. One that the script asked for is used up.
-    fn refusal(&mut self, name: Name) -> Option<Errno> {
+    /// The errno with which a call is refused before its own rules are looked at. One that the
+    /// script asked for is used up.
+    fn refusal(&mut self, name: Name, call: KernelCall) -> Option<Errno> {
         match self.plugs.get_mut(name) {
-            Some(plug) => plug.refusals.pop_front(),
+            Some(plug) => plug.refusals[call as usize].pop_front(),
             None => Some(errno::NODEV),
+        }
+    }
+
+    pub fn not_refused(&mut self, name: Name, call: KernelCall) -> Result<(), Errno> {
+        match self.refusal(name, call) {
+            Some(errno) => Err(errno),
+            None => Ok(()),
         }
     }
 
     /// Hands a transfer in.
     pub fn submit(&mut self, transfer: Transfer) -> Ticket {
-        match self.refusal(transfer.device) {
+        match self.refusal(transfer.device, KernelCall::Submit) {
             Some(errno) => self.refuse(transfer, errno),
             None => self.accept(transfer),
         }
@@ -311,8 +339,12 @@ impl Kernel {
             Step::Clock { to } => self.clock = self.clock.max(to),
             // No transfer has a deadline, so none is due.
             Step::Timer => {}
-            Step::RefuseSubmit { device, errno } => {
-                self.plugs.get_mut(device)?.refusals.push_back(errno);
+            Step::Refuse {
+                device,
+                call,
+                errno,
+            } => {
+                self.plugs.get_mut(device)?.refusals[call as usize].push_back(errno);
             }
             Step::Reap {
                 ticket: Some(ticket),

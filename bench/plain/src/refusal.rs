@@ -5,11 +5,11 @@ use crate::text::{Show, Text};
 
 #[derive(Clone, Copy)]
 pub enum Refusal {
-    DeviceNotFound,
+    Open(Errno),
+    ReadDescriptors(Errno),
     InvalidDeviceDescriptor,
-    DeviceDisconnected,
-    InterfaceNotFound,
-    InterfaceIsBusy,
+    Configuration,
+    Claim(Errno),
     NoSuchEndpoint,
     IncorrectEndpointDirection,
     IncorrectEndpointType,
@@ -18,39 +18,36 @@ pub enum Refusal {
 }
 
 impl Refusal {
-    fn kind(self) -> &'static str {
+    /// Its kind and its text.
+    fn words(self) -> (&'static str, &'static str) {
         match self {
-            Refusal::DeviceNotFound | Refusal::DeviceDisconnected => "Disconnected",
-            Refusal::InterfaceIsBusy | Refusal::EndpointAlreadyInUse => "Busy",
-            Refusal::InterfaceNotFound | Refusal::NoSuchEndpoint => "NotFound",
-            Refusal::InvalidDeviceDescriptor
-            | Refusal::IncorrectEndpointDirection
-            | Refusal::IncorrectEndpointType
-            | Refusal::EndpointHasNoPacketSize => "Other",
+            Refusal::Open(errno::NOENT) => ("Disconnected", "device not found"),
+            Refusal::Open(errno::PERM | errno::ACCES) => ("PermissionDenied", "permission denied"),
+            Refusal::Open(_) => ("Other", "failed to open device"),
+            Refusal::ReadDescriptors(_) => ("Other", "failed to read descriptors"),
+            Refusal::InvalidDeviceDescriptor => ("Other", "invalid device descriptor"),
+            Refusal::Configuration => ("Other", "failed to read sysfs bConfigurationValue"),
+            Refusal::Claim(errno::NODEV) => ("Disconnected", "device disconnected"),
+            Refusal::Claim(errno::INVAL | errno::NOENT) => ("NotFound", "interface not found"),
+            Refusal::Claim(errno::BUSY) => ("Busy", "interface is busy"),
+            Refusal::Claim(_) => ("Other", "failed to claim interface"),
+            Refusal::NoSuchEndpoint => (
+                "NotFound",
+                "specified endpoint does not exist on this interface",
+            ),
+            Refusal::IncorrectEndpointDirection => ("Other", "incorrect endpoint direction"),
+            Refusal::IncorrectEndpointType => ("Other", "incorrect endpoint type"),
+            Refusal::EndpointHasNoPacketSize => ("Other", "endpoint has max packet size 0"),
+            Refusal::EndpointAlreadyInUse => ("Busy", "endpoint already in use"),
         }
     }
 
-    fn text(self) -> &'static str {
-        match self {
-            Refusal::DeviceNotFound => "device not found",
-            Refusal::InvalidDeviceDescriptor => "invalid device descriptor",
-            Refusal::DeviceDisconnected => "device disconnected",
-            Refusal::InterfaceNotFound => "interface not found",
-            Refusal::InterfaceIsBusy => "interface is busy",
-            Refusal::NoSuchEndpoint => "specified endpoint does not exist on this interface",
-            Refusal::IncorrectEndpointDirection => "incorrect endpoint direction",
-            Refusal::IncorrectEndpointType => "incorrect endpoint type",
-            Refusal::EndpointHasNoPacketSize => "endpoint has max packet size 0",
-            Refusal::EndpointAlreadyInUse => "endpoint already in use",
-        }
-    }
-
-    /// The number that the kernel gave, where it was asked.
+    /// The number that the kernel gave, where it is told.
     fn errno(self) -> Option<Errno> {
         match self {
-            Refusal::DeviceNotFound | Refusal::InterfaceNotFound => Some(errno::NOENT),
-            Refusal::DeviceDisconnected => Some(errno::NODEV),
-            Refusal::InterfaceIsBusy => Some(errno::BUSY),
+            Refusal::Open(errno) | Refusal::ReadDescriptors(errno) | Refusal::Claim(errno) => {
+                Some(errno)
+            }
             _ => None,
         }
     }
@@ -58,7 +55,8 @@ impl Refusal {
 
 impl Show for Refusal {
     fn show(&self, text: &mut Text) {
-        text.word(self.kind()).word(" ").word(self.text());
+        let (kind, message) = self.words();
+        text.word(kind).word(" ").word(message);
         if let Some(errno) = self.errno() {
             text.word(" (errno ").number(errno.into()).word(")");
         }

@@ -5,7 +5,7 @@ use crate::errno::Errno;
 use crate::fault::Fault;
 use crate::hex;
 use crate::host::Data;
-use crate::kernel::{Device, Step};
+use crate::kernel::{Device, KernelCall, Step};
 use crate::names::Name;
 
 pub struct Script {
@@ -128,6 +128,25 @@ fn endpoint_kind(word: &[u8]) -> Option<(TransferType, Direction)> {
     })
 }
 
+fn kernel_call(word: &[u8]) -> Option<KernelCall> {
+    Some(match word {
+        b"open" => KernelCall::Open,
+        b"readdesc" => KernelCall::ReadDescriptors,
+        b"getconfig" => KernelCall::Configuration,
+        b"setconfig" => KernelCall::SetConfiguration,
+        b"reset" => KernelCall::Reset,
+        b"claim" => KernelCall::Claim,
+        b"detachclaim" => KernelCall::DetachAndClaim,
+        b"detach" => KernelCall::Detach,
+        b"attach" => KernelCall::Attach,
+        b"alt" => KernelCall::SetInterface,
+        b"halt" => KernelCall::ClearHalt,
+        b"speed" => KernelCall::Speed,
+        b"submit" => KernelCall::Submit,
+        _ => return None,
+    })
+}
+
 fn step(words: &[&[u8]]) -> Option<Step> {
     Some(match *words {
         [b"pkt", k, hh, data] => Step::Packet {
@@ -149,8 +168,9 @@ fn step(words: &[&[u8]]) -> Option<Step> {
         },
         [b"timer"] => Step::Timer,
         [b"clock", to] => Step::Clock { to: clock(to)? },
-        [b"refuse", k, b"submit", n] => Step::RefuseSubmit {
+        [b"refuse", k, call, n] => Step::Refuse {
             device: name(k, b'k')?,
+            call: kernel_call(call)?,
             errno: errno(n)?,
         },
         [b"reap"] => Step::Reap { ticket: None },

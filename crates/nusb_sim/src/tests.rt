@@ -12,8 +12,8 @@ use std::sync::Wait;
 use std::test::Fail;
 use std::thread::Threads;
 use usb_session::{
-    MemSink, MemSource, OpenGate, Seen, StdSink, StdSource, SureSink, SureSource, end_program,
-    run_program, run_session,
+    Gate, MemSink, MemSource, OpenGate, Seen, StdSink, StdSource, SureSink, SureSource,
+    end_program, run_program, run_session,
 };
 
 /// The lines that open a device with a bulk IN endpoint 81 of 64 bytes and a bulk OUT endpoint 02, and their answers.
@@ -36,24 +36,25 @@ fn joined(alloc: Global, front: &str, back: &str) -> Result<String, AllocError> 
     Ok(text)
 }
 
-/// Runs the program on words and a script, whose calls with these numbers fail.
-fn run_on<R: Threads + Wait + Sync>(
+/// Runs the program on words and a script, whose calls with these numbers fail, with a gate of `live`.
+fn run_with<R: Threads + Wait + Sync, G: Gate + Send>(
     rt: &R,
     alloc: Global,
-    word: Option<&str>,
+    texts: &[&str],
     script: &[u8],
-    failing_reads: &[u64],
-    failing_writes: &[u64],
+    failing: (&[u64], &[u64]),
+    gate: G,
+    seen: &Seen,
 ) -> Result<Outcome, Fail> {
     let mut words = Vec::new(alloc);
-    if let Some(word) = word {
-        words.push(String::from_str(alloc, word)?)?;
+    for text in texts {
+        words.push(String::from_str(alloc, *text)?)?;
     }
     let mut source = MemSource::new(
         Vec::from_slice(alloc, script)?,
-        Vec::from_slice(alloc, failing_reads)?,
+        Vec::from_slice(alloc, failing.0)?,
     );
-    let mut sink = MemSink::new(alloc, 65536, Vec::from_slice(alloc, failing_writes)?)?;
+    let mut sink = MemSink::new(alloc, 65536, Vec::from_slice(alloc, failing.1)?)?;
     let mut diag = MemSink::new(alloc, 65536, Vec::new(alloc))?;
     let status = run_program(
         rt,
@@ -62,23 +63,33 @@ fn run_on<R: Threads + Wait + Sync>(
         &mut source,
         &mut sink,
         &mut diag,
-        OpenGate,
-        &Seen::new(),
+        gate,
+        seen,
     );
     Ok(Outcome { status, sink, diag })
 }
 
+/// Runs the program on words and a script, and no call fails.
+fn run_on<R: Threads + Wait + Sync>(
+    rt: &R,
+    alloc: Global,
+    texts: &[&str],
+    script: &[u8],
+) -> Result<Outcome, Fail> {
+    run_with(rt, alloc, texts, script, (&[], &[]), OpenGate, &Seen::new())
+}
+
 fn expect(rt: &impl Abort, name: &str, outcome: &Outcome, status: u8, output: &str, report: &str) {
-    assert_eq!(rt; outcome.status, status, "of {name}");
     assert_eq!(rt; outcome.sink.bytes(), output.as_bytes(), "of {name}");
-    assert_eq!(rt; outcome.diag.bytes(), report.as_bytes(), "of {name}");
+    let is_told = outcome.status == status && outcome.diag.bytes() == report.as_bytes();
+    assert!(rt; is_told, "the status or the report of {name}");
 }
 
 /// Runs scripts that go on behind the front, whose answers are written first. A row has a name, the script and what is written.
 fn expect_rows<R: Abort + Threads + Wait + Sync>(
     rt: &R,
     alloc: Global,
-    word: Option<&str>,
+    texts: &[&str],
     front: (&str, &str),
     rows: &[(&str, &str, &str)],
 ) -> Result<(), Fail> {
@@ -86,14 +97,14 @@ fn expect_rows<R: Abort + Threads + Wait + Sync>(
         let (name, script, output) = *row;
         let script = joined(alloc, front.0, script)?;
         let output = joined(alloc, front.1, output)?;
-        let outcome = run_on(rt, alloc, word, script.as_bytes(), &[], &[])?;
+        let outcome = run_on(rt, alloc, texts, script.as_bytes())?;
         expect(rt, name, &outcome, 0, output.as_str(), "");
     }
     Ok(())
 }
 
 /// Transfers of one endpoint, and calls that are refused.
-const TRANSFERS: [(&str, &str, &str); 6] = [
+const TRANSFERS: [(&str, &str, &str); 7] = [
     (
         "first packet",
         "submitin e0 64\npoll e0\n! pkt k0 81 010203\npoll e0\n! reap 0\npoll e0\n",
@@ -124,13 +135,18 @@ const TRANSFERS: [(&str, &str, &str); 6] = [
         "open d0 1 6\nopen d1 1 7\nclaim d0 0 i1\nclaim d0 1 i1\nclaim d2 0 i1\nendpoint e1 i0 82 bulk-in\nendpoint e1 i0 02 bulk-in\nendpoint e1 i0 81 bulk-in\npoll e1\n",
         "condition\nerror Disconnected device not found (errno 2)\nerror Busy interface is busy (errno 16)\nerror NotFound interface not found (errno 2)\ncondition\nerror NotFound specified endpoint does not exist on this interface\nerror Other incorrect endpoint direction\nerror Busy endpoint already in use\ncondition\n",
     ),
+    (
+        "armed refusals",
+        "! refuse k0 open 13 ; refuse k0 open 5 ; refuse k0 readdesc 71 ; refuse k0 getconfig 5\nopen d1 1 6\nopen d1 1 6\nopen d1 1 6\nopen d1 1 6\nopen d1 1 6\n! refuse k0 claim 71 ; refuse k0 claim 22\nclaim d1 0 i1\nclaim d1 0 i1\nclaim d1 0 i1\n! refuse k0 getconfig 5\nendpoint e1 i0 02 bulk-out\n",
+        "error PermissionDenied permission denied (errno 13)\nerror Other failed to open device (errno 5)\nerror Other failed to read descriptors (errno 71)\nerror Other failed to read sysfs bConfigurationValue\nok\nerror Other failed to claim interface (errno 71)\nerror NotFound interface not found (errno 22)\nerror Busy interface is busy (errno 16)\nok\n",
+    ),
 ];
 
 #[test]
 fn answers_each_call_and_then_each_ticket(rt: HostRuntime) -> Result<(), Fail> {
     let rows = TRANSFERS.as_slice();
-    expect_rows(&rt, rt.alloc(), None, OPENED, rows)?;
-    expect_rows(&rt, rt.alloc(), Some("session"), OPENED, rows)
+    expect_rows(&rt, rt.alloc(), &[], OPENED, rows)?;
+    expect_rows(&rt, rt.alloc(), &["session"], OPENED, rows)
 }
 
 /// Scripts, the status, what is written and what is reported.
@@ -175,11 +191,11 @@ const UNANSWERED: [(&str, &str, u8, &str, &str); 6] = [
 
 #[test]
 fn tells_why_nothing_was_answered(rt: HostRuntime) -> Result<(), Fail> {
-    for (name, script, status, output, report) in UNANSWERED {
-        let outcome = run_on(&rt, rt.alloc(), None, script.as_bytes(), &[], &[])?;
-        expect(&rt, name, &outcome, status, output, report);
+    for (name, script, status, output, report) in &UNANSWERED {
+        let outcome = run_on(&rt, rt.alloc(), &[], script.as_bytes())?;
+        expect(&rt, name, &outcome, *status, output, report);
     }
-    let outcome = run_on(&rt, rt.alloc(), Some("--help"), b"", &[], &[])?;
+    let outcome = run_on(&rt, rt.alloc(), &["--help"], b"")?;
     let usage = "usage: nusb_sim [session|generate N|live N]\n";
     expect(&rt, "an unknown word", &outcome, 2, "", usage);
     Ok(())
@@ -189,10 +205,10 @@ fn tells_why_nothing_was_answered(rt: HostRuntime) -> Result<(), Fail> {
 fn stops_at_the_longest_script(rt: HostRuntime) -> Result<(), Fail> {
     let mut script = Vec::from_slice(rt.alloc(), b"poll e0")?;
     script.resize(1048576, b' ')?;
-    let longest = run_on(&rt, rt.alloc(), None, script.as_slice(), &[], &[])?;
+    let longest = run_on(&rt, rt.alloc(), &[], script.as_slice())?;
     expect(&rt, "the longest script", &longest, 0, "condition\n", "");
     script.push(b' ')?;
-    let longer = run_on(&rt, rt.alloc(), None, script.as_slice(), &[], &[])?;
+    let longer = run_on(&rt, rt.alloc(), &[], script.as_slice())?;
     let report = "nusb_sim: script too long\n";
     expect(&rt, "one byte too long", &longer, 4, "", report);
     Ok(())
@@ -229,9 +245,19 @@ const FAULTS: [(&str, &[u64], &[u64], u8, &str, &str); 3] = [
 #[test]
 fn keeps_the_lines_before_a_fault(rt: HostRuntime) -> Result<(), Fail> {
     let script = joined(rt.alloc(), OPENED.0, "poll e0\n")?;
-    for (name, reads, writes, status, output, report) in FAULTS {
-        let outcome = run_on(&rt, rt.alloc(), None, script.as_bytes(), reads, writes)?;
-        expect(&rt, name, &outcome, status, output, report);
+    for (name, reads, writes, status, output, report) in &FAULTS {
+        let failing = (*reads, *writes);
+        let script = script.as_bytes();
+        let outcome = run_with(
+            &rt,
+            rt.alloc(),
+            &[],
+            script,
+            failing,
+            OpenGate,
+            &Seen::new(),
+        )?;
+        expect(&rt, name, &outcome, *status, output, report);
     }
     Ok(())
 }
@@ -245,11 +271,8 @@ fn counts_calls_and_tickets(rt: HostRuntime) -> Result<(), Fail> {
     )?;
     let mut source = SureSource::new(Vec::from_slice(rt.alloc(), script.as_bytes())?);
     let summary = run_session(rt.alloc(), &mut source, &mut SureSink::new())?;
-    assert_eq!(rt; (summary.calls, summary.tickets), (6, 2));
-    assert_eq!(rt;
-        (summary.taken, summary.dropped, summary.reclaimed),
-        (1, 0, 1)
-    );
+    assert!(rt; summary.calls == 6 && summary.tickets == 2);
+    assert!(rt; summary.taken == 1 && summary.dropped == 0 && summary.reclaimed == 1);
     Ok(())
 }
 
@@ -259,8 +282,7 @@ fn reads_and_writes_by_standard_traits(rt: HostRuntime) -> Result<(), Fail> {
     let mut sink = StdSink::new(&mut output);
     let mut source = StdSource::new(b"poll e0\n".as_slice());
     let summary = run_session(rt.alloc(), &mut source, &mut sink)?;
-    assert_eq!(rt; summary.calls, 1);
-    assert_eq!(rt; output.as_slice(), b"condition\n".as_slice());
+    assert!(rt; summary.calls == 1 && output.as_slice() == b"condition\n".as_slice());
     Ok(())
 }
 
@@ -269,20 +291,17 @@ const ROOMS: [(usize, u8, &str); 3] = [(64, 0, ""), (10, 0, ""), (9, 6, "nusb_si
 
 #[test]
 fn hands_on_what_was_gathered_before_the_status_is_told(rt: HostRuntime) -> Result<(), Fail> {
-    for (room, status, report) in ROOMS {
+    for (room, status, report) in &ROOMS {
         let mut kept = Vec::new(rt.alloc());
-        kept.resize(room, 0)?;
+        kept.resize(*room, 0)?;
         let output = BufWriter::new(rt.alloc(), Cursor::new(kept.as_mut_slice()))?;
         let mut sink = StdSink::new(output);
         let mut source = SureSource::new(Vec::from_slice(rt.alloc(), b"poll e0\n")?);
         let mut diag = MemSink::new(rt.alloc(), 64, Vec::new(rt.alloc()))?;
         run_session(rt.alloc(), &mut source, &mut sink)?;
-        assert_eq!(rt;
-            end_program(0, &mut sink, &mut diag),
-            status,
-            "with room for {room}"
-        );
-        assert_eq!(rt; diag.bytes(), report.as_bytes(), "with room for {room}");
+        let told = end_program(0, &mut sink, &mut diag);
+        let is_told = told == *status && diag.bytes() == report.as_bytes();
+        assert!(rt; is_told, "with room for {room}");
     }
     Ok(())
 }

@@ -1,37 +1,45 @@
 //! The types of an item's fields, at their limits.
 
+use std::process::Abort;
 use std::test::Fail;
 use usb_desc::{Direction, TransferType};
 use usb_script::{Data, EndpointKind, Item, Length, Name, Timeout, parse_script};
 
-#[test]
-fn names_end_at_63(rt: HostRuntime) {
-    assert_eq!(rt; Name::new(0).map(|name| name.number()), Some(0));
-    assert_eq!(rt; Name::new(63).map(|name| name.number()), Some(63));
-    assert_eq!(rt; Name::new(64), None);
-    assert_eq!(rt; Name::new(256), None);
+/// The value of a name, a length or a time-out that is made of it.
+fn name(value: u64) -> Option<u64> {
+    let name = Name::new(value)?;
+    Some(name.number() as u64)
+}
+
+fn length(value: u64) -> Option<u64> {
+    let length = Length::new(value)?;
+    Some(length.bytes() as u64)
+}
+
+fn timeout(value: u64) -> Option<u64> {
+    let timeout = Timeout::new(value)?;
+    Some(timeout.nanoseconds())
+}
+
+/// Compares what is made of a value that is taken with the value, and of one that is not with nothing.
+fn expect(rt: &impl Abort, made: Option<u64>, value: Option<u64>) {
+    assert_eq!(rt; made, value);
 }
 
 #[test]
-fn lengths_end_at_65536(rt: HostRuntime) {
-    assert_eq!(rt;
-        Length::new(65536).map(|length| length.bytes()),
-        Some(65536)
-    );
-    assert_eq!(rt; Length::new(65537), None);
-    assert_eq!(rt; Length::new(1 << 32), None);
-}
-
-#[test]
-fn timeouts_end_at_ten_to_the_18_or_are_the_longest(rt: HostRuntime) {
+fn names_lengths_and_timeouts_end_at_their_limits(rt: HostRuntime) {
+    expect(&rt, name(0), Some(0));
+    expect(&rt, name(63), Some(63));
+    expect(&rt, name(64), None);
+    expect(&rt, name(256), None);
+    expect(&rt, length(65536), Some(65536));
+    expect(&rt, length(65537), None);
+    expect(&rt, length(1 << 32), None);
     let most = 1_000_000_000_000_000_000;
-    assert_eq!(rt;
-        Timeout::new(most).map(|timeout| timeout.nanoseconds()),
-        Some(most)
-    );
-    assert_eq!(rt; Timeout::new(most + 1), None);
-    assert_eq!(rt; Timeout::new(u64::MAX), None);
-    assert_eq!(rt; Timeout::max().nanoseconds(), u64::MAX);
+    expect(&rt, timeout(most), Some(most));
+    expect(&rt, timeout(most + 1), None);
+    expect(&rt, timeout(u64::MAX), None);
+    expect(&rt, Some(Timeout::max().nanoseconds()), Some(u64::MAX));
 }
 
 #[test]
@@ -48,25 +56,32 @@ fn data_ends_at_65536_bytes(rt: HostRuntime) -> Result<(), Fail> {
     Ok(())
 }
 
+const KINDS: [(EndpointKind, TransferType, Direction); 4] = [
+    (EndpointKind::BulkIn, TransferType::Bulk, Direction::In),
+    (EndpointKind::BulkOut, TransferType::Bulk, Direction::Out),
+    (
+        EndpointKind::InterruptIn,
+        TransferType::Interrupt,
+        Direction::In,
+    ),
+    (
+        EndpointKind::InterruptOut,
+        TransferType::Interrupt,
+        Direction::Out,
+    ),
+];
+
 #[test]
 fn each_kind_has_its_type_and_direction(rt: HostRuntime) {
-    let table = [
-        (EndpointKind::BulkIn, TransferType::Bulk, Direction::In),
-        (EndpointKind::BulkOut, TransferType::Bulk, Direction::Out),
-        (
-            EndpointKind::InterruptIn,
-            TransferType::Interrupt,
-            Direction::In,
-        ),
-        (
-            EndpointKind::InterruptOut,
-            TransferType::Interrupt,
-            Direction::Out,
-        ),
-    ];
-    for (kind, of_type, direction) in table {
-        assert_eq!(rt; kind.transfer_type(), of_type);
-        assert_eq!(rt; kind.direction(), direction);
+    for (kind, of_type, direction) in KINDS {
+        assert!(rt; kind.transfer_type() == of_type && kind.direction() == direction);
+    }
+}
+
+fn steps_of(item: Option<Item>) -> Option<usize> {
+    match item {
+        Some(Item::Steps(steps)) => Some(steps.into_vec().len()),
+        _ => None,
     }
 }
 
@@ -75,9 +90,6 @@ fn a_script_hands_its_items_over(rt: HostRuntime) -> Result<(), Fail> {
     let script = parse_script(rt.alloc(), b"now\n! reap ; timer\n")?;
     let items = script.into_items();
     assert_eq!(rt; items.len(), 2);
-    let Some(Item::Steps(steps)) = items.into_iter().last() else {
-        panic!(rt; "a line of steps");
-    };
-    assert_eq!(rt; steps.into_vec().len(), 2);
+    assert_eq!(rt; steps_of(items.into_iter().last()), Some(2));
     Ok(())
 }

@@ -1,11 +1,11 @@
 -- Scripts worked out by the definition alone.
 use Rattle.std.proofs.Common.{◌≡◌, ◌++◌, [], ◌∷◌, codes, Some, None, Ok, Err, refl}
-use Rattle.usb_script.specs.declared.endpoint_kind.EndpointKind.TheVariants.{InterruptOut}
-use Rattle.usb_script.specs.declared.item.Item.TheVariants.{Endpoint, SubmitIn, Poll, Wait, TransferIn, TransferOut, Steps}
+use Rattle.usb_script.specs.declared.endpoint_kind.EndpointKind.TheVariants.{BulkIn, BulkOut, InterruptIn, InterruptOut}
+use Rattle.usb_script.specs.declared.item.Item.TheVariants.{Device, Now, Open, DeviceDescriptor, Descriptors, Claim, Endpoint, SubmitIn, SubmitOut, Pending, Poll, Wait, TransferIn, TransferOut, Cancel, CloseEndpoint, Steps}
 use Rattle.usb_script.specs.declared.error.SessionError.TheVariants.{Malformed}
 use Rattle.usb_script.specs.declared.reading.Reading.TheVariants.{Skipped, Read}
 use Rattle.usb_kernel.specs.declared.step.KernelStep.TheVariants.{Packet, Ack, Fail, Unplug, Clock, Timer, Reap, Refuse}
-use Rattle.usb_kernel.specs.declared.step.KernelCall.TheVariants.{Submit}
+use Rattle.usb_kernel.specs.declared.step.KernelCall.TheVariants as call
 use Rattle.usb_script.specs.LineForms.{reading_of}
 use Rattle.usb_script.specs.Parse.{script_of}
 use Rattle.usb_script.proofs.OnLiterals.{script_on_literals}
@@ -97,13 +97,30 @@ reap_alone : reading_of (codes "! reap ; reap 1") ≡ Some (Read (Steps (Reap No
 unfolding script_on_literals
 reap_alone = refl
 
-refusal_of_a_submission : reading_of (codes "! refuse k0 submit 5") ≡ Some (Read (Steps (Refuse 0 Submit 5 ∷ [])))
+refusals_of_all_kinds :
+    reading_of (codes "! refuse k0 open 1 ; refuse k1 readdesc 2 ; refuse k2 getconfig 3 ; refuse k3 setconfig 4 ; refuse k4 reset 5 ; refuse k5 claim 6 ; refuse k6 detachclaim 7 ; refuse k7 detach 8 ; refuse k8 attach 9 ; refuse k9 alt 10 ; refuse k10 halt 11 ; refuse k11 speed 12 ; refuse k12 submit 13")
+    ≡ Some (Read (Steps (
+    Refuse 0 call.OpenDevice 1
+    ∷ Refuse 1 call.ReadDesc 2
+    ∷ Refuse 2 call.GetConfig 3
+    ∷ Refuse 3 call.SetConfig 4
+    ∷ Refuse 4 call.Reset 5
+    ∷ Refuse 5 call.Claim 6
+    ∷ Refuse 6 call.DetachClaim 7
+    ∷ Refuse 7 call.Detach 8
+    ∷ Refuse 8 call.Attach 9
+    ∷ Refuse 9 call.Alt 10
+    ∷ Refuse 10 call.Halt 11
+    ∷ Refuse 11 call.Speed 12
+    ∷ Refuse 12 call.Submit 13
+    ∷ []
+    )))
 unfolding script_on_literals
-refusal_of_a_submission = refl
+refusals_of_all_kinds = refl
 
-interrupt_out : reading_of (codes "endpoint e0 i1 02 int-out") ≡ Some (Read (Endpoint 0 1 2 InterruptOut))
+refusal_of_no_call : reading_of (codes "! refuse k0 close 5") ≡ None
 unfolding script_on_literals
-interrupt_out = refl
+refusal_of_no_call = refl
 
 wait_without_end : reading_of (codes "wait e0 max : reap") ≡ Some (Read (Wait 0 18446744073709551615 (Reap None ∷ [])))
 unfolding script_on_literals
@@ -132,3 +149,76 @@ one_nanosecond_too_much = refl
 close_of_a_device : reading_of (codes "close d0") ≡ None
 unfolding script_on_literals
 close_of_a_device = refl
+
+-- each line with its fields
+each_line :
+    script_of (
+    codes "device k1 2 3 4 5 0aFf" ++ 10 ∷ []
+    ++ codes "open d6 7 8" ++ 10 ∷ []
+    ++ codes "devdesc d8" ++ 10 ∷ []
+    ++ codes "descriptors d9" ++ 10 ∷ []
+    ++ codes "claim d9 10 i11" ++ 10 ∷ []
+    ++ codes "endpoint e12 i13 8e bulk-in" ++ 10 ∷ []
+    ++ codes "submitin e15 16" ++ 10 ∷ []
+    ++ codes "poll e17" ++ 10 ∷ []
+    ++ codes "! pkt k18 93 14 ; reap 15" ++ 10 ∷ []
+    ++ codes "now" ++ 10 ∷ []
+    ++ codes "submitout e18 19" ++ 10 ∷ []
+    ++ codes "pending e20" ++ 10 ∷ []
+    ++ codes "wait e21 22 : reap" ++ 10 ∷ []
+    ++ codes "xferin e23 24 25 : unplug k26 ; clock 27" ++ 10 ∷ []
+    ++ codes "xferout e28 29 max" ++ 10 ∷ []
+    ++ codes "cancel e30" ++ 10 ∷ []
+    ++ codes "close e31" ++ 10 ∷ []
+    )
+    ≡ Ok (
+    Device 1 2 3 4 5 (10 ∷ 255 ∷ [])
+    ∷ Open 6 7 8
+    ∷ DeviceDescriptor 8
+    ∷ Descriptors 9
+    ∷ Claim 9 10 11
+    ∷ Endpoint 12 13 142 BulkIn
+    ∷ SubmitIn 15 16
+    ∷ Poll 17
+    ∷ Steps (Packet 18 147 (20 ∷ []) ∷ Reap (Some 15) ∷ [])
+    ∷ Now
+    ∷ SubmitOut 18 (25 ∷ [])
+    ∷ Pending 20
+    ∷ Wait 21 22 (Reap None ∷ [])
+    ∷ TransferIn 23 24 25 (Unplug 26 ∷ Clock 27 ∷ [])
+    ∷ TransferOut 28 (41 ∷ []) 18446744073709551615 []
+    ∷ Cancel 30
+    ∷ CloseEndpoint 31
+    ∷ []
+    )
+unfolding script_on_literals
+each_line = refl
+
+-- each step with its fields
+each_step : reading_of (codes "! pkt k18 93 1415 ; ack k16 17 ; fail k19 20 21 ; unplug k22 ; clock 23 ; timer ; reap 24 ; reap ; refuse k25 submit 26")
+    ≡ Some (Read (Steps (
+    Packet 18 147 (20 ∷ 21 ∷ [])
+    ∷ Ack 16 23
+    ∷ Fail 19 32 21
+    ∷ Unplug 22
+    ∷ Clock 23
+    ∷ Timer
+    ∷ Reap (Some 24)
+    ∷ Reap None
+    ∷ Refuse 25 call.Submit 26
+    ∷ []
+    )))
+unfolding script_on_literals
+each_step = refl
+
+-- each kind of endpoint
+each_kind :
+    script_of (
+    codes "endpoint e0 i1 02 bulk-out" ++ 10 ∷ []
+    ++ codes "endpoint e1 i2 83 bulk-in" ++ 10 ∷ []
+    ++ codes "endpoint e2 i3 04 int-out" ++ 10 ∷ []
+    ++ codes "endpoint e3 i4 85 int-in"
+    )
+    ≡ Ok (Endpoint 0 1 2 BulkOut ∷ Endpoint 1 2 131 BulkIn ∷ Endpoint 2 3 4 InterruptOut ∷ Endpoint 3 4 133 InterruptIn ∷ [])
+unfolding script_on_literals
+each_kind = refl

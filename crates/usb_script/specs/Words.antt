@@ -5,7 +5,7 @@ use Rattle.std.specs.Str.{bytes_eq}
 use Rattle.hex.specs.Hex.{decode_of, hex_digit_value}
 use Rattle.hex.specs.declared.error.FromHexError.{FromHexError}
 use Rattle.usb_kernel.specs.declared.step.KernelCall.{KernelCall}
-use Rattle.usb_kernel.specs.declared.step.KernelCall.TheVariants.{Submit}
+use Rattle.usb_kernel.specs.declared.step.KernelCall.TheVariants as call
 use Rattle.usb_script.specs.declared.endpoint_kind.EndpointKind.{EndpointKind}
 use Rattle.usb_script.specs.declared.endpoint_kind.EndpointKind.TheVariants.{BulkIn, BulkOut, InterruptIn, InterruptOut}
 use Rattle.usb_script.specs.Lines.{is_word}
@@ -95,4 +95,18 @@ errno_of word = number_between 1 4095 word
 
 -- CALL: the kind of call that a refusal is for
 unfoldable pub call_of : List ℕ → Option KernelCall
-call_of word = if bytes_eq word (codes "submit") then Some Submit else None
+call_of word =
+    if bytes_eq word (codes "open") then Some call.OpenDevice
+    else if bytes_eq word (codes "readdesc") then Some call.ReadDesc
+    else if bytes_eq word (codes "getconfig") then Some call.GetConfig
+    else if bytes_eq word (codes "setconfig") then Some call.SetConfig
+    else if bytes_eq word (codes "reset") then Some call.Reset
+    else if bytes_eq word (codes "claim") then Some call.Claim
+    else if bytes_eq word (codes "detachclaim") then Some call.DetachClaim
+    else if bytes_eq word (codes "detach") then Some call.Detach
+    else if bytes_eq word (codes "attach") then Some call.Attach
+    else if bytes_eq word (codes "alt") then Some call.Alt
+    else if bytes_eq word (codes "halt") then Some call.Halt
+    else if bytes_eq word (codes "speed") then Some call.Speed
+    else if bytes_eq word (codes "submit") then Some call.Submit
+    else None

@@ -195,9 +195,34 @@ pub fn errno(word: &[u8]) -> Result<u16, LineError>
 pub fn call(word: &[u8]) -> Result<KernelCall, LineError>
     ensures value { Gives (λ c. c) result (call_of word.now) }
 {
-    if reads(word, b"submit") {
-        Ok(KernelCall::Submit)
+    let call = if reads(word, b"open") {
+        KernelCall::OpenDevice
+    } else if reads(word, b"readdesc") {
+        KernelCall::ReadDesc
+    } else if reads(word, b"getconfig") {
+        KernelCall::GetConfig
+    } else if reads(word, b"setconfig") {
+        KernelCall::SetConfig
+    } else if reads(word, b"reset") {
+        KernelCall::Reset
+    } else if reads(word, b"claim") {
+        KernelCall::Claim
+    } else if reads(word, b"detachclaim") {
+        KernelCall::DetachClaim
+    } else if reads(word, b"detach") {
+        KernelCall::Detach
+    } else if reads(word, b"attach") {
+        KernelCall::Attach
+    } else if reads(word, b"alt") {
+        KernelCall::Alt
+    } else if reads(word, b"halt") {
+        KernelCall::Halt
+    } else if reads(word, b"speed") {
+        KernelCall::Speed
+    } else if reads(word, b"submit") {
+        KernelCall::Submit
     } else {
-        Err(LineError::Malformed)
-    }
+        return Err(LineError::Malformed);
+    };
+    Ok(call)
 }

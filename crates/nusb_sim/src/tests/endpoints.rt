@@ -35,7 +35,7 @@ const BLOCKING: [(&str, &str, &str); 4] = [
 
 #[test]
 fn answers_blocking_transfers_closes_and_an_unplug(rt: HostRuntime) -> Result<(), Fail> {
-    expect_rows(&rt, rt.alloc(), None, OPENED, BLOCKING.as_slice())
+    expect_rows(&rt, rt.alloc(), &[], OPENED, BLOCKING.as_slice())
 }
 
 /// OUT transfers.
@@ -54,7 +54,7 @@ const OUT: [(&str, &str, &str); 2] = [
 
 #[test]
 fn answers_out_transfers(rt: HostRuntime) -> Result<(), Fail> {
-    expect_rows(&rt, rt.alloc(), None, CLAIMED, OUT.as_slice())
+    expect_rows(&rt, rt.alloc(), &[], CLAIMED, OUT.as_slice())
 }
 
 /// Waits with steps of their own.
@@ -80,5 +80,5 @@ const WAITS: [(&str, &str, &str); 3] = [
 
 #[test]
 fn answers_waits_by_the_steps_of_their_lines(rt: HostRuntime) -> Result<(), Fail> {
-    expect_rows(&rt, rt.alloc(), None, OPENED, WAITS.as_slice())
+    expect_rows(&rt, rt.alloc(), &[], OPENED, WAITS.as_slice())
 }

@@ -32,9 +32,9 @@ const LINES: [(&str, &[u8], u8, &str, &str); 9] = [
 
 #[test]
 fn skips_comments_and_empty_lines(rt: HostRuntime) -> Result<(), Fail> {
-    for (name, script, status, output, report) in LINES {
-        let outcome = run_on(&rt, rt.alloc(), None, script, &[], &[])?;
-        expect(&rt, name, &outcome, status, output, report);
+    for (name, script, status, output, report) in &LINES {
+        let outcome = run_on(&rt, rt.alloc(), &[], *script)?;
+        expect(&rt, name, &outcome, *status, output, report);
     }
     Ok(())
 }
@@ -49,10 +49,10 @@ fn reads_the_longest_script_of_comments(rt: HostRuntime) -> Result<(), Fail> {
         script.extend_from_slice(COMMENT)?;
     }
     assert_eq!(rt; script.len(), 1048576);
-    let longest = run_on(&rt, rt.alloc(), None, script.as_slice(), &[], &[])?;
+    let longest = run_on(&rt, rt.alloc(), &[], script.as_slice())?;
     expect(&rt, "the longest script", &longest, 0, "", "");
     script.push(b'\n')?;
-    let longer = run_on(&rt, rt.alloc(), None, script.as_slice(), &[], &[])?;
+    let longer = run_on(&rt, rt.alloc(), &[], script.as_slice())?;
     let report = "nusb_sim: script too long\n";
     expect(&rt, "one byte too long", &longer, 4, "", report);
     Ok(())

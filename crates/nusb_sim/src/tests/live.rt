@@ -2,41 +2,10 @@
 
 ghost use Rattle.std.specs.Prelude.{◌≡◌, false};
 
-use super::Outcome;
-use std::alloc::Global;
-use std::sync::Wait;
+use super::{expect, run_on, run_with};
 use std::test::Fail;
-use std::thread::{Threads, yield_now};
-use usb_session::{Gate, MemSink, MemSource, OpenGate, Seen, run_program};
-
-/// Runs the program on words, with no script, and on a sink whose writes with these numbers fail.
-fn run_words<R: Threads + Wait + Sync, G: Gate + Send>(
-    rt: &R,
-    alloc: Global,
-    texts: &[&str],
-    failing_writes: &[u64],
-    gate: G,
-    seen: &Seen,
-) -> Result<Outcome, Fail> {
-    let mut words = Vec::new(alloc);
-    for text in texts {
-        words.push(String::from_str(alloc, *text)?)?;
-    }
-    let mut source = MemSource::new(Vec::new(alloc), Vec::new(alloc));
-    let mut sink = MemSink::new(alloc, 65536, Vec::from_slice(alloc, failing_writes)?)?;
-    let mut diag = MemSink::new(alloc, 65536, Vec::new(alloc))?;
-    let status = run_program(
-        rt,
-        alloc,
-        &words,
-        &mut source,
-        &mut sink,
-        &mut diag,
-        gate,
-        seen,
-    );
-    Ok(Outcome { status, sink, diag })
-}
+use std::thread::yield_now;
+use usb_session::{Gate, OpenGate, Seen};
 
 /// Always passes. At its first pass it waits for `seen`, and notes in `asked` that it was asked and in `found` that it found it set.
 #[derive(Drop)]
@@ -69,46 +38,53 @@ fn wait_for(seen: &Seen, found: &Seen) {
     }
 }
 
+const USAGE: &str = "usage: nusb_sim [session|generate N|live N]\n";
+
+/// Words, the status, what is written and what is reported.
+const LIVE: [(&[&str], u8, &str, &str); 8] = [
+    (
+        &["live", "3"],
+        0,
+        "live 3 submitted 3 taken 3 dropped 0 reclaimed 0\n",
+        "",
+    ),
+    (
+        &["live", "0001"],
+        0,
+        "live 1 submitted 1 taken 1 dropped 0 reclaimed 0\n",
+        "",
+    ),
+    (&["live", "0"], 2, "", USAGE),
+    (&["live", "1001"], 2, "", USAGE),
+    (&["live", "00000000000000000001"], 2, "", USAGE),
+    (&["live", "1x"], 2, "", USAGE),
+    (&["live"], 2, "", USAGE),
+    (&["live", "1", "1"], 2, "", USAGE),
+];
+
 #[test]
 fn live_writes_its_line(rt: HostRuntime) -> Result<(), Fail> {
-    let rows: [(&[&str], u8, &str); 8] = [
-        (
-            &["live", "3"],
-            0,
-            "live 3 submitted 3 taken 3 dropped 0 reclaimed 0\n",
-        ),
-        (
-            &["live", "0001"],
-            0,
-            "live 1 submitted 1 taken 1 dropped 0 reclaimed 0\n",
-        ),
-        (&["live", "0"], 2, ""),
-        (&["live", "1001"], 2, ""),
-        (&["live", "00000000000000000001"], 2, ""),
-        (&["live", "1x"], 2, ""),
-        (&["live"], 2, ""),
-        (&["live", "1", "1"], 2, ""),
-    ];
-    for (words, status, output) in rows {
-        let outcome = run_words(&rt, rt.alloc(), words, &[], OpenGate, &Seen::new())?;
-        assert_eq!(rt; outcome.status, status);
-        assert_eq!(rt; outcome.sink.bytes(), output.as_bytes());
+    for (words, status, output, report) in &LIVE {
+        let outcome = run_on(&rt, rt.alloc(), *words, b"")?;
+        expect(&rt, "live", &outcome, *status, output, report);
     }
     Ok(())
 }
 
 #[test]
 fn a_failed_write_is_told(rt: HostRuntime) -> Result<(), Fail> {
-    let outcome = run_words(
+    let failing: (&[u64], &[u64]) = (&[], &[1]);
+    let words = ["live", "2"];
+    let outcome = run_with(
         &rt,
         rt.alloc(),
-        &["live", "2"],
-        &[1],
+        &words,
+        b"",
+        failing,
         OpenGate,
         &Seen::new(),
     )?;
-    assert_eq!(rt; outcome.status, 6);
-    assert_eq!(rt; outcome.diag.bytes(), b"nusb_sim: write fault\n".as_slice());
+    expect(&rt, "live", &outcome, 6, "", "nusb_sim: write fault\n");
     Ok(())
 }
 
@@ -122,12 +98,10 @@ fn the_loop_runs_beside_the_caller(rt: HostRuntime) -> Result<(), Fail> {
         asked: &asked,
         found: &found,
     };
-    let outcome = run_words(&rt, rt.alloc(), &["live", "1"], &[], gate, &seen)?;
-    assert_eq!(rt; outcome.status, 0);
-    assert_eq!(rt;
-        outcome.sink.bytes(),
-        b"live 1 submitted 1 taken 1 dropped 0 reclaimed 0\n".as_slice()
-    );
+    let words = ["live", "1"];
+    let outcome = run_with(&rt, rt.alloc(), &words, b"", (&[], &[]), gate, &seen)?;
+    let line = "live 1 submitted 1 taken 1 dropped 0 reclaimed 0\n";
+    expect(&rt, "live", &outcome, 0, line, "");
     assert!(rt; asked.get() && found.get());
     Ok(())
 }
