@@ -1,8 +1,11 @@
 //! Runs of the event loop and a caller on two threads.
 
+use std::alloc::Global;
 use std::process::Abort;
+use std::sync::Wait;
 use std::test::Fail;
-use std::thread::yield_now;
+use std::thread::{Threads, yield_now};
+use usb_desc::NoMemory;
 use usb_kernel::{Event, Kernel};
 use usb_live::{
     Gate, LiveKernel, LiveRun, OpenGate, Receipt, Seen, live_kernel_is_send_and_sync, live_run,
@@ -81,23 +84,57 @@ fn is_of(kernel: &Kernel, receipt: &Receipt, nth: usize) -> bool {
         && packet == Some(receipt.completion.buffer.as_slice())
 }
 
-/// Compares how many transfers were submitted, taken, dropped and reclaimed, and how many receipts
-/// there are.
-fn expect_counts(rt: &impl Abort, run: &LiveRun, counts: (u64, u64, u64, u64), receipts: usize) {
-    assert_eq!(rt;
-        (run.submitted, run.taken, run.dropped, run.reclaimed),
-        counts
-    );
-    assert_eq!(rt; run.receipts.len(), receipts);
+/// Whether the receipt at this place is the place's, and the place's number came to it as a byte.
+fn has_receipt(run: &LiveRun, nth: u8) -> bool {
+    match run.receipts.get(nth as usize) {
+        Some(receipt) => {
+            receipt.ticket == u64::from(nth)
+                && receipt.completion.buffer.as_slice() == [nth].as_slice()
+                && is_of(&run.kernel, receipt, nth as usize)
+        }
+        None => false,
+    }
 }
 
-/// Compares the receipt at this place, to whose transfer the place's number came as a byte.
-fn expect_receipt(rt: &impl Abort, run: &LiveRun, nth: u8) -> Result<(), Fail> {
-    let receipt = run.receipts.get(nth as usize).ok_or("no receipt")?;
-    assert_eq!(rt; receipt.ticket, u64::from(nth));
-    assert_eq!(rt; receipt.completion.buffer.as_slice(), [nth].as_slice());
-    assert!(rt; is_of(&run.kernel, receipt, nth as usize));
+/// Compares how many transfers were submitted, taken, dropped and reclaimed, the receipts of those
+/// taken, and how often the first ticket was reaped.
+fn expect_counts(rt: &impl Abort, run: &LiveRun, counts: [u8; 4]) {
+    let [submitted, taken, dropped, reclaimed] = counts;
+    assert!(rt; run.submitted == u64::from(submitted) && run.taken == u64::from(taken));
+    assert!(rt; run.dropped == u64::from(dropped) && run.reclaimed == u64::from(reclaimed));
+    assert!(rt; reaps(&run.kernel, 0) == 1);
+}
+
+fn expect_receipts(rt: &impl Abort, run: &LiveRun, receipts: u8) {
+    assert!(rt; run.receipts.len() == receipts as usize);
+    for nth in 0..receipts {
+        assert!(rt; has_receipt(run, nth), "receipt {nth}");
+    }
+}
+
+/// Compares how many tickets the kernel has when it was locked and is so no more.
+fn expect_locked(rt: &impl Abort, kernel: Kernel, tickets: u64) -> Result<(), NoMemory> {
+    let kernel = LiveKernel::new(kernel)?;
+    live_kernel_is_send_and_sync(&kernel);
+    assert!(rt; kernel.into_kernel().tickets() == tickets);
     Ok(())
+}
+
+/// Runs the loop behind a gate, beside a caller of so many transfers, and compares how many were
+/// submitted, taken, dropped and reclaimed, with what was left.
+fn expect_run<R: Abort + Threads + Wait + Sync, G: Gate + Send>(
+    rt: &R,
+    alloc: Global,
+    transfers: u32,
+    gate: G,
+    seen: &Seen,
+    polls: Option<u32>,
+    counts: [u8; 4],
+) -> Result<(), NoMemory> {
+    let run = live_run(rt, alloc, transfers, gate, seen, polls)?;
+    expect_counts(rt, &run, counts);
+    expect_receipts(rt, &run, counts[1]);
+    expect_locked(rt, run.kernel, u64::from(counts[0]))
 }
 
 #[test]
@@ -111,45 +148,26 @@ fn the_loop_waits_for_the_first_pending_poll(rt: HostRuntime) -> Result<(), Fail
         asked: false,
         closed: false,
     };
-    let run = live_run(&rt, rt.alloc(), 1, gate, &seen, Some(TURNS))?;
-    expect_counts(&rt, &run, (1, 1, 0, 0), 1);
+    expect_run(&rt, rt.alloc(), 1, gate, &seen, Some(TURNS), [1, 1, 0, 0])?;
     assert!(rt; found.get());
-    expect_receipt(&rt, &run, 0)
-}
-
-fn expect_receipts(rt: &impl Abort, run: &LiveRun) -> Result<(), Fail> {
-    expect_counts(rt, run, (3, 3, 0, 0), 3);
-    for nth in 0..3 {
-        expect_receipt(rt, run, nth)?;
-    }
-    Ok(())
-}
-
-fn expect_locked(rt: &impl Abort, kernel: Kernel) -> Result<(), Fail> {
-    let kernel = LiveKernel::new(kernel)?;
-    live_kernel_is_send_and_sync(&kernel);
-    assert_eq!(rt; kernel.into_kernel().tickets(), 3);
     Ok(())
 }
 
 #[test]
 fn three_receipts_are_those_of_the_journal(rt: HostRuntime) -> Result<(), Fail> {
     open_gate_is_send(&OpenGate);
-    let run = live_run(&rt, rt.alloc(), 3, OpenGate, &Seen::new(), None)?;
-    expect_receipts(&rt, &run)?;
-    expect_locked(&rt, run.kernel)
+    let seen = Seen::new();
+    Ok(expect_run(&rt, rt.alloc(), 3, OpenGate, &seen, None, [3, 3, 0, 0])?)
 }
 
 #[test]
 fn what_patience_leaves_is_reclaimed(rt: HostRuntime) -> Result<(), Fail> {
+    let seen = Seen::new();
     let gate = Patient {
-        seen: &Seen::new(),
-        found: &Seen::new(),
+        seen: &seen,
+        found: &seen,
         asked: true,
         closed: true,
     };
-    let run = live_run(&rt, rt.alloc(), 2, gate, &Seen::new(), Some(2))?;
-    expect_counts(&rt, &run, (1, 0, 0, 1), 0);
-    assert_eq!(rt; reaps(&run.kernel, 0), 1);
-    Ok(())
+    Ok(expect_run(&rt, rt.alloc(), 2, gate, &seen, Some(2), [1, 0, 0, 1])?)
 }

@@ -83,6 +83,11 @@ fn handle(
     unreachable!()
 }
 
+fn expect_counts(rt: &impl Abort, tally: Tally, right: u64, reclaimed: u64) {
+    assert!(rt; tally.submitted == 1000 && tally.taken == 990 && right == 990);
+    assert!(rt; tally.dropped == 0 && reclaimed == 10);
+}
+
 #[test]
 fn a_thousand_transfers_on_two_threads(rt: HostRuntime) -> Result<(), Fail> {
     let kernel = Mutex::new(new_kernel(rt.alloc())?);
@@ -98,7 +103,6 @@ fn a_thousand_transfers_on_two_threads(rt: HostRuntime) -> Result<(), Fail> {
         },
         || handle(&rt, &kernel, handler, &notify, &stop),
     );
-    assert_eq!(rt; (tally.submitted, tally.taken, right), (1000, 990, 990));
-    assert_eq!(rt; (tally.dropped, reclaimed), (0, 10));
+    expect_counts(&rt, tally, right, reclaimed);
     Ok(())
 }
