@@ -1,9 +1,10 @@
 //! What the kernel answers of its devices, and claims.
 
 ghost use Rattle.std.specs.Prelude.{◌≡◌};
-ghost use Rattle.usb_kernel.specs.declared.step.KernelCall.{KernelCall};
-ghost use Rattle.usb_kernel.specs.Claims.{no_rows};
-ghost use Rattle.usb_kernel.specs.Calls.{called, same};
+ghost use Rattle.usb_simulated.specs.declared.step.KernelCall.{KernelCall};
+ghost use Rattle.usb_simulated.specs.Claims.{no_rules};
+ghost use Rattle.usb_simulated.specs.Calls.{same};
+ghost use Rattle.usb_kernel.specs.Calls.{called};
 
 use crate::cases::{Case, expect};
 use std::process::Abort;
@@ -13,7 +14,7 @@ use usb_kernel::Kernel;
 
 /// How many bytes the descriptors of a device have. The kernel goes on as after the reading.
 fn descriptors_len(kernel: &mut Kernel, device: u8) -> Option<usize>
-    ensures rest { kernel.new ≡ called kernel.old device KernelCall.ReadDesc no_rows same }
+    ensures rest { kernel.new ≡ called kernel.old device KernelCall.ReadDesc no_rules same }
 {
     match kernel.read_descriptors(device) {
         Ok(bytes) => Some(bytes.len()),

@@ -2,7 +2,8 @@
 
 ghost use Rattle.std.specs.Prelude.{◌≡◌, IfOk, IsSome, None};
 ghost use Rattle.usb_desc.specs.declared.types.TransferType.{TransferType};
-ghost use Rattle.usb_kernel.specs.Submissions.{IsWhole, IsErrno};
+ghost use Rattle.usb_simulated.specs.Errnos.{IsErrno};
+ghost use Rattle.usb_kernel.specs.Submissions.{IsWhole};
 ghost use Rattle.usb_kernel.specs.Steps.{HasErrno};
 
 use std::alloc::Global;

@@ -2,7 +2,7 @@
 #![tactic(auto)]
 
 ghost use Rattle.std.specs.Prelude.{◌≡◌, [], ◌∷◌, IfOk};
-ghost use Rattle.usb_kernel.specs.Devices.{fresh_device};
+ghost use Rattle.usb_simulated.specs.Devices.{fresh_device};
 
 use std::alloc::Global;
 use usb_desc::NoMemory;

@@ -1,7 +1,7 @@
 -- The bus over a kernel alone, as a bus.
 use Rattle.std.proofs.Common.{ℕ, zero, suc, arith, ◌≡◌, ◌≤◌, List, [], ◌∷◌, ◌++◌, length, Option, Some, None, refl, ◌∙◌, ap}
 use Rattle.std.specs.Prelude.{is_some, IfSome}
-use Rattle.usb_kernel.specs.Submissions.{IsErrno}
+use Rattle.usb_simulated.specs.Errnos.{IsErrno}
 use Rattle.std.proofs.Math.Path.{fun_ext}
 use Rattle.std.proofs.Math.Dec.{eqb-suc-zero, eqb-zero-suc, eqb-suc-suc}
 use Rattle.usb_xfer.specs.BufferState.{BufferState}

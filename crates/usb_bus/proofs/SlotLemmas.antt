@@ -15,8 +15,8 @@ use Rattle.usb_kernel.specs.declared.submission.Submission.{Submission}
 use Rattle.usb_kernel.specs.Tickets.{Ticket, tickets}
 use Rattle.usb_kernel.specs.Completions.{completion, completed, refused_done, reapable}
 use Rattle.usb_kernel.specs.declared.submission.Submitted.{Submitted}
-use Rattle.usb_kernel.specs.declared.devices.DeviceState.{DeviceState}
-use Rattle.usb_kernel.specs.declared.step.KernelStep.{KernelStep}
+use Rattle.usb_simulated.specs.declared.devices.DeviceState.{DeviceState}
+use Rattle.usb_simulated.specs.declared.step.KernelStep.{KernelStep}
 use Rattle.usb_kernel.specs.Submits.{submit_or_refuse, queued_or_refused}
 use Rattle.usb_kernel.specs.Timers.{timer_turned}
 use Rattle.usb_kernel.specs.Steps.{stepped, step_done, after_reap, after_discard}

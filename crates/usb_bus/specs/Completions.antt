@@ -1,4 +1,4 @@
--- The completion of a transfer, as its handle gets it.
+-- The completion of a transfer, as the caller of its endpoint gets it.
 use Rattle.std.specs.Prelude.{ℕ, ◌≡◌, List, length, Option}
 use Rattle.std.specs.Option.{option_map}
 use Rattle.usb_xfer.specs.declared.transfer.Completion.{Completion}

@@ -10,18 +10,19 @@ use Rattle.usb_kernel.specs.declared.submission.Submitted.{Submitted}
 use Rattle.usb_kernel.specs.declared.submission.Submitted.TheVariants.{Queued, Refused}
 use Rattle.usb_bus.specs.Completions.{completion_of}
 
--- the endpoint's key, and the address and the type of the transfer
+-- what an endpoint has of a ticket that it holds: its own key, and the address and the type of the transfer
 pub record Hold : Type 0 where
   pub key : ℕ
   pub endpoint : ℕ
   pub kind : TransferType
 
--- what the transfer holds when it was submitted: a refused one is complete at once
+-- what stands in the transfer (`Held`: usb_xfer/src/transfer.rt) once it was submitted: nothing while the kernel has its buffer. A
+-- refused one has its completion at once
 abbrev pub held_at_once : Submitted → Held
 held_at_once (Queued ticket) = Nothing
 held_at_once (Refused done) = Complete (completion_of done)
 
--- what it holds before and after its completion
+-- what stands in it before its completion has come, and then
 abbrev pub held_of : Option Completion → Held
 held_of None = Nothing
 held_of (Some c) = Complete c

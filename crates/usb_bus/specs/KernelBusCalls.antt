@@ -5,11 +5,12 @@ use Rattle.usb_xfer.specs.BufferState.{BufferState}
 use Rattle.usb_xfer.specs.declared.transfer.TransferData.{TransferData}
 use Rattle.usb_xfer.specs.Transfers.{buffer_held}
 use Rattle.usb_kernel.specs.declared.event.Event.{Event}
-use Rattle.usb_kernel.specs.declared.step.KernelStep.{KernelStep}
+use Rattle.usb_simulated.specs.declared.step.KernelStep.{KernelStep}
 use Rattle.usb_kernel.specs.declared.submission.Submission.{Submission}
-use Rattle.usb_kernel.specs.declared.step.KernelCall.TheVariants as call
-use Rattle.usb_kernel.specs.Claims.{no_rows, ok_unless}
-use Rattle.usb_kernel.specs.Calls.{errno_of, called, same}
+use Rattle.usb_simulated.specs.declared.step.KernelCall.TheVariants as call
+use Rattle.usb_simulated.specs.Claims.{no_rules, ok_unless}
+use Rattle.usb_simulated.specs.Calls.{same}
+use Rattle.usb_kernel.specs.Calls.{errno_of, called}
 use Rattle.usb_kernel.specs.Completions.{waiting, lowest}
 use Rattle.usb_kernel.specs.Steps.{after_discard, after_reap, after_step}
 use Rattle.usb_kernel.specs.Timers.{timer_turned}
@@ -91,7 +92,7 @@ bus_without h t = record h { holds = set h.holds t None }
 abbrev pub bus_closed : KernelBusState → ℕ → KernelBusState
 bus_closed h k = record h { keys = set h.keys k false }
 
--- a turn reaps the lowest ticket that is finished and not reaped. Where there is none, time is up
+-- a turn reaps the lowest ticket that is finished and not reaped. Where there is none, no turn is left
 abbrev pub reaped_of : KernelBusState → Option ℕ → KernelBusState
 reaped_of h None = h
 reaped_of h (Some t) = with_past h (after_reap h.kernel.past t)
@@ -110,10 +111,10 @@ bus_idled h until =
 -- a halt is cleared: the kernel's answer, and what is left of the kernel
 abbrev pub bus_halt_cleared : KernelBusState → ℕ → ℕ → KernelBusState
 bus_halt_cleared h device endpoint =
-    record h { kernel = called h.kernel device call.Halt no_rows same }
+    record h { kernel = called h.kernel device call.Halt no_rules same }
 
 abbrev pub bus_halt_result : KernelBusState → ℕ → ℕ → Result (Unit {0}) ℕ
-bus_halt_result h device endpoint = ok_unless (errno_of h.kernel device call.Halt no_rows)
+bus_halt_result h device endpoint = ok_unless (errno_of h.kernel device call.Halt no_rules)
 
 -- a step of the simulation between two calls
 abbrev pub bus_stepped : KernelBusState → KernelStep → KernelBusState

@@ -5,7 +5,7 @@ use Rattle.usb_xfer.specs.declared.transfer.Held.{Held}
 use Rattle.usb_xfer.specs.Transfers.{buffer_held}
 use Rattle.usb_kernel.specs.Tickets.{tickets}
 use Rattle.usb_kernel.specs.Submits.{submit_or_refuse}
-use Rattle.usb_kernel.specs.Submissions.{IsErrno}
+use Rattle.usb_simulated.specs.Errnos.{IsErrno}
 use Rattle.usb_bus.specs.declared.route.Route.{Route}
 use Rattle.usb_bus.specs.Routes.{submission_of}
 use Rattle.usb_bus.specs.BusState.{BusState, with_owner}

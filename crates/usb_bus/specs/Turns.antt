@@ -3,7 +3,7 @@ use Rattle.std.specs.Prelude.{ℕ, ◌<◌, ◌≤◌, Option, Some, None}
 use Rattle.usb_bus.specs.declared.route.Turn.{Turn}
 use Rattle.usb_bus.specs.declared.route.Turn.TheVariants.{Stepped, Reaped, TimeUp}
 
--- a turn with no step left reaps the ticket that waits, or time is up
+-- a turn with no step left reaps the ticket that waits; where none does, no turn is left
 abbrev pub reap_turn : Option ℕ → Turn
 reap_turn None = TimeUp
 reap_turn (Some t) = Reaped

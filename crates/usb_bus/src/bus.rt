@@ -2,7 +2,7 @@
 
 ghost use Rattle.std.specs.Prelude.{◌≡◌, ◌≤◌, ℕ, true, max, length, None, Result, is_some, IsSome, IsTrue, IfOk, OnOk, OnErr, IfErr};
 ghost use Rattle.usb_kernel.specs.Tickets.{tickets};
-ghost use Rattle.usb_kernel.specs.Submissions.{IsErrno};
+ghost use Rattle.usb_simulated.specs.Errnos.{IsErrno};
 ghost use Rattle.usb_kernel.specs.Completions.{lowest};
 ghost use Rattle.usb_kernel.specs.Timers.{timer_turned};
 ghost use Rattle.usb_kernel.specs.Steps.{after_discard};

@@ -3,7 +3,7 @@
 ghost use Rattle.std.specs.Prelude.{◌≡◌, ◌≤◌, ◌<◌, ◌*◌, ◌^◌, ◌++◌, ◌∷◌, [], true, false, max, length, Some, None, is_some, IsSome, IsTrue, IfOk, OnOk, OnErr, IfErr, IfSome, refl};
 ghost use Rattle.usb_kernel.specs.Tickets.{tickets};
 ghost use Rattle.usb_kernel.specs.Steps.{HasErrno};
-ghost use Rattle.usb_kernel.specs.Submissions.{IsErrno};
+ghost use Rattle.usb_simulated.specs.Errnos.{IsErrno};
 ghost use Rattle.usb_kernel.specs.Submits.{submit_refusal};
 ghost use Rattle.usb_xfer.specs.Transfers.{IsFilled};
 ghost use Rattle.usb_bus.specs.KernelBusState.{KernelBusState};

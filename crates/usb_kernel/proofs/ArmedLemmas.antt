@@ -2,19 +2,19 @@
 use Rattle.std.proofs.Common.{◌≡◌, ◌≢◌, ℕ, true, false, cond, List, [], ◌∷◌, drop, refl, ap, inl, inr, arith}
 use Rattle.std.specs.Prelude.{◌==◌, ◌&&◌, is_some}
 use Rattle.std.proofs.lemmas.Bool.{cases_Bool, cases_eq}
-use Rattle.usb_kernel.specs.declared.step.Armed.{Armed}
-use Rattle.usb_kernel.specs.declared.step.KernelCall.{KernelCall}
-use Rattle.usb_kernel.specs.Devices.{plugged_device}
-use Rattle.usb_kernel.specs.Refusals.{call_number, is_armed_for, disarmed}
+use Rattle.usb_simulated.specs.declared.step.Armed.{Armed}
+use Rattle.usb_simulated.specs.declared.step.KernelCall.{KernelCall}
+use Rattle.usb_simulated.specs.Devices.{plugged_device}
+use Rattle.usb_simulated.specs.Refusals.{call_number, is_armed_for, disarmed}
 use Rattle.usb_kernel.specs.Calls.{called}
 use Rattle.usb_kernel.specs.CallLaws.{UnpluggedIsRefused, ArmedComesFirst, armed_for, ArmedIsUsedOnce, OthersStayArmed, RefusedChangesNone}
 
 pub unplugged-refused : UnpluggedIsRefused
 unfolding called
-unplugged-refused k d c rows change none = (rw none refl, rw none refl)
+unplugged-refused k d c rules change none = (rw none refl, rw none refl)
 
 pub armed-first : ArmedComesFirst
-armed-first k d errno c rows plugged armed = rw (plugged, armed) refl
+armed-first k d errno c rules plugged armed = rw (plugged, armed) refl
 
 -- the first of its kind goes, and all others stay
 own-disarmed : (armed : List Armed) (d : ℕ) (c : KernelCall) → armed_for (disarmed armed d c) d c ≡ drop 1 (armed_for armed d c)
@@ -42,11 +42,11 @@ others-disarmed (a ∷ others) d d' c c' apart =
 
 pub armed-once : ArmedIsUsedOnce
 unfolding called
-armed-once k d c rows change plugged = rw plugged (own-disarmed k.armed d c)
+armed-once k d c rules change plugged = rw plugged (own-disarmed k.armed d c)
 
 pub others-armed : OthersStayArmed
 unfolding called
-others-armed k d d' c c' rows change apart =
+others-armed k d d' c c' rules change apart =
     elim (is_some (plugged_device k.devices d)) as (λ v. armed_for (cond v (disarmed k.armed d c) k.armed) d' c' ≡ armed_for k.armed d' c') [
       | true ↦ others-disarmed k.armed d d' c c' apart
       | false ↦ refl
@@ -54,4 +54,4 @@ others-armed k d d' c c' rows change apart =
 
 pub refused-changes_none : RefusedChangesNone
 unfolding called
-refused-changes_none k d errno c rows change refused = rw refused refl
+refused-changes_none k d errno c rules change refused = rw refused refl

@@ -1,22 +1,22 @@
 -- Claims of interfaces, as calls.
 use Rattle.std.proofs.Common.{◌≡◌, ℕ, false, true, List, Some, None, refl, ap, sym, ◌∙◌, inl, inr}
 use Rattle.std.proofs.lemmas.Bool.{cases_Bool}
-use Rattle.usb_kernel.specs.declared.calls.DeviceCall.TheVariants.{Claim}
-use Rattle.usb_kernel.specs.declared.devices.DeviceState.{DeviceState}
-use Rattle.usb_kernel.specs.declared.step.KernelCall.TheVariants as call
-use Rattle.usb_kernel.specs.Interfaces.{contains}
-use Rattle.usb_kernel.specs.Devices.{device_of, change_device}
-use Rattle.usb_kernel.specs.Claims.{has_interface, claim_rows, with_claim, without_claim}
-use Rattle.usb_kernel.specs.Refusals.{armed_errno}
+use Rattle.usb_simulated.specs.declared.calls.DeviceCall.TheVariants.{Claim}
+use Rattle.usb_simulated.specs.declared.devices.DeviceState.{DeviceState}
+use Rattle.usb_simulated.specs.declared.step.KernelCall.TheVariants as call
+use Rattle.usb_simulated.specs.Interfaces.{contains}
+use Rattle.usb_simulated.specs.Devices.{device_of, change_device}
+use Rattle.usb_simulated.specs.Claims.{has_interface, claim_rules, with_claim, without_claim}
+use Rattle.usb_simulated.specs.Refusals.{armed_errno}
 use Rattle.usb_kernel.specs.Calls.{called}
 use Rattle.usb_kernel.specs.DeviceCalls.{call_errno, after_call}
 use Rattle.usb_kernel.specs.ClaimLaws.{ClaimedIsBusy, ClaimMakesClaimed, SecondClaimIsBusy, ClaimsKeep, ReleaseUndoes, RefusedClaims}
 use Rattle.usb_kernel.specs.Value.{KernelState}
-use Rattle.usb_kernel.proofs.InterfaceLemmas.{contains-insert, remove-insert}
+use Rattle.usb_simulated.proofs.InterfaceLemmas.{contains-insert, remove-insert}
 use Rattle.usb_kernel.proofs.ClaimLemmas.{undone}
 use Rattle.usb_kernel.proofs.CallsKept.{Accepted, accepted, keeps-armed, acts, calls-keep}
 
-free-row : (i : ℕ) (x : DeviceState) → claim_rows i x ≡ None → (has_interface i x ≡ true) × (contains x.claimed i ≡ false)
+free-row : (i : ℕ) (x : DeviceState) → claim_rules i x ≡ None → (has_interface i x ≡ true) × (contains x.claimed i ≡ false)
 free-row i x none =
     elim (cases_Bool (has_interface i x)) [
       | inl has ↦
@@ -27,7 +27,7 @@ free-row i x none =
       | inr lacks ↦ absurd (let e = rw lacks at none in cc)
     ]
 
-busy-row : (i : ℕ) (x : DeviceState) → has_interface i x ≡ true → contains x.claimed i ≡ true → claim_rows i x ≡ Some 16
+busy-row : (i : ℕ) (x : DeviceState) → has_interface i x ≡ true → contains x.claimed i ≡ true → claim_rules i x ≡ Some 16
 busy-row i x has claimed = rw (has, claimed) refl
 
 pub claimed-busy : ClaimedIsBusy
@@ -36,11 +36,11 @@ claimed-busy k d i x device plugged unarmed has claimed =
     rw (device, plugged, unarmed, busy-row i x has here) refl
 
 -- the device of a claim that is not refused
-made : (k : KernelState) (d i : ℕ) → call_errno k d (Claim i) ≡ None → Accepted k d call.Claim (claim_rows i)
-made k d i none = accepted k d call.Claim (claim_rows i) none
+made : (k : KernelState) (d i : ℕ) → call_errno k d (Claim i) ≡ None → Accepted k d call.Claim (claim_rules i)
+made k d i none = accepted k d call.Claim (claim_rules i) none
 
 after : (k : KernelState) (d i : ℕ) (none : call_errno k d (Claim i) ≡ None) → device_of (after_call k d (Claim i)).devices d ≡ Some (with_claim i (made k d i none).x)
-after k d i none = acts k d call.Claim (claim_rows i) (with_claim i) (λ x. refl) (made k d i none) none
+after k d i none = acts k d call.Claim (claim_rules i) (with_claim i) (λ x. refl) (made k d i none) none
 
 pub claim-claims : ClaimMakesClaimed
 claim-claims k d i none = rw (after k d i none) (contains-insert (made k d i none).x.claimed i)
@@ -49,7 +49,7 @@ pub second-busy : SecondClaimIsBusy
 unfolding called
 second-busy k d i none =
     let a = made k d i none in
-    let unarmed : armed_errno (after_call k d (Claim i)).armed d call.Claim ≡ None = ap (λ armed. armed_errno armed d call.Claim) (keeps-armed k d call.Claim (claim_rows i) a) ∙ a.armed in
+    let unarmed : armed_errno (after_call k d (Claim i)).armed d call.Claim ≡ None = ap (λ armed. armed_errno armed d call.Claim) (keeps-armed k d call.Claim (claim_rules i) a) ∙ a.armed in
     claimed-busy (after_call k d (Claim i)) d i (with_claim i a.x) (after k d i none) a.plugged unarmed (free-row i a.x a.row).0 (claim-claims k d i none)
 
 pub claims-keep : ClaimsKeep
@@ -58,7 +58,7 @@ claims-keep k l j d i claimed = (calls-keep k l d i (Claim j) claimed).0
 free-again : (i : ℕ) (x : DeviceState) → contains x.claimed i ≡ false → without_claim i (with_claim i x) ≡ x
 free-again i x free = ap (λ (ns : List ℕ). record x { claimed = ns }) (remove-insert x.claimed i free)
 
-of_same : (k : KernelState) (d i : ℕ) (a : Accepted k d call.Claim (claim_rows i)) (x : DeviceState) → device_of k.devices d ≡ Some x → contains x.claimed i ≡ false
+of_same : (k : KernelState) (d i : ℕ) (a : Accepted k d call.Claim (claim_rules i)) (x : DeviceState) → device_of k.devices d ≡ Some x → contains x.claimed i ≡ false
 of_same k d i a x at = let same : Some a.x ≡ Some x = sym a.device ∙ at in let is : a.x ≡ x = cc in rw is at (free-row i a.x a.row).1
 
 pub release-undoes : ReleaseUndoes

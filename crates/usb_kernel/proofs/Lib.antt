@@ -9,8 +9,6 @@ pub mod Opens
 pub mod Echoes
 pub mod Completions
 pub mod Places
-pub mod InterfaceLemmas
-pub mod DeviceLemmas
 pub mod Wholes
 pub mod ClaimLemmas
 pub mod CallLemmas
@@ -22,9 +20,6 @@ pub mod WorkedRows
 pub mod WorkedTimers
 pub mod WorkedCalls
 pub mod Unplugs
-pub mod Firsts
-pub mod QueueLemmas
-pub mod QueueLinks
 pub mod Rules
 pub mod Order
 pub mod Selections

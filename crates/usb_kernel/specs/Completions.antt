@@ -30,17 +30,19 @@ refused_done t s errno = done_of t (refused_of s) (refused_fate errno) errno
 abbrev pub finished : ℕ → Ticket → Fate → Option Done
 finished t s f = option_map (λ errno. done_of t s f errno) f.status
 
--- the completion that a ticket will have at its reap, where it is finished and not reaped
+-- the same of a ticket with this fate, where it is finished and not reaped
 abbrev pub done_if : ℕ → Fate → Ticket → Option Done
 done_if t f s = if waits f then finished t s f else None
 
+-- the completion that a ticket will have at its reap, where it is finished and not reaped
 abbrev pub reapable : List Event → ℕ → Option Done
 reapable past t = option_and_then (done_if t (fate past t)) (slice_get (tickets past) t)
 
--- the tickets that are finished and not reaped, ascending
+-- whether a ticket, of which the number is given beside it, is finished and not reaped
 abbrev pub is_reapable : (ℕ → Fate) → (ℕ × Ticket) → Bool
 is_reapable fates p = waits (fates p.0)
 
+-- the numbers of those that are, ascending
 abbrev pub waiting : List Event → List ℕ
 waiting past = map (λ p. p.0) (filter (is_reapable (fate past)) (enumerate_from 0 (tickets past)))
 

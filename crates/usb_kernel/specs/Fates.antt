@@ -5,7 +5,7 @@ use Rattle.usb_kernel.specs.declared.event.Body.{Body}
 use Rattle.usb_kernel.specs.declared.event.Body.TheVariants.{Wanted, Sent}
 use Rattle.usb_kernel.specs.Tickets.{Ticket}
 
--- what became of a ticket: its accepted packets and its acknowledgements so far, and its errno once it is finished (0 where all went well)
+-- what became of a ticket: the packets that it took (one that is longer than the maximum packet size is not taken) and how many acknowledgements, so far, and its errno once it is finished (0 where all went well)
 pub record Fate : Type 0 where
   pub packets : List (List ℕ)
   pub acks : ℕ

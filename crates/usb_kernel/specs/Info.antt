@@ -7,10 +7,11 @@ use Rattle.usb_kernel.specs.Tickets.{Ticket, tickets}
 use Rattle.usb_kernel.specs.Fates.{Fate, count_of}
 use Rattle.usb_kernel.specs.Journal.{fate}
 
--- the number of tickets that are not reaped
+-- whether a ticket, of which the number is given beside it, is not reaped
 abbrev pub is_unreaped : (ℕ → Fate) → (ℕ × Ticket) → Bool
 is_unreaped fates p = not (fates p.0).reaped
 
+-- the number of those that are not
 unfoldable pub unreaped : List Event → ℕ
 unreaped past = count_by (is_unreaped (fate past)) (enumerate_from 0 (tickets past))
 

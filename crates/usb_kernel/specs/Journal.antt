@@ -1,4 +1,5 @@
--- What a journal makes of its tickets, event by event. A journal is read from its latest event.
+-- What a journal makes of its tickets, event by event: which of them an event belongs to. What it makes of that one is in Fates.antt.
+-- A journal is read from its latest event.
 use Rattle.std.specs.Prelude.{ℕ, ◌-◌, take, drop, Bool, List, [], ◌∷◌, length, Option, Some, None, is_none, slice_get, map, filter, ◌==◌, ◌&&◌, if◌then◌else◌}
 use Rattle.std.specs.List.{enumerate_from}
 use Rattle.usb_kernel.specs.declared.event.Event.{Event}
@@ -8,27 +9,28 @@ use Rattle.usb_kernel.specs.declared.event.Body.TheVariants.{Wanted, Sent}
 use Rattle.usb_kernel.specs.Tickets.{Ticket, tickets}
 use Rattle.usb_kernel.specs.Fates.{Fate, fresh, refused_fate, count_of, finish, with_packet, with_ack, reap, unplug}
 
--- the open tickets of an endpoint, ascending
+-- whether a ticket, of which the number is given beside it, is one of an endpoint of a device and has no status yet
 abbrev pub is_open : (ℕ → Fate) → ℕ → ℕ → (ℕ × Ticket) → Bool
 is_open fates d e p = p.1.device == d && (p.1.endpoint == e && is_none (fates p.0).status)
 
+-- the numbers of those that are, ascending, and the least of them
 abbrev pub open_among : List Ticket → (ℕ → Fate) → ℕ → ℕ → List ℕ
 open_among ts fates d e = map (λ p. p.0) (filter (is_open fates d e) (enumerate_from 0 ts))
 
 abbrev pub oldest_among : List Ticket → (ℕ → Fate) → ℕ → ℕ → Option ℕ
 oldest_among ts fates d e = slice_get (open_among ts fates d e) 0
 
--- a change of one ticket's fate
+-- a change of one ticket's fate. In what follows `ts` are the tickets, `fates` their fates before an event, and u the ticket whose fate is asked for
 abbrev pub change : (Ticket → Fate → Fate) → Option Ticket → Fate → Fate
-change step None f = f
-change step (Some s) f = step s f
+change act None f = f
+change act (Some s) f = act s f
 
 abbrev pub at_ticket : ℕ → (Ticket → Fate → Fate) → List Ticket → (ℕ → Fate) → ℕ → Fate
-at_ticket t step ts fates u = if t == u then change step (slice_get ts u) (fates u) else fates u
+at_ticket t act ts fates u = if t == u then change act (slice_get ts u) (fates u) else fates u
 
 abbrev pub at_oldest : Option ℕ → (Ticket → Fate → Fate) → List Ticket → (ℕ → Fate) → ℕ → Fate
-at_oldest None step ts fates u = fates u
-at_oldest (Some t) step ts fates u = at_ticket t step ts fates u
+at_oldest None act ts fates u = fates u
+at_oldest (Some t) act ts fates u = at_ticket t act ts fates u
 
 -- a packet, or an acknowledgement, on an endpoint belongs to its oldest open ticket, or to nobody
 abbrev pub packet_comes : ℕ → ℕ → List ℕ → List Ticket → (ℕ → Fate) → ℕ → Fate
@@ -46,13 +48,14 @@ abbrev pub taken_of : Option Ticket → Fate → List ℕ
 taken_of None f = []
 taken_of (Some s) f = bytes_between s.body (count_of s f) (count_of s (with_ack s f))
 
--- an echo is an acknowledgement and a packet of the bytes that it takes, where both endpoints have an open ticket
+-- an echo, with which a device sends on what it got, is an acknowledgement on an OUT endpoint and a packet of the bytes that this takes
+-- on an IN endpoint, where both have an open ticket
 abbrev pub echo_comes : Option ℕ → Option ℕ → ℕ → ℕ → ℕ → List Ticket → (ℕ → Fate) → ℕ → Fate
 echo_comes None j d o i ts fates u = fates u
 echo_comes (Some t) None d o i ts fates u = fates u
 echo_comes (Some t) (Some j) d o i ts fates u = packet_comes d i (taken_of (slice_get ts t) (fates t)) ts (ack_comes d o ts fates) u
 
--- the fates after one more event. A refused ticket is finished and reaped at once
+-- the fates after one more event; a ticket that it submits has the number of tickets that were there before. A refused ticket is finished and reaped at once
 abbrev pub after : Event → List Ticket → (ℕ → Fate) → ℕ → Fate
 after (Submit t d e m body room deadline) ts fates u = fates u
 after (Refuse t d e m body room errno) ts fates u =

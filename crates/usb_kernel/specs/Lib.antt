@@ -4,13 +4,6 @@ pub mod Fates
 pub mod Journal
 pub mod Submissions
 pub mod Completions
-pub mod Interfaces
-pub mod Flags
-pub mod Devices
-pub mod Claims
-pub mod Refusals
-pub mod RefusalsState
-pub mod Queues
 pub mod Submits
 pub mod Value
 pub mod Discards

@@ -1,5 +1,5 @@
 -- What a submission is as an event and as a ticket.
-use Rattle.std.specs.Prelude.{ℕ, ◌+◌, ◌*◌, ◌≤◌, ◌≡◌, true, false, None, nat_le, if◌then◌else◌}
+use Rattle.std.specs.Prelude.{ℕ, ◌+◌, ◌*◌, ◌≡◌, true, false, None, nat_le, if◌then◌else◌}
 use Rattle.usb_xfer.specs.BufferState.{BufferState}
 use Rattle.usb_kernel.specs.declared.event.Event.{Event}
 use Rattle.usb_kernel.specs.declared.event.Event.TheVariants.{Submit, Refuse}
@@ -41,7 +41,3 @@ WantsWhole m (Sent bytes) = Unit {0}
 
 abbrev pub IsWhole : Submission → Type 0
 IsWhole s = WantsWhole s.maximum (body_of s.endpoint s.buffer)
-
--- the numbers of errors
-abbrev pub IsErrno : ℕ → Type 0
-IsErrno errno = (1 ≤ errno) × (errno ≤ 4095)

@@ -4,7 +4,8 @@ use Rattle.usb_kernel.specs.declared.event.Event.{Event}
 use Rattle.usb_kernel.specs.declared.event.Event.TheVariants.{Submit, Refuse}
 use Rattle.usb_kernel.specs.declared.event.Body.{Body}
 
--- what was submitted, refused or not. A refused ticket has no deadline
+-- what was submitted, refused or not: where it goes, the maximum packet size, how many bytes are wanted or which are sent (`Body`:
+-- src/event.rt), and the capacity of its buffer. A refused ticket has no deadline
 pub record Ticket : Type 0 where
   pub device : ℕ
   pub endpoint : ℕ

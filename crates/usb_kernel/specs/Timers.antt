@@ -23,13 +23,15 @@ deadlines [] = []
 deadlines (Submit t d e m body room deadline ∷ before) = with_deadline (deadlines before) deadline (length (tickets before))
 deadlines (_ ∷ before) = deadlines before
 
--- the tickets that are not finished and whose deadline is at most the clock, in this order
+-- whether the ticket of an entry, a deadline and a number, is not finished
 abbrev pub is_open_entry : List Event → ℕ × ℕ → Bool
 is_open_entry past p = is_none (fate past p.1).status
 
+-- whether its deadline is at most the clock
 abbrev pub is_up : ℕ → ℕ × ℕ → Bool
 is_up clock p = nat_le p.0 clock
 
+-- the tickets of which both is so, in this order
 abbrev pub due : List Event → ℕ → List ℕ
 due past clock = map (λ p. p.1) (filter (is_up clock) (filter (is_open_entry past) (deadlines past)))
 

@@ -1,11 +1,11 @@
 -- What a kernel is to its users.
 use Rattle.std.specs.Prelude.{ℕ, List}
 use Rattle.usb_kernel.specs.declared.event.Event.{Event}
-use Rattle.usb_kernel.specs.declared.devices.DeviceState.{DeviceState}
-use Rattle.usb_kernel.specs.declared.step.Armed.{Armed}
+use Rattle.usb_simulated.specs.declared.devices.DeviceState.{DeviceState}
+use Rattle.usb_simulated.specs.declared.step.Armed.{Armed}
 
 -- the events so far, the latest first; the devices; the clock in nanoseconds; the armed refusals in the order of arming; and how
--- many steps the kernel still has places for
+-- many places are left, each with room for one more event or armed refusal: a step uses one, a submission makes its own
 pub record KernelState : Type 0 where
   pub past : List Event
   pub devices : List DeviceState

@@ -1,6 +1,6 @@
 //! The events of a journal.
 
-use crate::bytes::Bytes;
+use usb_simulated::Bytes;
 
 /// What a submission sends (OUT), or how many bytes it wants (IN).
 #[derive(Drop)]

@@ -3,13 +3,15 @@
 ghost use Rattle.std.specs.Prelude.{◌≡◌, ℕ, ◌+◌, ◌*◌, ◌^◌, ◌<◌, ◌≤◌, ◌++◌, ◌∷◌, [], length, map, max, reverse, IsSome, vec_len, vec_capacity, Some, OnOk, OnErr, IfOk, IfErr, IfSome};
 ghost use Rattle.usb_desc.specs.declared.types.TransferType.{TransferType};
 ghost use Rattle.usb_kernel.specs.Tickets.{tickets};
-ghost use Rattle.usb_kernel.specs.Submissions.{submit_event, IsWhole, IsErrno};
+ghost use Rattle.usb_simulated.specs.Errnos.{IsErrno};
+ghost use Rattle.usb_kernel.specs.Submissions.{submit_event, IsWhole};
 ghost use Rattle.usb_kernel.specs.Legal.{IsLegal, IsLawful};
 ghost use Rattle.usb_kernel.specs.Completions.{reapable, lowest};
-ghost use Rattle.usb_kernel.specs.Devices.{fresh_device, devices_unplugged};
-ghost use Rattle.usb_kernel.specs.Refusals.{armed_errno, disarmed, call_refusal, armed_left};
-ghost use Rattle.usb_kernel.specs.Claims.{ok_unless, claim_rows, with_claim, no_rows, release_result, after_release};
-ghost use Rattle.usb_kernel.specs.Calls.{errno_of, asked, called, same, open_answer, after_open, set_configuration_rows, with_configuration, detach_and_claim_rows, with_claimed_only, detach_rows, without_driver, attach_rows, with_driver, set_interface_rows, after_reset};
+ghost use Rattle.usb_simulated.specs.Devices.{fresh_device, devices_unplugged};
+ghost use Rattle.usb_simulated.specs.Refusals.{armed_errno, disarmed, call_refusal, armed_left};
+ghost use Rattle.usb_simulated.specs.Claims.{ok_unless, claim_rules, with_claim, no_rules, release_result, after_release};
+ghost use Rattle.usb_simulated.specs.Calls.{same, set_configuration_rules, with_configuration, detach_and_claim_rules, with_claimed_only, detach_rules, without_driver, attach_rules, with_driver, set_interface_rules};
+ghost use Rattle.usb_kernel.specs.Calls.{errno_of, asked, called, open_answer, after_open, after_reset};
 ghost use Rattle.usb_kernel.specs.DeviceCalls.{call_errno, after_call};
 ghost use Rattle.usb_kernel.specs.Submits.{submit_refusal, submit_result, after_submit, armed_after_submit, refuse_result, after_refuse, number_of};
 ghost use Rattle.usb_kernel.specs.Steps.{after_packet, after_ack, after_fail, after_unplug, after_reap, after_discard, reaped_by, after_reap_of, reapable_of, stepped, step_done, devices_stepped, clock_stepped, armed_stepped, HasErrno};
@@ -19,17 +21,10 @@ ghost use Rattle.std.specs.Borrow.{sem};
 ghost use Rattle.std.specs.Io.BufRead.{Rests};
 ghost use Rattle.usb_kernel.specs.contracts.kernel.Kernel.{the_row};
 
-use crate::bytes::Bytes;
-use crate::calls::{DeviceCall, answer};
-use crate::devices::{
-    DeviceState, SimDevice, fresh_devices, number_at, plugged, release_interface, unplug_device,
-};
 use crate::errno;
 use crate::event::Event;
 use crate::journal::put;
-use crate::refusals::Refusals;
 use crate::slot::TicketRow;
-use crate::step::{Armed, KernelCall, KernelStep};
 use crate::submission::{Done, Submission, Submitted, TicketInfo};
 use crate::table::{
     add, add_refused, fail_oldest, first_number, forget_place, give_ack, give_packet, info_at,
@@ -40,6 +35,10 @@ use std::alloc::Global;
 use std::collections::BTreeSet;
 use std::marker::Model;
 use usb_desc::NoMemory;
+use usb_simulated::{
+    Armed, Bytes, DeviceCall, DeviceState, KernelCall, KernelStep, Refusals, SimDevice, answer,
+    fresh_devices, number_at, plugged, release_interface, unplug_device,
+};
 
 /// A simulated kernel. It keeps its events in a journal, and beside it the table of tickets that
 /// the journal means, and the places of the tickets that are not reaped, ascending.
@@ -549,11 +548,11 @@ impl Kernel {
     /// else that of an armed refusal.
     pub fn read_descriptors(&mut self, device: u8) -> Result<&[u8], u16>
         ensures bytes { IfOk result (λ bytes.
-            asked self.old device KernelCall.ReadDesc no_rows (λ d. d.bytes) ≡ Ok bytes.now) }
+            asked self.old device KernelCall.ReadDesc no_rules (λ d. d.bytes) ≡ Ok bytes.now) }
         ensures err { IfErr result (λ errno.
-            asked self.old device KernelCall.ReadDesc no_rows (λ d. d.bytes) ≡ Err errno) }
+            asked self.old device KernelCall.ReadDesc no_rules (λ d. d.bytes) ≡ Err errno) }
         ensures* rest { sem 𝓛 (Rests the_row self.entry
-            (λ kernel. kernel ≡ called self.old device KernelCall.ReadDesc no_rows same)) }
+            (λ kernel. kernel ≡ called self.old device KernelCall.ReadDesc no_rules same)) }
     {
         if let Some(errno) = self.refusal(device, KernelCall::ReadDesc) {
             return Err(errno);
@@ -577,8 +576,8 @@ impl Kernel {
     /// the number, and else that of an armed refusal.
     pub fn configuration(&mut self, device: u8) -> Result<u8, u16>
         ensures value { result
-            ≡ asked self.old device KernelCall.GetConfig no_rows (λ d. d.configuration) }
-        ensures rest { self.new ≡ called self.old device KernelCall.GetConfig no_rows same }
+            ≡ asked self.old device KernelCall.GetConfig no_rules (λ d. d.configuration) }
+        ensures rest { self.new ≡ called self.old device KernelCall.GetConfig no_rules same }
     {
         if let Some(errno) = self.refusal(device, KernelCall::GetConfig) {
             return Err(errno);
@@ -592,8 +591,8 @@ impl Kernel {
     /// Clears the halt of an endpoint. The errno is 19 where no plugged device has the number, and
     /// else that of an armed refusal. No halt is kept.
     pub fn clear_halt(&mut self, device: u8, _endpoint: u8) -> Result<(), u16>
-        ensures result { result ≡ ok_unless (errno_of self.old device KernelCall.Halt no_rows) }
-        ensures rest { self.new ≡ called self.old device KernelCall.Halt no_rows same }
+        ensures result { result ≡ ok_unless (errno_of self.old device KernelCall.Halt no_rules) }
+        ensures rest { self.new ≡ called self.old device KernelCall.Halt no_rules same }
     {
         match self.refusal(device, KernelCall::Halt) {
             Some(errno) => Err(errno),
@@ -612,7 +611,7 @@ impl Kernel {
         errno
     }
 
-    /// The errno of a call that comes before its rows: 19 where no plugged device has the number,
+    /// The errno of a call that comes before its rules: 19 where no plugged device has the number,
     /// else that of the first refusal that is armed for it, which is used up.
     fn refusal(&mut self, device: u8, call: KernelCall) -> Option<u16>
         ensures errno { result ≡ call_refusal self.old.devices self.old.armed device call }
@@ -625,7 +624,7 @@ impl Kernel {
         self.armed_refusal(device, call)
     }
 
-    /// A call with rows of its own.
+    /// A call with rules of its own.
     fn call(&mut self, device: u8, call: DeviceCall) -> Result<(), u16>
         ensures result { result ≡ ok_unless (call_errno self.old device call) }
         ensures rest { self.new ≡ after_call self.old device call }
@@ -641,9 +640,9 @@ impl Kernel {
     /// where an interface is claimed.
     pub fn set_configuration(&mut self, device: u8, value: u8) -> Result<(), u16>
         ensures result { result ≡ ok_unless
-            (errno_of self.old device KernelCall.SetConfig (set_configuration_rows value)) }
+            (errno_of self.old device KernelCall.SetConfig (set_configuration_rules value)) }
         ensures rest { self.new ≡ called self.old device KernelCall.SetConfig
-            (set_configuration_rows value) (with_configuration value) }
+            (set_configuration_rules value) (with_configuration value) }
     {
         self.call(device, DeviceCall::SetConfiguration { value })
     }
@@ -653,9 +652,9 @@ impl Kernel {
     /// the interface is claimed or has a kernel driver.
     pub fn claim(&mut self, device: u8, interface: u8) -> Result<(), u16>
         ensures result { result ≡ ok_unless
-            (errno_of self.old device KernelCall.Claim (claim_rows interface)) }
+            (errno_of self.old device KernelCall.Claim (claim_rules interface)) }
         ensures rest { self.new ≡ called self.old device KernelCall.Claim
-            (claim_rows interface) (with_claim interface) }
+            (claim_rules interface) (with_claim interface) }
     {
         self.call(device, DeviceCall::Claim { interface })
     }
@@ -665,7 +664,7 @@ impl Kernel {
     /// refused uses one place of `spare`.
     pub fn reset(&mut self, device: u8) -> Result<(), u16>
         requires spare { 1 ≤ self.old.spare }
-        ensures result { result ≡ ok_unless (errno_of self.old device KernelCall.Reset no_rows) }
+        ensures result { result ≡ ok_unless (errno_of self.old device KernelCall.Reset no_rules) }
         ensures rest { self.new ≡ after_reset self.old device }
     {
         if let Some(errno) = self.refusal(device, KernelCall::Reset) {
@@ -680,9 +679,9 @@ impl Kernel {
     /// interface, and 16 where the interface is claimed.
     pub fn detach_and_claim(&mut self, device: u8, interface: u8) -> Result<(), u16>
         ensures result { result ≡ ok_unless
-            (errno_of self.old device KernelCall.DetachClaim (detach_and_claim_rows interface)) }
+            (errno_of self.old device KernelCall.DetachClaim (detach_and_claim_rules interface)) }
         ensures rest { self.new ≡ called self.old device KernelCall.DetachClaim
-            (detach_and_claim_rows interface) (with_claimed_only interface) }
+            (detach_and_claim_rules interface) (with_claimed_only interface) }
     {
         self.call(device, DeviceCall::DetachAndClaim { interface })
     }
@@ -692,9 +691,9 @@ impl Kernel {
     /// interface, and 61 where no driver is bound.
     pub fn detach(&mut self, device: u8, interface: u8) -> Result<(), u16>
         ensures result { result ≡ ok_unless
-            (errno_of self.old device KernelCall.Detach (detach_rows interface)) }
+            (errno_of self.old device KernelCall.Detach (detach_rules interface)) }
         ensures rest { self.new ≡ called self.old device KernelCall.Detach
-            (detach_rows interface) (without_driver interface) }
+            (detach_rules interface) (without_driver interface) }
     {
         self.call(device, DeviceCall::Detach { interface })
     }
@@ -704,9 +703,9 @@ impl Kernel {
     /// interface, and 16 where a driver is bound or the interface is claimed.
     pub fn attach(&mut self, device: u8, interface: u8) -> Result<(), u16>
         ensures result { result ≡ ok_unless
-            (errno_of self.old device KernelCall.Attach (attach_rows interface)) }
+            (errno_of self.old device KernelCall.Attach (attach_rules interface)) }
         ensures rest { self.new ≡ called self.old device KernelCall.Attach
-            (attach_rows interface) (with_driver interface) }
+            (attach_rules interface) (with_driver interface) }
     {
         self.call(device, DeviceCall::Attach { interface })
     }
@@ -716,9 +715,9 @@ impl Kernel {
     /// kernel does not keep the setting.
     pub fn set_interface(&mut self, device: u8, interface: u8, setting: u8) -> Result<(), u16>
         ensures result { result ≡ ok_unless
-            (errno_of self.old device KernelCall.Alt (set_interface_rows interface setting)) }
+            (errno_of self.old device KernelCall.Alt (set_interface_rules interface setting)) }
         ensures rest { self.new
-            ≡ called self.old device KernelCall.Alt (set_interface_rows interface setting) same }
+            ≡ called self.old device KernelCall.Alt (set_interface_rules interface setting) same }
     {
         self.call(device, DeviceCall::SetInterface { interface, setting })
     }
@@ -727,8 +726,8 @@ impl Kernel {
     /// else that of an armed refusal.
     pub fn speed(&mut self, device: u8) -> Result<u8, u16>
         ensures speed { result
-            ≡ asked self.old device KernelCall.Speed no_rows (λ d. d.speed) }
-        ensures rest { self.new ≡ called self.old device KernelCall.Speed no_rows same }
+            ≡ asked self.old device KernelCall.Speed no_rules (λ d. d.speed) }
+        ensures rest { self.new ≡ called self.old device KernelCall.Speed no_rules same }
     {
         if let Some(errno) = self.refusal(device, KernelCall::Speed) {
             return Err(errno);

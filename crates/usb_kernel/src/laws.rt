@@ -110,7 +110,7 @@ pub fn claimed_once()
 {}
 
 /// A call on a device that is not plugged is refused with 19. Else the first refusal that is armed
-/// for it comes before its rows, and is used up by it alone. A call that is refused changes no
+/// for it comes before its rules, and is used up by it alone. A call that is refused changes no
 /// device.
 pub fn refusals_come_first()
     ensures unplugged { UnpluggedIsRefused }

@@ -2,25 +2,16 @@
 //! them.
 #![tactic(auto)]
 
-mod bytes;
-mod calls;
-mod devices;
 mod event;
-mod interfaces;
 mod journal;
 mod kernel;
 mod laws;
-mod refusals;
 mod slot;
-mod step;
 mod submission;
 mod table;
 mod timer;
 
-pub use bytes::Bytes;
-pub use devices::{DeviceState, SimDevice};
 pub use event::{Body, Event};
-pub use interfaces::InterfaceSet;
 pub use kernel::{Kernel, is_send_and_sync};
 pub use laws::{
     answers_use_no_refusal, calls_extend_journals, claimed_once,
@@ -29,6 +20,8 @@ pub use laws::{
     later_are_untouched, oldest_is_served, reaped_is_final, refusals_come_first,
     resets_are_unplugs, submissions_open_tickets, tickets_are_closed, waiting_tickets_are_counted,
 };
-pub use step::{Armed, KernelCall, KernelStep};
 pub use submission::{Done, Submission, Submitted, TicketInfo};
+pub use usb_simulated::{
+    Armed, Bytes, DeviceState, InterfaceSet, KernelCall, KernelStep, SimDevice,
+};
 pub use usb_xfer::errno;

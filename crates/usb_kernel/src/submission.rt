@@ -3,10 +3,10 @@
 ghost use Rattle.std.specs.Prelude.{◌≡◌, IfOk};
 ghost use Rattle.usb_kernel.specs.Submissions.{body_of};
 
-use crate::bytes::Bytes;
 use crate::event::Body;
 use std::alloc::Global;
 use usb_desc::{NoMemory, TransferType};
+use usb_simulated::Bytes;
 use usb_xfer::Buffer;
 
 /// A transfer that is handed in. A control transfer uses endpoint 0x00 or 0x80 and has its setup

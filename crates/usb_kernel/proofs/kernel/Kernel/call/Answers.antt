@@ -1,6 +1,6 @@
 use Rattle.std.proofs.Common.{◌≡◌, None, ap, sym, ◌∙◌}
-use Rattle.usb_kernel.specs.Refusals.{call_refusal}
-use Rattle.usb_kernel.specs.DeviceCalls.{kind_of, call_rows, call_change}
+use Rattle.usb_simulated.specs.Refusals.{call_refusal}
+use Rattle.usb_simulated.specs.DeviceCalls.{kind_of, call_rules, call_change}
 use Rattle.usb_kernel.specs.Value.{KernelState}
 use Rattle.usb_kernel.proofs.CallLemmas.{called-refused, errno-rows, called-rows}
 use Rattle.usb_kernel.proofs.kernel.Kernel.call.Goals as goal
@@ -9,7 +9,7 @@ pub returns-in-Some-clause-rest : goal.returns-in-Some-clause-rest
 returns-in-Some-clause-rest c =
     let kind = c.kind.ensures.kind in
     c.refusal.ensures.armed
-    ∙ rw kind (called-refused c.args.self.now c.args.device c.in-Some.errno (kind_of c.args.call) (call_rows c.args.call) (call_change c.args.call) (rw kind at (sym c.in-Some.ensures.errno)))
+    ∙ rw kind (called-refused c.args.self.now c.args.device c.in-Some.errno (kind_of c.args.call) (call_rules c.args.call) (call_change c.args.call) (rw kind at (sym c.in-Some.ensures.errno)))
 
 pub returns-clause-rest : goal.returns-clause-rest
 returns-clause-rest c =
@@ -18,6 +18,6 @@ returns-clause-rest c =
     let before = c.self.view_is ∙ c.refusal.ensures.armed in
     let devices : c.self.inside.devices.items ≡ k.devices = ap (λ (v : KernelState). v.devices) before in
     let none : call_refusal k.devices k.armed c.args.device (kind_of c.args.call) ≡ None = rw kind at (sym c.in_default.ensures.errno) in
-    let answered = rw devices at c.answer.ensures.result ∙ errno-rows k c.args.device (kind_of c.args.call) (call_rows c.args.call) none in
+    let answered = rw devices at c.answer.ensures.result ∙ errno-rows k c.args.device (kind_of c.args.call) (call_rules c.args.call) none in
     ap (λ (v : KernelState). record v { devices = c.answer.new.devices.items }) before
-    ∙ rw kind (called-rows k c.args.device (kind_of c.args.call) (call_rows c.args.call) (call_change c.args.call) c.answer.result c.answer.new.devices.items none answered (rw devices at c.answer.ensures.ok) (rw devices at c.answer.ensures.err))
+    ∙ rw kind (called-rows k c.args.device (kind_of c.args.call) (call_rules c.args.call) (call_change c.args.call) c.answer.result c.answer.new.devices.items none answered (rw devices at c.answer.ensures.ok) (rw devices at c.answer.ensures.err))

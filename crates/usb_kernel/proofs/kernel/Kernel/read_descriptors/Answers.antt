@@ -1,9 +1,9 @@
 use Rattle.std.proofs.Common.{◌≡◌, Some, Ok, refl, ap, sym, ◌∙◌}
-use Rattle.usb_kernel.specs.declared.devices.DeviceState.{DeviceState}
-use Rattle.usb_kernel.specs.declared.step.KernelCall.TheVariants as call
-use Rattle.usb_kernel.specs.Devices.{plugged_device}
-use Rattle.usb_kernel.specs.Claims.{no_rows}
-use Rattle.usb_kernel.specs.Calls.{same}
+use Rattle.usb_simulated.specs.declared.devices.DeviceState.{DeviceState}
+use Rattle.usb_simulated.specs.declared.step.KernelCall.TheVariants as call
+use Rattle.usb_simulated.specs.Devices.{plugged_device}
+use Rattle.usb_simulated.specs.Claims.{no_rules}
+use Rattle.usb_simulated.specs.Calls.{same}
 use Rattle.usb_kernel.specs.Value.{KernelState}
 use Rattle.usb_kernel.proofs.CallLemmas.{called-refused, called-asked, asked-refused, asked-found}
 use Rattle.usb_kernel.proofs.kernel.Kernel.read_descriptors.Goals as goal
@@ -12,7 +12,7 @@ pub returns-in-Some : goal.returns-in-Some
 returns-in-Some c =
     let k = c.args.self.now in
     let refused = sym c.in-Some.ensures.errno in (
-      (refl, λ kernel. tt, c.refusal.ensures.armed ∙ called-refused k c.args.device c.in-Some.errno call.ReadDesc no_rows same refused),
+      (refl, λ kernel. tt, c.refusal.ensures.armed ∙ called-refused k c.args.device c.in-Some.errno call.ReadDesc no_rules same refused),
       record {
         bytes = tt;
         err = sym (asked-refused k c.args.device c.in-Some.errno call.ReadDesc (λ (d : DeviceState). d.bytes) refused);

@@ -1,13 +1,13 @@
 use Rattle.std.proofs.Common.{sym, ◌∙◌}
-use Rattle.usb_kernel.specs.declared.step.KernelCall.TheVariants as call
-use Rattle.usb_kernel.specs.Claims.{no_rows}
-use Rattle.usb_kernel.specs.Calls.{same}
+use Rattle.usb_simulated.specs.declared.step.KernelCall.TheVariants as call
+use Rattle.usb_simulated.specs.Claims.{no_rules}
+use Rattle.usb_simulated.specs.Calls.{same}
 use Rattle.usb_kernel.proofs.CallLemmas.{called-refused, called-asked}
 use Rattle.usb_kernel.proofs.kernel.Kernel.speed.Goals as goal
 
 pub returns-in-Some-clause-rest : goal.returns-in-Some-clause-rest
 returns-in-Some-clause-rest c =
-    c.refusal.ensures.armed ∙ called-refused c.args.self.now c.args.device c.in-Some.errno call.Speed no_rows same (sym c.in-Some.ensures.errno)
+    c.refusal.ensures.armed ∙ called-refused c.args.self.now c.args.device c.in-Some.errno call.Speed no_rules same (sym c.in-Some.ensures.errno)
 
 pub returns-clause-rest : goal.returns-clause-rest
 returns-clause-rest c =

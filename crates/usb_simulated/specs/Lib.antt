@@ -1,0 +1,10 @@
+pub mod Errnos
+pub mod Interfaces
+pub mod Flags
+pub mod Devices
+pub mod Claims
+pub mod Refusals
+pub mod RefusalsState
+pub mod Queues
+pub mod Calls
+pub mod DeviceCalls
