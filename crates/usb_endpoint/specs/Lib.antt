@@ -1,3 +1,4 @@
+pub mod CallErrors
 pub mod EndpointState
 pub mod Polls
 pub mod Handles

@@ -3,7 +3,9 @@
 ghost use Rattle.std.specs.Prelude.{◌≡◌, ◌<◌, ◌++◌, ◌∷◌, [], None, length, IfOk, OnOk, OnErr, IfErr, IfSome, IfNone};
 ghost use Rattle.usb_kernel.specs.Tickets.{tickets};
 ghost use Rattle.usb_bus.specs.Completions.{transfer_completion};
+ghost use Rattle.usb_error.specs.Errors.{clear_halt_error};
 ghost use Rattle.usb_endpoint.specs.AnyEndpoints.{state_of};
+ghost use Rattle.usb_endpoint.specs.CallErrors.{or_error};
 ghost use Rattle.usb_endpoint.specs.Submits.{entered};
 ghost use Rattle.usb_endpoint.specs.Polls.{IfReady, IfPending};
 ghost use Rattle.usb_endpoint.specs.Handles.{TookNext, LeftNext, Stands, KeepsOthers};
@@ -14,6 +16,7 @@ ghost use Rattle.usb_endpoint.specs.Closes.{all_discarded, after_close};
 use crate::endpoint::Endpoint;
 use futures::task::Poll;
 use usb_bus::Bus;
+use usb_error::Error;
 use usb_xfer::{Buffer, Bulk, Completion, In, Interrupt, Out};
 
 /// An open endpoint of one of the four kinds that can be opened. Each call is the endpoint's.
@@ -159,6 +162,25 @@ impl AnyEndpoint {
             AnyEndpoint::BulkOut(endpoint) => endpoint.cancel_all(bus),
             AnyEndpoint::InterruptIn(endpoint) => endpoint.cancel_all(bus),
             AnyEndpoint::InterruptOut(endpoint) => endpoint.cancel_all(bus),
+        }
+    }
+
+    /// Clears the halt of the endpoint. What is pending stays so.
+    pub fn clear_halt<B: Bus>(&mut self, bus: &mut B) -> Result<(), Error>
+        requires stands { Stands (B.state bus.old) (state_of self.old) }
+        ensures result { result ≡ or_error clear_halt_error
+            (B.halt_result bus.old (state_of self.old).device (state_of self.old).address) }
+        ensures bus { bus.new
+            ≡ B.halt_cleared bus.old (state_of self.old).device (state_of self.old).address }
+        ensures stands { Stands (B.state bus.new) (state_of self.new) }
+        ensures others { KeepsOthers (B.state bus.old) (B.state bus.new) (state_of self.old).key }
+        ensures rest { state_of self.new ≡ state_of self.old }
+    {
+        match self {
+            AnyEndpoint::BulkIn(endpoint) => endpoint.clear_halt(bus),
+            AnyEndpoint::BulkOut(endpoint) => endpoint.clear_halt(bus),
+            AnyEndpoint::InterruptIn(endpoint) => endpoint.clear_halt(bus),
+            AnyEndpoint::InterruptOut(endpoint) => endpoint.clear_halt(bus),
         }
     }
 

@@ -6,6 +6,8 @@ ghost use Rattle.usb_kernel.specs.Tickets.{tickets};
 ghost use Rattle.usb_kernel.specs.Steps.{after_discard};
 ghost use Rattle.usb_bus.specs.BusState.{without_owner, without_key};
 ghost use Rattle.usb_bus.specs.Later.{GoesOn};
+ghost use Rattle.usb_error.specs.Errors.{clear_halt_error};
+ghost use Rattle.usb_endpoint.specs.CallErrors.{or_error};
 ghost use Rattle.usb_endpoint.specs.EndpointState.{route_of};
 ghost use Rattle.usb_endpoint.specs.Polls.{IfReady, IfPending};
 ghost use Rattle.usb_endpoint.specs.Handles.{TookNext, LeftNext, Stands, KeepsOthers};
@@ -20,6 +22,7 @@ use std::fmt;
 use std::marker::{Model, PhantomData};
 use usb_bus::{Bus, Route};
 use usb_desc::NoMemory;
+use usb_error::Error;
 use usb_xfer::{
     Buffer, Completion, EndpointDirection, EndpointType, Pending, TransferData,
     take_completed_from_queue,
@@ -214,6 +217,24 @@ impl<T: EndpointType, D: EndpointDirection> Endpoint<T, D> {
     {
         'tickets: for i in (0..self.pending.len()).rev() {
             bus.discard(&self.pending[i]);
+        }
+    }
+
+    /// Clears the halt of the endpoint (USB 2.0, section 9.4.1: ENDPOINT_HALT). What is pending stays
+    /// so. A refusal of the kernel is the error.
+    pub fn clear_halt<B: Bus>(&mut self, bus: &mut B) -> Result<(), Error>
+        requires stands { Stands (B.state bus.old) self.old }
+        ensures result { result ≡ or_error clear_halt_error
+            (B.halt_result bus.old self.old.device self.old.address) }
+        ensures bus { bus.new ≡ B.halt_cleared bus.old self.old.device self.old.address }
+        ensures state { B.state bus.new ≡ B.state bus.old }
+        ensures stands { Stands (B.state bus.new) self.new }
+        ensures others { KeepsOthers (B.state bus.old) (B.state bus.new) self.old.key }
+        ensures rest { self.new ≡ self.old }
+    {
+        match bus.clear_halt(self.device, self.address) {
+            Ok(()) => Ok(()),
+            Err(errno) => Err(Error::clear_halt(errno)),
         }
     }
 
