@@ -1,18 +1,21 @@
 //! What is done at a new host, and the steps of its line.
 
-ghost use Rattle.std.specs.Prelude.{IfOk};
+ghost use Rattle.std.specs.Prelude.{◌≤◌, ◌+◌, length, IfOk};
 ghost use Rattle.std.specs.List.{All};
 ghost use Rattle.usb_kernel.specs.Steps.{HasErrno};
 
+use crate::answers::{expect_resets, expect_speed};
+use crate::calls::{Answer, Call, expect_answers};
 use crate::claims::{expect_busy, expect_opens, expect_release, expect_texts};
-use crate::hosts::{new_host, packet, reap};
+use crate::hosts::{PLAIN, Plug, new_host, packet, reap, refuse};
 use crate::transfers::{
-    Transfers, expect_packet, expect_polls, expect_timed_out, expect_transfers,
+    Transfers, expect_other, expect_packet, expect_polls, expect_timed_out, expect_transfers,
 };
 use std::alloc::Global;
 use std::process::Abort;
 use std::test::Fail;
-use usb_device::{Host, KernelStep, NoMemory};
+use usb_device::{Host, KernelStep, NoMemory, Speed};
+use usb_kernel::KernelCall;
 
 /// What is done at a new host.
 #[derive(Clone, Copy)]
@@ -35,16 +38,36 @@ pub enum Case {
     Unplug,
     /// A packet is read.
     Packet,
+    /// One of two endpoints with a transfer each is closed.
+    Other,
+    /// Calls on the device give these answers.
+    Answers(Plug, &'static [(Call, Answer)]),
+    /// The same where a refusal of each kind of call is armed.
+    Refused(Plug, &'static [(Call, Answer)]),
+    /// A device of this code has this speed.
+    Speed(Plug, Option<Speed>),
+    /// The device is reset.
+    Resets,
+}
+
+/// The device of a case.
+fn plug_of(case: Case) -> Plug {
+    match case {
+        Case::Answers(plug, _) | Case::Refused(plug, _) | Case::Speed(plug, _) => plug,
+        _ => PLAIN,
+    }
 }
 
 /// Compares what is found at a new host.
 pub fn expect(rt: &impl Abort, alloc: Global, case: Case) -> Result<(), Fail> {
-    let mut host = new_host(alloc, steps_of(alloc, case)?)?;
+    let mut host = new_host(alloc, plug_of(case), steps_of(alloc, case)?)?;
     expect_case(rt, alloc, &mut host, case);
     Ok(())
 }
 
-fn expect_case(rt: &impl Abort, alloc: Global, host: &mut Host, case: Case) {
+fn expect_case(rt: &impl Abort, alloc: Global, host: &mut Host, case: Case)
+    requires room { length host.old.steps + 3 ≤ host.old.kernel.spare }
+{
     match case {
         Case::Opens => expect_opens(rt, alloc, host),
         Case::Texts => expect_texts(rt, alloc, host),
@@ -55,6 +78,10 @@ fn expect_case(rt: &impl Abort, alloc: Global, host: &mut Host, case: Case) {
         Case::Waits => expect_transfers(rt, alloc, host, Transfers::Waits),
         Case::Unplug => expect_transfers(rt, alloc, host, Transfers::Unplug),
         Case::Packet => expect_packet(rt, alloc, host),
+        Case::Other => expect_other(rt, alloc, host),
+        Case::Answers(_, rows) | Case::Refused(_, rows) => expect_answers(rt, alloc, host, rows),
+        Case::Speed(_, speed) => expect_speed(rt, alloc, host, speed),
+        Case::Resets => expect_resets(rt, alloc, host),
     }
 }
 
@@ -64,6 +91,10 @@ fn steps_of(alloc: Global, case: Case) -> Result<Vec<KernelStep>, NoMemory>
 {
     match case {
         Case::Opens | Case::Texts | Case::Release => Ok(Vec::new(alloc)),
+        Case::Answers(_, _) | Case::Speed(_, _) => Ok(Vec::new(alloc)),
+        Case::Refused(_, _) => refusals(alloc),
+        Case::Resets => one_step(alloc, refuse(KernelCall::Reset, 71)),
+        Case::Other => packet_steps(alloc),
         Case::Busy(order) => two_packets(alloc, order),
         Case::Polls(order, _) => three_packets(alloc, order),
         Case::TimeOut => one_step(alloc, KernelStep::Clock { to: 5 }),
@@ -128,6 +159,41 @@ fn unplug_steps(alloc: Global) -> Result<Vec<KernelStep>, NoMemory>
         KernelStep::Unplug { device: 0 },
         reap(0),
         reap(1),
+    ];
+    match steps {
+        Ok(steps) => Ok(steps),
+        Err(_) => Err(NoMemory),
+    }
+}
+
+/// A packet of 2 bytes, whose transfer is reaped.
+fn packet_steps(alloc: Global) -> Result<Vec<KernelStep>, NoMemory>
+    ensures errnos { IfOk result (λ steps. All HasErrno steps.items) }
+{
+    match vec![in alloc; packet(alloc, &[1, 2])?, reap(0)] {
+        Ok(steps) => Ok(steps),
+        Err(_) => Err(NoMemory),
+    }
+}
+
+/// Refusals of the calls of each kind but reset and submission, each with an errno of its own.
+fn refusals(alloc: Global) -> Result<Vec<KernelStep>, NoMemory>
+    ensures errnos { IfOk result (λ steps. All HasErrno steps.items) }
+{
+    let steps = vec![in alloc;
+        refuse(KernelCall::OpenDevice, 101),
+        refuse(KernelCall::ReadDesc, 102),
+        refuse(KernelCall::GetConfig, 103),
+        refuse(KernelCall::GetConfig, 104),
+        refuse(KernelCall::SetConfig, 105),
+        refuse(KernelCall::Claim, 106),
+        refuse(KernelCall::DetachClaim, 107),
+        refuse(KernelCall::Attach, 108),
+        refuse(KernelCall::Attach, 109),
+        refuse(KernelCall::Detach, 110),
+        refuse(KernelCall::Alt, 111),
+        refuse(KernelCall::Halt, 112),
+        refuse(KernelCall::Speed, 113),
     ];
     match steps {
         Ok(steps) => Ok(steps),

@@ -4,9 +4,9 @@ use Rattle.std.proofs.lemmas.Bool.{eq-eqb, ne_eqb}
 use Rattle.std.proofs.lemmas.Option.{none-some}
 use Rattle.std.proofs.lemmas.List.{map-set}
 use Rattle.usb_kernel.specs.declared.event.Event.{Event}
-use Rattle.usb_kernel.specs.declared.step.KernelStep.{KernelStep}
+use Rattle.usb_simulated.specs.declared.step.KernelStep.{KernelStep}
 use Rattle.usb_kernel.specs.declared.submission.Done.{Done}
-use Rattle.usb_kernel.specs.declared.devices.DeviceState.{DeviceState}
+use Rattle.usb_simulated.specs.declared.devices.DeviceState.{DeviceState}
 use Rattle.usb_kernel.specs.Value.{KernelState}
 use Rattle.usb_kernel.specs.Completions.{completion, reapable}
 use Rattle.usb_kernel.specs.Timers.{timer_turned}
@@ -14,18 +14,20 @@ use Rattle.usb_kernel.specs.Steps.{stepped, step_done, after_reap, after_discard
 use Rattle.usb_kernel.proofs.Completions.{tickets-turned, completion-turned, completion-step, tickets-step, completion-reap, tickets-reap, completion-discard, tickets-discard}
 use Rattle.usb_bus.specs.Completions.{transfer_completion}
 use Rattle.usb_bus.specs.Completions.{CompletesOnly}
-use Rattle.usb_device.specs.declared.ends.TicketEnd.TheVariants.{Reclaimed}
+use Rattle.usb_ledger.specs.declared.ends.TicketEnd.TheVariants.{Reclaimed}
 use Rattle.usb_device.specs.declared.opened.OpenDevice.{OpenDevice}
-use Rattle.usb_device.specs.declared.owners.EndedClaim.{EndedClaim}
-use Rattle.usb_device.specs.declared.slot.TicketState.{TicketState}
-use Rattle.usb_device.specs.declared.slot.TicketState.TheVariants as slot
-use Rattle.usb_device.specs.HostState.{HostState, Ended}
+use Rattle.usb_ledger.specs.declared.owners.EndedClaim.{EndedClaim}
+use Rattle.usb_ledger.specs.declared.slot.TicketState.{TicketState}
+use Rattle.usb_ledger.specs.declared.slot.TicketState.TheVariants as slot
+use Rattle.usb_ledger.specs.Entries.{Ended}
+use Rattle.usb_device.specs.HostState.{HostState}
 use Rattle.usb_device.specs.HostFacts.{TicketsAgree, Fits, host_made}
-use Rattle.usb_device.specs.LedgerState.{LedgerState, host_ticket, slot_with, abandoned_key, ended_with}
+use Rattle.usb_ledger.specs.LedgerState.{LedgerState, host_ticket, slot_with, abandoned_key, ended_with}
 use Rattle.usb_device.specs.Releases.{without_ended, settled}
 use Rattle.usb_device.specs.TicketEnds.{came, host_ended}
-use Rattle.usb_device.proofs.ListLemmas.{slice_get-set}
-use Rattle.usb_device.proofs.LedgerLemmas.{ticket-at, tickets-same}
+use Rattle.usb_ledger.proofs.ListLemmas.{slice_get-set}
+use Rattle.usb_ledger.proofs.LedgerLemmas.{ticket-at, tickets-same}
+use Rattle.usb_device.proofs.KernelFrames.{released-as}
 
 pub Fits-same : (past next : List Event) (t : ℕ) (s : TicketState) → completion next t ≡ completion past t → Fits past t s → Fits next t s
 unfolding transfer_completion
@@ -71,17 +73,17 @@ module _ (k : KernelState) (devices : List OpenDevice) (l : LedgerState) (steps 
   unfolding came host_ended
   came-reclaimed key at = rw (ticket-at l.slots done.ticket (slot.Abandoned key) at, ticket-at l.slots done.ticket (slot.Abandoned key) at) refl
 
-  pub came-slot : (s : TicketState) (l' : LedgerState) (ended : Option EndedClaim) (k' : KernelState) → slice_get l.slots done.ticket ≡ Some s → l' ≡ record l { slots = set l.slots done.ticket (slot_with done s) } → ended ≡ ended_with l' (abandoned_key s) → k' ≡ record k { devices = without_ended k.devices ended }
+  pub came-slot : (s : TicketState) (l' : LedgerState) (ended : Option EndedClaim) (k' : KernelState) → slice_get l.slots done.ticket ≡ Some s → l' ≡ record l { slots = set l.slots done.ticket (slot_with done s) } → ended ≡ ended_with l' (abandoned_key s) → k' ≡ without_ended k ended
       → host_made k' devices l' steps ≡ came (host_made k devices l steps) (Some done)
   unfolding settled
   came-slot (slot.HeldBy key transfer) l' ended k' at is claim kernel =
       let same = tickets-same l.slots done.ticket (slot.HeldBy key transfer) (slot_with done (slot.HeldBy key transfer)) at refl in
-      rw (kernel, claim, is, same) (sym (came-held key (slot.HeldBy key transfer) at refl))
+      rw (released-as k k' ended kernel, claim, is, same) (sym (came-held key (slot.HeldBy key transfer) at refl))
   came-slot (slot.Abandoned key) l' ended k' at is claim kernel =
-      rw (came-reclaimed key at, kernel, claim, is, map-set host_ticket l.slots done.ticket (slot.Ended Reclaimed)) refl
+      rw (came-reclaimed key at, released-as k k' ended kernel, claim, is, map-set host_ticket l.slots done.ticket (slot.Ended Reclaimed)) refl
   came-slot (slot.Ended end) l' ended k' at is claim kernel =
       let same = tickets-same l.slots done.ticket (slot.Ended end) (slot_with done (slot.Ended end)) at refl in
-      rw (kernel, claim, is, same) (sym (came-held 0 (slot.Ended end) at refl))
+      rw (released-as k k' ended kernel, claim, is, same) (sym (came-held 0 (slot.Ended end) at refl))
 
 pub came-none : (h : HostState) → came h None ≡ h
 unfolding came

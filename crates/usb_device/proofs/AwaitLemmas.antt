@@ -6,7 +6,7 @@ use Rattle.std.proofs.lemmas.Grind.{common_steps}
 use Rattle.std.proofs.lemmas.Option.{none-some, slice_get_within}
 use Rattle.usb_kernel.specs.declared.event.Event.{Event}
 use Rattle.usb_kernel.specs.declared.event.Event.TheVariants.{Reap}
-use Rattle.usb_kernel.specs.declared.step.KernelStep.{KernelStep}
+use Rattle.usb_simulated.specs.declared.step.KernelStep.{KernelStep}
 use Rattle.usb_kernel.specs.Tickets.{Ticket, tickets}
 use Rattle.usb_kernel.specs.Journal.{fate}
 use Rattle.usb_kernel.specs.Completions.{completion, completion_for, reapable, waiting, lowest}
@@ -18,7 +18,8 @@ use Rattle.usb_kernel.proofs.Deadlines.{timer-finishes, stays-finished}
 use Rattle.std.specs.Option.{option_map}
 use Rattle.usb_bus.specs.Completions.{transfer_completion, completion_of}
 use Rattle.usb_endpoint.specs.Waits.{time_is_up}
-use Rattle.usb_device.specs.HostState.{HostState, Hold}
+use Rattle.usb_ledger.specs.Entries.{Hold}
+use Rattle.usb_device.specs.HostState.{HostState}
 use Rattle.usb_device.specs.HostTurns.{host_stepped, host_reaped, host_turned, host_turn}
 use Rattle.usb_device.specs.HostCalls.{host_idled}
 use Rattle.usb_device.specs.HostWaits.{is_found}

@@ -10,14 +10,14 @@ use Rattle.usb_xfer.specs.Transfers.{buffer_held, IsFilled}
 use Rattle.usb_xfer.specs.declared.transfer.TransferData.{TransferData}
 use Rattle.usb_kernel.specs.declared.event.Event.{Event}
 use Rattle.usb_kernel.specs.declared.event.Event.TheVariants.{Reap}
-use Rattle.usb_kernel.specs.declared.step.KernelStep.{KernelStep}
-use Rattle.usb_kernel.specs.declared.step.KernelStep.TheVariants as step
+use Rattle.usb_simulated.specs.declared.step.KernelStep.{KernelStep}
+use Rattle.usb_simulated.specs.declared.step.KernelStep.TheVariants as step
 use Rattle.usb_kernel.specs.declared.submission.Done.{Done}
 use Rattle.usb_kernel.specs.Tickets.{tickets}
 use Rattle.usb_kernel.specs.Completions.{completion, waiting, lowest, reapable}
 use Rattle.usb_kernel.specs.Steps.{stepped, clock_stepped, after_step, after_reap, step_done, after_discard}
 use Rattle.usb_kernel.specs.Submits.{submit_refusal}
-use Rattle.usb_kernel.specs.Submissions.{IsErrno}
+use Rattle.usb_simulated.specs.Errnos.{IsErrno}
 use Rattle.usb_bus.specs.declared.route.Route.{Route}
 use Rattle.usb_bus.specs.declared.route.Turn.{Turn}
 use Rattle.usb_bus.specs.declared.route.Turn.TheVariants.{TimeUp}
@@ -31,8 +31,9 @@ use Rattle.usb_bus.specs.Routes.{submission_of}
 use Rattle.usb_bus.specs.Submitted.{Entered}
 use Rattle.usb_bus.specs.Turns.{Falls}
 use Rattle.usb_bus.specs.Turns.{reap_turn}
-use Rattle.usb_device.specs.declared.ends.TicketEnd.TheVariants.{Dropped, Reclaimed}
-use Rattle.usb_device.specs.HostState.{HostState, HostTicket, HostEndpoint, Hold, HeldBy, Abandoned, Ended}
+use Rattle.usb_ledger.specs.declared.ends.TicketEnd.TheVariants.{Dropped, Reclaimed}
+use Rattle.usb_ledger.specs.Entries.{HostTicket, HostEndpoint, Hold, HeldBy, Abandoned, Ended}
+use Rattle.usb_device.specs.HostState.{HostState}
 use Rattle.usb_device.specs.HostBus.{bus_of, owner_at, held_as, key_at, turns_left}
 use Rattle.usb_device.specs.HostBusFacts.{owner_at-set, bus_of-ended, bus_of-settled, without_owner-none}
 use Rattle.usb_device.specs.HostCalls.{host_submitted, host_refused, host_left, host_discarded, submitted_with, refused_with}

@@ -11,9 +11,10 @@ use Rattle.usb_kernel.specs.Completions.{completion}
 use Rattle.usb_bus.specs.declared.route.Route.{Route}
 use Rattle.usb_bus.specs.BusState.{without_owner, without_key}
 use Rattle.usb_endpoint.proofs.HandleLemmas.{without_owner-other}
-use Rattle.usb_device.specs.declared.ends.TicketEnd.{TicketEnd}
-use Rattle.usb_device.specs.declared.ends.TicketEnd.TheVariants.{Taken, Dropped}
-use Rattle.usb_device.specs.HostState.{HostState, HostTicket, HostEndpoint, Hold, HeldBy, Abandoned, Ended}
+use Rattle.usb_ledger.specs.declared.ends.TicketEnd.{TicketEnd}
+use Rattle.usb_ledger.specs.declared.ends.TicketEnd.TheVariants.{Taken, Dropped}
+use Rattle.usb_ledger.specs.Entries.{HostTicket, HostEndpoint, Hold, HeldBy, Abandoned, Ended}
+use Rattle.usb_device.specs.HostState.{HostState}
 use Rattle.usb_device.specs.Releases.{settled}
 use Rattle.usb_device.specs.TicketEnds.{ended_as, host_ended, host_taken, given_up, host_abandoned}
 use Rattle.usb_device.specs.HostCalls.{submitted_with, host_submitted, refused_with, host_refused, closed_if, host_left}
@@ -156,8 +157,8 @@ closed_if-keys h k (Some e) at =
     without_key-at (key_at h.endpoints) (key_at (set h.endpoints k (record e { is_open = false }))) k (key-set h.endpoints k e)
     (λ j ne. key-set_other h.endpoints k j (record e { is_open = false }) ne)
 
--- the close of an endpoint changes endpoints, and devices of the kernel
-closed_if-is : (h : HostState) (k : ℕ) (o : Option HostEndpoint) → closed_if h k o ≡ record h { kernel = record h.kernel { devices = (closed_if h k o).kernel.devices }; endpoints = (closed_if h k o).endpoints }
+-- the close of an endpoint changes endpoints, devices of the kernel and what is armed there
+closed_if-is : (h : HostState) (k : ℕ) (o : Option HostEndpoint) → closed_if h k o ≡ record h { kernel = record h.kernel { devices = (closed_if h k o).kernel.devices; armed = (closed_if h k o).kernel.armed }; endpoints = (closed_if h k o).endpoints }
 unfolding settled
 closed_if-is h k None = refl
 closed_if-is h k (Some e) = refl

@@ -10,11 +10,13 @@ use Rattle.usb_kernel.proofs.Completions.{completion-discard}
 use Rattle.usb_kernel.proofs.Places.{slice_get-set_other}
 use Rattle.usb_endpoint.specs.Closes.{all_discarded, all_abandoned}
 use Rattle.usb_endpoint.specs.Handles.{AreHeld, IsApart}
-use Rattle.usb_device.specs.declared.ends.TicketEnd.{TicketEnd}
-use Rattle.usb_device.specs.declared.ends.TicketEnd.TheVariants.{Dropped}
+use Rattle.usb_ledger.specs.declared.ends.TicketEnd.{TicketEnd}
+use Rattle.usb_ledger.specs.declared.ends.TicketEnd.TheVariants.{Dropped}
 use Rattle.usb_device.specs.EndLaws.{DroppedWhereReaped}
-use Rattle.usb_device.specs.HostState.{HostState, HostTicket, HostEndpoint, Hold, HeldBy, Abandoned, Ended}
-use Rattle.usb_device.specs.HostBus.{owner_at, end_at, ended_at, held_as}
+use Rattle.usb_ledger.specs.Entries.{HostTicket, HostEndpoint, Hold, HeldBy, Abandoned, Ended}
+use Rattle.usb_device.specs.HostState.{HostState}
+use Rattle.usb_ledger.specs.EndedTickets.{end_at, ended_at}
+use Rattle.usb_device.specs.HostBus.{owner_at, held_as}
 use Rattle.usb_device.specs.HostCalls.{host_discarded, host_left, closed_if}
 use Rattle.usb_device.specs.Releases.{settled}
 use Rattle.usb_device.specs.TicketEnds.{ended_as, host_ended, given_up, host_abandoned}

@@ -4,7 +4,8 @@ use Rattle.std.specs.Prelude.{is_some, if◌then◌else◌}
 use Rattle.std.proofs.lemmas.Bool.{cond_both}
 use Rattle.usb_xfer.specs.BufferState.{BufferState}
 use Rattle.usb_kernel.specs.declared.event.Event.{Event}
-use Rattle.usb_kernel.specs.declared.step.KernelStep.{KernelStep}
+use Rattle.usb_kernel.specs.Value.{KernelState}
+use Rattle.usb_simulated.specs.declared.step.KernelStep.{KernelStep}
 use Rattle.usb_kernel.specs.declared.submission.Submission.{Submission}
 use Rattle.usb_kernel.specs.declared.submission.Done.{Done}
 use Rattle.usb_kernel.specs.Tickets.{Ticket, tickets}
@@ -17,10 +18,11 @@ use Rattle.usb_bus.specs.Routes.{submission_of}
 use Rattle.usb_endpoint.specs.EndpointState.{EndpointState, route_of}
 use Rattle.usb_endpoint.specs.Submits.{is_valid, transfer_by, entered}
 use Rattle.usb_endpoint.specs.Closes.{all_discarded, all_abandoned, after_close}
-use Rattle.usb_device.specs.declared.ends.TicketEnd.{TicketEnd}
-use Rattle.usb_device.specs.declared.ends.TicketEnd.TheVariants.{Taken, Dropped, Reclaimed}
+use Rattle.usb_ledger.specs.declared.ends.TicketEnd.{TicketEnd}
+use Rattle.usb_ledger.specs.declared.ends.TicketEnd.TheVariants.{Taken, Dropped, Reclaimed}
 use Rattle.usb_device.specs.declared.opened.OpenDevice.{OpenDevice}
-use Rattle.usb_device.specs.HostState.{HostState, HostTicket, HostEndpoint, ClaimedInterface, fresh_interface, HeldBy, Abandoned, Ended}
+use Rattle.usb_ledger.specs.Entries.{HostTicket, HostEndpoint, ClaimedInterface, fresh_interface, HeldBy, Abandoned, Ended}
+use Rattle.usb_device.specs.HostState.{HostState}
 use Rattle.usb_device.specs.Releases.{settled, owner_gone}
 use Rattle.usb_device.specs.TicketEnds.{ended_as, host_ended, host_taken, given_up, host_abandoned, reclaimed_if, came}
 use Rattle.usb_device.specs.HostTurns.{with_past, host_stepped, host_reaped, all_stepped, host_rest}
@@ -32,6 +34,7 @@ use Rattle.usb_error.specs.ErrorState.{ErrorState}
 use Rattle.usb_kernel.specs.Calls.{called}
 use Rattle.usb_device.specs.InterfaceClaims.{claim_tried, kernel_claimed, claimed_by, claimed_on, host_claimed}
 use Rattle.usb_device.specs.EndpointOpens.{asked_on, host_asked}
+use Rattle.usb_device.proofs.KernelFrames.{kernel_claimed-is}
 
 -- no ticket was added
 pub record KeepsCount (old new : HostState) : Type 0 where
@@ -205,15 +208,15 @@ claimed_by-count : (h g : HostState) (c : ClaimedInterface) (r : Result (Unit {0
 claimed_by-count h g c (Err error) keeps = keeps
 claimed_by-count h g c (Ok done) keeps = record { count = keeps.count; past = keeps.past }
 
-claimed_on-count : (h : HostState) (key number : ℕ) (o : Option OpenDevice) → KeepsCount h (claimed_on h key number o)
-unfolding called
-claimed_on-count h key number None = count-same h
-claimed_on-count h key number (Some o) =
-    claimed_by-count h (record h { kernel = kernel_claimed h.kernel o number }) (fresh_interface key o.device number) (claim_tried h o number) (record { count = refl; past = refl })
+claimed_on-count : (h : HostState) (key number : ℕ) (reattach : Bool) (o : Option OpenDevice) → KeepsCount h (claimed_on h key number reattach o)
+claimed_on-count h key number reattach None = count-same h
+claimed_on-count h key number reattach (Some o) =
+    claimed_by-count h (record h { kernel = kernel_claimed h.kernel o number reattach }) (fresh_interface key o.device number reattach) (claim_tried h o number reattach)
+    (record { count = refl; past = ap (λ (k : KernelState). length (tickets k.past)) (kernel_claimed-is h.kernel o number reattach) })
 
-pub claimed-count : (h : HostState) (key number : ℕ) → KeepsCount h (host_claimed h key number)
+pub claimed-count : (h : HostState) (key number : ℕ) (reattach : Bool) → KeepsCount h (host_claimed h key number reattach)
 unfolding host_claimed
-claimed-count h key number = claimed_on-count h key number (slice_get h.devices key)
+claimed-count h key number reattach = claimed_on-count h key number reattach (slice_get h.devices key)
 
 asked_on-count : (h : HostState) (key : ℕ) (o : Option OpenDevice) → KeepsCount h (asked_on h key o)
 unfolding called

@@ -7,25 +7,29 @@ use Rattle.usb_xfer.specs.BufferState.{BufferState}
 use Rattle.usb_xfer.specs.declared.transfer.TransferData.{TransferData}
 use Rattle.usb_xfer.specs.Transfers.{buffer_held}
 use Rattle.usb_error.specs.ErrorState.{ErrorState}
-use Rattle.usb_kernel.specs.declared.step.KernelStep.{KernelStep}
+use Rattle.usb_simulated.specs.declared.step.KernelStep.{KernelStep}
 use Rattle.usb_kernel.specs.declared.submission.Done.{Done}
 use Rattle.usb_kernel.specs.Tickets.{tickets}
 use Rattle.usb_kernel.specs.Completions.{completion, lowest, reapable}
 use Rattle.usb_kernel.specs.Steps.{after_step, step_done, after_reap}
 use Rattle.usb_kernel.proofs.Places.{slice_get-append_left, slice_get-set_other}
 use Rattle.usb_bus.specs.declared.route.Route.{Route}
-use Rattle.usb_device.specs.declared.ends.TicketEnd.{TicketEnd}
-use Rattle.usb_device.specs.declared.ends.TicketEnd.TheVariants.{Taken, Dropped, Reclaimed}
+use Rattle.usb_ledger.specs.declared.ends.TicketEnd.{TicketEnd}
+use Rattle.usb_ledger.specs.declared.ends.TicketEnd.TheVariants.{Taken, Dropped, Reclaimed}
 use Rattle.usb_device.specs.declared.opened.OpenDevice.{OpenDevice}
-use Rattle.usb_device.specs.HostState.{HostState, HostTicket, HostEndpoint, ClaimedInterface, fresh_interface, HeldBy, Abandoned, Ended}
-use Rattle.usb_device.specs.HostBus.{end_at, ended_at}
+use Rattle.usb_ledger.specs.Entries.{HostTicket, HostEndpoint, ClaimedInterface, fresh_interface, HeldBy, Abandoned, Ended}
+use Rattle.usb_device.specs.HostState.{HostState}
+use Rattle.usb_ledger.specs.EndedTickets.{end_at, ended_at}
 use Rattle.usb_device.specs.EndLaws.{KeepsEnds, EndsStay}
 use Rattle.usb_device.specs.Releases.{settled, owner_gone}
 use Rattle.usb_device.specs.TicketEnds.{ended_as, host_ended, host_taken, given_up, host_abandoned, reclaimed_if, came}
 use Rattle.usb_device.specs.HostTurns.{host_stepped, host_reaped, reaped_of, turned_of, host_turned, all_stepped, host_rest}
 use Rattle.usb_device.specs.HostCalls.{submitted_with, host_submitted, refused_with, host_refused, host_discarded, closed_if, host_left}
 use Rattle.usb_device.specs.Finishes.{discarded_below, reaped_below, finished}
-use Rattle.usb_device.specs.Handles.{handle_gone, handle_closed}
+use Rattle.usb_device.specs.Handles.{handle_added, handle_cloned, handle_gone, handle_closed}
+use Rattle.usb_ledger.specs.Owners.{has_living}
+use Rattle.usb_device.specs.OnDevices.{detached_on, host_detached, attached_on, host_attached, reset_on, host_reset, configured_on, host_configured, speed_asked_on, host_speed_asked}
+use Rattle.usb_device.specs.OnInterfaces.{alt_setting_asked, alt_setting_on, alt_setting_set}
 use Rattle.usb_device.specs.Opens.{open_tried, opened_by, host_opened}
 use Rattle.usb_device.specs.InterfaceClaims.{claim_tried, kernel_claimed, claimed_by, claimed_on, host_claimed}
 use Rattle.usb_device.specs.EndpointOpens.{asked_on, host_asked}
@@ -164,13 +168,13 @@ claimed_by-ends : (h : HostState) (c : ClaimedInterface) (r : Result (Unit {0}) 
 claimed_by-ends h c (Err error) = same h
 claimed_by-ends h c (Ok done) = λ t end at. at
 
-claimed-by : (h : HostState) (key number : ℕ) (o : Option OpenDevice) → KeepsEnds h (claimed_on h key number o)
-claimed-by h key number None = same h
-claimed-by h key number (Some o) = claimed_by-ends (record h { kernel = kernel_claimed h.kernel o number }) (fresh_interface key o.device number) (claim_tried h o number)
+claimed-by : (h : HostState) (key number : ℕ) (reattach : Bool) (o : Option OpenDevice) → KeepsEnds h (claimed_on h key number reattach o)
+claimed-by h key number reattach None = same h
+claimed-by h key number reattach (Some o) = claimed_by-ends (record h { kernel = kernel_claimed h.kernel o number reattach }) (fresh_interface key o.device number reattach) (claim_tried h o number reattach)
 
-claimed-ends : (h : HostState) (key number : ℕ) → KeepsEnds h (host_claimed h key number)
+claimed-ends : (h : HostState) (key number : ℕ) (reattach : Bool) → KeepsEnds h (host_claimed h key number reattach)
 unfolding host_claimed
-claimed-ends h key number = claimed-by h key number (slice_get h.devices key)
+claimed-ends h key number reattach = claimed-by h key number reattach (slice_get h.devices key)
 
 handle-by : (h : HostState) (i : ℕ) (o : Option ClaimedInterface) → KeepsEnds h (handle_gone h i o)
 unfolding owner_gone
@@ -180,6 +184,66 @@ handle-by h i (Some c) = λ t end at. at
 handle-ends : (h : HostState) (i : ℕ) → KeepsEnds h (handle_closed h i)
 unfolding handle_closed
 handle-ends h i = handle-by h i (slice_get h.interfaces i)
+
+cloned-by : (h : HostState) (i : ℕ) (o : Option ClaimedInterface) → KeepsEnds h (handle_added h i o)
+cloned-by h i None = same h
+cloned-by h i (Some c) = λ t end at. at
+
+cloned-ends : (h : HostState) (i : ℕ) → KeepsEnds h (handle_cloned h i)
+unfolding handle_cloned
+cloned-ends h i = cloned-by h i (slice_get h.interfaces i)
+
+setting-unless : (h : HostState) (i setting : ℕ) (c : ClaimedInterface) (living : Bool) → KeepsEnds h (cond living h (alt_setting_asked h i setting c))
+setting-unless h i setting c true = same h
+setting-unless h i setting c false = λ t end at. at
+
+setting-by : (h : HostState) (i setting : ℕ) (o : Option ClaimedInterface) → KeepsEnds h (alt_setting_on h i setting o)
+setting-by h i setting None = same h
+setting-by h i setting (Some c) = setting-unless h i setting c (has_living h.tickets h.endpoints i)
+
+setting-ends : (h : HostState) (i setting : ℕ) → KeepsEnds h (alt_setting_set h i setting)
+unfolding alt_setting_set
+setting-ends h i setting = setting-by h i setting (slice_get h.interfaces i)
+
+configured-by : (h : HostState) (key value : ℕ) (o : Option OpenDevice) → KeepsEnds h (configured_on h key value o)
+configured-by h key value None = same h
+configured-by h key value (Some o) = λ t end at. at
+
+configured-ends : (h : HostState) (key value : ℕ) → KeepsEnds h (host_configured h key value)
+unfolding host_configured
+configured-ends h key value = configured-by h key value (slice_get h.devices key)
+
+reset-by : (h : HostState) (o : Option OpenDevice) → KeepsEnds h (reset_on h o)
+reset-by h None = same h
+reset-by h (Some o) = λ t end at. at
+
+reset-ends : (h : HostState) (key : ℕ) → KeepsEnds h (host_reset h key)
+unfolding host_reset
+reset-ends h key = reset-by h (slice_get h.devices key)
+
+detached-by : (h : HostState) (number : ℕ) (o : Option OpenDevice) → KeepsEnds h (detached_on h number o)
+detached-by h number None = same h
+detached-by h number (Some o) = λ t end at. at
+
+detached-ends : (h : HostState) (key number : ℕ) → KeepsEnds h (host_detached h key number)
+unfolding host_detached
+detached-ends h key number = detached-by h number (slice_get h.devices key)
+
+attached-by : (h : HostState) (number : ℕ) (o : Option OpenDevice) → KeepsEnds h (attached_on h number o)
+attached-by h number None = same h
+attached-by h number (Some o) = λ t end at. at
+
+attached-ends : (h : HostState) (key number : ℕ) → KeepsEnds h (host_attached h key number)
+unfolding host_attached
+attached-ends h key number = attached-by h number (slice_get h.devices key)
+
+speed-by : (h : HostState) (o : Option OpenDevice) → KeepsEnds h (speed_asked_on h o)
+speed-by h None = same h
+speed-by h (Some o) = λ t end at. at
+
+speed-ends : (h : HostState) (key : ℕ) → KeepsEnds h (host_speed_asked h key)
+unfolding host_speed_asked
+speed-ends h key = speed-by h (slice_get h.devices key)
 
 asked-by : (h : HostState) (key : ℕ) (o : Option OpenDevice) → KeepsEnds h (asked_on h key o)
 asked-by h key None = same h
@@ -219,7 +283,15 @@ ends_stay =
       leave = left-ends;
       open_device = opened-ends;
       claim = claimed-ends;
+      clone_handle = cloned-ends;
       close_handle = handle-ends;
+      set_alt_setting = setting-ends;
+      set_configuration = configured-ends;
+      reset = reset-ends;
+      detach = detached-ends;
+      attach = attached-ends;
+      ask_speed = speed-ends;
+      clear_halt = λ h device endpoint t end at. at;
       ask = asked-ends;
       open_endpoint = λ h interface address t end at. at;
       finish = finished-ends;

@@ -7,7 +7,7 @@ use Rattle.usb_xfer.specs.declared.transfer.TransferData.{TransferData}
 use Rattle.usb_xfer.specs.declared.transfer.Held.{Held as HeldData}
 use Rattle.usb_xfer.specs.Transfers.{buffer_held}
 use Rattle.usb_kernel.specs.declared.event.Event.{Event}
-use Rattle.usb_kernel.specs.declared.step.KernelStep.{KernelStep}
+use Rattle.usb_simulated.specs.declared.step.KernelStep.{KernelStep}
 use Rattle.usb_kernel.specs.declared.submission.Submission.{Submission}
 use Rattle.usb_kernel.specs.Value.{KernelState}
 use Rattle.usb_kernel.specs.Tickets.{tickets}
@@ -21,12 +21,12 @@ use Rattle.usb_bus.specs.Completions.{transfer_completion}
 use Rattle.usb_bus.specs.Holds.{held_of}
 use Rattle.usb_bus.specs.Holds.{held_at_once}
 use Rattle.usb_device.specs.declared.opened.OpenDevice.{OpenDevice}
-use Rattle.usb_device.specs.declared.slot.TicketState.{TicketState}
-use Rattle.usb_device.specs.declared.slot.TicketState.TheVariants as slot
+use Rattle.usb_ledger.specs.declared.slot.TicketState.{TicketState}
+use Rattle.usb_ledger.specs.declared.slot.TicketState.TheVariants as slot
 use Rattle.usb_device.specs.HostCalls.{host_submitted, host_refused}
 use Rattle.usb_device.specs.HostFacts.{TicketsAgree, host_made}
-use Rattle.usb_device.specs.LedgerState.{LedgerState}
-use Rattle.usb_device.proofs.ListLemmas.{slice_get-push}
+use Rattle.usb_ledger.specs.LedgerState.{LedgerState}
+use Rattle.usb_ledger.proofs.ListLemmas.{slice_get-push}
 use Rattle.usb_device.proofs.ArrivalLemmas.{Fits-same}
 
 entered-count : (past : List Event) (n : ℕ) (s : Submission) (refusal : Option ℕ) → length (tickets (submit_or_refuse n s refusal ∷ past)) ≡ length (tickets past) + 1

@@ -5,7 +5,8 @@ use Rattle.std.proofs.lemmas.Bool.{cases_eq, cases_Bool, cond_both}
 use Rattle.std.proofs.lemmas.Option.{none-some}
 use Rattle.usb_xfer.specs.BufferState.{BufferState}
 use Rattle.usb_kernel.specs.declared.event.Event.{Event}
-use Rattle.usb_kernel.specs.declared.step.KernelStep.{KernelStep}
+use Rattle.usb_kernel.specs.Value.{KernelState}
+use Rattle.usb_simulated.specs.declared.step.KernelStep.{KernelStep}
 use Rattle.usb_kernel.specs.declared.submission.Done.{Done}
 use Rattle.usb_kernel.specs.declared.submission.Submission.{Submission}
 use Rattle.usb_kernel.specs.Extends.{Extends}
@@ -20,9 +21,10 @@ use Rattle.usb_bus.specs.Routes.{submission_of}
 use Rattle.usb_endpoint.specs.EndpointState.{EndpointState, route_of}
 use Rattle.usb_endpoint.specs.Submits.{is_valid, transfer_by, entered}
 use Rattle.usb_endpoint.specs.Closes.{all_discarded}
-use Rattle.usb_device.specs.declared.ends.TicketEnd.TheVariants.{Taken, Dropped, Reclaimed}
+use Rattle.usb_ledger.specs.declared.ends.TicketEnd.TheVariants.{Taken, Dropped, Reclaimed}
 use Rattle.usb_device.specs.declared.opened.OpenDevice.{OpenDevice}
-use Rattle.usb_device.specs.HostState.{HostState, HostTicket, HostEndpoint, ClaimedInterface, fresh_interface, Hold, HeldBy, Abandoned, Ended}
+use Rattle.usb_ledger.specs.Entries.{HostTicket, HostEndpoint, ClaimedInterface, fresh_interface, Hold, HeldBy, Abandoned, Ended}
+use Rattle.usb_device.specs.HostState.{HostState}
 use Rattle.usb_device.specs.Releases.{settled, owner_gone}
 use Rattle.usb_device.specs.TicketEnds.{host_ended, host_taken, host_abandoned, reclaimed_if, came}
 use Rattle.usb_device.specs.HostTurns.{host_stepped, host_reaped, all_stepped, host_rest}
@@ -37,6 +39,7 @@ use Rattle.usb_device.specs.InterfaceClaims.{claim_tried, kernel_claimed, claime
 use Rattle.usb_device.specs.EndpointOpens.{asked_on, host_asked}
 use Rattle.usb_device.proofs.CloseLemmas.{ended-past, ended-others, by_set}
 use Rattle.usb_device.proofs.HostFrames.{uses-stepped, uses-reaped, uses-discarded}
+use Rattle.usb_device.proofs.KernelFrames.{kernel_claimed-is}
 
 -- a ticket that is held or has its end stays so; one that was given up may be reclaimed
 abbrev pub Follows : Option HostTicket → Option HostTicket → Type 0
@@ -224,14 +227,15 @@ claimed_by-on : (h g : HostState) (c : ClaimedInterface) (r : Result (Unit {0}) 
 claimed_by-on h g c (Err error) past tickets = on-kept h g past tickets
 claimed_by-on h g c (Ok done) past tickets = on-kept h (claimed_by g c (Ok done)) past tickets
 
-claimed_on-on : (h : HostState) (key number : ℕ) (o : Option OpenDevice) → KeepsTickets h (claimed_on h key number o)
-unfolding called
-claimed_on-on h key number None = on-same h
-claimed_on-on h key number (Some o) = claimed_by-on h (record h { kernel = kernel_claimed h.kernel o number }) (fresh_interface key o.device number) (claim_tried h o number) refl refl
+claimed_on-on : (h : HostState) (key number : ℕ) (reattach : Bool) (o : Option OpenDevice) → KeepsTickets h (claimed_on h key number reattach o)
+claimed_on-on h key number reattach None = on-same h
+claimed_on-on h key number reattach (Some o) =
+    claimed_by-on h (record h { kernel = kernel_claimed h.kernel o number reattach }) (fresh_interface key o.device number reattach) (claim_tried h o number reattach)
+    (ap (λ (k : KernelState). k.past) (kernel_claimed-is h.kernel o number reattach)) refl
 
-pub on-claimed : (h : HostState) (key number : ℕ) → KeepsTickets h (host_claimed h key number)
+pub on-claimed : (h : HostState) (key number : ℕ) (reattach : Bool) → KeepsTickets h (host_claimed h key number reattach)
 unfolding host_claimed
-on-claimed h key number = claimed_on-on h key number (slice_get h.devices key)
+on-claimed h key number reattach = claimed_on-on h key number reattach (slice_get h.devices key)
 
 asked_on-on : (h : HostState) (key : ℕ) (o : Option OpenDevice) → KeepsTickets h (asked_on h key o)
 unfolding called

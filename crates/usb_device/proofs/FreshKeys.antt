@@ -3,7 +3,8 @@ use Rattle.std.proofs.Common.{ℕ, zero, suc, arith, ◌≡◌, ◌<◌, true, f
 use Rattle.std.proofs.lemmas.Option.{slice_get_within}
 use Rattle.usb_endpoint.specs.EndpointState.{EndpointState}
 use Rattle.usb_endpoint.specs.Handles.{Stands}
-use Rattle.usb_device.specs.HostState.{HostState, HostEndpoint}
+use Rattle.usb_ledger.specs.Entries.{HostEndpoint}
+use Rattle.usb_device.specs.HostState.{HostState}
 use Rattle.usb_device.specs.HostBus.{key_at, bus_of}
 use Rattle.usb_device.specs.HandleStates.{InterfaceState, StandsInterface}
 

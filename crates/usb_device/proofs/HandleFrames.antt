@@ -1,5 +1,5 @@
 -- Handles over calls that may be refused.
-use Rattle.std.proofs.Common.{ℕ, arith, ◌≡◌, Result, Ok, Err, refl, sym, ap, subst, length}
+use Rattle.std.proofs.Common.{ℕ, arith, ◌≡◌, Bool, Result, Ok, Err, refl, sym, ap, subst, length}
 use Rattle.std.specs.Prelude.{OnOk, OnErr, List}
 use Rattle.usb_xfer.specs.BufferState.{BufferState}
 use Rattle.usb_endpoint.specs.EndpointState.{EndpointState}
@@ -55,5 +55,5 @@ bus-opened h bus address = ap bus_of (opened-is h bus address)
 pub bus-open : {A : Type 0} (h g : HostState) (bus address : ℕ) (r : Result A (Fail ErrorState)) → Leaves r g (host_opened h bus address) h → bus_of g ≡ bus_of h
 bus-open h g bus address r is = left (λ (x : HostState). bus_of x ≡ bus_of h) r g (host_opened h bus address) h is (bus-opened h bus address) refl
 
-pub bus-claim : {A : Type 0} (h g : HostState) (key number : ℕ) (r : Result A (Fail ErrorState)) → Leaves r g (host_claimed h key number) h → bus_of g ≡ bus_of h
-bus-claim h g key number r is = left (λ (x : HostState). bus_of x ≡ bus_of h) r g (host_claimed h key number) h is (bus-claimed h key number) refl
+pub bus-claim : {A : Type 0} (h g : HostState) (key number : ℕ) (reattach : Bool) (r : Result A (Fail ErrorState)) → Leaves r g (host_claimed h key number reattach) h → bus_of g ≡ bus_of h
+bus-claim h g key number reattach r is = left (λ (x : HostState). bus_of x ≡ bus_of h) r g (host_claimed h key number reattach) h is (bus-claimed h key number reattach) refl

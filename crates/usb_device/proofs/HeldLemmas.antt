@@ -10,7 +10,8 @@ use Rattle.usb_endpoint.specs.EndpointState.{EndpointState, route_of}
 use Rattle.usb_endpoint.specs.Submits.{is_valid, transfer_by, entered}
 use Rattle.usb_endpoint.specs.Closes.{all_discarded, all_abandoned, after_close}
 use Rattle.usb_endpoint.proofs.HandleLemmas.{without_owner-other}
-use Rattle.usb_device.specs.HostState.{HostState, HostTicket, Hold, HeldBy}
+use Rattle.usb_ledger.specs.Entries.{HostTicket, Hold, HeldBy}
+use Rattle.usb_device.specs.HostState.{HostState}
 use Rattle.usb_device.specs.HostBus.{owner_at, bus_of}
 use Rattle.usb_device.specs.TicketEnds.{host_taken, host_abandoned}
 use Rattle.usb_device.specs.HostCalls.{host_submitted, host_refused, host_discarded, host_left}

@@ -9,7 +9,7 @@ use Rattle.usb_xfer.specs.declared.transfer.TransferData.{TransferData}
 use Rattle.usb_xfer.specs.declared.transfer.Held.{Held as HeldData}
 use Rattle.usb_xfer.specs.Transfers.{completion_held}
 use Rattle.usb_kernel.specs.declared.event.Event.{Event}
-use Rattle.usb_kernel.specs.declared.step.KernelStep.{KernelStep}
+use Rattle.usb_simulated.specs.declared.step.KernelStep.{KernelStep}
 use Rattle.usb_kernel.specs.declared.submission.Done.{Done}
 use Rattle.usb_kernel.specs.Value.{KernelState}
 use Rattle.usb_kernel.specs.Completions.{completion, lowest}
@@ -19,22 +19,25 @@ use Rattle.usb_bus.specs.Completions.{completion_of, transfer_completion}
 use Rattle.usb_bus.specs.Holds.{held_of}
 use Rattle.usb_bus.specs.Holds.{transfer_with}
 use Rattle.usb_bus.specs.Turns.{reap_turn}
-use Rattle.usb_device.specs.declared.ends.TicketEnd.{TicketEnd}
-use Rattle.usb_device.specs.declared.ends.TicketEnd.TheVariants.{Dropped}
+use Rattle.usb_ledger.specs.declared.ends.TicketEnd.{TicketEnd}
+use Rattle.usb_ledger.specs.declared.ends.TicketEnd.TheVariants.{Dropped}
 use Rattle.usb_device.specs.declared.opened.OpenDevice.{OpenDevice}
-use Rattle.usb_device.specs.declared.owners.EndedClaim.{EndedClaim}
-use Rattle.usb_device.specs.declared.slot.TicketState.{TicketState}
-use Rattle.usb_device.specs.declared.slot.TicketState.TheVariants as slot
-use Rattle.usb_device.specs.HostState.{HostState, HostTicket, HostEndpoint, Hold, HeldBy, Abandoned, Ended}
+use Rattle.usb_ledger.specs.declared.owners.EndedClaim.{EndedClaim}
+use Rattle.usb_ledger.specs.declared.slot.TicketState.{TicketState}
+use Rattle.usb_ledger.specs.declared.slot.TicketState.TheVariants as slot
+use Rattle.usb_ledger.specs.Entries.{HostTicket, HostEndpoint, Hold, HeldBy, Abandoned, Ended}
+use Rattle.usb_device.specs.HostState.{HostState}
 use Rattle.usb_device.specs.HostBus.{hold_at, held_as, host_value, key_at}
 use Rattle.usb_device.specs.HostFacts.{TicketsAgree, host_made}
 use Rattle.usb_device.specs.HostCalls.{host_left}
-use Rattle.usb_device.specs.LedgerState.{LedgerState, host_ticket, slot_data, is_complete, ended_with}
-use Rattle.usb_device.specs.Releases.{without_ended, settled, claim_of}
+use Rattle.usb_ledger.specs.LedgerState.{LedgerState, host_ticket, slot_data, is_complete, ended_with}
+use Rattle.usb_ledger.specs.Releases.{claim_of}
+use Rattle.usb_device.specs.Releases.{without_ended, settled}
 use Rattle.usb_device.specs.HostTurns.{host_turned, host_turn, turned_of, reaped_of, turn_for, host_stepped, host_rest, all_stepped}
 use Rattle.usb_device.specs.TicketEnds.{host_ended, host_abandoned, reclaimed_if, came}
-use Rattle.usb_device.proofs.ListLemmas.{slice_get-set}
-use Rattle.usb_device.proofs.LedgerLemmas.{ticket-at}
+use Rattle.usb_ledger.proofs.ListLemmas.{slice_get-set}
+use Rattle.usb_ledger.proofs.LedgerLemmas.{ticket-at}
+use Rattle.usb_device.proofs.KernelFrames.{released-as}
 
 -- the slot of a ticket that an endpoint holds
 pub record HeldSlot (slots : List TicketState) (t : ℕ) : Type 0 where
@@ -100,10 +103,10 @@ module _ (k : KernelState) (devices : List OpenDevice) (l : LedgerState) (steps 
   unfolding host_ended
   ended-made end = rw (ticket-at l.slots t (slot.HeldBy w.key w.transfer) w.at) refl
 
-  pub ended-slot : (end : TicketEnd) (l' : LedgerState) (ended : Option EndedClaim) (k' : KernelState) → l' ≡ record l { slots = set l.slots t (slot.Ended end) } → ended ≡ ended_with l' (Some w.key) → k' ≡ record k { devices = without_ended k.devices ended }
+  pub ended-slot : (end : TicketEnd) (l' : LedgerState) (ended : Option EndedClaim) (k' : KernelState) → l' ≡ record l { slots = set l.slots t (slot.Ended end) } → ended ≡ ended_with l' (Some w.key) → k' ≡ without_ended k ended
       → host_made k' devices l' steps ≡ host_ended (host_made k devices l steps) t end
   unfolding settled
-  ended-slot end l' ended k' is claim kernel = rw (ended-made end, kernel, claim, is, map-set host_ticket l.slots t (slot.Ended end)) refl
+  ended-slot end l' ended k' is claim kernel = rw (ended-made end, released-as k k' ended kernel, claim, is, map-set host_ticket l.slots t (slot.Ended end)) refl
 
   -- it is given up
   pub abandoned-slot : (l' : LedgerState) → is_some (completion k.past t) ≡ false → l' ≡ record l { slots = set l.slots t (slot.Abandoned w.key) } → host_made k devices l' steps ≡ host_abandoned (host_made k devices l steps) t
@@ -134,9 +137,9 @@ open-at (e ∷ es) (suc k) open_ = let w = open-at es k open_ in record { e = w.
 
 -- it is left
 pub left-made : (k : KernelState) (devices : List OpenDevice) (l : LedgerState) (steps : List KernelStep) (key : ℕ) (w : OpenEndpoint l.endpoints key) (l' : LedgerState) (ended : Option EndedClaim) (k' : KernelState)
-    → l' ≡ record l { endpoints = set l.endpoints key (record w.e { is_open = false }) } → ended ≡ claim_of l'.interfaces (map host_ticket l'.slots) l'.endpoints key → k' ≡ record k { devices = without_ended k.devices ended } → host_made k' devices l' steps ≡ host_left (host_made k devices l steps) key
+    → l' ≡ record l { endpoints = set l.endpoints key (record w.e { is_open = false }) } → ended ≡ claim_of l'.interfaces (map host_ticket l'.slots) l'.endpoints key → k' ≡ without_ended k ended → host_made k' devices l' steps ≡ host_left (host_made k devices l steps) key
 unfolding host_left settled
-left-made k devices l steps key w l' ended k' is claim kernel = rw (w.at, kernel, claim, is) refl
+left-made k devices l steps key w l' ended k' is claim kernel = rw (w.at, released-as k k' ended kernel, claim, is) refl
 
 pub dropped : (h : HostState) (t : ℕ) → is_some (completion h.kernel.past t) ≡ true → host_abandoned h t ≡ host_ended h t Dropped
 unfolding host_abandoned

@@ -6,8 +6,8 @@ use Rattle.std.proofs.Math.Path.{fun_ext}
 use Rattle.std.proofs.lemmas.Option.{same_Some}
 use Rattle.usb_kernel.specs.declared.event.Event.{Event}
 use Rattle.usb_kernel.specs.declared.event.Event.TheVariants.{Discard, Reap}
-use Rattle.usb_kernel.specs.declared.step.KernelStep.{KernelStep}
-use Rattle.usb_kernel.specs.declared.step.KernelStep.TheVariants as step
+use Rattle.usb_simulated.specs.declared.step.KernelStep.{KernelStep}
+use Rattle.usb_simulated.specs.declared.step.KernelStep.TheVariants as step
 use Rattle.usb_kernel.specs.declared.submission.Done.{Done}
 use Rattle.usb_kernel.specs.Extends as journal
 use Rattle.usb_kernel.specs.Completions.{reapable, lowest}
@@ -18,9 +18,10 @@ use Rattle.usb_kernel.proofs.Extends.{extends-turned, extends-same, extends-if, 
 use Rattle.usb_bus.specs.BusState.{BusState}
 use Rattle.usb_bus.specs.Later.{Extends, IsLater}
 use Rattle.usb_bus.specs.Turns.{reap_turn}
-use Rattle.usb_device.specs.declared.ends.TicketEnd.{TicketEnd}
-use Rattle.usb_device.specs.declared.ends.TicketEnd.TheVariants.{Reclaimed}
-use Rattle.usb_device.specs.HostState.{HostState, HostTicket, Hold, HeldBy, Abandoned, Ended}
+use Rattle.usb_ledger.specs.declared.ends.TicketEnd.{TicketEnd}
+use Rattle.usb_ledger.specs.declared.ends.TicketEnd.TheVariants.{Reclaimed}
+use Rattle.usb_ledger.specs.Entries.{HostTicket, Hold, HeldBy, Abandoned, Ended}
+use Rattle.usb_device.specs.HostState.{HostState}
 use Rattle.usb_device.specs.Releases.{settled}
 use Rattle.usb_device.specs.TicketEnds.{ended_as, host_ended, reclaimed_if, came}
 use Rattle.usb_bus.specs.declared.route.Turn.TheVariants.{TimeUp}
@@ -29,22 +30,22 @@ use Rattle.usb_device.specs.HostCalls.{host_discarded, host_idled}
 use Rattle.usb_device.specs.HostBus.{held_as, owner_at, key_at, bus_of}
 use Rattle.usb_device.proofs.HostKeeps.{UsesPlaces}
 
--- the end of a ticket changes tickets, and devices of the kernel
-pub ended_as-is : (h : HostState) (t : ℕ) (end : TicketEnd) (o : Option HostTicket) → ended_as h t end o ≡ record h { kernel = record h.kernel { devices = (ended_as h t end o).kernel.devices }; tickets = (ended_as h t end o).tickets }
+-- the end of a ticket changes tickets, devices of the kernel and what is armed there
+pub ended_as-is : (h : HostState) (t : ℕ) (end : TicketEnd) (o : Option HostTicket) → ended_as h t end o ≡ record h { kernel = record h.kernel { devices = (ended_as h t end o).kernel.devices; armed = (ended_as h t end o).kernel.armed }; tickets = (ended_as h t end o).tickets }
 unfolding settled
 ended_as-is h t end None = refl
 ended_as-is h t end (Some (HeldBy hold)) = refl
 ended_as-is h t end (Some (Abandoned key)) = refl
 ended_as-is h t end (Some (Ended before)) = refl
 
-reclaimed_if-is : (h : HostState) (t : ℕ) (o : Option HostTicket) → reclaimed_if h t o ≡ record h { kernel = record h.kernel { devices = (reclaimed_if h t o).kernel.devices }; tickets = (reclaimed_if h t o).tickets }
+reclaimed_if-is : (h : HostState) (t : ℕ) (o : Option HostTicket) → reclaimed_if h t o ≡ record h { kernel = record h.kernel { devices = (reclaimed_if h t o).kernel.devices; armed = (reclaimed_if h t o).kernel.armed }; tickets = (reclaimed_if h t o).tickets }
 unfolding host_ended
 reclaimed_if-is h t None = refl
 reclaimed_if-is h t (Some (HeldBy hold)) = refl
 reclaimed_if-is h t (Some (Abandoned key)) = ended_as-is h t Reclaimed (slice_get h.tickets t)
 reclaimed_if-is h t (Some (Ended end)) = refl
 
-pub came-is : (h : HostState) (o : Option Done) → came h o ≡ record h { kernel = record h.kernel { devices = (came h o).kernel.devices }; tickets = (came h o).tickets }
+pub came-is : (h : HostState) (o : Option Done) → came h o ≡ record h { kernel = record h.kernel { devices = (came h o).kernel.devices; armed = (came h o).kernel.armed }; tickets = (came h o).tickets }
 unfolding came
 came-is h None = refl
 came-is h (Some done) = reclaimed_if-is h done.ticket (slice_get h.tickets done.ticket)

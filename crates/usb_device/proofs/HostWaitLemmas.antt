@@ -4,7 +4,7 @@ use Rattle.std.proofs.lemmas.Bool.{cases_Bool}
 use Rattle.std.proofs.lemmas.Option.{none-some, same_Some, slice_get_within}
 use Rattle.usb_kernel.specs.declared.event.Event.{Event}
 use Rattle.usb_kernel.specs.declared.event.Event.TheVariants.{Reap}
-use Rattle.usb_kernel.specs.declared.step.KernelStep.{KernelStep}
+use Rattle.usb_simulated.specs.declared.step.KernelStep.{KernelStep}
 use Rattle.usb_kernel.specs.Completions.{reapable, waiting, lowest}
 use Rattle.usb_kernel.specs.Steps.{after_reap}
 use Rattle.usb_kernel.proofs.Waiting.{lowest-reapable, waiting-one_less}

@@ -1,22 +1,24 @@
 -- The handles of interfaces over the calls of a host.
-use Rattle.std.proofs.Common.{ℕ, zero, suc, ◌≡◌, ◌≢◌, ◌-◌, List, [], ◌∷◌, ◌++◌, length, length-set, set, slice_get, Option, Some, None, refl, ◌∙◌, ap, ◌≤◌, arith, Result, Ok, Err, length-append}
+use Rattle.std.proofs.Common.{ℕ, zero, suc, ◌≡◌, ◌≢◌, ◌-◌, Bool, List, [], ◌∷◌, ◌++◌, length, length-set, set, slice_get, Option, Some, None, refl, ◌∙◌, ap, ◌≤◌, arith, Result, Ok, Err, length-append}
 use Rattle.std.proofs.lemmas.Option.{none-some}
 use Rattle.usb_device.specs.declared.opened.OpenDevice.{OpenDevice}
-use Rattle.usb_device.specs.HostState.{HostState, ClaimedInterface}
+use Rattle.usb_ledger.specs.Entries.{ClaimedInterface}
+use Rattle.usb_device.specs.HostState.{HostState}
 use Rattle.usb_device.specs.HostBus.{bus_of}
 use Rattle.usb_device.specs.Releases.{owner_gone}
 use Rattle.usb_device.specs.Handles.{handle_gone, handle_closed}
-use Rattle.usb_kernel.specs.declared.step.KernelCall.TheVariants as call
-use Rattle.usb_kernel.specs.Claims.{claim_rows, with_claim, no_rows}
+use Rattle.usb_simulated.specs.declared.step.KernelCall.TheVariants as call
+use Rattle.usb_simulated.specs.Claims.{no_rules}
 use Rattle.usb_kernel.specs.Value.{KernelState}
-use Rattle.usb_kernel.proofs.Answered.{asks-is, called-is}
+use Rattle.usb_kernel.proofs.Answered.{asks-is}
 use Rattle.usb_device.specs.InterfaceClaims.{claim_tried, kernel_claimed, claimed_by, claimed_on, host_claimed}
-use Rattle.usb_device.specs.HostState.{fresh_interface}
+use Rattle.usb_ledger.specs.Entries.{fresh_interface}
 use Rattle.usb_device.specs.EndpointOpens.{asked_on, host_asked}
 use Rattle.usb_device.specs.HandleStates.{InterfaceState, StandsInterface}
 use Rattle.usb_error.specs.ErrorState.{ErrorState}
 use Rattle.usb_device.specs.Opens.{open_tried, opened_by, host_opened}
 use Rattle.usb_device.proofs.HostKeeps.{KeepsLine}
+use Rattle.usb_device.proofs.KernelFrames.{kernel_claimed-is}
 use Rattle.usb_device.proofs.TryLemmas.{open-arms}
 
 -- a handle stands while the interfaces stay
@@ -30,8 +32,8 @@ StandsInterface-same h g f same more stands =
       device = omega (arith, stands.device, more);
     }
 
--- the close of a handle changes interfaces, and devices of the kernel
-handle_gone-is : (h : HostState) (i : ℕ) (o : Option ClaimedInterface) → handle_gone h i o ≡ record h { kernel = record h.kernel { devices = (handle_gone h i o).kernel.devices }; interfaces = (handle_gone h i o).interfaces }
+-- the close of a handle changes interfaces, devices of the kernel and what is armed there
+handle_gone-is : (h : HostState) (i : ℕ) (o : Option ClaimedInterface) → handle_gone h i o ≡ record h { kernel = record h.kernel { devices = (handle_gone h i o).kernel.devices; armed = (handle_gone h i o).kernel.armed }; interfaces = (handle_gone h i o).interfaces }
 unfolding owner_gone
 handle_gone-is h i None = refl
 handle_gone-is h i (Some c) = refl
@@ -77,19 +79,19 @@ claimed_by-is : (h : HostState) (k : KernelState) (c : ClaimedInterface) (r : Re
 claimed_by-is h k c (Err error) is = ap (λ (x : KernelState). record h { kernel = x }) is
 claimed_by-is h k c (Ok done) is = ap (λ (x : KernelState). record h { kernel = x; interfaces = h.interfaces ++ c ∷ [] }) is
 
-claimed_on-is : (h : HostState) (key number : ℕ) (o : Option OpenDevice) → claimed_on h key number o ≡ record h { kernel = record h.kernel { devices = (claimed_on h key number o).kernel.devices; armed = (claimed_on h key number o).kernel.armed }; interfaces = (claimed_on h key number o).interfaces }
-claimed_on-is h key number None = refl
-claimed_on-is h key number (Some o) =
-    claimed_by-is h (kernel_claimed h.kernel o number) (fresh_interface key o.device number) (claim_tried h o number) (called-is h.kernel o.device call.Claim (claim_rows number) (with_claim number))
+claimed_on-is : (h : HostState) (key number : ℕ) (reattach : Bool) (o : Option OpenDevice) → claimed_on h key number reattach o ≡ record h { kernel = record h.kernel { devices = (claimed_on h key number reattach o).kernel.devices; armed = (claimed_on h key number reattach o).kernel.armed }; interfaces = (claimed_on h key number reattach o).interfaces }
+claimed_on-is h key number reattach None = refl
+claimed_on-is h key number reattach (Some o) =
+    claimed_by-is h (kernel_claimed h.kernel o number reattach) (fresh_interface key o.device number reattach) (claim_tried h o number reattach) (kernel_claimed-is h.kernel o number reattach)
 
-pub bus-claimed : (h : HostState) (key number : ℕ) → bus_of (host_claimed h key number) ≡ bus_of h
+pub bus-claimed : (h : HostState) (key number : ℕ) (reattach : Bool) → bus_of (host_claimed h key number reattach) ≡ bus_of h
 unfolding host_claimed
-bus-claimed h key number = ap bus_of (claimed_on-is h key number (slice_get h.devices key))
+bus-claimed h key number reattach = ap bus_of (claimed_on-is h key number reattach (slice_get h.devices key))
 
-pub line-claimed : (h : HostState) (key number : ℕ) → KeepsLine h (host_claimed h key number)
+pub line-claimed : (h : HostState) (key number : ℕ) (reattach : Bool) → KeepsLine h (host_claimed h key number reattach)
 unfolding host_claimed
-line-claimed h key number =
-    let is = claimed_on-is h key number (slice_get h.devices key) in
+line-claimed h key number reattach =
+    let is = claimed_on-is h key number reattach (slice_get h.devices key) in
     record { steps = ap (λ (g : HostState). g.steps) is; spare = ap (λ (g : HostState). g.kernel.spare) is; devices = ap (λ (g : HostState). g.devices) is }
 
 get-push : {A : Type 0} (xs : List A) (y x : A) (k : ℕ) → slice_get xs k ≡ Some x → slice_get (xs ++ y ∷ []) k ≡ Some x
@@ -101,18 +103,18 @@ claimed_by-stays : (h : HostState) (d : ClaimedInterface) (r : Result (Unit {0})
 claimed_by-stays h d (Err error) k c at = at
 claimed_by-stays h d (Ok done) k c at = get-push h.interfaces d c k at
 
-claimed_on-stays : (h : HostState) (key number k : ℕ) (c : ClaimedInterface) (o : Option OpenDevice) → slice_get h.interfaces k ≡ Some c → slice_get (claimed_on h key number o).interfaces k ≡ Some c
-claimed_on-stays h key number k c None at = at
-claimed_on-stays h key number k c (Some o) at = claimed_by-stays (record h { kernel = kernel_claimed h.kernel o number }) (fresh_interface key o.device number) (claim_tried h o number) k c at
+claimed_on-stays : (h : HostState) (key number k : ℕ) (reattach : Bool) (c : ClaimedInterface) (o : Option OpenDevice) → slice_get h.interfaces k ≡ Some c → slice_get (claimed_on h key number reattach o).interfaces k ≡ Some c
+claimed_on-stays h key number k reattach c None at = at
+claimed_on-stays h key number k reattach c (Some o) at = claimed_by-stays (record h { kernel = kernel_claimed h.kernel o number reattach }) (fresh_interface key o.device number reattach) (claim_tried h o number reattach) k c at
 
 -- each handle stands over a claim
-pub StandsInterface-claimed : (h : HostState) (key number : ℕ) (f : InterfaceState) → StandsInterface h f → StandsInterface (host_claimed h key number) f
+pub StandsInterface-claimed : (h : HostState) (key number : ℕ) (reattach : Bool) (f : InterfaceState) → StandsInterface h f → StandsInterface (host_claimed h key number reattach) f
 unfolding host_claimed
-StandsInterface-claimed h key number f stands =
-    let same : length (claimed_on h key number (slice_get h.devices key)).devices ≡ length h.devices = ap (λ (g : HostState). length g.devices) (claimed_on-is h key number (slice_get h.devices key)) in
+StandsInterface-claimed h key number reattach f stands =
+    let same : length (claimed_on h key number reattach (slice_get h.devices key)).devices ≡ length h.devices = ap (λ (g : HostState). length g.devices) (claimed_on-is h key number reattach (slice_get h.devices key)) in
     record {
       claim = stands.claim;
-      at = claimed_on-stays h key number f.key stands.claim (slice_get h.devices key) stands.at;
+      at = claimed_on-stays h key number f.key reattach stands.claim (slice_get h.devices key) stands.at;
       number = stands.number;
       open_handle = stands.open_handle;
       device = omega (arith, stands.device, same);
@@ -124,7 +126,7 @@ armed_as k left = record k { armed = left.armed }
 
 asked_on-is : (h : HostState) (key : ℕ) (o : Option OpenDevice) → asked_on h key o ≡ record h { kernel = armed_as h.kernel (asked_on h key o).kernel; devices = (asked_on h key o).devices }
 asked_on-is h key None = refl
-asked_on-is h key (Some o) = ap (λ (k : KernelState). record h { kernel = k; devices = (asked_on h key (Some o)).devices }) (asks-is h.kernel o.device call.GetConfig no_rows)
+asked_on-is h key (Some o) = ap (λ (k : KernelState). record h { kernel = k; devices = (asked_on h key (Some o)).devices }) (asks-is h.kernel o.device call.GetConfig no_rules)
 
 pub asked-is : (h : HostState) (key : ℕ) → host_asked h key ≡ record h { kernel = armed_as h.kernel (host_asked h key).kernel; devices = (host_asked h key).devices }
 unfolding host_asked

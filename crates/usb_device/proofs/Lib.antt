@@ -1,6 +1,4 @@
-pub mod ListLemmas
-pub mod OwnerLemmas
-pub mod LedgerLemmas
+pub mod KernelFrames
 pub mod ArrivalLemmas
 pub mod HostCallLemmas
 pub mod EnterLemmas
@@ -29,3 +27,16 @@ pub mod FinishLemmas
 pub mod CloseLemmas
 pub mod CountLemmas
 pub mod HeldLemmas
+pub mod CalledHosts
+pub mod SettingLemmas
+pub mod OwnerLawLists
+pub mod OwnerLawKernel
+pub mod OwnerLawTells
+pub mod OwnerLawKept
+pub mod OwnerLawLosses
+pub mod OwnerLawTickets
+pub mod OwnerLawTurns
+pub mod OwnerLawCalls
+pub mod OwnerLawWaits
+pub mod OwnerLawClaims
+pub mod OwnerLaw

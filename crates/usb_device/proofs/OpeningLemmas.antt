@@ -1,5 +1,5 @@
 -- Devices are opened and interfaces claimed.
-use Rattle.std.proofs.Common.{ℕ, arith, ◌≡◌, ◌<◌, List, [], ◌∷◌, ◌++◌, length, set, slice_get, Option, Some, Result, Ok, Err, refl, ◌∙◌, ap, sym}
+use Rattle.std.proofs.Common.{ℕ, arith, ◌≡◌, ◌<◌, Bool, List, [], ◌∷◌, ◌++◌, length, set, slice_get, Option, Some, Result, Ok, Err, refl, ◌∙◌, ap, sym}
 use Rattle.std.specs.Prelude.{IfOk, IfErr, OnOk, OnErr}
 use Rattle.usb_desc.specs.declared.error.Fail.{Fail}
 use Rattle.usb_desc.specs.declared.error.Fail.TheVariants.{Cause, Memory}
@@ -11,10 +11,10 @@ use Rattle.usb_device.specs.HostState.{HostState}
 use Rattle.usb_device.specs.Opens.{descriptors_tried, open_tried, open_key, with_key, host_opened, with_opened, opened_by}
 use Rattle.usb_error.specs.Outcomes.{Tried}
 use Rattle.std.specs.Prelude.{◌-◌, map}
-use Rattle.usb_kernel.specs.declared.step.KernelStep.{KernelStep}
+use Rattle.usb_simulated.specs.declared.step.KernelStep.{KernelStep}
 use Rattle.usb_kernel.specs.Value.{KernelState}
-use Rattle.usb_device.specs.declared.owners.EndedClaim.{EndedClaim}
-use Rattle.usb_device.specs.HostState.{ClaimedInterface, fresh_interface}
+use Rattle.usb_ledger.specs.declared.owners.EndedClaim.{EndedClaim}
+use Rattle.usb_ledger.specs.Entries.{ClaimedInterface, fresh_interface}
 use Rattle.usb_device.specs.HostFacts.{host_made}
 use Rattle.usb_device.specs.Handles.{handle_closed}
 use Rattle.usb_device.specs.HandleStates.{StandsDevice, StandsInterface}
@@ -25,8 +25,10 @@ use Rattle.usb_device.specs.CallErrors.{Leaves}
 use Rattle.usb_device.proofs.Left.{left}
 use Rattle.usb_device.proofs.TryLemmas.{open-uses_none, open-arms}
 use Rattle.usb_device.proofs.InterfaceFrames.{line-claimed}
-use Rattle.usb_device.specs.LedgerState.{LedgerState, host_ticket}
-use Rattle.usb_device.specs.Releases.{without_ended, claim_ended, owner_gone}
+use Rattle.usb_device.proofs.KernelFrames.{released-as}
+use Rattle.usb_ledger.specs.LedgerState.{LedgerState, host_ticket}
+use Rattle.usb_ledger.specs.Releases.{claim_ended}
+use Rattle.usb_device.specs.Releases.{without_ended, owner_gone}
 
 -- a device is opened: the key, and the host
 pub opened-key : (h : HostState) (bus address : ℕ) (o : OpenDevice) (r : Result ℕ (Fail ErrorState)) → (open_tried bus address h.kernel).answer ≡ Ok o → IfOk r (λ key. key ≡ length h.devices) → IfErr r (λ error. error ≡ Memory) → Tried r (open_key h bus address)
@@ -80,23 +82,23 @@ read-refused k new bus address device (Cause error) opened tried left = rw (open
 read-refused k new bus address device Memory opened tried left = left ∙ opens-use_none k bus address device opened
 
 -- what a claim leaves
-pub claimed-refused : (h : HostState) (key number : ℕ) (o : OpenDevice) (error : ErrorState) → slice_get h.devices key ≡ Some o → claim_tried h o number ≡ Err error
-    → host_claimed h key number ≡ record h { kernel = kernel_claimed h.kernel o number }
+pub claimed-refused : (h : HostState) (key number : ℕ) (reattach : Bool) (o : OpenDevice) (error : ErrorState) → slice_get h.devices key ≡ Some o → claim_tried h o number reattach ≡ Err error
+    → host_claimed h key number reattach ≡ record h { kernel = kernel_claimed h.kernel o number reattach }
 unfolding host_claimed
-claimed-refused h key number o error at refused =
-    ap (claimed_on h key number) at ∙ ap (claimed_by (record h { kernel = kernel_claimed h.kernel o number }) (fresh_interface key o.device number)) refused
+claimed-refused h key number reattach o error at refused =
+    ap (claimed_on h key number reattach) at ∙ ap (claimed_by (record h { kernel = kernel_claimed h.kernel o number reattach }) (fresh_interface key o.device number reattach)) refused
 
-pub claimed-at : (h : HostState) (key number : ℕ) (o : OpenDevice) (done : Unit {0}) → slice_get h.devices key ≡ Some o → claim_tried h o number ≡ Ok done
-    → host_claimed h key number ≡ record h { kernel = kernel_claimed h.kernel o number; interfaces = h.interfaces ++ fresh_interface key o.device number ∷ [] }
+pub claimed-at : (h : HostState) (key number : ℕ) (reattach : Bool) (o : OpenDevice) (done : Unit {0}) → slice_get h.devices key ≡ Some o → claim_tried h o number reattach ≡ Ok done
+    → host_claimed h key number reattach ≡ record h { kernel = kernel_claimed h.kernel o number reattach; interfaces = h.interfaces ++ fresh_interface key o.device number reattach ∷ [] }
 unfolding host_claimed
-claimed-at h key number o done at made =
-    ap (claimed_on h key number) at ∙ ap (claimed_by (record h { kernel = kernel_claimed h.kernel o number }) (fresh_interface key o.device number)) made
+claimed-at h key number reattach o done at made =
+    ap (claimed_on h key number reattach) at ∙ ap (claimed_by (record h { kernel = kernel_claimed h.kernel o number reattach }) (fresh_interface key o.device number reattach)) made
 
 -- a handle that is closed
 pub closed-made : (k : KernelState) (devices : List OpenDevice) (l : LedgerState) (steps : List KernelStep) (i : ℕ) (c : ClaimedInterface) (l' : LedgerState) (ended : Option EndedClaim) (k' : KernelState) → slice_get l.interfaces i ≡ Some c
-    → l' ≡ record l { interfaces = set l.interfaces i (record c { handles = c.handles - 1 }) } → ended ≡ claim_ended l'.interfaces (map host_ticket l'.slots) l'.endpoints i → k' ≡ record k { devices = without_ended k.devices ended } → host_made k' devices l' steps ≡ handle_closed (host_made k devices l steps) i
+    → l' ≡ record l { interfaces = set l.interfaces i (record c { handles = c.handles - 1 }) } → ended ≡ claim_ended l'.interfaces (map host_ticket l'.slots) l'.endpoints i → k' ≡ without_ended k ended → host_made k' devices l' steps ≡ handle_closed (host_made k devices l steps) i
 unfolding handle_closed owner_gone
-closed-made k devices l steps i c l' ended k' at is claim kernel = rw (at, kernel, claim, is) refl
+closed-made k devices l steps i c l' ended k' at is claim kernel = rw (at, released-as k k' ended kernel, claim, is) refl
 
 -- the handle of a device that was opened stands
 opened-below : (h : HostState) (tried : Result OpenDevice ErrorState) (key : ℕ) → with_key (length h.devices) tried ≡ Ok key → key < length (opened_by h tried).devices
@@ -114,11 +116,11 @@ claimed-next : (next key : ℕ) (tried : Result (Unit {0}) ErrorState) → claim
 claimed-next next key (Err error) is = absurd (cc)
 claimed-next next key (Ok done) is = (cc, refl)
 
-pub claimed-stands : (h new : HostState) (device number key : ℕ) (o : OpenDevice) → slice_get h.devices device ≡ Some o → StandsDevice h device → claimed_key (length h.interfaces) (claim_tried h o number) ≡ Ok key → new ≡ host_claimed h device number → StandsInterface new (record { key = key; number = number })
-claimed-stands h new device number key o at stands is made =
-    let next = claimed-next (length h.interfaces) key (claim_tried h o number) is in
-    let after = made ∙ claimed-at h device number o tt at next.1 in
-    let claim : ClaimedInterface = fresh_interface device o.device number in
+pub claimed-stands : (h new : HostState) (device number key : ℕ) (reattach : Bool) (o : OpenDevice) → slice_get h.devices device ≡ Some o → StandsDevice h device → claimed_key (length h.interfaces) (claim_tried h o number reattach) ≡ Ok key → new ≡ host_claimed h device number reattach → StandsInterface new (record { key = key; number = number })
+claimed-stands h new device number key reattach o at stands is made =
+    let next = claimed-next (length h.interfaces) key (claim_tried h o number reattach) is in
+    let after = made ∙ claimed-at h device number reattach o tt at next.1 in
+    let claim : ClaimedInterface = fresh_interface device o.device number reattach in
     record {
       claim = claim;
       at = ap (λ (x : HostState). slice_get x.interfaces key) after ∙ ap (slice_get (h.interfaces ++ claim ∷ [])) next.0 ∙ slice_get-append_seam h.interfaces claim;
@@ -128,6 +130,6 @@ claimed-stands h new device number key o at stands is made =
     }
 
 -- the handle of the device stands as before
-pub claimed-device : {A : Type 0} (h new : HostState) (device number : ℕ) (r : Result A (Fail ErrorState)) → StandsDevice h device → Leaves r new (host_claimed h device number) h → StandsDevice new device
-claimed-device h new device number r stands is =
-    left (λ (g : HostState). StandsDevice g device) r new (host_claimed h device number) h is (rw (ap (λ (ds : List OpenDevice). length ds) (line-claimed h device number).devices) stands) stands
+pub claimed-device : {A : Type 0} (h new : HostState) (device number : ℕ) (reattach : Bool) (r : Result A (Fail ErrorState)) → StandsDevice h device → Leaves r new (host_claimed h device number reattach) h → StandsDevice new device
+claimed-device h new device number reattach r stands is =
+    left (λ (g : HostState). StandsDevice g device) r new (host_claimed h device number reattach) h is (rw (ap (λ (ds : List OpenDevice). length ds) (line-claimed h device number reattach).devices) stands) stands

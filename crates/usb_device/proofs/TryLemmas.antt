@@ -1,34 +1,34 @@
 -- What the steps of an open leave of the kernel.
 use Rattle.std.proofs.Common.{◌≡◌, ℕ, List, Result, Ok, Err, refl, ap, ◌∙◌}
 use Rattle.usb_desc.specs.Configurations.{device_of}
-use Rattle.usb_kernel.specs.declared.devices.DeviceState.{DeviceState}
-use Rattle.usb_kernel.specs.declared.step.KernelCall.TheVariants as call
-use Rattle.usb_kernel.specs.Claims.{no_rows}
+use Rattle.usb_simulated.specs.declared.devices.DeviceState.{DeviceState}
+use Rattle.usb_simulated.specs.declared.step.KernelCall.TheVariants as call
+use Rattle.usb_simulated.specs.Claims.{no_rules}
 use Rattle.usb_kernel.specs.Calls.{open_answer, asked}
 use Rattle.usb_kernel.specs.Value.{KernelState}
 use Rattle.usb_kernel.proofs.Answered.{asked-uses_none, opens-use_none, asks-is, opens-is}
 use Rattle.usb_error.specs.ErrorState.{ErrorState}
 use Rattle.usb_error.specs.Errors.{open_error, read_descriptors_error, configuration_error, invalid_device_descriptor_error}
 use Rattle.usb_device.specs.declared.opened.OpenDevice.{OpenDevice}
-use Rattle.usb_device.specs.CallErrors.{or_error}
-use Rattle.usb_device.specs.Tries.{Step, ◌>>=◌, going_on, present, giving}
+use Rattle.usb_endpoint.specs.CallErrors.{or_error}
+use Rattle.usb_device.specs.Tries.{Attempt, ◌>>=◌, going_on, present, giving}
 use Rattle.usb_device.specs.Opens.{device_tried, descriptors_tried, configuration_tried, open_tried}
 
 -- a step that leaves the kernel as it was where it answers, and one that only changes what is armed
-abbrev UsesNone : {A : Type 0} → (KernelState → Step A) → Type 0
+abbrev UsesNone : {A : Type 0} → (KernelState → Attempt A) → Type 0
 UsesNone {A} try = (k : KernelState) (x : A) → (try k).answer ≡ Ok x → (try k).kernel ≡ k
 
-abbrev Arms : {A : Type 0} → (KernelState → Step A) → Type 0
+abbrev Arms : {A : Type 0} → (KernelState → Attempt A) → Type 0
 Arms try = (k : KernelState) → (try k).kernel ≡ record k { armed = (try k).kernel.armed }
 
-then-uses_none : {A B : Type 0} (first : KernelState → Step A) (next : A → KernelState → Step B) → UsesNone first → ((x : A) → UsesNone (next x)) → UsesNone (first >>= next)
+then-uses_none : {A B : Type 0} (first : KernelState → Attempt A) (next : A → KernelState → Attempt B) → UsesNone first → ((x : A) → UsesNone (next x)) → UsesNone (first >>= next)
 then-uses_none {A} first next before behind k x is = by (first k).answer refl is
   where
     by : (r : Result A ErrorState) → (first k).answer ≡ r → (going_on next (first k).kernel r).answer ≡ Ok x → (going_on next (first k).kernel r).kernel ≡ k
     by (Ok y) here is = behind y (first k).kernel x is ∙ before k y here
     by (Err error) here is = absurd (cc)
 
-then-arms : {A B : Type 0} (first : KernelState → Step A) (next : A → KernelState → Step B) → Arms first → ((x : A) → Arms (next x)) → Arms (first >>= next)
+then-arms : {A B : Type 0} (first : KernelState → Attempt A) (next : A → KernelState → Attempt B) → Arms first → ((x : A) → Arms (next x)) → Arms (first >>= next)
 then-arms {A} first next before behind k = by (first k).answer
   where
     by : (r : Result A ErrorState) → (going_on next (first k).kernel r).kernel ≡ record k { armed = (going_on next (first k).kernel r).kernel.armed }
@@ -46,27 +46,27 @@ device-uses_none bus address k x is = opens-use_none k bus address x (answered o
 descriptors-uses_none : (device : ℕ) → UsesNone (descriptors_tried device)
 unfolding descriptors_tried
 descriptors-uses_none device k x is =
-    asked-uses_none k device call.ReadDesc no_rows (λ (d : DeviceState). d.bytes) x (answered read_descriptors_error (asked k device call.ReadDesc no_rows (λ (d : DeviceState). d.bytes)) x is)
+    asked-uses_none k device call.ReadDesc no_rules (λ (d : DeviceState). d.bytes) x (answered read_descriptors_error (asked k device call.ReadDesc no_rules (λ (d : DeviceState). d.bytes)) x is)
 
 configuration-uses_none : (device : ℕ) → UsesNone (configuration_tried device)
 configuration-uses_none device k x is =
-    asked-uses_none k device call.GetConfig no_rows (λ (d : DeviceState). d.configuration) x (answered (λ errno. configuration_error) (asked k device call.GetConfig no_rows (λ (d : DeviceState). d.configuration)) x is)
+    asked-uses_none k device call.GetConfig no_rules (λ (d : DeviceState). d.configuration) x (answered (λ errno. configuration_error) (asked k device call.GetConfig no_rules (λ (d : DeviceState). d.configuration)) x is)
 
 descriptors-arms : (device : ℕ) → Arms (descriptors_tried device)
 unfolding descriptors_tried
-descriptors-arms device k = asks-is k device call.ReadDesc no_rows
+descriptors-arms device k = asks-is k device call.ReadDesc no_rules
 
 -- what is tried behind each answer of an open
-abbrev with_value : ℕ → List ℕ → List ℕ → ℕ → KernelState → Step OpenDevice
+abbrev with_value : ℕ → List ℕ → List ℕ → ℕ → KernelState → Attempt OpenDevice
 with_value device bytes device_descriptor value = giving (record { device = device; configuration = value; device_descriptor = device_descriptor; descriptors = bytes })
 
-abbrev with_descriptor : ℕ → List ℕ → List ℕ → KernelState → Step OpenDevice
+abbrev with_descriptor : ℕ → List ℕ → List ℕ → KernelState → Attempt OpenDevice
 with_descriptor device bytes device_descriptor = configuration_tried device >>= with_value device bytes device_descriptor
 
-abbrev with_bytes : ℕ → List ℕ → KernelState → Step OpenDevice
+abbrev with_bytes : ℕ → List ℕ → KernelState → Attempt OpenDevice
 with_bytes device bytes = present invalid_device_descriptor_error (device_of bytes) >>= with_descriptor device bytes
 
-abbrev with_device : ℕ → KernelState → Step OpenDevice
+abbrev with_device : ℕ → KernelState → Attempt OpenDevice
 with_device device = descriptors_tried device >>= with_bytes device
 
 pub open-uses_none : (bus address : ℕ) (k : KernelState) (o : OpenDevice) → (open_tried bus address k).answer ≡ Ok o → (open_tried bus address k).kernel ≡ k
@@ -83,4 +83,4 @@ open-arms bus address =
     then-arms (device_tried bus address) with_device (λ k. opens-is k bus address) (λ device.
     then-arms (descriptors_tried device) (with_bytes device) (descriptors-arms device) (λ bytes.
     then-arms (present invalid_device_descriptor_error (device_of bytes)) (with_descriptor device bytes) (λ k. refl) (λ device_descriptor.
-    then-arms (configuration_tried device) (with_value device bytes device_descriptor) (λ k. asks-is k device call.GetConfig no_rows) (λ value k. refl))))
+    then-arms (configuration_tried device) (with_value device bytes device_descriptor) (λ k. asks-is k device call.GetConfig no_rules) (λ value k. refl))))

@@ -4,11 +4,12 @@ use Rattle.usb_desc.specs.declared.types.TransferType.TheVariants.{Bulk}
 use Rattle.usb_kernel.specs.declared.event.Event.{Event}
 use Rattle.usb_kernel.specs.declared.event.Event.TheVariants.{Submit, Packet, Discard, Reap}
 use Rattle.usb_kernel.specs.declared.event.Body.TheVariants.{Wanted}
-use Rattle.usb_kernel.specs.declared.step.KernelStep.{KernelStep}
-use Rattle.usb_kernel.specs.declared.step.KernelStep.TheVariants as step
+use Rattle.usb_simulated.specs.declared.step.KernelStep.{KernelStep}
+use Rattle.usb_simulated.specs.declared.step.KernelStep.TheVariants as step
 use Rattle.usb_kernel.specs.Completions.{completion}
 use Rattle.usb_bus.specs.Completions.{transfer_completion}
-use Rattle.usb_device.specs.HostState.{HostState, HeldBy}
+use Rattle.usb_ledger.specs.Entries.{HeldBy}
+use Rattle.usb_device.specs.HostState.{HostState}
 use Rattle.usb_device.specs.TicketEnds.{came}
 use Rattle.usb_device.specs.HostTurns.{host_stepped, host_reaped}
 use Rattle.usb_device.specs.HostCalls.{host_discarded}

@@ -1,24 +1,27 @@
 -- The ends of tickets.
-use Rattle.std.specs.Prelude.{ℕ, ◌≡◌, Some, None, is_some, slice_get, if◌then◌else◌}
-use Rattle.usb_kernel.specs.declared.step.KernelStep.{KernelStep}
+use Rattle.std.specs.Prelude.{ℕ, ◌≡◌, Bool, Some, None, is_some, slice_get, if◌then◌else◌}
+use Rattle.usb_simulated.specs.declared.step.KernelStep.{KernelStep}
 use Rattle.usb_xfer.specs.declared.transfer.TransferData.{TransferData}
 use Rattle.usb_bus.specs.declared.route.Route.{Route}
 use Rattle.usb_kernel.specs.Completions.{completion}
 use Rattle.usb_endpoint.specs.EndpointState.{EndpointState}
 use Rattle.usb_endpoint.specs.Handles.{Stands}
 use Rattle.usb_endpoint.specs.Closes.{after_close}
-use Rattle.usb_device.specs.declared.ends.TicketEnd.{TicketEnd}
-use Rattle.usb_device.specs.declared.ends.TicketEnd.TheVariants.{Dropped}
+use Rattle.usb_ledger.specs.declared.ends.TicketEnd.{TicketEnd}
+use Rattle.usb_ledger.specs.declared.ends.TicketEnd.TheVariants.{Dropped}
 use Rattle.usb_device.specs.HostState.{HostState}
-use Rattle.usb_device.specs.HostBus.{end_at, bus_of}
+use Rattle.usb_ledger.specs.EndedTickets.{end_at}
+use Rattle.usb_device.specs.HostBus.{bus_of}
 use Rattle.usb_device.specs.HostTurns.{host_stepped, host_turned, host_rest}
-use Rattle.usb_device.specs.HostCalls.{host_submitted, host_refused, host_discarded, host_left, host_idled}
+use Rattle.usb_device.specs.HostCalls.{host_submitted, host_refused, host_discarded, host_left, host_idled, host_halt_cleared}
 use Rattle.usb_device.specs.TicketEnds.{host_taken, host_abandoned}
 use Rattle.usb_device.specs.Finishes.{finished}
-use Rattle.usb_device.specs.Handles.{handle_closed}
+use Rattle.usb_device.specs.Handles.{handle_cloned, handle_closed}
 use Rattle.usb_device.specs.Opens.{host_opened}
 use Rattle.usb_device.specs.InterfaceClaims.{host_claimed}
 use Rattle.usb_device.specs.EndpointOpens.{host_asked, with_endpoint}
+use Rattle.usb_device.specs.OnDevices.{host_detached, host_attached, host_reset, host_configured, host_speed_asked}
+use Rattle.usb_device.specs.OnInterfaces.{alt_setting_set}
 
 -- a ticket that has an end keeps it
 abbrev pub KeepsEnds : HostState → HostState → Type 0
@@ -39,8 +42,20 @@ pub record EndsStay : Type 0 where
   pub abandon : (h : HostState) (t : ℕ) → KeepsEnds h (host_abandoned h t)
   pub leave : (h : HostState) (key : ℕ) → KeepsEnds h (host_left h key)
   pub open_device : (h : HostState) (bus address : ℕ) → KeepsEnds h (host_opened h bus address)
-  pub claim : (h : HostState) (device number : ℕ) → KeepsEnds h (host_claimed h device number)
+  pub claim : (h : HostState) (device number : ℕ) (reattach : Bool) →
+      KeepsEnds h (host_claimed h device number reattach)
+  pub clone_handle : (h : HostState) (interface : ℕ) → KeepsEnds h (handle_cloned h interface)
   pub close_handle : (h : HostState) (interface : ℕ) → KeepsEnds h (handle_closed h interface)
+  pub set_alt_setting : (h : HostState) (interface setting : ℕ) →
+      KeepsEnds h (alt_setting_set h interface setting)
+  pub set_configuration : (h : HostState) (device value : ℕ) →
+      KeepsEnds h (host_configured h device value)
+  pub reset : (h : HostState) (device : ℕ) → KeepsEnds h (host_reset h device)
+  pub detach : (h : HostState) (device number : ℕ) → KeepsEnds h (host_detached h device number)
+  pub attach : (h : HostState) (device number : ℕ) → KeepsEnds h (host_attached h device number)
+  pub ask_speed : (h : HostState) (device : ℕ) → KeepsEnds h (host_speed_asked h device)
+  pub clear_halt : (h : HostState) (device endpoint : ℕ) →
+      KeepsEnds h (host_halt_cleared h device endpoint)
   pub ask : (h : HostState) (device : ℕ) → KeepsEnds h (host_asked h device)
   pub open_endpoint : (h : HostState) (interface address : ℕ) →
       KeepsEnds h (with_endpoint h interface address)

@@ -5,16 +5,18 @@ use Rattle.usb_desc.specs.declared.types.Direction.{Direction}
 use Rattle.usb_desc.specs.declared.types.TransferType.{TransferType}
 use Rattle.usb_desc.specs.Configurations.{configurations, alt_settings, endpoints}
 use Rattle.usb_desc.specs.Lookups.{has_value, has_setting, has_address}
-use Rattle.usb_kernel.specs.declared.step.KernelCall.TheVariants as call
-use Rattle.usb_kernel.specs.Claims.{no_rows}
-use Rattle.usb_kernel.specs.Calls.{asked, called, same}
+use Rattle.usb_simulated.specs.declared.step.KernelCall.TheVariants as call
+use Rattle.usb_simulated.specs.Claims.{no_rules}
+use Rattle.usb_simulated.specs.Calls.{same}
+use Rattle.usb_kernel.specs.Calls.{asked, called}
 use Rattle.usb_kernel.specs.Value.{KernelState}
 use Rattle.usb_desc.specs.declared.error.Fail.{Fail}
 use Rattle.usb_error.specs.ErrorState.{ErrorState}
 use Rattle.usb_bus.specs.declared.route.Route.{Route}
 use Rattle.usb_endpoint.specs.EndpointState.{EndpointState}
 use Rattle.usb_device.specs.declared.opened.OpenDevice.{OpenDevice}
-use Rattle.usb_device.specs.HostState.{HostState, ClaimedInterface}
+use Rattle.usb_ledger.specs.Entries.{ClaimedInterface}
+use Rattle.usb_device.specs.HostState.{HostState}
 use Rattle.usb_device.specs.Owners.{is_in_use}
 use Rattle.usb_device.specs.EndpointRefusals.{endpoint_tried}
 use Rattle.usb_error.specs.Outcomes.{Tried, result_map}
@@ -23,16 +25,19 @@ use Rattle.usb_error.specs.Outcomes.{Tried, result_map}
 -- the kernel refuses
 abbrev pub active_value : KernelState → OpenDevice → ℕ
 active_value k o =
-    result_unwrap_or (asked k o.device call.GetConfig no_rows (λ d. d.configuration))
+    result_unwrap_or (asked k o.device call.GetConfig no_rules (λ d. d.configuration))
     o.configuration
 
 -- the kernel was asked for it, and the open device keeps what it gave
+abbrev pub as_asked : KernelState → OpenDevice → OpenDevice
+as_asked k o = record o { configuration = active_value k o }
+
 abbrev pub asked_on : HostState → ℕ → Option OpenDevice → HostState
 asked_on h key None = h
 asked_on h key (Some o) =
     record h {
-      kernel = called h.kernel o.device call.GetConfig no_rows same;
-      devices = set h.devices key (record o { configuration = active_value h.kernel o });
+      kernel = called h.kernel o.device call.GetConfig no_rules same;
+      devices = set h.devices key (as_asked h.kernel o);
     }
 
 unfoldable pub host_asked : HostState → ℕ → HostState

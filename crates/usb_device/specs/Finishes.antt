@@ -3,8 +3,9 @@ use Rattle.std.specs.Prelude.{ℕ, zero, suc, ◌<◌, List, length, IsSome}
 use Rattle.usb_kernel.specs.declared.event.Event.{Event}
 use Rattle.usb_kernel.specs.Tickets.{tickets}
 use Rattle.usb_kernel.specs.Completions.{completion}
-use Rattle.usb_device.specs.HostState.{HostState, HostTicket}
-use Rattle.usb_device.specs.HostBus.{end_at}
+use Rattle.usb_ledger.specs.Entries.{HostTicket}
+use Rattle.usb_device.specs.HostState.{HostState}
+use Rattle.usb_ledger.specs.EndedTickets.{end_at}
 use Rattle.usb_device.specs.HostTurns.{host_reaped}
 use Rattle.usb_device.specs.HostCalls.{host_discarded}
 

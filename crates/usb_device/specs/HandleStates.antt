@@ -1,6 +1,7 @@
 -- Handles, and when they stand.
 use Rattle.std.specs.Prelude.{ℕ, ◌≡◌, ◌<◌, length, Some, slice_get}
-use Rattle.usb_device.specs.HostState.{HostState, ClaimedInterface}
+use Rattle.usb_ledger.specs.Entries.{ClaimedInterface}
+use Rattle.usb_device.specs.HostState.{HostState}
 
 -- a handle of an interface: the interface's key and its number
 pub record InterfaceState : Type 0 where

@@ -1,7 +1,21 @@
 -- The handles of a claimed interface.
-use Rattle.std.specs.Prelude.{ℕ, ◌-◌, set, Option, Some, None, slice_get}
-use Rattle.usb_device.specs.HostState.{HostState, ClaimedInterface}
+use Rattle.std.specs.Prelude.{ℕ, ◌≡◌, ◌+◌, ◌-◌, Bool, true, false, set, Result, Ok, Err, OnOk, OnErr, Option, Some, None, slice_get}
+use Rattle.usb_error.specs.ErrorState.{ErrorState}
+use Rattle.usb_error.specs.Errors.{interface_in_use_error}
+use Rattle.usb_ledger.specs.Entries.{ClaimedInterface}
+use Rattle.usb_device.specs.HostState.{HostState}
+use Rattle.usb_device.specs.HandleStates.{InterfaceState}
+use Rattle.usb_device.specs.Owners.{is_shared}
 use Rattle.usb_device.specs.Releases.{owner_gone}
+
+-- one more handle of an interface is open
+abbrev pub handle_added : HostState → ℕ → Option ClaimedInterface → HostState
+handle_added h i None = h
+handle_added h i (Some c) =
+    record h { interfaces = set h.interfaces i (record c { handles = c.handles + 1 }) }
+
+unfoldable pub handle_cloned : HostState → ℕ → HostState
+handle_cloned h i = handle_added h i (slice_get h.interfaces i)
 
 -- a handle of an interface is closed
 abbrev pub handle_gone : HostState → ℕ → Option ClaimedInterface → HostState
@@ -12,3 +26,17 @@ handle_gone h i (Some c) =
 
 unfoldable pub handle_closed : HostState → ℕ → HostState
 handle_closed h i = handle_gone h i (slice_get h.interfaces i)
+
+-- the answer to a release: where the interface has another owner, the handle comes back
+abbrev pub release_answer : InterfaceState → Bool → Result (Unit {0}) (InterfaceState × ErrorState)
+release_answer handle true = Err (handle, interface_in_use_error)
+release_answer handle false = Ok tt
+
+-- a handle that is released is closed, and one that comes back leaves all as it was
+pub record ReleasesInterface (old new : HostState) (handle : InterfaceState)
+    (result : Result (Unit {0}) (InterfaceState × ErrorState)) : Type 0 where
+  pub claim : ClaimedInterface
+  pub at : slice_get old.interfaces handle.key ≡ Some claim
+  pub answer : result ≡ release_answer handle (is_shared old handle.key claim)
+  pub ok : OnOk result (new ≡ handle_closed old handle.key)
+  pub err : OnErr result (new ≡ old)

@@ -1,7 +1,7 @@
 -- How the wait for a control transfer goes at a host.
 use Rattle.std.specs.Prelude.{ℕ, Bool, true, List, [], ◌∷◌, length, Option, slice_get, option_and_then, if◌then◌else◌, zero, suc}
 use Rattle.usb_kernel.specs.declared.event.Event.{Event}
-use Rattle.usb_kernel.specs.declared.step.KernelStep.{KernelStep}
+use Rattle.usb_simulated.specs.declared.step.KernelStep.{KernelStep}
 use Rattle.usb_kernel.specs.Tickets.{Ticket, tickets}
 use Rattle.usb_kernel.specs.Completions.{waiting, lowest}
 use Rattle.usb_device.specs.HostState.{HostState}
@@ -16,7 +16,7 @@ abbrev pub deadline_of : List Event → ℕ → Option ℕ
 deadline_of past t = option_and_then (λ (s : Ticket). s.deadline) (slice_get (tickets past) t)
 
 -- with no step left the lowest ticket that is finished and not reaped is reaped, again and again,
--- at most this often, until this one is; time is up where there is none
+-- at most this often, until this one is; no turn is left where there is none
 abbrev pub sought_reaps : ℕ → HostState → ℕ → Bool × HostState
 sought_reaps zero h t = (is_found h t, h)
 sought_reaps (suc n) h t =
@@ -28,7 +28,7 @@ sought_steps [] h t = sought_reaps (length (waiting h.kernel.past)) h t
 sought_steps (s ∷ ss) h t =
     if is_found h t then (true, h) else sought_steps ss (host_stepped (record h { steps = ss }) s) t
 
--- a wait with no timeout of its own: where time is up it raises the clock to the ticket's deadline,
+-- a wait with no timeout of its own: where no turn is left it raises the clock to the ticket's deadline,
 -- at which the timer has its turn, and goes on
 unfoldable pub host_awaited : HostState → ℕ → ℕ → HostState
 host_awaited h t deadline =

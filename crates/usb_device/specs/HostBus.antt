@@ -6,8 +6,8 @@ use Rattle.usb_kernel.specs.Completions.{waiting}
 use Rattle.usb_bus.specs.BusState.{BusState}
 use Rattle.usb_bus.specs.Completions.{transfer_completion}
 use Rattle.usb_bus.specs.Holds.{value_for}
-use Rattle.usb_device.specs.declared.ends.TicketEnd.{TicketEnd}
-use Rattle.usb_device.specs.HostState.{HostState, Hold, HostTicket, HostEndpoint, HeldBy, Abandoned, Ended}
+use Rattle.usb_ledger.specs.Entries.{Hold, HostTicket, HostEndpoint, HeldBy, Abandoned, Ended}
+use Rattle.usb_device.specs.HostState.{HostState}
 
 -- what the endpoint that holds a ticket has of it
 abbrev pub held_as : HostTicket → Option Hold
@@ -18,7 +18,7 @@ held_as (Ended end) = None
 abbrev pub hold_at : List HostTicket → ℕ → Option Hold
 hold_at tickets t = option_and_then held_as (slice_get tickets t)
 
--- the key of that endpoint
+-- the key of that endpoint, which is called the owner of the ticket (the owners of interfaces are in Owners.antt)
 abbrev pub owner_at : List HostTicket → ℕ → Option ℕ
 owner_at tickets t = option_map (λ hold. hold.key) (hold_at tickets t)
 
@@ -43,12 +43,3 @@ bus_of h =
 -- the transfer of a ticket that an endpoint holds, once its completion has come
 abbrev pub host_value : HostState → ℕ → Option TransferData
 host_value h t = value_for (transfer_completion h.kernel.past t) (hold_at h.tickets t)
-
--- the end of a ticket that has one
-abbrev pub ended_at : HostTicket → Option TicketEnd
-ended_at (HeldBy hold) = None
-ended_at (Abandoned key) = None
-ended_at (Ended end) = Some end
-
-abbrev pub end_at : List HostTicket → ℕ → Option TicketEnd
-end_at tickets t = option_and_then ended_at (slice_get tickets t)

@@ -6,9 +6,10 @@ use Rattle.std.proofs.Math.Path.{fun_ext}
 use Rattle.std.proofs.Math.Dec.{eqb-suc-zero, eqb-zero-suc, eqb-suc-suc}
 use Rattle.std.proofs.lemmas.Bool.{cases_eq, eq-eqb, ne_eqb}
 use Rattle.usb_bus.specs.BusState.{without_owner}
-use Rattle.usb_device.specs.declared.ends.TicketEnd.{TicketEnd}
-use Rattle.usb_device.specs.declared.ends.TicketEnd.TheVariants.{Taken}
-use Rattle.usb_device.specs.HostState.{HostState, HostTicket, Hold, HeldBy, Abandoned, Ended}
+use Rattle.usb_ledger.specs.declared.ends.TicketEnd.{TicketEnd}
+use Rattle.usb_ledger.specs.declared.ends.TicketEnd.TheVariants.{Taken}
+use Rattle.usb_ledger.specs.Entries.{HostTicket, Hold, HeldBy, Abandoned, Ended}
+use Rattle.usb_device.specs.HostState.{HostState}
 use Rattle.usb_device.specs.HostBus.{bus_of, owner_at, held_as}
 use Rattle.usb_device.specs.Releases.{settled}
 use Rattle.usb_device.specs.TicketEnds.{host_ended, ended_as, host_taken, with_ticket}

@@ -4,15 +4,17 @@ use Rattle.usb_xfer.specs.BufferState.{BufferState}
 use Rattle.usb_xfer.specs.declared.transfer.TransferData.{TransferData}
 use Rattle.usb_xfer.specs.Transfers.{buffer_held}
 use Rattle.usb_kernel.specs.Value.{KernelState}
-use Rattle.usb_kernel.specs.declared.step.KernelCall.TheVariants as call
-use Rattle.usb_kernel.specs.Claims.{no_rows, ok_unless}
-use Rattle.usb_kernel.specs.Calls.{errno_of, called, same}
+use Rattle.usb_simulated.specs.declared.step.KernelCall.TheVariants as call
+use Rattle.usb_simulated.specs.Claims.{no_rules, ok_unless}
+use Rattle.usb_simulated.specs.Calls.{same}
+use Rattle.usb_kernel.specs.Calls.{errno_of, called}
 use Rattle.usb_kernel.specs.Submits.{kernel_submitted, kernel_refused}
 use Rattle.usb_kernel.specs.Timers.{timer_turned}
 use Rattle.usb_kernel.specs.Steps.{after_discard}
 use Rattle.usb_bus.specs.declared.route.Route.{Route}
 use Rattle.usb_bus.specs.Routes.{submission_of}
-use Rattle.usb_device.specs.HostState.{HostState, HostEndpoint, HeldBy}
+use Rattle.usb_ledger.specs.Entries.{HostEndpoint, HeldBy}
+use Rattle.usb_device.specs.HostState.{HostState}
 use Rattle.usb_device.specs.Releases.{settled}
 use Rattle.usb_device.specs.HostTurns.{with_past}
 
@@ -46,7 +48,7 @@ host_refused h to t errno = refused_with h to t errno (buffer_held t.held)
 unfoldable pub host_discarded : HostState → ℕ → HostState
 host_discarded h t = with_past h (after_discard h.kernel.past t)
 
--- the handle of an endpoint is closed. The endpoint lives on only while a ticket of it has no end
+-- the handle of an endpoint is closed. The endpoint lives on only while a ticket of it has no end (`settled`: Releases.antt)
 abbrev pub closed_if : HostState → ℕ → Option HostEndpoint → HostState
 closed_if h k None = h
 closed_if h k (Some e) =
@@ -65,10 +67,10 @@ host_idled h until =
       };
     }
 
--- a halt was cleared: the kernel's answer, and what is left of the kernel
+-- a halt was cleared: the kernel's answer, which has no rule of refusal, and what is left of the kernel (usb_kernel: Calls.antt)
 abbrev pub host_halt_result : HostState → ℕ → ℕ → Result (Unit {0}) ℕ
-host_halt_result h device endpoint = ok_unless (errno_of h.kernel device call.Halt no_rows)
+host_halt_result h device endpoint = ok_unless (errno_of h.kernel device call.Halt no_rules)
 
 abbrev pub host_halt_cleared : HostState → ℕ → ℕ → HostState
 host_halt_cleared h device endpoint =
-    record h { kernel = called h.kernel device call.Halt no_rows same }
+    record h { kernel = called h.kernel device call.Halt no_rules same }

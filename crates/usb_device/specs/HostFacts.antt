@@ -3,7 +3,7 @@ use Rattle.std.specs.Prelude.{ℕ, ◌≡◌, ◌≤◌, List, map, length, Some
 use Rattle.std.specs.List.{All}
 use Rattle.std.specs.VecDeque.{deque_len}
 use Rattle.usb_kernel.specs.declared.event.Event.{Event}
-use Rattle.usb_kernel.specs.declared.step.KernelStep.{KernelStep}
+use Rattle.usb_simulated.specs.declared.step.KernelStep.{KernelStep}
 use Rattle.usb_kernel.specs.Value.{KernelState}
 use Rattle.usb_kernel.specs.Tickets.{tickets}
 use Rattle.usb_kernel.specs.Completions.{completion}
@@ -11,11 +11,11 @@ use Rattle.usb_kernel.specs.Steps.{HasErrno}
 use Rattle.usb_bus.specs.Completions.{transfer_completion}
 use Rattle.usb_bus.specs.Holds.{held_of}
 use Rattle.usb_device.specs.declared.opened.OpenDevice.{OpenDevice}
-use Rattle.usb_device.specs.declared.slot.TicketState.{TicketState}
-use Rattle.usb_device.specs.declared.slot.TicketState.TheVariants as slot
+use Rattle.usb_ledger.specs.declared.slot.TicketState.{TicketState}
+use Rattle.usb_ledger.specs.declared.slot.TicketState.TheVariants as slot
 use Rattle.usb_device.specs.declared.host.Host.TheInside.{Inside}
 use Rattle.usb_device.specs.HostState.{HostState}
-use Rattle.usb_device.specs.LedgerState.{LedgerState, host_ticket}
+use Rattle.usb_ledger.specs.LedgerState.{LedgerState, host_ticket}
 
 -- a host by its parts
 abbrev pub host_made : KernelState → List OpenDevice → LedgerState → List KernelStep → HostState

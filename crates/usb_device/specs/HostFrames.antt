@@ -1,6 +1,6 @@
 -- What a host keeps while it goes on.
 use Rattle.std.specs.Prelude.{◌≡◌, ◌-◌, List, ◌++◌, length}
-use Rattle.usb_kernel.specs.declared.step.KernelStep.{KernelStep}
+use Rattle.usb_simulated.specs.declared.step.KernelStep.{KernelStep}
 use Rattle.usb_bus.specs.Later.{IsLater}
 use Rattle.usb_device.specs.HostState.{HostState}
 use Rattle.usb_device.specs.HostBus.{bus_of}

@@ -1,7 +1,7 @@
 -- Steps, reaps and turns of a host.
 use Rattle.std.specs.Prelude.{ℕ, List, [], ◌∷◌, Option, Some, None}
 use Rattle.usb_kernel.specs.declared.event.Event.{Event}
-use Rattle.usb_kernel.specs.declared.step.KernelStep.{KernelStep}
+use Rattle.usb_simulated.specs.declared.step.KernelStep.{KernelStep}
 use Rattle.usb_kernel.specs.Completions.{reapable, lowest}
 use Rattle.usb_kernel.specs.Steps.{after_step, after_reap, step_done}
 use Rattle.usb_bus.specs.declared.route.Turn.{Turn}
@@ -13,7 +13,7 @@ use Rattle.usb_device.specs.TicketEnds.{came}
 abbrev pub with_past : HostState → List Event → HostState
 with_past h past = record h { kernel = record h.kernel { past = past } }
 
--- a step of the kernel
+-- a step of the kernel, and what its completion, if it gives one, makes of the host (`came`: TicketEnds.antt)
 unfoldable pub host_stepped : HostState → KernelStep → HostState
 host_stepped h s = came (record h { kernel = after_step h.kernel s }) (step_done h.kernel.past s)
 
@@ -31,7 +31,7 @@ turned_of h [] = reaped_of h (lowest h.kernel.past)
 turned_of h (s ∷ ss) = host_stepped (record h { steps = ss }) s
 
 -- a turn: the next step of the line; with none left, the reap of the lowest ticket that is finished
--- and not reaped; else time is up, and nothing happens
+-- and not reaped; else no turn is left (`TimeUp`), and nothing happens
 unfoldable pub host_turned : HostState → HostState
 host_turned h = turned_of h h.steps
 

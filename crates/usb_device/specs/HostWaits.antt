@@ -1,6 +1,6 @@
 -- How a wait for a ticket goes at a host: by the steps of the line, and then by reaps.
 use Rattle.std.specs.Prelude.{ℕ, ◌-◌, Bool, true, false, List, [], ◌∷◌, length, Option, Some, None, is_some, nat_le, if◌then◌else◌, zero, suc}
-use Rattle.usb_kernel.specs.declared.step.KernelStep.{KernelStep}
+use Rattle.usb_simulated.specs.declared.step.KernelStep.{KernelStep}
 use Rattle.usb_kernel.specs.Completions.{waiting, lowest}
 use Rattle.usb_bus.specs.Completions.{transfer_completion}
 use Rattle.usb_device.specs.HostState.{HostState}
@@ -18,7 +18,7 @@ reap_and None h further = (false, h)
 reap_and (Some u) h further = further (host_reaped h u)
 
 -- with no step left the lowest ticket that is finished and not reaped is reaped, again and again,
--- at most this often; time is up where there is none
+-- at most this often; no turn is left where there is none
 abbrev pub wait_reaps : ℕ → HostState → ℕ → ℕ → ℕ → Bool × HostState
 wait_reaps zero h t timeout start = (is_found h t, h)
 wait_reaps (suc n) h t timeout start =

@@ -6,6 +6,7 @@ pub mod HostTurns
 pub mod HostCalls
 pub mod Finishes
 pub mod HostBus
+pub mod HandleStates
 pub mod Handles
 pub mod CallErrors
 pub mod Tries
@@ -13,14 +14,12 @@ pub mod Opens
 pub mod InterfaceClaims
 pub mod EndpointRefusals
 pub mod EndpointOpens
-pub mod OwnerRows
-pub mod OwnerFacts
-pub mod LedgerState
-pub mod LedgerFacts
+pub mod Speeds
+pub mod OnDevices
+pub mod OnInterfaces
 pub mod HostFacts
 pub mod HostBusFacts
 pub mod HostLaws
-pub mod HandleStates
 pub mod HostWaits
 pub mod HostBlocking
 pub mod HostAwaits
@@ -28,3 +27,4 @@ pub mod Futures
 pub mod HostFrames
 pub mod WaitLaws
 pub mod EndLaws
+pub mod OwnerLaws

@@ -1,38 +1,39 @@
 -- A device is opened at its bus and address.
 use Rattle.std.specs.Prelude.{ℕ, List, [], ◌∷◌, ◌++◌, length, Result, Ok, Err}
 use Rattle.usb_desc.specs.Configurations.{device_of}
-use Rattle.usb_kernel.specs.declared.step.KernelCall.TheVariants as call
-use Rattle.usb_kernel.specs.Claims.{no_rows}
-use Rattle.usb_kernel.specs.Calls.{open_answer, after_open, asked, called, same}
+use Rattle.usb_simulated.specs.declared.step.KernelCall.TheVariants as call
+use Rattle.usb_simulated.specs.Claims.{no_rules}
+use Rattle.usb_simulated.specs.Calls.{same}
+use Rattle.usb_kernel.specs.Calls.{open_answer, after_open, asked, called}
 use Rattle.usb_kernel.specs.Value.{KernelState}
 use Rattle.usb_error.specs.ErrorState.{ErrorState}
 use Rattle.usb_error.specs.Errors.{open_error, read_descriptors_error, configuration_error, invalid_device_descriptor_error}
 use Rattle.usb_device.specs.declared.opened.OpenDevice.{OpenDevice}
 use Rattle.usb_device.specs.HostState.{HostState}
-use Rattle.usb_device.specs.Tries.{Step, ◌>>=◌, asking, present, giving}
+use Rattle.usb_device.specs.Tries.{Attempt, ◌>>=◌, asking, present, giving}
 
 -- the kernel opens the first plugged device at an address of a bus
-abbrev pub device_tried : ℕ → ℕ → KernelState → Step ℕ
+abbrev pub device_tried : ℕ → ℕ → KernelState → Attempt ℕ
 device_tried bus address =
     asking open_error (λ k. open_answer k bus address) (λ k. after_open k bus address)
 
 -- it gives all descriptors of a device
-unfoldable pub descriptors_tried : ℕ → KernelState → Step (List ℕ)
+unfoldable pub descriptors_tried : ℕ → KernelState → Attempt (List ℕ)
 descriptors_tried device =
     asking read_descriptors_error
-    (λ k. asked k device call.ReadDesc no_rows (λ d. d.bytes))
-    (λ k. called k device call.ReadDesc no_rows same)
+    (λ k. asked k device call.ReadDesc no_rules (λ d. d.bytes))
+    (λ k. called k device call.ReadDesc no_rules same)
 
 -- it gives the value of the active configuration
-abbrev pub configuration_tried : ℕ → KernelState → Step ℕ
+abbrev pub configuration_tried : ℕ → KernelState → Attempt ℕ
 configuration_tried device =
     asking (λ errno. configuration_error)
-    (λ k. asked k device call.GetConfig no_rows (λ d. d.configuration))
-    (λ k. called k device call.GetConfig no_rows same)
+    (λ k. asked k device call.GetConfig no_rules (λ d. d.configuration))
+    (λ k. called k device call.GetConfig no_rules same)
 
 -- the kernel opens the device and gives its descriptors, of which the first has to be a device
 -- descriptor, and its active configuration
-unfoldable pub open_tried : ℕ → ℕ → KernelState → Step OpenDevice
+unfoldable pub open_tried : ℕ → ℕ → KernelState → Attempt OpenDevice
 open_tried bus address = do
   device ← device_tried bus address
   bytes ← descriptors_tried device
@@ -53,8 +54,8 @@ abbrev pub opened_by : HostState → Result OpenDevice ErrorState → HostState
 opened_by h (Err error) = h
 opened_by h (Ok o) = with_opened h o
 
--- the host after an open that did not want memory: what is left of the kernel, and the open device
-abbrev pub opened_on : HostState → Step OpenDevice → HostState
+-- the host after an open for which there was memory enough: what is left of the kernel, and the open device
+abbrev pub opened_on : HostState → Attempt OpenDevice → HostState
 opened_on h step = opened_by (record h { kernel = step.kernel }) step.answer
 
 unfoldable pub host_opened : HostState → ℕ → ℕ → HostState

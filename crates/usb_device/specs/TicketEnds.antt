@@ -2,15 +2,16 @@
 use Rattle.std.specs.Prelude.{ℕ, set, Option, Some, None, is_some, slice_get, if◌then◌else◌}
 use Rattle.usb_kernel.specs.declared.submission.Done.{Done}
 use Rattle.usb_kernel.specs.Completions.{completion}
-use Rattle.usb_device.specs.declared.ends.TicketEnd.{TicketEnd}
-use Rattle.usb_device.specs.declared.ends.TicketEnd.TheVariants.{Taken, Dropped, Reclaimed}
-use Rattle.usb_device.specs.HostState.{HostState, HostTicket, HeldBy, Abandoned, Ended}
+use Rattle.usb_ledger.specs.declared.ends.TicketEnd.{TicketEnd}
+use Rattle.usb_ledger.specs.declared.ends.TicketEnd.TheVariants.{Taken, Dropped, Reclaimed}
+use Rattle.usb_ledger.specs.Entries.{HostTicket, HeldBy, Abandoned, Ended}
+use Rattle.usb_device.specs.HostState.{HostState}
 use Rattle.usb_device.specs.Releases.{settled}
 
 abbrev pub with_ticket : HostState → ℕ → HostTicket → HostState
 with_ticket h t ticket = record h { tickets = set h.tickets t ticket }
 
--- a ticket gets its end. Where it was the last without one of an endpoint that is closed, this endpoint lives no more (Owners.antt)
+-- a ticket gets its end. Where its endpoint is closed and no other ticket of it is without an end, the endpoint lives no more (`settled`: Releases.antt)
 abbrev pub ended_as : HostState → ℕ → TicketEnd → Option HostTicket → HostState
 ended_as h t end None = h
 ended_as h t end (Some (HeldBy hold)) = settled (with_ticket h t (Ended end)) hold.key

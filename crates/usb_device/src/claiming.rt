@@ -1,34 +1,70 @@
-//! Interfaces of open devices are claimed, and their handles closed.
+//! Interfaces of open devices are claimed, and their handles cloned, closed and released.
 
-ghost use Rattle.std.specs.Prelude.{◌≡◌, ◌<◌, length, slice_get};
+ghost use Rattle.std.specs.Prelude.{◌≡◌, ◌<◌, length, slice_get, OnOk, OnErr};
 ghost use Rattle.std.specs.Option.{ForSome};
+ghost use Rattle.usb_simulated.specs.Claims.{ok_unless};
 ghost use Rattle.usb_device.specs.HostState.{HostState};
-ghost use Rattle.usb_device.specs.Handles.{handle_closed};
-ghost use Rattle.usb_device.specs.InterfaceClaims.{claim_tried, claimed_key, host_claimed};
+ghost use Rattle.usb_device.specs.Handles.{handle_cloned, handle_closed};
+ghost use Rattle.usb_device.specs.InterfaceClaims.{claim_errno, kernel_claimed, claim_tried, claimed_key, host_claimed};
+ghost use Rattle.usb_device.specs.Owners.{is_shared};
 ghost use Rattle.usb_device.specs.CallErrors.{Leaves};
 ghost use Rattle.usb_error.specs.Outcomes.{Tried};
 
 use crate::host::{Host, release};
-use usb_desc::Fail;
+use crate::opened::OpenDevice;
+use usb_desc::{Fail, NoMemory};
 use usb_error::Error;
+use usb_kernel::Kernel;
+
+/// Claims an interface of an open device at the kernel, with its driver detached or as it is.
+fn claim_at(kernel: &mut Kernel, opened: &OpenDevice, number: u8, reattach: bool) -> Result<(), u16>
+    ensures result { result ≡ ok_unless (claim_errno kernel.old opened.now number reattach) }
+    ensures kernel { kernel.new ≡ kernel_claimed kernel.old opened.now number reattach }
+{
+    if reattach {
+        kernel.detach_and_claim(opened.device, number)
+    } else {
+        kernel.claim(opened.device, number)
+    }
+}
 
 impl Host {
-    /// Claims an interface of an open device. It has the next key, and one handle. Its memory is
-    /// taken before the kernel is asked.
-    pub(crate) fn claim(&mut self, device: usize, number: u8) -> Result<usize, Fail<Error>>
+    /// Claims an interface of an open device, with its driver detached and to be attached again
+    /// when the claim ends, or as it is. It has the next key, and one handle. Its memory is taken
+    /// before the kernel is asked.
+    pub(crate) fn claim(
+        &mut self,
+        device: usize,
+        number: u8,
+        reattach: bool,
+    ) -> Result<usize, Fail<Error>>
         requires device { device < length self.old.devices }
         ensures tried { ForSome (slice_get self.old.devices device) (λ o. Tried result
-            (claimed_key (length self.old.interfaces) (claim_tried self.old o number))) }
-        ensures host { Leaves result self.new (host_claimed self.old device number) self.old }
+            (claimed_key (length self.old.interfaces) (claim_tried self.old o number reattach))) }
+        ensures host { Leaves result self.new (host_claimed self.old device number reattach)
+            self.old }
     {
-        let at_kernel = self.devices[device].device;
         if self.ledger.reserve_claim().is_err() {
             return Err(Fail::Memory);
         }
-        if let Err(errno) = self.kernel.claim(at_kernel, number) {
+        let opened = &self.devices[device];
+        if let Err(errno) = claim_at(&mut self.kernel, opened, number, reattach) {
             return Err(Fail::Cause(Error::claim(errno)));
         }
-        Ok(self.ledger.open_interface(device, at_kernel, number))
+        let at_kernel = opened.device;
+        Ok(
+            self.ledger
+                .open_interface(device, at_kernel, number, reattach),
+        )
+    }
+
+    /// One more handle of a claimed interface is open.
+    pub(crate) fn clone_handle(&mut self, interface: usize) -> Result<(), NoMemory>
+        requires interface { interface < length self.old.interfaces }
+        ensures ok { OnOk result (self.new ≡ handle_cloned self.old interface) }
+        ensures err { OnErr result (self.new ≡ self.old) }
+    {
+        self.ledger.add_handle(interface)
     }
 
     /// A handle of a claimed interface is closed. With the last owner the claim ends.
@@ -39,5 +75,14 @@ impl Host {
     {
         let ended = self.ledger.close_handle(interface);
         release(&mut self.kernel, ended);
+    }
+
+    /// Whether a claimed interface has an owner beside one of its handles.
+    pub(crate) fn is_shared(&self, interface: usize) -> bool
+        requires interface { interface < length self.now.interfaces }
+        ensures shared { ForSome (slice_get self.now.interfaces interface) (λ c.
+            result ≡ is_shared self.now interface c) }
+    {
+        self.ledger.is_shared(interface)
     }
 }

@@ -1,6 +1,6 @@
 //! Handles of open devices and of claimed interfaces.
 
-ghost use Rattle.std.specs.Prelude.{◌≡◌, ◌+◌, ◌<◌, length, slice_get, Some, IfOk};
+ghost use Rattle.std.specs.Prelude.{◌≡◌, IsOk, ◌+◌, ◌<◌, length, slice_get, true, false, Some, Ok, Err, IfOk, IfErr, OnOk, OnErr};
 ghost use Rattle.std.specs.Option.{ForSome, option_copied};
 ghost use Rattle.usb_desc.specs.Configurations as spec;
 ghost use Rattle.usb_desc.specs.Fields.{direction_of_address};
@@ -8,20 +8,26 @@ ghost use Rattle.usb_device.specs.HostState.{HostState};
 ghost use Rattle.usb_device.specs.HandleStates.{StandsDevice, StandsInterface};
 ghost use Rattle.usb_endpoint.specs.Handles.{Stands, KeepsOthers};
 ghost use Rattle.usb_device.specs.HostBus.{bus_of};
-ghost use Rattle.usb_device.specs.EndpointOpens.{OpensEndpoint};
-ghost use Rattle.usb_device.specs.Handles.{handle_closed};
+ghost use Rattle.usb_device.specs.EndpointOpens.{OpensEndpoint, host_asked};
+ghost use Rattle.usb_device.specs.Handles.{handle_cloned, handle_closed, ReleasesInterface};
+ghost use Rattle.usb_device.specs.OnDevices.{detach_tried, host_detached, attach_tried, host_attached, reset_tried, host_reset, set_configuration_tried, host_configured, speed_tried, host_speed_asked, active_of};
+ghost use Rattle.usb_device.specs.OnInterfaces.{alt_setting_tried, alt_setting_set, current_setting, all_settings};
 ghost use Rattle.usb_device.specs.InterfaceClaims.{ClaimsInterface};
 ghost use Rattle.usb_device.specs.Opens.{host_opened, open_key};
 ghost use Rattle.usb_device.specs.CallErrors.{Leaves};
 ghost use Rattle.usb_error.specs.Outcomes.{Tried};
 
 use crate::host::Host;
+use crate::settings::AltSettingsOf;
 use std::alloc::Global;
 use std::fmt;
 use std::marker::Model;
-use usb_desc::{Configurations, DeviceDescriptor, Fail, concatenated};
+use usb_desc::{
+    ConfigurationDescriptor, Configurations, DeviceDescriptor, Fail, InterfaceDescriptor, NoMemory,
+};
 use usb_endpoint::Endpoint;
-use usb_error::Error;
+use usb_error::{ActiveConfigurationError, Error};
+use usb_sysfs::Speed;
 use usb_xfer::{EndpointDirection, EndpointType};
 
 /// A handle of a device that is open at a host. `close` spends it.
@@ -86,6 +92,17 @@ impl Device {
         }
     }
 
+    /// One more handle of the open device, which takes no memory. They share the value of the active configuration.
+    pub fn clone_on(&self, host: &mut Host) -> Result<Device, NoMemory>
+        requires stands { StandsDevice host.old self.now }
+        ensures ok { IsOk result }
+        ensures handle { IfOk result (λ device. device ≡ self.now) }
+        ensures host { host.new ≡ host.old }
+    {
+        let _ = host;
+        Ok(Device { key: self.key })
+    }
+
     /// Closes the handle. The kernel keeps the device open.
     pub fn close(self, host: &mut Host)
         requires stands { StandsDevice host.old self }
@@ -122,15 +139,144 @@ impl Device {
         host.configurations(self.key)
     }
 
+    /// Asks the kernel for the value of the active configuration (USB 2.0, section 9.4.2), which
+    /// uses up the refusal that is armed for it. The open device keeps what the kernel gives, and
+    /// where the kernel refuses it keeps the value that it had.
+    pub fn ask_configuration(&self, host: &mut Host)
+        requires stands { StandsDevice host.old self.now }
+        ensures host { host.new ≡ host_asked host.old self.now }
+        ensures stands { StandsDevice host.new self.now }
+    {
+        host.ask_configuration(self.key);
+    }
+
+    /// The active configuration (USB 2.0, section 9.6.3), by the value that the open device keeps.
+    /// The kernel is not asked for it: that is `ask_configuration`.
+    ///
+    /// # Errors
+    ///
+    /// No configuration has the value. For 0 the device is not configured.
+    pub fn active_configuration<'h>(
+        &self,
+        host: &'h Host,
+    ) -> Result<ConfigurationDescriptor<'h>, ActiveConfigurationError>
+        requires stands { StandsDevice host.now self.now }
+        ensures ok { IfOk result (λ c. ForSome (slice_get host.now.devices self.now) (λ o.
+            active_of o ≡ Ok c)) }
+        ensures err { IfErr result (λ error. ForSome (slice_get host.now.devices self.now) (λ o.
+            active_of o ≡ Err error)) }
+    {
+        host.active_configuration(self.key)
+    }
+
+    /// The speed at which the device is connected, where the kernel tells one. That uses up the
+    /// refusal that is armed for it.
+    pub fn speed(&self, host: &mut Host) -> Option<Speed>
+        requires stands { StandsDevice host.old self.now }
+        ensures speed { ForSome (slice_get host.old.devices self.now) (λ o.
+            result ≡ speed_tried host.old o) }
+        ensures host { host.new ≡ host_speed_asked host.old self.now }
+    {
+        host.speed(self.key)
+    }
+
+    /// Sets the configuration (USB 2.0, section 9.4.7); 0 stands for none. The open device keeps
+    /// the value, and where the kernel refuses it keeps the one that it had. A refusal that is
+    /// armed for it is used up.
+    ///
+    /// # Errors
+    ///
+    /// `NotFound` where no configuration has the value, `Busy` where an interface is claimed,
+    /// `Disconnected` where the device is gone, else `Other`.
+    pub fn set_configuration(&self, host: &mut Host, value: u8) -> Result<(), Error>
+        requires stands { StandsDevice host.old self.now }
+        ensures result { ForSome (slice_get host.old.devices self.now) (λ o.
+            result ≡ set_configuration_tried host.old o value) }
+        ensures host { host.new ≡ host_configured host.old self.now value }
+    {
+        host.set_configuration(self.key, value)
+    }
+
+    /// Resets the device, which is gone then: its tickets are finished as by an unplug, and each
+    /// later call is refused. The kernel must have a place for it beside those of the steps that
+    /// are left. A refusal that is armed for it is used up.
+    ///
+    /// # Errors
+    ///
+    /// `Disconnected` where the device is gone, `Busy` and `Other` by the errno of an armed
+    /// refusal.
+    pub fn reset(&self, host: &mut Host) -> Result<(), Error>
+        requires stands { StandsDevice host.old self.now }
+        requires room { length host.old.steps < host.old.kernel.spare }
+        ensures result { ForSome (slice_get host.old.devices self.now) (λ o.
+            result ≡ reset_tried host.old o) }
+        ensures host { host.new ≡ host_reset host.old self.now }
+    {
+        host.reset(self.key)
+    }
+
+    /// Detaches the kernel driver of an interface. A refusal that is armed for it is used up.
+    ///
+    /// # Errors
+    ///
+    /// `NotFound` where the active configuration does not have the interface, `Other` where no
+    /// driver is bound, `Disconnected` where the device is gone, else `Other`.
+    pub fn detach_kernel_driver(&self, host: &mut Host, interface: u8) -> Result<(), Error>
+        requires stands { StandsDevice host.old self.now }
+        ensures result { ForSome (slice_get host.old.devices self.now) (λ o.
+            result ≡ detach_tried host.old o interface) }
+        ensures host { host.new ≡ host_detached host.old self.now interface }
+    {
+        host.detach(self.key, interface)
+    }
+
+    /// Attaches the kernel driver of an interface. A refusal that is armed for it is used up.
+    ///
+    /// # Errors
+    ///
+    /// `NotFound` where the active configuration does not have the interface, `Busy` where a driver
+    /// is bound or the interface is claimed, `Disconnected` where the device is gone, else `Other`.
+    pub fn attach_kernel_driver(&self, host: &mut Host, interface: u8) -> Result<(), Error>
+        requires stands { StandsDevice host.old self.now }
+        ensures result { ForSome (slice_get host.old.devices self.now) (λ o.
+            result ≡ attach_tried host.old o interface) }
+        ensures host { host.new ≡ host_attached host.old self.now interface }
+    {
+        host.attach(self.key, interface)
+    }
+
     /// Claims an interface, which has the setting 0 then. Where the kernel refuses, nothing has
     /// changed but that an armed refusal is used up, and where memory is wanting nothing has.
     pub fn claim_interface(&self, host: &mut Host, interface: u8) -> Result<Interface, Fail<Error>>
         requires stands { StandsDevice host.old self.now }
-        ensures claims { ClaimsInterface host.old host.new self.now interface result }
+        ensures claims { ClaimsInterface host.old host.new self.now interface false result }
         ensures stands { IfOk result (StandsInterface host.new) }
         ensures device { StandsDevice host.new self.now }
     {
-        match host.claim(self.key, interface) {
+        match host.claim(self.key, interface, false) {
+            Ok(key) => Ok(Interface {
+                key,
+                number: interface,
+            }),
+            Err(error) => Err(error),
+        }
+    }
+
+    /// Claims an interface and detaches its kernel driver, which is attached again when the claim
+    /// ends, whether one was bound before or not. The interface has the setting 0 then. Where the
+    /// kernel refuses, nothing has changed but that an armed refusal is used up, and where memory
+    /// is wanting nothing has.
+    pub fn detach_and_claim_interface(
+        &self,
+        host: &mut Host,
+        interface: u8,
+    ) -> Result<Interface, Fail<Error>>
+        requires stands { StandsDevice host.old self.now }
+        ensures claims { ClaimsInterface host.old host.new self.now interface true result }
+        ensures stands { IfOk result (StandsInterface host.new) }
+        ensures device { StandsDevice host.new self.now }
+    {
+        match host.claim(self.key, interface, true) {
             Ok(key) => Ok(Interface {
                 key,
                 number: interface,
@@ -148,6 +294,20 @@ impl Interface {
         self.number
     }
 
+    /// One more handle of the interface, and one more owner.
+    pub fn clone_on(&self, host: &mut Host) -> Result<Interface, NoMemory>
+        requires stands { StandsInterface host.old self.now }
+        ensures handle { IfOk result (λ interface. interface ≡ self.now) }
+        ensures ok { OnOk result (host.new ≡ handle_cloned host.old self.now.key) }
+        ensures err { OnErr result (host.new ≡ host.old) }
+    {
+        host.clone_handle(self.key)?;
+        Ok(Interface {
+            key: self.key,
+            number: self.number,
+        })
+    }
+
     /// Closes the handle. With the last owner of the interface its claim ends.
     pub fn close(self, host: &mut Host)
         requires stands { StandsInterface host.old self }
@@ -155,6 +315,75 @@ impl Interface {
     {
         let Interface { key, number: _ } = self;
         host.close_handle(key);
+    }
+
+    /// Ends the claim of the interface. Where the interface has another owner, an open handle or an
+    /// endpoint that lives, the handle comes back with the error `Busy`, and nothing has changed.
+    pub fn release(self, host: &mut Host) -> Result<(), (Interface, Error)>
+        requires stands { StandsInterface host.old self }
+        ensures releases { ReleasesInterface host.old host.new self result }
+    {
+        if host.is_shared(self.key) {
+            return Err((self, Error::interface_in_use()));
+        }
+        self.close(host);
+        Ok(())
+    }
+
+    /// Sets the alternate setting: USB 2.0, section 9.4.10. While an endpoint of the interface
+    /// lives it is `Busy`, and the kernel is not asked. A refusal that is armed for it is used up.
+    ///
+    /// # Errors
+    ///
+    /// `NotFound` where the active configuration has no such setting of the interface,
+    /// `Disconnected` where the device is gone, else `Other`.
+    pub fn set_alt_setting(&self, host: &mut Host, setting: u8) -> Result<(), Error>
+        requires stands { StandsInterface host.old self.now }
+        ensures result { ForSome (slice_get host.old.interfaces self.now.key) (λ c.
+            result ≡ alt_setting_tried host.old self.now.key c setting) }
+        ensures host { host.new ≡ alt_setting_set host.old self.now.key setting }
+    {
+        host.set_alt_setting(self.key, setting)
+    }
+
+    /// The current alternate setting.
+    pub fn get_alt_setting(&self, host: &Host) -> u8
+        requires stands { StandsInterface host.now self.now }
+        ensures setting { ForSome (slice_get host.now.interfaces self.now.key) (λ c.
+            result ≡ c.setting) }
+    {
+        host.alt_setting(self.key)
+    }
+
+    /// Asks the kernel for the value of the active configuration of the device, as
+    /// `Device::ask_configuration`.
+    pub fn ask_configuration(&self, host: &mut Host)
+        requires stands { StandsInterface host.old self.now }
+        ensures host { ForSome (slice_get host.old.interfaces self.now.key) (λ c.
+            host.new ≡ host_asked host.old c.opened) }
+        ensures stands { StandsInterface host.new self.now }
+    {
+        host.ask_configuration_of(self.key);
+    }
+
+    /// The descriptor of the current setting, in the active configuration by the value that the
+    /// open device keeps. The kernel is not asked for it: that is `ask_configuration`.
+    pub fn descriptor<'h>(&self, host: &'h Host) -> Option<InterfaceDescriptor<'h>>
+        requires stands { StandsInterface host.now self.now }
+        ensures descriptor { ForSome (slice_get host.now.interfaces self.now.key) (λ c.
+            result ≡ current_setting host.now c) }
+    {
+        host.interface_descriptor(self.key)
+    }
+
+    /// The settings of the interface in that configuration, in the order of their descriptors, and
+    /// none where no configuration has the value.
+    pub fn descriptors<'h>(&self, host: &'h Host) -> AltSettingsOf<'h>
+        requires stands { StandsInterface host.now self.now }
+        ensures descriptors { ForSome (slice_get host.now.interfaces self.now.key) (λ c.
+            result ≡ all_settings host.now c) }
+    {
+        host.interface_descriptors(self.key)
     }
 
     /// Opens an endpoint (USB 2.0, section 9.6.6) of the interface in its current alternate

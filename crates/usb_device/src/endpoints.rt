@@ -3,11 +3,13 @@
 ghost use Rattle.std.specs.Prelude.{◌≡◌, ◌<◌, length, slice_get, set, OnOk, OnErr, IfOk};
 ghost use Rattle.std.specs.Option.{ForSome, option_copied};
 ghost use Rattle.usb_desc.specs.Fields.{direction_of_address};
-ghost use Rattle.usb_kernel.specs.declared.step.KernelCall.{KernelCall};
-ghost use Rattle.usb_kernel.specs.Claims.{no_rows};
-ghost use Rattle.usb_kernel.specs.Calls.{called, same};
-ghost use Rattle.usb_device.specs.HostState.{HostState, ClaimedInterface};
-ghost use Rattle.usb_device.specs.OwnerRows.{claim_state};
+ghost use Rattle.usb_simulated.specs.declared.step.KernelCall.{KernelCall};
+ghost use Rattle.usb_simulated.specs.Claims.{no_rules};
+ghost use Rattle.usb_simulated.specs.Calls.{same};
+ghost use Rattle.usb_kernel.specs.Calls.{called};
+ghost use Rattle.usb_ledger.specs.Entries.{ClaimedInterface};
+ghost use Rattle.usb_device.specs.HostState.{HostState};
+ghost use Rattle.usb_ledger.specs.OwnerRows.{claim_state};
 ghost use Rattle.usb_device.specs.EndpointRefusals.{endpoint_tried};
 ghost use Rattle.usb_device.specs.EndpointOpens.{active_value, host_asked, endpoint_of_setting, host_tries, with_endpoint, endpoint_route, maximum_tried};
 ghost use Rattle.usb_error.specs.Outcomes.{Tried};
@@ -69,7 +71,7 @@ fn maximum_of(
 fn active_value(kernel: &mut Kernel, opened: &OpenDevice) -> u8
     ensures value { result ≡ active_value kernel.old opened.now }
     ensures kernel { kernel.new
-        ≡ called kernel.old opened.now.device KernelCall.GetConfig no_rows same }
+        ≡ called kernel.old opened.now.device KernelCall.GetConfig no_rules same }
 {
     match kernel.configuration(opened.device) {
         Ok(value) => value,
@@ -80,13 +82,25 @@ fn active_value(kernel: &mut Kernel, opened: &OpenDevice) -> u8
 impl Host {
     /// Asks the kernel for the value of a device's active configuration, which the open device
     /// keeps.
-    fn ask_configuration(&mut self, device: usize)
+    pub(crate) fn ask_configuration(&mut self, device: usize)
         requires device { device < length self.old.devices }
         ensures asked { self.new ≡ host_asked self.old device }
     {
         let value = active_value(&mut self.kernel, &self.devices[device]);
         let opened = &mut self.devices[device];
         opened.configuration = value;
+    }
+
+    /// Asks for that of the device of a claimed interface.
+    pub(crate) fn ask_configuration_of(&mut self, interface: usize)
+        requires interface { interface < length self.old.interfaces }
+        requires device { ForSome (slice_get self.old.interfaces interface) (λ c.
+            c.opened < length self.old.devices) }
+        ensures asked { ForSome (slice_get self.old.interfaces interface) (λ c.
+            self.new ≡ host_asked self.old c.opened) }
+    {
+        let opened = self.ledger.opened(interface);
+        self.ask_configuration(opened);
     }
 
     /// The maximum packet size of an endpoint that may be opened, or why it may not.

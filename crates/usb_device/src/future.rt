@@ -9,9 +9,9 @@ ghost use Rattle.usb_device.specs.HostWaits.{is_found};
 ghost use Rattle.usb_device.specs.TicketEnds.{host_taken, host_abandoned};
 ghost use Rattle.usb_device.specs.Futures.{FutureState, StandsFuture, future_taken, future_closed, future_awaited};
 
-use crate::ends::TicketEnd;
 use crate::host::Host;
 use std::marker::Model;
+use usb_ledger::TicketEnd;
 use usb_xfer::{Completion, Pending, TransferData};
 
 /// A control transfer on its way (USB 2.0, section 9.3). `wait` or `close` spends it.

@@ -5,10 +5,10 @@ ghost use Rattle.std.specs.Option.{ForSome};
 ghost use Rattle.std.specs.List.{All};
 ghost use Rattle.usb_xfer.specs.declared.transfer.Held.{Held};
 ghost use Rattle.usb_kernel.specs.declared.event.Event.{Event};
-ghost use Rattle.usb_kernel.specs.declared.step.KernelStep.{KernelStep};
+ghost use Rattle.usb_simulated.specs.declared.step.KernelStep.{KernelStep};
 ghost use Rattle.usb_kernel.specs.Tickets.{tickets};
 ghost use Rattle.usb_kernel.specs.Completions.{completion};
-ghost use Rattle.usb_kernel.specs.Submissions.{IsErrno};
+ghost use Rattle.usb_simulated.specs.Errnos.{IsErrno};
 ghost use Rattle.usb_kernel.specs.Submits.{number_of, submit_refusal};
 ghost use Rattle.usb_kernel.specs.Steps.{HasErrno};
 ghost use Rattle.usb_bus.specs.Routes.{GoesBy, AsksWhole};
@@ -16,27 +16,25 @@ ghost use Rattle.usb_bus.specs.Holds.{held_at_once};
 ghost use Rattle.usb_bus.specs.Completions.{CompletesOnly};
 ghost use Rattle.usb_device.specs.declared.opened.OpenDevice.{OpenDevice};
 ghost use Rattle.usb_device.specs.HostState.{HostState, host_of};
-ghost use Rattle.usb_device.specs.HostBus.{bus_of, hold_at, owner_at, key_at, host_value, end_at};
+ghost use Rattle.usb_ledger.specs.EndedTickets.{end_at};
+ghost use Rattle.usb_device.specs.HostBus.{bus_of, hold_at, owner_at, key_at, host_value};
 ghost use Rattle.usb_device.specs.HostBusFacts.{bus_of-taken};
 ghost use Rattle.usb_device.specs.HostCalls.{host_submitted, host_refused, host_discarded, host_left, host_idled, host_halt_result, host_halt_cleared};
 ghost use Rattle.usb_device.specs.Finishes.{finished, HasEnds, HasCompletions};
 ghost use Rattle.usb_device.specs.HostFacts.{TicketsAgree, host_made};
 ghost use Rattle.usb_device.specs.HostLaws.{held-owned, value-held};
 ghost use Rattle.usb_device.specs.HostTurns.{host_stepped, host_reaped, host_turned, host_turn, host_rest};
-ghost use Rattle.usb_device.specs.LedgerState.{ticket_key, host_ticket};
+ghost use Rattle.usb_ledger.specs.LedgerState.{ticket_key, host_ticket};
 ghost use Rattle.usb_device.specs.Releases.{without_ended};
 ghost use Rattle.usb_device.specs.TicketEnds.{host_ended, host_taken, host_abandoned, came};
 
-use crate::ends::TicketEnd;
-use crate::ledger::Ledger;
 use crate::opened::OpenDevice;
-use crate::owners::EndedClaim;
-use crate::slot::TicketState;
 use std::alloc::Global;
 use std::collections::VecDeque;
 use std::marker::Model;
 use usb_bus::{Bus, Route, Turn, completion_from};
 use usb_kernel::{Done, Kernel, KernelStep, Submitted};
+use usb_ledger::{EndedClaim, Ledger, TicketEnd, TicketState};
 use usb_xfer::{Held, Idle, Pending, Slots, TransferData};
 
 /// A kernel, what is open on it, and the steps of a line that are left.
@@ -59,13 +57,17 @@ impl Model for Host {
     ghost invariant = { IsMatched };
 }
 
-/// Ends a claim at the kernel, if one ends.
+/// Ends a claim at the kernel, if one ends, and has the driver attached where that was noted.
 pub(crate) fn release(kernel: &mut Kernel, ended: Option<EndedClaim>)
-    ensures devices { kernel.new.devices ≡ without_ended kernel.old.devices ended }
-    ensures rest { kernel.new ≡ record kernel.old { devices = kernel.new.devices } }
+    ensures kernel { kernel.new ≡ without_ended kernel.old ended }
+    ensures rest { kernel.new
+        ≡ record kernel.old { devices = kernel.new.devices; armed = kernel.new.armed } }
 {
     if let Some(claim) = ended {
         let _ = kernel.release(claim.device, claim.number);
+        if claim.reattach {
+            let _ = kernel.attach(claim.device, claim.number);
+        }
     }
 }
 

@@ -1,6 +1,8 @@
-//! Laws of waits and of ends at a host. Each is the contract of a function that does nothing.
+//! Laws of waits, of ends and of claims at a host. Each is the contract of a function that does
+//! nothing.
 
 ghost use Rattle.usb_device.specs.EndLaws.{EndsStay, DroppedWhereReaped};
+ghost use Rattle.usb_device.specs.OwnerLaws.{ClaimsStayOwned};
 ghost use Rattle.usb_device.specs.WaitLaws.{WaitIsBySteps, BlockingIsBySteps, TurnGoesOn, WaitGoesOn, BlockingGoesOn, RestGoesOn, RestLeavesNone, LineUsesPlaces};
 
 /// A wait for a ticket goes by the steps of the line that are left, and then by reaps.
@@ -34,4 +36,11 @@ pub fn tickets_end_once()
 /// closed. Else it is reclaimed at its reap.
 pub fn what_is_reaped_is_dropped()
     ensures dropped { DroppedWhereReaped }
+{}
+
+/// An interface is claimed at the kernel exactly while it has an owner: an open handle, or an
+/// endpoint that lives. Each claim ends once: with its last owner, after which it never has one
+/// again.
+pub fn claims_are_owned()
+    ensures { ClaimsStayOwned }
 {}

@@ -7,32 +7,34 @@
 
 mod awaiting;
 mod claiming;
+mod configuring;
 mod device;
 mod endpoints;
-mod ends;
 mod future;
 mod host;
 mod laws;
-mod ledger;
 mod opened;
 mod opening;
-mod owners;
-mod slot;
+mod settings;
 
 pub use device::{Device, Interface};
-pub use ends::TicketEnd;
 pub use future::TransferFuture;
 pub use host::Host;
 pub use laws::{
-    blocking_is_by_steps, lines_go_on, tickets_end_once, wait_is_by_steps,
+    blocking_is_by_steps, claims_are_owned, lines_go_on, tickets_end_once, wait_is_by_steps,
     what_is_reaped_is_dropped,
 };
 pub use opened::OpenDevice;
+pub use settings::AltSettingsOf;
 pub use usb_bus::{Bus, Route, Turn};
-pub use usb_desc::{Configurations, DeviceDescriptor, Fail, NoMemory};
+pub use usb_desc::{
+    ConfigurationDescriptor, Configurations, DeviceDescriptor, Fail, InterfaceDescriptor, NoMemory,
+};
 pub use usb_endpoint::{AnyEndpoint, Endpoint, NextComplete};
-pub use usb_error::{Error, ErrorKind};
+pub use usb_error::{ActiveConfigurationError, Error, ErrorKind};
 pub use usb_kernel::{Kernel, KernelStep};
+pub use usb_ledger::TicketEnd;
+pub use usb_sysfs::Speed;
 pub use usb_xfer::{
     Buffer, Bulk, BulkOrInterrupt, Completion, EndpointDirection, EndpointType, In, Interrupt, Out,
     TransferError,

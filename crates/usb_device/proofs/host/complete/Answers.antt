@@ -1,8 +1,8 @@
-use Rattle.std.proofs.Common.{ap, sym, ◌∙◌}
+use Rattle.std.proofs.Common.{ap, sym}
 use Rattle.usb_kernel.specs.Value.{KernelState}
 use Rattle.usb_device.specs.HostFacts.{host_made}
-use Rattle.usb_device.specs.LedgerState.{LedgerState}
-use Rattle.usb_device.proofs.LedgerLemmas.{some-at}
+use Rattle.usb_ledger.specs.LedgerState.{LedgerState}
+use Rattle.usb_ledger.proofs.LedgerLemmas.{some-at}
 use Rattle.usb_device.proofs.ArrivalLemmas.{TicketsAgree-none, TicketsAgree-some, came-slot, came-none}
 use Rattle.usb_device.proofs.host.complete.Goals as goal
 
@@ -16,7 +16,7 @@ pub returns-clause-host : goal.returns-clause-host
 returns-clause-host c = λ devices steps.
     let done = c.in-Some.done in
     let there = some-at c.args.ledger.now.slots done.ticket (c.requires.within done c.in-Some.is) in
-    rw c.in-Some.is (came-slot c.args.kernel.now devices c.args.ledger.now steps done there.0 c.complete-ended.new.self c.complete-ended.result c.release.new.kernel there.1 (c.complete-ended.ensures.slots there.0 there.1) (c.complete-ended.ensures.claim there.0 there.1) (c.release.ensures.rest ∙ ap (λ d. record c.args.kernel.now { devices = d }) c.release.ensures.devices))
+    rw c.in-Some.is (came-slot c.args.kernel.now devices c.args.ledger.now steps done there.0 c.complete-ended.new.self c.complete-ended.result c.release.new.kernel there.1 (c.complete-ended.ensures.slots there.0 there.1) (c.complete-ended.ensures.claim there.0 there.1) c.release.ensures.kernel)
 
 pub returns-clause-agree : goal.returns-clause-agree
 returns-clause-agree c = λ past agree comes.

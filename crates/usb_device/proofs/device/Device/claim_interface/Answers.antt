@@ -1,5 +1,5 @@
-use Rattle.std.proofs.Common.{ℕ, refl, Ok, Err}
-use Rattle.usb_device.proofs.LedgerLemmas.{some-at}
+use Rattle.std.proofs.Common.{ℕ, refl, false, Ok, Err}
+use Rattle.usb_ledger.proofs.LedgerLemmas.{some-at}
 use Rattle.usb_device.proofs.OpeningLemmas.{claimed-stands, claimed-device}
 use Rattle.usb_device.proofs.device.Device.claim_interface.Goals as goal
 
@@ -20,12 +20,12 @@ returns-in-Ok-clause-stands c =
     let key = c.self.view_is in
     let there = some-at c.args.host.now.devices c.args.self.now c.requires.stands in
     let tried = rw key at c.in-Ok.ensures.tried in
-    claimed-stands c.args.host.now c.claim.new.self c.args.self.now c.args.interface c.in-Ok.key there.0 there.1 c.requires.stands (tried there.0 there.1) (rw key at c.in-Ok.ensures.host)
+    claimed-stands c.args.host.now c.claim.new.self c.args.self.now c.args.interface c.in-Ok.key false there.0 there.1 c.requires.stands (tried there.0 there.1) (rw key at c.in-Ok.ensures.host)
 
 pub returns-in-Ok-clause-device : goal.returns-in-Ok-clause-device
 returns-in-Ok-clause-device c =
     let key = c.self.view_is in
-    claimed-device c.args.host.now c.claim.new.self c.args.self.now c.args.interface (Ok c.in-Ok.key) c.requires.stands (rw key at c.in-Ok.ensures.host)
+    claimed-device c.args.host.now c.claim.new.self c.args.self.now c.args.interface false (Ok c.in-Ok.key) c.requires.stands (rw key at c.in-Ok.ensures.host)
 
 pub returns-in-Err-clause-claims : goal.returns-in-Err-clause-claims
 returns-in-Err-clause-claims c =
@@ -42,4 +42,4 @@ returns-in-Err-clause-claims c =
 pub returns-in-Err-clause-device : goal.returns-in-Err-clause-device
 returns-in-Err-clause-device c =
     let key = c.self.view_is in
-    claimed-device {A = ℕ} c.args.host.now c.claim.new.self c.args.self.now c.args.interface (Err c.in-Err.error) c.requires.stands (rw key at c.in-Err.ensures.host)
+    claimed-device {A = ℕ} c.args.host.now c.claim.new.self c.args.self.now c.args.interface false (Err c.in-Err.error) c.requires.stands (rw key at c.in-Err.ensures.host)

@@ -1,8 +1,8 @@
 use Rattle.std.proofs.Common.{◌∙◌, ap, arith}
 use Rattle.usb_kernel.specs.Value.{KernelState}
 use Rattle.usb_device.specs.Handles.{handle_closed}
-use Rattle.usb_device.specs.LedgerState.{LedgerState}
-use Rattle.usb_device.proofs.LedgerLemmas.{some-at}
+use Rattle.usb_ledger.specs.LedgerState.{LedgerState}
+use Rattle.usb_ledger.proofs.LedgerLemmas.{some-at}
 use Rattle.usb_device.proofs.OpeningLemmas.{closed-made}
 use Rattle.usb_device.proofs.host.Host.close_handle.Goals as goal
 
@@ -23,5 +23,4 @@ returns c =
     let k = c.self.inside.kernel in
     let l = c.self.inside.ledger in
     let there = some-at l.interfaces c.args.interface (rw (← c.self.view_is) at c.requires.interface) in
-    let kernel = c.release.ensures.rest ∙ ap (λ d. record k { devices = d }) c.release.ensures.devices in
-    record { closed = closed-made k c.self.inside.devices.items l c.self.inside.steps.items c.args.interface there.0 c.close_handle-ended.new.self c.close_handle-ended.result c.release.new.kernel there.1 (c.close_handle-ended.ensures.interfaces there.0 there.1) c.close_handle-ended.ensures.claim kernel ∙ ap (λ h. handle_closed h c.args.interface) c.self.view_is }
+    record { closed = closed-made k c.self.inside.devices.items l c.self.inside.steps.items c.args.interface there.0 c.close_handle-ended.new.self c.close_handle-ended.result c.release.new.kernel there.1 (c.close_handle-ended.ensures.interfaces there.0 there.1) c.close_handle-ended.ensures.claim c.release.ensures.kernel ∙ ap (λ h. handle_closed h c.args.interface) c.self.view_is }

@@ -1,6 +1,6 @@
 use Rattle.std.proofs.Common.{ap, ◌∙◌}
 use Rattle.std.specs.Prelude.{IsSome}
-use Rattle.usb_device.specs.declared.slot.TicketState.TheVariants as slot
+use Rattle.usb_ledger.specs.declared.slot.TicketState.TheVariants as slot
 use Rattle.usb_device.specs.HostBus.{host_value}
 use Rattle.usb_device.specs.HostFacts.{host_made}
 use Rattle.usb_device.specs.TicketEnds.{host_ended}
@@ -13,8 +13,7 @@ returns-clause-ended c =
     let l = c.self.inside.ledger in
     let w : HeldSlot l.slots c.args.ticket = held-slot l.slots c.args.ticket (rw (← c.self.view_is) at c.requires.held) in
     let claim = c.end-ending.ensures.claim (slot.HeldBy w.key w.transfer) w.at in
-    let kernel = c.release.ensures.rest ∙ ap (λ d. record k { devices = d }) c.release.ensures.devices in
-    ended-slot k c.self.inside.devices.items l c.self.inside.steps.items c.args.ticket w c.args.end c.end-ending.new.self c.end-ending.result.claim c.release.new.kernel c.end-ending.ensures.slots claim kernel ∙ ap (λ h. host_ended h c.args.ticket c.args.end) c.self.view_is
+    ended-slot k c.self.inside.devices.items l c.self.inside.steps.items c.args.ticket w c.args.end c.end-ending.new.self c.end-ending.result.claim c.release.new.kernel c.end-ending.ensures.slots claim c.release.ensures.kernel ∙ ap (λ h. host_ended h c.args.ticket c.args.end) c.self.view_is
 
 pub returns-clause-value : goal.returns-clause-value
 returns-clause-value c = λ some.

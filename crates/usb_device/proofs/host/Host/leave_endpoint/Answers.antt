@@ -1,7 +1,7 @@
 use Rattle.std.proofs.Common.{ap, ◌∙◌, arith}
 use Rattle.usb_kernel.specs.Value.{KernelState}
 use Rattle.usb_device.specs.HostCalls.{host_left}
-use Rattle.usb_device.specs.LedgerState.{LedgerState}
+use Rattle.usb_ledger.specs.LedgerState.{LedgerState}
 use Rattle.usb_device.proofs.HostCallLemmas.{OpenEndpoint, open-at, left-made}
 use Rattle.usb_device.proofs.host.Host.leave_endpoint.Goals as goal
 
@@ -25,7 +25,4 @@ returns c =
     let l = c.self.inside.ledger in
     let w : OpenEndpoint l.endpoints c.args.key = open-at l.endpoints c.args.key (rw (← c.self.view_is) at c.requires.key) in
     let ledger = c.leave-ended.ensures.endpoints w.e w.at in
-    let slots = ap (λ (x : LedgerState). x.slots) ledger in
-    let past = ap (λ (x : KernelState). x.past) c.release.ensures.rest in
-    let kernel = c.release.ensures.rest ∙ ap (λ d. record k { devices = d }) c.release.ensures.devices in
-    record { left = left-made k c.self.inside.devices.items l c.self.inside.steps.items c.args.key w c.leave-ended.new.self c.leave-ended.result c.release.new.kernel ledger c.leave-ended.ensures.claim kernel ∙ ap (λ h. host_left h c.args.key) c.self.view_is }
+    record { left = left-made k c.self.inside.devices.items l c.self.inside.steps.items c.args.key w c.leave-ended.new.self c.leave-ended.result c.release.new.kernel ledger c.leave-ended.ensures.claim c.release.ensures.kernel ∙ ap (λ h. host_left h c.args.key) c.self.view_is }

@@ -1,10 +1,11 @@
 use Rattle.std.proofs.Common.{◌≡◌, ◌<◌, ◌∙◌, ℕ, ap, sym, length, Some, slice_get, List}
 use Rattle.std.specs.Option.{ForSome}
 use Rattle.std.proofs.lemmas.Option.{same_Some}
-use Rattle.usb_device.specs.HostState.{HostState, ClaimedInterface}
+use Rattle.usb_ledger.specs.Entries.{ClaimedInterface}
+use Rattle.usb_device.specs.HostState.{HostState}
 use Rattle.usb_device.specs.Owners.{is_in_use}
 use Rattle.usb_device.specs.EndpointOpens.{host_asked, host_tries, endpoint_route}
-use Rattle.usb_device.proofs.LedgerLemmas.{some-at}
+use Rattle.usb_ledger.proofs.LedgerLemmas.{some-at}
 use Rattle.usb_device.proofs.InterfaceFrames.{asked-is, asked-length}
 use Rattle.usb_device.proofs.EndpointLemmas.{tried-unused, tried-some}
 use Rattle.usb_device.proofs.host.Host.open_endpoint.Goals as goal

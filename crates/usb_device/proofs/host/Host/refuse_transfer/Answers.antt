@@ -6,9 +6,9 @@ use Rattle.usb_kernel.specs.Tickets.{tickets}
 use Rattle.usb_kernel.specs.Submits.{submit_or_refuse, queued_or_refused, refuse_result, after_refuse}
 use Rattle.usb_bus.specs.Routes.{submission_of}
 use Rattle.usb_bus.specs.Holds.{held_at_once}
-use Rattle.usb_device.specs.declared.slot.TicketState.TheVariants as slot
+use Rattle.usb_ledger.specs.declared.slot.TicketState.TheVariants as slot
 use Rattle.usb_device.specs.HostCalls.{host_refused}
-use Rattle.usb_device.specs.LedgerState.{LedgerState}
+use Rattle.usb_ledger.specs.LedgerState.{LedgerState}
 use Rattle.usb_device.proofs.EnterLemmas.{TicketsAgree-enter, refused-made}
 use Rattle.usb_device.proofs.host.Host.refuse_transfer.Goals as goal
 

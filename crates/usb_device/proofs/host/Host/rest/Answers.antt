@@ -1,6 +1,6 @@
 use Rattle.std.proofs.Common.{◌≡◌, ◌∷◌, [], length, ap, sym, ◌∙◌, arith, List}
 use Rattle.std.proofs.lemmas.List.{nil_from_length}
-use Rattle.usb_kernel.specs.declared.step.KernelStep.{KernelStep}
+use Rattle.usb_simulated.specs.declared.step.KernelStep.{KernelStep}
 use Rattle.usb_device.specs.HostState.{HostState}
 use Rattle.usb_device.specs.HostFacts.{host_made}
 use Rattle.usb_device.specs.HostTurns.{host_rest, host_stepped}

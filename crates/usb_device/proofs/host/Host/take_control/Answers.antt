@@ -1,6 +1,6 @@
 use Rattle.std.proofs.Common.{◌∙◌, ap}
 use Rattle.usb_bus.specs.BusState.{BusState}
-use Rattle.usb_device.specs.declared.ends.TicketEnd.TheVariants.{Taken}
+use Rattle.usb_ledger.specs.declared.ends.TicketEnd.TheVariants.{Taken}
 use Rattle.usb_device.specs.HostState.{HostState}
 use Rattle.usb_device.specs.HostBus.{bus_of}
 use Rattle.usb_device.specs.HostBusFacts.{bus_of-ended}

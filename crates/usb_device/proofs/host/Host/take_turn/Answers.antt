@@ -1,5 +1,5 @@
 use Rattle.std.proofs.Common.{◌≡◌, List, [], Some, None, ap, sym, ◌∙◌, arith}
-use Rattle.usb_kernel.specs.declared.step.KernelStep.{KernelStep}
+use Rattle.usb_simulated.specs.declared.step.KernelStep.{KernelStep}
 use Rattle.usb_device.specs.HostState.{HostState}
 use Rattle.usb_device.specs.HostTurns.{host_stepped, host_reaped}
 use Rattle.usb_device.specs.HostFacts.{host_made}

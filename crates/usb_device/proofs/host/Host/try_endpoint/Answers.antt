@@ -1,11 +1,12 @@
 use Rattle.std.proofs.Common.{◌≡◌, ◌<◌, ◌∙◌, ap, sym, length, Some, slice_get}
 use Rattle.std.proofs.lemmas.Option.{same_Some}
-use Rattle.usb_device.specs.HostState.{HostState, ClaimedInterface}
+use Rattle.usb_ledger.specs.Entries.{ClaimedInterface}
+use Rattle.usb_device.specs.HostState.{HostState}
 use Rattle.usb_device.specs.Owners.{is_in_use}
-use Rattle.usb_device.specs.OwnerRows.{claim_state}
+use Rattle.usb_ledger.specs.OwnerRows.{claim_state}
 use Rattle.usb_device.specs.EndpointRefusals.{endpoint_tried}
 use Rattle.usb_device.specs.EndpointOpens.{endpoint_of_setting, host_tries}
-use Rattle.usb_device.proofs.ListLemmas.{place}
+use Rattle.usb_ledger.proofs.ListLemmas.{place}
 use Rattle.usb_device.proofs.EndpointLemmas.{tries-at}
 use Rattle.usb_device.proofs.host.Host.try_endpoint.Goals as goal
 

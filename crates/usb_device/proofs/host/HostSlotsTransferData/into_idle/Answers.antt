@@ -1,5 +1,5 @@
 use Rattle.std.proofs.Common.{◌∙◌, ap}
-use Rattle.usb_device.specs.declared.ends.TicketEnd.TheVariants.{Taken}
+use Rattle.usb_ledger.specs.declared.ends.TicketEnd.TheVariants.{Taken}
 use Rattle.usb_device.specs.TicketEnds.{host_ended, host_taken}
 use Rattle.usb_device.proofs.host.HostSlotsTransferData.into_idle.Goals as goal
 

@@ -1,0 +1,113 @@
+-- The claims of interfaces, and who owns them.
+use Rattle.std.specs.Prelude.{ℕ, ◌≡◌, ◌==◌, ◌&&◌, Bool, true, false, List, map, Some, slice_get}
+use Rattle.std.specs.List.{list_any, enumerate_from}
+use Rattle.std.specs.Option.{ForSome}
+use Rattle.usb_xfer.specs.declared.transfer.TransferData.{TransferData}
+use Rattle.usb_simulated.specs.declared.devices.SimDevice.{SimDevice}
+use Rattle.usb_simulated.specs.declared.step.KernelStep.{KernelStep}
+use Rattle.usb_simulated.specs.Devices.{fresh_device}
+use Rattle.usb_kernel.specs.ClaimLaws.{is_claimed}
+use Rattle.usb_kernel.specs.Value.{KernelState}
+use Rattle.usb_bus.specs.declared.route.Route.{Route}
+use Rattle.usb_ledger.specs.declared.ends.TicketEnd.{TicketEnd}
+use Rattle.usb_ledger.specs.Entries.{ClaimedInterface}
+use Rattle.usb_device.specs.HostState.{HostState, host_of}
+use Rattle.usb_ledger.specs.Owners.{is_owned_among}
+use Rattle.usb_device.specs.HostBus.{key_at}
+use Rattle.usb_device.specs.HostTurns.{host_stepped, host_reaped, host_turned, host_rest}
+use Rattle.usb_device.specs.HostCalls.{host_submitted, host_refused, host_discarded, host_left, host_idled, host_halt_cleared}
+use Rattle.usb_device.specs.HostWaits.{host_waited}
+use Rattle.usb_device.specs.HostBlocking.{host_blocked}
+use Rattle.usb_device.specs.HostAwaits.{host_awaited}
+use Rattle.usb_device.specs.TicketEnds.{host_ended, host_taken, host_abandoned}
+use Rattle.usb_device.specs.Finishes.{finished}
+use Rattle.usb_device.specs.HandleStates.{InterfaceState, StandsInterface}
+use Rattle.usb_device.specs.Handles.{handle_cloned, handle_closed}
+use Rattle.usb_device.specs.Opens.{host_opened}
+use Rattle.usb_device.specs.InterfaceClaims.{host_claimed}
+use Rattle.usb_device.specs.EndpointOpens.{host_asked, with_endpoint}
+use Rattle.usb_device.specs.OnDevices.{host_detached, host_attached, host_reset, host_configured, host_speed_asked}
+use Rattle.usb_device.specs.OnInterfaces.{alt_setting_set}
+
+-- whether a claimed interface, with its key, is interface n of device d and has an owner
+abbrev pub is_owned_claim : HostState → ℕ → ℕ → ℕ × ClaimedInterface → Bool
+is_owned_claim h d n p =
+    (p.1.device == d && p.1.number == n) && is_owned_among h.tickets h.endpoints p.0 p.1
+
+-- whether interface n of device d has an owner
+abbrev pub has_owner : HostState → ℕ → ℕ → Bool
+has_owner h d n = list_any (is_owned_claim h d n) (enumerate_from 0 h.interfaces)
+
+-- an interface is claimed at the kernel exactly while it has an owner, and no two claims of it have
+-- one
+pub record ClaimsAreOwned (h : HostState) : Type 0 where
+  pub claimed : (d n : ℕ) → is_claimed h.kernel.devices d n ≡ has_owner h d n
+  pub apart : (d n i j : ℕ) (a b : ClaimedInterface) → slice_get h.interfaces i ≡ Some a →
+      slice_get h.interfaces j ≡ Some b → is_owned_claim h d n (i, a) ≡ true →
+      is_owned_claim h d n (j, b) ≡ true → i ≡ j
+
+-- a claim, that of this key, of interface n of device d has no owner any more
+pub record HasEnded (h : HostState) (d n i : ℕ) : Type 0 where
+  pub claim : ClaimedInterface
+  pub at : slice_get h.interfaces i ≡ Some claim
+  pub device : claim.device ≡ d
+  pub number : claim.number ≡ n
+  pub free : is_owned_among h.tickets h.endpoints i claim ≡ false
+
+-- where it was so it stays so, and a claim that has ended never has an owner again
+pub record KeepsOwned (old new : HostState) : Type 0 where
+  pub owned : ClaimsAreOwned old → ClaimsAreOwned new
+  pub ended : (d n i : ℕ) → HasEnded old d n i → HasEnded new d n i
+
+-- the claimed interface of a key, if there is one, has an owner
+abbrev pub IsOwned : HostState → ℕ → Type 0
+IsOwned h i =
+    ForSome (slice_get h.interfaces i) (λ c. is_owned_among h.tickets h.endpoints i c ≡ true)
+
+-- so it is at the start, where no interface is claimed, and so it stays over each call. A handle
+-- that is cloned or closed stands, an endpoint is opened on an interface with an owner, and an
+-- endpoint that submits or is closed is open
+pub record ClaimsStayOwned : Type 0 where
+  pub fresh : (devices : List (ℕ × SimDevice)) (d n : ℕ) →
+      is_claimed (map fresh_device devices) d n ≡ false
+  pub start : (k : KernelState) → ((d n : ℕ) → is_claimed k.devices d n ≡ false) →
+      ClaimsAreOwned (host_of k)
+  pub step : (h : HostState) (s : KernelStep) → KeepsOwned h (host_stepped h s)
+  pub reap : (h : HostState) (t : ℕ) → KeepsOwned h (host_reaped h t)
+  pub rest : (h : HostState) → KeepsOwned h (host_rest h)
+  pub turn : (h : HostState) → KeepsOwned h (host_turned h)
+  pub idle : (h : HostState) (until : ℕ) → KeepsOwned h (host_idled h until)
+  pub wait : (h : HostState) (t timeout : ℕ) → KeepsOwned h (host_waited h t timeout).1
+  pub block : (h : HostState) (t timeout : ℕ) → KeepsOwned h (host_blocked h t timeout)
+  pub await_ticket : (h : HostState) (t deadline : ℕ) → KeepsOwned h (host_awaited h t deadline)
+  pub submit : (h : HostState) (to : Route) (t : TransferData) →
+      key_at h.endpoints to.key ≡ true → KeepsOwned h (host_submitted h to t)
+  pub refuse : (h : HostState) (to : Route) (t : TransferData) (errno : ℕ) →
+      key_at h.endpoints to.key ≡ true → KeepsOwned h (host_refused h to t errno)
+  pub discard : (h : HostState) (t : ℕ) → KeepsOwned h (host_discarded h t)
+  pub end_ticket : (h : HostState) (t : ℕ) (end : TicketEnd) → KeepsOwned h (host_ended h t end)
+  pub take : (h : HostState) (t : ℕ) → KeepsOwned h (host_taken h t)
+  pub abandon : (h : HostState) (t : ℕ) → KeepsOwned h (host_abandoned h t)
+  pub leave : (h : HostState) (key : ℕ) → key_at h.endpoints key ≡ true →
+      KeepsOwned h (host_left h key)
+  pub open_device : (h : HostState) (bus address : ℕ) → KeepsOwned h (host_opened h bus address)
+  pub claim : (h : HostState) (device number : ℕ) (reattach : Bool) →
+      KeepsOwned h (host_claimed h device number reattach)
+  pub clone_handle : (h : HostState) (handle : InterfaceState) → StandsInterface h handle →
+      KeepsOwned h (handle_cloned h handle.key)
+  pub close_handle : (h : HostState) (handle : InterfaceState) → StandsInterface h handle →
+      KeepsOwned h (handle_closed h handle.key)
+  pub set_alt_setting : (h : HostState) (interface setting : ℕ) →
+      KeepsOwned h (alt_setting_set h interface setting)
+  pub ask : (h : HostState) (device : ℕ) → KeepsOwned h (host_asked h device)
+  pub open_endpoint : (h : HostState) (interface address : ℕ) → IsOwned h interface →
+      KeepsOwned h (with_endpoint h interface address)
+  pub set_configuration : (h : HostState) (device value : ℕ) →
+      KeepsOwned h (host_configured h device value)
+  pub reset : (h : HostState) (device : ℕ) → KeepsOwned h (host_reset h device)
+  pub detach : (h : HostState) (device number : ℕ) → KeepsOwned h (host_detached h device number)
+  pub attach : (h : HostState) (device number : ℕ) → KeepsOwned h (host_attached h device number)
+  pub ask_speed : (h : HostState) (device : ℕ) → KeepsOwned h (host_speed_asked h device)
+  pub clear_halt : (h : HostState) (device endpoint : ℕ) →
+      KeepsOwned h (host_halt_cleared h device endpoint)
+  pub finish : (h : HostState) → KeepsOwned h (finished h)

@@ -1,0 +1,141 @@
+//! Calls on open devices that go down to the kernel.
+
+ghost use Rattle.std.specs.Prelude.{◌≡◌, ◌+◌, ◌<◌, length, slice_get, Ok, Err, IfOk, IfErr};
+ghost use Rattle.std.specs.Option.{ForSome};
+ghost use Rattle.usb_device.specs.HostState.{HostState};
+ghost use Rattle.usb_device.specs.OnDevices.{detach_tried, host_detached, attach_tried, host_attached, reset_tried, host_reset, set_configuration_tried, host_configured, speed_tried, host_speed_asked, active_of};
+ghost use Rattle.usb_device.specs.Speeds.{speed_of_code};
+
+use crate::host::Host;
+use crate::opened::OpenDevice;
+use usb_desc::{ConfigurationDescriptor, find_configuration};
+use usb_error::{ActiveConfigurationError, Error};
+use usb_sysfs::Speed;
+
+/// The speed of a code of the kernel.
+#[tactic(auto, unfolding(crate::specs::Speeds::speed_of_code))]
+fn speed_of(code: u8) -> Option<Speed>
+    ensures speed { result ≡ speed_of_code code }
+{
+    match code {
+        1 => Some(Speed::Low),
+        2 => Some(Speed::Full),
+        3 => Some(Speed::High),
+        5 => Some(Speed::Super),
+        6 => Some(Speed::SuperPlus),
+        _ => None,
+    }
+}
+
+/// The configuration with the value that an open device keeps.
+fn active_in(opened: &OpenDevice) -> Result<ConfigurationDescriptor<'_>, ActiveConfigurationError>
+    ensures ok { IfOk result (λ c. active_of opened.now ≡ Ok c) }
+    ensures err { IfErr result (λ error. active_of opened.now ≡ Err error) }
+{
+    let configuration_value = opened.configuration;
+    match find_configuration(opened.descriptors.as_slice(), configuration_value) {
+        Some(configuration) => Ok(configuration),
+        None => Err(ActiveConfigurationError {
+            configuration_value,
+        }),
+    }
+}
+
+impl Host {
+    /// The number of an open device at the kernel.
+    fn number_of(&self, device: usize) -> u8
+        requires device { device < length self.now.devices }
+        ensures number { ForSome (slice_get self.now.devices device) (λ o. result ≡ o.device) }
+    {
+        self.devices[device].device
+    }
+
+    /// Detaches the kernel driver of an interface.
+    pub(crate) fn detach(&mut self, device: usize, interface: u8) -> Result<(), Error>
+        requires device { device < length self.old.devices }
+        ensures tried { ForSome (slice_get self.old.devices device) (λ o.
+            result ≡ detach_tried self.old o interface) }
+        ensures host { self.new ≡ host_detached self.old device interface }
+    {
+        let number = self.number_of(device);
+        match self.kernel.detach(number, interface) {
+            Ok(()) => Ok(()),
+            Err(errno) => Err(Error::detach(errno)),
+        }
+    }
+
+    /// Attaches the kernel driver of an interface.
+    pub(crate) fn attach(&mut self, device: usize, interface: u8) -> Result<(), Error>
+        requires device { device < length self.old.devices }
+        ensures tried { ForSome (slice_get self.old.devices device) (λ o.
+            result ≡ attach_tried self.old o interface) }
+        ensures host { self.new ≡ host_attached self.old device interface }
+    {
+        let number = self.number_of(device);
+        match self.kernel.attach(number, interface) {
+            Ok(()) => Ok(()),
+            Err(errno) => Err(Error::attach(errno)),
+        }
+    }
+
+    /// Resets an open device, which is gone then. The kernel must have a place for it beside those
+    /// of the steps that are left.
+    pub(crate) fn reset(&mut self, device: usize) -> Result<(), Error>
+        requires device { device < length self.old.devices }
+        requires room { length self.old.steps < self.old.kernel.spare }
+        ensures tried { ForSome (slice_get self.old.devices device) (λ o.
+            result ≡ reset_tried self.old o) }
+        ensures host { self.new ≡ host_reset self.old device }
+    {
+        let number = self.number_of(device);
+        match self.kernel.reset(number) {
+            Ok(()) => Ok(()),
+            Err(errno) => Err(Error::reset(errno)),
+        }
+    }
+
+    /// Sets the configuration of an open device, which keeps its value where the kernel does not
+    /// refuse.
+    pub(crate) fn set_configuration(&mut self, device: usize, value: u8) -> Result<(), Error>
+        requires device { device < length self.old.devices }
+        ensures tried { ForSome (slice_get self.old.devices device) (λ o.
+            result ≡ set_configuration_tried self.old o value) }
+        ensures host { self.new ≡ host_configured self.old device value }
+    {
+        let number = self.number_of(device);
+        if let Err(errno) = self.kernel.set_configuration(number, value) {
+            return Err(Error::set_configuration(errno));
+        }
+        let opened = &mut self.devices[device];
+        opened.configuration = value;
+        Ok(())
+    }
+
+    /// The speed of an open device, where the kernel tells one.
+    pub(crate) fn speed(&mut self, device: usize) -> Option<Speed>
+        requires device { device < length self.old.devices }
+        ensures tried { ForSome (slice_get self.old.devices device) (λ o.
+            result ≡ speed_tried self.old o) }
+        ensures host { self.new ≡ host_speed_asked self.old device }
+    {
+        let number = self.number_of(device);
+        match self.kernel.speed(number) {
+            Ok(code) => speed_of(code),
+            Err(_) => None,
+        }
+    }
+
+    /// The configuration with the value that an open device keeps.
+    pub(crate) fn active_configuration(
+        &self,
+        device: usize,
+    ) -> Result<ConfigurationDescriptor<'_>, ActiveConfigurationError>
+        requires device { device < length self.now.devices }
+        ensures ok { IfOk result (λ c. ForSome (slice_get self.now.devices device) (λ o.
+            active_of o ≡ Ok c)) }
+        ensures err { IfErr result (λ error. ForSome (slice_get self.now.devices device) (λ o.
+            active_of o ≡ Err error)) }
+    {
+        active_in(&self.devices[device])
+    }
+}

@@ -1,0 +1,4 @@
+pub mod ListLemmas
+pub mod OwnerLemmas
+pub mod LedgerLemmas
+pub mod OwnedRows

@@ -1,0 +1,333 @@
+-- The counts and the bits of owners.
+use Rattle.std.proofs.Common.{ℕ, zero, suc, arith, ◌≡◌, ◌≢◌, ◌<◌, ◌+◌, ◌-◌, Bool, true, false, cond, List, [], ◌∷◌, ◌++◌, length, map, set, get_or, slice_get, Option, Some, None, inl, inr, refl, sym, ◌∙◌, ap, length-set, length-append}
+use Rattle.std.specs.Prelude.{◌||◌, ◌&&◌, ◌==◌, not, nat_lt, option_and_then}
+use Rattle.std.specs.List.{count_by, list_any, All}
+use Rattle.std.specs.Prelude.{◌%◌, ◌/◌}
+use Rattle.usb_ledger.specs.Owners.{shares_bit, is_of}
+use Rattle.std.specs.Option.{ForSome}
+use Rattle.std.proofs.lemmas.Option.{none-some, same_Some}
+use Rattle.std.specs.FinSet as bits
+use Rattle.std.specs.Ordering.{nat_cmp}
+use Rattle.std.specs.Cmp.{unsigned_tied}
+use Rattle.std.proofs.lemmas.Cmp.{nat_cmp_total}
+use Rattle.std.proofs.lemmas.Bool.{cases_Bool, cases_eq, eq-eqb, ne_eqb, lt-ltb}
+use Rattle.std.proofs.lemmas.Option.{slice_get-map}
+use Rattle.std.proofs.lemmas.List.Elements.{All-set, All-get_or, All-append}
+use Rattle.std.proofs.lemmas.List.Sums.{sum_by-cons}
+use Rattle.std.proofs.lemmas.Grind.{common_steps}
+use Rattle.usb_desc.specs.BitSet.{bit_of, members}
+use Rattle.usb_ledger.specs.declared.owners.Claim.{Claim}
+use Rattle.usb_ledger.specs.declared.owners.EndpointRow.{EndpointRow}
+use Rattle.usb_ledger.specs.declared.owners.EndedClaim.{EndedClaim}
+use Rattle.usb_ledger.specs.Entries.{ClaimedInterface}
+use Rattle.usb_ledger.specs.OwnerRows.{CountsOf, is_alive, is_alive_on, is_alive_with, uses_row, one_if, claim_state, with_row, is_counted, row_gone, claim_gone}
+use Rattle.usb_ledger.proofs.ListLemmas.{slice_get-set, slice_get-push, place, count-set, count-same, count-less, count-push, count-some, any-count}
+
+-- a row with the same interface and address, that lives or not like the other
+pub record Like (e next : EndpointRow) : Type 0 where
+  pub interface : next.interface ≡ e.interface
+  pub address : next.address ≡ e.address
+
+same_alive : (i : ℕ) (e next : EndpointRow) → Like e next → is_alive e ≡ true → is_alive next ≡ true → is_alive_on i next ≡ is_alive_on i e
+same_alive i e next like was is = rw (was, is, like.interface) refl
+
+same_with : (i bit : ℕ) (e next : EndpointRow) → Like e next → is_alive e ≡ true → is_alive next ≡ true → is_alive_with i bit next ≡ is_alive_with i bit e
+same_with i bit e next like was is = rw (was, is, like.interface, like.address) refl
+
+dead_on : (i : ℕ) (e : EndpointRow) → is_alive e ≡ false → is_alive_on i e ≡ false
+dead_on i e is = rw is (elim (is_of i e.interface) as (λ v. v && false ≡ false) [ true ↦ refl | false ↦ refl ])
+
+dead_with : (i bit : ℕ) (e : EndpointRow) → is_alive e ≡ false → is_alive_with i bit e ≡ false
+dead_with i bit e is = rw (dead_on i e is) refl
+
+apart_on : (i j : ℕ) (e : EndpointRow) → e.interface ≡ Some j → i ≢ j → is_alive_on i e ≡ false
+apart_on i j e on apart = rw (on, ne_eqb j i (λ z. apart (sym z))) refl
+
+apart_with : (i bit j : ℕ) (e : EndpointRow) → e.interface ≡ Some j → i ≢ j → is_alive_with i bit e ≡ false
+apart_with i bit j e on apart = rw (apart_on i j e on apart) refl
+
+none_on : (i : ℕ) (e : EndpointRow) → e.interface ≡ None → is_alive_on i e ≡ false
+none_on i e on = rw on refl
+
+none_with : (i bit : ℕ) (e : EndpointRow) → e.interface ≡ None → is_alive_with i bit e ≡ false
+none_with i bit e on = rw on refl
+
+alive_on : (j : ℕ) (e : EndpointRow) → e.interface ≡ Some j → is_alive e ≡ true → is_alive_on j e ≡ true
+alive_on j e on was = rw (on, was, eq-eqb j j refl) refl
+
+alive_with : (bit j : ℕ) (e : EndpointRow) → e.interface ≡ Some j → is_alive e ≡ true → is_alive_with j bit e ≡ (bit_of e.address == bit)
+alive_with bit j e on was = rw (alive_on j e on was) refl
+
+all-place : (P : EndpointRow → Type 0) (rows : List EndpointRow) (k : ℕ) (e : EndpointRow) → All P rows → k < length rows → e ≡ get_or rows k e → P e
+all-place P rows k e all within at = rw at (All-get_or P rows k e within all)
+
+module _ (claims : List Claim) (rows : List EndpointRow) (k : ℕ) (e next : EndpointRow) (counts : CountsOf claims rows) (within : k < length rows) (at : e ≡ get_or rows k e) (was : is_alive e ≡ true) (like : Like e next) where
+  small-next : next.address < 256
+  small-next = rw like.address (all-place (λ (e : EndpointRow). e.address < 256) rows k e counts.small within at)
+
+  pub placed-e : ForSome e.interface (λ i. i < length claims)
+  placed-e = all-place (λ (e : EndpointRow). ForSome e.interface (λ i. i < length claims)) rows k e counts.placed within at
+
+  -- an endpoint lives on
+  pub CountsOf-kept : is_alive next ≡ true → CountsOf claims (set rows k next)
+  CountsOf-kept is =
+      record {
+        living = λ i c here. counts.living i c here ∙ sym (count-same (is_alive_on i) rows k e next within at (same_alive i e next like was is));
+        used = λ i c bit here. count-same (is_alive_with i bit) rows k e next within at (same_with i bit e next like was is) ∙ counts.used i c bit here;
+        placed = All-set (λ (e : EndpointRow). ForSome e.interface (λ i. i < length claims)) rows k next (rw like.interface placed-e) counts.placed;
+        small = All-set (λ (e : EndpointRow). e.address < 256) rows k next small-next counts.small;
+      }
+
+  -- a control endpoint lives no more
+  pub CountsOf-dropped : e.interface ≡ None → CountsOf claims (set rows k next)
+  CountsOf-dropped on =
+      record {
+        living = λ i c here. counts.living i c here ∙ sym (count-same (is_alive_on i) rows k e next within at (none_on i next (like.interface ∙ on) ∙ sym (none_on i e on)));
+        used = λ i c bit here. count-same (is_alive_with i bit) rows k e next within at (none_with i bit next (like.interface ∙ on) ∙ sym (none_with i bit e on)) ∙ counts.used i c bit here;
+        placed = All-set (λ (e : EndpointRow). ForSome e.interface (λ i. i < length claims)) rows k next (rw like.interface placed-e) counts.placed;
+        small = All-set (λ (e : EndpointRow). e.address < 256) rows k next small-next counts.small;
+      }
+
+  pub some-living : (j : ℕ) → e.interface ≡ Some j → (claim : Claim) → claim ≡ get_or claims j claim → is_alive next ≡ false → 0 < claim.living
+  some-living j on claim here is =
+      let counted = counts.living j claim (place claims j claim (placed-e j on) here) in
+      let fewer = count-less (is_alive_on j) rows k e next within at (alive_on j e on was) (dead_on j next is) in
+      omega (arith, counted, fewer)
+
+  module _ (j : ℕ) (on : e.interface ≡ Some j) (claim lost : Claim) (here : claim ≡ get_or claims j claim) (living : lost.living ≡ claim.living - 1) (bits_are : members lost.bits ≡ bits.remove (members claim.bits) (bit_of e.address)) (is : is_alive next ≡ false) where
+    pub lost-living : lost.living ≡ count_by (is_alive_on j) (set rows k next)
+    lost-living =
+        let counted = counts.living j claim (place claims j claim (placed-e j on) here) in
+        let fewer = count-less (is_alive_on j) rows k e next within at (alive_on j e on was) (dead_on j next is) in
+        omega (arith, living, counted, fewer)
+
+    removed : (bit : ℕ) → bits.contains (members lost.bits) bit ≡ (not (bit == bit_of e.address) && bits.contains (members claim.bits) bit)
+    removed bit = rw bits_are (bits.contains-remove nat_cmp_total (members claim.bits) (bit_of e.address) bit ∙ ap (λ b. not b && bits.contains (members claim.bits) bit) (unsigned_tied bit (bit_of e.address)))
+
+    lost-used : (bit : ℕ) → count_by (is_alive_with j bit) (set rows k next) ≡ one_if (bits.contains (members lost.bits) bit)
+    lost-used bit =
+        let counted = counts.used j claim bit (place claims j claim (placed-e j on) here) in
+        let change = count-set (is_alive_with j bit) rows k e next within at in
+        let none : one_if (is_alive_with j bit next) ≡ 0 = ap one_if (dead_with j bit next is) in
+        elim (cases_eq bit (bit_of e.address)) [
+          | inl same ↦
+              let old : one_if (is_alive_with j bit e) ≡ 1 = ap one_if (alive_with bit j e on was ∙ eq-eqb (bit_of e.address) bit (sym same)) in
+              let gone : bits.contains (members lost.bits) bit ≡ false = removed bit ∙ rw (eq-eqb bit (bit_of e.address) same) refl in
+              rw gone (elim (cases_Bool (bits.contains (members claim.bits) bit)) [
+                | inl yes_ ↦ let one : one_if (bits.contains (members claim.bits) bit) ≡ 1 = ap one_if yes_ in omega (arith, counted, change, none, old, one)
+                | inr no_ ↦ let zero_ : one_if (bits.contains (members claim.bits) bit) ≡ 0 = ap one_if no_ in absurd (omega (arith, counted, change, none, old, zero_))
+              ])
+          | inr apart ↦
+              let old : one_if (is_alive_with j bit e) ≡ 0 = ap one_if (alive_with bit j e on was ∙ ne_eqb (bit_of e.address) bit (λ z. apart (sym z))) in
+              let gone : bits.contains (members lost.bits) bit ≡ bits.contains (members claim.bits) bit = removed bit ∙ rw (ne_eqb bit (bit_of e.address) apart) refl in
+              rw gone (omega (arith, counted, change, none, old))
+        ]
+
+    -- an endpoint lives no more
+    pub CountsOf-gone : CountsOf (set claims j lost) (set rows k next)
+    CountsOf-gone =
+        record {
+          living = λ i c there.
+              elim (slice_get-set claims j i lost c there) [
+                | inl w ↦ rw (w.0, w.1) lost-living
+                | inr w ↦ counts.living i c w.1 ∙ sym (count-same (is_alive_on i) rows k e next within at (apart_on i j next (like.interface ∙ on) w.0 ∙ sym (apart_on i j e on w.0)))
+              ];
+          used = λ i c bit there.
+              elim (slice_get-set claims j i lost c there) [
+                | inl w ↦ rw (w.0, w.1) (lost-used bit)
+                | inr w ↦ count-same (is_alive_with i bit) rows k e next within at (apart_with i bit j next (like.interface ∙ on) w.0 ∙ sym (apart_with i bit j e on w.0)) ∙ counts.used i c bit w.1
+              ];
+          placed = All-set (λ (x : EndpointRow). ForSome x.interface (λ i. i < length (set claims j lost))) rows k next (rw (length-set, like.interface) placed-e) (simp length-set counts.placed);
+          small = All-set (λ (e : EndpointRow). e.address < 256) rows k next small-next counts.small;
+        }
+
+-- the row of a key, written
+pub with_row-at : (rows : List EndpointRow) (k : ℕ) (e : EndpointRow) (o : Bool) (n : ℕ) → slice_get rows k ≡ Some e → with_row rows k o n ≡ set rows k (record e { is_open = o; tickets = n })
+unfolding with_row
+with_row-at rows k e o n at = rw at refl
+
+abbrev ended : ClaimedInterface → EndedClaim
+ended c = record { device = c.device; number = c.number; reattach = c.reattach }
+
+-- an interface of an endpoint that lives has an owner
+is_counted-alive : (rows : List EndpointRow) (k : ℕ) (e : EndpointRow) (j : ℕ) (c : ClaimedInterface) → slice_get rows k ≡ Some e → e.interface ≡ Some j → is_alive e ≡ true → is_counted rows j c ≡ true
+is_counted-alive rows k e j c at on is =
+    let some : 0 < count_by (is_alive_on j) rows = count-some (is_alive_on j) rows k e at (alive_on j e on is) in
+    rw (lt-ltb 0 (count_by (is_alive_on j) rows) some) (elim (nat_lt 0 c.handles) as (λ b. b || true ≡ true) [ true ↦ refl | false ↦ refl ])
+
+pub row_gone-alive : (interfaces : List ClaimedInterface) (rows : List EndpointRow) (k : ℕ) (e : EndpointRow) → slice_get rows k ≡ Some e → is_alive e ≡ true → row_gone interfaces rows k ≡ None
+unfolding row_gone claim_gone
+row_gone-alive interfaces rows k e at is = rw at (by e.interface refl)
+  where
+    of : (j : ℕ) → e.interface ≡ Some j → (o : Option ClaimedInterface) → option_and_then (λ (c : ClaimedInterface). cond (is_counted rows j c) None (Some (ended c))) o ≡ None
+    of j on None = refl
+    of j on (Some c) = rw (is_counted-alive rows k e j c at on is) refl
+
+    by : (o : Option ℕ) → e.interface ≡ o → option_and_then (λ j. option_and_then (λ (c : ClaimedInterface). cond (is_counted rows j c) None (Some (ended c))) (slice_get interfaces j)) o ≡ None
+    by None on = refl
+    by (Some j) on = of j on (slice_get interfaces j)
+
+-- the claim of an interface without owners
+abbrev pub claim_if : Claim → Option EndedClaim
+claim_if c = cond (nat_lt 0 c.handles || nat_lt 0 c.living) None (Some (record { device = c.device; number = c.number; reattach = c.reattach }))
+
+pub claim_gone-at : (claims : List Claim) (rows : List EndpointRow) (i : ℕ) (c : Claim) → slice_get claims i ≡ Some c → c.living ≡ count_by (is_alive_on i) rows → claim_gone (map claim_state claims) rows i ≡ claim_if c
+unfolding claim_gone
+claim_gone-at claims rows i c at living = rw (slice_get-map claim_state claims i, at, living) refl
+
+pub row_gone-control : (interfaces : List ClaimedInterface) (rows : List EndpointRow) (k : ℕ) (e : EndpointRow) → slice_get rows k ≡ Some e → e.interface ≡ None → row_gone interfaces rows k ≡ None
+unfolding row_gone
+row_gone-control interfaces rows k e at on = rw (at, on) refl
+
+pub row_gone-dead : (claims : List Claim) (rows : List EndpointRow) (k : ℕ) (e : EndpointRow) (j : ℕ) (c : Claim) → slice_get rows k ≡ Some e → e.interface ≡ Some j → slice_get claims j ≡ Some c → c.living ≡ count_by (is_alive_on j) rows
+    → row_gone (map claim_state claims) rows k ≡ claim_if c
+unfolding row_gone
+row_gone-dead claims rows k e j c at on there living = rw (at, on) (claim_gone-at claims rows j c there living)
+
+-- a handle of an interface goes
+pub CountsOf-handle : (claims : List Claim) (rows : List EndpointRow) (i : ℕ) (claim next : Claim) → CountsOf claims rows → i < length claims → claim ≡ get_or claims i claim → next.living ≡ claim.living → next.bits ≡ claim.bits → CountsOf (set claims i next) rows
+CountsOf-handle claims rows i claim next counts within at living bits_are =
+    let here = place claims i claim within at in
+    record {
+      living = λ j c there. elim (slice_get-set claims i j next c there) [ inl w ↦ rw (w.0, w.1) (living ∙ counts.living i claim here) | inr w ↦ counts.living j c w.1 ];
+      used = λ j c bit there.
+          elim (slice_get-set claims i j next c there) [
+            | inl w ↦ rw (w.0, w.1) (counts.used i claim bit here ∙ ap (λ b. one_if (bits.contains (members b) bit)) (sym bits_are))
+            | inr w ↦ counts.used j c bit w.1
+          ];
+      placed = simp length-set counts.placed;
+      small = counts.small;
+    }
+
+count-none : {X : Type 0} (p : X → Bool) (xs : List X) → All (λ x. p x ≡ false) xs → count_by p xs ≡ 0
+count-none p [] none = refl
+count-none p (x ∷ xs) none =
+    let here : one_if (p x) ≡ 0 = ap one_if (none 0 x (omega arith)) in
+    let IH = count-none p xs (λ k d l. none (suc k) d (omega arith)) in
+    omega (arith, here, IH, sum_by-cons (λ y. cond (p y) 1 0) x xs)
+
+-- an interface that is new has no endpoint
+not-placed : (n : ℕ) (o : Option ℕ) → ForSome o (λ i. i < n) → is_of n o ≡ false
+not-placed n None below = refl
+not-placed n (Some j) below = let less : j < n = below j refl in ne_eqb j n (λ same. omega arith)
+
+no-rows : (claims : List Claim) (rows : List EndpointRow) → CountsOf claims rows → All (λ (e : EndpointRow). is_alive_on (length claims) e ≡ false) rows
+no-rows claims rows counts = λ k d l. rw (not-placed (length claims) (get_or rows k d).interface (counts.placed k d l)) refl
+
+no-bits : (claims : List Claim) (rows : List EndpointRow) (bit : ℕ) → CountsOf claims rows → All (λ (e : EndpointRow). is_alive_with (length claims) bit e ≡ false) rows
+no-bits claims rows bit counts = λ k d l. rw (not-placed (length claims) (get_or rows k d).interface (counts.placed k d l)) refl
+
+pub CountsOf-claim : (claims : List Claim) (rows : List EndpointRow) (fresh : Claim) → CountsOf claims rows → fresh.living ≡ 0 → members fresh.bits ≡ bits.empty → CountsOf (claims ++ fresh ∷ []) rows
+CountsOf-claim claims rows fresh counts living bits_are =
+    let more : length (claims ++ fresh ∷ []) ≡ length claims + 1 = length-append claims (fresh ∷ []) in
+    record {
+      living = λ j c there. elim (slice_get-push claims fresh c j there) [ inl w ↦ rw (w.0, w.1) (living ∙ sym (count-none (is_alive_on (length claims)) rows (no-rows claims rows counts))) | inr w ↦ counts.living j c w ];
+      used = λ j c bit there.
+          elim (slice_get-push claims fresh c j there) [
+            | inl w ↦ rw (w.0, w.1, bits_are, bits.contains-empty nat_cmp bit) (count-none (is_alive_with (length claims) bit) rows (no-bits claims rows bit counts))
+            | inr w ↦ counts.used j c bit w
+          ];
+      placed = λ k d l j on. let below : j < length claims = counts.placed k d l j on in omega arith;
+      small = counts.small;
+    }
+
+All-one : (P : EndpointRow → Type 0) (x : EndpointRow) → P x → All P (x ∷ [])
+All-one P x p zero d inside = p
+All-one P x p (suc k) d inside = absurd (omega arith)
+
+-- a control endpoint is opened
+pub CountsOf-control : (claims : List Claim) (rows : List EndpointRow) (e : EndpointRow) → CountsOf claims rows → e.interface ≡ None → e.address < 256 → CountsOf claims (rows ++ e ∷ [])
+CountsOf-control claims rows e counts on small =
+    record {
+      living = λ i c here. let new : one_if (is_alive_on i e) ≡ 0 = ap one_if (none_on i e on) in omega (arith, counts.living i c here, new, count-push (is_alive_on i) rows e);
+      used = λ i c bit here. let new : one_if (is_alive_with i bit e) ≡ 0 = ap one_if (none_with i bit e on) in omega (arith, new, count-push (is_alive_with i bit) rows e) ∙ counts.used i c bit here;
+      placed = All-append (λ (x : EndpointRow). ForSome x.interface (λ i. i < length claims)) rows (e ∷ []) counts.placed (All-one (λ (x : EndpointRow). ForSome x.interface (λ i. i < length claims)) e (λ i is. absurd (none-some i (sym on ∙ is))));
+      small = All-append (λ (x : EndpointRow). x.address < 256) rows (e ∷ []) counts.small (All-one (λ (x : EndpointRow). x.address < 256) e small);
+    }
+
+-- an endpoint is opened, whose bit is free
+module _ (claims : List Claim) (rows : List EndpointRow) (e : EndpointRow) (j : ℕ) (on : e.interface ≡ Some j) (claim gained : Claim) (counts : CountsOf claims rows) (within : j < length claims) (at : claim ≡ get_or claims j claim) (alive : is_alive e ≡ true) (small : e.address < 256)
+    (living : gained.living ≡ claim.living + 1) (bits_are : members gained.bits ≡ bits.insert (members claim.bits) (bit_of e.address)) (unused : count_by (is_alive_with j (bit_of e.address)) rows ≡ 0) where
+  inserted : (bit : ℕ) → bits.contains (members gained.bits) bit ≡ ((bit == bit_of e.address) || bits.contains (members claim.bits) bit)
+  inserted bit = rw bits_are (bits.contains-insert nat_cmp_total (members claim.bits) (bit_of e.address) bit ∙ ap (λ b. b || bits.contains (members claim.bits) bit) (unsigned_tied bit (bit_of e.address)))
+
+  gained-used : (bit : ℕ) → count_by (is_alive_with j bit) (rows ++ e ∷ []) ≡ one_if (bits.contains (members gained.bits) bit)
+  gained-used bit =
+      let counted = counts.used j claim bit (place claims j claim within at) in
+      let more = count-push (is_alive_with j bit) rows e in
+      elim (cases_eq bit (bit_of e.address)) [
+        | inl same ↦
+            let new : one_if (is_alive_with j bit e) ≡ 1 = ap one_if (alive_with bit j e on alive ∙ eq-eqb (bit_of e.address) bit (sym same)) in
+            let has : bits.contains (members gained.bits) bit ≡ true = inserted bit ∙ rw (eq-eqb bit (bit_of e.address) same) refl in
+            let none : count_by (is_alive_with j bit) rows ≡ 0 = rw same unused in
+            rw has (omega (arith, more, new, none))
+        | inr apart ↦
+            let new : one_if (is_alive_with j bit e) ≡ 0 = ap one_if (alive_with bit j e on alive ∙ ne_eqb (bit_of e.address) bit (λ z. apart (sym z))) in
+            let has : bits.contains (members gained.bits) bit ≡ bits.contains (members claim.bits) bit = inserted bit ∙ rw (ne_eqb bit (bit_of e.address) apart) refl in
+            rw has (omega (arith, more, new, counted))
+      ]
+
+  gained-living : gained.living ≡ count_by (is_alive_on j) (rows ++ e ∷ [])
+  gained-living =
+      let counted = counts.living j claim (place claims j claim within at) in
+      let new : one_if (is_alive_on j e) ≡ 1 = ap one_if (alive_on j e on alive) in
+      omega (arith, living, counted, new, count-push (is_alive_on j) rows e)
+
+  other-living : (i : ℕ) → i ≢ j → count_by (is_alive_on i) (rows ++ e ∷ []) ≡ count_by (is_alive_on i) rows
+  other-living i apart =
+      let new : one_if (is_alive_on i e) ≡ 0 = ap one_if (apart_on i j e on apart) in omega (arith, new, count-push (is_alive_on i) rows e)
+
+  other-used : (i bit : ℕ) → i ≢ j → count_by (is_alive_with i bit) (rows ++ e ∷ []) ≡ count_by (is_alive_with i bit) rows
+  other-used i bit apart =
+      let new : one_if (is_alive_with i bit e) ≡ 0 = ap one_if (apart_with i bit j e on apart) in omega (arith, new, count-push (is_alive_with i bit) rows e)
+
+  pub CountsOf-row : CountsOf (set claims j gained) (rows ++ e ∷ [])
+  CountsOf-row =
+      record {
+        living = λ i c there. elim (slice_get-set claims j i gained c there) [ inl w ↦ rw (w.0, w.1) gained-living | inr w ↦ counts.living i c w.1 ∙ sym (other-living i w.0) ];
+        used = λ i c bit there. elim (slice_get-set claims j i gained c there) [ inl w ↦ rw (w.0, w.1) (gained-used bit) | inr w ↦ other-used i bit w.0 ∙ counts.used i c bit w.1 ];
+        placed = All-append (λ (x : EndpointRow). ForSome x.interface (λ i. i < length (set claims j gained))) rows (e ∷ []) (simp length-set counts.placed) (All-one (λ (x : EndpointRow). ForSome x.interface (λ i. i < length (set claims j gained))) e (λ i is. rw (length-set, same_Some i j (sym is ∙ on)) within));
+        small = All-append (λ (x : EndpointRow). x.address < 256) rows (e ∷ []) counts.small (All-one (λ (x : EndpointRow). x.address < 256) e small);
+      }
+
+one_if-positive : (b : Bool) → nat_lt 0 (one_if b) ≡ b
+one_if-positive true = refl
+one_if-positive false = refl
+
+-- whether a bit is in use
+pub bit-used : (claims : List Claim) (rows : List EndpointRow) (i bit : ℕ) (claim : Claim) → CountsOf claims rows → i < length claims → claim ≡ get_or claims i claim → bits.contains (members claim.bits) bit ≡ nat_lt 0 (count_by (is_alive_with i bit) rows)
+bit-used claims rows i bit claim counts within at = rw (counts.used i claim bit (place claims i claim within at)) (sym (one_if-positive (bits.contains (members claim.bits) bit)))
+
+-- of addresses the bits tell which share one
+pub bit_of-shares : (a b : ℕ) → a < 256 → b < 256 → shares_bit a b ≡ (bit_of a == bit_of b)
+bit_of-shares a b small_a small_b =
+    elim (cases_eq (bit_of a) (bit_of b)) [
+      | inl same ↦
+          let n : a % 16 ≡ b % 16 = omega arith in
+          let d : a / 128 ≡ b / 128 = omega arith in
+          rw (eq-eqb (bit_of a) (bit_of b) same, eq-eqb (a % 16) (b % 16) n, eq-eqb (a / 128) (b / 128) d) refl
+      | inr apart ↦
+          elim (cases_eq (a % 16) (b % 16)) [
+            | inl n ↦
+                elim (cases_eq (a / 128) (b / 128)) [
+                  | inl d ↦ absurd (apart (omega arith))
+                  | inr d ↦ rw (ne_eqb (bit_of a) (bit_of b) apart, eq-eqb (a % 16) (b % 16) n, ne_eqb (a / 128) (b / 128) d) refl
+                ]
+            | inr n ↦ rw (ne_eqb (bit_of a) (bit_of b) apart, ne_eqb (a % 16) (b % 16) n) refl
+          ]
+    ]
+
+any-same : (p q : EndpointRow → Bool) (rows : List EndpointRow) → All (λ e. p e ≡ q e) rows → list_any p rows ≡ list_any q rows
+any-same p q [] same = refl
+any-same p q (e ∷ es) same = rw (same 0 e (omega arith), any-same p q es (λ k d l. same (suc k) d (omega arith))) refl
+
+pub rows-used : (rows : List EndpointRow) (i address : ℕ) → All (λ (e : EndpointRow). e.address < 256) rows → address < 256 → list_any (uses_row i address) rows ≡ nat_lt 0 (count_by (is_alive_with i (bit_of address)) rows)
+rows-used rows i address small fits =
+    any-same (uses_row i address) (is_alive_with i (bit_of address)) rows (λ k d l. ap (λ b. is_alive_on i (get_or rows k d) && b) (bit_of-shares (get_or rows k d).address address (small k d l) fits))
+    ∙ any-count (is_alive_with i (bit_of address)) rows
+
+positive-none : (n : ℕ) → nat_lt 0 n ≡ false → n ≡ 0
+positive-none n is = grind (arith, common_steps)
+
+pub rows-unused : (rows : List EndpointRow) (i address : ℕ) → All (λ (e : EndpointRow). e.address < 256) rows → address < 256 → list_any (uses_row i address) rows ≡ false → count_by (is_alive_with i (bit_of address)) rows ≡ 0
+rows-unused rows i address small fits none = positive-none _ (sym (rows-used rows i address small fits) ∙ none)

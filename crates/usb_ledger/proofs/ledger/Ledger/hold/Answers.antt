@@ -1,0 +1,34 @@
+use Rattle.std.proofs.Common.{◌≡◌, ◌+◌, map, set, length, true, slice_get, ap, sym, refl, ◌∙◌, arith}
+use Rattle.std.proofs.lemmas.List.{map-append, length-map}
+use Rattle.usb_ledger.specs.declared.owners.EndpointRow.{EndpointRow}
+use Rattle.usb_ledger.specs.declared.slot.TicketState.TheVariants as slot
+use Rattle.usb_ledger.specs.OwnerRows.{endpoint_of}
+use Rattle.usb_ledger.specs.LedgerState.{LedgerState, host_ticket}
+use Rattle.usb_ledger.proofs.OwnerLemmas.{with_row-at}
+use Rattle.usb_ledger.proofs.LedgerLemmas.{Tied-add, some-at, endpoint-at, endpoints-kept}
+use Rattle.usb_ledger.proofs.ledger.Ledger.hold.Goals as goal
+
+pub add_ticket-requires-clause-open : goal.add_ticket-requires-clause-open
+add_ticket-requires-clause-open c = λ e there. c.requires.open (endpoint_of e) (rw (← c.self.view_is) (endpoint-at c.self.inside.owners.rows c.args.key e there))
+
+pub invariant_of-self : goal.invariant_of-self
+invariant_of-self c =
+    let rows = c.self.inside.owners.rows in
+    let tickets = map host_ticket c.self.inside.slots.items in
+    let there = some-at rows c.args.key (omega (arith, ap (λ (l : LedgerState). length l.endpoints) c.self.view_is, length-map rows endpoint_of, c.requires.key)) in
+    let e = there.0 in
+    let next : EndpointRow = record e { is_open = true; tickets = e.tickets + 1 } in
+    let owners = c.add_ticket.ensures.rows e there.1 in
+    rw (owners, c.push_reserved.ensures.items, with_row-at rows c.args.key e true (e.tickets + 1) there.1, map-append) (Tied-add rows tickets (host_ticket (slot.HeldBy c.args.key c.args.transfer)) c.args.key e next c.self.invariant refl there.1 refl)
+
+pub returns : goal.returns
+returns c =
+    let rows = c.self.inside.owners.rows in
+    let tickets = map host_ticket c.self.inside.slots.items in
+    let there = some-at rows c.args.key (omega (arith, ap (λ (l : LedgerState). length l.endpoints) c.self.view_is, length-map rows endpoint_of, c.requires.key)) in
+    let e = there.0 in
+    let next : EndpointRow = record e { is_open = true; tickets = e.tickets + 1 } in
+    let owners = c.add_ticket.ensures.rows e there.1 in
+    let is_open : e.is_open ≡ true = c.requires.open (endpoint_of e) (ap (λ (l : LedgerState). slice_get l.endpoints c.args.key) (sym c.self.view_is) ∙ endpoint-at rows c.args.key e there.1) in
+    let kept : map endpoint_of (set rows c.args.key next) ≡ map endpoint_of rows = endpoints-kept rows c.args.key e next there.1 (rw is_open refl) in
+    record { slots = rw (← c.self.view_is, owners, c.push_reserved.ensures.items, with_row-at rows c.args.key e true (e.tickets + 1) there.1, kept) refl }

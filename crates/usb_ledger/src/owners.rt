@@ -1,0 +1,387 @@
+//! Who owns the claimed interfaces, and which of their endpoints are in use, kept as counts and
+//! bits.
+
+ghost use Rattle.std.specs.Prelude.{◌≡◌, ◌+◌, ◌-◌, ◌^◌, ◌<◌, ◌≤◌, ◌++◌, ◌∷◌, [], ◌||◌, length, set, true, false, IfSome, nat_lt, slice_get, Some, None, OnOk, OnErr, IfOk, if◌then◌else◌, vec_len, vec_capacity};
+ghost use Rattle.std.specs.Option.{ForSome};
+ghost use Rattle.std.specs.List.{list_any, count_by};
+ghost use Rattle.std.specs.FinSet as bits;
+ghost use Rattle.usb_desc.specs.BitSet.{bit_of, members};
+ghost use Rattle.usb_ledger.specs.Entries.{fresh_interface};
+ghost use Rattle.usb_ledger.specs.OwnerRows.{OwnersState, claim_state, is_alive, is_alive_on, is_counted, uses_row, with_row, row_gone, claim_gone};
+
+use std::alloc::Global;
+use std::marker::Model;
+use usb_desc::{EndpointBitSet, NoMemory};
+
+/// A claim that ends: the device's number at the kernel, the interface's number, and whether its
+/// driver is to be attached again.
+#[derive(Clone, Copy)]
+pub struct EndedClaim {
+    pub device: u8,
+    pub number: u8,
+    pub reattach: bool,
+}
+
+/// A claimed interface: the key of its open device, the device's number at the kernel, its own
+/// number and alternate setting, whether its driver is to be attached again when the claim ends,
+/// how many handles of it are open, how many of its endpoints live, and their bits.
+#[derive(Drop)]
+pub struct Claim {
+    pub opened: usize,
+    pub device: u8,
+    pub number: u8,
+    pub setting: u8,
+    pub reattach: bool,
+    pub handles: usize,
+    living: usize,
+    bits: EndpointBitSet,
+}
+
+/// An endpoint: the key of its interface (a control endpoint has none), its address, whether its
+/// handle is open, and how many of its tickets have no end.
+#[derive(Drop)]
+pub(crate) struct EndpointRow {
+    pub interface: Option<usize>,
+    pub address: u8,
+    pub is_open: bool,
+    pub tickets: usize,
+}
+
+/// The claimed interfaces and their endpoints, each by its key.
+#[derive(Drop)]
+pub(crate) struct Owners {
+    claims: Vec<Claim>,
+    rows: Vec<EndpointRow>,
+}
+
+impl Model for Owners {
+    ghost use Rattle.std.specs.Prelude.{map, ◌-◌, vec_len, vec_capacity};
+    ghost use Rattle.usb_ledger.specs.OwnerRows.{OwnersState, claim_state};
+
+    ghost Value = { OwnersState };
+
+    ghost view = { λ o. record {
+      interfaces = map claim_state o.claims.items;
+      rows = o.rows.items;
+      claim_room = vec_capacity o.claims - vec_len o.claims;
+    } };
+
+    ghost use Rattle.usb_ledger.specs.OwnerFacts.{AreCounted};
+
+    ghost invariant = { AreCounted };
+}
+
+impl EndpointRow {
+    /// Whether the endpoint lives.
+    fn is_alive(&self) -> bool
+        ensures alive { result ≡ is_alive self.now }
+    {
+        self.is_open || self.tickets > 0
+    }
+}
+
+impl Claim {
+    /// The claim, where the interface has no owner.
+    fn if_left(&self) -> Option<EndedClaim>
+        ensures left { result ≡ (if nat_lt 0 self.now.handles || nat_lt 0 self.now.living then None
+            else Some (record {
+              device = self.now.device;
+              number = self.now.number;
+              reattach = self.now.reattach;
+            })) }
+    {
+        if self.handles > 0 || self.living > 0 {
+            return None;
+        }
+        Some(EndedClaim {
+            device: self.device,
+            number: self.number,
+            reattach: self.reattach,
+        })
+    }
+
+    /// An endpoint of the interface lives no more.
+    fn lose(&mut self, address: u8)
+        requires some { 0 < self.old.living }
+        ensures rest { self.new ≡ record self.old {
+          living = self.old.living - 1;
+          bits = self.new.bits;
+        } }
+        ensures bits { members self.new.bits ≡ bits.remove (members self.old.bits)
+            (bit_of address) }
+    {
+        self.living -= 1;
+        self.bits.clear(address);
+    }
+}
+
+impl Claim {
+    /// An endpoint of the interface lives.
+    fn gain(&mut self, address: u8)
+        requires small { self.old.living + 1 < 2 ^ 64 }
+        ensures rest { self.new ≡ record self.old {
+          living = self.old.living + 1;
+          bits = self.new.bits;
+        } }
+        ensures bits { members self.new.bits ≡ bits.insert (members self.old.bits)
+            (bit_of address) }
+    {
+        self.living += 1;
+        self.bits.set(address);
+    }
+}
+
+impl Owners {
+    /// An endpoint that lives is open or not, and has this many tickets without an end. The claim
+    /// of its interface ends where it was the last owner and lives no more.
+    fn change(&mut self, key: usize, is_open: bool, tickets: usize) -> Option<EndedClaim>
+        requires key { key < length self.old.rows }
+        requires alive { ForSome (slice_get self.old.rows key) (λ e. is_alive e ≡ true) }
+        ensures rows { self.new ≡ record self.old {
+          rows = with_row self.old.rows key is_open tickets;
+        } }
+        ensures gone { result ≡ row_gone self.new.interfaces self.new.rows key }
+    {
+        let row = &mut self.rows[key];
+        row.is_open = is_open;
+        row.tickets = tickets;
+        if row.is_alive() {
+            return None;
+        }
+        let address = row.address;
+        let Some(interface) = row.interface else {
+            return None;
+        };
+        let claim = &mut self.claims[interface];
+        claim.lose(address);
+        claim.if_left()
+    }
+
+    /// No interface, and no endpoint.
+    pub fn new(alloc: Global) -> Owners
+        ensures empty { result ≡ record {
+          interfaces = [];
+          rows = [];
+          claim_room = result.claim_room;
+        } }
+    {
+        Owners {
+            claims: Vec::new(alloc),
+            rows: Vec::new(alloc),
+        }
+    }
+
+    /// A ticket comes to an endpoint that is open.
+    pub fn add_ticket(&mut self, key: usize)
+        requires key { key < length self.old.rows }
+        requires open { ForSome (slice_get self.old.rows key) (λ e. e.is_open ≡ true) }
+        requires small { ForSome (slice_get self.old.rows key) (λ e. e.tickets + 1 < 2 ^ 64) }
+        ensures rows { ForSome (slice_get self.old.rows key) (λ e.
+            self.new ≡ record self.old { rows = with_row self.old.rows key true (e.tickets + 1) }) }
+    {
+        let row = &self.rows[key];
+        let tickets = row.tickets + 1;
+        let _ = self.change(key, true, tickets);
+    }
+
+    /// A ticket of an endpoint has its end.
+    pub fn end_ticket(&mut self, key: usize) -> Option<EndedClaim>
+        requires key { key < length self.old.rows }
+        requires some { ForSome (slice_get self.old.rows key) (λ e. 0 < e.tickets) }
+        ensures rows { ForSome (slice_get self.old.rows key) (λ e.
+            self.new ≡ record self.old {
+              rows = with_row self.old.rows key e.is_open (e.tickets - 1);
+            }) }
+        ensures gone { result ≡ row_gone self.new.interfaces self.new.rows key }
+    {
+        let row = &self.rows[key];
+        let is_open = row.is_open;
+        let tickets = row.tickets - 1;
+        self.change(key, is_open, tickets)
+    }
+
+    /// The handle of an endpoint is closed.
+    pub fn close_endpoint(&mut self, key: usize) -> Option<EndedClaim>
+        requires key { key < length self.old.rows }
+        requires open { ForSome (slice_get self.old.rows key) (λ e. e.is_open ≡ true) }
+        ensures rows { ForSome (slice_get self.old.rows key) (λ e.
+            self.new ≡ record self.old { rows = with_row self.old.rows key false e.tickets }) }
+        ensures gone { result ≡ row_gone self.new.interfaces self.new.rows key }
+    {
+        let row = &self.rows[key];
+        let tickets = row.tickets;
+        self.change(key, false, tickets)
+    }
+
+    /// A handle of an interface is closed.
+    pub fn close_handle(&mut self, interface: usize) -> Option<EndedClaim>
+        requires key { interface < length self.old.interfaces }
+        requires some { ForSome (slice_get self.old.interfaces interface) (λ c. 0 < c.handles) }
+        ensures interfaces { ForSome (slice_get self.old.interfaces interface) (λ c.
+            self.new ≡ record self.old {
+              interfaces = set self.old.interfaces interface
+                  (record c { handles = c.handles - 1 });
+            }) }
+        ensures gone { result ≡ claim_gone self.new.interfaces self.new.rows interface }
+    {
+        let claim = &mut self.claims[interface];
+        claim.handles -= 1;
+        claim.if_left()
+    }
+
+    /// One more handle of an interface is open.
+    pub fn add_handle(&mut self, interface: usize) -> Result<(), NoMemory>
+        requires key { interface < length self.old.interfaces }
+        ensures interfaces { OnOk result (ForSome (slice_get self.old.interfaces interface) (λ c.
+            self.new ≡ record self.old {
+              interfaces = set self.old.interfaces interface
+                  (record c { handles = c.handles + 1 });
+            })) }
+        ensures err { OnErr result (self.new ≡ self.old) }
+    {
+        let claim = &mut self.claims[interface];
+        if claim.handles == usize::MAX {
+            return Err(NoMemory);
+        }
+        claim.handles += 1;
+        Ok(())
+    }
+
+    /// An interface has another alternate setting.
+    pub fn set_setting(&mut self, interface: usize, setting: u8)
+        requires key { interface < length self.old.interfaces }
+        ensures interfaces { ForSome (slice_get self.old.interfaces interface) (λ c.
+            self.new ≡ record self.old {
+              interfaces = set self.old.interfaces interface (record c { setting = setting });
+            }) }
+    {
+        let claim = &mut self.claims[interface];
+        claim.setting = setting;
+    }
+
+    /// Whether an endpoint of an interface lives.
+    pub fn has_living(&self, interface: usize) -> bool
+        requires key { interface < length self.now.interfaces }
+        ensures living { result ≡ nat_lt 0 (count_by (is_alive_on interface) self.now.rows) }
+    {
+        let claim = &self.claims[interface];
+        claim.living > 0
+    }
+
+    /// Whether an interface has an owner beside one of its handles.
+    pub fn is_shared(&self, interface: usize) -> bool
+        requires key { interface < length self.now.interfaces }
+        ensures shared { ForSome (slice_get self.now.interfaces interface) (λ c.
+            result ≡ is_counted self.now.rows interface (record c { handles = c.handles - 1 })) }
+    {
+        let claim = &self.claims[interface];
+        claim.handles > 1 || claim.living > 0
+    }
+
+    /// A claimed interface.
+    pub fn interface(&self, interface: usize) -> &Claim
+        requires key { interface < length self.now.interfaces }
+        ensures claim { slice_get self.now.interfaces interface ≡ Some (claim_state result.now) }
+    {
+        &self.claims[interface]
+    }
+
+    /// Whether a living endpoint of an interface has the bit of an address.
+    pub fn is_used(&self, interface: usize, address: u8) -> bool
+        requires key { interface < length self.now.interfaces }
+        ensures used { result ≡ list_any (uses_row interface address) self.now.rows }
+    {
+        let claim = &self.claims[interface];
+        claim.bits.is_set(address)
+    }
+
+    /// Makes room for one more claimed interface.
+    pub fn reserve_claim(&mut self) -> Result<(), NoMemory>
+        ensures room { OnOk result (1 ≤ self.new.claim_room) }
+        ensures rest { self.new ≡ record self.old { claim_room = self.new.claim_room } }
+    {
+        if self.claims.reserve(1).is_err() {
+            return Err(NoMemory);
+        }
+        Ok(())
+    }
+
+    /// One more interface is claimed, with one handle.
+    pub fn open_interface(&mut self, opened: usize, device: u8, number: u8, reattach: bool) -> usize
+        requires room { 1 ≤ self.old.claim_room }
+        ensures key { result ≡ length self.old.interfaces }
+        ensures interfaces { self.new ≡ record self.old {
+          interfaces = self.old.interfaces ++ fresh_interface opened device number reattach ∷ [];
+          claim_room = self.new.claim_room;
+        } }
+    {
+        let key = self.claims.len();
+        self.claims.push_reserved(Claim {
+            opened,
+            device,
+            number,
+            setting: 0,
+            reattach,
+            handles: 1,
+            living: 0,
+            bits: EndpointBitSet::new(),
+        });
+        key
+    }
+
+    /// One more endpoint of an interface is open. Its bit must not be in use.
+    pub fn open_endpoint(&mut self, interface: usize, address: u8) -> Result<usize, NoMemory>
+        requires key { interface < length self.old.interfaces }
+        requires unused { list_any (uses_row interface address) self.old.rows ≡ false }
+        ensures key { IfOk result (λ key. key ≡ length self.old.rows) }
+        ensures rows { OnOk result (self.new ≡ record self.old {
+          rows = self.old.rows ++ record {
+            interface = Some interface;
+            address = address;
+            is_open = true;
+            tickets = 0;
+          } ∷ [];
+        }) }
+        ensures err { OnErr result (self.new ≡ self.old) }
+    {
+        let key = self.rows.len();
+        let row = EndpointRow {
+            interface: Some(interface),
+            address,
+            is_open: true,
+            tickets: 0,
+        };
+        if self.rows.push(row).is_err() {
+            return Err(NoMemory);
+        }
+        let claim = &mut self.claims[interface];
+        claim.gain(address);
+        Ok(key)
+    }
+
+    /// One more control endpoint is open, which is of no interface.
+    pub fn open_control(&mut self, address: u8) -> Result<usize, NoMemory>
+        ensures key { IfOk result (λ key. key ≡ length self.old.rows) }
+        ensures rows { OnOk result (self.new ≡ record self.old {
+          rows = self.old.rows ++ record {
+            interface = None;
+            address = address;
+            is_open = true;
+            tickets = 0;
+          } ∷ [];
+        }) }
+        ensures err { OnErr result (self.new ≡ self.old) }
+    {
+        let key = self.rows.len();
+        let row = EndpointRow {
+            interface: None,
+            address,
+            is_open: true,
+            tickets: 0,
+        };
+        if self.rows.push(row).is_err() {
+            return Err(NoMemory);
+        }
+        Ok(key)
+    }
+}
