@@ -2,13 +2,14 @@
 
 use crate::scripts::{expect_malformed, expect_read};
 
-const CALLS: [(&str, usize); 9] = [
+const CALLS: [(&str, usize); 10] = [
     ("now", 1),
     ("submitout e0 -", 1),
     ("submitout e63 0aF0", 1),
     ("pending e0", 1),
     ("cancel e0", 1),
     ("close e0", 1),
+    ("halt e63", 1),
     ("endpoint e0 i0 02 bulk-out", 1),
     ("endpoint e0 i0 81 int-in", 1),
     ("endpoint e0 i0 02 int-out", 1),
@@ -23,9 +24,9 @@ const MALFORMED_CALLS: [(&str, u32); 14] = [
     ("pending e64", 1),
     ("pending e0 0", 1),
     ("cancel e0 e1", 1),
-    ("close d0", 1),
-    ("close i0", 1),
+    ("close e64", 1),
     ("close e0 : reap", 1),
+    ("halt i0", 1),
     ("poll e0 : reap", 1),
     ("endpoint e0 i0 02 int", 1),
     ("endpoint e0 i0 81 iso-in", 1),

@@ -142,24 +142,24 @@ fn takes_scripts_and_byte_words_up_to_their_limits(rt: HostRuntime) -> Result<()
 }
 
 const EACH_LINE: &str =
-    "device k1 2 3 4 5 0aFf\nopen d6 7 8\ndevdesc d8\ndescriptors d9\nclaim d9 10 i11\nendpoint e12 i13 8e bulk-in\nsubmitin e15 16\npoll e17\n! pkt k18 93 14 ; reap 15\nnow\nsubmitout e18 19\npending e20\nwait e21 22 : reap\nxferin e23 24 25 : unplug k26 ; clock 27\nxferout e28 29 max\ncancel e30\nclose e31\n";
+    "device k1 2 3 4 5 0aFf\ndriver k6 7\nopen d6 7 8\ndevdesc d8\ndescriptors d9\nclaim d9 10 i11\nendpoint e12 i13 8e bulk-in\nsubmitin e15 16\npoll e17\n! pkt k18 93 14 ; reap 15\nnow\nsubmitout e18 19\npending e20\nwait e21 22 : reap\nxferin e23 24 25 : unplug k26 ; clock 27\nxferout e28 29 max\ncancel e30\nclose e31\nclone d32 d33\nclose d34\nactive d35\nspeed d36\nsetconfig d37 38\nreset d39\ndetach d40 41\nattach d42 43\ndetachclaim d44 45 i46\nclone i47 i48\nclose i49\nalt i50 51\ngetalt i52\nifdesc i53\nrelease i54\nhalt e55\n";
 
 /// Compares which items are setup lines, and which are calls.
 fn expect_kinds(rt: &impl Abort, items: &[Item]) {
-    assert_eq!(rt; items.len(), 17);
+    assert_eq!(rt; items.len(), 34);
     for (index, item) in items.iter().enumerate() {
         let kind = (item.is_setup(), item.is_call());
         assert!(rt;
-            kind == (index == 0, index != 0 && index != 8),
+            kind == (index < 2, index >= 2 && index != 9),
             "item {index}"
         );
     }
 }
 
 #[test]
-fn tells_setup_lines_from_calls_and_counts_steps(rt: HostRuntime) -> Result<(), Fail> {
+fn tells_setup_lines_from_calls_and_counts_places(rt: HostRuntime) -> Result<(), Fail> {
     let script = parse_script(rt.alloc(), EACH_LINE.as_bytes())?;
-    assert_eq!(rt; script.step_count(), 5);
+    assert_eq!(rt; script.place_count(), 6);
     expect_kinds(&rt, script.items());
     Ok(())
 }

@@ -3,4 +3,5 @@ pub mod FirstWord
 pub mod OnLiterals
 pub mod ParseOn
 pub mod StepsOfLine
+pub mod TakenLemmas
 mod WorkedScripts

@@ -1,7 +1,7 @@
 -- The parts between semicolons, and the steps of those that are left.
 use Rattle.std.proofs.Common.{◌≡◌, ℕ, ◌<◌, ◌≤◌, ◌+◌, zero, suc, List, [], ◌∷◌, ◌++◌, length, get_or, take, drop, Bor, Option, Some, None, true, false, refl, ap, sym, ◌∙◌, arith, append_assoc}
 use Rattle.std.proofs.lemmas.List.{drop-map}
-use Rattle.usb_kernel.specs.declared.step.KernelStep.{KernelStep}
+use Rattle.usb_simulated.specs.declared.step.KernelStep.{KernelStep}
 use Rattle.usb_script.specs.Words.{◌>>=◌}
 use Rattle.usb_script.specs.Fields.{Word, texts}
 use Rattle.usb_script.specs.StepForms.{step_of}

@@ -1,11 +1,11 @@
 -- Scripts worked out by the definition alone.
 use Rattle.std.proofs.Common.{◌≡◌, ◌++◌, [], ◌∷◌, codes, Some, None, Ok, Err, refl}
 use Rattle.usb_script.specs.declared.endpoint_kind.EndpointKind.TheVariants.{BulkIn, BulkOut, InterruptIn, InterruptOut}
-use Rattle.usb_script.specs.declared.item.Item.TheVariants.{Device, Now, Open, DeviceDescriptor, Descriptors, Claim, Endpoint, SubmitIn, SubmitOut, Pending, Poll, Wait, TransferIn, TransferOut, Cancel, CloseEndpoint, Steps}
+use Rattle.usb_script.specs.declared.item.Item.TheVariants.{Device, Driver, Now, Open, DeviceDescriptor, Descriptors, CloneDevice, CloseDevice, ActiveConfiguration, Speed, SetConfiguration, Reset, DetachDriver, AttachDriver, Claim, DetachAndClaim, CloneInterface, CloseInterface, SetAltSetting, GetAltSetting, InterfaceDescriptor, Release, Endpoint, SubmitIn, SubmitOut, Pending, Poll, Wait, TransferIn, TransferOut, Cancel, ClearHalt, CloseEndpoint, Steps}
 use Rattle.usb_script.specs.declared.error.SessionError.TheVariants.{Malformed}
 use Rattle.usb_script.specs.declared.reading.Reading.TheVariants.{Skipped, Read}
-use Rattle.usb_kernel.specs.declared.step.KernelStep.TheVariants.{Packet, Ack, Fail, Unplug, Clock, Timer, Reap, Refuse}
-use Rattle.usb_kernel.specs.declared.step.KernelCall.TheVariants as call
+use Rattle.usb_simulated.specs.declared.step.KernelStep.TheVariants.{Packet, Ack, Fail, Unplug, Clock, Timer, Reap, Refuse}
+use Rattle.usb_simulated.specs.declared.step.KernelCall.TheVariants as call
 use Rattle.usb_script.specs.LineForms.{reading_of}
 use Rattle.usb_script.specs.Parse.{script_of}
 use Rattle.usb_script.proofs.OnLiterals.{script_on_literals}
@@ -146,14 +146,46 @@ one_nanosecond_too_much : reading_of (codes "wait e0 1000000000000000001") ≡ N
 unfolding script_on_literals
 one_nanosecond_too_much = refl
 
-close_of_a_device : reading_of (codes "close d0") ≡ None
+-- the letter of the first name says what is closed
+close_of_each :
+    script_of (codes "close d63" ++ 10 ∷ codes "close i0" ++ 10 ∷ codes "close e5") ≡ Ok (CloseDevice 63 ∷ CloseInterface 0 ∷ CloseEndpoint 5 ∷ [])
 unfolding script_on_literals
-close_of_a_device = refl
+close_of_each = refl
+
+close_of_a_simulated_device : reading_of (codes "close k0") ≡ None
+unfolding script_on_literals
+close_of_a_simulated_device = refl
+
+clone_of_two_letters : reading_of (codes "clone d0 i0") ≡ None
+unfolding script_on_literals
+clone_of_two_letters = refl
+
+clone_of_an_endpoint : reading_of (codes "clone e0 e1") ≡ None
+unfolding script_on_literals
+clone_of_an_endpoint = refl
+
+-- a driver may stand before its device
+drivers : script_of (codes "driver k0 255" ++ 10 ∷ codes "device k0 1 1 3 1 -" ++ 10 ∷ codes "driver k0 255") ≡ Ok (Driver 0 255 ∷ Device 0 1 1 3 1 [] ∷ Driver 0 255 ∷ [])
+unfolding script_on_literals
+drivers = refl
+
+driver_of_interface_256 : reading_of (codes "driver k0 256") ≡ None
+unfolding script_on_literals
+driver_of_interface_256 = refl
+
+driver_after_a_call : script_of (codes "device k0 1 1 3 1 -" ++ 10 ∷ codes "now" ++ 10 ∷ codes "driver k0 0") ≡ Err (Malformed 3)
+unfolding script_on_literals
+driver_after_a_call = refl
+
+driver_after_a_step : script_of (codes "! timer" ++ 10 ∷ codes "driver k0 0") ≡ Err (Malformed 2)
+unfolding script_on_literals
+driver_after_a_step = refl
 
 -- each line with its fields
 each_line :
     script_of (
     codes "device k1 2 3 4 5 0aFf" ++ 10 ∷ []
+    ++ codes "driver k6 7" ++ 10 ∷ []
     ++ codes "open d6 7 8" ++ 10 ∷ []
     ++ codes "devdesc d8" ++ 10 ∷ []
     ++ codes "descriptors d9" ++ 10 ∷ []
@@ -170,9 +202,26 @@ each_line :
     ++ codes "xferout e28 29 max" ++ 10 ∷ []
     ++ codes "cancel e30" ++ 10 ∷ []
     ++ codes "close e31" ++ 10 ∷ []
+    ++ codes "clone d32 d33" ++ 10 ∷ []
+    ++ codes "close d34" ++ 10 ∷ []
+    ++ codes "active d35" ++ 10 ∷ []
+    ++ codes "speed d36" ++ 10 ∷ []
+    ++ codes "setconfig d37 38" ++ 10 ∷ []
+    ++ codes "reset d39" ++ 10 ∷ []
+    ++ codes "detach d40 41" ++ 10 ∷ []
+    ++ codes "attach d42 43" ++ 10 ∷ []
+    ++ codes "detachclaim d44 45 i46" ++ 10 ∷ []
+    ++ codes "clone i47 i48" ++ 10 ∷ []
+    ++ codes "close i49" ++ 10 ∷ []
+    ++ codes "alt i50 51" ++ 10 ∷ []
+    ++ codes "getalt i52" ++ 10 ∷ []
+    ++ codes "ifdesc i53" ++ 10 ∷ []
+    ++ codes "release i54" ++ 10 ∷ []
+    ++ codes "halt e55" ++ 10 ∷ []
     )
     ≡ Ok (
     Device 1 2 3 4 5 (10 ∷ 255 ∷ [])
+    ∷ Driver 6 7
     ∷ Open 6 7 8
     ∷ DeviceDescriptor 8
     ∷ Descriptors 9
@@ -189,6 +238,22 @@ each_line :
     ∷ TransferOut 28 (41 ∷ []) 18446744073709551615 []
     ∷ Cancel 30
     ∷ CloseEndpoint 31
+    ∷ CloneDevice 32 33
+    ∷ CloseDevice 34
+    ∷ ActiveConfiguration 35
+    ∷ Speed 36
+    ∷ SetConfiguration 37 38
+    ∷ Reset 39
+    ∷ DetachDriver 40 41
+    ∷ AttachDriver 42 43
+    ∷ DetachAndClaim 44 45 46
+    ∷ CloneInterface 47 48
+    ∷ CloseInterface 49
+    ∷ SetAltSetting 50 51
+    ∷ GetAltSetting 52
+    ∷ InterfaceDescriptor 53
+    ∷ Release 54
+    ∷ ClearHalt 55
     ∷ []
     )
 unfolding script_on_literals

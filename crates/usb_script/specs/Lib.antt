@@ -13,6 +13,7 @@ pub mod Parse
 pub mod ScriptFacts
 pub mod StepForms
 pub mod StepRanges
+pub mod Taken
 pub mod Timeouts
 pub mod Waits
 pub mod Words

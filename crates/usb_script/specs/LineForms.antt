@@ -3,22 +3,23 @@ use Rattle.std.specs.Prelude.{ℕ, List, [], ◌∷◌, codes, Option, Some, Non
 use Rattle.std.specs.List.{list_all}
 use Rattle.std.specs.Str.{bytes_eq}
 use Rattle.usb_script.specs.declared.item.Item.{Item}
-use Rattle.usb_script.specs.declared.item.Item.TheVariants.{Device, Steps}
+use Rattle.usb_script.specs.declared.item.Item.TheVariants.{Device, Driver, Steps}
 use Rattle.usb_script.specs.declared.reading.Reading.{Reading}
 use Rattle.usb_script.specs.declared.reading.Reading.TheVariants.{Skipped, Read}
 use Rattle.usb_script.specs.Lines.{words_of, is_printable, without_cr, is_skipped}
 use Rattle.usb_script.specs.Words.{◌>>=◌, number_of, name_of, bytes_of}
-use Rattle.usb_script.specs.Fields.{Word, six}
+use Rattle.usb_script.specs.Fields.{Word, two, six}
 use Rattle.usb_script.specs.Letters.{simulated_letter}
 use Rattle.usb_script.specs.KernelSteps.{steps_of}
-use Rattle.usb_script.specs.Calls.{device_call_of}
+use Rattle.usb_script.specs.Waits.{wait_call_of}
 
--- `! STEP ; ..`, `device k B B B B BYTES`, and calls
+-- `! STEP ; ..`, `device k B B B B BYTES`, `driver k B`, and calls
 unfoldable pub named_of : Word → List Word → Option Item
 named_of name words =
     if bytes_eq name (codes "!") then (steps_of words >>= λ steps. Some (Steps steps))
     else if bytes_eq name (codes "device") then six Device (name_of simulated_letter) (number_of 255) (number_of 255) (number_of 255) (number_of 255) bytes_of words
-    else device_call_of name words
+    else if bytes_eq name (codes "driver") then two Driver (name_of simulated_letter) (number_of 255) words
+    else wait_call_of name words
 
 -- the item of these words
 unfoldable pub form_of : List Word → Option Item
@@ -29,7 +30,7 @@ form_of (name ∷ words) = named_of name words
 unfoldable pub item_of : List ℕ → Option Item
 item_of line = form_of (words_of line)
 
--- a line that isn't skipped gives one item
+-- what reading a line gives (`Reading`: src/reading.rt): one item, where it isn't skipped
 unfoldable pub item_reading_of : List ℕ → Option Reading
 item_reading_of line = if list_all is_printable line then (item_of line >>= λ item. Some (Read item)) else None
 

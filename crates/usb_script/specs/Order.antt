@@ -2,7 +2,7 @@
 use Rattle.std.specs.Prelude.{ℕ, ◌==◌, ◌&&◌, Bool, true, false, not, List, [], ◌∷◌, ◌++◌, Option, Some, None, if◌then◌else◌}
 use Rattle.std.specs.List.{list_all, list_any}
 use Rattle.usb_script.specs.declared.item.Item.{Item}
-use Rattle.usb_script.specs.declared.item.Item.TheVariants.{Device}
+use Rattle.usb_script.specs.declared.item.Item.TheVariants.{Device, Driver}
 use Rattle.usb_script.specs.declared.reading.Reading.{Reading}
 use Rattle.usb_script.specs.declared.reading.Reading.TheVariants.{Skipped, Read}
 use Rattle.usb_script.specs.ItemKinds.{is_setup}
@@ -13,18 +13,19 @@ has_name name (Device device bus address speed configuration descriptors) = devi
 has_name name item = false
 
 -- whether an item is a device line with this bus and this address
-abbrev pub has_place : ℕ → ℕ → Item → Bool
-has_place bus address (Device device bus' address' speed configuration descriptors) = bus' == bus && address' == address
-has_place bus address item = false
+abbrev pub has_bus_address : ℕ → ℕ → Item → Bool
+has_bus_address bus address (Device device bus' address' speed configuration descriptors) = bus' == bus && address' == address
+has_bus_address bus address item = false
 
--- whether a device line may stand behind these: no call or step before it, and neither its name nor its place is taken
+-- whether a device line may stand behind these: no call or step before it, and neither its name nor its bus with its address is taken
 unfoldable pub is_free_device : List Item → ℕ → ℕ → ℕ → Bool
 is_free_device before device bus address =
-    list_all is_setup before && not (list_any (has_name device) before) && not (list_any (has_place bus address) before)
+    list_all is_setup before && not (list_any (has_name device) before) && not (list_any (has_bus_address bus address) before)
 
 -- whether an item may stand behind these; only setup lines look back
 unfoldable pub may_follow : List Item → Item → Bool
 may_follow before (Device device bus address speed configuration descriptors) = is_free_device before device bus address
+may_follow before (Driver device number) = list_all is_setup before
 may_follow before item = true
 
 -- the items with those of one more line, or nothing where it may not stand there

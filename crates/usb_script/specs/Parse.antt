@@ -12,7 +12,7 @@ use Rattle.usb_script.specs.Order.{with_reading}
 abbrev pub with_line : List Item → List ℕ → Option (List Item)
 with_line before line = reading_of line >>= with_reading before
 
--- on with these items, or the number of the line that gives none
+-- the next lines are read behind these items; where there are none, it ends with the number of this line
 abbrev pub or_line : Option (List Item) → ℕ → (List Item → Result (List Item) ℕ) → Result (List Item) ℕ
 or_line None line next = Err line
 or_line (Some items) line next = next items
@@ -31,6 +31,6 @@ abbrev pub or_malformed : Result (List Item) ℕ → Result (List Item) SessionE
 or_malformed (Ok items) = Ok items
 or_malformed (Err line) = Err (errors.Malformed line)
 
--- what a script is answered, want of memory aside: it has at most 2 ^ 20 bytes
+-- what a script gives, lack of memory aside: the items of at most 2 ^ 20 bytes
 unfoldable pub script_of : List ℕ → Result (List Item) SessionError
 script_of bytes = if nat_lt 1048576 (length bytes) then Err errors.TooLong else or_malformed (parse bytes)

@@ -1,8 +1,8 @@
 -- Steps by their first word: the fields behind it.
 use Rattle.std.specs.Prelude.{[], ◌∷◌, List, codes, Option, Some, None, if◌then◌else◌}
 use Rattle.std.specs.Str.{bytes_eq}
-use Rattle.usb_kernel.specs.declared.step.KernelStep.{KernelStep}
-use Rattle.usb_kernel.specs.declared.step.KernelStep.TheVariants.{Packet, Ack, Fail, Unplug, Clock, Timer, Reap, Refuse}
+use Rattle.usb_simulated.specs.declared.step.KernelStep.{KernelStep}
+use Rattle.usb_simulated.specs.declared.step.KernelStep.TheVariants.{Packet, Ack, Fail, Unplug, Clock, Timer, Reap, Refuse}
 use Rattle.usb_script.specs.Words.{number_of, name_of, hex_byte_of, bytes_of, errno_of, call_of}
 use Rattle.usb_script.specs.Fields.{Word, none, one, two, three}
 use Rattle.usb_script.specs.Letters.{simulated_letter}

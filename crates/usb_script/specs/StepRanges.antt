@@ -1,7 +1,7 @@
 -- The ranges of the fields of a parsed line's steps, where they are smaller than their types.
 use Rattle.std.specs.Prelude.{◌<◌, ◌≤◌, length, IfSome}
-use Rattle.usb_kernel.specs.declared.step.KernelStep.{KernelStep}
-use Rattle.usb_kernel.specs.declared.step.KernelStep.TheVariants.{Packet, Ack, Fail, Unplug, Clock, Timer, Reap, Refuse}
+use Rattle.usb_simulated.specs.declared.step.KernelStep.{KernelStep}
+use Rattle.usb_simulated.specs.declared.step.KernelStep.TheVariants.{Packet, Ack, Fail, Unplug, Clock, Timer, Reap, Refuse}
 use Rattle.usb_kernel.specs.Steps.{HasErrno}
 
 -- the fields of a step

@@ -1,6 +1,6 @@
 //! So many words, and no more.
 
-ghost use Rattle.std.specs.Prelude.{◌<◌, length, IfOk};
+ghost use Rattle.std.specs.Prelude.{◌≡◌, ◌<◌, length, IfOk, OnOk};
 ghost use Rattle.usb_script.specs.Fields.{texts, no_word, one_word, two_words, three_words, four_words, six_words, two_and_more, three_and_more};
 ghost use Rattle.usb_script.specs.Outcome.{Gives};
 
@@ -21,6 +21,7 @@ pub fn no_word(words: &[&[u8]]) -> Result<(), LineError>
 #[tactic(auto, unfolding(crate::specs::Fields::one_word))]
 pub fn one_word<'a>(words: &[&'a [u8]]) -> Result<&'a [u8], LineError>
     ensures value { Gives (λ x. x.now) result (one_word (texts words.now)) }
+    ensures count { OnOk result (length words.now ≡ 1) }
 {
     match *words {
         [a] => Ok(a),

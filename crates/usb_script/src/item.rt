@@ -2,7 +2,7 @@
 
 ghost use Rattle.std.specs.Prelude.{◌≡◌};
 ghost use Rattle.std.specs.List.{All};
-ghost use Rattle.usb_script.specs.ItemKinds.{is_setup, is_call, steps_in};
+ghost use Rattle.usb_script.specs.ItemKinds.{is_setup, is_call, places_in};
 ghost use Rattle.usb_script.specs.StepRanges.{IsStepInRange};
 
 use crate::endpoint_kind::EndpointKind;
@@ -23,7 +23,7 @@ pub struct Steps {
 impl Model for Steps {
     ghost use Rattle.std.specs.Prelude.{List};
     ghost use Rattle.std.specs.List.{All};
-    ghost use Rattle.usb_kernel.specs.declared.step.KernelStep.{KernelStep};
+    ghost use Rattle.usb_simulated.specs.declared.step.KernelStep.{KernelStep};
     ghost use Rattle.usb_script.specs.StepRanges.{IsStepInRange};
 
     ghost Value = { List KernelStep };
@@ -75,6 +75,12 @@ pub enum Item {
         /// Its device descriptor, and its configurations behind it. USB 2.0, section 9.5.
         descriptors: Data,
     },
+    /// `driver k B`: a kernel driver is bound to the interface with this `bInterfaceNumber`.
+    Driver {
+        /// The number of the name `k` of its simulated device.
+        device: Name,
+        number: u8,
+    },
     /// `now`: asks for the time on the clock.
     Now,
     /// `open d B B`: opens the device with this bus and address.
@@ -92,10 +98,83 @@ pub enum Item {
     Descriptors {
         device: Name,
     },
+    /// `clone d d`: a further name of an open device.
+    CloneDevice {
+        /// The new name.
+        name: Name,
+        device: Name,
+    },
+    /// `close d`: gives up this name of the device.
+    CloseDevice {
+        device: Name,
+    },
+    /// `active d`: asks for the active configuration.
+    ActiveConfiguration {
+        device: Name,
+    },
+    /// `speed d`: asks for the speed.
+    Speed {
+        device: Name,
+    },
+    /// `setconfig d B`: makes the configuration with this `bConfigurationValue` the active one.
+    /// USB 2.0, section 9.4.7.
+    SetConfiguration {
+        device: Name,
+        value: u8,
+    },
+    /// `reset d`: resets the device. USB 2.0, section 7.1.7.5.
+    Reset {
+        device: Name,
+    },
+    /// `detach d B`: takes the interface with this `bInterfaceNumber` from its kernel driver.
+    DetachDriver {
+        device: Name,
+        number: u8,
+    },
+    /// `attach d B`: gives the interface with this `bInterfaceNumber` to its kernel driver.
+    AttachDriver {
+        device: Name,
+        number: u8,
+    },
     /// `claim d B i`: claims the interface with this `bInterfaceNumber`.
     Claim {
         device: Name,
         number: u8,
+        interface: Name,
+    },
+    /// `detachclaim d B i`: takes the interface with this `bInterfaceNumber` from its kernel
+    /// driver, and claims it.
+    DetachAndClaim {
+        device: Name,
+        number: u8,
+        interface: Name,
+    },
+    /// `clone i i`: a further name of a claimed interface.
+    CloneInterface {
+        /// The new name.
+        name: Name,
+        interface: Name,
+    },
+    /// `close i`: gives up this name of the interface.
+    CloseInterface {
+        interface: Name,
+    },
+    /// `alt i B`: chooses the setting with this `bAlternateSetting`. USB 2.0, section 9.4.10.
+    SetAltSetting {
+        interface: Name,
+        setting: u8,
+    },
+    /// `getalt i`: asks for the number of the chosen setting.
+    GetAltSetting {
+        interface: Name,
+    },
+    /// `ifdesc i`: asks for the interface descriptor of the chosen setting. USB 2.0,
+    /// section 9.6.5.
+    InterfaceDescriptor {
+        interface: Name,
+    },
+    /// `release i`: gives the claim back, where nothing else needs it.
+    Release {
         interface: Name,
     },
     /// `endpoint e i HH KIND`: opens the endpoint with this `bEndpointAddress`.
@@ -151,6 +230,10 @@ pub enum Item {
     Cancel {
         endpoint: Name,
     },
+    /// `halt e`: clears the endpoint's halt. USB 2.0, section 9.4.5.
+    ClearHalt {
+        endpoint: Name,
+    },
     /// `close e`: closes the endpoint.
     CloseEndpoint {
         endpoint: Name,
@@ -164,25 +247,30 @@ impl Item {
     pub fn is_setup(&self) -> bool
         ensures value { result ≡ is_setup self.now }
     {
-        matches!(self, Item::Device { .. })
+        matches!(self, Item::Device { .. } | Item::Driver { .. })
     }
 
     /// Whether this is a call, which has an answer: neither a setup line nor steps.
     pub fn is_call(&self) -> bool
         ensures value { result ≡ is_call self.now }
     {
-        !matches!(self, Item::Device { .. } | Item::Steps(_))
+        !matches!(
+            self,
+            Item::Device { .. } | Item::Driver { .. } | Item::Steps(_)
+        )
     }
 
-    /// How many steps this makes.
-    pub fn step_count(&self) -> usize
-        ensures value { result ≡ steps_in self.now }
+    /// How many places of the kernel's journal this may use: one for each of its steps, and one
+    /// for a reset.
+    pub fn place_count(&self) -> usize
+        ensures value { result ≡ places_in self.now }
     {
         match self {
             Item::Wait { steps, .. }
             | Item::TransferIn { steps, .. }
             | Item::TransferOut { steps, .. }
             | Item::Steps(steps) => steps.as_slice().len(),
+            Item::Reset { .. } => 1,
             _ => 0,
         }
     }

@@ -6,23 +6,23 @@ ghost use Rattle.usb_script.specs.Lines.{is_printable, without_cr, is_skipped};
 ghost use Rattle.usb_script.specs.Fields.{texts};
 ghost use Rattle.usb_script.specs.Outcome.{Gives};
 ghost use Rattle.usb_script.specs.LineForms.{named_of, form_of, item_of, item_reading_of, own_reading_of, reading_of};
-ghost use Rattle.usb_script.specs.ItemKinds.{steps_in, steps_read};
+ghost use Rattle.usb_script.specs.ItemKinds.{places_in, places_read};
 
-use crate::call::device_call;
-use crate::fields::six_words;
+use crate::fields::{six_words, two_words};
 use crate::item::Item;
 use crate::line_bytes::Data;
 use crate::name::Name;
 use crate::reading::{LineError, Reading};
 use crate::steps::steps;
+use crate::wait::wait_call;
 use crate::words::{byte, reads, skip_spaces, split_words};
 use std::alloc::Global;
 
-/// `! STEP ; ..`, `device k B B B B BYTES`, or a call
+/// `! STEP ; ..`, `device k B B B B BYTES`, `driver k B`, or a call
 #[tactic(auto, unfolding(crate::specs::LineForms::named_of))]
 fn named_line(alloc: Global, name: &[u8], words: &[&[u8]]) -> Result<Item, LineError>
     ensures value { Gives (λ i. i) result (named_of name.now (texts words.now)) }
-    ensures few { IfOk result (λ item. steps_in item ≤ length words.now + 1) }
+    ensures few { IfOk result (λ item. places_in item ≤ length words.now + 1) }
 {
     if reads(name, b"!") {
         let steps = steps(alloc, words)?;
@@ -37,8 +37,14 @@ fn named_line(alloc: Global, name: &[u8], words: &[&[u8]]) -> Result<Item, LineE
             configuration: byte(configuration)?,
             descriptors: Data::parse(alloc, descriptors)?,
         })
+    } else if reads(name, b"driver") {
+        let (device, number) = two_words(words)?;
+        Ok(Item::Driver {
+            device: Name::parse(b'k', device)?,
+            number: byte(number)?,
+        })
     } else {
-        device_call(alloc, name, words)
+        wait_call(alloc, name, words)
     }
 }
 
@@ -46,7 +52,7 @@ fn named_line(alloc: Global, name: &[u8], words: &[&[u8]]) -> Result<Item, LineE
 #[tactic(auto, unfolding(crate::specs::LineForms::form_of))]
 fn form(alloc: Global, words: &[&[u8]]) -> Result<Item, LineError>
     ensures value { Gives (λ i. i) result (form_of (texts words.now)) }
-    ensures few { IfOk result (λ item. steps_in item ≤ length words.now) }
+    ensures few { IfOk result (λ item. places_in item ≤ length words.now) }
 {
     match words {
         [name, rest @ ..] => named_line(alloc, *name, rest),
@@ -69,7 +75,7 @@ fn item_line<'a>(
     line: &'a [u8],
 ) -> Result<Item, LineError>
     ensures value { Gives (λ i. i) result (item_of line.now) }
-    ensures few { IfOk result (λ item. steps_in item ≤ length line.now) }
+    ensures few { IfOk result (λ item. places_in item ≤ length line.now) }
 {
     split_words(line, words)?;
     form(alloc, words.as_slice())
@@ -83,7 +89,7 @@ fn read_item<'a>(
     line: &'a [u8],
 ) -> Result<Reading, LineError>
     ensures value { Gives (λ r. r) result (item_reading_of line.now) }
-    ensures few { IfOk result (λ reading. steps_read reading ≤ length line.now) }
+    ensures few { IfOk result (λ reading. places_read reading ≤ length line.now) }
 {
     if !is_printable(line) {
         return Err(LineError::Malformed);
@@ -118,7 +124,7 @@ fn read_own<'a>(
     line: &'a [u8],
 ) -> Result<Reading, LineError>
     ensures value { Gives (λ r. r) result (own_reading_of line.now) }
-    ensures few { IfOk result (λ reading. steps_read reading ≤ length line.now) }
+    ensures few { IfOk result (λ reading. places_read reading ≤ length line.now) }
 {
     if is_skipped(line) {
         Ok(Reading::Skipped)
@@ -135,7 +141,7 @@ pub fn read_line<'a>(
     line: &'a [u8],
 ) -> Result<Reading, LineError>
     ensures value { Gives (λ r. r) result (reading_of line.now) }
-    ensures few { IfOk result (λ reading. steps_read reading ≤ length line.now) }
+    ensures few { IfOk result (λ reading. places_read reading ≤ length line.now) }
 {
     read_own(alloc, words, without_cr(line))
 }

@@ -58,16 +58,21 @@ impl Name {
         Name::new(decimal(digits)?)
     }
 
-    /// The name that a word spells with this letter.
+    /// The name that a word spells with this letter, if it does.
     #[tactic(auto, unfolding(crate::specs::Words::name_of))]
+    pub(crate) fn spelled(letter: u8, word: &[u8]) -> Option<Name>
+        ensures value { result ≡ name_of letter word.now }
+    {
+        match word {
+            [first, digits @ ..] if *first == letter => Name::from_digits(digits),
+            _ => None,
+        }
+    }
+
+    /// The name that a word has to spell with this letter.
     pub(crate) fn parse(letter: u8, word: &[u8]) -> Result<Name, LineError>
         ensures value { Gives (λ name. name) result (name_of letter word.now) }
     {
-        match word {
-            [first, digits @ ..] if *first == letter => {
-                Name::from_digits(digits).ok_or(LineError::Malformed)
-            }
-            _ => Err(LineError::Malformed),
-        }
+        Name::spelled(letter, word).ok_or(LineError::Malformed)
     }
 }

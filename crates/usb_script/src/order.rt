@@ -1,76 +1,152 @@
 //! The rules that look back at the lines before.
 
-ghost use Rattle.std.specs.Prelude.{◌≡◌};
-ghost use Rattle.std.specs.List.{list_all, list_any};
-ghost use Rattle.usb_script.specs.ItemKinds.{is_setup};
-ghost use Rattle.usb_script.specs.Order.{has_name, has_place, is_free_device, may_follow};
+ghost use Rattle.std.specs.Prelude.{◌≡◌, ◌==◌, ◌&&◌, ◌++◌, ◌∷◌, [], OnOk, OnErr, IfErr};
+ghost use Rattle.std.specs.List.{list_any};
+ghost use Rattle.usb_script.specs.declared.reading.LineError.TheVariants.{Memory};
+ghost use Rattle.usb_script.specs.declared.reading.Reading.TheVariants.{Read};
+ghost use Rattle.usb_script.specs.Order.{has_name, has_bus_address, is_free_device, may_follow, with_reading};
+ghost use Rattle.usb_script.specs.Outcome.{Gives};
+ghost use Rattle.usb_script.specs.Taken.{taken_of};
 
 use crate::item::Item;
 use crate::name::Name;
+use crate::reading::LineError;
+use std::alloc::Global;
+use std::marker::Model;
 
-/// Whether this is the device line of the name.
-fn has_name(name: Name, item: &Item) -> bool
-    ensures value { result ≡ has_name name item.now }
+/// What a device line takes: its name, and its bus with its address.
+#[derive(Clone, Copy)]
+struct Taken {
+    device: Name,
+    bus: u8,
+    address: u8,
+}
+
+/// Adds what the item takes, if it is a device line.
+fn add_taken(taken: &mut Vec<Taken>, item: &Item) -> Result<(), LineError>
+    ensures ok { OnOk result (taken.new.items ≡ taken.old.items ++ taken_of (item.now ∷ [])) }
+    ensures err { OnErr result (taken.new.items ≡ taken.old.items) }
+    ensures only { IfErr result (λ e. e ≡ Memory) }
 {
-    match item {
-        Item::Device { device, .. } => *device == name,
-        _ => false,
+    if let Item::Device {
+        device,
+        bus,
+        address,
+        ..
+    } = item
+    {
+        taken.push(Taken {
+            device: *device,
+            bus: *bus,
+            address: *address,
+        })?;
     }
+    Ok(())
 }
 
-/// Whether this is a device line with the bus and the address.
-fn has_place(bus: u8, address: u8, item: &Item) -> bool
-    ensures value { result ≡ has_place bus address item.now }
+fn is_name_in(taken: &[Taken], name: Name) -> bool
+    ensures value { result ≡ list_any (λ t. t.device == name) taken.now }
 {
-    match item {
-        Item::Device {
-            bus: its_bus,
-            address: its_address,
-            ..
-        } => *its_bus == bus && *its_address == address,
-        _ => false,
+    taken.iter().any(|t| t.device == name)
+}
+
+fn is_place_in(taken: &[Taken], bus: u8, address: u8) -> bool
+    ensures value { result ≡ list_any (λ t. t.bus == bus && t.address == address) taken.now }
+{
+    taken.iter().any(|t| t.bus == bus && t.address == address)
+}
+
+/// The items of the lines so far. A contract sees the list of them.
+#[derive(Drop)]
+pub struct ItemsBefore {
+    items: Vec<Item>,
+    /// Whether no call and no step is among them.
+    are_setup: bool,
+    /// What their device lines take, so that a further one looks at no other line.
+    taken: Vec<Taken>,
+}
+
+impl Model for ItemsBefore {
+    ghost use Rattle.std.specs.Prelude.{List};
+    ghost use Rattle.usb_script.specs.declared.item.Item.{Item};
+    ghost use Rattle.usb_script.specs.Taken.{IsKnown};
+
+    ghost Value = { List Item };
+
+    ghost view = { λ before. before.items.items };
+
+    ghost invariant = { λ before. IsKnown before.items.items before.are_setup before.taken.items };
+}
+
+impl ItemsBefore {
+    /// No items, before the first line.
+    pub fn new(alloc: Global) -> ItemsBefore
+        ensures value { result ≡ [] }
+    {
+        ItemsBefore {
+            items: Vec::new(alloc),
+            are_setup: true,
+            taken: Vec::new(alloc),
+        }
     }
-}
 
-fn are_setup(items: &[Item]) -> bool
-    ensures value { result ≡ list_all is_setup items.now }
-{
-    items.iter().all(|item| item.is_setup())
-}
+    /// The items in order, given back.
+    pub fn into_items(self) -> Vec<Item>
+        ensures value { result.items ≡ self }
+    {
+        self.items
+    }
 
-fn is_name_taken(items: &[Item], name: Name) -> bool
-    ensures value { result ≡ list_any (has_name name) items.now }
-{
-    items.iter().any(|item| has_name(name, item))
-}
+    fn is_name_taken(&self, name: Name) -> bool
+        ensures value { result ≡ list_any (has_name name) self.now }
+    {
+        is_name_in(self.taken.as_slice(), name)
+    }
 
-fn is_place_taken(items: &[Item], bus: u8, address: u8) -> bool
-    ensures value { result ≡ list_any (has_place bus address) items.now }
-{
-    items.iter().any(|item| has_place(bus, address, item))
-}
+    fn is_place_taken(&self, bus: u8, address: u8) -> bool
+        ensures value { result ≡ list_any (has_bus_address bus address) self.now }
+    {
+        is_place_in(self.taken.as_slice(), bus, address)
+    }
 
-/// Whether a device line may stand behind these items. It looks at the items up to the first call
-/// or step, of which at most 64 are devices.
-#[tactic(auto, unfolding(crate::specs::Order::is_free_device))]
-fn is_free_device(before: &[Item], device: Name, bus: u8, address: u8) -> bool
-    ensures value { result ≡ is_free_device before.now device bus address }
-{
-    are_setup(before) && !is_name_taken(before, device) && !is_place_taken(before, bus, address)
-}
+    /// Whether a device line may stand behind these items.
+    #[tactic(auto, unfolding(crate::specs::Order::is_free_device))]
+    fn is_free_device(&self, device: Name, bus: u8, address: u8) -> bool
+        ensures value { result ≡ is_free_device self.now device bus address }
+    {
+        self.are_setup && !self.is_name_taken(device) && !self.is_place_taken(bus, address)
+    }
 
-/// Whether the item may stand behind these.
-#[tactic(auto, unfolding(crate::specs::Order::may_follow))]
-pub fn may_follow(before: &[Item], item: &Item) -> bool
-    ensures value { result ≡ may_follow before.now item.now }
-{
-    match item {
-        Item::Device {
-            device,
-            bus,
-            address,
-            ..
-        } => is_free_device(before, *device, *bus, *address),
-        _ => true,
+    /// Whether the item may stand behind these.
+    #[tactic(auto, unfolding(crate::specs::Order::may_follow))]
+    fn may_follow(&self, item: &Item) -> bool
+        ensures value { result ≡ may_follow self.now item.now }
+    {
+        match item {
+            Item::Device {
+                device,
+                bus,
+                address,
+                ..
+            } => self.is_free_device(*device, *bus, *address),
+            Item::Driver { .. } => self.are_setup,
+            _ => true,
+        }
+    }
+
+    /// One more item, where it may follow them.
+    pub fn add(&mut self, item: Item) -> Result<(), LineError>
+        ensures value { Gives (λ _. self.new) result (with_reading self.old (Read item)) }
+        ensures more { OnOk result (self.new ≡ self.old ++ item ∷ []) }
+    {
+        if !self.may_follow(&item) {
+            return Err(LineError::Malformed);
+        }
+        let is_setup = item.is_setup();
+        self.items.reserve(1)?;
+        add_taken(&mut self.taken, &item)?;
+        self.items.push_reserved(item);
+        self.are_setup = self.are_setup && is_setup;
+        Ok(())
     }
 }

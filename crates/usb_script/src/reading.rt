@@ -4,7 +4,7 @@ ghost use Rattle.std.specs.Prelude.{◌≡◌};
 ghost use Rattle.usb_script.specs.declared.reading.LineError.TheVariants.{Memory};
 
 use crate::item::Item;
-use std::alloc::AllocFailed;
+use std::alloc::{AllocError, AllocFailed};
 
 /// Why a line or a word is not read.
 #[derive(Clone, Copy, Debug, PartialEq, Eq)]
@@ -13,6 +13,14 @@ pub enum LineError {
     Malformed,
     /// There was no memory.
     Memory,
+}
+
+impl From<AllocError> for LineError {
+    ghost from_gives = { λ _ e. e ≡ Memory };
+
+    fn from(_refused: AllocError) -> LineError {
+        LineError::Memory
+    }
 }
 
 impl<T: Drop> From<AllocFailed<T>> for LineError {

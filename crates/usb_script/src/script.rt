@@ -1,17 +1,15 @@
 //! A whole script.
 
-ghost use Rattle.std.specs.Prelude.{◌≡◌, ◌+◌, ◌<◌, ◌≤◌, [], ◌∷◌, ◌++◌, length, OnOk, IfErr};
-ghost use Rattle.usb_script.specs.declared.reading.Reading.TheVariants.{Read};
+ghost use Rattle.std.specs.Prelude.{◌≡◌, ◌+◌, ◌<◌, ◌≤◌, ◌∷◌, length, OnOk, IfErr};
 ghost use Rattle.usb_script.specs.Lines.{lines_of};
-ghost use Rattle.usb_script.specs.Order.{with_reading};
 ghost use Rattle.usb_script.specs.Parse.{with_line, script_of};
 ghost use Rattle.usb_script.specs.Outcome.{Gives, OrMemory, IsParsingError};
-ghost use Rattle.usb_script.specs.ItemKinds.{step_count};
+ghost use Rattle.usb_script.specs.ItemKinds.{place_count};
 
 use crate::error::SessionError;
 use crate::item::Item;
 use crate::line::read_line;
-use crate::order::may_follow;
+use crate::order::ItemsBefore;
 use crate::reading::{LineError, Reading};
 use std::alloc::Global;
 use std::marker::Model;
@@ -42,7 +40,7 @@ impl Script {
     pub fn items(&self) -> &[Item]
         ensures value { result.now ≡ self.now }
         ensures few { length result.now ≤ 1048576 }
-        ensures steps { step_count result.now ≤ 1048576 }
+        ensures places { place_count result.now ≤ 1048576 }
     {
         self.items.as_slice()
     }
@@ -51,27 +49,27 @@ impl Script {
     pub fn into_items(self) -> Vec<Item>
         ensures value { result.items ≡ self }
         ensures few { length result.items ≤ 1048576 }
-        ensures steps { step_count result.items ≤ 1048576 }
+        ensures places { place_count result.items ≤ 1048576 }
     {
         self.items
     }
 
-    /// How many steps the items make in all.
-    pub fn step_count(&self) -> usize
-        ensures value { result ≡ step_count self.now }
+    /// How many places of the kernel's journal the items may use in all.
+    pub fn place_count(&self) -> usize
+        ensures value { result ≡ place_count self.now }
     {
-        steps_of_all(self.items())
+        places_of_all(self.items())
     }
 }
 
-/// How many steps these items make in all.
-fn steps_of_all(items: &[Item]) -> usize
-    requires few { step_count items.now ≤ 1048576 }
-    ensures value { result ≡ step_count items.now }
+/// How many places of the kernel's journal these items may use in all.
+fn places_of_all(items: &[Item]) -> usize
+    requires few { place_count items.now ≤ 1048576 }
+    ensures value { result ≡ place_count items.now }
 {
     let mut count = 0usize;
     for item in items {
-        count += item.step_count();
+        count += item.place_count();
     }
     count
 }
@@ -91,33 +89,21 @@ fn first_line(bytes: &[u8]) -> (&[u8], &[u8])
     (bytes, &bytes[bytes.len()..])
 }
 
-/// The items with one more, where it may follow them.
-fn add_item(items: &mut Vec<Item>, item: Item) -> Result<(), LineError>
-    ensures value { Gives (λ _. items.new.items) result (with_reading items.old.items (Read item)) }
-    ensures more { OnOk result (items.new.items ≡ items.old.items ++ item ∷ []) }
-{
-    if !may_follow(items.as_slice(), &item) {
-        return Err(LineError::Malformed);
-    }
-    items.push(item)?;
-    Ok(())
-}
-
 /// The items with those of one more line, which is split into these words.
 fn add_line<'a>(
     alloc: Global,
-    items: &mut Vec<Item>,
+    items: &mut ItemsBefore,
     words: &mut Vec<&'a [u8]>,
     line: &'a [u8],
 ) -> Result<(), LineError>
-    ensures value { Gives (λ _. items.new.items) result (with_line items.old.items line.now) }
-    ensures few { OnOk result (length items.new.items ≤ length items.old.items + 1) }
-    ensures steps { OnOk result
-        (step_count items.new.items ≤ step_count items.old.items + length line.now) }
+    ensures value { Gives (λ _. items.new) result (with_line items.old line.now) }
+    ensures few { OnOk result (length items.new ≤ length items.old + 1) }
+    ensures places { OnOk result
+        (place_count items.new ≤ place_count items.old + length line.now) }
 {
     match read_line(alloc, words, line)? {
         Reading::Skipped => Ok(()),
-        Reading::Read(item) => add_item(items, item),
+        Reading::Read(item) => items.add(item),
     }
 }
 
@@ -130,7 +116,7 @@ pub fn parse_script(alloc: Global, bytes: &[u8]) -> Result<Script, SessionError>
     if bytes.len() > MAX_SCRIPT {
         return Err(SessionError::TooLong);
     }
-    let mut items = Vec::new(alloc);
+    let mut items = ItemsBefore::new(alloc);
     let mut words = Vec::new(alloc);
     let mut rest = bytes;
     let mut line = 1u32;
@@ -144,5 +130,7 @@ pub fn parse_script(alloc: Global, bytes: &[u8]) -> Result<Script, SessionError>
         rest = after;
         line += 1;
     }
-    Ok(Script { items })
+    Ok(Script {
+        items: items.into_items(),
+    })
 }

@@ -4,8 +4,9 @@ ghost use Rattle.std.specs.Prelude.{◌≤◌, length, IfOk};
 ghost use Rattle.usb_script.specs.Fields.{texts};
 ghost use Rattle.usb_script.specs.Outcome.{Gives};
 ghost use Rattle.usb_script.specs.Waits.{wait_call_of};
-ghost use Rattle.usb_script.specs.ItemKinds.{steps_in};
+ghost use Rattle.usb_script.specs.ItemKinds.{places_in};
 
+use crate::call::endpoint_call;
 use crate::fields::{three_and_more, two_and_more};
 use crate::item::Item;
 use crate::length::Length;
@@ -17,11 +18,12 @@ use crate::timeout::Timeout;
 use crate::words::reads;
 use std::alloc::Global;
 
-/// `wait e TIME`, `xferin e N TIME`, `xferout e BYTES TIME`, and steps
+/// `wait e TIME`, `xferin e N TIME`, `xferout e BYTES TIME`, and steps, or a call that doesn't
+/// wait
 #[tactic(auto, unfolding(crate::specs::Waits::wait_call_of))]
 pub fn wait_call(alloc: Global, name: &[u8], words: &[&[u8]]) -> Result<Item, LineError>
     ensures value { Gives (λ i. i) result (wait_call_of name.now (texts words.now)) }
-    ensures few { IfOk result (λ item. steps_in item ≤ length words.now) }
+    ensures few { IfOk result (λ item. places_in item ≤ length words.now) }
 {
     if reads(name, b"wait") {
         let (endpoint, timeout, own) = two_and_more(words)?;
@@ -51,6 +53,6 @@ pub fn wait_call(alloc: Global, name: &[u8], words: &[&[u8]]) -> Result<Item, Li
             steps,
         })
     } else {
-        Err(LineError::Malformed)
+        endpoint_call(alloc, name, words)
     }
 }

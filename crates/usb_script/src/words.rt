@@ -8,7 +8,7 @@ ghost use Rattle.hex.specs.Hex.{hex_digit_value};
 ghost use Rattle.usb_script.specs.Lines.{words_of, is_skipped};
 ghost use Rattle.usb_script.specs.Outcome.{Gives};
 ghost use Rattle.usb_script.specs.Words.{digits_after, decimal_of, number_of, number_between, has_leading_zero, hex_byte_of, errno_of, call_of};
-ghost use Rattle.usb_kernel.specs.Submissions.{IsErrno};
+ghost use Rattle.usb_simulated.specs.Errnos.{IsErrno};
 
 use crate::reading::LineError;
 use usb_kernel::KernelCall;

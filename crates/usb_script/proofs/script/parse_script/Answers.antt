@@ -9,10 +9,11 @@ returns-then-bytes-gt-MAX_SCRIPT-clause-answer c = script_of_long c.args.bytes.n
 pub returns-in-Err-Malformed-clause-answer : goal.returns-in-Err-Malformed-clause-answer
 returns-in-Err-Malformed-clause-answer c =
     let first = c.first_line.result.0.now in
-    let refused : with_line c.loop-rest.items.items first ≡ None = search rules in
-    script_of_refused c.args.bytes.now c.loop-rest.rest.now first c.first_line.result.1.now c.loop-rest.items.items c.loop-rest.line
+    let refused : with_line c.loop-rest.items first ≡ None = search rules in
+    script_of_refused c.args.bytes.now c.loop-rest.rest.now first c.first_line.result.1.now c.loop-rest.items c.loop-rest.line
     c.if-bytes-gt-MAX_SCRIPT.false c.loop-rest.invariant.parsed c.first_line.ensures.lines refused
 
 pub returns-clause-answer : goal.returns-clause-answer
 returns-clause-answer c =
-    script_of_read c.args.bytes.now c.loop-rest.rest.now c.loop-rest.items.items c.loop-rest.line c.if-bytes-gt-MAX_SCRIPT.false c.loop-rest.invariant.parsed (search rules)
+    rw c.into_items.ensures.value
+    (script_of_read c.args.bytes.now c.loop-rest.rest.now c.loop-rest.items c.loop-rest.line c.if-bytes-gt-MAX_SCRIPT.false c.loop-rest.invariant.parsed (search rules))
