@@ -4,3 +4,4 @@ pub mod Completions
 pub mod Tickets
 pub mod Devices
 pub mod Descriptors
+pub mod Settings

@@ -2,7 +2,7 @@
 
 ghost use Rattle.std.specs.Prelude.{◌≡◌, ◌++◌, OnOk, string_bytes};
 ghost use Rattle.usb_error.specs.Texts.{error_text};
-ghost use Rattle.usb_lines.specs.Calls.{ok_line, condition_line, error_line};
+ghost use Rattle.usb_lines.specs.Calls.{ok_line, condition_line, error_line, result_line};
 
 use crate::words::{end_line, push_number, push_space};
 use usb_desc::NoMemory;
@@ -49,4 +49,15 @@ pub fn write_error(out: &mut String, error: &Error) -> Result<(), NoMemory>
     push_space(out)?;
     push_error_text(out, error)?;
     end_line(out)
+}
+
+/// Appends the answer of a call that gives no value: done, or refused.
+pub fn write_result(out: &mut String, answer: &Result<(), Error>) -> Result<(), NoMemory>
+    ensures text { OnOk result
+        (string_bytes out.new ≡ string_bytes out.old ++ result_line answer.now) }
+{
+    match answer {
+        Ok(()) => write_ok(out),
+        Err(error) => write_error(out, error),
+    }
 }

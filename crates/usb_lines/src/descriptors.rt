@@ -1,9 +1,10 @@
 //! The line of a device's configurations.
 
 ghost use Rattle.std.specs.Prelude.{◌≡◌, ◌++◌, OnOk, decimal, string_bytes, drop, flat_map};
-ghost use Rattle.usb_desc.specs.Configurations.{configurations};
+ghost use Rattle.usb_desc.specs.Configurations.{configurations, endpoints};
 ghost use Rattle.usb_desc.specs.Fields.{address, transfer_type, max_packet_size, interval};
-ghost use Rattle.usb_lines.specs.Descriptors.{type_word, endpoint_part, number_word, class_words, setting_part, interface_part, configuration_part, descriptors_line};
+ghost use Rattle.usb_lines.specs.Descriptors.{type_word, endpoint_part, number_word, class_words, setting_words, interface_part, configuration_part, descriptors_line};
+ghost use Rattle.usb_lines.specs.Settings.{interface_line};
 ghost use Rattle.usb_lines.specs.Words.{part, two_digits};
 
 use crate::words::{
@@ -83,19 +84,46 @@ fn push_class(out: &mut String, setting: &InterfaceDescriptor) -> Result<(), NoM
     Ok(())
 }
 
-/// Appends a setting of an interface: ` if NUM.ALT CC SS PP`, and for each endpoint ` ep HH TYPE MAX INTERVAL`. The class, the
-/// subclass, the protocol and the endpoints' addresses are two hexadecimal digits, and the other numbers decimal.
-#[tactic(auto, unfolding(crate::specs::Descriptors::setting_words))]
-fn push_setting(out: &mut String, setting: &InterfaceDescriptor) -> Result<(), NoMemory>
-    ensures text { OnOk result
-        (string_bytes out.new ≡ string_bytes out.old ++ setting_part setting.now) }
+/// Appends the endpoints of a setting, each with a space before it.
+fn push_endpoints(out: &mut String, setting: &InterfaceDescriptor) -> Result<(), NoMemory>
+    ensures text { OnOk result (string_bytes out.new ≡ string_bytes out.old
+        ++ flat_map endpoint_part (endpoints setting.now)) }
 {
-    push_space(out)?;
-    push_class(out, setting)?;
     for endpoint in setting.endpoints() {
         push_endpoint(out, &endpoint)?;
     }
     Ok(())
+}
+
+/// Appends a setting of an interface: `if NUM.ALT CC SS PP`, and for each endpoint ` ep HH TYPE MAX INTERVAL`. The class, the
+/// subclass, the protocol and the endpoints' addresses are two hexadecimal digits, and the other numbers decimal.
+#[tactic(auto, unfolding(crate::specs::Descriptors::setting_words))]
+fn push_setting(out: &mut String, setting: &InterfaceDescriptor) -> Result<(), NoMemory>
+    ensures text { OnOk result
+        (string_bytes out.new ≡ string_bytes out.old ++ setting_words setting.now) }
+{
+    push_class(out, setting)?;
+    push_endpoints(out, setting)
+}
+
+/// Appends the answer that gives a setting of an interface with its endpoints, or `none`.
+pub fn write_interface(
+    out: &mut String,
+    setting: &Option<InterfaceDescriptor>,
+) -> Result<(), NoMemory>
+    ensures text { OnOk result
+        (string_bytes out.new ≡ string_bytes out.old ++ interface_line setting.now) }
+{
+    match setting {
+        Some(setting) => {
+            push_setting(out, setting)?;
+            end_line(out)
+        }
+        None => {
+            out.push_str("none\n")?;
+            Ok(())
+        }
+    }
 }
 
 /// Appends the settings of one interface.
@@ -104,6 +132,7 @@ fn push_interface(out: &mut String, interface: &InterfaceDescriptors) -> Result<
         (string_bytes out.new ≡ string_bytes out.old ++ interface_part interface.now) }
 {
     for setting in interface.alt_settings() {
+        push_space(out)?;
         push_setting(out, &setting)?;
     }
     Ok(())
