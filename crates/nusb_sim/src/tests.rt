@@ -1,6 +1,7 @@
 //! Whole scripts: what the program writes, its status and its line on standard error.
 
 mod descriptors;
+mod devices;
 mod endpoints;
 mod lines;
 mod live;

@@ -7,7 +7,8 @@ use Rattle.std.proofs.lemmas.Bool.{cases_eq}
 use Rattle.std.proofs.lemmas.List.Elements.{Contains-append_left, Contains-push}
 use Rattle.std.proofs.lemmas.Option.{none-some, same_Some, slice_get_past}
 use Rattle.usb_xfer.specs.BufferState.{BufferState}
-use Rattle.usb_device.specs.HostState.{HostState, HostTicket, HeldBy, Abandoned, Ended}
+use Rattle.usb_ledger.specs.Entries.{HostTicket, HeldBy, Abandoned, Ended}
+use Rattle.usb_device.specs.HostState.{HostState}
 use Rattle.usb_device.specs.HostBus.{held_as, owner_at}
 use Rattle.usb_device.proofs.CountLemmas.{KeepsCount, taken-count, closed-count, entered-count}
 use Rattle.usb_device.proofs.FollowLemmas.{Follows, KeepsTickets}
@@ -21,7 +22,7 @@ use Rattle.usb_answers.specs.Closes.{without_endpoint}
 use Rattle.usb_answers.specs.Ends.{endpoints_closed, all_closed}
 use Rattle.usb_answers.specs.Output.{start}
 use Rattle.usb_answers.specs.Accounts.{Covered, Accounted, StartIsAccounted, AnswerKeepsAccounts, CloseKeepsAccounts}
-use Rattle.usb_answers.specs.Served.{Handle}
+use Rattle.usb_answers.specs.Served.{ClosedEndpoint}
 use Rattle.usb_answers.proofs.NameLemmas.{named_of, free_place, named-change_same, named-change_other, named-freed_other, named-set_other}
 use Rattle.usb_answers.proofs.Does.{Quiet, Acts, goes, opens, submits, ends, takes, closes}
 use Rattle.usb_answers.proofs.DeviceLines.{interfaces-quiet}
@@ -161,7 +162,7 @@ accounted-close state e h here a =
     }
 
 -- so over each answer
-acts-accounted : {few : Type 0} {a : Answer} {state : State} {closed : List Handle} → few → Acts few a state closed → Accounted state → Accounted a.state
+acts-accounted : {few : Type 0} {a : Answer} {state : State} {closed : List ClosedEndpoint} → few → Acts few a state closed → Accounted state → Accounted a.state
 acts-accounted few (goes quiet rest) acc = acts-accounted few rest (accounted-quiet quiet acc)
 acts-accounted {state} few (opens e x free none zero_ rest) acc = acts-accounted few rest (accounted-open state e x free acc)
 acts-accounted {state} few (submits e b h here within rest) acc = acts-accounted few rest (accounted-submit state e b h here (within few) acc)

@@ -16,6 +16,7 @@ use Rattle.usb_answers.specs.State.{State, Endpoint, kept}
 use Rattle.usb_answers.specs.SessionState.{SessionState, IsSound}
 use Rattle.usb_answers.specs.Relation.{Represents, session_of}
 use Rattle.usb_answers.proofs.Answering.{named_kept}
+use Rattle.usb_answers.proofs.CountedNames.{counted-same}
 use Rattle.usb_answers.proofs.NameLemmas.{named-map, named-set, named-set_other, named-freed, named-freed_other, freed-free, length-freed, length-set_name, map-freed, map-set, map-change_named, put-changed, named-change_same, named-change_other}
 
 -- what is kept between lines
@@ -33,7 +34,7 @@ names-put xs after n m x y z was put is =
     ]
 
 -- what is open under a name once it was freed
-names-freed : {X : Type 0} (xs after : List (Option X)) (n m : ℕ) (z : X) → after ≡ freed xs n → named after m ≡ Some z → (m ≢ n) × (named xs m ≡ Some z)
+pub names-freed : {X : Type 0} (xs after : List (Option X)) (n m : ℕ) (z : X) → after ≡ freed xs n → named after m ≡ Some z → (m ≢ n) × (named xs m ≡ Some z)
 names-freed xs after n m z rest is =
     elim (cases_eq m n) [
       | inl same ↦ absurd (none-some z (sym (named-freed xs n) ∙ sym (ap (named (freed xs n)) same) ∙ sym (ap (λ l. named l m) rest) ∙ is))
@@ -76,7 +77,7 @@ sound-put s now after e x y sound was put keeps stands key others =
       endpoint_names = ap (λ (l : List (Option EndpointState)). length l) put ∙ length-set_name (freed s.endpoints e) e y ∙ length-freed s.endpoints e ∙ sound.endpoint_names;
       devices_stand = λ d k is. devices_stand-kept s.host now k keeps.devices (sound.devices_stand d k is);
       interfaces_stand = λ i f is. StandsInterface-same s.host now f keeps.interfaces (no_fewer (length s.host.devices) (length now.devices) keeps.devices) (sound.interfaces_stand i f is);
-      interfaces_differ = sound.interfaces_differ;
+      interfaces_counted = counted-same s.host.interfaces now.interfaces s.interfaces keeps.interfaces sound.interfaces_counted;
       endpoints_stand = stands-put s now after e x y sound was put stands others;
       endpoints_differ = differ-put s after e x y sound was put key;
     }
@@ -91,7 +92,7 @@ sound-freed s now after e x sound was rest keeps others =
       endpoint_names = ap (λ (l : List (Option EndpointState)). length l) rest ∙ length-freed s.endpoints e ∙ sound.endpoint_names;
       devices_stand = λ d k is. devices_stand-kept s.host now k keeps.devices (sound.devices_stand d k is);
       interfaces_stand = λ i f is. StandsInterface-same s.host now f keeps.interfaces (no_fewer (length s.host.devices) (length now.devices) keeps.devices) (sound.interfaces_stand i f is);
-      interfaces_differ = sound.interfaces_differ;
+      interfaces_counted = counted-same s.host.interfaces now.interfaces s.interfaces keeps.interfaces sound.interfaces_counted;
       endpoints_stand = λ d h is. let there = names-freed s.endpoints after e d h rest is in Stands-other (bus_of s.host) (bus_of now) x.key h others (sound.endpoints_differ d e h x there.1 was there.0) (sound.endpoints_stand d h there.1);
       endpoints_differ = λ c d g h isg ish apart. sound.endpoints_differ c d g h (names-freed s.endpoints after e c g rest isg).1 (names-freed s.endpoints after e d h rest ish).1 apart;
     }
@@ -106,7 +107,7 @@ sound-host s now sound keeps stands =
       endpoint_names = sound.endpoint_names;
       devices_stand = λ d k is. devices_stand-kept s.host now k keeps.devices (sound.devices_stand d k is);
       interfaces_stand = λ i f is. StandsInterface-same s.host now f keeps.interfaces (no_fewer (length s.host.devices) (length now.devices) keeps.devices) (sound.interfaces_stand i f is);
-      interfaces_differ = sound.interfaces_differ;
+      interfaces_counted = counted-same s.host.interfaces now.interfaces s.interfaces keeps.interfaces sound.interfaces_counted;
       endpoints_stand = λ e h is. stands h (sound.endpoints_stand e h is);
       endpoints_differ = sound.endpoints_differ;
     }

@@ -20,6 +20,7 @@ use Rattle.usb_answers.specs.Answer.{Answer, told, barred, if_open}
 use Rattle.usb_answers.specs.Opens.{open_answer, opened_as}
 use Rattle.usb_answers.specs.SessionState.{SessionState, IsSound}
 use Rattle.usb_answers.specs.Relation.{Represents, session_of}
+use Rattle.usb_answers.proofs.CountedNames.{counted-same}
 use Rattle.usb_answers.proofs.NameLemmas.{length-set_name, names-set}
 use Rattle.usb_answers.proofs.Called.{represents-host}
 use Rattle.usb_answers.proofs.Answering.{Gives, barred-gives}
@@ -42,7 +43,7 @@ opened-sound s now bus address sound is =
       endpoint_names = sound.endpoint_names;
       devices_stand = λ d k at. below k (length s.host.devices) (length now.devices) (sound.devices_stand d k at) more;
       interfaces_stand = λ i f at. StandsInterface-same s.host now f (ap (λ (g : HostState). g.interfaces) made) more (sound.interfaces_stand i f at);
-      interfaces_differ = sound.interfaces_differ;
+      interfaces_counted = counted-same s.host.interfaces now.interfaces s.interfaces (ap (λ (g : HostState). g.interfaces) made) sound.interfaces_counted;
       endpoints_stand = λ e h at. subst (λ (b : BusState). Stands b h) (sym (ap bus_of made)) (sound.endpoints_stand e h at);
       endpoints_differ = sound.endpoints_differ;
     }
@@ -65,7 +66,7 @@ open-sound s now after d key bus address sound is stands free put =
         | inr there ↦ tried.devices_stand e k there.1
       ];
       interfaces_stand = tried.interfaces_stand;
-      interfaces_differ = sound.interfaces_differ;
+      interfaces_counted = tried.interfaces_counted;
       endpoints_stand = tried.endpoints_stand;
       endpoints_differ = sound.endpoints_differ;
     }

@@ -6,22 +6,23 @@ use Rattle.std.proofs.lemmas.Bool.{cond_both}
 use Rattle.usb_xfer.specs.BufferState.{BufferState}
 use Rattle.usb_xfer.specs.declared.transfer.Completion.{Completion}
 use Rattle.usb_error.specs.ErrorState.{ErrorState}
-use Rattle.usb_kernel.specs.declared.step.KernelStep.{KernelStep}
+use Rattle.usb_simulated.specs.declared.step.KernelStep.{KernelStep}
 use Rattle.usb_kernel.specs.Tickets.{tickets}
 use Rattle.usb_bus.specs.Completions.{transfer_completion}
+use Rattle.usb_device.specs.HostState.{HostState}
 use Rattle.usb_device.proofs.CountLemmas.{KeepsCount, count-trans, rest-count}
 use Rattle.usb_device.proofs.FollowLemmas.{KeepsTickets, on-then, on-kept, on-rest}
-use Rattle.usb_lines.specs.Calls.{ok_line, condition_line, error_line}
+use Rattle.usb_lines.specs.Calls.{ok_line, condition_line, error_line, result_line}
 use Rattle.usb_lines.specs.Completions.{done_line}
 use Rattle.usb_answers.specs.Names.{named, is_free, set_name}
-use Rattle.usb_answers.specs.State.{State, Endpoint}
+use Rattle.usb_answers.specs.State.{State, Endpoint, with_host}
 use Rattle.usb_answers.specs.Answer.{Answer, told, barred, ok_answer, error_answer, if_open}
 use Rattle.usb_answers.specs.Submits.{submitted}
 use Rattle.usb_answers.specs.Polls.{taken_from}
 use Rattle.usb_answers.specs.Closes.{without_endpoint}
 use Rattle.usb_answers.specs.Steps.{lent, rested, stepped_all, then_rested}
 use Rattle.usb_answers.specs.Accounts.{TookFew}
-use Rattle.usb_answers.specs.Served.{Handle}
+use Rattle.usb_answers.specs.Served.{ClosedEndpoint}
 
 -- the host went on, and no endpoint was opened or closed, and no ticket submitted or taken
 pub record Quiet (old new : State) : Type 0 where
@@ -36,11 +37,11 @@ says_done line = starts_with nat_eq line (codes "done")
 -- what an answer does from a state on, and the endpoints that it closes: the host goes on, endpoints are opened and tickets submitted;
 -- and then there is nothing more, or a ticket is taken and its completion printed, or an endpoint is closed. `few` is what is asked of
 -- the state before the line: no more tickets of an endpoint were taken than it has
-pub data Acts (few : Type 0) (a : Answer) : State → List Handle → Type 0 where
-  goes : {state next : State} {closed : List Handle} → Quiet state next → Acts few a next closed → Acts few a state closed
-  opens : {state : State} {closed : List Handle} (e : ℕ) (x : Endpoint) → is_free state.endpoints e ≡ true → x.tickets ≡ [] → x.taken ≡ 0
+pub data Acts (few : Type 0) (a : Answer) : State → List ClosedEndpoint → Type 0 where
+  goes : {state next : State} {closed : List ClosedEndpoint} → Quiet state next → Acts few a next closed → Acts few a state closed
+  opens : {state : State} {closed : List ClosedEndpoint} (e : ℕ) (x : Endpoint) → is_free state.endpoints e ≡ true → x.tickets ≡ [] → x.taken ≡ 0
       → Acts few a (record state { endpoints = set_name state.endpoints e x }) closed → Acts few a state closed
-  submits : {state : State} {closed : List Handle} (e : ℕ) (b : BufferState) (h : Endpoint) → named state.endpoints e ≡ Some h
+  submits : {state : State} {closed : List ClosedEndpoint} (e : ℕ) (b : BufferState) (h : Endpoint) → named state.endpoints e ≡ Some h
       → (few → h.taken ≤ length h.tickets) → Acts few a (submitted state e b h) closed → Acts few a state closed
   ends : {state : State} → says_done a.line ≡ false → Quiet state a.state → Acts few a state []
   takes : {state : State} (e t : ℕ) (h : Endpoint) (c : Completion) → named state.endpoints e ≡ Some h → (few → slice_get h.tickets h.taken ≡ Some t)
@@ -105,6 +106,16 @@ call-does (Some x) call does = does x refl
 pub ask-does : {X : Type 0} {state : State} (o : Option X) (line : X → List ℕ) → ((x : X) → says_done (line x) ≡ false) → Does state (if_open o (λ x. told state (line x)) (barred state))
 ask-does {state} o line other = call-does o _ (λ x is. told-does state (line x) (other x))
 
+-- one that goes down to the host, and tells what it answered
+pub host-does : {X : Type 0} {state : State} (o : Option X) (host : X → HostState) (line : X → List ℕ) → ((x : X) → says_done (line x) ≡ false) → ((x : X) → Quiet state (with_host state (host x))) → Does state (if_open o (λ x. told (with_host state (host x)) (line x)) (barred state))
+host-does o host line other quiet = call-does o _ (λ x is. ends (other x) (quiet x))
+
+-- it is done, or refused
+pub result-other : (r : Result (Unit {0}) ErrorState) → says_done (result_line r) ≡ false
+unfolding error_line
+result-other (Ok done) = refl
+result-other (Err error) = refl
+
 -- one that is allowed where a name is free, one that is barred for another reason, and one that may be refused
 pub free-does : {state : State} {free : Bool} {call : Answer} → (free ≡ true → Does state call) → Does state (if free then call else barred state)
 free-does {state} {free} {call} does = cond_both free call (barred state) (Does state) does (λ no_. barred-does state)
@@ -117,7 +128,7 @@ try-does {state} call (Err error) refused does = subst (Does state) (sym (refuse
 try-does call (Ok x) refused does = does x
 
 -- with the steps of its line
-rest-does : {few : Type 0} {a : Answer} {state : State} {closed : List Handle} → Acts few a state closed → Acts few (then_rested a) state closed
+rest-does : {few : Type 0} {a : Answer} {state : State} {closed : List ClosedEndpoint} → Acts few a state closed → Acts few (then_rested a) state closed
 rest-does (goes quiet rest) = goes quiet (rest-does rest)
 rest-does (opens e x free none zero_ rest) = opens e x free none zero_ (rest-does rest)
 rest-does (submits e b h here few rest) = submits e b h here few (rest-does rest)

@@ -5,14 +5,11 @@ use Rattle.std.proofs.lemmas.Bool.{cases_eq, cases_lt}
 use Rattle.std.proofs.lemmas.Option.{none-some}
 use Rattle.usb_endpoint.specs.declared.any_endpoint.AnyEndpoint.{AnyEndpoint}
 use Rattle.usb_endpoint.specs.AnyEndpoints.{state_of}
-use Rattle.usb_endpoint.specs.Handles.{Stands}
-use Rattle.usb_device.specs.declared.opened.OpenDevice.{OpenDevice}
 use Rattle.usb_device.specs.HostState.{HostState}
 use Rattle.usb_device.specs.HostBus.{owner_at}
 use Rattle.usb_device.specs.Handles.{handle_closed}
 use Rattle.usb_device.specs.Finishes.{finished, HasEnds}
 use Rattle.usb_device.specs.HandleStates.{InterfaceState}
-use Rattle.usb_device.proofs.InterfaceFrames.{StandsInterface-other, bus-handle_closed, line-handle_closed}
 use Rattle.usb_answers.specs.Names.{named, freed}
 use Rattle.usb_answers.specs.State.{State, kept}
 use Rattle.usb_answers.specs.Closes.{closed}
@@ -23,40 +20,7 @@ use Rattle.usb_answers.specs.Relation.{Represents}
 use Rattle.usb_answers.specs.Accounts.{Accounted}
 use Rattle.usb_answers.proofs.AccountLemmas.{accounted-all_closed, accounted-none}
 use Rattle.usb_answers.proofs.Answering.{named_kept, host_is}
-use Rattle.usb_answers.proofs.NameLemmas.{named-map, named-freed, named-freed_other, named-past, freed-none, length-freed, named_of, place_of}
-
--- what is open under a name once another was freed
-names-left : {X : Type 0} (xs after : List (Option X)) (n m : ℕ) (z : X) → after ≡ freed xs n → named after m ≡ Some z → (n ≢ m) × (named xs m ≡ Some z)
-names-left xs after n m z rest is =
-    elim (cases_eq m n) [
-      | inl same ↦ absurd (none-some z (sym (named-freed xs n) ∙ sym (ap (named (freed xs n)) same) ∙ sym (ap (λ l. named l m) rest) ∙ is))
-      | inr apart ↦ (λ same. apart (sym same), sym (named-freed_other xs n m apart) ∙ sym (ap (λ l. named l m) rest) ∙ is)
-    ]
-
-device-stays : (old new : HostState) (key : ℕ) → new.devices ≡ old.devices → key < length old.devices → key < length new.devices
-device-stays old new key same below = let e = ap (λ (l : List OpenDevice). length l) same in omega arith
-
--- an interface was closed
-interface-sound : (s : SessionState) (after : List (Option InterfaceState)) (i : ℕ) (f : InterfaceState) → IsSound s → named s.interfaces i ≡ Some f → after ≡ freed s.interfaces i → IsSound (record s { host = handle_closed s.host f.key; interfaces = after })
-interface-sound s after i f sound was rest =
-    record {
-      idle = (line-handle_closed s.host f.key).steps ∙ sound.idle;
-      device_names = sound.device_names;
-      interface_names = ap (λ (l : List (Option InterfaceState)). length l) rest ∙ length-freed s.interfaces i ∙ sound.interface_names;
-      endpoint_names = sound.endpoint_names;
-      devices_stand = λ d key is. device-stays s.host (handle_closed s.host f.key) key (line-handle_closed s.host f.key).devices (sound.devices_stand d key is);
-      interfaces_stand = λ j g is.
-          let there = names-left s.interfaces after i j g rest is in
-          StandsInterface-other s.host f.key g (sound.interfaces_differ i j f g was there.1 there.0) (sound.interfaces_stand j g there.1);
-      interfaces_differ = λ j k g h isg ish apart.
-          sound.interfaces_differ j k g h (names-left s.interfaces after i j g rest isg).1 (names-left s.interfaces after i k h rest ish).1 apart;
-      endpoints_stand = λ e h is. subst (λ b. Stands b h) (sym (bus-handle_closed s.host f.key)) (sound.endpoints_stand e h is);
-      endpoints_differ = sound.endpoints_differ;
-    }
-
-pub close_interface-sound : (host now : HostState) (ds : List (Option ℕ)) (is after : List (Option InterfaceState)) (es : List (Option AnyEndpoint)) (i : ℕ) (f : InterfaceState) → IsSound (session_made host ds is es) → named is i ≡ Some f → after ≡ freed is i → now ≡ handle_closed host f.key → IsSound (session_made now ds after es)
-close_interface-sound host now ds is after es i f sound was rest closed =
-    subst (λ (g : HostState). IsSound (session_made g ds after es)) (sym closed) (interface-sound (session_made host ds is es) after i f sound was rest)
+use Rattle.usb_answers.proofs.NameLemmas.{named-map, named-freed, named-freed_other, named-past, freed-none, named_of, place_of}
 
 interface-represents : (s : SessionState) (state : State) (after : List (Option InterfaceState)) (i : ℕ) (f : InterfaceState) → Represents s state → named s.interfaces i ≡ Some f → after ≡ freed s.interfaces i → Represents (record s { host = handle_closed s.host f.key; interfaces = after }) (interface_closed state i)
 unfolding interface_closed

@@ -8,13 +8,16 @@ use Rattle.usb_desc.specs.declared.types.TransferType.{TransferType}
 use Rattle.usb_xfer.specs.BufferState.{BufferState}
 use Rattle.usb_xfer.specs.declared.transfer.Completion.{Completion}
 use Rattle.usb_error.specs.ErrorState.{ErrorState}
+use Rattle.usb_error.specs.Errors.{clear_halt_error}
+use Rattle.usb_endpoint.specs.CallErrors.{or_error}
 use Rattle.usb_kernel.specs.declared.event.Event.{Event}
-use Rattle.usb_kernel.specs.declared.step.KernelStep.{KernelStep}
+use Rattle.usb_simulated.specs.declared.step.KernelStep.{KernelStep}
 use Rattle.usb_kernel.specs.Info.{unreaped}
 use Rattle.usb_kernel.proofs.Places.{slice_get-append_seam}
 use Rattle.usb_bus.specs.Completions.{transfer_completion}
 use Rattle.usb_endpoint.specs.EndpointState.{EndpointState}
 use Rattle.usb_device.specs.HostState.{HostState}
+use Rattle.usb_device.specs.HostCalls.{host_halt_result, host_halt_cleared}
 use Rattle.usb_device.specs.HostWaits.{host_waited}
 use Rattle.usb_device.specs.HostBlocking.{host_blocked}
 use Rattle.usb_device.specs.EndpointOpens.{host_asked, host_tries, with_endpoint}
@@ -32,11 +35,13 @@ use Rattle.usb_answers.specs.Submits.{with_submission, submitted, submit_answer,
 use Rattle.usb_answers.specs.Polls.{one_taken, taken_from, took, polled, poll_answer}
 use Rattle.usb_answers.specs.Waits.{wait_ended, waited, wait_answer}
 use Rattle.usb_answers.specs.Transfers.{bars_transfer, with_taken, transferred, transfer_answer}
+use Rattle.usb_answers.specs.Halts.{clear_halt_answer}
 use Rattle.usb_answers.specs.Closes.{cancel_answer, without_endpoint, close_answer, closed_at, closed}
 use Rattle.usb_answers.specs.Steps.{lent, steps_answer}
 use Rattle.usb_answers.specs.Served.{closed_as, closed_under}
 use Rattle.usb_answers.proofs.NameLemmas.{named-change_same, change-change}
-use Rattle.usb_answers.proofs.Does.{Quiet, Acts, Does, says_done, goes, opens, submits, ends, takes, closes, quiet-aside, quiet-same, quiet-stepped, told-does, barred-does, free-does, bar-does, try-does, ok-does, call-does, stepping-does}
+use Rattle.usb_answers.proofs.Does.{Quiet, Acts, Does, says_done, goes, opens, submits, ends, takes, closes, quiet-aside, quiet-same, quiet-stepped, told-does, barred-does, free-does, bar-does, try-does, ok-does, call-does, stepping-does, host-does, result-other}
+use Rattle.usb_answers.proofs.DeviceHosts.{halt-aside}
 
 -- an endpoint is opened
 endpoint_as-does : (state : State) (e address : ℕ) (kind : TransferType) (x : InterfaceAt) (tried : Result ℕ ErrorState) → is_free state.endpoints e ≡ true → Does state (endpoint_as state e address kind x tried)
@@ -138,6 +143,13 @@ pub cancel-does : (state : State) (e : ℕ) → Does state (cancel_answer state 
 unfolding cancel_answer
 cancel-does state e =
     call-does (named state.endpoints e) _ (λ h here. ends refl (record { keeps = on-all_discarded state.host (pending h); count = all_discarded-count state.host (pending h); endpoints = refl }))
+
+-- its halt is cleared
+pub clear_halt-does : (state : State) (e : ℕ) → Does state (clear_halt_answer state e)
+unfolding clear_halt_answer
+clear_halt-does state e =
+    host-does (named state.endpoints e) _ _ (λ h. result-other (or_error clear_halt_error (host_halt_result state.host h.device h.address)))
+    (λ h. let aside = halt-aside state.host h.device h.address in quiet-aside state (with_host state (host_halt_cleared state.host h.device h.address)) aside.past aside.handles.tickets refl)
 
 -- an endpoint is closed
 closed_at-does : {few : Type 0} (state : State) (e : ℕ) (lines : List (List ℕ)) (line : List ℕ) (o : Option Endpoint) → named state.endpoints e ≡ o → says_done line ≡ false → Acts few (told (closed_at state e o) line) state (closed_as state.host.kernel.past lines o)

@@ -9,7 +9,8 @@ use Rattle.usb_bus.specs.BusState.{BusState}
 use Rattle.usb_endpoint.specs.EndpointState.{EndpointState}
 use Rattle.usb_endpoint.specs.Handles.{Stands, KeepsOthers}
 use Rattle.usb_endpoint.proofs.Frames.{Stands-other}
-use Rattle.usb_device.specs.HostState.{HostState, HostEndpoint, ClaimedInterface}
+use Rattle.usb_ledger.specs.Entries.{HostEndpoint, ClaimedInterface}
+use Rattle.usb_device.specs.HostState.{HostState}
 use Rattle.usb_device.specs.HostBus.{bus_of}
 use Rattle.usb_device.specs.HandleStates.{InterfaceState}
 use Rattle.usb_device.specs.EndpointOpens.{host_asked, host_tries, with_endpoint, fresh_endpoint}
@@ -21,6 +22,7 @@ use Rattle.usb_answers.specs.OpenAt.{InterfaceAt}
 use Rattle.usb_answers.specs.Endpoints.{new_endpoint, endpoint_as, endpoint_answer}
 use Rattle.usb_answers.specs.SessionState.{SessionState, IsSound}
 use Rattle.usb_answers.specs.Relation.{Represents, session_of}
+use Rattle.usb_answers.proofs.CountedNames.{counted-same}
 use Rattle.usb_answers.proofs.NameLemmas.{length-set_name, map-set, is_free-map, names-set}
 use Rattle.usb_answers.proofs.Called.{KeepsSession, sound-host, represents-host}
 use Rattle.usb_answers.proofs.Answering.{Gives, barred-gives, free_kept}
@@ -76,7 +78,7 @@ endpoint-sound s now after e i address y c sound is key stands others free put =
       endpoint_names = ap (λ (l : List (Option EndpointState)). length l) put ∙ length-set_name s.endpoints e y ∙ sound.endpoint_names;
       devices_stand = λ d k at. subst (λ (n : ℕ). k < n) (sym keeps.devices) (sound.devices_stand d k at);
       interfaces_stand = λ j f at. StandsInterface-same s.host now f keeps.interfaces (no_fewer (length s.host.devices) (length now.devices) keeps.devices) (sound.interfaces_stand j f at);
-      interfaces_differ = sound.interfaces_differ;
+      interfaces_counted = counted-same s.host.interfaces now.interfaces s.interfaces keeps.interfaces sound.interfaces_counted;
       endpoints_stand = λ d h at. elim (names-set s.endpoints after e d y h free put at) [
         | inl here ↦ subst (Stands (bus_of now)) (sym here.1) stands
         | inr there ↦ Stands-other (bus_of s.host) (bus_of now) y.key h others (old d h there.1) (sound.endpoints_stand d h there.1)

@@ -1,5 +1,5 @@
 -- What each line does.
-use Rattle.std.proofs.Common.{ℕ, List, [], refl}
+use Rattle.std.proofs.Common.{ℕ, List, [], true, false, refl}
 use Rattle.usb_script.specs.declared.item.Item.{Item}
 use Rattle.usb_script.specs.declared.item.Item.TheVariants as item
 use Rattle.usb_answers.specs.State.{State}
@@ -8,17 +8,33 @@ use Rattle.usb_answers.specs.Answers.{answer}
 use Rattle.usb_answers.specs.Accounts.{TookFew}
 use Rattle.usb_answers.specs.Served.{closed_by}
 use Rattle.usb_answers.proofs.Does.{Acts, told-does}
-use Rattle.usb_answers.proofs.DeviceLines.{now-does, open-does, device_descriptor-does, descriptors-does, claim-does, pending-does}
-use Rattle.usb_answers.proofs.EndpointLines.{endpoint-does, submit-does, poll-does, wait-does, transfer-does, cancel-does, close-does, steps-does}
+use Rattle.usb_answers.proofs.DeviceLines.{now-does, open-does, device_descriptor-does, descriptors-does, clone_device-does, close_device-does, active-does, speed-does, set_configuration-does, reset-does, detach-does, attach-does, claim-does, clone_interface-does, close_interface-does, set_alt_setting-does, get_alt_setting-does, interface_descriptor-does, release-does, pending-does}
+use Rattle.usb_answers.proofs.EndpointLines.{endpoint-does, submit-does, poll-does, wait-does, transfer-does, cancel-does, clear_halt-does, close-does, steps-does}
 
 pub answer-does : (state : State) (lines : ℕ → List (List ℕ)) (line : Item) → Acts (TookFew state) (answer state line) state (closed_by state lines line)
 unfolding answer
 answer-does state lines (item.Device k bus address speed configuration descriptors) = told-does state [] refl
+answer-does state lines (item.Driver k number) = told-does state [] refl
 answer-does state lines item.Now = now-does state
 answer-does state lines (item.Open d bus address) = open-does state d bus address
 answer-does state lines (item.DeviceDescriptor d) = device_descriptor-does state d
 answer-does state lines (item.Descriptors d) = descriptors-does state d
-answer-does state lines (item.Claim d number i) = claim-does state d number i
+answer-does state lines (item.CloneDevice name d) = clone_device-does state name d
+answer-does state lines (item.CloseDevice d) = close_device-does state d
+answer-does state lines (item.ActiveConfiguration d) = active-does state d
+answer-does state lines (item.Speed d) = speed-does state d
+answer-does state lines (item.SetConfiguration d value) = set_configuration-does state d value
+answer-does state lines (item.Reset d) = reset-does state d
+answer-does state lines (item.DetachDriver d number) = detach-does state d number
+answer-does state lines (item.AttachDriver d number) = attach-does state d number
+answer-does state lines (item.Claim d number i) = claim-does state d number i false
+answer-does state lines (item.DetachAndClaim d number i) = claim-does state d number i true
+answer-does state lines (item.CloneInterface name i) = clone_interface-does state name i
+answer-does state lines (item.CloseInterface i) = close_interface-does state i
+answer-does state lines (item.SetAltSetting i setting) = set_alt_setting-does state i setting
+answer-does state lines (item.GetAltSetting i) = get_alt_setting-does state i
+answer-does state lines (item.InterfaceDescriptor i) = interface_descriptor-does state i
+answer-does state lines (item.Release i) = release-does state i
 answer-does state lines (item.Endpoint e i address kind) = endpoint-does state e i address _ _
 answer-does state lines (item.SubmitIn e n) = submit-does state _ e (in_buffer n)
 answer-does state lines (item.SubmitOut e bytes) = submit-does state _ e (out_buffer bytes)
@@ -28,5 +44,6 @@ answer-does state lines (item.Wait e timeout steps) = wait-does state e timeout 
 answer-does state lines (item.TransferIn e n timeout steps) = transfer-does state _ e (in_buffer n) timeout steps
 answer-does state lines (item.TransferOut e bytes timeout steps) = transfer-does state _ e (out_buffer bytes) timeout steps
 answer-does state lines (item.Cancel e) = cancel-does state e
+answer-does state lines (item.ClearHalt e) = clear_halt-does state e
 answer-does state lines (item.CloseEndpoint e) = close-does state e lines
 answer-does state lines (item.Steps steps) = steps-does state steps

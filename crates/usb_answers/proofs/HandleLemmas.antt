@@ -12,9 +12,10 @@ use Rattle.usb_bus.specs.Completions.{transfer_completion}
 use Rattle.usb_lines.specs.Completions.{polled_line}
 use Rattle.usb_script.specs.declared.item.Item.{Item}
 use Rattle.usb_script.specs.declared.item.Item.TheVariants.{CloseEndpoint}
-use Rattle.usb_device.specs.declared.ends.TicketEnd.{TicketEnd}
-use Rattle.usb_device.specs.HostState.{HostState, HostTicket, HeldBy, Abandoned, Ended}
-use Rattle.usb_device.specs.HostBus.{ended_at}
+use Rattle.usb_ledger.specs.declared.ends.TicketEnd.{TicketEnd}
+use Rattle.usb_ledger.specs.Entries.{HostTicket, HeldBy, Abandoned, Ended}
+use Rattle.usb_device.specs.HostState.{HostState}
+use Rattle.usb_ledger.specs.EndedTickets.{ended_at}
 use Rattle.usb_device.specs.Finishes.{discarded_below, reaped_below, finished, HasEnds}
 use Rattle.usb_device.specs.HostCalls.{host_discarded}
 use Rattle.usb_device.specs.HostTurns.{host_reaped}
@@ -28,7 +29,7 @@ use Rattle.usb_answers.specs.Ends.{endpoints_closed, interfaces_closed, all_clos
 use Rattle.usb_answers.specs.Output.{start, last_host, final_host}
 use Rattle.usb_answers.specs.Accounts.{Accounted}
 use Rattle.usb_answers.specs.Behind.{behind, GoesOnTo, ScriptsGoOn}
-use Rattle.usb_answers.specs.Served.{Handle, handles, IsServedInOrder, HandlesAreServedInOrder, ScriptsAreCounted, closed_as, tickets_of_all, closed_under, closed_by, closed_at_end, handles_from, lines_behind}
+use Rattle.usb_answers.specs.Served.{ClosedEndpoint, closed_endpoints, IsServedInOrder, EndpointsAreServedInOrder, ScriptsAreCounted, closed_as, tickets_of_all, closed_under, closed_by, closed_at_end, closed_endpoints_from, lines_behind}
 use Rattle.usb_answers.specs.Fates.{fate_lines, fate_lines_from}
 use Rattle.usb_answers.specs.FinalFates.{FatesOfScripts}
 use Rattle.usb_answers.specs.Sums.{counts_of}
@@ -99,8 +100,8 @@ end-quiet state =
 -- what these items and the end of the session make
 record Runs (state : State) (lines : ℕ → List (List ℕ)) (items : List Item) : Type 0 where
   goes : LeavesTickets state.host (last_host state items)
-  closes : All (Closes (last_host state items)) (handles_from state lines items)
-  adds : (t : ℕ) → times t (tickets_of_all (handles_from state lines items)) + among t (tickets_of state) ≡ times_open t state.endpoints + among t (length (tickets (last_host state items).kernel.past))
+  closes : All (Closes (last_host state items)) (closed_endpoints_from state lines items)
+  adds : (t : ℕ) → times t (tickets_of_all (closed_endpoints_from state lines items)) + among t (tickets_of state) ≡ times_open t state.endpoints + among t (length (tickets (last_host state items).kernel.past))
   count : length (last_host state items).tickets ≡ length (tickets (last_host state items).kernel.past)
 
 runs-end : (state : State) (lines : ℕ → List (List ℕ)) → Inv state → Runs state lines []
@@ -129,11 +130,11 @@ runs state lines (item ∷ items) inv =
     let last = last_host next items in
     record {
       goes = goes-then state.host next.host last first.goes rest.goes;
-      closes = All-append (Closes last) (closed_by state lines item) (handles_from next (lines_behind state (answer state item) lines) items) (closes-on next.host last (closed_by state lines item) rest.goes first.closes) rest.closes;
+      closes = All-append (Closes last) (closed_by state lines item) (closed_endpoints_from next (lines_behind state (answer state item) lines) items) (closes-on next.host last (closed_by state lines item) rest.goes first.closes) rest.closes;
       adds = λ t.
           let one_ = first.adds t in
           let two = rest.adds t in
-          let parts = all-tickets t (closed_by state lines item) (handles_from next (lines_behind state (answer state item) lines) items) in omega arith;
+          let parts = all-tickets t (closed_by state lines item) (closed_endpoints_from next (lines_behind state (answer state item) lines) items) in omega arith;
       count = rest.count;
     }
 
@@ -157,10 +158,10 @@ unfolding start
 nothing-open items t = (times-replicate t 64, refl)
 
 -- what was printed of the endpoints that are closed
-abbrev Printed : List Event → Handle → Type 0
+abbrev Printed : List Event → ClosedEndpoint → Type 0
 Printed past c = Prints past (taken_of c.endpoint) c.lines
 
-printed-on : (old new : List Event) (xs : List Handle) → Extends old new → All (Printed old) xs → All (Printed new) xs
+printed-on : (old new : List Event) (xs : List ClosedEndpoint) → Extends old new → All (Printed old) xs → All (Printed new) xs
 printed-on old new xs extends all k d below = prints-stay old new _ _ extends (all k d below)
 
 closed_as-printed : (past : List Event) (lines : List (List ℕ)) (o : Option Endpoint) → ((h : Endpoint) → o ≡ Some h → Prints past (taken_of h) lines) → All (Printed past) (closed_as past lines o)
@@ -208,7 +209,7 @@ ends-print state lines (suc k) inv prints =
           (All-append (Printed mid.host.kernel.past) (closed_at_end state lines k) (closed_under mid lines k) before.shut (closed_under-printed mid lines k before.open_));
     }
 
-runs-print : (state : State) (lines : ℕ → List (List ℕ)) (items : List Item) → Inv state → AllPrint state lines → All (Printed (last_host state items).kernel.past) (handles_from state lines items)
+runs-print : (state : State) (lines : ℕ → List (List ℕ)) (items : List Item) → Inv state → AllPrint state lines → All (Printed (last_host state items).kernel.past) (closed_endpoints_from state lines items)
 unfolding ended all_closed
 runs-print state lines [] inv prints =
     printed-on (endpoints_closed state 64).host.kernel.past (ended state).kernel.past (closed_at_end state lines 64) (end-quiet (endpoints_closed state 64)).keeps.past
@@ -217,7 +218,7 @@ runs-print state lines (item ∷ items) inv prints =
     let a = answer state item in
     let over = answer-step state lines item inv in
     let last = (last_host a.state items).kernel.past in
-    All-append (Printed last) (closed_by state lines item) (handles_from a.state (lines_behind state a lines) items)
+    All-append (Printed last) (closed_by state lines item) (closed_endpoints_from a.state (lines_behind state a lines) items)
     (printed-on state.host.kernel.past last (closed_by state lines item) (runs state lines (item ∷ items) inv).goes.past (closed_by-printed state lines item prints))
     (runs-print a.state (lines_behind state a lines) items over.inv (all-print state a lines over.goes.past prints (answer-takes state item (few-taken state inv))))
 
@@ -226,16 +227,16 @@ unfolding start
 none-print items lines e h is = absurd (none-some h (sym (named-replicate 64 e) ∙ is))
 
 -- each ticket of the last host stands once
-handles-once : (state : State) (lines : ℕ → List (List ℕ)) (items : List Item) (t : ℕ) → times_open t state.endpoints ≡ 0 → tickets_of state ≡ 0 → Runs state lines items → t < length (last_host state items).tickets → count_by (λ u. u == t) (tickets_of_all (handles_from state lines items)) ≡ 1
+handles-once : (state : State) (lines : ℕ → List (List ℕ)) (items : List Item) (t : ℕ) → times_open t state.endpoints ≡ 0 → tickets_of state ≡ 0 → Runs state lines items → t < length (last_host state items).tickets → count_by (λ u. u == t) (tickets_of_all (closed_endpoints_from state lines items)) ≡ 1
 handles-once state lines items t none few run within =
     let all = run.adds t in
     let before : among t (tickets_of state) ≡ 0 = ap (among t) few in
     let there : t < length (tickets (last_host state items).kernel.past) = omega (arith, run.count, within) in
     let here = among-within t (length (tickets (last_host state items).kernel.past)) there in
-    let counts = counts-times t (tickets_of_all (handles_from state lines items)) in
+    let counts = counts-times t (tickets_of_all (closed_endpoints_from state lines items)) in
     omega arith
 
-served-one : (last : HostState) (c : Handle) → HasEnds last.tickets → Closes last c → c.lines ≡ map (λ t. polled_line (transfer_completion last.kernel.past t)) (take c.endpoint.taken c.endpoint.tickets) → IsServedInOrder last c
+served-one : (last : HostState) (c : ClosedEndpoint) → HasEnds last.tickets → Closes last c → c.lines ≡ map (λ t. polled_line (transfer_completion last.kernel.past t)) (take c.endpoint.taken c.endpoint.tickets) → IsServedInOrder last c
 served-one last c ends closes printed =
     record {
       rising = closes.rising;
@@ -245,8 +246,8 @@ served-one last c ends closes printed =
       others = closed-others last c.endpoint c.past ends closes;
     }
 
-pub served-handles : HandlesAreServedInOrder
-unfolding handles final_host
+pub served-handles : EndpointsAreServedInOrder
+unfolding closed_endpoints final_host
 served-handles items ends =
     let lines : ℕ → List (List ℕ) = λ e. [] in
     let run = runs (start items) lines items (inv-start items) in

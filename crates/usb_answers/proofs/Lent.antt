@@ -3,7 +3,7 @@ use Rattle.std.proofs.Common.{◌≡◌, ℕ, ◌≤◌, ◌+◌, List, ◌++◌
 use Rattle.std.specs.Prelude.{OnOk}
 use Rattle.std.specs.Option.{option_map}
 use Rattle.std.specs.declared.alloc.Global.{Global}
-use Rattle.usb_kernel.specs.declared.step.KernelStep.{KernelStep}
+use Rattle.usb_simulated.specs.declared.step.KernelStep.{KernelStep}
 use Rattle.usb_endpoint.specs.declared.any_endpoint.AnyEndpoint.{AnyEndpoint}
 use Rattle.usb_endpoint.specs.AnyEndpoints.{state_of}
 use Rattle.usb_endpoint.specs.EndpointState.{EndpointState}

@@ -2,6 +2,10 @@ pub mod AccountLemmas
 pub mod Answering
 pub mod Called
 pub mod CloseCode
+pub mod CountedNames
+pub mod DeviceCalls
+pub mod DeviceHandles
+pub mod DeviceHosts
 pub mod DeviceLines
 pub mod Devices
 pub mod Does
@@ -10,7 +14,11 @@ pub mod EndpointLines
 pub mod EndpointOpened
 pub mod EveryLine
 pub mod FateLemmas
+pub mod HaltCode
+pub mod HandleHosts
 pub mod HandleLemmas
+pub mod Handled
+pub mod InterfaceHandles
 pub mod Interfaces
 pub mod Lent
 pub mod NameLemmas
@@ -22,6 +30,7 @@ pub mod Queue
 pub mod RunLemmas
 pub mod StepLemmas
 pub mod SubmitCode
+pub mod SettingCalls
 pub mod SumLemmas
 pub mod TakeLemmas
 pub mod TakenOut

@@ -13,9 +13,10 @@ use Rattle.usb_kernel.specs.Completions.{completion}
 use Rattle.usb_kernel.proofs.Extends.{extends-trans}
 use Rattle.usb_endpoint.specs.EndpointState.{EndpointState}
 use Rattle.usb_endpoint.specs.Closes.{all_discarded, all_abandoned, after_close}
-use Rattle.usb_device.specs.declared.ends.TicketEnd.TheVariants.{Taken, Dropped, Reclaimed}
-use Rattle.usb_device.specs.HostState.{HostState, HostTicket, Hold, HeldBy, Abandoned, Ended}
-use Rattle.usb_device.specs.HostBus.{end_at, ended_at}
+use Rattle.usb_ledger.specs.declared.ends.TicketEnd.TheVariants.{Taken, Dropped, Reclaimed}
+use Rattle.usb_ledger.specs.Entries.{HostTicket, Hold, HeldBy, Abandoned, Ended}
+use Rattle.usb_device.specs.HostState.{HostState}
+use Rattle.usb_ledger.specs.EndedTickets.{end_at, ended_at}
 use Rattle.usb_device.specs.Finishes.{HasEnds}
 use Rattle.usb_device.specs.TicketEnds.{host_taken, host_abandoned}
 use Rattle.usb_device.specs.HostCalls.{host_discarded, host_left}

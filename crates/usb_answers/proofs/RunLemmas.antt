@@ -1,19 +1,20 @@
 -- A session at its beginning.
-use Rattle.std.proofs.Common.{◌≡◌, ℕ, ◌≤◌, arith, List, [], length, map, replicate, Option, Some, None, refl, ap, sym, ◌∙◌, subst}
+use Rattle.std.proofs.Common.{◌≡◌, ℕ, ◌≤◌, arith, List, [], length, map, replicate, Option, Some, None, refl, ap, sym, ◌∙◌, subst, slice_get}
 use Rattle.std.specs.Prelude.{max}
 use Rattle.std.specs.Option.{option_map}
 use Rattle.std.proofs.lemmas.List.{length-replicate}
 use Rattle.std.proofs.lemmas.Option.{none-some}
-use Rattle.usb_kernel.specs.declared.devices.SimDevice.{SimDevice}
+use Rattle.usb_simulated.specs.declared.devices.SimDevice.{SimDevice}
 use Rattle.usb_kernel.specs.Value.{KernelState}
-use Rattle.usb_kernel.specs.Devices.{fresh_device}
+use Rattle.usb_simulated.specs.Devices.{fresh_device}
 use Rattle.usb_endpoint.specs.declared.any_endpoint.AnyEndpoint.{AnyEndpoint}
 use Rattle.usb_endpoint.specs.EndpointState.{EndpointState}
 use Rattle.usb_endpoint.specs.AnyEndpoints.{state_of}
+use Rattle.usb_ledger.specs.Entries.{ClaimedInterface}
 use Rattle.usb_device.specs.HostState.{HostState, host_of}
 use Rattle.usb_device.specs.HandleStates.{InterfaceState}
 use Rattle.usb_script.specs.declared.item.Item.{Item}
-use Rattle.usb_script.specs.ItemKinds.{step_count}
+use Rattle.usb_script.specs.ItemKinds.{place_count}
 use Rattle.usb_answers.specs.Names.{named}
 use Rattle.usb_answers.specs.State.{Endpoint, kept}
 use Rattle.usb_answers.specs.Output.{devices_of, start}
@@ -26,10 +27,10 @@ use Rattle.usb_answers.proofs.NameLemmas.{named-replicate, map-replicate}
 larger : (a b : ℕ) → a ≡ 0 → max a b ≡ b
 larger a b none = omega arith
 
-pub host-start : (k now : KernelState) (items : List Item) (devices : List (ℕ × SimDevice)) (steps : ℕ) → k.past ≡ [] → k.devices ≡ map fresh_device devices → devices ≡ devices_of items → k.clock ≡ 0 → k.armed ≡ [] → k.spare ≡ 0 → now ≡ record k { spare = now.spare } → now.spare ≡ max k.spare steps → steps ≡ step_count items → host_of now ≡ (start items).host
+pub host-start : (k now : KernelState) (items : List Item) (devices : List (ℕ × SimDevice)) (places : ℕ) → k.past ≡ [] → k.devices ≡ map fresh_device devices → devices ≡ devices_of items → k.clock ≡ 0 → k.armed ≡ [] → k.spare ≡ 0 → now ≡ record k { spare = now.spare } → now.spare ≡ max k.spare places → places ≡ place_count items → host_of now ≡ (start items).host
 unfolding start
-host-start k now items devices steps past known are clock armed none rest spare all =
-    let room : now.spare ≡ step_count items = spare ∙ larger k.spare steps none ∙ all in
+host-start k now items devices places past known are clock armed none rest spare all =
+    let room : now.spare ≡ place_count items = spare ∙ larger k.spare places none ∙ all in
     let simulated = known ∙ ap (map fresh_device) are in
     ap host_of rest ∙ rw (past, simulated, clock, armed, room) refl
 
@@ -41,8 +42,8 @@ nobody {X} n e x is = none-some x (sym (named-replicate n e) ∙ is)
 abbrev pub empty_session : HostState → SessionState
 empty_session host = record { host = host; devices = replicate 64 None; interfaces = replicate 64 None; endpoints = replicate 64 None }
 
-empty-sound : (host : HostState) → host.steps ≡ [] → IsSound (empty_session host)
-empty-sound host idle =
+empty-sound : (host : HostState) → host.steps ≡ [] → host.interfaces ≡ [] → IsSound (empty_session host)
+empty-sound host idle none =
     record {
       idle = idle;
       device_names = length-replicate {A = Option ℕ} 64 None;
@@ -50,7 +51,7 @@ empty-sound host idle =
       endpoint_names = length-replicate {A = Option EndpointState} 64 None;
       devices_stand = λ d key is. absurd (nobody 64 d key is);
       interfaces_stand = λ i f is. absurd (nobody 64 i f is);
-      interfaces_differ = λ i j f g isf isg apart. absurd (nobody 64 i f isf);
+      interfaces_counted = λ key c at. absurd (none-some c (sym (ap (λ (l : List ClaimedInterface). slice_get l key) none) ∙ at));
       endpoints_stand = λ e h is. absurd (nobody 64 e h is);
       endpoints_differ = λ d e g h isg ish apart. absurd (nobody 64 d g isg);
     }
@@ -64,9 +65,13 @@ start-steps : (items : List Item) → (start items).host.steps ≡ []
 unfolding start
 start-steps items = refl
 
+start-interfaces : (items : List Item) → (start items).host.interfaces ≡ []
+unfolding start
+start-interfaces items = refl
+
 pub sound-start : (items : List Item) (host : HostState) (ds : List (Option ℕ)) (is : List (Option InterfaceState)) (es : List (Option AnyEndpoint)) → host ≡ (start items).host → ds ≡ replicate 64 None → is ≡ replicate 64 None → es ≡ replicate 64 None → IsSound (session_made host ds is es)
 sound-start items host ds is es start_ d i e =
-    subst IsSound (sym (made-empty host ds is es d i e)) (empty-sound host (ap (λ (h : HostState). h.steps) start_ ∙ start-steps items))
+    subst IsSound (sym (made-empty host ds is es d i e)) (empty-sound host (ap (λ (h : HostState). h.steps) start_ ∙ start-steps items) (ap (λ (h : HostState). h.interfaces) start_ ∙ start-interfaces items))
 
 empty-start : (items : List Item) → empty_session (start items).host ≡ session_of (start items)
 unfolding start
@@ -83,9 +88,9 @@ represents-start items host ds is es start_ d i e =
       few = few-start items;
     }
 
-spare-of_start : (items : List Item) → (start items).host.kernel.spare ≡ step_count items
+spare-of_start : (items : List Item) → (start items).host.kernel.spare ≡ place_count items
 unfolding start
 spare-of_start items = refl
 
-pub spare-start : (items : List Item) (host : HostState) (steps : ℕ) → host ≡ (start items).host → steps ≡ step_count items → host.kernel.spare ≡ steps
-spare-start items host steps start_ all = ap (λ (h : HostState). h.kernel.spare) start_ ∙ spare-of_start items ∙ sym all
+pub spare-start : (items : List Item) (host : HostState) (places : ℕ) → host ≡ (start items).host → places ≡ place_count items → host.kernel.spare ≡ places
+spare-start items host places start_ all = ap (λ (h : HostState). h.kernel.spare) start_ ∙ spare-of_start items ∙ sym all

@@ -23,7 +23,7 @@ use Rattle.usb_answers.specs.Submits.{submitted, with_submission}
 use Rattle.usb_answers.specs.Closes.{without_endpoint, closed}
 use Rattle.usb_answers.specs.Answers.{answer}
 use Rattle.usb_answers.specs.Accounts.{TookFew}
-use Rattle.usb_answers.specs.Served.{Handle, tickets_of_all, closed_under, closed_by}
+use Rattle.usb_answers.specs.Served.{ClosedEndpoint, tickets_of_all, closed_under, closed_by}
 use Rattle.usb_answers.proofs.NameLemmas.{place_of, free_place, named-change_same, named-change_other, named-freed, named-freed_other, named-set, named-set_other, length-change, length-freed, length-set_name}
 use Rattle.usb_answers.proofs.TimesLemmas.{one, times, times-append, among, among-once, times_open, open-change, open-one, open-two}
 use Rattle.usb_answers.proofs.OrderLemmas.{IsHeld, InOrder, order-few, order-stays, order-keeps, order-fresh, order-push, order-within, order-takes, front-held, front-stands, pending-all, stays-same, left_by, LeavesTickets, goes-keeps, goes-then, goes-taken, goes-left, IsClosed, closed-goes, closed-order, left-stays}
@@ -39,22 +39,22 @@ pub record Inv (state : State) : Type 0 where
   pub names : length state.endpoints ≡ 64
 
 -- a change of the state, and the endpoints that it closes
-pub record Step (state next : State) (closed : List Handle) : Type 0 where
+pub record Step (state next : State) (closed : List ClosedEndpoint) : Type 0 where
   pub goes : LeavesTickets state.host next.host
   pub inv : Inv next
   pub adds : (t : ℕ) → times t (tickets_of_all closed) + times_open t next.endpoints + among t (tickets_of state) ≡ times_open t state.endpoints + among t (tickets_of next)
-  pub closes : All (λ (c : Handle). IsClosed next.host c.endpoint c.past) closed
+  pub closes : All (λ (c : ClosedEndpoint). IsClosed next.host c.endpoint c.past) closed
 
-abbrev pub Closes : HostState → Handle → Type 0
+abbrev pub Closes : HostState → ClosedEndpoint → Type 0
 Closes h c = IsClosed h c.endpoint c.past
 
-pub closes-on : (old new : HostState) (xs : List Handle) → LeavesTickets old new → All (Closes old) xs → All (Closes new) xs
+pub closes-on : (old new : HostState) (xs : List ClosedEndpoint) → LeavesTickets old new → All (Closes old) xs → All (Closes new) xs
 closes-on old new xs leaves all k d below = closed-goes old new _ _ leaves (all k d below)
 
-pub all-tickets : (t : ℕ) (xs ys : List Handle) → times t (tickets_of_all (xs ++ ys)) ≡ times t (tickets_of_all xs) + times t (tickets_of_all ys)
-all-tickets t xs ys = ap (times t) (flat_map-append (λ (h : Handle). h.endpoint.tickets) xs ys) ∙ times-append t (tickets_of_all xs) (tickets_of_all ys)
+pub all-tickets : (t : ℕ) (xs ys : List ClosedEndpoint) → times t (tickets_of_all (xs ++ ys)) ≡ times t (tickets_of_all xs) + times t (tickets_of_all ys)
+all-tickets t xs ys = ap (times t) (flat_map-append (λ (h : ClosedEndpoint). h.endpoint.tickets) xs ys) ∙ times-append t (tickets_of_all xs) (tickets_of_all ys)
 
-pub step-then : {a b c : State} {xs ys : List Handle} → Step a b xs → Step b c ys → Step a c (xs ++ ys)
+pub step-then : {a b c : State} {xs ys : List ClosedEndpoint} → Step a b xs → Step b c ys → Step a c (xs ++ ys)
 step-then {a} {b} {c} {xs} {ys} first second =
     record {
       goes = goes-then a.host b.host c.host first.goes second.goes;
@@ -63,7 +63,7 @@ step-then {a} {b} {c} {xs} {ys} first second =
       closes = All-append (Closes c.host) xs ys (closes-on b.host c.host xs second.goes first.closes) second.closes;
     }
 
-pub step-after : {a b c : State} {xs : List Handle} → Step a b xs → Step b c [] → Step a c xs
+pub step-after : {a b c : State} {xs : List ClosedEndpoint} → Step a b xs → Step b c [] → Step a c xs
 step-after {a} {c} {xs} first second = subst (Step a c) (append-nil xs) (step-then first second)
 
 among-kept : {old new : HostState} → KeepsCount old new → (t : ℕ) → among t (length (tickets new.kernel.past)) ≡ among t (length (tickets old.kernel.past))
@@ -193,7 +193,7 @@ step-close state e h lines inv here =
     let host = left_by state.host (kept h) in
     let es = freed state.endpoints e in
     let count = closed-count state.host (kept h) in
-    let handle : Handle = record { endpoint = h; past = state.host.kernel.past; lines = lines } in
+    let handle : ClosedEndpoint = record { endpoint = h; past = state.host.kernel.past; lines = lines } in
     let lists : (u : ℕ) → times_open u es + times u h.tickets ≡ times_open u state.endpoints = λ u.
     let change = open-change u nothing state.endpoints e (Some h) (place_of state.endpoints e h here) in omega arith in
     let whole : (u : ℕ) → times u (tickets_of_all (handle ∷ [])) ≡ times u h.tickets = λ u. ap (times u) (append-nil h.tickets) in
@@ -226,7 +226,7 @@ step-close state e h lines inv here =
     pending-few h u = times-drop h.taken h.tickets u
 
 -- so is what an answer does
-acts-step : {few : Type 0} {a : Answer} {state : State} {closed : List Handle} → few → Acts few a state closed → Inv state → Step state a.state closed
+acts-step : {few : Type 0} {a : Answer} {state : State} {closed : List ClosedEndpoint} → few → Acts few a state closed → Inv state → Step state a.state closed
 acts-step few (goes quiet rest) inv = let first = step-quiet inv quiet in step-then first (acts-step few rest first.inv)
 acts-step {state} few (opens e x free none zero_ rest) inv = let first = step-open state e x inv free none zero_ in step-then first (acts-step few rest first.inv)
 acts-step {state} few (submits e b h here within rest) inv = let first = step-push state e b h inv here in step-then first (acts-step few rest first.inv)

@@ -19,7 +19,7 @@ use Rattle.usb_answers.specs.Polls.{one_taken, taken_from}
 use Rattle.usb_answers.specs.Closes.{without_endpoint}
 use Rattle.usb_answers.specs.Answers.{answer}
 use Rattle.usb_answers.specs.Accounts.{TookFew}
-use Rattle.usb_answers.specs.Served.{Handle, taken_under}
+use Rattle.usb_answers.specs.Served.{ClosedEndpoint, taken_under}
 use Rattle.usb_answers.specs.Places.{TakesOne, CompletionsAreTaken}
 use Rattle.usb_answers.proofs.NameLemmas.{named_of, free_place, named-change_same, named-change_other, named-freed, named-freed_other, named-set, named-set_other}
 use Rattle.usb_answers.proofs.Does.{Quiet, Acts, says_done, goes, opens, submits, ends, takes, closes}
@@ -90,7 +90,7 @@ takes-next state a e t h g c here front came line quiet is =
     (ap (λ (x : Endpoint). taken_of x) (sym entry) ∙ (ap (λ n. take n h.tickets) more ∙ (take-one h.taken h.tickets t front ∙ ap (λ l. l ++ t ∷ []) (sym (ap taken_in here)))))
     (transfer-stays state.host.kernel.past a.state.host.kernel.past t c (subst (λ p. Extends p a.state.host.kernel.past) (taken-past state.host t) quiet.keeps.past) came) line
 
-acts-takes : {few : Type 0} {a : Answer} {state : State} {closed : List Handle} → few → Acts few a state closed → (d : ℕ) (g : Endpoint) → named a.state.endpoints d ≡ Some g → Takes state a d g
+acts-takes : {few : Type 0} {a : Answer} {state : State} {closed : List ClosedEndpoint} → few → Acts few a state closed → (d : ℕ) (g : Endpoint) → named a.state.endpoints d ≡ Some g → Takes state a d g
 acts-takes few (goes quiet rest) d g is = takes-before few (none-quiet d quiet) (acts-takes few rest d g is)
 acts-takes {state} few (opens e x free empty zero_ rest) d g is = takes-before few (none-opened state e x free zero_ d) (acts-takes few rest d g is)
 acts-takes {state} few (submits e b h here within rest) d g is = takes-before few (none-submitted state e b h here within d) (acts-takes few rest d g is)
@@ -117,7 +117,7 @@ not-done line c other is = let wrong : true ≡ false = sym (ap says_done is) �
 one-before : (few : Type 0) (old new : State) (a : Answer) → ((e : ℕ) → TakesNone few old new e) → TakesOne new a → TakesOne old a
 one-before few old new a before one = (one.0, one.1 ∙ ap (λ n. n + 1) (before one.0).count)
 
-acts-done : {few : Type 0} {a : Answer} {state : State} {closed : List Handle} → Acts few a state closed → (c : Completion) → a.line ≡ done_line c → TakesOne state a
+acts-done : {few : Type 0} {a : Answer} {state : State} {closed : List ClosedEndpoint} → Acts few a state closed → (c : Completion) → a.line ≡ done_line c → TakesOne state a
 acts-done {few} {a} {state} (goes {next = mid} quiet rest) c is = one-before few state mid a (λ d. none-quiet d quiet) (acts-done rest c is)
 acts-done {few} {a} {state} (opens e x free empty zero_ rest) c is = one-before few state (record state { endpoints = set_name state.endpoints e x }) a (none-opened state e x free zero_) (acts-done rest c is)
 acts-done {few} {a} {state} (submits e b h here within rest) c is = one-before few state (submitted state e b h) a (none-submitted state e b h here within) (acts-done rest c is)

@@ -9,15 +9,16 @@ use Rattle.usb_desc.specs.Chain.{chain}
 use Rattle.usb_desc.specs.Groups.{groups}
 use Rattle.usb_desc.specs.Configurations.{concatenated, configurations}
 use Rattle.usb_desc.specs.Interfaces.{interfaces_among}
-use Rattle.usb_kernel.specs.declared.step.KernelCall.TheVariants.{Submit}
-use Rattle.usb_kernel.specs.declared.step.KernelStep.TheVariants.{Packet, Ack, Fail, Unplug, Clock, Reap, Refuse}
+use Rattle.usb_simulated.specs.declared.step.KernelCall.TheVariants.{Submit, Halt}
+use Rattle.usb_simulated.specs.declared.step.KernelStep.TheVariants.{Packet, Ack, Fail, Unplug, Clock, Reap, Refuse}
 use Rattle.usb_kernel.specs.Completions.{completion}
 use Rattle.usb_kernel.specs.Info.{unreaped}
 use Rattle.usb_bus.specs.Completions.{transfer_completion}
 use Rattle.usb_endpoint.specs.EndpointState.{EndpointState}
-use Rattle.usb_device.specs.Owners.{is_used_among, is_owned_among}
-use Rattle.usb_device.specs.Releases.{claim_ended, claim_of, owner_gone, settled}
-use Rattle.usb_kernel.specs.Calls.{called}
+use Rattle.usb_ledger.specs.Owners.{is_used_among, is_owned_among}
+use Rattle.usb_ledger.specs.Releases.{claim_ended, claim_of}
+use Rattle.usb_device.specs.Releases.{owner_gone, settled}
+use Rattle.usb_kernel.specs.Calls.{called, after_reset}
 use Rattle.usb_device.specs.Opens.{descriptors_tried, open_tried, host_opened, open_key}
 use Rattle.usb_device.specs.InterfaceClaims.{host_claimed}
 use Rattle.usb_device.specs.EndpointOpens.{host_asked, endpoint_of_setting, host_tries}
@@ -26,13 +27,17 @@ use Rattle.usb_device.specs.TicketEnds.{host_ended, host_taken, host_abandoned, 
 use Rattle.usb_device.specs.HostTurns.{host_stepped, host_reaped}
 use Rattle.usb_device.specs.HostWaits.{host_waited}
 use Rattle.usb_device.specs.HostBlocking.{host_blocked}
-use Rattle.usb_device.specs.Handles.{handle_closed}
+use Rattle.usb_device.specs.Handles.{handle_cloned, handle_closed}
+use Rattle.usb_device.specs.OnDevices.{host_detached, host_attached, host_reset, host_configured, host_speed_asked}
+use Rattle.usb_device.specs.OnInterfaces.{alt_setting_set}
+use Rattle.usb_device.specs.Speeds.{speed_of_code}
 use Rattle.usb_device.specs.Finishes.{finished}
 use Rattle.usb_lines.specs.Words.{hex_word, class_code}
 use Rattle.usb_lines.specs.Calls.{error_line}
 use Rattle.usb_lines.specs.Completions.{done_line, count_line, now_line}
 use Rattle.usb_lines.specs.Tickets.{ticket_line}
 use Rattle.usb_lines.specs.Devices.{device_line, class_words, product_words, string_words}
+use Rattle.usb_lines.specs.Settings.{configuration_line, no_configuration_line, speed_line, alt_setting_line}
 use Rattle.usb_lines.specs.Descriptors.{endpoint_words, class_words as interface_words, setting_words, configuration_words, descriptors_line}
 use Rattle.usb_script.specs.declared.endpoint_kind.EndpointKind.TheVariants.{BulkIn, BulkOut, InterruptIn, InterruptOut}
 use Rattle.usb_script.specs.declared.item.Item.{Item}
@@ -51,16 +56,21 @@ use Rattle.usb_answers.specs.Polls.{poll_answer}
 use Rattle.usb_answers.specs.Steps.{stepped_all, steps_answer}
 use Rattle.usb_answers.specs.Waits.{wait_answer}
 use Rattle.usb_answers.specs.Transfers.{transfer_answer}
-use Rattle.usb_answers.specs.Closes.{cancel_answer, close_answer, closed}
+use Rattle.usb_answers.specs.Clones.{clone_device_answer, clone_interface_answer}
+use Rattle.usb_answers.specs.Configurations.{active_answer, speed_answer, set_configuration_answer, reset_answer}
+use Rattle.usb_answers.specs.Drivers.{detach_answer, attach_answer}
+use Rattle.usb_answers.specs.Settings.{set_alt_setting_answer, get_alt_setting_answer, interface_descriptor_answer}
+use Rattle.usb_answers.specs.Halts.{clear_halt_answer}
+use Rattle.usb_answers.specs.Closes.{cancel_answer, close_answer, close_device_answer, close_interface_answer, release_answer, closed}
 use Rattle.usb_answers.specs.Answers.{answer}
 use Rattle.usb_answers.specs.Ends.{interface_closed, all_closed, ended}
 use Rattle.usb_answers.specs.Fates.{fate_line, fate_lines}
 use Rattle.usb_answers.specs.Output.{start, output}
-use Rattle.usb_answers.specs.Served.{Handle, handles}
+use Rattle.usb_answers.specs.Served.{ClosedEndpoint, closed_endpoints}
 
 -- all that an output unfolds
 unfoldable output_on_literals : ⊤
-unfolding output start answer now_answer open_answer device_descriptor_answer descriptors_answer claim_answer endpoint_answer submit_answer pending_answer poll_answer wait_answer transfer_answer cancel_answer close_answer steps_answer stepped_all closed interface_closed all_closed ended fate_line fate_lines named is_free change_named freed set_name is_used_among is_owned_among claim_ended claim_of owner_gone settled called descriptors_tried open_tried host_opened open_key host_claimed host_asked endpoint_of_setting host_tries host_submitted host_refused host_discarded host_left host_ended host_taken host_abandoned came host_stepped host_reaped host_waited host_blocked handle_closed finished transfer_completion completion unreaped chain groups concatenated configurations interfaces_among hex_word error_line done_line count_line now_line ticket_line device_line class_words product_words string_words class_code endpoint_words interface_words setting_words configuration_words descriptors_line digits encode_with
+unfolding output start answer now_answer open_answer device_descriptor_answer descriptors_answer claim_answer endpoint_answer submit_answer pending_answer poll_answer wait_answer transfer_answer cancel_answer close_answer clone_device_answer clone_interface_answer active_answer speed_answer set_configuration_answer reset_answer detach_answer attach_answer set_alt_setting_answer get_alt_setting_answer interface_descriptor_answer clear_halt_answer close_device_answer close_interface_answer release_answer steps_answer stepped_all closed interface_closed all_closed ended fate_line fate_lines named is_free change_named freed set_name is_used_among is_owned_among claim_ended claim_of owner_gone settled called descriptors_tried open_tried host_opened open_key host_claimed host_asked endpoint_of_setting host_tries host_submitted host_refused host_discarded host_left host_ended host_taken host_abandoned came host_stepped host_reaped host_waited host_blocked handle_closed handle_cloned after_reset host_detached host_attached host_reset host_configured host_speed_asked speed_of_code alt_setting_set finished transfer_completion completion unreaped chain groups concatenated configurations interfaces_among hex_word error_line done_line count_line now_line ticket_line device_line class_words product_words string_words class_code endpoint_words interface_words setting_words configuration_words descriptors_line configuration_line no_configuration_line speed_line alt_setting_line digits encode_with
 output_on_literals = tt
 
 -- a line of a script, the item that it is, and the line that it is answered, which is empty where it has no answer
@@ -438,9 +448,86 @@ acknowledgements : IsWorkedOut
 unfolding script_on_literals output_on_literals
 acknowledgements = (refl, refl)
 
+-- a device and an interface with two closed_endpoints each: the claim ends with the last handle, and a release is refused before
+handles_of_one : IsWorkedOut
+    (bulk_device
+    ∷ (codes "open d0 1 6", item.Open 0 1 6, codes "ok")
+    ∷ (codes "clone d1 d0", item.CloneDevice 1 0, codes "ok")
+    ∷ (codes "close d0", item.CloseDevice 0, codes "ok")
+    ∷ (codes "clone d1 d0", item.CloneDevice 1 0, codes "condition")
+    ∷ (codes "claim d1 0 i0", item.Claim 1 0 0, codes "ok")
+    ∷ (codes "clone i1 i0", item.CloneInterface 1 0, codes "ok")
+    ∷ (codes "clone i1 i0", item.CloneInterface 1 0, codes "condition")
+    ∷ (codes "release i0", item.Release 0, codes "error Busy interface is still in use")
+    ∷ (codes "close i0", item.CloseInterface 0, codes "ok")
+    ∷ (codes "close i0", item.CloseInterface 0, codes "condition")
+    ∷ (codes "claim d1 0 i0", item.Claim 1 0 0, codes "error Busy interface is busy (errno 16)")
+    ∷ (codes "release i1", item.Release 1, codes "ok")
+    ∷ (codes "claim d1 0 i0", item.Claim 1 0 0, codes "ok")
+    ∷ (codes "close d0", item.CloseDevice 0, codes "condition")
+    ∷ [])
+    []
+unfolding script_on_literals output_on_literals
+handles_of_one = (refl, refl)
+
+-- a setting is set only while no endpoint of the interface lives, and where the device has it; a halt is cleared where the endpoint is open
+settings_and_halts : IsWorkedOut
+    (with_endpoint
+    ((codes "alt i0 0", item.SetAltSetting 0 0, codes "error Busy can't change alternate setting while endpoints are in use")
+    ∷ (codes "! refuse k0 halt 5", item.Steps (Refuse 0 Halt 5 ∷ []), [])
+    ∷ (codes "halt e0", item.ClearHalt 0, codes "error Other failed to clear halt (errno 5)")
+    ∷ (codes "halt e0", item.ClearHalt 0, codes "ok")
+    ∷ (codes "close e0", item.CloseEndpoint 0, codes "ok")
+    ∷ (codes "halt e0", item.ClearHalt 0, codes "condition")
+    ∷ (codes "alt i0 0", item.SetAltSetting 0 0, codes "ok")
+    ∷ (codes "alt i0 1", item.SetAltSetting 0 1, codes "error NotFound alternate setting not found (errno 22)")
+    ∷ (codes "getalt i0", item.GetAltSetting 0, codes "alt 0")
+    ∷ (codes "getalt i1", item.GetAltSetting 1, codes "condition")
+    ∷ (codes "ifdesc i0", item.InterfaceDescriptor 0, codes "if 0.0 ff 00 00 ep 81 bulk 64 0 ep 02 bulk 64 0")
+    ∷ []))
+    []
+unfolding script_on_literals output_on_literals
+settings_and_halts = (refl, refl)
+
+-- a driver is bound before the first call: a claim is refused until it is detached; the end of a claim that detached it attaches it again
+drivers : IsWorkedOut
+    (bulk_device
+    ∷ (codes "driver k0 0", item.Driver 0 0, [])
+    ∷ (codes "open d0 1 6", item.Open 0 1 6, codes "ok")
+    ∷ (codes "claim d0 0 i0", item.Claim 0 0 0, codes "error Busy interface is busy (errno 16)")
+    ∷ (codes "detachclaim d0 0 i0", item.DetachAndClaim 0 0 0, codes "ok")
+    ∷ (codes "attach d0 0", item.AttachDriver 0 0, codes "error Busy kernel driver already attached (errno 16)")
+    ∷ (codes "detach d0 0", item.DetachDriver 0 0, codes "error Other no kernel driver attached (errno 61)")
+    ∷ (codes "close i0", item.CloseInterface 0, codes "ok")
+    ∷ (codes "detach d0 0", item.DetachDriver 0 0, codes "ok")
+    ∷ (codes "attach d0 0", item.AttachDriver 0 0, codes "ok")
+    ∷ (codes "detach d0 1", item.DetachDriver 0 1, codes "error NotFound interface not found (errno 22)")
+    ∷ [])
+    []
+unfolding script_on_literals output_on_literals
+drivers = (refl, refl)
+
+-- the host keeps the configuration that was set or asked for last; a reset ends the device as an unplug does
+configurations_and_reset : IsWorkedOut
+    (bulk_device
+    ∷ (codes "open d0 1 6", item.Open 0 1 6, codes "ok")
+    ∷ (codes "speed d0", item.Speed 0, codes "speed High")
+    ∷ (codes "active d0", item.ActiveConfiguration 0, codes "config 1")
+    ∷ (codes "setconfig d0 7", item.SetConfiguration 0 7, codes "error NotFound configuration not found (errno 22)")
+    ∷ (codes "setconfig d0 0", item.SetConfiguration 0 0, codes "ok")
+    ∷ (codes "reset d0", item.Reset 0, codes "ok")
+    ∷ (codes "reset d0", item.Reset 0, codes "error Disconnected device disconnected (errno 19)")
+    ∷ (codes "active d0", item.ActiveConfiguration 0, codes "noconfig device is not configured")
+    ∷ (codes "speed d0", item.Speed 0, codes "speed none")
+    ∷ (codes "speed d1", item.Speed 1, codes "condition")
+    ∷ [])
+    []
+unfolding script_on_literals output_on_literals
+configurations_and_reset = (refl, refl)
+
 -- what became of each endpoint of a script: its tickets, how many of them were taken, and the lines that printed these
 abbrev endpoints_of : List Line → List (List ℕ × ℕ × List (List ℕ))
-endpoints_of lines = map (λ (h : Handle). (h.endpoint.tickets, h.endpoint.taken, h.lines)) (handles (items lines))
+endpoints_of lines = map (λ (h : ClosedEndpoint). (h.endpoint.tickets, h.endpoint.taken, h.lines)) (closed_endpoints (items lines))
 
 -- two endpoints under one name, the first closed with two tickets; and one whose tickets are polled, cancelled and transferred
 one_name_twice : endpoints_of
@@ -461,7 +548,7 @@ one_name_twice : endpoints_of
     ≡ (0 ∷ 1 ∷ [], 1, with_end (codes "done ok 1 64 01") ∷ [])
     ∷ (2 ∷ 3 ∷ 4 ∷ [], 2, with_end (codes "done cancelled 0 64 -") ∷ with_end (codes "done ok 1 64 02") ∷ [])
     ∷ []
-unfolding output_on_literals handles
+unfolding output_on_literals closed_endpoints
 one_name_twice = refl
 
 -- an endpoint with so many pending transfers

@@ -29,7 +29,7 @@ error_answer state error = told state (error_line error)
 abbrev pub silent : State → Answer
 silent state = told state []
 
--- a call on what is open under a name, where something is, and else this
+-- where something is open under a name, the answer of a call on it; else another answer
 abbrev pub if_open : {X : Type 0} → Option X → (X → Answer) → Answer → Answer
 if_open None call otherwise = otherwise
 if_open (Some x) call otherwise = call x

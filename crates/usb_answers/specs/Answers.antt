@@ -1,7 +1,8 @@
 -- What each line of a script is answered.
+use Rattle.std.specs.Prelude.{true, false}
 use Rattle.usb_desc.specs.declared.types.Direction.TheVariants as direction
 use Rattle.usb_script.specs.declared.item.Item.{Item}
-use Rattle.usb_script.specs.declared.item.Item.TheVariants.{Device, Now, Open, DeviceDescriptor, Descriptors, Claim, Endpoint, SubmitIn, SubmitOut, Pending, Poll, Wait, TransferIn, TransferOut, Cancel, CloseEndpoint, Steps}
+use Rattle.usb_script.specs.declared.item.Item.TheVariants.{Device, Driver, Now, Open, DeviceDescriptor, Descriptors, CloneDevice, CloseDevice, ActiveConfiguration, Speed, SetConfiguration, Reset, DetachDriver, AttachDriver, Claim, DetachAndClaim, CloneInterface, CloseInterface, SetAltSetting, GetAltSetting, InterfaceDescriptor, Release, Endpoint, SubmitIn, SubmitOut, Pending, Poll, Wait, TransferIn, TransferOut, Cancel, ClearHalt, CloseEndpoint, Steps}
 use Rattle.usb_script.specs.EndpointKinds.{transfer_type_of, direction_of}
 use Rattle.usb_answers.specs.State.{State}
 use Rattle.usb_answers.specs.Answer.{Answer, silent}
@@ -16,17 +17,38 @@ use Rattle.usb_answers.specs.Pending.{pending_answer}
 use Rattle.usb_answers.specs.Polls.{poll_answer}
 use Rattle.usb_answers.specs.Waits.{wait_answer}
 use Rattle.usb_answers.specs.Transfers.{transfer_answer}
-use Rattle.usb_answers.specs.Closes.{cancel_answer, close_answer}
+use Rattle.usb_answers.specs.Clones.{clone_device_answer, clone_interface_answer}
+use Rattle.usb_answers.specs.Configurations.{active_answer, speed_answer, set_configuration_answer, reset_answer}
+use Rattle.usb_answers.specs.Drivers.{detach_answer, attach_answer}
+use Rattle.usb_answers.specs.Settings.{set_alt_setting_answer, get_alt_setting_answer, interface_descriptor_answer}
+use Rattle.usb_answers.specs.Halts.{clear_halt_answer}
+use Rattle.usb_answers.specs.Closes.{cancel_answer, close_answer, close_device_answer, close_interface_answer, release_answer}
 use Rattle.usb_answers.specs.Steps.{steps_answer}
 
 -- a setup line took effect before the first call
 unfoldable pub answer : State → Item → Answer
 answer state (Device k bus address speed configuration descriptors) = silent state
+answer state (Driver k number) = silent state
 answer state Now = now_answer state
 answer state (Open d bus address) = open_answer state d bus address
 answer state (DeviceDescriptor d) = device_descriptor_answer state d
 answer state (Descriptors d) = descriptors_answer state d
-answer state (Claim d number i) = claim_answer state d number i
+answer state (CloneDevice name d) = clone_device_answer state name d
+answer state (CloseDevice d) = close_device_answer state d
+answer state (ActiveConfiguration d) = active_answer state d
+answer state (Speed d) = speed_answer state d
+answer state (SetConfiguration d value) = set_configuration_answer state d value
+answer state (Reset d) = reset_answer state d
+answer state (DetachDriver d number) = detach_answer state d number
+answer state (AttachDriver d number) = attach_answer state d number
+answer state (Claim d number i) = claim_answer state d number i false
+answer state (DetachAndClaim d number i) = claim_answer state d number i true
+answer state (CloneInterface name i) = clone_interface_answer state name i
+answer state (CloseInterface i) = close_interface_answer state i
+answer state (SetAltSetting i setting) = set_alt_setting_answer state i setting
+answer state (GetAltSetting i) = get_alt_setting_answer state i
+answer state (InterfaceDescriptor i) = interface_descriptor_answer state i
+answer state (Release i) = release_answer state i
 answer state (Endpoint e i address kind) = endpoint_answer state e i address (transfer_type_of kind) (direction_of kind)
 answer state (SubmitIn e n) = submit_answer state direction.In e (in_buffer n)
 answer state (SubmitOut e bytes) = submit_answer state direction.Out e (out_buffer bytes)
@@ -36,5 +58,6 @@ answer state (Wait e timeout steps) = wait_answer state e timeout steps
 answer state (TransferIn e n timeout steps) = transfer_answer state direction.In e (in_buffer n) timeout steps
 answer state (TransferOut e bytes timeout steps) = transfer_answer state direction.Out e (out_buffer bytes) timeout steps
 answer state (Cancel e) = cancel_answer state e
+answer state (ClearHalt e) = clear_halt_answer state e
 answer state (CloseEndpoint e) = close_answer state e
 answer state (Steps steps) = steps_answer state steps

@@ -1,5 +1,5 @@
--- `claim`: an interface of an open device is claimed. It is barred where the device is not open, or the interface's name is in use.
-use Rattle.std.specs.Prelude.{ℕ, length, Result, Ok, Err, if◌then◌else◌}
+-- `claim` and `detachclaim`: an interface of an open device is claimed, as it is, or (`reattach`) with its kernel driver detached, which is attached again when the claim ends. They are barred where the device is not open, or the interface's name is in use.
+use Rattle.std.specs.Prelude.{ℕ, Bool, length, Result, Ok, Err, if◌then◌else◌}
 use Rattle.usb_error.specs.ErrorState.{ErrorState}
 use Rattle.usb_device.specs.InterfaceClaims.{claim_tried, claimed_key, host_claimed}
 use Rattle.usb_answers.specs.Names.{is_free, set_name}
@@ -13,13 +13,13 @@ claimed_as state number i (Err error) = error_answer state error
 claimed_as state number i (Ok key) =
     ok_answer (record state { interfaces = set_name state.interfaces i (record { key = key; number = number }) })
 
--- the host goes on whatever it answers
-abbrev pub claim_on : State → ℕ → ℕ → DeviceAt → Answer
-claim_on state number i x =
+-- the host is what the call left, whatever it answers
+abbrev pub claim_on : State → ℕ → ℕ → Bool → DeviceAt → Answer
+claim_on state number i reattach x =
     if is_free state.interfaces i
-    then claimed_as (with_host state (host_claimed state.host x.key number)) number i
-    (claimed_key (length state.host.interfaces) (claim_tried state.host x.opened number))
+    then claimed_as (with_host state (host_claimed state.host x.key number reattach)) number i
+    (claimed_key (length state.host.interfaces) (claim_tried state.host x.opened number reattach))
     else barred state
 
-unfoldable pub claim_answer : State → ℕ → ℕ → ℕ → Answer
-claim_answer state d number i = if_open (device_at state d) (claim_on state number i) (barred state)
+unfoldable pub claim_answer : State → ℕ → ℕ → ℕ → Bool → Answer
+claim_answer state d number i reattach = if_open (device_at state d) (claim_on state number i reattach) (barred state)

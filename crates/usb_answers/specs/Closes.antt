@@ -1,11 +1,16 @@
--- `cancel` and `close`: the pending transfers of an endpoint are discarded, from the last to the first; and then given up, and the endpoint is left. Both are barred where the endpoint is not open.
-use Rattle.std.specs.Prelude.{ℕ, Option, Some, None}
+-- `cancel`, `close` and `release`. The pending transfers of an endpoint are discarded, from the last to the first; and at its close then given up, and the endpoint is left. A handle of a device or of an interface is closed; a release is refused where the interface has another owner. All are barred where nothing is open under the name.
+use Rattle.std.specs.Prelude.{ℕ, Option, Some, None, if◌then◌else◌}
 use Rattle.usb_endpoint.specs.Closes.{all_discarded, after_close}
 use Rattle.usb_device.specs.HostCalls.{host_discarded, host_left}
 use Rattle.usb_device.specs.TicketEnds.{host_abandoned}
+use Rattle.usb_device.specs.HandleStates.{InterfaceState}
+use Rattle.usb_device.specs.Handles.{handle_closed}
+use Rattle.usb_device.specs.Owners.{is_shared}
+use Rattle.usb_error.specs.Errors.{interface_in_use_error}
 use Rattle.usb_answers.specs.Names.{named, freed}
 use Rattle.usb_answers.specs.State.{State, Endpoint, kept, pending, with_host}
-use Rattle.usb_answers.specs.Answer.{Answer, barred, ok_answer, if_open}
+use Rattle.usb_answers.specs.OpenAt.{InterfaceAt, interface_at}
+use Rattle.usb_answers.specs.Answer.{Answer, barred, ok_answer, error_answer, if_open}
 
 abbrev pub cancelled : State → Endpoint → State
 cancelled state h = with_host state (all_discarded host_discarded state.host (pending h))
@@ -27,3 +32,25 @@ closed_at state e (Some h) = without_endpoint state e h
 
 unfoldable pub closed : State → ℕ → State
 closed state e = closed_at state e (named state.endpoints e)
+
+-- to close a device changes nothing at the host
+unfoldable pub close_device_answer : State → ℕ → Answer
+close_device_answer state d =
+    if_open (named state.devices d) (λ key. ok_answer (record state { devices = freed state.devices d })) (barred state)
+
+abbrev pub without_interface : State → ℕ → InterfaceState → State
+without_interface state i f =
+    record state { host = handle_closed state.host f.key; interfaces = freed state.interfaces i }
+
+unfoldable pub close_interface_answer : State → ℕ → Answer
+close_interface_answer state i =
+    if_open (named state.interfaces i) (λ f. ok_answer (without_interface state i f)) (barred state)
+
+-- the name stays where it is refused
+abbrev pub release_on : State → ℕ → InterfaceAt → Answer
+release_on state i x =
+    if is_shared state.host x.handle.key x.claimed then error_answer state interface_in_use_error
+    else ok_answer (without_interface state i x.handle)
+
+unfoldable pub release_answer : State → ℕ → Answer
+release_answer state i = if_open (interface_at state i) (release_on state i) (barred state)

@@ -1,6 +1,6 @@
 -- The word for an end.
 use Rattle.std.specs.Prelude.{ℕ, List, [], Option, Some, None}
-use Rattle.usb_device.specs.declared.ends.TicketEnd.{TicketEnd}
+use Rattle.usb_ledger.specs.declared.ends.TicketEnd.{TicketEnd}
 use Rattle.usb_answers.specs.Fates.{end_word}
 
 -- of a ticket that may have none

@@ -2,12 +2,11 @@
 -- then the tickets are discarded by number, and reaped by number.
 use Rattle.std.specs.Prelude.{ℕ, zero, suc, Option, Some, None}
 use Rattle.usb_device.specs.HostState.{HostState}
-use Rattle.usb_device.specs.Handles.{handle_closed}
 use Rattle.usb_device.specs.Finishes.{finished}
 use Rattle.usb_device.specs.HandleStates.{InterfaceState}
-use Rattle.usb_answers.specs.Names.{named, freed}
+use Rattle.usb_answers.specs.Names.{named}
 use Rattle.usb_answers.specs.State.{State}
-use Rattle.usb_answers.specs.Closes.{closed}
+use Rattle.usb_answers.specs.Closes.{closed, without_interface}
 
 -- the endpoints of the names below k are closed, in order
 abbrev pub endpoints_closed : State → ℕ → State
@@ -17,7 +16,7 @@ endpoints_closed state (suc k) = closed (endpoints_closed state k) k
 abbrev pub interface_closed_at : State → ℕ → Option InterfaceState → State
 interface_closed_at state i None = state
 interface_closed_at state i (Some f) =
-    record state { host = handle_closed state.host f.key; interfaces = freed state.interfaces i }
+    without_interface state i f
 
 unfoldable pub interface_closed : State → ℕ → State
 interface_closed state i = interface_closed_at state i (named state.interfaces i)

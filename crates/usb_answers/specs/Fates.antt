@@ -2,10 +2,11 @@
 use Rattle.std.specs.Prelude.{ℕ, zero, suc, List, [], ◌++◌, codes, length, slice_get, Option, Some, None}
 use Rattle.usb_kernel.specs.declared.submission.TicketInfo.{TicketInfo}
 use Rattle.usb_kernel.specs.Info.{info_of}
-use Rattle.usb_device.specs.declared.ends.TicketEnd.{TicketEnd}
-use Rattle.usb_device.specs.declared.ends.TicketEnd.TheVariants.{Taken, Dropped, Reclaimed}
+use Rattle.usb_ledger.specs.declared.ends.TicketEnd.{TicketEnd}
+use Rattle.usb_ledger.specs.declared.ends.TicketEnd.TheVariants.{Taken, Dropped, Reclaimed}
 use Rattle.usb_kernel.specs.Tickets.{tickets}
-use Rattle.usb_device.specs.HostState.{HostState, HostTicket, HeldBy, Abandoned, Ended}
+use Rattle.usb_ledger.specs.Entries.{HostTicket, HeldBy, Abandoned, Ended}
+use Rattle.usb_device.specs.HostState.{HostState}
 use Rattle.usb_lines.specs.Tickets.{ticket_line}
 
 abbrev pub end_word : TicketEnd → List ℕ
@@ -13,7 +14,7 @@ end_word Taken = codes "taken"
 end_word Dropped = codes "dropped"
 end_word Reclaimed = codes "reclaimed"
 
--- how a ticket ended, once it has
+-- how a ticket ended, once it has (what becomes of tickets at a host: `HostTicket`, usb_ledger/specs/Entries.antt)
 abbrev pub ended_word : Option HostTicket → List ℕ
 ended_word None = []
 ended_word (Some (HeldBy hold)) = []

@@ -3,9 +3,9 @@ use Rattle.std.specs.Prelude.{ℕ, ◌≡◌, ◌<◌, true, List, length, Some}
 use Rattle.usb_kernel.specs.declared.submission.TicketInfo.{TicketInfo}
 use Rattle.usb_kernel.specs.Tickets.{tickets}
 use Rattle.usb_kernel.specs.Info.{info_of}
-use Rattle.usb_device.specs.declared.ends.TicketEnd.{TicketEnd}
+use Rattle.usb_ledger.specs.declared.ends.TicketEnd.{TicketEnd}
 use Rattle.usb_device.specs.HostState.{HostState}
-use Rattle.usb_device.specs.HostBus.{end_at}
+use Rattle.usb_ledger.specs.EndedTickets.{end_at}
 use Rattle.usb_device.specs.Finishes.{HasEnds, HasCompletions}
 use Rattle.usb_lines.specs.Tickets.{ticket_line}
 use Rattle.usb_script.specs.declared.item.Item.{Item}
@@ -24,7 +24,7 @@ pub record IsFinal (h : HostState) (t : ℕ) : Type 0 where
   pub ended : end_at h.tickets t ≡ Some end
   pub line : fate_line h t ≡ ticket_line t info (end_word end)
 
--- so is each line of a host at which each ticket has its end and its completion
+-- at a host where each ticket has its end and its completion, this is true of each
 abbrev pub FatesAreFinal : Type 0
 FatesAreFinal =
     (h : HostState) (t : ℕ) → HasEnds h.tickets → HasCompletions h.kernel.past → t < length h.tickets → t < length (tickets h.kernel.past) → IsFinal h t

@@ -1,9 +1,9 @@
--- Which lines are calls on an endpoint that is open.
+-- Which lines are calls on what is open, and which of these on interfaces and endpoints.
 use Rattle.std.specs.Prelude.{Bool, true, false}
 use Rattle.usb_script.specs.declared.item.Item.{Item}
-use Rattle.usb_script.specs.declared.item.Item.TheVariants.{SubmitIn, SubmitOut, Pending, Poll, Wait, TransferIn, TransferOut, Cancel, CloseEndpoint}
+use Rattle.usb_script.specs.declared.item.Item.TheVariants.{Device, Driver, Now, CloneInterface, CloseInterface, SetAltSetting, GetAltSetting, InterfaceDescriptor, Release, Endpoint, SubmitIn, SubmitOut, Pending, Poll, Wait, TransferIn, TransferOut, Cancel, ClearHalt, CloseEndpoint, Steps}
 
--- those that hand a transfer in, ask for one, wait, cancel or close
+-- those on an endpoint: they hand a transfer in, ask for one, wait, cancel, clear its halt or close
 abbrev pub is_of_endpoint : Item → Bool
 is_of_endpoint (SubmitIn e n) = true
 is_of_endpoint (SubmitOut e bytes) = true
@@ -13,5 +13,25 @@ is_of_endpoint (Wait e timeout steps) = true
 is_of_endpoint (TransferIn e n timeout steps) = true
 is_of_endpoint (TransferOut e bytes timeout steps) = true
 is_of_endpoint (Cancel e) = true
+is_of_endpoint (ClearHalt e) = true
 is_of_endpoint (CloseEndpoint e) = true
 is_of_endpoint item = false
+
+-- those on a claimed interface, or on an endpoint
+abbrev pub is_of_interface : Item → Bool
+is_of_interface (CloneInterface name i) = true
+is_of_interface (CloseInterface i) = true
+is_of_interface (SetAltSetting i setting) = true
+is_of_interface (GetAltSetting i) = true
+is_of_interface (InterfaceDescriptor i) = true
+is_of_interface (Release i) = true
+is_of_interface (Endpoint e i address kind) = true
+is_of_interface item = is_of_endpoint item
+
+-- those on a device, on an interface or on an endpoint
+abbrev pub is_of_handle : Item → Bool
+is_of_handle (Device k bus address speed configuration descriptors) = false
+is_of_handle (Driver k number) = false
+is_of_handle Now = false
+is_of_handle (Steps steps) = false
+is_of_handle item = true

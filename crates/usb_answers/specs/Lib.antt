@@ -7,6 +7,10 @@ pub mod Describes
 pub mod Pending
 pub mod Opens
 pub mod Claims
+pub mod Clones
+pub mod Configurations
+pub mod Drivers
+pub mod Settings
 pub mod Endpoints
 pub mod Buffers
 pub mod Submits
@@ -14,6 +18,7 @@ pub mod Polls
 pub mod Steps
 pub mod Waits
 pub mod Transfers
+pub mod Halts
 pub mod Closes
 pub mod Ends
 pub mod Fates

@@ -1,4 +1,4 @@
--- Names: the numbers below the length of the list. What is open under each.
+-- What is open under each name of a kind: the name of number n has the element n of a list, `None` where nothing is open.
 use Rattle.std.specs.Prelude.{ℕ, zero, suc, List, [], ◌∷◌, Bool, true, false, Option, Some, None, slice_get}
 use Rattle.std.specs.Option.{option_map}
 
@@ -19,7 +19,7 @@ is_free_place (Some (Some x)) = false
 unfoldable pub is_free : {X : Type 0} → List (Option X) → ℕ → Bool
 is_free names n = is_free_place (slice_get names n)
 
--- a change of the element at a place, if it is there
+-- a change of the element with this index, if there is one
 abbrev pub change_at : {X : Type 0} → (X → X) → List X → ℕ → List X
 change_at f [] n = []
 change_at f (x ∷ xs) zero = f x ∷ xs

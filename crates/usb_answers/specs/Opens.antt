@@ -11,7 +11,7 @@ abbrev pub opened_as : State → ℕ → Result ℕ ErrorState → Answer
 opened_as state d (Err error) = error_answer state error
 opened_as state d (Ok key) = ok_answer (record state { devices = set_name state.devices d key })
 
--- the host goes on whatever it answers
+-- the host is what the call left, whatever it answers
 unfoldable pub open_answer : State → ℕ → ℕ → ℕ → Answer
 open_answer state d bus address =
     if is_free state.devices d then opened_as (with_host state (host_opened state.host bus address)) d (open_key state.host bus address)

@@ -1,31 +1,52 @@
 -- What is written for a script: the answers in order, and then the fate of each ticket.
-use Rattle.std.specs.Prelude.{ℕ, List, [], ◌∷◌, ◌++◌, map, replicate, Option, Some, None}
+use Rattle.std.specs.Prelude.{ℕ, ◌==◌, List, [], ◌∷◌, ◌++◌, map, replicate, Option, Some, None, if◌then◌else◌}
 use Rattle.std.specs.List.{filter_map}
-use Rattle.usb_kernel.specs.declared.devices.SimDevice.{SimDevice}
-use Rattle.usb_kernel.specs.Devices.{fresh_device}
+use Rattle.usb_simulated.specs.declared.devices.SimDevice.{SimDevice}
+use Rattle.usb_simulated.specs.Devices.{fresh_device}
 use Rattle.usb_script.specs.declared.item.Item.{Item}
-use Rattle.usb_script.specs.declared.item.Item.TheVariants.{Device}
-use Rattle.usb_script.specs.ItemKinds.{step_count}
+use Rattle.usb_script.specs.declared.item.Item.TheVariants.{Device, Driver}
+use Rattle.usb_script.specs.ItemKinds.{place_count}
 use Rattle.usb_device.specs.HostState.{HostState, host_of}
 use Rattle.usb_answers.specs.State.{State}
 use Rattle.usb_answers.specs.Answers.{answer}
 use Rattle.usb_answers.specs.Ends.{ended}
 use Rattle.usb_answers.specs.Fates.{fate_lines}
 
--- the simulated device of a `device` line, on which no kernel driver is bound
-abbrev pub device_of_item : Item → Option (ℕ × SimDevice)
-device_of_item (Device k bus address speed configuration descriptors) =
-    Some (k, record { bus = bus; address = address; speed = speed; config = configuration; bytes = descriptors; drivers = [] })
-device_of_item _ = None
+-- the interface to which a `driver` line binds a kernel driver, where it is one of this device
+abbrev pub driver_of_item : ℕ → Item → Option ℕ
+driver_of_item k (Driver j number) = if j == k then Some number else None
+driver_of_item k item = None
+
+-- the simulated device of a `device` line, with the drivers that the lines behind it bind
+abbrev pub device_of_item : Item → List Item → Option (ℕ × SimDevice)
+device_of_item (Device k bus address speed configuration descriptors) rest =
+    Some (
+      k,
+      record {
+        bus = bus;
+        address = address;
+        speed = speed;
+        config = configuration;
+        bytes = descriptors;
+        drivers = filter_map (driver_of_item k) rest;
+      },
+    )
+device_of_item item rest = None
+
+-- with one more device, if there is one
+abbrev pub with_device : Option (ℕ × SimDevice) → List (ℕ × SimDevice) → List (ℕ × SimDevice)
+with_device None devices = devices
+with_device (Some device) devices = device ∷ devices
 
 abbrev pub devices_of : List Item → List (ℕ × SimDevice)
-devices_of items = filter_map device_of_item items
+devices_of [] = []
+devices_of (item ∷ rest) = with_device (device_of_item item rest) (devices_of rest)
 
--- before the first call: the kernel has the script's devices and room for all steps of the script, and nothing is open
+-- before the first call: the kernel has the script's devices and room for all steps and resets of the script, and nothing is open
 unfoldable pub start : List Item → State
 start items =
     record {
-      host = host_of (record { past = []; devices = map fresh_device (devices_of items); clock = 0; armed = []; spare = step_count items });
+      host = host_of (record { past = []; devices = map fresh_device (devices_of items); clock = 0; armed = []; spare = place_count items });
       devices = replicate 64 None;
       interfaces = replicate 64 None;
       endpoints = replicate 64 None;

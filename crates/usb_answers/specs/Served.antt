@@ -9,10 +9,10 @@ use Rattle.usb_kernel.specs.Tickets.{tickets}
 use Rattle.usb_bus.specs.Completions.{transfer_completion}
 use Rattle.usb_script.specs.declared.item.Item.{Item}
 use Rattle.usb_script.specs.declared.item.Item.TheVariants.{CloseEndpoint}
-use Rattle.usb_device.specs.declared.ends.TicketEnd.{TicketEnd}
-use Rattle.usb_device.specs.declared.ends.TicketEnd.TheVariants.{Taken, Dropped, Reclaimed}
+use Rattle.usb_ledger.specs.declared.ends.TicketEnd.{TicketEnd}
+use Rattle.usb_ledger.specs.declared.ends.TicketEnd.TheVariants.{Taken, Dropped, Reclaimed}
 use Rattle.usb_device.specs.HostState.{HostState}
-use Rattle.usb_device.specs.HostBus.{end_at}
+use Rattle.usb_ledger.specs.EndedTickets.{end_at}
 use Rattle.usb_device.specs.Finishes.{HasEnds}
 use Rattle.usb_lines.specs.Completions.{polled_line}
 use Rattle.usb_answers.specs.Names.{named}
@@ -22,9 +22,9 @@ use Rattle.usb_answers.specs.Answers.{answer}
 use Rattle.usb_answers.specs.Ends.{endpoints_closed}
 use Rattle.usb_answers.specs.Output.{start, final_host}
 
--- a closed endpoint (no handle in a caller's sense): the endpoint as it is when it is closed, the journal then, and the lines that
+-- a closed endpoint: the endpoint as it is when it is closed, the journal right before that, and the lines that
 -- printed its completions
-pub record Handle : Type 0 where
+pub record ClosedEndpoint : Type 0 where
   pub endpoint : Endpoint
   pub past : List Event
   pub lines : List (List ℕ)
@@ -41,40 +41,39 @@ line_taking state a e = if nat_lt (taken_under state e) (taken_under a.state e) 
 abbrev pub lines_behind : State → Answer → (ℕ → List (List ℕ)) → ℕ → List (List ℕ)
 lines_behind state a lines e = (if is_none (named state.endpoints e) then [] else lines e) ++ line_taking state a e
 
-abbrev pub closed_as : List Event → List (List ℕ) → Option Endpoint → List Handle
+abbrev pub closed_as : List Event → List (List ℕ) → Option Endpoint → List ClosedEndpoint
 closed_as past lines None = []
 closed_as past lines (Some e) = record { endpoint = e; past = past; lines = lines } ∷ []
 
 -- what is open under a name, where it is closed now
-abbrev pub closed_under : State → (ℕ → List (List ℕ)) → ℕ → List Handle
+abbrev pub closed_under : State → (ℕ → List (List ℕ)) → ℕ → List ClosedEndpoint
 closed_under state lines e = closed_as state.host.kernel.past (lines e) (named state.endpoints e)
 
 -- the endpoint that an item closes
-abbrev pub closed_by : State → (ℕ → List (List ℕ)) → Item → List Handle
+abbrev pub closed_by : State → (ℕ → List (List ℕ)) → Item → List ClosedEndpoint
 closed_by state lines (CloseEndpoint e) = closed_under state lines e
 closed_by state lines item = []
 
 -- those that the end of the session closes, of the names below k in order
-abbrev pub closed_at_end : State → (ℕ → List (List ℕ)) → ℕ → List Handle
+abbrev pub closed_at_end : State → (ℕ → List (List ℕ)) → ℕ → List ClosedEndpoint
 closed_at_end state lines zero = []
 closed_at_end state lines (suc k) = closed_at_end state lines k ++ closed_under (endpoints_closed state k) lines k
 
 -- the endpoints that these items close, and then the end of the session
-abbrev pub handles_from : State → (ℕ → List (List ℕ)) → List Item → List Handle
-handles_from state lines [] = closed_at_end state lines 64
-handles_from state lines (item ∷ items) = closed_by state lines item ++ handles_from (answer state item).state (lines_behind state (answer state item) lines) items
+abbrev pub closed_endpoints_from : State → (ℕ → List (List ℕ)) → List Item → List ClosedEndpoint
+closed_endpoints_from state lines [] = closed_at_end state lines 64
+closed_endpoints_from state lines (item ∷ items) = closed_by state lines item ++ closed_endpoints_from (answer state item).state (lines_behind state (answer state item) lines) items
 
 -- each endpoint that a script opens, as it is when it is closed
-unfoldable pub handles : List Item → List Handle
-handles items = handles_from (start items) (λ e. []) items
+unfoldable pub closed_endpoints : List Item → List ClosedEndpoint
+closed_endpoints items = closed_endpoints_from (start items) (λ e. []) items
 
 -- how a ticket ends that its endpoint gives up: dropped exactly where it is reaped then, and else reclaimed
 abbrev pub end_given_up : List Event → ℕ → TicketEnd
 end_given_up past t = if is_some (completion past t) then Dropped else Reclaimed
 
--- an endpoint's tickets stand in the order of their submission; the first of them were taken, in this order, each with the completion that the last journal gives (of a
--- completion a wait prints the line that a poll prints); and the others were given up at its close
-pub record IsServedInOrder (last : HostState) (h : Handle) : Type 0 where
+-- an endpoint's tickets stand in the order of their submission; the first of them were taken, in this order, each with the completion that the last journal gives, printed as a poll prints it (a wait prints the same line); and the others were given up at its close
+pub record IsServedInOrder (last : HostState) (h : ClosedEndpoint) : Type 0 where
   pub rising : IsStrictlyIncreasing h.endpoint.tickets
   pub few : h.endpoint.taken ≤ length h.endpoint.tickets
   pub printed : h.lines ≡ map (λ t. polled_line (transfer_completion last.kernel.past t)) (take h.endpoint.taken h.endpoint.tickets)
@@ -82,18 +81,18 @@ pub record IsServedInOrder (last : HostState) (h : Handle) : Type 0 where
   pub others : All (λ t. end_at last.tickets t ≡ Some (end_given_up h.past t)) (drop h.endpoint.taken h.endpoint.tickets)
 
 -- the tickets of all of them
-abbrev pub tickets_of_all : List Handle → List ℕ
-tickets_of_all hs = flat_map (λ (h : Handle). h.endpoint.tickets) hs
+abbrev pub tickets_of_all : List ClosedEndpoint → List ℕ
+tickets_of_all hs = flat_map (λ (h : ClosedEndpoint). h.endpoint.tickets) hs
 
 -- of a script whose tickets have their ends each endpoint is served so, and each ticket belongs to one endpoint, at one place
-pub record HandlesAreServed (items : List Item) : Type 0 where
-  pub served : All (IsServedInOrder (final_host items)) (handles items)
-  pub once : (t : ℕ) → t < length (final_host items).tickets → count_by (λ u. u == t) (tickets_of_all (handles items)) ≡ 1
+pub record EndpointsAreServed (items : List Item) : Type 0 where
+  pub served : All (IsServedInOrder (final_host items)) (closed_endpoints items)
+  pub once : (t : ℕ) → t < length (final_host items).tickets → count_by (λ u. u == t) (tickets_of_all (closed_endpoints items)) ≡ 1
 
-abbrev pub HandlesAreServedInOrder : Type 0
-HandlesAreServedInOrder = (items : List Item) → HasEnds (final_host items).tickets → HandlesAreServed items
+abbrev pub EndpointsAreServedInOrder : Type 0
+EndpointsAreServedInOrder = (items : List Item) → HasEnds (final_host items).tickets → EndpointsAreServed items
 
--- at the end of a script the host has a place for each ticket of the journal
+-- at the end of a script the host has a slot for each ticket of the journal
 abbrev pub IsCounted : List Item → Type 0
 IsCounted items = length (final_host items).tickets ≡ length (tickets (final_host items).kernel.past)
 

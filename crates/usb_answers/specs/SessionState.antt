@@ -1,7 +1,9 @@
 -- What a session is to its users.
-use Rattle.std.specs.Prelude.{ℕ, ◌≡◌, ◌≢◌, ◌<◌, List, [], Option, Some, length}
+use Rattle.std.specs.Prelude.{ℕ, ◌≡◌, ◌≢◌, ◌<◌, ◌==◌, Bool, false, List, [], Option, Some, None, length, slice_get}
+use Rattle.std.specs.List.{count_by}
 use Rattle.usb_endpoint.specs.EndpointState.{EndpointState}
 use Rattle.usb_endpoint.specs.Handles.{Stands}
+use Rattle.usb_ledger.specs.Entries.{ClaimedInterface}
 use Rattle.usb_device.specs.HostState.{HostState}
 use Rattle.usb_device.specs.HostBus.{bus_of}
 use Rattle.usb_device.specs.HandleStates.{InterfaceState, StandsInterface}
@@ -14,7 +16,13 @@ pub record SessionState : Type 0 where
   pub interfaces : List (Option InterfaceState)
   pub endpoints : List (Option EndpointState)
 
--- between calls no step is left; there are 64 names of each kind; and what is open under a name stands in the host, nothing under two names
+-- whether what is open under a name is a handle of the interface of a key
+abbrev pub is_handle_of : ℕ → Option InterfaceState → Bool
+is_handle_of key None = false
+is_handle_of key (Some f) = f.key == key
+
+-- between calls no step is left; there are 64 names of each kind; what is open under a name stands in the host; an interface has as many open handles as there are names
+-- of it; and no endpoint is open under two names
 pub record IsSound (s : SessionState) : Type 0 where
   pub idle : s.host.steps ≡ []
   pub device_names : length s.devices ≡ 64
@@ -22,6 +30,6 @@ pub record IsSound (s : SessionState) : Type 0 where
   pub endpoint_names : length s.endpoints ≡ 64
   pub devices_stand : (d key : ℕ) → named s.devices d ≡ Some key → key < length s.host.devices
   pub interfaces_stand : (i : ℕ) (f : InterfaceState) → named s.interfaces i ≡ Some f → StandsInterface s.host f
-  pub interfaces_differ : (i j : ℕ) (f g : InterfaceState) → named s.interfaces i ≡ Some f → named s.interfaces j ≡ Some g → i ≢ j → f.key ≢ g.key
+  pub interfaces_counted : (key : ℕ) (c : ClaimedInterface) → slice_get s.host.interfaces key ≡ Some c → count_by (is_handle_of key) s.interfaces ≡ c.handles
   pub endpoints_stand : (e : ℕ) (h : EndpointState) → named s.endpoints e ≡ Some h → Stands (bus_of s.host) h
   pub endpoints_differ : (d e : ℕ) (g h : EndpointState) → named s.endpoints d ≡ Some g → named s.endpoints e ≡ Some h → d ≢ e → g.key ≢ h.key

@@ -1,6 +1,6 @@
 -- The steps of a line: they are lent to the host, and those that are left when the call answers are applied right after it.
 use Rattle.std.specs.Prelude.{List}
-use Rattle.usb_kernel.specs.declared.step.KernelStep.{KernelStep}
+use Rattle.usb_simulated.specs.declared.step.KernelStep.{KernelStep}
 use Rattle.usb_device.specs.HostTurns.{host_rest}
 use Rattle.usb_answers.specs.State.{State, with_host}
 use Rattle.usb_answers.specs.Answer.{Answer, told, silent}

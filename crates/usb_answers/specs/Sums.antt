@@ -4,9 +4,10 @@ use Rattle.std.specs.List.{count_by}
 use Rattle.std.specs.Option.{option_map_or}
 use Rattle.usb_script.specs.declared.item.Item.{Item}
 use Rattle.usb_script.specs.ItemKinds.{is_call}
-use Rattle.usb_device.specs.declared.ends.TicketEnd.{TicketEnd}
-use Rattle.usb_device.specs.declared.ends.TicketEnd.TheVariants.{Taken, Dropped, Reclaimed}
-use Rattle.usb_device.specs.HostState.{HostState, HostTicket, HeldBy, Abandoned, Ended}
+use Rattle.usb_ledger.specs.declared.ends.TicketEnd.{TicketEnd}
+use Rattle.usb_ledger.specs.declared.ends.TicketEnd.TheVariants.{Taken, Dropped, Reclaimed}
+use Rattle.usb_ledger.specs.Entries.{HostTicket, HeldBy, Abandoned, Ended}
+use Rattle.usb_device.specs.HostState.{HostState}
 use Rattle.usb_device.specs.Finishes.{HasEnds}
 use Rattle.usb_answers.specs.declared.summary.Summary.{Summary}
 use Rattle.usb_answers.specs.Output.{final_host}

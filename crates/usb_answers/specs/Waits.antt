@@ -1,6 +1,6 @@
 -- `wait`: the oldest pending transfer is waited for, with the steps of the line, and taken where it is found reaped.
 use Rattle.std.specs.Prelude.{ℕ, Bool, List, Option, Some, None, slice_get, if◌then◌else◌}
-use Rattle.usb_kernel.specs.declared.step.KernelStep.{KernelStep}
+use Rattle.usb_simulated.specs.declared.step.KernelStep.{KernelStep}
 use Rattle.usb_bus.specs.Completions.{transfer_completion}
 use Rattle.usb_device.specs.HostState.{HostState}
 use Rattle.usb_device.specs.HostWaits.{host_waited}
@@ -22,7 +22,7 @@ abbrev pub waited : State → ℕ → ℕ → Option ℕ → Answer
 waited state e timeout None = barred state
 waited state e timeout (Some t) = wait_ended state e t (host_waited state.host t timeout)
 
--- a wait for an endpoint that is not open is barred. The steps of a barred call are applied all the same
+-- the steps of the line are handed to the host first (`lent`: Steps.antt). A wait for an endpoint that is not open is barred; the steps of a barred call are applied all the same
 unfoldable pub wait_answer : State → ℕ → ℕ → List KernelStep → Answer
 wait_answer state e timeout steps =
     if_open (named state.endpoints e) (λ h. then_rested (waited (lent state steps) e timeout (slice_get h.tickets h.taken))) (barred (stepped_all state steps))

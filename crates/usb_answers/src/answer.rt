@@ -1,11 +1,11 @@
 //! The answer to a line of a script.
 
 ghost use Rattle.std.specs.Prelude.{◌≡◌, ◌≤◌, ◌+◌, OnOk, IsTrue, string_bytes};
-ghost use Rattle.usb_script.specs.ItemKinds.{steps_in};
+ghost use Rattle.usb_script.specs.ItemKinds.{places_in};
 ghost use Rattle.usb_answers.specs.State.{State};
 ghost use Rattle.usb_answers.specs.Answered.{Answers};
 ghost use Rattle.usb_answers.specs.Answers.{answer};
-ghost use Rattle.usb_answers.specs.Kinds.{is_of_endpoint};
+ghost use Rattle.usb_answers.specs.Kinds.{is_of_endpoint, is_of_interface, is_of_handle};
 
 use crate::session::Session;
 use usb_desc::NoMemory;
@@ -16,11 +16,11 @@ impl Session {
     #[tactic(auto, unfolding(crate::specs::Answers::answer))]
     fn answer_endpoint(&mut self, line: &mut String, item: Item) -> Result<(), NoMemory>
         requires kind { IsTrue (is_of_endpoint item) }
-        requires spare { steps_in item ≤ self.old.host.kernel.spare }
+        requires spare { places_in item ≤ self.old.host.kernel.spare }
         ensures answered { Answers self.old self.new line.old line.new result
             (λ state. answer state item) }
         ensures spare { OnOk result
-            (self.new.host.kernel.spare + steps_in item ≡ self.old.host.kernel.spare) }
+            (self.old.host.kernel.spare ≤ self.new.host.kernel.spare + places_in item) }
     {
         match item {
             Item::SubmitIn { endpoint, length } => self.submit_in(line, endpoint, length),
@@ -45,23 +45,52 @@ impl Session {
                 steps,
             } => self.transfer_out(line, endpoint, bytes, timeout, steps),
             Item::Cancel { endpoint } => self.cancel(line, endpoint),
+            Item::ClearHalt { endpoint } => self.clear_halt(line, endpoint),
             Item::CloseEndpoint { endpoint } => self.close(line, endpoint),
             _ => unreachable!(),
         }
     }
 
-    /// Appends the line that answers an item of a script, with its LF, and nothing where the item has no answer.
+    /// The answer to a call on an interface that is claimed, or on an endpoint.
     #[tactic(auto, unfolding(crate::specs::Answers::answer))]
-    pub fn answer(&mut self, line: &mut String, item: Item) -> Result<(), NoMemory>
-        requires spare { steps_in item ≤ self.old.host.kernel.spare }
+    fn answer_interface(&mut self, line: &mut String, item: Item) -> Result<(), NoMemory>
+        requires kind { IsTrue (is_of_interface item) }
+        requires spare { places_in item ≤ self.old.host.kernel.spare }
         ensures answered { Answers self.old self.new line.old line.new result
             (λ state. answer state item) }
         ensures spare { OnOk result
-            (self.new.host.kernel.spare + steps_in item ≡ self.old.host.kernel.spare) }
+            (self.old.host.kernel.spare ≤ self.new.host.kernel.spare + places_in item) }
     {
         match item {
-            Item::Device { .. } => Ok(()),
-            Item::Now => self.now(line),
+            Item::CloneInterface { name, interface } => self.clone_interface(line, name, interface),
+            Item::CloseInterface { interface } => self.close_interface(line, interface),
+            Item::SetAltSetting { interface, setting } => {
+                self.set_alt_setting(line, interface, setting)
+            }
+            Item::GetAltSetting { interface } => self.get_alt_setting(line, interface),
+            Item::InterfaceDescriptor { interface } => self.interface_descriptor(line, interface),
+            Item::Release { interface } => self.release(line, interface),
+            Item::Endpoint {
+                endpoint,
+                interface,
+                address,
+                kind,
+            } => self.endpoint(line, endpoint, interface, address, kind),
+            item => self.answer_endpoint(line, item),
+        }
+    }
+
+    /// The answer to a call on a device, on an interface or on an endpoint.
+    #[tactic(auto, unfolding(crate::specs::Answers::answer))]
+    fn answer_handle(&mut self, line: &mut String, item: Item) -> Result<(), NoMemory>
+        requires kind { IsTrue (is_of_handle item) }
+        requires spare { places_in item ≤ self.old.host.kernel.spare }
+        ensures answered { Answers self.old self.new line.old line.new result
+            (λ state. answer state item) }
+        ensures spare { OnOk result
+            (self.old.host.kernel.spare ≤ self.new.host.kernel.spare + places_in item) }
+    {
+        match item {
             Item::Open {
                 device,
                 bus,
@@ -69,22 +98,45 @@ impl Session {
             } => self.open(line, device, bus, address),
             Item::DeviceDescriptor { device } => self.device_descriptor(line, device),
             Item::Descriptors { device } => self.descriptors(line, device),
+            Item::CloneDevice { name, device } => self.clone_device(line, name, device),
+            Item::CloseDevice { device } => self.close_device(line, device),
+            Item::ActiveConfiguration { device } => self.active_configuration(line, device),
+            Item::Speed { device } => self.speed(line, device),
+            Item::SetConfiguration { device, value } => self.set_configuration(line, device, value),
+            Item::Reset { device } => self.reset(line, device),
+            Item::DetachDriver { device, number } => self.detach_driver(line, device, number),
+            Item::AttachDriver { device, number } => self.attach_driver(line, device, number),
             Item::Claim {
                 device,
                 number,
                 interface,
-            } => self.claim(line, device, number, interface),
-            Item::Endpoint {
-                endpoint,
+            } => self.claim(line, device, number, interface, false),
+            Item::DetachAndClaim {
+                device,
+                number,
                 interface,
-                address,
-                kind,
-            } => self.endpoint(line, endpoint, interface, address, kind),
+            } => self.claim(line, device, number, interface, true),
+            item => self.answer_interface(line, item),
+        }
+    }
+
+    /// Appends the line that answers an item of a script, with its LF, and nothing where the item has no answer.
+    #[tactic(auto, unfolding(crate::specs::Answers::answer))]
+    pub fn answer(&mut self, line: &mut String, item: Item) -> Result<(), NoMemory>
+        requires spare { places_in item ≤ self.old.host.kernel.spare }
+        ensures answered { Answers self.old self.new line.old line.new result
+            (λ state. answer state item) }
+        ensures spare { OnOk result
+            (self.old.host.kernel.spare ≤ self.new.host.kernel.spare + places_in item) }
+    {
+        match item {
+            Item::Device { .. } | Item::Driver { .. } => Ok(()),
+            Item::Now => self.now(line),
             Item::Steps(steps) => {
                 self.step_all(steps);
                 Ok(())
             }
-            item => self.answer_endpoint(line, item),
+            item => self.answer_handle(line, item),
         }
     }
 }

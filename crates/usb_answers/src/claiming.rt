@@ -1,6 +1,8 @@
-//! `claim`: an interface of an open device is claimed.
+//! `claim` and `detachclaim`: an interface of an open device is claimed.
 
-ghost use Rattle.std.specs.Prelude.{◌≡◌, OnOk, string_bytes};
+ghost use Rattle.std.specs.Prelude.{◌≡◌, OnOk, IfOk, string_bytes};
+ghost use Rattle.usb_device.specs.HandleStates.{StandsDevice, StandsInterface};
+ghost use Rattle.usb_device.specs.InterfaceClaims.{ClaimsInterface};
 ghost use Rattle.usb_answers.specs.State.{State};
 ghost use Rattle.usb_answers.specs.Answered.{Answers};
 ghost use Rattle.usb_answers.specs.Claims.{claim_answer};
@@ -8,20 +10,42 @@ ghost use Rattle.usb_answers.specs.Claims.{claim_answer};
 use crate::names::{is_free, open_at, put_at};
 use crate::session::Session;
 use usb_desc::{Fail, NoMemory};
+use usb_device::{Device, Host, Interface};
+use usb_error::Error;
 use usb_lines::{write_condition, write_error, write_ok};
 use usb_script::Name;
 
+/// Claims an interface of a device, with its driver detached and noted, or as it is.
+fn claim_of(
+    host: &mut Host,
+    device: &Device,
+    number: u8,
+    reattach: bool,
+) -> Result<Interface, Fail<Error>>
+    requires stands { StandsDevice host.old device.now }
+    ensures claims { ClaimsInterface host.old host.new device.now number reattach result }
+    ensures stands { IfOk result (StandsInterface host.new) }
+{
+    if reattach {
+        device.detach_and_claim_interface(host, number)
+    } else {
+        device.claim_interface(host, number)
+    }
+}
+
 impl Session {
-    /// `claim`: an interface of an open device is claimed under a name that is free.
+    /// `claim` and `detachclaim`: an interface of an open device is claimed under a name that is
+    /// free.
     pub(crate) fn claim(
         &mut self,
         line: &mut String,
         device: Name,
         number: u8,
         name: Name,
+        reattach: bool,
     ) -> Result<(), NoMemory>
         ensures answered { Answers self.old self.new line.old line.new result
-            (λ state. claim_answer state device number name) }
+            (λ state. claim_answer state device number name reattach) }
         ensures spare { self.new.host.kernel.spare ≡ self.old.host.kernel.spare }
     {
         let Some(device) = open_at(&self.devices, device.number()) else {
@@ -30,7 +54,7 @@ impl Session {
         if !is_free(&self.interfaces, name.number()) {
             return write_condition(line);
         }
-        match device.claim_interface(&mut self.host, number) {
+        match claim_of(&mut self.host, device, number, reattach) {
             Ok(interface) => {
                 put_at(&mut self.interfaces, name.number(), interface);
                 write_ok(line)

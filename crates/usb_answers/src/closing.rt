@@ -1,4 +1,4 @@
-//! `cancel` and `close`.
+//! `cancel`, `close` and `release`.
 
 ghost use Rattle.std.specs.Prelude.{◌≡◌, is_some};
 ghost use Rattle.usb_endpoint.specs.Handles.{Stands};
@@ -7,7 +7,8 @@ ghost use Rattle.usb_device.specs.HostBus.{bus_of};
 ghost use Rattle.usb_answers.specs.State.{State};
 ghost use Rattle.usb_answers.specs.Names.{named, freed};
 ghost use Rattle.usb_answers.specs.Answer.{ok_answer};
-ghost use Rattle.usb_answers.specs.Closes.{cancelled, cancel_answer, closed, close_answer};
+ghost use Rattle.usb_answers.specs.Closes.{cancelled, cancel_answer, closed, close_answer, close_device_answer, close_interface_answer, release_answer};
+ghost use Rattle.usb_answers.specs.Ends.{interface_closed};
 ghost use Rattle.usb_answers.specs.Relation.{Represents};
 ghost use Rattle.usb_answers.specs.Answered.{Answers};
 ghost use Rattle.usb_answers.specs.OpenCalls.{CallKeeps, CallAnswers};
@@ -17,7 +18,7 @@ use crate::session::Session;
 use usb_desc::NoMemory;
 use usb_device::Host;
 use usb_endpoint::AnyEndpoint;
-use usb_lines::{write_condition, write_ok};
+use usb_lines::{write_condition, write_error, write_ok};
 use usb_script::Name;
 
 /// Discards the pending transfers of an endpoint that is open.
@@ -76,6 +77,67 @@ impl Session {
             write_ok(line)
         } else {
             write_condition(line)
+        }
+    }
+
+    /// `close`: a handle of a device is closed.
+    pub(crate) fn close_device(&mut self, line: &mut String, name: Name) -> Result<(), NoMemory>
+        ensures answered { Answers self.old self.new line.old line.new result
+            (λ state. close_device_answer state name) }
+        ensures spare { self.new.host.kernel.spare ≡ self.old.host.kernel.spare }
+    {
+        let Some(device) = take_at(&mut self.devices, name.number()) else {
+            return write_condition(line);
+        };
+        device.close(&mut self.host);
+        write_ok(line)
+    }
+
+    /// Closes what is open under the number of an interface's name, and says whether anything was.
+    pub(crate) fn close_handle(&mut self, number: u8) -> bool
+        ensures was_open { result ≡ is_some (named self.old.interfaces number) }
+        ensures stands { (state : State) → Represents self.old state →
+            Represents self.new (interface_closed state number) }
+        ensures freed { self.new.interfaces ≡ freed self.old.interfaces number }
+        ensures endpoints { self.new.endpoints ≡ self.old.endpoints }
+        ensures spare { self.new.host.kernel.spare ≡ self.old.host.kernel.spare }
+    {
+        let Some(interface) = take_at(&mut self.interfaces, number) else {
+            return false;
+        };
+        interface.close(&mut self.host);
+        true
+    }
+
+    /// `close`: a handle of an interface is closed.
+    pub(crate) fn close_interface(&mut self, line: &mut String, name: Name) -> Result<(), NoMemory>
+        ensures answered { Answers self.old self.new line.old line.new result
+            (λ state. close_interface_answer state name) }
+        ensures spare { self.new.host.kernel.spare ≡ self.old.host.kernel.spare }
+    {
+        if self.close_handle(name.number()) {
+            write_ok(line)
+        } else {
+            write_condition(line)
+        }
+    }
+
+    /// `release`: the claim of an interface ends. The name stays where it has another owner.
+    pub(crate) fn release(&mut self, line: &mut String, name: Name) -> Result<(), NoMemory>
+        ensures answered { Answers self.old self.new line.old line.new result
+            (λ state. release_answer state name) }
+        ensures spare { self.new.host.kernel.spare ≡ self.old.host.kernel.spare }
+    {
+        let number = name.number();
+        let Some(interface) = take_at(&mut self.interfaces, number) else {
+            return write_condition(line);
+        };
+        match interface.release(&mut self.host) {
+            Ok(()) => write_ok(line),
+            Err((interface, error)) => {
+                put_at(&mut self.interfaces, number, interface);
+                write_error(line, &error)
+            }
         }
     }
 }

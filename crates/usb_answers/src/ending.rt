@@ -9,7 +9,7 @@ ghost use Rattle.usb_answers.specs.Ends.{endpoints_closed, interface_closed, int
 ghost use Rattle.usb_answers.specs.Relation.{Represents};
 ghost use Rattle.usb_answers.specs.Accounts.{Accounted};
 
-use crate::names::{drop_names, take_at};
+use crate::names::drop_names;
 use crate::session::Session;
 use usb_device::{Device, Host};
 
@@ -28,18 +28,6 @@ fn close_devices(devices: Vec<Option<Device>>, host: &mut Host)
 }
 
 impl Session {
-    /// Closes what is open under a name of an interface, if anything is.
-    fn close_interface(&mut self, name: u8)
-        ensures stands { (state : State) → Represents self.old state →
-            Represents self.new (interface_closed state name) }
-        ensures freed { self.new.interfaces ≡ freed self.old.interfaces name }
-        ensures endpoints { self.new.endpoints ≡ self.old.endpoints }
-    {
-        if let Some(interface) = take_at(&mut self.interfaces, name) {
-            interface.close(&mut self.host);
-        }
-    }
-
     /// Closes the endpoints by number.
     fn close_endpoints(&mut self)
         ensures stands { (state : State) → Represents self.old state →
@@ -59,7 +47,7 @@ impl Session {
         ensures endpoints { self.new.endpoints ≡ self.old.endpoints }
     {
         for name in 0..64 {
-            self.close_interface(name);
+            self.close_handle(name);
         }
     }
 

@@ -4,7 +4,7 @@ ghost use Rattle.usb_answers.specs.Accounts.{StartIsAccounted, AnswerKeepsAccoun
 ghost use Rattle.usb_answers.specs.FinalFates.{FatesAreFinal, FatesOfScripts};
 ghost use Rattle.usb_answers.specs.Places.{PollsAnswerForTheirPlace, CompletionsAreTaken};
 ghost use Rattle.usb_answers.specs.Behind.{ScriptsGoOn};
-ghost use Rattle.usb_answers.specs.Served.{HandlesAreServedInOrder, ScriptsAreCounted};
+ghost use Rattle.usb_answers.specs.Served.{EndpointsAreServedInOrder, ScriptsAreCounted};
 
 /// What an endpoint holds is pending at an endpoint that is open under a name, and the host has a place for each ticket of the
 /// journal: before the first line, behind each line, and when all is closed. So no ticket is held where no name is open.
@@ -30,8 +30,8 @@ pub fn polls_answer_for_their_place()
 
 /// Each endpoint that a script opens is served in the order of its submissions: the tickets that were taken are the first, each was
 /// printed with the completion that the last journal has of it, and the others were given up when it was closed.
-pub fn handles_are_served_in_order()
-    ensures handles { HandlesAreServedInOrder }
+pub fn endpoints_are_served_in_order()
+    ensures handles { EndpointsAreServedInOrder }
     ensures count { ScriptsAreCounted }
 {}
 

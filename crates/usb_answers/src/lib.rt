@@ -5,17 +5,21 @@
 mod answer;
 mod buffers;
 mod claiming;
+mod cloning;
 mod closing;
+mod configuring;
 mod describing;
 mod ending;
 mod endpoints;
 mod fates;
+mod halting;
 mod laws;
 mod names;
 mod now;
 mod opening;
 mod polling;
 mod session;
+mod settings;
 mod stepping;
 mod submitting;
 mod summary;
@@ -24,7 +28,7 @@ mod waiting;
 
 pub use fates::{tickets, write_fate};
 pub use laws::{
-    each_ticket_is_accounted_for, fates_are_final, handles_are_served_in_order, scripts_go_on,
+    each_ticket_is_accounted_for, endpoints_are_served_in_order, fates_are_final, scripts_go_on,
 };
 pub use session::Session;
 pub use summary::Summary;

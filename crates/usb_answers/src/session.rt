@@ -2,8 +2,8 @@
 
 ghost use Rattle.std.specs.Prelude.{◌≡◌, IfOk};
 ghost use Rattle.std.specs.List.{filter_map};
-ghost use Rattle.usb_script.specs.ItemKinds.{step_count};
-ghost use Rattle.usb_answers.specs.Output.{device_of_item, devices_of, start};
+ghost use Rattle.usb_script.specs.ItemKinds.{place_count};
+ghost use Rattle.usb_answers.specs.Output.{driver_of_item, device_of_item, devices_of, start};
 ghost use Rattle.usb_answers.specs.Relation.{Represents};
 
 use crate::names::{drop_names, no_names};
@@ -45,9 +45,42 @@ impl Model for Session {
     ghost invariant = { IsSoundInside };
 }
 
-/// The simulated device of a line, where it declares one.
-fn device_of_item(alloc: Global, item: &Item) -> Result<Option<(u8, SimDevice)>, NoMemory>
-    ensures value { IfOk result (λ o. o ≡ device_of_item item.now) }
+/// The interface to which a line binds a kernel driver, where it is one of this device.
+fn driver_of_item(device: u8, item: &Item) -> Option<u8>
+    ensures value { result ≡ driver_of_item device item.now }
+{
+    match item {
+        Item::Driver {
+            device: name,
+            number,
+        } if name.number() == device => Some(*number),
+        _ => None,
+    }
+}
+
+/// The interfaces to which these lines bind kernel drivers of a device, in order.
+fn drivers_of(alloc: Global, device: u8, items: &[Item]) -> Result<Vec<u8>, NoMemory>
+    ensures value { IfOk result (λ v. v.items ≡ filter_map (driver_of_item device) items.now) }
+{
+    let mut drivers = Vec::new(alloc);
+    for item in items {
+        if let Some(number) = driver_of_item(device, item) {
+            let Ok(()) = drivers.push(number) else {
+                return Err(NoMemory);
+            };
+        }
+    }
+    Ok(drivers)
+}
+
+/// The simulated device of a line, where it declares one, with the drivers that the lines behind it
+/// bind.
+fn device_of_item(
+    alloc: Global,
+    item: &Item,
+    rest: &[Item],
+) -> Result<Option<(u8, SimDevice)>, NoMemory>
+    ensures value { IfOk result (λ o. o ≡ device_of_item item.now rest.now) }
 {
     match item {
         Item::Device {
@@ -59,13 +92,14 @@ fn device_of_item(alloc: Global, item: &Item) -> Result<Option<(u8, SimDevice)>,
             descriptors,
         } => {
             let bytes = Bytes::from_slice(alloc, descriptors.as_slice())?;
+            let drivers = drivers_of(alloc, device.number(), rest)?;
             let simulated = SimDevice {
                 bus: *bus,
                 address: *address,
                 speed: *speed,
                 config: *configuration,
                 bytes,
-                drivers: Bytes::from_vec(Vec::new(alloc)),
+                drivers: Bytes::from_vec(drivers),
             };
             Ok(Some((device.number(), simulated)))
         }
@@ -78,8 +112,8 @@ fn devices_of(alloc: Global, items: &[Item]) -> Result<Vec<(u8, SimDevice)>, NoM
     ensures value { IfOk result (λ v. v.items ≡ devices_of items.now) }
 {
     let mut devices = Vec::new(alloc);
-    for item in items {
-        if let Some(device) = device_of_item(alloc, item)? {
+    for place in 0..items.len() {
+        if let Some(device) = device_of_item(alloc, &items[place], &items[place + 1..])? {
             let Ok(()) = devices.push(device) else {
                 return Err(NoMemory);
             };
@@ -88,23 +122,23 @@ fn devices_of(alloc: Global, items: &[Item]) -> Result<Vec<(u8, SimDevice)>, NoM
     Ok(devices)
 }
 
-/// A host over the devices that these items declare, with room for so many steps.
-fn host_with(alloc: Global, items: &[Item], steps: usize) -> Result<Host, NoMemory>
-    ensures host { IfOk result (λ h. steps ≡ step_count items.now → h ≡ (start items.now).host) }
+/// A host over the devices that these items declare, with room for so many steps and resets.
+fn host_with(alloc: Global, items: &[Item], places: usize) -> Result<Host, NoMemory>
+    ensures host { IfOk result (λ h. places ≡ place_count items.now → h ≡ (start items.now).host) }
 {
     let mut kernel = Kernel::new(alloc, devices_of(alloc, items)?)?;
-    kernel.reserve(steps)?;
+    kernel.reserve(places)?;
     Ok(Host::new(alloc, kernel))
 }
 
 impl Session {
-    /// A session over the devices that these items declare, with room for their steps, of which there are so many.
-    pub fn new(alloc: Global, items: &[Item], steps: usize) -> Result<Session, NoMemory>
-        requires steps { steps ≡ step_count items.now }
+    /// A session over the devices that these items declare, with room for their steps and resets, of which there are so many.
+    pub fn new(alloc: Global, items: &[Item], places: usize) -> Result<Session, NoMemory>
+        requires places { places ≡ place_count items.now }
         ensures stands { IfOk result (λ s. Represents s (start items.now)) }
-        ensures spare { IfOk result (λ s. s.host.kernel.spare ≡ steps) }
+        ensures spare { IfOk result (λ s. s.host.kernel.spare ≡ places) }
     {
-        let host = host_with(alloc, items, steps)?;
+        let host = host_with(alloc, items, places)?;
         let devices = no_names(alloc)?;
         let interfaces = match no_names(alloc) {
             Ok(names) => names,

@@ -47,7 +47,7 @@ pub record TookAtMost (most : ℕ) (old new : Option (List ℕ)) : Type 0 where
   pub taken : Consumes old new bytes
   pub count : length bytes ≤ most
 
--- more bytes than a script has were read
+-- more bytes than a script may have were read
 pub record TookTooMany (old new : Option (List ℕ)) : Type 0 where
   pub bytes : List ℕ
   pub taken : Consumes old new bytes

@@ -28,7 +28,7 @@ error_status ReadFault = 5
 error_status WriteFault = 6
 error_status Memory = 7
 
--- the status of an answer
+-- the status of an answer, here that of the whole program: its summary, or an error
 abbrev pub status_of : {X : Type 0} → Result X SessionError → ℕ
 status_of (Ok x) = 0
 status_of (Err e) = error_status e
@@ -48,7 +48,7 @@ report_of (Err e) = error_line e
 abbrev pub usage_line : List ℕ
 usage_line = codes "usage: nusb_sim [session|generate N|live N]\n"
 
--- the line was written, or a prefix of it where the count of faults rose
+-- of the sink for reports: the line was written to it, or a prefix of the line where its count of faults rose
 abbrev pub Reports : Option (List ℕ) → Option (List ℕ) → ℕ → ℕ → List ℕ → Type 0
 Reports old new before now line = Appends old new line ⊎ (Rose before now × WrotePrefix old new line)
 
@@ -57,7 +57,8 @@ abbrev pub IsSession : Streams → Result Summary SessionError → Type 0
 IsSession s (Ok summary) = IsAnswered s summary
 IsSession s (Err e) = HasReason s e
 
--- what the call with words for a session answers
+-- what the call with words for a session answers, its status, and what the sink for reports got: the bytes that this tells and its
+-- count of faults, before and after
 pub record RunsSession (s : Streams) (told told' : Option (List ℕ)) (faults faults' status : ℕ) : Type 0 where
   pub answer : Result Summary SessionError
   pub session : IsSession s answer

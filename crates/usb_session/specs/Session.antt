@@ -10,7 +10,7 @@ use Rattle.usb_session.specs.Causes.{Rose, ReadWhole, WrotePrefix, TookTooMany}
 use Rattle.usb_device.specs.Finishes.{HasEnds, HasCompletions}
 use Rattle.usb_answers.specs.Output.{output, final_host}
 use Rattle.usb_answers.specs.Sums.{sum_of}
-use Rattle.usb_answers.specs.Served.{IsCounted, HandlesAreServed}
+use Rattle.usb_answers.specs.Served.{IsCounted, EndpointsAreServed}
 use Rattle.usb_answers.specs.FinalFates.{HasFinalFates}
 use Rattle.usb_answers.specs.declared.summary.Summary.{Summary}
 
@@ -44,7 +44,7 @@ pub record ReadAs (s : Streams) (items : Result (List Item) SessionError) : Type
   pub read : ReadWhole s.left s.left' bytes
   pub parsed : script_of bytes ≡ items
 
--- a valid script was read, and its whole output was written; at its end each ticket of the journal has its place at the host, its end
+-- a valid script was read, and its whole output was written; at its end the host has a slot for each ticket of the journal, with its end
 -- and its completion, each endpoint was served in the order of its submissions, and there is one final fate line for each ticket
 pub record IsAnswered (s : Streams) (summary : Summary) : Type 0 where
   pub items : List Item
@@ -54,7 +54,7 @@ pub record IsAnswered (s : Streams) (summary : Summary) : Type 0 where
   pub ended : HasEnds (final_host items).tickets
   pub reaped : HasCompletions (final_host items).kernel.past
   pub counted : IsCounted items
-  pub served : HandlesAreServed items
+  pub served : EndpointsAreServed items
   pub fates : HasFinalFates items
 
 -- a valid script was read, and a prefix of its output was written
@@ -72,10 +72,10 @@ HasReason s WriteFault = Rose s.write_faults s.write_faults' × IsCutOff s
 HasReason s Memory = Keeps s.written s.written' ⊎ IsCutOff s
 
 -- counts of faults never fall
-abbrev pub IsLater : Streams → Type 0
-IsLater s = (s.read_faults ≤ s.read_faults') × (s.write_faults ≤ s.write_faults')
+abbrev pub FaultsNeverFall : Streams → Type 0
+FaultsNeverFall s = (s.read_faults ≤ s.read_faults') × (s.write_faults ≤ s.write_faults')
 
--- a source that tells its bytes gave a valid script, and no count of faults rose
+-- before the call a source told its bytes, which are a valid script, and no count of faults rose in the call
 pub record IsSmooth (s : Streams) : Type 0 where
   pub bytes : List ℕ
   pub items : List Item
@@ -84,13 +84,13 @@ pub record IsSmooth (s : Streams) : Type 0 where
   pub reads : Rose s.read_faults s.read_faults' → ⊥
   pub writes : Rose s.write_faults s.write_faults' → ⊥
 
--- a source that tells its bytes gave these, and no count of faults rose
+-- before the call a source told these bytes, and no count of faults rose in the call
 pub record IsQuiet (s : Streams) (bytes : List ℕ) : Type 0 where
   pub known : s.left ≡ Some bytes
   pub reads : Rose s.read_faults s.read_faults' → ⊥
   pub writes : Rose s.write_faults s.write_faults' → ⊥
 
--- where the source's bytes are these and nothing failed: the answer is Ok where they parse, and else the parse's error; or memory was wanting
+-- where the source's bytes are these and nothing failed: the answer is Ok where they parse, and else the parse's error; or memory was lacking
 abbrev pub IsExact : {X : Type 0} → List ℕ → Result X SessionError → Type 0
 IsExact bytes (Ok x) = (items : List Item) × (script_of bytes ≡ Ok items)
 IsExact bytes (Err e) = (e ≡ Memory) ⊎ (script_of bytes ≡ Err e)

@@ -4,18 +4,18 @@ ghost use Rattle.std.specs.Prelude.{◌≡◌, ◌≤◌, ◌<◌, ◌+◌, ℕ,
 ghost use Rattle.std.specs.List.{All, count_by};
 ghost use Rattle.std.specs.Io.KnownBytes.{Appends};
 ghost use Rattle.usb_script.specs.declared.item.Item.{Item};
-ghost use Rattle.usb_script.specs.ItemKinds.{is_call, step_count};
+ghost use Rattle.usb_script.specs.ItemKinds.{is_call, place_count};
 ghost use Rattle.usb_script.specs.ScriptFacts.{IsBounded};
 ghost use Rattle.usb_device.specs.Finishes.{HasEnds, HasCompletions};
 ghost use Rattle.usb_answers.specs.Fates.{fate_lines};
 ghost use Rattle.usb_answers.specs.Output.{output, start, final_host};
 ghost use Rattle.usb_answers.specs.Sums.{sum_of};
-ghost use Rattle.usb_answers.specs.Served.{IsCounted, HandlesAreServed};
+ghost use Rattle.usb_answers.specs.Served.{IsCounted, EndpointsAreServed};
 ghost use Rattle.usb_answers.specs.FinalFates.{HasFinalFates};
 ghost use Rattle.usb_answers.specs.Relation.{Represents};
 ghost use Rattle.usb_session.specs.Running.{AllAnswered};
 ghost use Rattle.usb_session.specs.Causes.{Rose, WrotePrefix, FailedLast, TookAtMost, IsWritingError};
-ghost use Rattle.usb_session.specs.Session.{streams, IsAnswered, HasReason, IsLater, IsSmooth, IsQuiet, IsExact};
+ghost use Rattle.usb_session.specs.Session.{streams, IsAnswered, HasReason, FaultsNeverFall, IsSmooth, IsQuiet, IsExact};
 
 use crate::outside::{Failed, Sink, Source};
 use crate::reading::read_script;
@@ -66,7 +66,7 @@ fn answer_each<K: Sink>(
 ) -> Result<u32, SessionError>
     requires bounded { IsBounded items.items }
     requires stands { Represents session.old (start items.items) }
-    requires room { step_count items.items ≤ session.old.host.kernel.spare }
+    requires room { place_count items.items ≤ session.old.host.kernel.spare }
     ensures ok { OnOk result
         (AllAnswered (K.written sink.old) (K.written sink.new) session.new items.items) }
     ensures calls { IfOk result (λ n. n ≡ count_by is_call items.items) }
@@ -94,18 +94,18 @@ fn answer_each<K: Sink>(
 fn answer_items<K: Sink>(
     alloc: Global,
     items: Vec<Item>,
-    steps: usize,
+    places: usize,
     sink: &mut K,
 ) -> Result<Summary, SessionError>
     requires bounded { IsBounded items.items }
-    requires steps { steps ≡ step_count items.items }
+    requires places { places ≡ place_count items.items }
     ensures ok { OnOk result
         (Appends (K.written sink.old) (K.written sink.new) (output items.items)) }
     ensures summary { IfOk result (λ s. s ≡ sum_of items.items) }
     ensures ended { IfOk result (λ _. HasEnds (final_host items.items).tickets) }
     ensures reaped { IfOk result (λ _. HasCompletions (final_host items.items).kernel.past) }
     ensures counted { IfOk result (λ _. IsCounted items.items) }
-    ensures served { IfOk result (λ _. HandlesAreServed items.items) }
+    ensures served { IfOk result (λ _. EndpointsAreServed items.items) }
     ensures fates { IfOk result (λ _. HasFinalFates items.items) }
     ensures err { OnErr result
         (WrotePrefix (K.written sink.old) (K.written sink.new) (output items.items)) }
@@ -114,7 +114,7 @@ fn answer_items<K: Sink>(
     ensures only { IfErr result IsWritingError }
     ensures later { K.faults sink.old ≤ K.faults sink.new }
 {
-    let mut session = Session::new(alloc, items.as_slice(), steps)?;
+    let mut session = Session::new(alloc, items.as_slice(), places)?;
     let mut line = String::new(alloc);
     let answered = answer_each(&mut line, items, &mut session, sink);
     let host = session.end();
@@ -133,7 +133,7 @@ fn answer_source<S: Source, K: Sink>(
         (streams S.left S.faults K.written K.faults source.old source.new sink.old sink.new)) }
     ensures err { IfErr result (HasReason
         (streams S.left S.faults K.written K.faults source.old source.new sink.old sink.new)) }
-    ensures later { IsLater
+    ensures later { FaultsNeverFall
         (streams S.left S.faults K.written K.faults source.old source.new sink.old sink.new) }
     ensures stops { IsErrOf result SessionError.ReadFault →
         FailedLast (S.faults source.old) (S.faults source.new) (S.has_failed source.new) }
@@ -141,8 +141,8 @@ fn answer_source<S: Source, K: Sink>(
 {
     let bytes = read_script(alloc, source)?;
     let script = parse_script(alloc, bytes.as_slice())?;
-    let steps = script.step_count();
-    answer_items(alloc, script.into_items(), steps, sink)
+    let places = script.place_count();
+    answer_items(alloc, script.into_items(), places, sink)
 }
 
 /// Reads a script to its end, at most 2^20 + 1 bytes, answers it, and writes the answers. Each line is offered to the
@@ -161,7 +161,7 @@ pub fn run_session<S: Source, K: Sink>(
         (streams S.left S.faults K.written K.faults source.old source.new sink.old sink.new)) }
     ensures err { IfErr result (HasReason
         (streams S.left S.faults K.written K.faults source.old source.new sink.old sink.new)) }
-    ensures later { IsLater
+    ensures later { FaultsNeverFall
         (streams S.left S.faults K.written K.faults source.old source.new sink.old sink.new) }
     // Each ticket was taken, dropped or reclaimed.
     ensures ends { IfOk result (λ s. s.taken + s.dropped + s.reclaimed ≡ s.tickets) }

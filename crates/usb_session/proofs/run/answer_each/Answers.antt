@@ -2,7 +2,7 @@ use Rattle.std.proofs.Common.{◌≡◌, ◌∷◌, List, length, arith, refl, a
 use Rattle.std.specs.Vec.Iter.{into_iter_items, into_iter_len}
 use Rattle.std.proofs.lemmas.List.Sums.{sum_by-cons}
 use Rattle.std.proofs.lemmas.Result.{err_from_is_err_and}
-use Rattle.usb_script.specs.ItemKinds.{steps_in}
+use Rattle.usb_script.specs.ItemKinds.{places_in}
 use Rattle.usb_session.proofs.RunLemmas.{running-start, running-on, running-cut, calls-yes, calls-no}
 use Rattle.usb_session.proofs.run.answer_each.Goals as goal
 use Rattle.usb_session.proofs.run.answer_each.Goals.{then-is_call, else-is_call}
@@ -41,7 +41,7 @@ loop-item-preserved g c =
           running-on (g.K.Sink.written c.write_piece.new.sink) c.loop-item.session c.answer.new.self item rest c.as_bytes.result.now
           (rw steps at c.loop-item.invariant.running) (rw c.as_bytes.ensures.value (rw c.clear.ensures.bytes at c.in_ok-answer.ensures.answered)) c.in_ok-write_piece.ensures.ok;
       later = omega (arith, c.in_ok-write_piece.ensures.later);
-      room = omega (arith, c.in_ok-answer.ensures.spare, rw steps at c.loop-item.invariant.room, sum_by-cons steps_in item rest);
+      room = omega (arith, c.in_ok-answer.ensures.spare, rw steps at c.loop-item.invariant.room, sum_by-cons places_in item rest);
       calls = elim c.if-is_call.branch [
         | then-is_call w ↦ omega (arith, counted, calls-yes item rest c.is_call.result c.is_call.ensures.value w.if-is_call.true)
         | else-is_call w ↦ omega (arith, counted, calls-no item rest c.is_call.result c.is_call.ensures.value w.if-is_call.false)

@@ -13,7 +13,7 @@ returns-in_err-session-clause-err g c =
     rw p.1 (running-none (g.K.Sink.written c.args.sink.now) (output c.args.items.items))
 
 pub answer_each-answered-requires-clause-room : goal.answer_each-answered-requires-clause-room
-answer_each-answered-requires-clause-room g c = omega (arith, c.in_ok-session.ensures.spare, c.requires.steps)
+answer_each-answered-requires-clause-room g c = omega (arith, c.in_ok-session.ensures.spare, c.requires.places)
 
 pub returns-in_err-write_fates-clause-err : goal.returns-in_err-write_fates-clause-err
 returns-in_err-write_fates-clause-err g c =

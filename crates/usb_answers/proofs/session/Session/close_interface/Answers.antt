@@ -1,23 +1,13 @@
-use Rattle.std.proofs.Common.{◌∙◌, sym}
-use Rattle.usb_answers.proofs.EndLemmas.{close_interface-sound, close_interface-code, interface-nothing, interface-sound_same}
+use Rattle.std.proofs.Common.{sym, ◌∙◌}
+use Rattle.usb_answers.proofs.InterfaceHandles.{close_interface-answered, close_interface-barred}
 use Rattle.usb_answers.proofs.session.Session.close_interface.Goals as goal
 
-pub invariant_of-self : goal.invariant_of-self
-invariant_of-self c =
-    close_interface-sound c.self.inside.host c.close.new.host c.self.inside.devices.items c.self.inside.interfaces.items c.take_at.new.names.items c.self.inside.endpoints.items c.args.name c.in-Some.interface c.self.invariant
-    (sym c.take_at.ensures.taken ∙ c.in-Some.is) c.take_at.ensures.rest c.close.ensures.closed
+pub returns-then-close_handle-clause-answered : goal.returns-then-close_handle-clause-answered
+returns-then-close_handle-clause-answered c =
+    close_interface-answered c.args.self.now c.close_handle.new.self c.number.result c.args.name c.args.line.now c.write_ok.new.out c.write_ok.result c.number.ensures.value
+    (sym c.close_handle.ensures.was_open ∙ c.if-close_handle.true) c.close_handle.ensures.stands c.write_ok.ensures.text
 
-pub invariant_of-self-in_default : goal.invariant_of-self-in_default
-invariant_of-self-in_default c =
-    interface-sound_same c.self.inside.host c.self.inside.devices.items c.self.inside.interfaces.items c.take_at.new.names.items c.self.inside.endpoints.items c.args.name c.self.invariant
-    (sym c.take_at.ensures.taken ∙ c.in_default.is) c.take_at.ensures.rest
-
-pub returns-in-Some-clause-stands : goal.returns-in-Some-clause-stands
-returns-in-Some-clause-stands c =
-    close_interface-code c.args.self.now c.self.inside.host c.close.new.host c.self.inside.devices.items c.self.inside.interfaces.items c.take_at.new.names.items c.self.inside.endpoints.items c.args.name c.in-Some.interface c.self.view_is
-    (sym c.take_at.ensures.taken ∙ c.in-Some.is) c.take_at.ensures.rest c.close.ensures.closed
-
-pub returns-in_default-clause-stands : goal.returns-in_default-clause-stands
-returns-in_default-clause-stands c =
-    interface-nothing c.args.self.now c.self.inside.host c.self.inside.devices.items c.self.inside.interfaces.items c.take_at.new.names.items c.self.inside.endpoints.items c.args.name c.self.view_is
-    (sym c.take_at.ensures.taken ∙ c.in_default.is) c.take_at.ensures.rest
+pub returns-else-close_handle-clause-answered : goal.returns-else-close_handle-clause-answered
+returns-else-close_handle-clause-answered c =
+    close_interface-barred c.args.self.now c.close_handle.new.self c.number.result c.args.name c.args.line.now c.write_condition.new.out c.write_condition.result c.number.ensures.value
+    (sym c.close_handle.ensures.was_open ∙ c.if-close_handle.false) c.close_handle.ensures.stands c.write_condition.ensures.text

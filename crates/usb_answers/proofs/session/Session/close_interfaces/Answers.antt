@@ -7,8 +7,8 @@ use Rattle.usb_answers.proofs.session.Session.close_interfaces.Goals as goal
 pub loop-name-preserved : goal.loop-name-preserved
 loop-name-preserved c = record {
   stands =
-      λ state r. subst (Represents c.close_interface.new.self) (sym (interfaces_closed-more state c.loop-name.name))
-      (c.close_interface.ensures.stands (interfaces_closed state c.loop-name.name) (c.loop-name.invariant.stands state r));
-  none = none-more c.loop-name.self.interfaces c.close_interface.new.self.interfaces c.loop-name.name c.close_interface.ensures.freed c.loop-name.invariant.none;
-  endpoints = c.close_interface.ensures.endpoints ∙ c.loop-name.invariant.endpoints;
+      λ state r. subst (Represents c.close_handle.new.self) (sym (interfaces_closed-more state c.loop-name.name))
+      (c.close_handle.ensures.stands (interfaces_closed state c.loop-name.name) (c.loop-name.invariant.stands state r));
+  none = none-more c.loop-name.self.interfaces c.close_handle.new.self.interfaces c.loop-name.name c.close_handle.ensures.freed c.loop-name.invariant.none;
+  endpoints = c.close_handle.ensures.endpoints ∙ c.loop-name.invariant.endpoints;
 }

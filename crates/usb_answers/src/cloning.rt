@@ -1,0 +1,58 @@
+//! `clone`: one more handle of an open device, or of a claimed interface.
+
+ghost use Rattle.std.specs.Prelude.{◌≡◌, OnOk, string_bytes};
+ghost use Rattle.usb_answers.specs.State.{State};
+ghost use Rattle.usb_answers.specs.Answered.{Answers};
+ghost use Rattle.usb_answers.specs.Clones.{clone_device_answer, clone_interface_answer};
+
+use crate::names::{is_free, open_at, put_at};
+use crate::session::Session;
+use usb_desc::NoMemory;
+use usb_lines::{write_condition, write_ok};
+use usb_script::Name;
+
+impl Session {
+    /// `clone`: one more handle of an open device, under a name that is free.
+    pub(crate) fn clone_device(
+        &mut self,
+        line: &mut String,
+        name: Name,
+        device: Name,
+    ) -> Result<(), NoMemory>
+        ensures answered { Answers self.old self.new line.old line.new result
+            (λ state. clone_device_answer state name device) }
+        ensures spare { self.new.host.kernel.spare ≡ self.old.host.kernel.spare }
+    {
+        let Some(device) = open_at(&self.devices, device.number()) else {
+            return write_condition(line);
+        };
+        if !is_free(&self.devices, name.number()) {
+            return write_condition(line);
+        }
+        let clone = device.clone_on(&mut self.host)?;
+        put_at(&mut self.devices, name.number(), clone);
+        write_ok(line)
+    }
+
+    /// `clone`: one more handle of a claimed interface, under a name that is free.
+    pub(crate) fn clone_interface(
+        &mut self,
+        line: &mut String,
+        name: Name,
+        interface: Name,
+    ) -> Result<(), NoMemory>
+        ensures answered { Answers self.old self.new line.old line.new result
+            (λ state. clone_interface_answer state name interface) }
+        ensures spare { self.new.host.kernel.spare ≡ self.old.host.kernel.spare }
+    {
+        let Some(interface) = open_at(&self.interfaces, interface.number()) else {
+            return write_condition(line);
+        };
+        if !is_free(&self.interfaces, name.number()) {
+            return write_condition(line);
+        }
+        let clone = interface.clone_on(&mut self.host)?;
+        put_at(&mut self.interfaces, name.number(), clone);
+        write_ok(line)
+    }
+}

@@ -1,0 +1,49 @@
+//! `halt`: the halt of an endpoint is cleared.
+
+ghost use Rattle.std.specs.Prelude.{◌≡◌};
+ghost use Rattle.usb_endpoint.specs.Handles.{Stands};
+ghost use Rattle.usb_endpoint.specs.AnyEndpoints.{state_of};
+ghost use Rattle.usb_device.specs.HostBus.{bus_of};
+ghost use Rattle.usb_answers.specs.State.{State};
+ghost use Rattle.usb_answers.specs.Halts.{halt_cleared, clear_halt_answer};
+ghost use Rattle.usb_answers.specs.Answered.{Answers};
+ghost use Rattle.usb_answers.specs.OpenCalls.{CallKeeps, CallAnswers};
+
+use crate::names::{put_at, take_at};
+use crate::session::Session;
+use usb_desc::NoMemory;
+use usb_device::Host;
+use usb_endpoint::AnyEndpoint;
+use usb_lines::{write_condition, write_result};
+use usb_script::Name;
+
+/// Clears the halt of an endpoint that is open.
+fn clear_open(
+    endpoint: &mut AnyEndpoint,
+    host: &mut Host,
+    line: &mut String,
+) -> Result<(), NoMemory>
+    requires stands { Stands (bus_of host.old) (state_of endpoint.old) }
+    ensures keeps { CallKeeps host.old host.new (state_of endpoint.old) (state_of endpoint.new) }
+    ensures answered { CallAnswers host.old host.new (state_of endpoint.old) (state_of endpoint.new)
+        line.old line.new result (λ state e h. halt_cleared state h) }
+{
+    write_result(line, &endpoint.clear_halt(host))
+}
+
+impl Session {
+    /// `halt`: the halt of an endpoint is cleared.
+    pub(crate) fn clear_halt(&mut self, line: &mut String, name: Name) -> Result<(), NoMemory>
+        ensures answered { Answers self.old self.new line.old line.new result
+            (λ state. clear_halt_answer state name) }
+        ensures spare { self.new.host.kernel.spare ≡ self.old.host.kernel.spare }
+    {
+        let number = name.number();
+        let Some(mut endpoint) = take_at(&mut self.endpoints, number) else {
+            return write_condition(line);
+        };
+        let cleared = clear_open(&mut endpoint, &mut self.host, line);
+        put_at(&mut self.endpoints, number, endpoint);
+        cleared
+    }
+}
