@@ -10,15 +10,21 @@ import sys
 LIMIT = 1 << 20
 
 
-def device(settings):
-    """The bytes of a device in hexadecimal: its device descriptor, and a configuration with these settings."""
+def device(*configurations):
+    """The bytes of a device in hexadecimal: its device descriptor, and configurations with these settings."""
+    whole = "".join(configuration(value, settings) for value, settings in enumerate(configurations, 1))
+    return f"1201000200000040aaaabbbb0001000000{len(configurations):02x}{whole}"
+
+
+def configuration(value, settings):
     body = "".join(settings)
     total = (9 + len(body) // 2).to_bytes(2, "little").hex()
-    return f"1201000200000040aaaabbbb000100000001{'0902'}{total}{len(settings):02x}01008032{body}"
+    interfaces = len({setting[4:6] for setting in settings})
+    return f"0902{total}{interfaces:02x}{value:02x}008032{body}"
 
 
-def setting(number, *endpoints):
-    return f"0904{number:02x}00{len(endpoints):02x}ff000000" + "".join(endpoints)
+def setting(number, *endpoints, alternate=0):
+    return f"0904{number:02x}{alternate:02x}{len(endpoints):02x}ff000000" + "".join(endpoints)
 
 
 def bulk(address, maximum=64):
@@ -28,6 +34,10 @@ def bulk(address, maximum=64):
 TWO_ENDPOINTS = device([setting(0, bulk(0x81), bulk(0x02))])
 BYTEWISE = device([setting(0, bulk(0x02, 1))])
 MANY_INTERFACES = device([setting(number, bulk(0x81)) for number in range(200)])
+TWO_CONFIGURATIONS = device(
+    [setting(0, bulk(0x81), bulk(0x02)), setting(0, bulk(0x81, 512), alternate=1), setting(1, bulk(0x82))],
+    [setting(0, bulk(0x81))],
+)
 
 OPENED = f"device k0 1 6 3 1 {TWO_ENDPOINTS}\nopen d0 1 6\nclaim d0 0 i0\n"
 IN = f"{OPENED}endpoint e0 i0 81 bulk-in\n"
@@ -116,6 +126,28 @@ def closes(_size):
     yield from itertools.repeat("endpoint e0 i0 81 bulk-in\nclose e0\n")
 
 
+def owners(_size):
+    """claims, clones and closes, drivers that are detached and attached, settings and configurations, again and again"""
+    yield f"device k0 1 6 3 1 {TWO_CONFIGURATIONS}\ndriver k0 1\nopen d0 1 6\n"
+    claimed = "claim d0 0 i0\nclone i1 i0\nalt i0 1\nifdesc i1\nclose i0\ngetalt i1\n"
+    endpoint = "endpoint e0 i1 81 bulk-in\nhalt e0\nclose e0\nrelease i1\n"
+    detached = "clone d1 d0\ndetachclaim d1 1 i0\nclone i1 i0\nclose i0\nclose d1\nrelease i1\n"
+    drivers = "detach d0 1\nattach d0 1\n"
+    configurations = "setconfig d0 2\nactive d0\nsetconfig d0 1\n"
+    yield from itertools.repeat(claimed + endpoint + detached + drivers + configurations)
+
+
+def refusals(size):
+    """refusals of several calls for one device, and then the calls that use them up, one kind of call after the other"""
+    head = f"device k0 1 6 3 1 {TWO_CONFIGURATIONS}\nopen d0 1 6\nclaim d0 0 i0\nendpoint e0 i0 81 bulk-in\nclaim d0 1 i1\n"
+    lines = {"alt": "alt i1 0\n", "halt": "halt e0\n", "attach": "attach d0 1\n", "getconfig": "active d0\n", "speed": "speed d0\n"}
+    refusal = f"! {' ; '.join(f'refuse k0 {call} 5' for call in lines)}\n"
+    count = (size - len(head)) // len(refusal + "".join(lines.values()))
+    yield head + refusal * count
+    for line in reversed(lines.values()):
+        yield from itertools.repeat(line, count)
+
+
 def descriptors(_size):
     """the printed descriptors of a device, again and again: a walk of all its descriptors a line"""
     yield IN
@@ -138,8 +170,8 @@ def comments(_size):
 KINDS = {
     kind.__name__: kind
     for kind in (
-        polls, cycles, behind, flight, cancels, waits, refused, armed, submitout, steps, claims, closes, descriptors, printed,
-        comments,
+        polls, cycles, behind, flight, cancels, waits, refused, armed, submitout, steps, claims, closes, owners, refusals,
+        descriptors, printed, comments,
     )
 }
 

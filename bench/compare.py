@@ -4,9 +4,12 @@
 usage: bench/compare.py PROGRAM OTHER [COUNT [SEED]]
 
 A script has a few simulated devices, and then calls and steps over few names, so that names collide, endpoints are busy,
-tickets are reaped in any order and devices are pulled out while transfers are open. One in ten has a malformed line. Some
-scripts print the descriptors of damaged devices.
-At the end stand the kinds of lines and steps of docs/SCRIPT.md, the answers and the statuses that didn't occur.
+tickets are reaped in any order and devices are pulled out while transfers are open. In half of the scripts most calls are
+transfers, in the others most are about owners: claims, clones, closes, kernel drivers, configurations and alternate
+settings. In about a third of the scripts no refusal is armed. One in ten has a malformed line. Some scripts print the
+descriptors of damaged devices.
+At the end stand the kinds of lines and steps of docs/SCRIPT.md, the answers and the statuses that didn't occur, and of the
+calls about owners each answer that didn't: those that a script can have without an armed refusal are counted there alone.
 """
 import collections
 import pathlib
@@ -16,10 +19,60 @@ import subprocess
 import sys
 
 LANGUAGE = pathlib.Path(__file__).parent.parent / "docs/SCRIPT.md"
-ANSWERS = ["ok", "condition", "error", "device", "desc", "count", "pending", "none", "done", "now", "ticket"]
+ANSWERS = [
+    "ok", "condition", "error", "device", "desc", "count", "pending", "none", "done", "now", "ticket", "config", "noconfig", "speed",
+    "alt", "if",
+]
 STATUSES = ["ok", "cancelled", "stall", "disconnected", "fault", "invalid", "unknown"]
 ENDS = ["taken", "dropped", "reclaimed"]
 ERRORS = ["Disconnected", "Busy", "PermissionDenied", "NotFound", "Other"]
+
+GONE = "error Disconnected device disconnected (errno 19)"
+NO_INTERFACE = "error NotFound interface not found"
+NO_ENDPOINT = "error NotFound specified endpoint does not exist on this interface"
+SETTING_IN_USE = "error Busy can't change alternate setting while endpoints are in use"
+UNKNOWN_CONFIGURATION = "noconfig no descriptor found for active configuration 7"
+
+# by call the answers that it gives without an armed refusal, and those that want one
+OF_CALLS = {
+    "clone d": (["ok"], []),
+    "clone i": (["ok"], []),
+    "close d": (["ok"], []),
+    "close i": (["ok"], []),
+    "close e": (["ok"], []),
+    "active": (["config 0", "config 1", "config 2", "noconfig device is not configured", UNKNOWN_CONFIGURATION], []),
+    "speed": ([f"speed {it}" for it in ("Low", "Full", "High", "Super", "SuperPlus", "none")], []),
+    "setconfig": (
+        ["ok", GONE, "error NotFound configuration not found (errno 22)", "error Busy device is busy (errno 16)"],
+        ["error Other failed to set configuration"],
+    ),
+    "reset": (["ok", GONE], ["error Busy device is busy (errno 16)", "error Other failed to reset device"]),
+    "claim": (
+        ["ok", GONE, f"{NO_INTERFACE} (errno 2)", "error Busy interface is busy (errno 16)"],
+        [f"{NO_INTERFACE} (errno 22)", "error Other failed to claim interface"],
+    ),
+    "detachclaim": (
+        ["ok", GONE, f"{NO_INTERFACE} (errno 2)", "error Busy interface is busy (errno 16)"],
+        [f"{NO_INTERFACE} (errno 22)", "error Other failed to claim interface"],
+    ),
+    "detach": (
+        ["ok", GONE, f"{NO_INTERFACE} (errno 22)", "error Other no kernel driver attached (errno 61)"],
+        ["error Other failed to detach kernel driver"],
+    ),
+    "attach": (
+        ["ok", GONE, f"{NO_INTERFACE} (errno 22)", "error Busy kernel driver already attached (errno 16)"],
+        ["error Other failed to attach kernel driver"],
+    ),
+    "alt": (
+        ["ok", GONE, SETTING_IN_USE, "error NotFound alternate setting not found (errno 22)"],
+        ["error Other failed to set alternate setting"],
+    ),
+    "getalt": (["alt 0", "alt 1", "alt 2"], []),
+    "ifdesc": (["if 0.0", "if 0.1", "if 1.0", "if 1.2", "if 3.0"], ["none"]),
+    "release": (["ok", "error Busy interface is still in use"], []),
+    "endpoint": (["ok", NO_ENDPOINT, "error Busy endpoint already in use"], []),
+    "halt": (["ok", GONE], ["error Other failed to clear halt"]),
+}
 
 CONFIGURATIONS = [
     # interface 0 with bulk IN 81 and bulk OUT 02 of 64 bytes
@@ -28,6 +81,17 @@ CONFIGURATIONS = [
     "090230000201008032" "0904000002030000000705810308000a" "0705010310000a" "09040100010800000007058202000000",
     # value 2: interface 3, twice, with bulk IN 83 of 512 bytes in the setting 1 alone
     "090222000102008032" "0904030000ff000000" "0904030101ff000000" "07058302000200",
+]
+# for the scripts about owners
+MANY_SETTINGS = [
+    # value 1: interface 0 with the settings 0 (bulk IN 81, bulk OUT 02) and 1 (interrupt IN 81), interface 1 with the
+    # settings 0 (no endpoint) and 2 (bulk IN 82)
+    "090249000201008032" "0904000002ff000000" "07058102400000" "07050202400000" "0904000101ff000000" "07058103080001"
+    "090401000008000000" "090401020108000000" "07058202400000",
+    # value 2: interface 0 with bulk OUT 02, and interface 3 with bulk IN 81
+    "090229000202008032" "0904000001ff000000" "07050202400000" "0904030001ff000000" "07058102400000",
+    # value 0: interface 1 with bulk IN 82
+    "090219000100008032" "0904010001ff000000" "07058202400000",
 ]
 DEVICE = "120100020000004{0}aaaabbbb00010000000{1}"
 
@@ -63,8 +127,13 @@ def address(r):
     return r.choice(["81", "82", "83", "01", "02", "91"])
 
 
-# the calls for which a refusal may be armed, those that a line makes more often
-CALLS = ["open", "readdesc", "getconfig", "claim"] * 3 + ["setconfig", "reset", "detachclaim", "detach", "attach", "alt", "halt", "speed"]
+# by call of the kernel a line that makes it, d an open device, i an interface and e an endpoint
+LINES_OF = {
+    "open": "open {d} 1 6", "readdesc": "open {d} 1 6", "getconfig": "active {d}", "setconfig": "setconfig {d} 1",
+    "reset": "reset {d}", "claim": "claim {d} 0 {i}", "detachclaim": "detachclaim {d} 0 {i}", "detach": "detach {d} 0",
+    "attach": "attach {d} 0", "alt": "alt {i} 1", "halt": "halt {e}", "speed": "speed {d}", "submit": "submitin {e} 64",
+}
+ERRNOS = [2, 16, 19, 22, 61] * 2 + [1, 5, 13, 71, 4095]
 
 
 def step(r):
@@ -79,7 +148,7 @@ def step(r):
         lambda: f"clock {r.randrange(4000)}",
         lambda: f"clock {r.randrange(5) * 10**9}",
         lambda: f"refuse {k} submit {r.choice([2, 12, 16, 19, 22, 28, 32, 71, 104, 108, 110])}",
-        lambda: f"refuse {k} {r.choice(CALLS)} {r.choice([1, 2, 5, 13, 16, 19, 22, 61, 71, 4095])}",
+        lambda: f"refuse {k} {r.choice(list(LINES_OF))} {r.choice(ERRNOS)}",
         lambda: "reap",
         lambda: "reap",
         lambda: f"reap {r.randrange(12)}",
@@ -103,8 +172,12 @@ def timeout(r):
     return r.choice(["0", "1", "50", "1000", "1000000000", "max"])
 
 
-def call(r):
-    d, i, e = name(r, "d", 2), name(r, "i", 3), name(r, "e", 3)
+def names(r):
+    return name(r, "d", 2), name(r, "i", 3), name(r, "e", 3)
+
+
+def transfer_call(r):
+    d, i, e = names(r)
     return r.choice([
         lambda: f"open {d} 1 {r.randint(6, 8)}",
         lambda: f"claim {d} {r.choice([0, 0, 1, 3])} {i}",
@@ -127,6 +200,85 @@ def call(r):
     ])()
 
 
+def owner_call(r):
+    d, i, e = names(r)
+    number = r.choice([0, 0, 1, 1, 3, 7])
+    return r.choice([
+        lambda: f"open {d} 1 {r.randint(6, 8)}",
+        lambda: f"clone {name(r, 'd', 3)} {d}",
+        lambda: f"clone {name(r, 'i', 4)} {i}",
+        lambda: f"close {d}" if r.random() < 0.3 else f"active {d}",
+        lambda: f"close {i}",
+        lambda: f"close {e}",
+        lambda: f"release {i}",
+        lambda: f"claim {d} {number} {i}",
+        lambda: f"claim {d} 0 {i}",
+        lambda: f"detachclaim {d} {number} {i}",
+        lambda: f"detachclaim {d} 0 {i}",
+        lambda: f"detach {d} {number}",
+        lambda: f"attach {d} {number}",
+        lambda: f"setconfig {d} {r.choice([0, 1, 1, 1, 2, 2, 7])}",
+        lambda: f"reset {d}" if r.random() < 0.15 else f"speed {d}",
+        lambda: f"alt {i} {r.choice([0, 1, 2])}",
+        lambda: f"alt {i} {r.choice([0, 1, 2])}",
+        lambda: f"getalt {i}",
+        lambda: f"ifdesc {i}",
+        lambda: f"active {d}",
+        lambda: f"endpoint {e} {i} {r.choice(['81 bulk-in', '02 bulk-out', '82 bulk-in', '81 int-in'])}",
+        lambda: f"endpoint {e} {i} 81 bulk-in",
+        lambda: f"submitin {e} 64",
+        lambda: f"submitin {e} 64",
+        lambda: f"submitout {e} {hexes(r, [1, 64])}",
+        lambda: f"poll {e}",
+        lambda: f"wait {e} {timeout(r)}{own(r)}",
+        lambda: f"halt {e}",
+    ])()
+
+
+def armed_call(r):
+    """A refusal, and a line that makes its call."""
+    call, line = r.choice(list(LINES_OF.items()))
+    d, i, e = names(r)
+    return [f"! refuse {name(r, 'k', 2)} {call} {r.choice(ERRNOS)}", line.format(d=d, i=i, e=e)]
+
+
+def lines_of_transfers(r):
+    """Setup lines and the first calls of a script in which most calls are transfers."""
+    lines = [f"device k{k} 1 {6 + k} 3 {r.choice([1, 1, 1, 2])} {descriptors(r)}" for k in range(r.randint(1, 3))]
+    if r.random() < 0.8:
+        kind = r.randrange(2)
+        lines[0] = f"device k0 1 6 3 1 {DEVICE.format(0, 1)}{CONFIGURATIONS[kind]}"
+        lines += ["open d0 1 6", "claim d0 0 i0", f"endpoint e0 i0 81 {['bulk-in', 'int-in'][kind]}"]
+        lines += [f"endpoint e1 i0 {['02 bulk-out', '01 int-out'][kind]}"]
+    return lines
+
+
+FIRST_CALLS = [
+    [],
+    ["claim d0 0 i0", "endpoint e0 i0 81 bulk-in"],
+    ["claim d0 0 i0", "alt i0 1", "getalt i0", "ifdesc i0", "claim d0 1 i1"],
+    ["detachclaim d0 0 i0", "endpoint e0 i0 81 bulk-in", "submitin e0 64", "close i0"],
+    ["detachclaim d0 0 i0", "! refuse k0 attach 5", "release i0", "detach d0 0"],
+    ["clone d1 d0", "detachclaim d1 1 i0", "clone i1 i0", "alt i1 2", "ifdesc i0"],
+    ["open d1 1 6", "setconfig d1 2", "clone d2 d0", "active d2", "! refuse k0 getconfig 5", "active d0"],
+    # (the value that d0 keeps is no longer that of the kernel)
+    ["open d1 1 6", "setconfig d1 2", "claim d0 3 i0", "! refuse k0 getconfig 5", "ifdesc i0"],
+]
+
+
+def lines_of_owners(r):
+    """Setup lines and the first calls of a script in which most calls are about owners."""
+    drivers = [f"driver k{k} {r.choice([0, 0, 1, 3, 255])}" for k in range(4)]
+    lines = [r.choice(drivers)] if r.random() < 0.3 else []
+    for k in range(r.randint(1, 3)):
+        count = r.choice([2, 2, 3])
+        whole = DEVICE.format(0, count) + "".join(MANY_SETTINGS[:count])
+        value = r.choice([1, 1, 1, 1, 1, 1, 2, 0, 0, 7])
+        lines.append(f"device k{k} 1 {6 + k} {r.randrange(8)} {value} {whole}")
+    lines += [it for it in drivers if r.random() < 0.3]
+    return lines + ["open d0 1 6", *r.choice(FIRST_CALLS)]
+
+
 def spelled(r, line):
     """The same line in other bytes: more spaces, capital digits, a CR."""
     words = line.split(" ")
@@ -146,31 +298,42 @@ MALFORMED = [
     "! fail k0 81 0", "! fail k0 81 4096", "! refuse k0 close 5", "! reap 4294967296", "submitin e0 65537", "submitin e0 +1",
     "submitout e0 1", "submitout e0 0g", "submitin e0 00000000000000000064", "open d0 1 256", "endpoint e0 i0 8 bulk-in",
     "endpoint e0 i0 81 iso-in", "device k0 1 6 3 1 -", "device k5 9 9 3 1 -",
+    "driver k0 256", "driver d0 0", "driver k0 0", "driver k0 0 : reap", "clone d0 i0", "clone i0 d0", "clone e0 e1", "clone d0",
+    "close k0", "close d0 i0", "setconfig d0", "setconfig d0 256", "setconfig i0 1", "reset e0", "active i0", "speed d0 : reap",
+    "detachclaim d0 0", "detach i0 0", "attach d0", "alt i0 256", "alt i0", "getalt d0", "ifdesc i64", "release d0", "halt i0",
 ]
 
 
 def walks(r):
     """A script that opens many damaged devices and prints their descriptors."""
     for k in range(32):
-        yield f"device k{k} 1 {k} 3 1 {damaged(r, bytearray.fromhex(DEVICE.format(0, 1) + r.choice(CONFIGURATIONS))).hex()}"
+        body = "".join(MANY_SETTINGS[:2]) if r.random() < 0.5 else r.choice(CONFIGURATIONS)
+        yield f"device k{k} 1 {k} 3 1 {damaged(r, bytearray.fromhex(DEVICE.format(0, 1) + body)).hex()}"
     for k in range(32):
-        yield f"open d{k} 1 {k}\ndevdesc d{k}\ndescriptors d{k}\nclaim d{k} 0 i{k}\nendpoint e{k} i{k} 81 bulk-in"
+        yield f"open d{k} 1 {k}\ndevdesc d{k}\ndescriptors d{k}\nactive d{k}\nsetconfig d{k} 2\nsetconfig d{k} 1"
+        yield f"claim d{k} 0 i{k}\nifdesc i{k}\nalt i{k} 1\nifdesc i{k}\nendpoint e{k} i{k} 81 bulk-in"
+
+
+REFUSAL = re.compile("refuse k[0-9]+ [a-z]+ [0-9]+")
 
 
 def script(seed):
     r = random.Random(seed)
     if r.random() < 0.03:
         return "\n".join(walks(r)).encode()
-    lines = [f"device k{k} 1 {6 + k} 3 {r.choice([1, 1, 1, 2])} {descriptors(r)}" for k in range(r.randint(1, 3))]
-    if r.random() < 0.8:
-        kind = r.randrange(2)
-        lines[0] = f"device k0 1 6 3 1 {DEVICE.format(0, 1)}{CONFIGURATIONS[kind]}"
-        lines += ["open d0 1 6", "claim d0 0 i0", f"endpoint e0 i0 81 {['bulk-in', 'int-in'][kind]}"]
-        lines += [f"endpoint e1 i0 {['02 bulk-out', '01 int-out'][kind]}"]
-    for _ in range(r.randint(5, 60)):
-        lines.append(f"! {steps(r)}" if r.random() < 0.4 else call(r))
+    is_of_owners = r.random() < 0.5
+    lines = (lines_of_owners if is_of_owners else lines_of_transfers)(r)
+    for _ in range(r.randint(5, 90 if is_of_owners else 60)):
+        if r.random() < 0.3:
+            lines.append(f"! {steps(r)}")
+        elif r.random() < 0.12:
+            lines += armed_call(r)
+        else:
+            lines.append((owner_call if is_of_owners == (r.random() < 0.9) else transfer_call)(r))
         if r.random() < 0.002:
             lines += burst(r)
+    if r.random() < 0.3:
+        lines = [REFUSAL.sub("reap", line) for line in lines]
     if r.random() < 0.1:
         lines.insert(r.randrange(len(lines) + 1), r.choice(MALFORMED))
     if r.random() < 0.2:
@@ -184,12 +347,39 @@ def answer(program, text):
     return ran.returncode, ran.stdout, ran.stderr
 
 
+def lines_of(text):
+    """The words of each line that isn't skipped."""
+    lines = (line.split() for line in text.decode().split("\n"))
+    return [words for words in lines if words and not words[0].startswith("#")]
+
+
 def kinds_of_script(text):
-    """The first word of each line and of each step."""
-    for line in text.decode().split("\n"):
-        words = line.split()
-        yield from words[:1]
+    """The first word of each line and of each step, and the call for which a refusal is armed."""
+    for words in lines_of(text):
+        yield words[0]
         yield from (words[at + 1] for at, word in enumerate(words[:-1]) if word in "!:;")
+        yield from (f"refuse {words[at + 2]}" for at, word in enumerate(words) if word == "refuse")
+
+
+def kind_of_call(words):
+    """Its word, and where that doesn't tell the call the letter of its name."""
+    return f"{words[0]} {words[1][0]}" if words[0] in ("clone", "close") else words[0]
+
+
+def kind_of_answer(call, line):
+    """The answer without a number that a script can choose, and without the descriptors behind the first words."""
+    if call == "ifdesc":
+        return " ".join(line.split()[:2])
+    return re.sub(r"^(error Other failed .*) \(errno [0-9]+\)$", r"\1", line)
+
+
+def kinds_of_calls(text, answers):
+    """What each call about owners was answered, and whether a refusal is armed anywhere in the script."""
+    calls = [kind_of_call(words) for words in lines_of(text) if words[0] not in ("device", "driver", "!")]
+    is_armed = b"refuse" in text
+    for call, line in zip(calls, answers.decode().splitlines()):
+        if call in OF_CALLS:
+            yield call, kind_of_answer(call, line), is_armed
 
 
 def kinds_of_answers(text):
@@ -205,10 +395,13 @@ def kinds_of_answers(text):
 
 
 def all_kinds():
-    """The kinds of lines and steps that docs/SCRIPT.md has in its tables, and those of answers."""
+    """The kinds of lines and steps that docs/SCRIPT.md has in its tables, those of refusals and those of answers."""
     yield from dict.fromkeys(re.findall(r"^\| `([a-z]+)", LANGUAGE.read_text(), re.MULTILINE))
-    for head, words in (("answer", ANSWERS), ("error", ERRORS), ("status", STATUSES), ("end", ENDS)):
+    for head, words in (("refuse", LINES_OF), ("answer", ANSWERS), ("error", ERRORS), ("status", STATUSES), ("end", ENDS)):
         yield from (f"{head} {word}" for word in words)
+    for call, (by_rules, by_refusals) in OF_CALLS.items():
+        yield from ((call, answer, False) for answer in ["condition", *by_rules])
+        yield from ((call, answer, True) for answer in by_refusals)
 
 
 def show_difference(text, one, two):
@@ -236,8 +429,9 @@ def main():
         seen.update(kinds_of_answers(one[1]))
         if one[0] == 0:
             seen.update(kinds_of_script(text))
+            seen.update(kinds_of_calls(text, one[1]))
     print(f"{count} scripts, {lines} lines of answers: the same")
-    missing = [kind for kind in all_kinds() if not seen[kind]]
+    missing = [kind if isinstance(kind, str) else f"{kind[0]}: {kind[1]}" for kind in all_kinds() if not seen[kind]]
     print(f"the scripts that were answered have none of: {', '.join(missing)}" if missing else "each kind of line, step, answer and status occurred")
 
 

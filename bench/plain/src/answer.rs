@@ -2,7 +2,7 @@
 
 use crate::descriptors::{DeviceDescriptor, configurations};
 use crate::host::{Completion, End};
-use crate::kernel::{Device, Outcome, Ticket, Transfer};
+use crate::kernel::{Device, Outcome, SettingPlace, Ticket, Transfer};
 use crate::refusal::Refusal;
 use crate::text::{Show, Text};
 use std::rc::Rc;
@@ -14,6 +14,14 @@ pub enum Answer {
     Refused(Refusal),
     DeviceDescriptor(DeviceDescriptor),
     Descriptors(Rc<Device>),
+    /// The configuration of this value is active.
+    Active(Rc<Device>, u8),
+    /// The code of the speed, where it is known.
+    Speed(Option<u8>),
+    /// The number of the current setting.
+    Alternate(u8),
+    /// The setting that stands there.
+    Setting(Rc<Device>, SettingPlace),
     Count(usize),
     /// The oldest transfer isn't back.
     Pending,
@@ -33,12 +41,40 @@ impl Show for Answer {
             Answer::DeviceDescriptor(descriptor) => text.word("device ").show(descriptor),
             Answer::Descriptors(device) => configurations(&device.bytes)
                 .fold(text.word("desc"), |text, it| text.word(" ").show(&it)),
+            Answer::Active(device, value) => show_active(text, device, *value),
+            Answer::Speed(code) => text.word("speed ").word(speed_name(*code)),
+            Answer::Alternate(number) => text.word("alt ").number((*number).into()),
+            Answer::Setting(device, place) => match device.setting(*place) {
+                Some(setting) => text.show(&setting),
+                None => text.word("none"),
+            },
             Answer::Count(count) => text.word("count ").number(*count as u64),
             Answer::Pending => text.word("pending"),
             Answer::Nothing => text.word("none"),
             Answer::Done(completion) => text.word("done ").show(completion),
             Answer::Now(clock) => text.word("now ").number(*clock),
         };
+    }
+}
+
+fn show_active<'a>(text: &'a mut Text, device: &Device, value: u8) -> &'a mut Text {
+    match (device.configuration(value), value) {
+        (Some(_), _) => text.word("config ").number(value.into()),
+        (None, 0) => text.word("noconfig device is not configured"),
+        (None, _) => text
+            .word("noconfig no descriptor found for active configuration ")
+            .number(value.into()),
+    }
+}
+
+fn speed_name(code: Option<u8>) -> &'static str {
+    match code {
+        Some(1) => "Low",
+        Some(2) => "Full",
+        Some(3) => "High",
+        Some(5) => "Super",
+        Some(6) => "SuperPlus",
+        _ => "none",
     }
 }
 

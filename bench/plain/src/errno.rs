@@ -9,6 +9,7 @@ pub const BUSY: Errno = 16;
 pub const NODEV: Errno = 19;
 pub const INVAL: Errno = 22;
 pub const PIPE: Errno = 32;
+pub const NODATA: Errno = 61;
 pub const TIME: Errno = 62;
 pub const COMM: Errno = 70;
 pub const PROTO: Errno = 71;

@@ -1,11 +1,12 @@
 //! The host: open devices, claimed interfaces, endpoints, and what became of each ticket.
 
-use crate::descriptors::{self, DeviceDescriptor, Direction, TransferType};
+use crate::descriptors::{DeviceDescriptor, Direction, TransferType};
 use crate::errno;
-use crate::kernel::{Device, Kernel, KernelCall, Outcome, Step, Ticket, Transfer};
+use crate::kernel::{Device, Kernel, KernelCall, Outcome, SettingPlace, Step, Ticket, Transfer};
 use crate::names::Name;
 use crate::refusal::Refusal;
 use crate::text::{Show, Text};
+use std::cell::Cell;
 use std::collections::VecDeque;
 use std::rc::Rc;
 
@@ -15,13 +16,22 @@ pub struct OpenDevice {
     name: Name,
     pub descriptor: DeviceDescriptor,
     pub device: Rc<Device>,
+    /// The value of the active configuration as it was last told or set. The clones of an open
+    /// device and its interfaces share it.
+    configuration: Rc<Cell<u8>>,
 }
 
 struct Interface {
     device: OpenDevice,
     number: u8,
+    /// The current setting.
+    alternate: u8,
     /// By bits 0 to 3 and 7 of the endpoint's address.
     is_used: [bool; 32],
+    /// How many handles it has, and endpoints that are in use.
+    owners: usize,
+    /// Whether a kernel driver is attached to it when it goes.
+    attaches_driver: bool,
 }
 
 /// The key of an interface, and that of an endpoint: those of closed ones aren't used again.
@@ -105,20 +115,18 @@ pub struct Host {
 const MOST_PENDING: usize = 64;
 const MOST_UNREAPED: usize = 1024;
 
-fn place(address: u8) -> usize {
+/// Where an address stands among those of its interface that are in use.
+fn bit(address: u8) -> usize {
     usize::from(address & 15 | address >> 3 & 16)
 }
 
-impl Interface {
-    /// The endpoint at an address of the setting 0.
-    fn endpoint(&self, address: u8) -> Option<descriptors::Endpoint<'_>> {
-        self.device
-            .device
-            .active_configuration()?
-            .settings()
-            .find(|s| (s.interface_number(), s.alternate_setting()) == (self.number, 0))?
-            .endpoints()
-            .find(|e| e.address() == address)
+impl OpenDevice {
+    /// The value of the active configuration by the kernel, or where it refuses to tell the last one.
+    fn active(&self, kernel: &mut Kernel) -> u8 {
+        if let Ok(value) = kernel.configuration(self.name) {
+            self.configuration.set(value);
+        }
+        self.configuration.get()
     }
 }
 
@@ -128,34 +136,148 @@ impl Host {
         let (name, device) = kernel
             .find(bus, address)
             .ok_or(Refusal::Open(errno::NOENT))?;
+        kernel.call(name, KernelCall::Open).map_err(Refusal::Open)?;
         kernel
-            .not_refused(name, KernelCall::Open)
-            .map_err(Refusal::Open)?;
-        kernel
-            .not_refused(name, KernelCall::ReadDescriptors)
+            .call(name, KernelCall::ReadDescriptors)
             .map_err(Refusal::ReadDescriptors)?;
         let descriptor =
             DeviceDescriptor::new(&device.bytes).ok_or(Refusal::InvalidDeviceDescriptor)?;
-        kernel
-            .not_refused(name, KernelCall::Configuration)
+        let configuration = kernel
+            .configuration(name)
             .map_err(|_| Refusal::Configuration)?;
         Ok(OpenDevice {
             name,
             descriptor,
             device,
+            configuration: Rc::new(Cell::new(configuration)),
         })
+    }
+
+    /// The value of a device's active configuration.
+    pub fn active(&mut self, device: &OpenDevice) -> u8 {
+        device.active(&mut self.kernel)
+    }
+
+    /// The code of a device's speed, where the kernel tells it.
+    pub fn speed(&mut self, device: &OpenDevice) -> Option<u8> {
+        self.kernel.speed(device.name).ok()
+    }
+
+    pub fn set_configuration(&mut self, device: &OpenDevice, value: u8) -> Result<(), Refusal> {
+        self.kernel
+            .set_configuration(device.name, value)
+            .map_err(Refusal::SetConfiguration)?;
+        device.configuration.set(value);
+        Ok(())
+    }
+
+    pub fn reset(&mut self, device: &OpenDevice) -> Result<(), Refusal> {
+        self.kernel.reset(device.name).map_err(Refusal::Reset)
+    }
+
+    pub fn detach(&mut self, device: &OpenDevice, number: u8) -> Result<(), Refusal> {
+        self.kernel
+            .detach(device.name, number)
+            .map_err(Refusal::Detach)
+    }
+
+    pub fn attach(&mut self, device: &OpenDevice, number: u8) -> Result<(), Refusal> {
+        self.kernel
+            .attach(device.name, number)
+            .map_err(Refusal::Attach)
     }
 
     pub fn claim(&mut self, device: OpenDevice, number: u8) -> Result<InterfaceKey, Refusal> {
         self.kernel
             .claim(device.name, number)
             .map_err(Refusal::Claim)?;
+        Ok(self.add_interface(device, number, false))
+    }
+
+    pub fn detach_and_claim(
+        &mut self,
+        device: OpenDevice,
+        number: u8,
+    ) -> Result<InterfaceKey, Refusal> {
+        self.kernel
+            .detach_and_claim(device.name, number)
+            .map_err(Refusal::Claim)?;
+        Ok(self.add_interface(device, number, true))
+    }
+
+    fn add_interface(
+        &mut self,
+        device: OpenDevice,
+        number: u8,
+        attaches_driver: bool,
+    ) -> InterfaceKey {
         self.interfaces.push(Interface {
             device,
             number,
+            alternate: 0,
             is_used: [false; 32],
+            owners: 1,
+            attaches_driver,
         });
-        Ok(self.interfaces.len() - 1)
+        self.interfaces.len() - 1
+    }
+
+    /// Gives an interface one more handle.
+    pub fn clone_interface(&mut self, key: InterfaceKey) -> InterfaceKey {
+        self.interfaces[key].owners += 1;
+        key
+    }
+
+    /// Closes the one owner that an interface has.
+    pub fn release(&mut self, key: InterfaceKey) -> Result<(), Refusal> {
+        if self.interfaces[key].owners > 1 {
+            return Err(Refusal::InterfaceInUse);
+        }
+        self.leave_interface(key);
+        Ok(())
+    }
+
+    /// Ends one owner of an interface, and with the last one its claim.
+    pub fn leave_interface(&mut self, key: InterfaceKey) {
+        let interface = &mut self.interfaces[key];
+        interface.owners -= 1;
+        if interface.owners > 0 {
+            return;
+        }
+        let (device, number) = (interface.device.name, interface.number);
+        self.kernel.release(device, number);
+        if interface.attaches_driver {
+            // Nobody is left who could be told that this was refused.
+            let _ = self.kernel.attach(device, number);
+        }
+    }
+
+    /// The number of an interface's current setting.
+    pub fn alternate(&self, key: InterfaceKey) -> u8 {
+        self.interfaces[key].alternate
+    }
+
+    pub fn set_alternate(&mut self, key: InterfaceKey, alternate: u8) -> Result<(), Refusal> {
+        let interface = &mut self.interfaces[key];
+        if interface.is_used.contains(&true) {
+            return Err(Refusal::EndpointsInUse);
+        }
+        self.kernel
+            .set_interface(interface.device.name, interface.number, alternate)
+            .map_err(Refusal::SetInterface)?;
+        interface.alternate = alternate;
+        Ok(())
+    }
+
+    /// The device of an interface, and where in it the current setting is looked for.
+    pub fn setting(&mut self, key: InterfaceKey) -> (Rc<Device>, SettingPlace) {
+        let interface = &self.interfaces[key];
+        let place = SettingPlace {
+            configuration: interface.device.active(&mut self.kernel),
+            interface: interface.number,
+            alternate: interface.alternate,
+        };
+        (interface.device.device.clone(), place)
     }
 
     pub fn open_endpoint(
@@ -165,12 +287,11 @@ impl Host {
         kind: TransferType,
         direction: Direction,
     ) -> Result<EndpointKey, Refusal> {
-        let claimed = &mut self.interfaces[interface];
-        // The kernel is asked for the active configuration, which stays as it was.
-        let _ = self
-            .kernel
-            .not_refused(claimed.device.name, KernelCall::Configuration);
-        let endpoint = claimed.endpoint(address).ok_or(Refusal::NoSuchEndpoint)?;
+        let (device, place) = self.setting(interface);
+        let endpoint = device
+            .setting(place)
+            .and_then(|setting| setting.endpoints().find(|e| e.address() == address))
+            .ok_or(Refusal::NoSuchEndpoint)?;
         let maximum = endpoint.max_packet_size();
         if Direction::of_address(address) != direction {
             return Err(Refusal::IncorrectEndpointDirection);
@@ -181,19 +302,26 @@ impl Host {
         if maximum == 0 {
             return Err(Refusal::EndpointHasNoPacketSize);
         }
-        if std::mem::replace(&mut claimed.is_used[place(address)], true) {
+        let claimed = &mut self.interfaces[interface];
+        if std::mem::replace(&mut claimed.is_used[bit(address)], true) {
             return Err(Refusal::EndpointAlreadyInUse);
         }
-        let (device, pending) = (claimed.device.name, VecDeque::new());
+        claimed.owners += 1;
         self.endpoints.push(Endpoint {
             interface,
-            device,
+            device: claimed.device.name,
             address,
             maximum,
-            pending,
+            pending: VecDeque::new(),
             uses: 1,
         });
         Ok(self.endpoints.len() - 1)
+    }
+
+    pub fn clear_halt(&mut self, key: EndpointKey) -> Result<(), Refusal> {
+        self.kernel
+            .call(self.endpoints[key].device, KernelCall::ClearHalt)
+            .map_err(Refusal::ClearHalt)
     }
 
     /// How many transfers of an endpoint are pending.
@@ -330,12 +458,15 @@ impl Host {
         self.leave(endpoint);
     }
 
-    /// Ends one use of an endpoint's address.
+    /// Ends one use of an endpoint's address, and with the last one the endpoint's part in its
+    /// interface.
     fn leave(&mut self, key: EndpointKey) {
         let endpoint = &mut self.endpoints[key];
         endpoint.uses -= 1;
         if endpoint.uses == 0 {
-            self.interfaces[endpoint.interface].is_used[place(endpoint.address)] = false;
+            let (interface, address) = (endpoint.interface, endpoint.address);
+            self.interfaces[interface].is_used[bit(address)] = false;
+            self.leave_interface(interface);
         }
     }
 

@@ -1,6 +1,6 @@
 //! The simulated kernel: devices, and the tickets of submitted transfers.
 
-use crate::descriptors::{Configuration, Direction, configurations};
+use crate::descriptors::{Configuration, Direction, Setting, configurations};
 use crate::errno::{self, Errno};
 use crate::names::{Name, Names};
 use crate::text::{Show, Text};
@@ -15,29 +15,63 @@ pub type Ticket = usize;
 pub struct Device {
     pub bus: u8,
     pub address: u8,
+    /// The code of its speed.
+    pub speed: u8,
+    /// The value of the configuration that is active at first.
     pub configuration: u8,
     pub bytes: Vec<u8>,
+    /// The interfaces that kernel drivers are bound to at first.
+    pub drivers: Vec<u8>,
+}
+
+/// The numbers by which a setting is looked for.
+#[derive(Clone, Copy)]
+pub struct SettingPlace {
+    pub configuration: u8,
+    pub interface: u8,
+    pub alternate: u8,
 }
 
 impl Device {
-    pub fn active_configuration(&self) -> Option<Configuration<'_>> {
-        configurations(&self.bytes).find(|c| c.value() == self.configuration)
+    /// The first configuration of this value.
+    pub fn configuration(&self, value: u8) -> Option<Configuration<'_>> {
+        configurations(&self.bytes).find(|c| c.value() == value)
     }
 
-    fn has_interface(&self, number: u8) -> bool {
-        self.active_configuration()
-            .is_some_and(|c| c.settings().any(|s| s.interface_number() == number))
+    /// The first setting with these numbers.
+    pub fn setting(&self, place: SettingPlace) -> Option<Setting<'_>> {
+        self.configuration(place.configuration)?
+            .settings()
+            .find(|s| {
+                (s.interface_number(), s.alternate_setting()) == (place.interface, place.alternate)
+            })
     }
 }
 
 /// A device that is plugged in.
 struct Plug {
     device: Rc<Device>,
+    /// The value of the active configuration.
+    configuration: u8,
+    /// By the interface's number.
     claimed: [bool; 256],
+    /// By the interface's number whether a kernel driver is bound to it.
+    bound: [bool; 256],
     /// By call the errnos of the next ones.
     refusals: [VecDeque<Errno>; 13],
     /// By the endpoint's address its tickets, the oldest in front. Some may be finished.
     open: Vec<VecDeque<Ticket>>,
+}
+
+impl Plug {
+    /// Gives this errno unless the active configuration has the interface.
+    fn needs_interface(&self, number: u8, errno: Errno) -> Result<(), Errno> {
+        self.device
+            .configuration(self.configuration)
+            .is_some_and(|c| c.settings().any(|s| s.interface_number() == number))
+            .then_some(())
+            .ok_or(errno)
+    }
 }
 
 /// A call on a device for which a script may ask for a refusal.
@@ -149,11 +183,17 @@ pub struct Kernel {
 
 impl Kernel {
     pub fn plug(&mut self, name: Name, device: Device) {
+        let mut bound = [false; 256];
+        for number in &device.drivers {
+            bound[usize::from(*number)] = true;
+        }
         self.plugs.set(
             name,
             Plug {
+                configuration: device.configuration,
                 device: Rc::new(device),
                 claimed: [false; 256],
+                bound,
                 refusals: Default::default(),
                 open: vec![VecDeque::new(); 256],
             },
@@ -168,41 +208,118 @@ impl Kernel {
             .map(|(name, plug)| (name, plug.device.clone()))
     }
 
-    pub fn claim(&mut self, name: Name, interface: u8) -> Result<(), Errno> {
-        self.not_refused(name, KernelCall::Claim)?;
+    /// The device that a call is made on, unless the call is refused before its own rules are looked
+    /// at. A refusal that the script asked for is used up.
+    fn called(&mut self, name: Name, call: KernelCall) -> Result<&mut Plug, Errno> {
         let plug = self.plugs.get_mut(name).ok_or(errno::NODEV)?;
-        if !plug.device.has_interface(interface) {
-            return Err(errno::NOENT);
+        match plug.refusals[call as usize].pop_front() {
+            Some(errno) => Err(errno),
+            None => Ok(plug),
         }
-        let claimed = &mut plug.claimed[usize::from(interface)];
-        if *claimed {
+    }
+
+    /// A call that has no rules of its own and gives nothing.
+    pub fn call(&mut self, name: Name, call: KernelCall) -> Result<(), Errno> {
+        self.called(name, call).map(|_| ())
+    }
+
+    /// The value of the active configuration.
+    pub fn configuration(&mut self, name: Name) -> Result<u8, Errno> {
+        let plug = self.called(name, KernelCall::Configuration)?;
+        Ok(plug.configuration)
+    }
+
+    pub fn set_configuration(&mut self, name: Name, value: u8) -> Result<(), Errno> {
+        let plug = self.called(name, KernelCall::SetConfiguration)?;
+        if value != 0 && plug.device.configuration(value).is_none() {
+            return Err(errno::INVAL);
+        }
+        if plug.claimed.contains(&true) {
             return Err(errno::BUSY);
         }
-        *claimed = true;
+        plug.configuration = value;
         Ok(())
     }
 
-    /// The errno with which a call is refused before its own rules are looked at. One that the
-    /// script asked for is used up.
-    fn refusal(&mut self, name: Name, call: KernelCall) -> Option<Errno> {
-        match self.plugs.get_mut(name) {
-            Some(plug) => plug.refusals[call as usize].pop_front(),
-            None => Some(errno::NODEV),
+    pub fn reset(&mut self, name: Name) -> Result<(), Errno> {
+        self.call(name, KernelCall::Reset)?;
+        self.unplug(name);
+        Ok(())
+    }
+
+    /// The code of the device's speed.
+    pub fn speed(&mut self, name: Name) -> Result<u8, Errno> {
+        let plug = self.called(name, KernelCall::Speed)?;
+        Ok(plug.device.speed)
+    }
+
+    pub fn claim(&mut self, name: Name, interface: u8) -> Result<(), Errno> {
+        let plug = self.called(name, KernelCall::Claim)?;
+        plug.needs_interface(interface, errno::NOENT)?;
+        let at = usize::from(interface);
+        if plug.claimed[at] || plug.bound[at] {
+            return Err(errno::BUSY);
+        }
+        plug.claimed[at] = true;
+        Ok(())
+    }
+
+    pub fn detach_and_claim(&mut self, name: Name, interface: u8) -> Result<(), Errno> {
+        let plug = self.called(name, KernelCall::DetachAndClaim)?;
+        plug.needs_interface(interface, errno::NOENT)?;
+        let at = usize::from(interface);
+        if plug.claimed[at] {
+            return Err(errno::BUSY);
+        }
+        plug.claimed[at] = true;
+        plug.bound[at] = false;
+        Ok(())
+    }
+
+    /// Ends a claim. This is never refused.
+    pub fn release(&mut self, name: Name, interface: u8) {
+        if let Some(plug) = self.plugs.get_mut(name) {
+            plug.claimed[usize::from(interface)] = false;
         }
     }
 
-    pub fn not_refused(&mut self, name: Name, call: KernelCall) -> Result<(), Errno> {
-        match self.refusal(name, call) {
-            Some(errno) => Err(errno),
-            None => Ok(()),
+    pub fn detach(&mut self, name: Name, interface: u8) -> Result<(), Errno> {
+        let plug = self.called(name, KernelCall::Detach)?;
+        plug.needs_interface(interface, errno::INVAL)?;
+        let bound = &mut plug.bound[usize::from(interface)];
+        if !std::mem::take(bound) {
+            return Err(errno::NODATA);
         }
+        Ok(())
+    }
+
+    pub fn attach(&mut self, name: Name, interface: u8) -> Result<(), Errno> {
+        let plug = self.called(name, KernelCall::Attach)?;
+        plug.needs_interface(interface, errno::INVAL)?;
+        let at = usize::from(interface);
+        if plug.bound[at] || plug.claimed[at] {
+            return Err(errno::BUSY);
+        }
+        plug.bound[at] = true;
+        Ok(())
+    }
+
+    /// Which setting is the current one is for the host to keep.
+    pub fn set_interface(&mut self, name: Name, interface: u8, alternate: u8) -> Result<(), Errno> {
+        let plug = self.called(name, KernelCall::SetInterface)?;
+        let place = SettingPlace {
+            configuration: plug.configuration,
+            interface,
+            alternate,
+        };
+        plug.device.setting(place).map(|_| ()).ok_or(errno::INVAL)
     }
 
     /// Hands a transfer in.
     pub fn submit(&mut self, transfer: Transfer) -> Ticket {
-        match self.refusal(transfer.device, KernelCall::Submit) {
-            Some(errno) => self.refuse(transfer, errno),
-            None => self.accept(transfer),
+        match self.call(transfer.device, KernelCall::Submit) {
+            Err(errno) => self.refuse(transfer, errno),
+            Ok(()) => self.accept(transfer),
         }
     }
 

@@ -9,7 +9,15 @@ pub enum Refusal {
     ReadDescriptors(Errno),
     InvalidDeviceDescriptor,
     Configuration,
+    SetConfiguration(Errno),
+    Reset(Errno),
     Claim(Errno),
+    Detach(Errno),
+    Attach(Errno),
+    SetInterface(Errno),
+    ClearHalt(Errno),
+    EndpointsInUse,
+    InterfaceInUse,
     NoSuchEndpoint,
     IncorrectEndpointDirection,
     IncorrectEndpointType,
@@ -17,20 +25,71 @@ pub enum Refusal {
     EndpointAlreadyInUse,
 }
 
+/// A refusal's kind and its text.
+type Words = (&'static str, &'static str);
+
+fn open_words(errno: Errno) -> Words {
+    match errno {
+        errno::NOENT => ("Disconnected", "device not found"),
+        errno::PERM | errno::ACCES => ("PermissionDenied", "permission denied"),
+        _ => ("Other", "failed to open device"),
+    }
+}
+
+fn set_configuration_words(errno: Errno) -> Words {
+    match errno {
+        errno::INVAL => ("NotFound", "configuration not found"),
+        errno::BUSY => ("Busy", "device is busy"),
+        _ => ("Other", "failed to set configuration"),
+    }
+}
+
+fn claim_words(errno: Errno) -> Words {
+    match errno {
+        errno::INVAL | errno::NOENT => ("NotFound", "interface not found"),
+        errno::BUSY => ("Busy", "interface is busy"),
+        _ => ("Other", "failed to claim interface"),
+    }
+}
+
+fn detach_words(errno: Errno) -> Words {
+    match errno {
+        errno::INVAL => ("NotFound", "interface not found"),
+        errno::NODATA => ("Other", "no kernel driver attached"),
+        _ => ("Other", "failed to detach kernel driver"),
+    }
+}
+
+fn attach_words(errno: Errno) -> Words {
+    match errno {
+        errno::INVAL => ("NotFound", "interface not found"),
+        errno::BUSY => ("Busy", "kernel driver already attached"),
+        _ => ("Other", "failed to attach kernel driver"),
+    }
+}
+
 impl Refusal {
-    /// Its kind and its text.
-    fn words(self) -> (&'static str, &'static str) {
+    fn words(self) -> Words {
         match self {
-            Refusal::Open(errno::NOENT) => ("Disconnected", "device not found"),
-            Refusal::Open(errno::PERM | errno::ACCES) => ("PermissionDenied", "permission denied"),
-            Refusal::Open(_) => ("Other", "failed to open device"),
+            Refusal::Open(errno) => open_words(errno),
             Refusal::ReadDescriptors(_) => ("Other", "failed to read descriptors"),
             Refusal::InvalidDeviceDescriptor => ("Other", "invalid device descriptor"),
             Refusal::Configuration => ("Other", "failed to read sysfs bConfigurationValue"),
-            Refusal::Claim(errno::NODEV) => ("Disconnected", "device disconnected"),
-            Refusal::Claim(errno::INVAL | errno::NOENT) => ("NotFound", "interface not found"),
-            Refusal::Claim(errno::BUSY) => ("Busy", "interface is busy"),
-            Refusal::Claim(_) => ("Other", "failed to claim interface"),
+            _ if self.errno() == Some(errno::NODEV) => ("Disconnected", "device disconnected"),
+            Refusal::SetConfiguration(errno) => set_configuration_words(errno),
+            Refusal::Reset(errno::BUSY) => ("Busy", "device is busy"),
+            Refusal::Reset(_) => ("Other", "failed to reset device"),
+            Refusal::Claim(errno) => claim_words(errno),
+            Refusal::Detach(errno) => detach_words(errno),
+            Refusal::Attach(errno) => attach_words(errno),
+            Refusal::SetInterface(errno::INVAL) => ("NotFound", "alternate setting not found"),
+            Refusal::SetInterface(_) => ("Other", "failed to set alternate setting"),
+            Refusal::ClearHalt(_) => ("Other", "failed to clear halt"),
+            Refusal::EndpointsInUse => (
+                "Busy",
+                "can't change alternate setting while endpoints are in use",
+            ),
+            Refusal::InterfaceInUse => ("Busy", "interface is still in use"),
             Refusal::NoSuchEndpoint => (
                 "NotFound",
                 "specified endpoint does not exist on this interface",
@@ -45,9 +104,15 @@ impl Refusal {
     /// The number that the kernel gave, where it is told.
     fn errno(self) -> Option<Errno> {
         match self {
-            Refusal::Open(errno) | Refusal::ReadDescriptors(errno) | Refusal::Claim(errno) => {
-                Some(errno)
-            }
+            Refusal::Open(errno)
+            | Refusal::ReadDescriptors(errno)
+            | Refusal::SetConfiguration(errno)
+            | Refusal::Reset(errno)
+            | Refusal::Claim(errno)
+            | Refusal::Detach(errno)
+            | Refusal::Attach(errno)
+            | Refusal::SetInterface(errno)
+            | Refusal::ClearHalt(errno) => Some(errno),
             _ => None,
         }
     }

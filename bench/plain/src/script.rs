@@ -13,7 +13,7 @@ pub struct Script {
     pub lines: Vec<Line>,
 }
 
-/// A line behind those of the devices.
+/// A line behind those of the setup.
 pub enum Line {
     Steps(Vec<Step>),
     Call(Call),
@@ -22,10 +22,14 @@ pub enum Line {
 pub enum Call {
     Now,
     Open(Open),
-    DeviceDescriptor(Name),
-    Descriptors(Name),
+    CloneDevice(SecondHandle),
     Claim(Claim),
+    CloneInterface(SecondHandle),
     OpenEndpoint(OpenEndpoint),
+    /// A call on an open device.
+    Device(Name, DeviceCall),
+    /// A call on a claimed interface.
+    Interface(Name, InterfaceCall),
     /// A call on an open endpoint.
     Endpoint(Name, EndpointCall),
 }
@@ -36,10 +40,18 @@ pub struct Open {
     pub address: u8,
 }
 
+/// A second name for what a first one stands for.
+pub struct SecondHandle {
+    pub name: Name,
+    pub first: Name,
+}
+
 pub struct Claim {
     pub device: Name,
     pub number: u8,
     pub interface: Name,
+    /// Whether it is taken from its kernel driver.
+    pub detaches: bool,
 }
 
 pub struct OpenEndpoint {
@@ -50,6 +62,27 @@ pub struct OpenEndpoint {
     pub direction: Direction,
 }
 
+pub enum DeviceCall {
+    Descriptor,
+    Descriptors,
+    Active,
+    Speed,
+    SetConfiguration(u8),
+    Reset,
+    /// Of the interface of this number.
+    DetachDriver(u8),
+    AttachDriver(u8),
+    Close,
+}
+
+pub enum InterfaceCall {
+    SetAlternate(u8),
+    Alternate,
+    Descriptor,
+    Release,
+    Close,
+}
+
 pub enum EndpointCall {
     Submit(Data),
     Pending,
@@ -57,6 +90,7 @@ pub enum EndpointCall {
     Wait(Patience),
     Transfer(Data, Patience),
     Cancel,
+    ClearHalt,
     Close,
 }
 
@@ -202,14 +236,43 @@ fn device(words: &[&[u8]]) -> Option<(Name, Device)> {
     let [k, bus, address, speed, configuration, data] = *words else {
         return None;
     };
-    byte(speed)?;
     let device = Device {
         bus: byte(bus)?,
         address: byte(address)?,
+        speed: byte(speed)?,
         configuration: byte(configuration)?,
         bytes: bytes(data)?,
+        drivers: Vec::new(),
     };
     Some((name(k, b'k')?, device))
+}
+
+/// A call on an open device, without the device's name.
+fn device_call(verb: &[u8], rest: &[&[u8]]) -> Option<DeviceCall> {
+    Some(match (verb, rest) {
+        (b"devdesc", []) => DeviceCall::Descriptor,
+        (b"descriptors", []) => DeviceCall::Descriptors,
+        (b"active", []) => DeviceCall::Active,
+        (b"speed", []) => DeviceCall::Speed,
+        (b"setconfig", [value]) => DeviceCall::SetConfiguration(byte(value)?),
+        (b"reset", []) => DeviceCall::Reset,
+        (b"detach", [number]) => DeviceCall::DetachDriver(byte(number)?),
+        (b"attach", [number]) => DeviceCall::AttachDriver(byte(number)?),
+        (b"close", []) => DeviceCall::Close,
+        _ => return None,
+    })
+}
+
+/// A call on a claimed interface, without the interface's name.
+fn interface_call(verb: &[u8], rest: &[&[u8]]) -> Option<InterfaceCall> {
+    Some(match (verb, rest) {
+        (b"alt", [number]) => InterfaceCall::SetAlternate(byte(number)?),
+        (b"getalt", []) => InterfaceCall::Alternate,
+        (b"ifdesc", []) => InterfaceCall::Descriptor,
+        (b"release", []) => InterfaceCall::Release,
+        (b"close", []) => InterfaceCall::Close,
+        _ => return None,
+    })
 }
 
 /// A call on an open endpoint, without the endpoint's name.
@@ -227,8 +290,35 @@ fn endpoint_call(verb: &[u8], rest: &[&[u8]]) -> Option<EndpointCall> {
             EndpointCall::Transfer(Data::Out(bytes(data)?), patience(rest)?)
         }
         (b"cancel", []) => EndpointCall::Cancel,
+        (b"halt", []) => EndpointCall::ClearHalt,
         (b"close", []) => EndpointCall::Close,
         _ => return None,
+    })
+}
+
+/// A call on what the name stands for, whose letter tells its kind.
+fn call_on(verb: &[u8], word: &[u8], rest: &[&[u8]]) -> Option<Call> {
+    Some(match word.first()? {
+        b'd' => Call::Device(name(word, b'd')?, device_call(verb, rest)?),
+        b'i' => Call::Interface(name(word, b'i')?, interface_call(verb, rest)?),
+        b'e' => Call::Endpoint(name(word, b'e')?, endpoint_call(verb, rest)?),
+        _ => return None,
+    })
+}
+
+fn second_handle(new: &[u8], old: &[u8], letter: u8) -> Option<SecondHandle> {
+    Some(SecondHandle {
+        name: name(new, letter)?,
+        first: name(old, letter)?,
+    })
+}
+
+fn claim(d: &[u8], n: &[u8], i: &[u8], detaches: bool) -> Option<Claim> {
+    Some(Claim {
+        device: name(d, b'd')?,
+        number: byte(n)?,
+        interface: name(i, b'i')?,
+        detaches,
     })
 }
 
@@ -240,13 +330,10 @@ fn call(words: &[&[u8]]) -> Option<Call> {
             bus: byte(bus)?,
             address: byte(address)?,
         }),
-        [b"devdesc", d] => Call::DeviceDescriptor(name(d, b'd')?),
-        [b"descriptors", d] => Call::Descriptors(name(d, b'd')?),
-        [b"claim", d, n, i] => Call::Claim(Claim {
-            device: name(d, b'd')?,
-            number: byte(n)?,
-            interface: name(i, b'i')?,
-        }),
+        [b"clone", new @ [b'd', ..], old] => Call::CloneDevice(second_handle(new, old, b'd')?),
+        [b"clone", new, old] => Call::CloneInterface(second_handle(new, old, b'i')?),
+        [b"claim", d, n, i] => Call::Claim(claim(d, n, i, false)?),
+        [b"detachclaim", d, n, i] => Call::Claim(claim(d, n, i, true)?),
         [b"endpoint", e, i, hh, word] => {
             let (kind, direction) = endpoint_kind(word)?;
             Call::OpenEndpoint(OpenEndpoint {
@@ -257,7 +344,7 @@ fn call(words: &[&[u8]]) -> Option<Call> {
                 direction,
             })
         }
-        [verb, e, ref rest @ ..] => Call::Endpoint(name(e, b'e')?, endpoint_call(verb, rest)?),
+        [verb, word, ref rest @ ..] => call_on(verb, word, rest)?,
         _ => return None,
     })
 }
@@ -297,25 +384,36 @@ impl Script {
     }
 
     fn add(&mut self, words: &[&[u8]]) -> Option<()> {
-        match words {
-            [b"device", words @ ..] => {
-                let (name, device) = device(words)?;
-                if !self.allows(name, &device) {
-                    return None;
-                }
-                self.devices.push((name, device));
-            }
-            [b"!", words @ ..] => self.lines.push(Line::Steps(steps(words)?)),
-            _ => self.lines.push(Line::Call(call(words)?)),
-        }
+        let line = match words {
+            [b"device", words @ ..] => return self.add_device(device(words)?),
+            [b"driver", k, number] => return self.bind_driver(name(k, b'k')?, byte(number)?),
+            [b"!", words @ ..] => Line::Steps(steps(words)?),
+            _ => Line::Call(call(words)?),
+        };
+        self.lines.push(line);
         Some(())
     }
 
-    /// A device line stands before all others, and no name and no place is used twice.
-    fn allows(&self, name: Name, device: &Device) -> bool {
+    /// A setup line stands before all others, and no name and no place is used twice.
+    fn add_device(&mut self, (name, device): (Name, Device)) -> Option<()> {
         let is_other = |(n, d): &(Name, Device)| {
             *n != name && (d.bus, d.address) != (device.bus, device.address)
         };
-        self.lines.is_empty() && self.devices.iter().all(is_other)
+        if !self.lines.is_empty() || !self.devices.iter().all(is_other) {
+            return None;
+        }
+        self.devices.push((name, device));
+        Some(())
+    }
+
+    /// A driver is bound to a device that stands before it.
+    fn bind_driver(&mut self, name: Name, number: u8) -> Option<()> {
+        if !self.lines.is_empty() {
+            return None;
+        }
+        if let Some((_, device)) = self.devices.iter_mut().find(|(n, _)| *n == name) {
+            device.drivers.push(number);
+        }
+        Some(())
     }
 }

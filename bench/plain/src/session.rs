@@ -5,7 +5,10 @@ use crate::host::{EndpointKey, Fate, Host, InterfaceKey, OpenDevice, Steps};
 use crate::kernel::{Device, Step};
 use crate::names::{Name, Names};
 use crate::refusal::Refusal;
-use crate::script::{Call, Claim, EndpointCall, Line, Open, OpenEndpoint, Patience};
+use crate::script::{
+    Call, Claim, DeviceCall, EndpointCall, InterfaceCall, Line, Open, OpenEndpoint, Patience,
+    SecondHandle,
+};
 
 #[derive(Default)]
 pub struct Session {
@@ -24,6 +27,11 @@ fn opened<T>(place: &mut Option<T>, tried: Result<T, Refusal>) -> Answer {
         }
         Err(refusal) => Answer::Refused(refusal),
     }
+}
+
+/// Answers a call that gives nothing.
+fn done(tried: Result<(), Refusal>) -> Answer {
+    tried.map_or_else(Answer::Refused, |()| Answer::Ok)
 }
 
 impl Session {
@@ -55,16 +63,12 @@ impl Session {
         match call {
             Call::Now => Some(Answer::Now(self.host.kernel.clock)),
             Call::Open(open) => self.open(open),
-            Call::DeviceDescriptor(name) => {
-                let device = self.devices.get(name)?;
-                Some(Answer::DeviceDescriptor(device.descriptor))
-            }
-            Call::Descriptors(name) => {
-                let device = self.devices.get(name)?.device.clone();
-                Some(Answer::Descriptors(device))
-            }
+            Call::CloneDevice(handle) => self.clone_device(handle),
             Call::Claim(claim) => self.claim(claim),
+            Call::CloneInterface(handle) => self.clone_interface(handle),
             Call::OpenEndpoint(endpoint) => self.open_endpoint(endpoint),
+            Call::Device(name, call) => self.device_call(name, call),
+            Call::Interface(name, call) => self.interface_call(name, call),
             Call::Endpoint(name, call) => self.endpoint_call(name, call),
         }
     }
@@ -75,11 +79,28 @@ impl Session {
         Some(opened(place, tried))
     }
 
+    fn clone_device(&mut self, handle: SecondHandle) -> Option<Answer> {
+        let device = self.devices.get(handle.first)?.clone();
+        let place = self.devices.vacant(handle.name)?;
+        Some(opened(place, Ok(device)))
+    }
+
     fn claim(&mut self, claim: Claim) -> Option<Answer> {
         let place = self.interfaces.vacant(claim.interface)?;
         let device = self.devices.get(claim.device)?.clone();
-        let tried = self.host.claim(device, claim.number);
+        let tried = if claim.detaches {
+            self.host.detach_and_claim(device, claim.number)
+        } else {
+            self.host.claim(device, claim.number)
+        };
         Some(opened(place, tried))
+    }
+
+    fn clone_interface(&mut self, handle: SecondHandle) -> Option<Answer> {
+        let interface = *self.interfaces.get(handle.first)?;
+        let place = self.interfaces.vacant(handle.name)?;
+        let clone = self.host.clone_interface(interface);
+        Some(opened(place, Ok(clone)))
     }
 
     fn open_endpoint(&mut self, call: OpenEndpoint) -> Option<Answer> {
@@ -88,6 +109,50 @@ impl Session {
         let host = &mut self.host;
         let tried = host.open_endpoint(interface, call.address, call.kind, call.direction);
         Some(opened(place, tried))
+    }
+
+    fn device_call(&mut self, name: Name, call: DeviceCall) -> Option<Answer> {
+        let device = self.devices.get(name)?;
+        let host = &mut self.host;
+        Some(match call {
+            DeviceCall::Descriptor => Answer::DeviceDescriptor(device.descriptor),
+            DeviceCall::Descriptors => Answer::Descriptors(device.device.clone()),
+            DeviceCall::Active => Answer::Active(device.device.clone(), host.active(device)),
+            DeviceCall::Speed => Answer::Speed(host.speed(device)),
+            DeviceCall::SetConfiguration(value) => done(host.set_configuration(device, value)),
+            DeviceCall::Reset => done(host.reset(device)),
+            DeviceCall::DetachDriver(number) => done(host.detach(device, number)),
+            DeviceCall::AttachDriver(number) => done(host.attach(device, number)),
+            DeviceCall::Close => {
+                self.devices.take(name);
+                Answer::Ok
+            }
+        })
+    }
+
+    fn interface_call(&mut self, name: Name, call: InterfaceCall) -> Option<Answer> {
+        let interface = *self.interfaces.get(name)?;
+        let host = &mut self.host;
+        Some(match call {
+            InterfaceCall::SetAlternate(number) => done(host.set_alternate(interface, number)),
+            InterfaceCall::Alternate => Answer::Alternate(host.alternate(interface)),
+            InterfaceCall::Descriptor => {
+                let (device, place) = host.setting(interface);
+                Answer::Setting(device, place)
+            }
+            InterfaceCall::Release => {
+                let tried = host.release(interface);
+                if tried.is_ok() {
+                    self.interfaces.take(name);
+                }
+                done(tried)
+            }
+            InterfaceCall::Close => {
+                self.interfaces.take(name);
+                host.leave_interface(interface);
+                Answer::Ok
+            }
+        })
     }
 
     fn endpoint_call(&mut self, name: Name, call: EndpointCall) -> Option<Answer> {
@@ -118,6 +183,7 @@ impl Session {
                 self.host.cancel(endpoint?);
                 Some(Answer::Ok)
             }
+            EndpointCall::ClearHalt => Some(done(self.host.clear_halt(endpoint?))),
             EndpointCall::Close => {
                 self.host.close_endpoint(self.endpoints.take(name)?);
                 Some(Answer::Ok)
@@ -137,10 +203,14 @@ impl Session {
         answer
     }
 
-    /// Closes the endpoints, and ends each ticket.
+    /// Closes the endpoints and then the interfaces, and ends each ticket. Of a device nothing is
+    /// left to close.
     pub fn finish(&mut self) {
-        for endpoint in self.endpoints.iter().map(|(_, endpoint)| *endpoint) {
-            self.host.close_endpoint(endpoint);
+        for (_, endpoint) in self.endpoints.iter() {
+            self.host.close_endpoint(*endpoint);
+        }
+        for (_, interface) in self.interfaces.iter() {
+            self.host.leave_interface(*interface);
         }
         self.host.finish();
     }

@@ -45,7 +45,7 @@ fn skips_comments_and_empty_lines() {
 }
 
 /// What they show, the lines, and the first that is malformed.
-const MALFORMED: [(&str, &[u8], usize); 25] = [
+const MALFORMED: [(&str, &[u8], usize); 33] = [
     ("a word too few", b"open d0 1", 1),
     (
         "a word too few behind a call",
@@ -82,6 +82,14 @@ const MALFORMED: [(&str, &[u8], usize); 25] = [
     ("no step", b"now\n!\n", 2),
     ("a semicolon at the end", b"! reap ;\n", 1),
     ("a device behind a call", b"now\ndevice k0 1 1 3 1 -\n", 2),
+    ("a driver behind a call", b"now\ndriver k0 0\n", 2),
+    ("a driver behind a step", b"! reap\ndriver k0 0\n", 2),
+    ("a driver's interface above 255", b"driver k0 256\n", 1),
+    ("a clone of another kind", b"clone d0 i0\n", 1),
+    ("a clone of an endpoint", b"clone e0 e1\n", 1),
+    ("a close of a simulated device", b"close k0\n", 1),
+    ("a reset of an endpoint", b"reset e0\n", 1),
+    ("a setting above 255", b"alt i0 256\n", 1),
     (
         "a device's place used twice",
         b"device k0 1 1 3 1 -\ndevice k1 1 1 3 1 -\n",

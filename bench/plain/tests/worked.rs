@@ -40,6 +40,11 @@ fn descriptors() {
 }
 
 #[test]
+fn claims() {
+    check(include_str!("worked/claims.txt"));
+}
+
+#[test]
 fn first_script_of_the_language() {
     let script = include_bytes!("../../../crates/nusb_sim/stdin");
     let output = include_str!("../../../crates/nusb_sim/stdout");
