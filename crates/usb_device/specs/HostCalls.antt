@@ -1,4 +1,5 @@
--- What the calls of endpoints make of a host.
+-- What the calls of endpoints make of a host. A `TransferData` is a transfer: its endpoint's address and type,
+-- and what it holds (usb_xfer/src/transfer.rt).
 use Rattle.std.specs.Prelude.{ℕ, set, false, [], ◌∷◌, ◌++◌, max, Option, Some, None, Result, slice_get}
 use Rattle.usb_xfer.specs.BufferState.{BufferState}
 use Rattle.usb_xfer.specs.declared.transfer.TransferData.{TransferData}

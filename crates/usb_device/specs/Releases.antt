@@ -1,4 +1,5 @@
--- When the last owner of an interface goes, its claim ends.
+-- When the last owner of an interface goes, its claim ends. An `EndedClaim` is a claim that ends: the device, the interface, and
+-- whether its driver is to be attached again (usb_ledger/src/owners.rt).
 use Rattle.std.specs.Prelude.{ℕ, Option, Some, None, if◌then◌else◌}
 use Rattle.usb_simulated.specs.declared.step.KernelCall.TheVariants as call
 use Rattle.usb_simulated.specs.Claims.{after_release}

@@ -16,7 +16,7 @@ error_in [] otherwise errno = coded Other otherwise errno
 error_in (row ∷ rows) otherwise errno =
     if nat_eq errno row.0 then coded row.1 row.2 errno else error_in rows otherwise errno
 
--- opening a device: ENOENT, no plugged device has the address; EPERM and EACCES, it is not allowed (`denied` is the kind PermissionDenied) (`denied` is the kind PermissionDenied)
+-- opening a device: ENOENT, no plugged device has the address; EPERM and EACCES, it is not allowed (`denied` is the kind PermissionDenied)
 abbrev pub open_table : ErrorTable
 open_table =
     (2, Disconnected, DeviceNotFound)

@@ -1,4 +1,5 @@
--- What a submission comes to: a queued ticket, or a refused one.
+-- What a submission comes to (`Submitted`: src/submission.rt): a queued ticket, which the kernel has taken in and not finished
+-- yet, or a refused one, which has its completion at once.
 use Rattle.std.specs.Prelude.{ℕ, List, ◌∷◌, length, Option, Some, None}
 use Rattle.usb_kernel.specs.declared.event.Event.{Event}
 use Rattle.usb_simulated.specs.declared.devices.DeviceState.{DeviceState}

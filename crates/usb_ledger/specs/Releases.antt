@@ -1,4 +1,4 @@
--- Which claim ends when an owner of an interface goes.
+-- Which claim ends when an owner of an interface goes (`EndedClaim`: src/owners.rt).
 use Rattle.std.specs.Prelude.{ℕ, List, Option, Some, None, slice_get, option_and_then, if◌then◌else◌}
 use Rattle.usb_ledger.specs.declared.owners.EndedClaim.{EndedClaim}
 use Rattle.usb_ledger.specs.Entries.{ClaimedInterface, HostEndpoint, HostTicket}
