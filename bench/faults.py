@@ -22,6 +22,7 @@ MOST = 1 << 20
 POLL = b"poll e0\n"  # answered by 10 bytes, as e0 isn't open
 MANY = POLL * (MOST // 10 + 1)  # answered by more than 2^20 bytes
 OK = b"condition\n"
+LIVE = b"live 3 submitted 3 taken 3 dropped 0 reclaimed 0\n"
 
 
 @dataclass
@@ -50,6 +51,8 @@ CASES = [
     unknown("SESSION"),
     unknown("session", "session"),
     unknown("session", "1"),
+    Case("three transfers between threads", 0, "", LIVE, words=("live", "3")),
+    Case("three transfers and a full device", 6, WRITE_FAULT, words=("live", "3"), into="full"),
     unknown("live"),
     unknown("live", "0"),
     unknown("live", "1001"),

@@ -5,7 +5,7 @@ use crate::host::{Completion, End};
 use crate::kernel::{Device, Outcome, SettingPlace, Ticket, Transfer};
 use crate::refusal::Refusal;
 use crate::text::{Show, Text};
-use std::rc::Rc;
+use std::sync::Arc;
 
 pub enum Answer {
     Ok,
@@ -13,15 +13,15 @@ pub enum Answer {
     Condition,
     Refused(Refusal),
     DeviceDescriptor(DeviceDescriptor),
-    Descriptors(Rc<Device>),
+    Descriptors(Arc<Device>),
     /// The configuration of this value is active.
-    Active(Rc<Device>, u8),
+    Active(Arc<Device>, u8),
     /// The code of the speed, where it is known.
     Speed(Option<u8>),
     /// The number of the current setting.
     Alternate(u8),
     /// The setting that stands there.
-    Setting(Rc<Device>, SettingPlace),
+    Setting(Arc<Device>, SettingPlace),
     Count(usize),
     /// The oldest transfer isn't back.
     Pending,

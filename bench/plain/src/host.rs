@@ -9,13 +9,14 @@ use crate::text::{Show, Text};
 use std::cell::Cell;
 use std::collections::VecDeque;
 use std::rc::Rc;
+use std::sync::Arc;
 
 /// An open device.
 #[derive(Clone)]
 pub struct OpenDevice {
     name: Name,
     pub descriptor: DeviceDescriptor,
-    pub device: Rc<Device>,
+    pub device: Arc<Device>,
     /// The value of the active configuration as it was last told or set. The clones of an open
     /// device and its interfaces share it.
     configuration: Rc<Cell<u8>>,
@@ -270,7 +271,7 @@ impl Host {
     }
 
     /// The device of an interface, and where in it the current setting is looked for.
-    pub fn setting(&mut self, key: InterfaceKey) -> (Rc<Device>, SettingPlace) {
+    pub fn setting(&mut self, key: InterfaceKey) -> (Arc<Device>, SettingPlace) {
         let interface = &self.interfaces[key];
         let place = SettingPlace {
             configuration: interface.device.active(&mut self.kernel),

@@ -6,7 +6,7 @@ use crate::names::{Name, Names};
 use crate::text::{Show, Text};
 use std::cmp::Reverse;
 use std::collections::{BinaryHeap, VecDeque};
-use std::rc::Rc;
+use std::sync::Arc;
 
 /// A ticket's number.
 pub type Ticket = usize;
@@ -50,7 +50,7 @@ impl Device {
 
 /// A device that is plugged in.
 struct Plug {
-    device: Rc<Device>,
+    device: Arc<Device>,
     /// The value of the active configuration.
     configuration: u8,
     /// By the interface's number.
@@ -191,7 +191,7 @@ impl Kernel {
             name,
             Plug {
                 configuration: device.configuration,
-                device: Rc::new(device),
+                device: Arc::new(device),
                 claimed: [false; 256],
                 bound,
                 refusals: Default::default(),
@@ -201,7 +201,7 @@ impl Kernel {
     }
 
     /// The device at this bus and address.
-    pub fn find(&self, bus: u8, address: u8) -> Option<(Name, Rc<Device>)> {
+    pub fn find(&self, bus: u8, address: u8) -> Option<(Name, Arc<Device>)> {
         self.plugs
             .iter()
             .find(|(_, plug)| (plug.device.bus, plug.device.address) == (bus, address))

@@ -1,6 +1,6 @@
 //! The session of `nusb_sim` as plain Rust, by the rules of docs/SCRIPT.md: what the proved program
-//! is timed against and compared with. It has no `live N`, whose words it refuses as it does all
-//! unknown ones, and no status 7: where memory is wanting it aborts.
+//! is timed against and compared with. Beside it the word `live N`, by std's threads, lock and
+//! channels. It has no status 7: where memory is wanting it aborts.
 
 mod answer;
 mod descriptors;
@@ -9,6 +9,7 @@ mod fault;
 mod hex;
 mod host;
 mod kernel;
+mod live;
 mod names;
 mod refusal;
 mod script;
@@ -19,6 +20,7 @@ use fault::Fault;
 use script::Script;
 use session::Session;
 use std::env;
+use std::ffi::OsString;
 use std::io::{self, BufWriter, Read, Write};
 use std::process::ExitCode;
 use text::{Show, Text};
@@ -26,11 +28,24 @@ use text::{Show, Text};
 const MOST_BYTES: u64 = 1 << 20;
 const BUFFER_BYTES: usize = 1 << 16;
 
-fn check_words() -> Result<(), Fault> {
-    let mut words = env::args_os().skip(1);
-    match (words.next(), words.next()) {
-        (None, _) => Ok(()),
-        (Some(word), None) if word == "session" => Ok(()),
+const MOST_TRANSFERS: u64 = 1000;
+
+/// What the program's words ask for.
+enum Task {
+    Session,
+    /// So many transfers between two threads.
+    Live(u32),
+}
+
+fn read_words() -> Result<Task, Fault> {
+    let words: Vec<OsString> = env::args_os().skip(1).collect();
+    match words.as_slice() {
+        [] => Ok(Task::Session),
+        [word] if word == "session" => Ok(Task::Session),
+        [word, count] if word == "live" => script::number(count.as_encoded_bytes(), MOST_TRANSFERS)
+            .filter(|count| *count > 0)
+            .map(Task::Live)
+            .ok_or(Fault::Usage),
         _ => Err(Fault::Usage),
     }
 }
@@ -66,11 +81,27 @@ fn write_answers(script: Script, out: &mut impl Write) -> io::Result<()> {
     out.flush()
 }
 
-fn run() -> Result<(), Fault> {
-    check_words()?;
+fn run_session() -> Result<(), Fault> {
     let script = Script::parse(&read_script()?)?;
     let mut out = BufWriter::with_capacity(BUFFER_BYTES, io::stdout().lock());
     write_answers(script, &mut out).map_err(|_| Fault::Write)
+}
+
+fn run_live(wanted: u32) -> Result<(), Fault> {
+    let mut text = Text::default();
+    live::run(wanted).show(&mut text);
+    text.word("\n");
+    let mut out = io::stdout().lock();
+    out.write_all(text.as_bytes())
+        .and_then(|()| out.flush())
+        .map_err(|_| Fault::Write)
+}
+
+fn run() -> Result<(), Fault> {
+    match read_words()? {
+        Task::Session => run_session(),
+        Task::Live(wanted) => run_live(wanted),
+    }
 }
 
 fn main() -> ExitCode {

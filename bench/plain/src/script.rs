@@ -103,7 +103,7 @@ pub struct Patience {
 const MOST_BYTES: usize = 65536;
 const MOST_TIME: u64 = 1_000_000_000_000_000_000;
 
-fn number<T: TryFrom<u64>>(word: &[u8], most: u64) -> Option<T> {
+pub fn number<T: TryFrom<u64>>(word: &[u8], most: u64) -> Option<T> {
     // (19 digits fit into 64 bits)
     if !(1..=19).contains(&word.len()) {
         return None;

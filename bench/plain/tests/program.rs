@@ -22,6 +22,41 @@ fn knows_no_word_and_session() {
     }
 }
 
+/// Words, the status, what is written, and the line on standard error.
+const LIVE: [(&[&str], i32, &str, &str); 9] = [
+    (
+        &["live", "3"],
+        0,
+        "live 3 submitted 3 taken 3 dropped 0 reclaimed 0\n",
+        "",
+    ),
+    (
+        &["live", "0001"],
+        0,
+        "live 1 submitted 1 taken 1 dropped 0 reclaimed 0\n",
+        "",
+    ),
+    (
+        &["live", "1000"],
+        0,
+        "live 1000 submitted 1000 taken 1000 dropped 0 reclaimed 0\n",
+        "",
+    ),
+    (&["live", "0"], 2, "", USAGE),
+    (&["live", "1001"], 2, "", USAGE),
+    (&["live", "00000000000000000001"], 2, "", USAGE),
+    (&["live", "1x"], 2, "", USAGE),
+    (&["live"], 2, "", USAGE),
+    (&["live", "1", "1"], 2, "", USAGE),
+];
+
+#[test]
+fn live_writes_its_line() {
+    for (words, status, output, report) in LIVE {
+        expect(&words.join(" "), words, b"now\n", status, output, report);
+    }
+}
+
 /// What they show, the lines, and what is written.
 const SKIPPED: [(&str, &[u8], &str); 7] = [
     ("no line", b"", ""),

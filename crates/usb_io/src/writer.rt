@@ -6,7 +6,7 @@ ghost use Rattle.usb_endpoint.specs.Closes.{after_close};
 ghost use Rattle.usb_io.specs.Readers.{rounded};
 ghost use Rattle.usb_io.specs.Reads.{bus_calls};
 ghost use Rattle.usb_kernel.specs.WholePackets.{is_whole};
-ghost use Rattle.usb_io.specs.Writers.{writing, empty_buffer, send, sent, sent_end, end_need, EndShort, with_taken, CameOne, waits_on, CameToDrain, accepts, accepted_count, Flushed, DrainFault};
+ghost use Rattle.usb_io.specs.Writers.{fresh_writer, writing, empty_buffer, send, sent, sent_end, end_need, EndShort, with_taken, CameOne, waits_on, CameToDrain, accepts, accepted_count, Flushed, DrainFault};
 ghost use Rattle.usb_io.specs.Answers.{FailsBy};
 
 use crate::fault::WriteFault;
@@ -204,13 +204,7 @@ impl<T: BulkOrInterrupt> EndpointWrite<T> {
     /// A writer that keeps one transfer pending, of a size that is rounded up to whole packets. Its waits have no end in time.
     pub fn new(endpoint: Endpoint<T, Out>, transfer_size: usize) -> Self
         requires small { rounded endpoint.maximum transfer_size < 2 ^ 31 }
-        ensures fresh { result ≡ record {
-          endpoint = endpoint;
-          n = 1;
-          size = rounded endpoint.maximum transfer_size;
-          timeout = 2 ^ 64 - 1;
-          buffer = None;
-        } }
+        ensures fresh { result ≡ fresh_writer endpoint transfer_size }
     {
         let size = round_up(transfer_size, endpoint.max_packet_size());
         let _ = endpoint.endpoint_address();

@@ -1,7 +1,7 @@
 //! A run on two threads: the event loop, and a caller that submits and takes transfers.
 ghost use Rattle.std.specs.Prelude.{◌≡◌, ◌+◌, ◌<◌, true, None, IfOk, OnOk, MatchOption, IsSome, length};
 ghost use Rattle.usb_live.specs.Rows.{owner_first};
-ghost use Rattle.usb_live.specs.Runs.{IsIdle, HasOne, OnlyLooked, TakesAfterLooks};
+ghost use Rattle.usb_live.specs.Runs.{CountsReclaims, IsIdle, HasOne, OnlyLooked, TakesAfterLooks};
 
 use crate::endpoint::LiveEndpoint;
 use crate::entry::{LiveError, Receipt, Tally};
@@ -188,28 +188,31 @@ fn is_settled(tally: Tally, reclaimed: u64) -> bool
     ended.checked_add(reclaimed) == Some(tally.submitted)
 }
 
-/// Makes rounds until each transfer was taken, dropped or reclaimed. Says how many were reclaimed, with those before.
+/// Makes rounds until each transfer was taken, dropped or reclaimed. Hands the seat back, and the loop's tally, which counts what
+/// these rounds reclaimed too.
 fn settle<R: Wait>(
     rt: &R,
     kernel: &LiveKernel,
     mut handler: HandlerSeat,
     tally: Tally,
-    mut reclaimed: u64,
-) -> u64
-    ensures settled { tally.submitted ≡ tally.taken + tally.dropped + result }
+    mut looped: Tally,
+) -> (HandlerSeat, Tally)
+    ensures settled { tally.submitted ≡ tally.taken + tally.dropped + result.1.reclaimed }
+    ensures count { CountsReclaims handler.view looped result.0.view result.1 }
 {
     'rounds: for _ in rt.forever() {
-        if is_settled(tally, reclaimed) {
-            return reclaimed;
+        if is_settled(tally, looped.reclaimed) {
+            return (handler, looped);
         }
         let round = handler.round(&mut *kernel.lock(rt));
-        reclaimed = reclaimed.saturating_add(round.reclaimed);
+        looped.reclaimed = looped.reclaimed.saturating_add(round.reclaimed);
     }
     unreachable!()
 }
 
 /// Runs n IN transfers of one packet each, with the event loop on one thread and their caller on another. The loop ends where the gate
 /// closes, or where the caller is done. Without patience the caller waits for each receipt, and with it gives up after so many polls.
+/// The flag is set at the first poll that is pending.
 pub fn live_run<R: Threads + Wait + Sync, G: Gate + Send>(
     rt: &R,
     alloc: Global,
@@ -239,12 +242,12 @@ pub fn live_run<R: Threads + Wait + Sync, G: Gate + Send>(
         },
     );
     let (tally, receipts) = called?;
-    let reclaimed = settle(rt, &kernel, handler, tally, looped.reclaimed);
+    let (_, settled) = settle(rt, &kernel, handler, tally, looped);
     Ok(LiveRun {
         submitted: tally.submitted,
         taken: tally.taken,
         dropped: tally.dropped,
-        reclaimed,
+        reclaimed: settled.reclaimed,
         receipts,
         kernel: kernel.into_kernel(),
     })
