@@ -76,8 +76,8 @@ abbrev pub clock_stepped : ℕ → KernelStep → ℕ
 clock_stepped clock (step.Clock to) = max clock to
 clock_stepped clock _ = clock
 
--- the armed refusals after a step: one more at the end, also for a device that is unplugged or that
--- no number names
+-- the armed refusals after a step: one more at the end, also where the device is unplugged or
+-- none has the number
 abbrev pub armed_stepped : List Armed → KernelStep → List Armed
 armed_stepped armed (step.Refuse d call errno) = armed ++ record { device = d; call = call; errno = errno } ∷ []
 armed_stepped armed _ = armed

@@ -12,7 +12,7 @@ use Rattle.usb_kernel.specs.Tickets.{Ticket}
 abbrev pub body_of : ℕ → BufferState → Body
 body_of endpoint b = if nat_le 128 endpoint then Wanted b.requested else Sent b.bytes
 
--- the event of a submission, the t-th, that is not refused
+-- the event of a submission with the number t that is not refused
 abbrev pub submit_event : ℕ → Submission → Event
 submit_event t s = Submit t s.device s.endpoint s.maximum (body_of s.endpoint s.buffer) s.buffer.room s.deadline
 

@@ -35,7 +35,7 @@ devices_called devices d change (Some errno) = devices
 abbrev pub same : DeviceState → DeviceState
 same d = d
 
--- set_configuration: 22 where no configuration has the value, which may be 0; 16 where an interface
+-- set_configuration: 22 where the value is not 0 and no configuration has it; 16 where an interface
 -- is claimed
 abbrev pub set_configuration_rules : ℕ → DeviceState → Option ℕ
 set_configuration_rules value d =
