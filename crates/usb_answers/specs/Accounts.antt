@@ -18,7 +18,8 @@ pub record Covered (endpoints : List (Option Endpoint)) (t key : ℕ) : Type 0 w
   pub key_is : entry.key ≡ key
   pub in_pending : Contains (pending entry) t
 
--- each ticket that an endpoint holds is pending at it, and the host has a slot for each ticket of the journal
+-- each ticket that an endpoint holds is pending at it, and the host has as many tickets as the
+-- journal
 pub record Accounted (state : State) : Type 0 where
   pub held : (t key : ℕ) → owner_at state.host.tickets t ≡ Some key → Covered state.endpoints t key
   pub count : length state.host.tickets ≡ length (tickets state.host.kernel.past)

@@ -9,11 +9,11 @@ pub record Answer : Type 0 where
   pub state : State
   pub line : List ℕ
 
--- this state, and this line
+-- an answer of this state and this line
 abbrev pub told : State → List ℕ → Answer
 told state line = record { state = state; line = line }
 
--- a barred call does nothing
+-- a barred call (one that can't be made now) does nothing
 abbrev pub barred : State → Answer
 barred state = told state condition_line
 

@@ -21,5 +21,6 @@ claim_on state number i reattach x =
     (claimed_key (length state.host.interfaces) (claim_tried state.host x.opened number reattach))
     else barred state
 
+-- the answer, by the device's name
 unfoldable pub claim_answer : State → ℕ → ℕ → ℕ → Bool → Answer
 claim_answer state d number i reattach = if_open (device_at state d) (claim_on state number i reattach) (barred state)

@@ -12,16 +12,20 @@ use Rattle.usb_answers.specs.State.{State, Endpoint, kept, pending, with_host}
 use Rattle.usb_answers.specs.OpenAt.{InterfaceAt, interface_at}
 use Rattle.usb_answers.specs.Answer.{Answer, barred, ok_answer, error_answer, if_open}
 
+-- what is pending at an endpoint is discarded
 abbrev pub cancelled : State → Endpoint → State
 cancelled state h = with_host state (all_discarded host_discarded state.host (pending h))
 
+-- the answer to `cancel`
 unfoldable pub cancel_answer : State → ℕ → Answer
 cancel_answer state e = if_open (named state.endpoints e) (λ h. ok_answer (cancelled state h)) (barred state)
 
+-- an endpoint is closed, and its name is free
 abbrev pub without_endpoint : State → ℕ → Endpoint → State
 without_endpoint state e h =
     record state { host = after_close host_discarded host_abandoned host_left state.host (kept h); endpoints = freed state.endpoints e }
 
+-- the answer to `close` of an endpoint
 unfoldable pub close_answer : State → ℕ → Answer
 close_answer state e = if_open (named state.endpoints e) (λ h. ok_answer (without_endpoint state e h)) (barred state)
 
@@ -30,6 +34,7 @@ abbrev pub closed_at : State → ℕ → Option Endpoint → State
 closed_at state e None = state
 closed_at state e (Some h) = without_endpoint state e h
 
+-- the same, with the name looked up
 unfoldable pub closed : State → ℕ → State
 closed state e = closed_at state e (named state.endpoints e)
 
@@ -38,10 +43,12 @@ unfoldable pub close_device_answer : State → ℕ → Answer
 close_device_answer state d =
     if_open (named state.devices d) (λ key. ok_answer (record state { devices = freed state.devices d })) (barred state)
 
+-- a handle of an interface is closed, and its name is free
 abbrev pub without_interface : State → ℕ → InterfaceState → State
 without_interface state i f =
     record state { host = handle_closed state.host f.key; interfaces = freed state.interfaces i }
 
+-- the answer to `close` of an interface
 unfoldable pub close_interface_answer : State → ℕ → Answer
 close_interface_answer state i =
     if_open (named state.interfaces i) (λ f. ok_answer (without_interface state i f)) (barred state)
@@ -52,5 +59,6 @@ release_on state i x =
     if is_shared state.host x.handle.key x.claimed then error_answer state interface_in_use_error
     else ok_answer (without_interface state i x.handle)
 
+-- the answer to `release`
 unfoldable pub release_answer : State → ℕ → Answer
 release_answer state i = if_open (interface_at state i) (release_on state i) (barred state)

@@ -15,6 +15,7 @@ abbrev pub new_endpoint : HostState → ℕ → ℕ → TransferType → ℕ →
 new_endpoint h device address kind maximum =
     record { device = device; address = address; kind = kind; maximum = maximum; key = length h.endpoints; tickets = []; taken = 0 }
 
+-- by what the host answers: the endpoint is open under its name, or the error is printed
 abbrev pub endpoint_as : State → ℕ → ℕ → TransferType → InterfaceAt → Result ℕ ErrorState → Answer
 endpoint_as state e address kind x (Err error) = error_answer state error
 endpoint_as state e address kind x (Ok maximum) =
@@ -28,11 +29,13 @@ abbrev pub endpoint_asked : State → ℕ → ℕ → TransferType → Direction
 endpoint_asked state e address kind direction x host =
     endpoint_as (with_host state host) e address kind x (host_tries host x.handle.key x.claimed address kind direction)
 
+-- on an interface that is claimed (x)
 abbrev pub endpoint_on : State → ℕ → ℕ → TransferType → Direction → InterfaceAt → Answer
 endpoint_on state e address kind direction x =
     if is_free state.endpoints e then endpoint_asked state e address kind direction x (host_asked state.host x.claimed.opened)
     else barred state
 
+-- the answer, by the interface's name
 unfoldable pub endpoint_answer : State → ℕ → ℕ → ℕ → TransferType → Direction → Answer
 endpoint_answer state e i address kind direction =
     if_open (interface_at state i) (endpoint_on state e address kind direction) (barred state)

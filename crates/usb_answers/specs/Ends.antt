@@ -13,18 +13,22 @@ abbrev pub endpoints_closed : State → ℕ → State
 endpoints_closed state zero = state
 endpoints_closed state (suc k) = closed (endpoints_closed state k) k
 
+-- the interface that is open under a name is closed, if there is one
 abbrev pub interface_closed_at : State → ℕ → Option InterfaceState → State
 interface_closed_at state i None = state
 interface_closed_at state i (Some f) =
     without_interface state i f
 
+-- the same, with the name looked up
 unfoldable pub interface_closed : State → ℕ → State
 interface_closed state i = interface_closed_at state i (named state.interfaces i)
 
+-- the interfaces of the names below k are closed, in order
 abbrev pub interfaces_closed : State → ℕ → State
 interfaces_closed state zero = state
 interfaces_closed state (suc k) = interface_closed (interfaces_closed state k) k
 
+-- all endpoints and then all interfaces are closed
 unfoldable pub all_closed : State → State
 all_closed state = interfaces_closed (endpoints_closed state 64) 64
 

@@ -9,6 +9,7 @@ use Rattle.usb_ledger.specs.Entries.{HostTicket, HeldBy, Abandoned, Ended}
 use Rattle.usb_device.specs.HostState.{HostState}
 use Rattle.usb_lines.specs.Tickets.{ticket_line}
 
+-- the word of an end
 abbrev pub end_word : TicketEnd → List ℕ
 end_word Taken = codes "taken"
 end_word Dropped = codes "dropped"
@@ -21,10 +22,13 @@ ended_word (Some (HeldBy hold)) = []
 ended_word (Some (Abandoned key)) = []
 ended_word (Some (Ended end)) = end_word end
 
+-- the line of ticket t, of which this is known, with the word `how` of its end; no line where there
+-- is no such ticket
 abbrev pub line_if : ℕ → Option TicketInfo → List ℕ → List ℕ
 line_if t None how = []
 line_if t (Some info) how = ticket_line t info how
 
+-- the fate line of ticket t at a host
 unfoldable pub fate_line : HostState → ℕ → List ℕ
 fate_line h t = line_if t (info_of h.kernel.past t) (ended_word (slice_get h.tickets t))
 
@@ -33,5 +37,6 @@ abbrev pub fate_lines_from : HostState → ℕ → ℕ → List ℕ
 fate_lines_from h k zero = []
 fate_lines_from h k (suc n) = fate_line h k ++ fate_lines_from h (suc k) n
 
+-- those of all its tickets, by number
 unfoldable pub fate_lines : HostState → List ℕ
 fate_lines h = fate_lines_from h 0 (length (tickets h.kernel.past))

@@ -34,5 +34,6 @@ pub record HasFinalFates (items : List Item) : Type 0 where
   pub lines : fate_lines (final_host items) ≡ fate_lines_from (final_host items) 0 (sum_of items).tickets
   pub final : (t : ℕ) → t < (sum_of items).tickets → IsFinal (final_host items) t
 
+-- so it is of each script whose tickets have their ends and completions
 abbrev pub FatesOfScripts : Type 0
 FatesOfScripts = (items : List Item) → HasEnds (final_host items).tickets → HasCompletions (final_host items).kernel.past → HasFinalFates items

@@ -8,10 +8,12 @@ use Rattle.usb_answers.specs.Names.{named}
 use Rattle.usb_answers.specs.State.{State, Endpoint, with_host}
 use Rattle.usb_answers.specs.Answer.{Answer, told, barred, if_open}
 
+-- on an endpoint that is open (h)
 abbrev pub halt_cleared : State → Endpoint → Answer
 halt_cleared state h =
     told (with_host state (host_halt_cleared state.host h.device h.address))
     (result_line (or_error clear_halt_error (host_halt_result state.host h.device h.address)))
 
+-- the answer, by the endpoint's name
 unfoldable pub clear_halt_answer : State → ℕ → Answer
 clear_halt_answer state e = if_open (named state.endpoints e) (halt_cleared state) (barred state)

@@ -2,6 +2,7 @@
 use Rattle.std.specs.Prelude.{ℕ, zero, suc, List, [], ◌∷◌, Bool, true, false, Option, Some, None, slice_get}
 use Rattle.std.specs.Option.{option_map}
 
+-- one `Option` of two
 abbrev pub flat : {X : Type 0} → Option (Option X) → Option X
 flat None = None
 flat (Some o) = o
@@ -10,6 +11,7 @@ flat (Some o) = o
 unfoldable pub named : {X : Type 0} → List (Option X) → ℕ → Option X
 named names n = flat (slice_get names n)
 
+-- whether a list has this element, and nothing is open there
 abbrev pub is_free_place : {X : Type 0} → Option (Option X) → Bool
 is_free_place None = false
 is_free_place (Some None) = true
@@ -29,6 +31,7 @@ change_at f (x ∷ xs) (suc n) = x ∷ change_at f xs n
 unfoldable pub change_named : {X : Type 0} → (X → X) → List (Option X) → ℕ → List (Option X)
 change_named f names n = change_at (option_map f) names n
 
+-- nothing, whatever was there
 abbrev pub nothing : {X : Type 0} → Option X → Option X
 nothing o = None
 
@@ -36,6 +39,7 @@ nothing o = None
 unfoldable pub freed : {X : Type 0} → List (Option X) → ℕ → List (Option X)
 freed names n = change_at nothing names n
 
+-- x, whatever was there
 abbrev pub something : {X : Type 0} → X → Option X → Option X
 something x o = Some x
 

@@ -7,7 +7,8 @@ use Rattle.usb_device.specs.HandleStates.{InterfaceState}
 use Rattle.usb_answers.specs.Names.{named}
 use Rattle.usb_answers.specs.State.{State}
 
--- an open device, and its key
+-- an open device (`opened`; in a claimed interface the field of this name is its device's key), and
+-- its key
 pub record DeviceAt : Type 0 where
   pub key : ℕ
   pub opened : OpenDevice
@@ -17,10 +18,12 @@ pub record InterfaceAt : Type 0 where
   pub handle : InterfaceState
   pub claimed : ClaimedInterface
 
+-- what the host has of the device that is open under a name
 abbrev pub device_at : State → ℕ → Option DeviceAt
 device_at state d =
     option_and_then (λ key. option_map (λ o. record { key = key; opened = o }) (slice_get state.host.devices key)) (named state.devices d)
 
+-- what the host has of the interface that is open under a name
 abbrev pub interface_at : State → ℕ → Option InterfaceAt
 interface_at state i =
     option_and_then (λ (f : InterfaceState). option_map (λ c. record { handle = f; claimed = c }) (slice_get state.host.interfaces f.key)) (named state.interfaces i)

@@ -38,6 +38,7 @@ abbrev pub with_device : Option (ℕ × SimDevice) → List (ℕ × SimDevice) �
 with_device None devices = devices
 with_device (Some device) devices = device ∷ devices
 
+-- the simulated devices that these items declare, each in a pair behind its number
 abbrev pub devices_of : List Item → List (ℕ × SimDevice)
 devices_of [] = []
 devices_of (item ∷ rest) = with_device (device_of_item item rest) (devices_of rest)
@@ -62,8 +63,10 @@ abbrev pub last_host : State → List Item → HostState
 last_host state [] = ended state
 last_host state (item ∷ items) = last_host (answer state item).state items
 
+-- what is written for a script of these items: the answers, and then the fate lines
 unfoldable pub output : List Item → List ℕ
 output items = output_from (start items) items
 
+-- the last host of a script of these items
 unfoldable pub final_host : List Item → HostState
 final_host items = last_host (start items) items

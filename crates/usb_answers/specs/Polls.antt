@@ -8,9 +8,11 @@ use Rattle.usb_answers.specs.Names.{named, change_named}
 use Rattle.usb_answers.specs.State.{State, Endpoint}
 use Rattle.usb_answers.specs.Answer.{Answer, told, barred, if_open}
 
+-- an endpoint of which one more ticket was taken
 abbrev pub one_taken : Endpoint → Endpoint
 one_taken h = record h { taken = h.taken + 1 }
 
+-- ticket t is taken from what is open under a name
 abbrev pub taken_from : State → ℕ → ℕ → State
 taken_from state e t =
     record state { host = host_taken state.host t; endpoints = change_named one_taken state.endpoints e }

@@ -1,4 +1,4 @@
--- What a session stands for.
+-- Of which state of the definitions a session is what the code keeps.
 use Rattle.std.specs.Prelude.{ℕ, ◌≡◌, ◌≤◌, Some, length, map}
 use Rattle.std.specs.Option.{option_map}
 use Rattle.usb_answers.specs.SessionState.{SessionState}

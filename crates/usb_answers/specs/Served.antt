@@ -29,7 +29,7 @@ pub record ClosedEndpoint : Type 0 where
   pub past : List Event
   pub lines : List (List ℕ)
 
--- how many tickets of what is open under a name were taken
+-- how many tickets of the endpoint that is open under a name were taken, 0 where none is open
 abbrev pub taken_under : State → ℕ → ℕ
 taken_under state e = option_map_or (λ (h : Endpoint). h.taken) (named state.endpoints e) 0
 
@@ -37,10 +37,12 @@ taken_under state e = option_map_or (λ (h : Endpoint). h.taken) (named state.en
 abbrev pub line_taking : State → Answer → ℕ → List (List ℕ)
 line_taking state a e = if nat_lt (taken_under state e) (taken_under a.state e) then a.line ∷ [] else []
 
--- the completions printed for each name since it was last opened, after one more answer
+-- for each name the lines that printed completions of the endpoint that is open under it, with that
+-- of this answer; `lines` has those before it
 abbrev pub lines_behind : State → Answer → (ℕ → List (List ℕ)) → ℕ → List (List ℕ)
 lines_behind state a lines e = (if is_none (named state.endpoints e) then [] else lines e) ++ line_taking state a e
 
+-- an endpoint that is closed now, if there is one, with this journal and these lines
 abbrev pub closed_as : List Event → List (List ℕ) → Option Endpoint → List ClosedEndpoint
 closed_as past lines None = []
 closed_as past lines (Some e) = record { endpoint = e; past = past; lines = lines } ∷ []
@@ -72,7 +74,10 @@ closed_endpoints items = closed_endpoints_from (start items) (λ e. []) items
 abbrev pub end_given_up : List Event → ℕ → TicketEnd
 end_given_up past t = if is_some (completion past t) then Dropped else Reclaimed
 
--- an endpoint's tickets stand in the order of their submission; the first of them were taken, in this order, each with the completion that the last journal gives, printed as a poll prints it (a wait prints the same line); and the others were given up at its close
+-- An endpoint's tickets are in the order of their submission (`rising`). The first of them, `taken`
+-- many, were taken: these have the end `Taken`, and the lines that were printed are those of their
+-- completions by the last journal, in this order (`printed`; a wait prints the same line as a
+-- poll). The others were given up at the close, with the end that comes of that (`others`)
 pub record IsServedInOrder (last : HostState) (h : ClosedEndpoint) : Type 0 where
   pub rising : IsStrictlyIncreasing h.endpoint.tickets
   pub few : h.endpoint.taken ≤ length h.endpoint.tickets
@@ -89,12 +94,14 @@ pub record EndpointsAreServed (items : List Item) : Type 0 where
   pub served : All (IsServedInOrder (final_host items)) (closed_endpoints items)
   pub once : (t : ℕ) → t < length (final_host items).tickets → count_by (λ u. u == t) (tickets_of_all (closed_endpoints items)) ≡ 1
 
+-- the law: so it is of each script whose tickets have their ends
 abbrev pub EndpointsAreServedInOrder : Type 0
 EndpointsAreServedInOrder = (items : List Item) → HasEnds (final_host items).tickets → EndpointsAreServed items
 
--- at the end of a script the host has a slot for each ticket of the journal
+-- at the end of a script the host has as many tickets as the journal
 abbrev pub IsCounted : List Item → Type 0
 IsCounted items = length (final_host items).tickets ≡ length (tickets (final_host items).kernel.past)
 
+-- the law: so it is of each script
 abbrev pub ScriptsAreCounted : Type 0
 ScriptsAreCounted = (items : List Item) → IsCounted items

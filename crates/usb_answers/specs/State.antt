@@ -27,7 +27,7 @@ pub record State : Type 0 where
 abbrev pub pending : Endpoint → List ℕ
 pending e = drop e.taken e.tickets
 
--- an endpoint as its calls see it
+-- an endpoint as its calls see it, which keep of its tickets the pending ones
 abbrev pub kept : Endpoint → EndpointState
 kept e =
     record { device = e.device; address = e.address; kind = e.kind; maximum = e.maximum; key = e.key; pending = pending e }

@@ -21,6 +21,7 @@ has_direction direction h = same_direction (direction_of_address h.address) dire
 abbrev pub bars_submission : List Event → Direction → EndpointState → Bool
 bars_submission past direction h = not (has_direction direction h) || (nat_le 64 (length h.pending) || nat_le 1024 (unreaped past))
 
+-- an endpoint with one more ticket
 abbrev pub with_submission : ℕ → Endpoint → Endpoint
 with_submission t h = record h { tickets = h.tickets ++ t ∷ [] }
 
@@ -32,9 +33,11 @@ submitted state e b h =
       endpoints = change_named (with_submission (tickets_of state)) state.endpoints e;
     }
 
+-- on an endpoint that is open (h)
 abbrev pub submit_on : State → Direction → ℕ → BufferState → Endpoint → Answer
 submit_on state direction e b h =
     if bars_submission state.host.kernel.past direction (kept h) then barred state else ok_answer (submitted state e b h)
 
+-- the answer, by the endpoint's name
 unfoldable pub submit_answer : State → Direction → ℕ → BufferState → Answer
 submit_answer state direction e b = if_open (named state.endpoints e) (submit_on state direction e b) (barred state)

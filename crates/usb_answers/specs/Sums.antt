@@ -12,6 +12,7 @@ use Rattle.usb_device.specs.Finishes.{HasEnds}
 use Rattle.usb_answers.specs.declared.summary.Summary.{Summary}
 use Rattle.usb_answers.specs.Output.{final_host}
 
+-- whether two ends are the same
 abbrev pub is_same_end : TicketEnd → TicketEnd → Bool
 is_same_end Taken Taken = true
 is_same_end Dropped Dropped = true

@@ -39,6 +39,7 @@ transferred state e b timeout h =
     transfer_ended state e (tickets_of state)
     (host_blocked (entered host_submitted host_refused state.host (kept h) b) (tickets_of state) timeout)
 
+-- on an endpoint that is open (h)
 abbrev pub transfer_on : State → Direction → ℕ → BufferState → ℕ → Endpoint → Answer
 transfer_on state direction e b timeout h =
     if bars_transfer state.host.kernel.past direction (kept h) then barred state else transferred state e b timeout h

@@ -11,7 +11,7 @@ use Rattle.usb_answers.specs.Answer.{Answer, told, barred, if_open}
 use Rattle.usb_answers.specs.Polls.{took}
 use Rattle.usb_answers.specs.Steps.{lent, then_rested, stepped_all}
 
--- the ticket was found or not, and this is left
+-- after the wait: whether the ticket was found reaped, and the host (p)
 abbrev pub wait_ended : State → ℕ → ℕ → Bool × HostState → Answer
 wait_ended state e t p =
     if p.0 then took waited_line (with_host state p.1) e t (transfer_completion p.1.kernel.past t)

@@ -6,8 +6,9 @@ ghost use Rattle.usb_answers.specs.Places.{PollsAnswerForTheirPlace, Completions
 ghost use Rattle.usb_answers.specs.Behind.{ScriptsGoOn};
 ghost use Rattle.usb_answers.specs.Served.{EndpointsAreServedInOrder, ScriptsAreCounted};
 
-/// What an endpoint holds is pending at an endpoint that is open under a name, and the host has a place for each ticket of the
-/// journal: before the first line, behind each line, and when all is closed. So no ticket is held where no name is open.
+/// What an endpoint holds is pending at an endpoint that is open under a name, and the host has as
+/// many tickets as the journal: before the first line, behind each line, and when all is closed. So
+/// no ticket is held where no name is open.
 pub fn each_ticket_is_accounted_for()
     ensures start { StartIsAccounted }
     ensures answer { AnswerKeepsAccounts }

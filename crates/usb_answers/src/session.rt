@@ -17,7 +17,7 @@ use usb_script::Item;
 
 /// A host, and what is open under each name: devices, claimed interfaces and endpoints.
 ///
-/// It is never dropped: `end` spends it.
+/// It can't be dropped: `end` has to spend it.
 pub struct Session {
     pub(crate) host: Host,
     pub(crate) devices: Vec<Option<Device>>,

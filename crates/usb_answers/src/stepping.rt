@@ -1,4 +1,4 @@
-//! The steps of a line: they are lent to the host, which applies them in order.
+//! The steps of a line: they are put into the host, which applies them in order.
 
 ghost use Rattle.std.specs.Prelude.{◌≡◌, ◌≤◌, ◌+◌, length};
 ghost use Rattle.usb_answers.specs.State.{State};

@@ -8,6 +8,7 @@ use Rattle.usb_kernel.specs.declared.submission.Done.{Done}
 use Rattle.usb_kernel.specs.Tickets.{tickets}
 use Rattle.usb_kernel.specs.Completions.{completion, completed}
 
+-- a kernel's completion as a transfer's
 abbrev pub completion_of : Done → Completion
 completion_of done = record { buffer = done.buffer; actual_len = done.count; status = status_of done.refused done.status }
 

@@ -31,5 +31,6 @@ held_of (Some c) = Complete c
 abbrev pub transfer_with : Hold → Completion → TransferData
 transfer_with hold c = record { endpoint = hold.endpoint; kind = hold.kind; held = Complete c }
 
+-- the transfer of a ticket that is held, once its completion has come
 abbrev pub value_for : Option Completion → Option Hold → Option TransferData
 value_for come hold = option_and_then (λ h. option_map (transfer_with h) come) hold

@@ -114,7 +114,7 @@ pub trait Bus: Slots<TransferData> {
             ≡ record (state self.old) { keys = without_key (state self.old).keys endpoint_key } }
         ensures ok { self.new ≡ closed self.old endpoint_key };
 
-    /// Goes on by one step. Time is up only where no ticket is finished and unreaped, and then
+    /// Goes on by one turn. Time is up only where no ticket is finished and unreaped, and then
     /// nothing has changed.
     fn turn(&mut self) -> Turn
         ensures state { IsLater (state self.old) (state self.new) }

@@ -9,14 +9,17 @@ use Rattle.usb_ledger.specs.EndedTickets.{end_at}
 use Rattle.usb_device.specs.HostTurns.{host_reaped}
 use Rattle.usb_device.specs.HostCalls.{host_discarded}
 
+-- the tickets below k are discarded, by number
 abbrev pub discarded_below : HostState → ℕ → HostState
 discarded_below h zero = h
 discarded_below h (suc k) = host_discarded (discarded_below h k) k
 
+-- the tickets below k are reaped, by number
 abbrev pub reaped_below : HostState → ℕ → HostState
 reaped_below h zero = h
 reaped_below h (suc k) = host_reaped (reaped_below h k) k
 
+-- the host when all its tickets were discarded, and then reaped
 unfoldable pub finished : HostState → HostState
 finished h =
     reaped_below (discarded_below h (length (tickets h.kernel.past)))

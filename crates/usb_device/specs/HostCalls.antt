@@ -33,6 +33,7 @@ abbrev pub submitted_with : HostState → Route → TransferData → Option Buff
 submitted_with h to t None = h
 submitted_with h to t (Some b) = with_held h to t (kernel_submitted h.kernel (submission_of to b))
 
+-- the transfer t was submitted by a route
 unfoldable pub host_submitted : HostState → Route → TransferData → HostState
 host_submitted h to t = submitted_with h to t (buffer_held t.held)
 
@@ -42,6 +43,7 @@ refused_with h to t errno None = h
 refused_with h to t errno (Some b) =
     with_held h to t (kernel_refused h.kernel (submission_of to b) errno)
 
+-- the transfer t was refused
 unfoldable pub host_refused : HostState → Route → TransferData → ℕ → HostState
 host_refused h to t errno = refused_with h to t errno (buffer_held t.held)
 
@@ -55,6 +57,7 @@ closed_if h k None = h
 closed_if h k (Some e) =
     settled (record h { endpoints = set h.endpoints k (record e { is_open = false }) }) k
 
+-- the same, with the endpoint looked up by its key
 unfoldable pub host_left : HostState → ℕ → HostState
 host_left h k = closed_if h k (slice_get h.endpoints k)
 
@@ -72,6 +75,7 @@ host_idled h until =
 abbrev pub host_halt_result : HostState → ℕ → ℕ → Result (Unit {0}) ℕ
 host_halt_result h device endpoint = ok_unless (errno_of h.kernel device call.Halt no_rules)
 
+-- and the host after it
 abbrev pub host_halt_cleared : HostState → ℕ → ℕ → HostState
 host_halt_cleared h device endpoint =
     record h { kernel = called h.kernel device call.Halt no_rules same }

@@ -10,6 +10,7 @@ use Rattle.usb_bus.specs.Turns.{reap_turn}
 use Rattle.usb_device.specs.HostState.{HostState}
 use Rattle.usb_device.specs.TicketEnds.{came}
 
+-- a host whose kernel has another journal
 abbrev pub with_past : HostState → List Event → HostState
 with_past h past = record h { kernel = record h.kernel { past = past } }
 
@@ -26,6 +27,7 @@ abbrev pub reaped_of : HostState → Option ℕ → HostState
 reaped_of h None = h
 reaped_of h (Some t) = host_reaped h t
 
+-- a turn, where these steps are left
 abbrev pub turned_of : HostState → List KernelStep → HostState
 turned_of h [] = reaped_of h (lowest h.kernel.past)
 turned_of h (s ∷ ss) = host_stepped (record h { steps = ss }) s
@@ -35,7 +37,7 @@ turned_of h (s ∷ ss) = host_stepped (record h { steps = ss }) s
 unfoldable pub host_turned : HostState → HostState
 host_turned h = turned_of h h.steps
 
--- what the turn was
+-- what the turn was (`Turn`: usb_bus/src/route.rt)
 abbrev pub turn_for : List Event → List KernelStep → Turn
 turn_for past [] = reap_turn (lowest past)
 turn_for past (s ∷ ss) = Stepped

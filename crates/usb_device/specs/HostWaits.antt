@@ -6,6 +6,7 @@ use Rattle.usb_bus.specs.Completions.{transfer_completion}
 use Rattle.usb_device.specs.HostState.{HostState}
 use Rattle.usb_device.specs.HostTurns.{host_stepped, host_reaped}
 
+-- whether a ticket is reaped, and so found by a wait for it
 abbrev pub is_found : HostState → ℕ → Bool
 is_found h t = is_some (transfer_completion h.kernel.past t)
 
@@ -13,6 +14,7 @@ is_found h t = is_some (transfer_completion h.kernel.past t)
 abbrev pub is_late : HostState → ℕ → ℕ → Bool
 is_late h timeout start = nat_le timeout (h.kernel.clock - start)
 
+-- ticket u is reaped and the wait goes on; where there is none, it was in vain
 abbrev pub reap_and : Option ℕ → HostState → (HostState → Bool × HostState) → Bool × HostState
 reap_and None h further = (false, h)
 reap_and (Some u) h further = further (host_reaped h u)
@@ -26,8 +28,8 @@ wait_reaps (suc n) h t timeout start =
     else if is_late h timeout start then (false, h)
     else reap_and (lowest h.kernel.past) h (λ g. wait_reaps n g t timeout start)
 
--- whether the ticket was found reaped, and what is left then: a look at the ticket, a look at the
--- clock, the next of these steps, and so on
+-- whether the ticket was found reaped, and the host then. Again and again: is it reaped? Is the
+-- time over? Else the next of these steps is applied
 abbrev pub wait_steps : List KernelStep → HostState → ℕ → ℕ → ℕ → Bool × HostState
 wait_steps [] h t timeout start = wait_reaps (length (waiting h.kernel.past)) h t timeout start
 wait_steps (s ∷ ss) h t timeout start =

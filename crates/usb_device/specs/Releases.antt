@@ -14,13 +14,15 @@ use Rattle.usb_ledger.specs.Releases.{claim_ended, claim_of}
 abbrev pub released : KernelState → EndedClaim → KernelState
 released k claim = record k { devices = after_release k.devices claim.device claim.number }
 
--- and its kernel driver is attached, where the claim was made by detaching it; what the kernel answers to that is dropped
+-- and its kernel driver is attached, where the claim was made by detaching it; what the kernel
+-- answers to that is ignored
 abbrev pub reattached : KernelState → EndedClaim → KernelState
 reattached k claim =
     if claim.reattach
     then called k claim.device call.Attach (attach_rules claim.number) (with_driver claim.number)
     else k
 
+-- the same, if a claim ends
 abbrev pub without_ended : KernelState → Option EndedClaim → KernelState
 without_ended k None = k
 without_ended k (Some claim) = reattached (released k claim) claim
@@ -39,6 +41,7 @@ with_ended h ended =
 unfoldable pub owner_gone : HostState → ℕ → HostState
 owner_gone h i = with_ended h (claim_ended h.interfaces h.tickets h.endpoints i)
 
--- the endpoint of a key perhaps lives no more: the claim of its interface ends if nothing owns it
+-- the endpoint of a key may have been the last owner of its interface: the claim ends if nothing
+-- owns it
 unfoldable pub settled : HostState → ℕ → HostState
 settled h k = with_ended h (claim_of h.interfaces h.tickets h.endpoints k)

@@ -8,16 +8,20 @@ use Rattle.usb_ledger.specs.Entries.{HostTicket, HeldBy, Abandoned, Ended}
 use Rattle.usb_device.specs.HostState.{HostState}
 use Rattle.usb_device.specs.Releases.{settled}
 
+-- this became of ticket t
 abbrev pub with_ticket : HostState → ℕ → HostTicket → HostState
 with_ticket h t ticket = record h { tickets = set h.tickets t ticket }
 
--- a ticket gets its end. Where its endpoint is closed and no other ticket of it is without an end, the endpoint lives no more (`settled`: Releases.antt)
+-- a ticket gets its end. Where its endpoint is closed and this was the last of its tickets without
+-- one, the endpoint lives no more, and the claim of its interface may end (`settled`:
+-- Releases.antt)
 abbrev pub ended_as : HostState → ℕ → TicketEnd → Option HostTicket → HostState
 ended_as h t end None = h
 ended_as h t end (Some (HeldBy hold)) = settled (with_ticket h t (Ended end)) hold.key
 ended_as h t end (Some (Abandoned key)) = settled (with_ticket h t (Ended end)) key
 ended_as h t end (Some (Ended before)) = h
 
+-- the same, with the ticket looked up
 unfoldable pub host_ended : HostState → ℕ → TicketEnd → HostState
 host_ended h t end = ended_as h t end (slice_get h.tickets t)
 
@@ -41,6 +45,7 @@ abbrev pub reclaimed_if : HostState → ℕ → Option HostTicket → HostState
 reclaimed_if h t (Some (Abandoned key)) = host_ended h t Reclaimed
 reclaimed_if h t _ = h
 
+-- the kernel gave this completion, if any
 unfoldable pub came : HostState → Option Done → HostState
 came h None = h
 came h (Some done) = reclaimed_if h done.ticket (slice_get h.tickets done.ticket)

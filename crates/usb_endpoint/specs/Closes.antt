@@ -12,7 +12,8 @@ abbrev pub all_abandoned : {S : Type 0} → (S → ℕ → S) → S → List ℕ
 all_abandoned abandoned s [] = s
 all_abandoned abandoned s (t ∷ ts) = all_abandoned abandoned (abandoned s t) ts
 
--- a closed endpoint has discarded its tickets, given them up, and left the bus
+-- a closed endpoint has discarded its tickets, given them up, and left the bus (`discarded`,
+-- `abandoned` and `closed` give the bus after its calls `discard`, `abandon` and `leave`)
 abbrev pub after_close : {S : Type 0} → (S → ℕ → S) → (S → ℕ → S) → (S → ℕ → S) → S →
     EndpointState → S
 after_close discarded abandoned closed s e =

@@ -25,7 +25,8 @@ abbrev pub handed_over : {S : Type 0} → (S → Route → TransferData → S) �
 handed_over submitted refused old to transfer valid =
     if valid then submitted old to transfer else refused old to transfer 22
 
--- what is left of a bus after an endpoint's submission
+-- a bus after a buffer was handed in at an endpoint (e), where `submitted` and `refused` give the
+-- bus after its calls `submit` and `refuse`
 abbrev pub entered : {S : Type 0} → (S → Route → TransferData → S) →
     (S → Route → TransferData → ℕ → S) → S → EndpointState → BufferState → S
 entered submitted refused old e b =

@@ -29,13 +29,16 @@ abbrev pub open_by : KernelState → Option DeviceState → Result ℕ ℕ
 open_by k None = Err 2
 open_by k (Some d) = answer_of (λ d. d.number) (armed_errno k.armed d.number call.OpenDevice) (Some d)
 
+-- its answer: the number of the device
 abbrev pub open_answer : KernelState → ℕ → ℕ → Result ℕ ℕ
 open_answer k bus address = open_by k (find (is_at bus address) k.devices)
 
+-- the kernel after it, whose refusal is used up
 abbrev pub after_open_by : KernelState → Option DeviceState → KernelState
 after_open_by k None = k
 after_open_by k (Some d) = record k { armed = disarmed k.armed d.number call.OpenDevice }
 
+-- the same, by bus and address
 abbrev pub after_open : KernelState → ℕ → ℕ → KernelState
 after_open k bus address = after_open_by k (find (is_at bus address) k.devices)
 
@@ -44,6 +47,7 @@ abbrev pub reset_by : KernelState → ℕ → Option ℕ → KernelState
 reset_by k d (Some errno) = k
 reset_by k d None = record k { past = Unplug d ∷ k.past; spare = k.spare - 1 }
 
+-- the kernel after a reset
 unfoldable pub after_reset : KernelState → ℕ → KernelState
 after_reset k d = reset_by (called k d call.Reset no_rules unplugged) d (errno_of k d call.Reset no_rules)
 

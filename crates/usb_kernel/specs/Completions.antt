@@ -18,6 +18,7 @@ abbrev pub buffer_for : Body → ℕ → List ℕ → BufferState
 buffer_for (Wanted n) room got = record { bytes = got; requested = n; room = room }
 buffer_for (Sent bytes) room got = record { bytes = bytes; requested = length bytes; room = room }
 
+-- the completion of a ticket t, of which this is known, with its errno
 abbrev pub done_of : ℕ → Ticket → Fate → ℕ → Done
 done_of t s f errno =
     record { ticket = t; status = errno; refused = s.refused; count = count_of s f; buffer = buffer_for s.body s.capacity (received f) }
@@ -30,15 +31,15 @@ refused_done t s errno = done_of t (refused_of s) (refused_fate errno) errno
 abbrev pub finished : ℕ → Ticket → Fate → Option Done
 finished t s f = option_map (λ errno. done_of t s f errno) f.status
 
--- the same of a ticket with this fate, where it is finished and not reaped
+-- the same, but only where the ticket is not reaped yet
 abbrev pub done_if : ℕ → Fate → Ticket → Option Done
 done_if t f s = if waits f then finished t s f else None
 
--- the completion that a ticket will have at its reap, where it is finished and not reaped
+-- the same, of ticket t of a journal
 abbrev pub reapable : List Event → ℕ → Option Done
 reapable past t = option_and_then (done_if t (fate past t)) (slice_get (tickets past) t)
 
--- whether a ticket, of which the number is given beside it, is finished and not reaped
+-- whether a ticket, in a pair behind its number, is finished and not reaped
 abbrev pub is_reapable : (ℕ → Fate) → (ℕ × Ticket) → Bool
 is_reapable fates p = waits (fates p.0)
 
@@ -46,17 +47,20 @@ is_reapable fates p = waits (fates p.0)
 abbrev pub waiting : List Event → List ℕ
 waiting past = map (λ p. p.0) (filter (is_reapable (fate past)) (enumerate_from 0 (tickets past)))
 
+-- the least of them
 abbrev pub lowest : List Event → Option ℕ
 lowest past = slice_get (waiting past) 0
 
--- the completion of a reaped ticket
+-- the completion of a ticket, where it is reaped
 abbrev pub completion_for : ℕ → Ticket → Fate → Option Done
 completion_for t s f = if f.reaped then finished t s f else None
 
+-- the same, if there is such a ticket
 abbrev pub completion_if : ℕ → Option Ticket → Fate → Option Done
 completion_if t None f = None
 completion_if t (Some s) f = completion_for t s f
 
+-- the completion that a journal gives of ticket t: there is one exactly where t is reaped
 unfoldable pub completion : List Event → ℕ → Option Done
 completion past t = completion_if t (slice_get (tickets past) t) (fate past t)
 

@@ -9,5 +9,6 @@ use Rattle.usb_kernel.specs.Journal.{fate}
 abbrev pub is_unfinished : List Event → ℕ → Bool
 is_unfinished past t = nat_lt t (length (tickets past)) && is_none (fate past t).status
 
+-- the journal after a discard
 abbrev pub after_discard : List Event → ℕ → List Event
 after_discard past t = if is_unfinished past t then Discard t ∷ past else past

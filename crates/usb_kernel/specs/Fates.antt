@@ -5,13 +5,16 @@ use Rattle.usb_kernel.specs.declared.event.Body.{Body}
 use Rattle.usb_kernel.specs.declared.event.Body.TheVariants.{Wanted, Sent}
 use Rattle.usb_kernel.specs.Tickets.{Ticket}
 
--- what became of a ticket: the packets that it took (one that is longer than the maximum packet size is not taken) and how many acknowledgements, so far, and its errno once it is finished (0 where all went well)
+-- what became of a ticket so far: the packets that came to it (not one that was longer than the
+-- maximum packet size), how many acknowledgements came, its errno once it is finished (0 where all
+-- went well), and whether it is reaped
 pub record Fate : Type 0 where
   pub packets : List (List ℕ)
   pub acks : ℕ
   pub status : Option ℕ
   pub reaped : Bool
 
+-- before any event of the ticket
 abbrev pub fresh : Fate
 fresh = record { packets = []; acks = 0; status = None; reaped = false }
 
@@ -32,6 +35,7 @@ abbrev pub count_for : Body → ℕ → List ℕ → ℕ → ℕ
 count_for (Wanted n) m got acks = length got
 count_for (Sent bytes) m got acks = min (length bytes) (m * acks)
 
+-- the same of a ticket (s), by its fate
 abbrev pub count_of : Ticket → Fate → ℕ
 count_of s f = count_for s.body s.maximum (received f) f.acks
 
@@ -40,7 +44,7 @@ abbrev pub wanted_of : Body → ℕ
 wanted_of (Wanted n) = n
 wanted_of (Sent bytes) = length bytes
 
--- the first finish counts
+-- a ticket is finished once: a later errno changes nothing
 abbrev pub finish : ℕ → Fate → Fate
 finish errno f = if is_none f.status then record f { status = Some errno } else f
 

@@ -40,10 +40,12 @@ abbrev pub reaped_by : List Event → Option ℕ → Option ℕ
 reaped_by past None = lowest past
 reaped_by past (Some t) = Some t
 
+-- the journal after the reap of this ticket, if there is one
 abbrev pub after_reap_of : List Event → Option ℕ → List Event
 after_reap_of past None = past
 after_reap_of past (Some t) = after_reap past t
 
+-- the completion that this reap gives
 abbrev pub reapable_of : List Event → Option ℕ → Option Done
 reapable_of past None = None
 reapable_of past (Some t) = reapable past t
@@ -74,7 +76,8 @@ abbrev pub clock_stepped : ℕ → KernelStep → ℕ
 clock_stepped clock (step.Clock to) = max clock to
 clock_stepped clock _ = clock
 
--- the armed refusals after a step: one more at the end, whatever its device is
+-- the armed refusals after a step: one more at the end, also where the device is unplugged or
+-- none has the number
 abbrev pub armed_stepped : List Armed → KernelStep → List Armed
 armed_stepped armed (step.Refuse d call errno) = armed ++ record { device = d; call = call; errno = errno } ∷ []
 armed_stepped armed _ = armed

@@ -12,12 +12,15 @@ use Rattle.usb_kernel.specs.Tickets.{Ticket}
 abbrev pub body_of : ℕ → BufferState → Body
 body_of endpoint b = if nat_le 128 endpoint then Wanted b.requested else Sent b.bytes
 
+-- the event of a submission with the number t that is not refused
 abbrev pub submit_event : ℕ → Submission → Event
 submit_event t s = Submit t s.device s.endpoint s.maximum (body_of s.endpoint s.buffer) s.buffer.room s.deadline
 
+-- the event of one that is refused
 abbrev pub refuse_event : ℕ → Submission → ℕ → Event
 refuse_event t s errno = Refuse t s.device s.endpoint s.maximum (body_of s.endpoint s.buffer) s.buffer.room errno
 
+-- the ticket of a submission that is not refused
 abbrev pub ticket_of : Submission → Ticket
 ticket_of s =
     record {
@@ -30,14 +33,16 @@ ticket_of s =
       deadline = s.deadline;
     }
 
+-- the ticket of one that is refused
 abbrev pub refused_of : Submission → Ticket
 refused_of s = record (ticket_of s) { refused = true; deadline = None }
 
--- an IN transfer wants its maximum, or a multiple of it that is not 0. Of a maximum of 0 that is 0,
--- where `is_whole` of WholePackets.antt takes no length
+-- an IN transfer asks for its maximum packet size, or a multiple of it, at least once. (Where the
+-- maximum is 0 the length 0 is such a multiple; `is_whole` of WholePackets.antt is false there)
 abbrev pub WantsWhole : ℕ → Body → Type 0
 WantsWhole m (Wanted n) = (more : ℕ) × ((more + 1) * m ≡ n)
 WantsWhole m (Sent bytes) = Unit {0}
 
+-- so it is of a submission
 abbrev pub IsWhole : Submission → Type 0
 IsWhole s = WantsWhole s.maximum (body_of s.endpoint s.buffer)

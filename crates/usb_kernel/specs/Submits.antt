@@ -14,10 +14,12 @@ use Rattle.usb_kernel.specs.Completions.{refused_done}
 use Rattle.usb_simulated.specs.Refusals.{call_refusal, armed_left}
 use Rattle.usb_kernel.specs.Value.{KernelState}
 
--- the errno with which a submission to a device is refused: 19 where it is not plugged, else that of an armed refusal
+-- the errno with which a submission to a device is refused: 19 (ENODEV) where it is not plugged,
+-- else that of an armed refusal
 abbrev pub submit_refusal : List DeviceState → List Armed → ℕ → Option ℕ
 submit_refusal devices armed d = call_refusal devices armed d call.Submit
 
+-- the event of the submission s with the number t, by the errno with which it is refused, if it is
 abbrev pub submit_or_refuse : ℕ → Submission → Option ℕ → Event
 submit_or_refuse t s None = submit_event t s
 submit_or_refuse t s (Some errno) = refuse_event t s errno
@@ -30,6 +32,7 @@ queued_or_refused t s (Some errno) = Refused (refused_done t s errno)
 abbrev pub submit_result : List DeviceState → List Armed → List Event → Submission → Submitted
 submit_result devices armed past s = queued_or_refused (length (tickets past)) s (submit_refusal devices armed s.device)
 
+-- the journal after it
 abbrev pub after_submit : List DeviceState → List Armed → List Event → Submission → List Event
 after_submit devices armed past s = submit_or_refuse (length (tickets past)) s (submit_refusal devices armed s.device) ∷ past
 
@@ -49,6 +52,7 @@ kernel_submitted k s =
 abbrev pub refuse_result : List Event → Submission → ℕ → Submitted
 refuse_result past s errno = Refused (refused_done (length (tickets past)) s errno)
 
+-- the journal and the kernel after it
 abbrev pub after_refuse : List Event → Submission → ℕ → List Event
 after_refuse past s errno = refuse_event (length (tickets past)) s errno ∷ past
 

@@ -13,6 +13,7 @@ use Rattle.usb_kernel.specs.Discards.{after_discard}
 abbrev pub by_deadline : ℕ × ℕ → ℕ × ℕ → Ordering
 by_deadline a b = ordering_then (nat_cmp a.0 b.0) (nat_cmp a.1 b.1)
 
+-- a ticket with its deadline, if it has one, put in order into these
 abbrev pub with_deadline : List (ℕ × ℕ) → Option ℕ → ℕ → List (ℕ × ℕ)
 with_deadline ds None t = ds
 with_deadline ds (Some n) t = insert_key by_deadline ds (n, t)
@@ -23,7 +24,7 @@ deadlines [] = []
 deadlines (Submit t d e m body room deadline ∷ before) = with_deadline (deadlines before) deadline (length (tickets before))
 deadlines (_ ∷ before) = deadlines before
 
--- whether the ticket of an entry, a deadline and a number, is not finished
+-- whether the ticket of an entry, a deadline and a number, is not finished (open)
 abbrev pub is_open_entry : List Event → ℕ × ℕ → Bool
 is_open_entry past p = is_none (fate past p.1).status
 

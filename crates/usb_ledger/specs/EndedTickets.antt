@@ -9,5 +9,6 @@ ended_at (HeldBy hold) = None
 ended_at (Abandoned key) = None
 ended_at (Ended end) = Some end
 
+-- the end of ticket t, if it has one
 abbrev pub end_at : List HostTicket → ℕ → Option TicketEnd
 end_at tickets t = option_and_then ended_at (slice_get tickets t)

@@ -1,6 +1,6 @@
 -- Claimed interfaces, endpoints and tickets, as the users of a host know them.
 use Rattle.std.specs.Prelude.{ℕ, Bool, Option}
--- what an endpoint holds of a ticket
+-- (`Hold` is what an endpoint holds of a ticket)
 pub use Rattle.usb_bus.specs.Holds.{Hold}
 use Rattle.usb_ledger.specs.declared.ends.TicketEnd.{TicketEnd}
 

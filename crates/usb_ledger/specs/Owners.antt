@@ -9,7 +9,8 @@ is_ticket_of key (HeldBy hold) = hold.key == key
 is_ticket_of key (Abandoned k) = k == key
 is_ticket_of key (Ended end) = false
 
--- an endpoint lives while its handle is open, or a ticket of it has no end
+-- an endpoint lives while its handle is open, or a ticket of it has no end (once an endpoint
+-- gave its tickets up at its close, a ticket has none exactly until it is reaped)
 abbrev pub lives : List HostTicket → ℕ × HostEndpoint → Bool
 lives tickets p = p.1.is_open || list_any (is_ticket_of p.0) tickets
 
@@ -31,6 +32,7 @@ shares_bit a b = a % 16 == b % 16 && a / 128 == b / 128
 abbrev pub uses_bit : List HostTicket → ℕ → ℕ → ℕ × HostEndpoint → Bool
 uses_bit tickets i address p = lives_on tickets i p && shares_bit p.1.address address
 
+-- whether the bit of an address is in use, on the interface i
 unfoldable pub is_used_among : List HostTicket → List HostEndpoint → ℕ → ℕ → Bool
 is_used_among tickets endpoints i address =
     list_any (uses_bit tickets i address) (enumerate_from 0 endpoints)

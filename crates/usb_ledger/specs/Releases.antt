@@ -4,8 +4,8 @@ use Rattle.usb_ledger.specs.declared.owners.EndedClaim.{EndedClaim}
 use Rattle.usb_ledger.specs.Entries.{ClaimedInterface, HostEndpoint, HostTicket}
 use Rattle.usb_ledger.specs.Owners.{is_owned_among}
 
--- the claim that ends where an owner of an interface has gone: that of the interface, if it has
--- none left
+-- the claim that ends when an owner of an interface goes: that of the interface, if it has no owner
+-- any more
 unfoldable pub claim_ended : List ClaimedInterface → List HostTicket → List HostEndpoint → ℕ →
     Option EndedClaim
 claim_ended interfaces tickets endpoints i =

@@ -5,10 +5,11 @@ use Rattle.usb_error.specs.Kinds.{kind_word}
 use Rattle.usb_error.specs.Texts.{error_text}
 use Rattle.usb_lines.specs.Words.{line_of}
 
+-- a call that is done
 abbrev pub ok_line : List ℕ
 ok_line = line_of (codes "ok") []
 
--- a barred call
+-- a barred call: one that can't be made now
 abbrev pub condition_line : List ℕ
 condition_line = line_of (codes "condition") []
 

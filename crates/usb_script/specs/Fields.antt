@@ -3,6 +3,7 @@ use Rattle.std.specs.Prelude.{ℕ, List, [], ◌∷◌, map, Option, Some, None}
 use Rattle.std.specs.Borrow.{Bor}
 use Rattle.usb_script.specs.Words.{◌>>=◌}
 
+-- the bytes of a word
 abbrev pub Word : Type 0
 Word = List ℕ
 
@@ -10,6 +11,7 @@ Word = List ℕ
 abbrev pub texts : List (Bor Word) → List Word
 texts words = map (λ word. word.now) words
 
+-- so many words and no more: none, one, and so on
 unfoldable pub no_word : List Word → Option (Unit {0})
 no_word [] = Some tt
 no_word words = None
@@ -44,7 +46,8 @@ unfoldable pub three_and_more : List Word → Option (Word × Word × Word × Li
 three_and_more (a ∷ b ∷ c ∷ more) = Some (a, b, c, more)
 three_and_more words = None
 
--- what is made of the fields
+-- `none`, `one` to `six`: exactly so many words, each with its own reading, and what is made of the
+-- fields that they spell
 abbrev pub none : {R : Type 0} → R → List Word → Option R
 none made words = no_word words >>= λ _. Some made
 

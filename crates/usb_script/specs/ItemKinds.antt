@@ -21,7 +21,7 @@ is_steps item = false
 abbrev pub is_call : Item → Bool
 is_call item = not (is_setup item) && not (is_steps item)
 
--- how many places of the kernel's journal an item may use: one for each of its steps, and one for a reset
+-- how many places of the kernel an item may use: one for each of its steps, and one for a reset
 abbrev pub places_in : Item → ℕ
 places_in (Reset device) = 1
 places_in (Wait endpoint timeout steps) = length steps

@@ -15,6 +15,7 @@ each read (x ∷ xs) = do
   ys ← each read xs
   Some (y ∷ ys)
 
+-- whether a word is a semicolon
 abbrev pub is_semicolon : Word → Bool
 is_semicolon word = bytes_eq word (codes ";")
 

@@ -7,14 +7,16 @@ abbrev pub onto_line : ℕ → List (List ℕ) → List (List ℕ)
 onto_line b [] = (b ∷ []) ∷ []
 onto_line b (line ∷ lines) = (b ∷ line) ∷ lines
 
--- the lines of a script: each ends with LF, which the last may lack
+-- the lines of a script: each ends with LF (10), which the last may lack
 abbrev pub lines_of : List ℕ → List (List ℕ)
 lines_of [] = []
 lines_of (b ∷ bytes) = if b == 10 then [] ∷ lines_of bytes else onto_line b (lines_of bytes)
 
+-- the space, 32 in ASCII
 abbrev pub is_space : ℕ → Bool
 is_space b = b == 32
 
+-- a word has a byte at least
 abbrev pub is_word : List ℕ → Bool
 is_word [] = false
 is_word (b ∷ bytes) = true
@@ -27,11 +29,11 @@ words_of line = filter is_word (slice_split is_space line)
 abbrev pub is_printable : ℕ → Bool
 is_printable b = nat_le 32 b && nat_le b 126
 
--- a line's own bytes: one CR at its end is dropped
+-- a line's own bytes: one CR (13) at its end is none of them
 abbrev pub without_cr : List ℕ → List ℕ
 without_cr line = if slice_index line (length line - 1) == 13 then take (length line - 1) line else line
 
--- by the first byte that isn't a space: there is none, or it is the `#` of a comment
+-- by the first byte that isn't a space: there is none, or it is the `#` (35) of a comment
 abbrev pub is_skipped_by : Option ℕ → Bool
 is_skipped_by None = true
 is_skipped_by (Some b) = b == 35

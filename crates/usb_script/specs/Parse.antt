@@ -27,6 +27,7 @@ parse_from before k (line ∷ lines) =
 unfoldable pub parse : List ℕ → Result (List Item) ℕ
 parse bytes = parse_from [] 1 (lines_of bytes)
 
+-- a script with a line outside the grammar is malformed
 abbrev pub or_malformed : Result (List Item) ℕ → Result (List Item) SessionError
 or_malformed (Ok items) = Ok items
 or_malformed (Err line) = Err (errors.Malformed line)

@@ -10,6 +10,7 @@ use Rattle.usb_script.specs.Calls.{endpoint_call_of}
 use Rattle.usb_script.specs.KernelSteps.{own_steps_of}
 use Rattle.usb_script.specs.Letters.{endpoint_letter}
 
+-- two words or three, each with its own reading, and then the steps of the call, if there are any
 abbrev pub two_with_steps : {A B : Type 0} → (A → B → List KernelStep → Item) → (Word → Option A) → (Word → Option B) → List Word → Option Item
 two_with_steps make first second words = do
   w ← two_and_more words

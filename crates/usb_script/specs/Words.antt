@@ -24,6 +24,7 @@ digits_after n (b ∷ bytes) = if is_ascii_digit b then digits_after (n * 10 + (
 unfoldable pub decimal_of : List ℕ → Option ℕ
 decimal_of word = if is_word word && nat_le (length word) 19 then digits_after 0 word else None
 
+-- a number that is at most this one
 abbrev pub at_most : ℕ → ℕ → Option ℕ
 at_most most n = if nat_le n most then Some n else None
 
@@ -33,6 +34,7 @@ number_of most word = do
   n ← decimal_of word
   at_most most n
 
+-- a number that is at least this one
 abbrev pub at_least : ℕ → ℕ → Option ℕ
 at_least least n = if nat_le least n then Some n else None
 
@@ -42,6 +44,7 @@ number_between least most word = do
   n ← number_of most word
   at_least least n
 
+-- whether of several digits the first is 0 (48 in ASCII)
 abbrev pub has_leading_zero : List ℕ → Bool
 has_leading_zero (digit ∷ next ∷ digits) = digit == 48
 has_leading_zero digits = false
@@ -67,10 +70,12 @@ hex_byte_of (high ∷ low ∷ []) = do
   Some (h * 16 + l)
 hex_byte_of word = None
 
+-- the bytes that were read, if they were
 abbrev pub or_none : Result (List ℕ) FromHexError → Option (List ℕ)
 or_none (Ok bytes) = Some bytes
 or_none (Err e) = None
 
+-- bytes that are at most so many
 abbrev pub at_most_bytes : ℕ → List ℕ → Option (List ℕ)
 at_most_bytes most bytes = if nat_le (length bytes) most then Some bytes else None
 

@@ -260,7 +260,7 @@ impl Item {
         )
     }
 
-    /// How many places of the kernel's journal this may use: one for each of its steps, and one
+    /// How many places of the kernel this may use: one for each of its steps, and one
     /// for a reset.
     pub fn place_count(&self) -> usize
         ensures value { result ≡ places_in self.now }

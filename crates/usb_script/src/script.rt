@@ -54,7 +54,7 @@ impl Script {
         self.items
     }
 
-    /// How many places of the kernel's journal the items may use in all.
+    /// How many places of the kernel the items may use in all.
     pub fn place_count(&self) -> usize
         ensures value { result ≡ place_count self.now }
     {
@@ -62,7 +62,7 @@ impl Script {
     }
 }
 
-/// How many places of the kernel's journal these items may use in all.
+/// How many places of the kernel these items may use in all.
 fn places_of_all(items: &[Item]) -> usize
     requires few { place_count items.now ≤ 1048576 }
     ensures value { result ≡ place_count items.now }

@@ -6,7 +6,7 @@ use Rattle.std.specs.Io.KnownBytes.{Appends, Consumes, IsAtEnd}
 use Rattle.usb_script.specs.declared.error.SessionError.{SessionError}
 use Rattle.usb_script.specs.declared.error.SessionError.TheVariants.{Malformed, TooLong, ReadFault, WriteFault, Memory}
 
--- a count of faults rose, or stands at the greatest `u64`
+-- a count of faults rose, or is at the greatest `u64`, where it can't rise and counts as risen
 abbrev pub Rose : ℕ → ℕ → Type 0
 Rose before now = min (before + 1) (2 ^ 64 - 1) ≤ now
 

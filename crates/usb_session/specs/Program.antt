@@ -21,6 +21,7 @@ is_session (word ∷ next ∷ words) = false
 abbrev pub is_usage : List (List ℕ) → Bool
 is_usage words = not (is_session words) && is_none (live_count words)
 
+-- the exit status of an error (docs/SCRIPT.md, "Statuses of the program")
 abbrev pub error_status : SessionError → ℕ
 error_status (Malformed line) = 3
 error_status TooLong = 4
@@ -33,6 +34,7 @@ abbrev pub status_of : {X : Type 0} → Result X SessionError → ℕ
 status_of (Ok x) = 0
 status_of (Err e) = error_status e
 
+-- the line on standard error that reports it (the line of a call's error is in usb_lines)
 abbrev pub error_line : SessionError → List ℕ
 error_line (Malformed line) = codes "nusb_sim: malformed line " ++ (decimal line ++ codes "\n")
 error_line TooLong = codes "nusb_sim: script too long\n"
@@ -45,6 +47,7 @@ abbrev pub report_of : {X : Type 0} → Result X SessionError → List ℕ
 report_of (Ok x) = []
 report_of (Err e) = error_line e
 
+-- the line for words that ask for nothing that the program has
 abbrev pub usage_line : List ℕ
 usage_line = codes "usage: nusb_sim [session|generate N|live N]\n"
 
@@ -57,8 +60,9 @@ abbrev pub IsSession : Streams → Result Summary SessionError → Type 0
 IsSession s (Ok summary) = IsAnswered s summary
 IsSession s (Err e) = HasReason s e
 
--- what the call with words for a session answers, its status, and what the sink for reports got: the bytes that this tells and its
--- count of faults, before and after
+-- what the call with words for a session answers, its status, and what the sink for reports got:
+-- the bytes that this sink tells (`told`) and its count of faults, before the call and, with a
+-- prime, after it
 pub record RunsSession (s : Streams) (told told' : Option (List ℕ)) (faults faults' status : ℕ) : Type 0 where
   pub answer : Result Summary SessionError
   pub session : IsSession s answer

@@ -25,6 +25,8 @@ pub record Streams : Type 0 where
   pub write_faults : ℕ
   pub write_faults' : ℕ
 
+-- these of a source and a sink before a call and after it (with a prime), by the functions that
+-- give a source's bytes and faults and a sink's
 abbrev pub streams : {S K : Type 0} → (S → Option (List ℕ)) → (S → ℕ) → (K → Option (List ℕ)) → (K → ℕ) → S → S → K → K → Streams
 streams left faults written counted source source' sink sink' =
     record {
@@ -44,8 +46,9 @@ pub record ReadAs (s : Streams) (items : Result (List Item) SessionError) : Type
   pub read : ReadWhole s.left s.left' bytes
   pub parsed : script_of bytes ≡ items
 
--- a valid script was read, and its whole output was written; at its end the host has a slot for each ticket of the journal, with its end
--- and its completion, each endpoint was served in the order of its submissions, and there is one final fate line for each ticket
+-- a valid script was read, and its whole output was written; at its end the host has as many
+-- tickets as the journal, each with its end and its completion, each endpoint was served in the
+-- order of its submissions, and there is one final fate line for each ticket
 pub record IsAnswered (s : Streams) (summary : Summary) : Type 0 where
   pub items : List Item
   pub script : ReadAs s (Ok items)

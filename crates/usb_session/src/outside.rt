@@ -29,7 +29,7 @@ pub trait Source {
     // How many reads failed.
     ghost faults: { Self → ℕ };
 
-    // Whether the last read failed.
+    // A statement: the last read failed.
     ghost has_failed: { Self → Type 0 };
 
     fn read(&mut self, buf: &mut [u8]) -> Result<usize, Failed>
@@ -56,7 +56,7 @@ pub trait Sink {
 
 /// A sink that may hold bytes that it took, until it is told to hand them on.
 pub trait Gathers: Sink {
-    // Whether nothing that was taken is still held.
+    // A statement: nothing that was taken is still held.
     ghost is_handed_on: { Self → Type 0 };
 
     /// Hands on the bytes that were taken and are still held.

@@ -49,7 +49,7 @@ fn live_count(words: &[String]) -> Option<u32>
     Some(n as u32)
 }
 
-/// The status of an answer.
+/// The exit status of a run that ended so.
 fn status_of<T>(answer: &Result<T, SessionError>) -> u8
     ensures status { result ≡ status_of answer.now }
 {
@@ -63,7 +63,7 @@ fn status_of<T>(answer: &Result<T, SessionError>) -> u8
     }
 }
 
-/// Writes a number between two pieces.
+/// Writes a number between two texts.
 fn offer_number<G: Sink>(diag: &mut G, front: &[u8], number: u32, back: &[u8]) -> Result<(), Failed>
     ensures ok { OnOk result (Appends (G.written diag.old) (G.written diag.new)
         (front.now ++ (decimal number ++ back.now))) }
@@ -135,8 +135,10 @@ pub fn lack_memory<D: Sink>(diag: &mut D) -> u8
     status_of(&answer)
 }
 
-/// Ends a run that has this status, and answers the status of the program: the sink hands on what it still holds. Where
-/// that fails and the status was 0, it is 6, and the write fault is reported; any other status stays.
+/// Ends a run that has this status, and answers the status of the program: the sink hands on what
+/// it still holds. (To contracts it took these bytes before, so clause `bytes` says that nothing of
+/// this changes.) Where that fails and the status was 0, it is 6, and the write fault is reported;
+/// any other status stays.
 pub fn end_program<K: Gathers, D: Sink>(status: u8, sink: &mut K, diag: &mut D) -> u8
     ensures stays { status ≢ 0 → (result ≡ status) × (diag.new ≡ diag.old) }
     ensures done { result ≡ 0 → K.is_handed_on sink.new × (diag.new ≡ diag.old) }
@@ -156,7 +158,8 @@ pub fn end_program<K: Gathers, D: Sink>(status: u8, sink: &mut K, diag: &mut D) 
 }
 
 /// Runs the program on its words, and answers its status. The line that reports an error goes to `diag`. The gate (what the
-/// loop of transfers between threads asks before each round) and the flag that stops that loop are for the word `live`.
+/// loop of transfers between threads asks before each round) and the flag, which is set at the first poll of that run that is
+/// pending, are for the word `live`.
 pub fn run_program<R: Threads + Wait + Sync, S: Source, K: Sink, D: Sink, G: Gate + Send>(
     rt: &R,
     alloc: Global,

@@ -24,7 +24,7 @@ use std::alloc::Global;
 use usb_answers::{Host, Session, Summary, tickets, write_fate};
 use usb_script::{Item, SessionError, parse_script};
 
-/// Writes a piece.
+/// Writes these bytes to the sink, in as many writes as it takes.
 fn write_piece<K: Sink>(sink: &mut K, bytes: &[u8]) -> Result<(), SessionError>
     ensures ok { OnOk result (Appends (K.written sink.old) (K.written sink.new) bytes.now) }
     ensures err { OnErr result (WrotePrefix (K.written sink.old) (K.written sink.new) bytes.now) }
@@ -38,7 +38,8 @@ fn write_piece<K: Sink>(sink: &mut K, bytes: &[u8]) -> Result<(), SessionError>
     }
 }
 
-/// Writes the fate line of each ticket of a host, by number. The text is used for each line.
+/// Writes the fate line of each ticket of a host, by number. Each line is printed into `line` and
+/// then written.
 fn write_fates<K: Sink>(line: &mut String, host: &Host, sink: &mut K) -> Result<(), SessionError>
     ensures ok { OnOk result
         (Appends (K.written sink.old) (K.written sink.new) (fate_lines host.now)) }
@@ -57,7 +58,10 @@ fn write_fates<K: Sink>(line: &mut String, host: &Host, sink: &mut K) -> Result<
     Ok(())
 }
 
-/// Answers each item in order, and counts the calls. The text is used for each line.
+/// Answers each item in order, and counts the calls. Each answer is printed into `line` and then
+/// written. Before it the kernel must have a place for each step and reset of the items (`spare`:
+/// usb_kernel's specs/Value.antt), and the session must stand for the state before the first of
+/// them (`Represents`: usb_answers' specs/Relation.antt).
 fn answer_each<K: Sink>(
     line: &mut String,
     items: Vec<Item>,
@@ -89,8 +93,8 @@ fn answer_each<K: Sink>(
     Ok(calls)
 }
 
-/// Answers each item in order, ends the session, and then writes the fate lines. The session is ended even where an answer
-/// could not be written.
+/// Answers each item in order, ends the session, and then writes the fate lines. The session can't
+/// be dropped, so it is ended also where an answer could not be written.
 fn answer_items<K: Sink>(
     alloc: Global,
     items: Vec<Item>,

@@ -6,7 +6,7 @@ ghost use Rattle.usb_session.specs.Causes.{HasCause, WrotePrefix};
 
 use crate::outside::{Failed, Sink};
 
-/// Offers a piece to the sink, and again what it did not take.
+/// Writes bytes to a sink, and again what it did not take.
 pub fn offer<K: Sink>(sink: &mut K, bytes: &[u8]) -> Result<(), Failed>
     ensures ok { OnOk result (Appends (K.written sink.old) (K.written sink.new) bytes.now) }
     ensures err { OnErr result (WrotePrefix (K.written sink.old) (K.written sink.new) bytes.now) }

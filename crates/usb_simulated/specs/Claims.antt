@@ -26,6 +26,7 @@ result_by rules (Some d) = ok_unless (rules d)
 abbrev pub active_configuration : DeviceState → Option (List ℕ)
 active_configuration d = find (has_value d.configuration) (configurations d.bytes)
 
+-- whether a device has an interface of this number
 abbrev pub has_interface : ℕ → DeviceState → Bool
 has_interface i d = option_map_or (λ c. list_any (has_number i) (alt_settings c)) (active_configuration d) false
 
@@ -41,11 +42,14 @@ with_claim i d = record d { claimed = insert d.claimed i }
 abbrev pub no_rules : DeviceState → Option ℕ
 no_rules d = None
 
+-- the answer of a release
 abbrev pub release_result : List DeviceState → ℕ → Result (Unit {0}) ℕ
 release_result devices k = result_by no_rules (plugged_device devices k)
 
+-- a device of which the interface is not claimed
 abbrev pub without_claim : ℕ → DeviceState → DeviceState
 without_claim i d = record d { claimed = remove d.claimed i }
 
+-- the devices after a release
 abbrev pub after_release : List DeviceState → ℕ → ℕ → List DeviceState
 after_release devices k i = change_device (without_claim i) k devices

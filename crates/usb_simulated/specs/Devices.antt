@@ -19,6 +19,7 @@ fresh_device p =
       bound = set_of p.1.drivers;
     }
 
+-- whether a device has this number
 abbrev pub has_device_number : ℕ → DeviceState → Bool
 has_device_number k d = d.number == k
 
@@ -26,10 +27,11 @@ has_device_number k d = d.number == k
 abbrev pub device_of : List DeviceState → ℕ → Option DeviceState
 device_of devices k = find (has_device_number k) devices
 
--- the same, while it is plugged. A number that the kernel was not made with counts as unplugged
+-- a device, while it is plugged
 abbrev pub if_plugged : DeviceState → Option DeviceState
 if_plugged d = if d.plugged then Some d else None
 
+-- the device of a number while it is plugged; none also where no device has the number
 abbrev pub plugged_device : List DeviceState → ℕ → Option DeviceState
 plugged_device devices k = option_and_then if_plugged (device_of devices k)
 
@@ -42,5 +44,6 @@ change_device change k (d ∷ ds) = if d.number == k then change d ∷ ds else d
 abbrev pub unplugged : DeviceState → DeviceState
 unplugged d = record d { plugged = false }
 
+-- the devices after one was pulled out
 abbrev pub devices_unplugged : List DeviceState → ℕ → List DeviceState
 devices_unplugged devices k = change_device unplugged k devices

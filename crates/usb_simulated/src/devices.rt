@@ -23,7 +23,8 @@ pub struct SimDevice {
     pub drivers: Bytes,
 }
 
-/// A device as the kernel keeps it.
+/// A device as the kernel keeps it: `claimed` are its interfaces that are claimed, and `bound`
+/// those to which a kernel driver is bound.
 #[derive(Drop)]
 pub struct DeviceState {
     pub number: u8,

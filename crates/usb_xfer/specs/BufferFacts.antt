@@ -1,3 +1,4 @@
+-- What the type of buffers keeps.
 use Rattle.std.specs.Prelude.{◌≤◌, ◌<◌, ◌^◌, vec_len, vec_capacity}
 use Rattle.usb_xfer.specs.declared.buffer.Buffer.TheInside.{Inside}
 
