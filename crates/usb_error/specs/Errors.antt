@@ -111,7 +111,7 @@ configuration_error = plain Other FailedToReadConfigurationValue
 abbrev pub invalid_device_descriptor_error : ErrorState
 invalid_device_descriptor_error = plain Other InvalidDeviceDescriptor
 
--- an endpoint of the interface is open, and its alternate setting is to be set
+-- an endpoint of the interface lives, and its alternate setting is to be set
 abbrev pub settings_in_use_error : ErrorState
 settings_in_use_error = plain Busy EndpointsAreInUse
 

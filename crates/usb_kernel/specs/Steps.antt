@@ -15,15 +15,15 @@ use Rattle.usb_simulated.specs.Devices.{plugged_device, devices_unplugged}
 use Rattle.usb_kernel.specs.Timers.{timer_turned}
 use Rattle.usb_kernel.specs.Value.{KernelState}
 
--- a packet goes to the oldest IN ticket of its endpoint
+-- a packet goes to the oldest unfinished IN ticket of its endpoint
 abbrev pub after_packet : List Event → ℕ → ℕ → List ℕ → List Event
 after_packet past d e b = if nat_le 128 e && is_some (oldest past d e) then Packet d e b ∷ past else past
 
--- an acknowledgement is of the oldest OUT ticket of its endpoint
+-- an acknowledgement is of the oldest unfinished OUT ticket of its endpoint
 abbrev pub after_ack : List Event → ℕ → ℕ → List Event
 after_ack past d e = if nat_lt e 128 && is_some (oldest past d e) then Ack d e ∷ past else past
 
--- a failure is of the oldest ticket of its endpoint
+-- a failure is of the oldest unfinished ticket of its endpoint
 abbrev pub after_fail : List Event → ℕ → ℕ → ℕ → List Event
 after_fail past d e errno = if is_some (oldest past d e) then Fail d e errno ∷ past else past
 

@@ -50,7 +50,7 @@ pub enum Event {
         output: u8,
         input: u8,
     },
-    /// The oldest transfer of an endpoint failed with an errno.
+    /// The oldest unfinished transfer of an endpoint failed with an errno.
     Fail {
         device: u8,
         endpoint: u8,

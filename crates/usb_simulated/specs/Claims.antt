@@ -42,7 +42,7 @@ with_claim i d = record d { claimed = insert d.claimed i }
 abbrev pub no_rules : DeviceState → Option ℕ
 no_rules d = None
 
--- the answer of a release
+-- the answer of a release: errno 19 on an unplugged device, whose claim ends all the same
 abbrev pub release_result : List DeviceState → ℕ → Result (Unit {0}) ℕ
 release_result devices k = result_by no_rules (plugged_device devices k)
 

@@ -46,7 +46,7 @@ pub enum KernelStep {
         device: u8,
         endpoint: u8,
     },
-    /// The oldest transfer of an endpoint fails with an errno.
+    /// The oldest unfinished transfer of an endpoint fails with an errno.
     Fail {
         device: u8,
         endpoint: u8,
