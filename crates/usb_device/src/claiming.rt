@@ -1,6 +1,6 @@
 //! Interfaces of open devices are claimed, and their handles cloned, closed and released.
 
-ghost use Rattle.std.specs.Prelude.{◌≡◌, ◌<◌, length, slice_get, OnOk, OnErr};
+ghost use Rattle.std.specs.Prelude.{◌≡◌, ◌-◌, ◌^◌, ◌<◌, length, slice_get, OnOk, OnErr};
 ghost use Rattle.std.specs.Option.{ForSome};
 ghost use Rattle.usb_simulated.specs.Claims.{ok_unless};
 ghost use Rattle.usb_device.specs.HostState.{HostState};
@@ -63,6 +63,8 @@ impl Host {
         requires interface { interface < length self.old.interfaces }
         ensures ok { OnOk result (self.new ≡ handle_cloned self.old interface) }
         ensures err { OnErr result (self.new ≡ self.old) }
+        ensures full { OnErr result (ForSome (slice_get self.old.interfaces interface) (λ c.
+            c.handles ≡ 2 ^ 64 - 1)) }
     {
         self.ledger.add_handle(interface)
     }

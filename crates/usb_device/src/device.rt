@@ -1,6 +1,6 @@
 //! Handles of open devices and of claimed interfaces.
 
-ghost use Rattle.std.specs.Prelude.{◌≡◌, IsOk, ◌+◌, ◌<◌, length, slice_get, true, false, Some, Ok, Err, IfOk, IfErr, OnOk, OnErr};
+ghost use Rattle.std.specs.Prelude.{◌≡◌, IsOk, ◌+◌, ◌-◌, ◌^◌, ◌<◌, length, slice_get, true, false, Some, Ok, Err, IfOk, IfErr, OnOk, OnErr};
 ghost use Rattle.std.specs.Option.{ForSome, option_copied};
 ghost use Rattle.usb_desc.specs.Configurations as spec;
 ghost use Rattle.usb_desc.specs.Fields.{direction_of_address};
@@ -294,12 +294,15 @@ impl Interface {
         self.number
     }
 
-    /// One more handle of the interface, and one more owner.
+    /// One more handle of the interface, and one more owner. It takes no memory: want of memory is
+    /// the answer only where the count of its handles is at its end.
     pub fn clone_on(&self, host: &mut Host) -> Result<Interface, NoMemory>
         requires stands { StandsInterface host.old self.now }
         ensures handle { IfOk result (λ interface. interface ≡ self.now) }
         ensures ok { OnOk result (host.new ≡ handle_cloned host.old self.now.key) }
         ensures err { OnErr result (host.new ≡ host.old) }
+        ensures full { OnErr result (ForSome (slice_get host.old.interfaces self.now.key) (λ c.
+            c.handles ≡ 2 ^ 64 - 1)) }
     {
         host.clone_handle(self.key)?;
         Ok(Interface {

@@ -1,6 +1,6 @@
 //! The claimed interfaces, their endpoints, and the tickets of these.
 
-ghost use Rattle.std.specs.Prelude.{◌≡◌, ◌+◌, ◌-◌, ◌<◌, ◌≤◌, ◌++◌, ◌∷◌, [], length, set, true, false, slice_get, Some, None, IsSome, OnOk, OnErr, IfOk, vec_len, vec_capacity};
+ghost use Rattle.std.specs.Prelude.{◌≡◌, ◌+◌, ◌-◌, ◌^◌, ◌<◌, ◌≤◌, ◌++◌, ◌∷◌, [], length, set, true, false, slice_get, Some, None, IsSome, OnOk, OnErr, IfOk, vec_len, vec_capacity};
 ghost use Rattle.std.specs.Option.{ForSome};
 ghost use Rattle.usb_ledger.specs.OwnerRows.{claim_state};
 ghost use Rattle.usb_ledger.specs.Owners.{is_used_among, has_living, is_owned_among};
@@ -189,6 +189,8 @@ impl Ledger {
                   (record c { handles = c.handles + 1 });
             })) }
         ensures err { OnErr result (self.new ≡ self.old) }
+        ensures full { OnErr result (ForSome (slice_get self.old.interfaces interface) (λ c.
+            c.handles ≡ 2 ^ 64 - 1)) }
     {
         self.owners.add_handle(interface)
     }

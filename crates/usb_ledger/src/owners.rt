@@ -238,6 +238,8 @@ impl Owners {
                   (record c { handles = c.handles + 1 });
             })) }
         ensures err { OnErr result (self.new ≡ self.old) }
+        ensures full { OnErr result (ForSome (slice_get self.old.interfaces interface) (λ c.
+            c.handles ≡ 2 ^ 64 - 1)) }
     {
         let claim = &mut self.claims[interface];
         if claim.handles == usize::MAX {
