@@ -156,7 +156,8 @@ pub fn end_program<K: Gathers, D: Sink>(status: u8, sink: &mut K, diag: &mut D) 
 }
 
 /// Runs the program on its words, and answers its status. The line that reports an error goes to `diag`. The gate (what the
-/// loop of transfers between threads asks before each round) and the flag that stops that loop are for the word `live`.
+/// loop of transfers between threads asks before each round) and the flag, which is set at the first poll of that run that is
+/// pending, are for the word `live`.
 pub fn run_program<R: Threads + Wait + Sync, S: Source, K: Sink, D: Sink, G: Gate + Send>(
     rt: &R,
     alloc: Global,
