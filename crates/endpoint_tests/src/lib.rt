@@ -13,6 +13,8 @@ mod cases;
 #[cfg(test)]
 mod endpoints;
 #[cfg(test)]
+mod faults;
+#[cfg(test)]
 mod readers;
 #[cfg(test)]
 mod writers;

@@ -14,7 +14,7 @@ use std::test::Fail;
 use usb_bus::KernelBus;
 use usb_desc::{Fail as Failed, NoMemory};
 use usb_endpoint::Endpoint;
-use usb_io::{EndpointRead, ReadFault};
+use usb_io::{EndpointRead, IntoReader, ReadFault};
 use usb_kernel::{Bytes, KernelStep};
 use usb_xfer::{Bulk, In, TransferError};
 
@@ -24,7 +24,7 @@ fn new_reader(alloc: Global, bus: &mut KernelBus) -> Result<EndpointRead<Bulk>, 
 {
     let key = bus.open()?;
     let endpoint: Endpoint<Bulk, In> = Endpoint::new(alloc, 0, 0x81, 4, key);
-    Ok(EndpointRead::new(endpoint, 7))
+    Ok(endpoint.reader(7))
 }
 
 /// Makes room for a step and applies it. The reader's endpoint stands as before.
@@ -115,6 +115,56 @@ fn look(bus: &mut KernelBus, reader: &mut EndpointRead<Bulk>) -> Outcome
     }
 }
 
+/// What was lent.
+fn lent(filled: Result<&[u8], Failed<ReadFault>>) -> Outcome {
+    match filled {
+        Ok(bytes) => match bytes {
+            [] => Outcome::Nothing,
+            [first, ..] => Outcome::Bytes(bytes.len(), *first),
+        },
+        Err(fail) => told(Err(fail), 0),
+    }
+}
+
+fn lent_in_time(filled: Poll<Result<&[u8], Failed<ReadFault>>>) -> Outcome {
+    match filled {
+        Poll::Ready(filled) => lent(filled),
+        Poll::Pending => Outcome::Pending,
+    }
+}
+
+/// The bytes that stand, lent.
+fn fill(bus: &mut KernelBus, reader: &mut EndpointRead<Bulk>) -> Outcome
+    requires stands { Stands (bus_of bus.old) reader.old.endpoint }
+    ensures stands { Stands (bus_of bus.new) reader.new.endpoint }
+{
+    lent(reader.fill_buf(bus))
+}
+
+/// The same, up to a short packet.
+fn fill_message(bus: &mut KernelBus, reader: &mut EndpointRead<Bulk>) -> Outcome
+    requires stands { Stands (bus_of bus.old) reader.old.endpoint }
+    ensures stands { Stands (bus_of bus.new) reader.new.endpoint }
+{
+    lent(reader.until_short_packet().fill_buf(bus))
+}
+
+/// The bytes that stand, lent, where a look finds some.
+fn look_at_fill(bus: &mut KernelBus, reader: &mut EndpointRead<Bulk>) -> Outcome
+    requires stands { Stands (bus_of bus.old) reader.old.endpoint }
+    ensures stands { Stands (bus_of bus.new) reader.new.endpoint }
+{
+    lent_in_time(reader.poll_fill_buf(bus))
+}
+
+/// The same, up to a short packet.
+fn look_at_message(bus: &mut KernelBus, reader: &mut EndpointRead<Bulk>) -> Outcome
+    requires stands { Stands (bus_of bus.old) reader.old.endpoint }
+    ensures stands { Stands (bus_of bus.new) reader.new.endpoint }
+{
+    lent_in_time(reader.until_short_packet().poll_fill_buf(bus))
+}
+
 /// A step with a reader, and what it gives.
 #[derive(Clone, Copy)]
 pub enum Step {
@@ -136,6 +186,16 @@ pub enum Step {
     ReadMessage(Outcome),
     /// A look at the front.
     Look(Outcome),
+    /// The bytes that stand are lent.
+    Fill(Outcome),
+    /// They are lent up to a short packet.
+    FillMessage(Outcome),
+    /// They are lent where a look finds some.
+    LookAtFill(Outcome),
+    /// They are lent up to a short packet, where a look finds some.
+    LookAtMessage(Outcome),
+    /// So many bytes of those that stand are taken off.
+    Consume(usize),
     /// Whether a message's end comes next.
     IsEnd(bool),
     /// The end of a message is taken, if it comes next.
@@ -148,7 +208,7 @@ pub enum Step {
 
 /// Joined reads, reads that stop at short packets, an error that comes after its bytes and lasts,
 /// and looks.
-const CASES: [(&str, &[Step]); 4] = [
+const CASES: [(&str, &[Step]); 6] = [
     (
         "plain reads join transfers and give up in time",
         &[
@@ -203,6 +263,42 @@ const CASES: [(&str, &[Step]); 4] = [
             Step::Look(Outcome::Pending),
             Step::Reap,
             Step::Look(Outcome::Bytes(2, 1)),
+        ],
+    ),
+    (
+        "bytes that are lent stand until they are consumed",
+        &[
+            Step::Transfers(3),
+            Step::Packet(&[1, 2, 3, 4]),
+            Step::Packet(&[5]),
+            Step::Packet(&[]),
+            Step::FillMessage(Outcome::Bytes(5, 1)),
+            Step::Consume(2),
+            Step::Fill(Outcome::Bytes(3, 3)),
+            Step::Consume(4),
+            Step::FillMessage(Outcome::Nothing),
+            Step::ConsumeEnd(true),
+            Step::FillMessage(Outcome::Nothing),
+            Step::ConsumeEnd(true),
+            Step::CancelAll,
+            Step::FillMessage(Outcome::NothingPending),
+            Step::Fill(Outcome::Nothing),
+        ],
+    ),
+    (
+        "a look lends what a reap brought",
+        &[
+            Step::LookAtFill(Outcome::Pending),
+            Step::Packet(&[6]),
+            Step::LookAtMessage(Outcome::Pending),
+            Step::Reap,
+            Step::LookAtMessage(Outcome::Bytes(1, 6)),
+            Step::LookAtFill(Outcome::Bytes(1, 6)),
+            Step::Consume(1),
+            Step::LookAtMessage(Outcome::Nothing),
+            Step::LookAtFill(Outcome::Pending),
+            Step::NoTime,
+            Step::Fill(Outcome::TimedOut),
         ],
     ),
 ];
@@ -278,6 +374,14 @@ fn is_so(alloc: Global, bus: &mut KernelBus, reader: &mut EndpointRead<Bulk>, st
         Step::Read(outcome) => read(bus, reader) == outcome,
         Step::ReadMessage(outcome) => read_message(bus, reader) == outcome,
         Step::Look(outcome) => look(bus, reader) == outcome,
+        Step::Fill(outcome) => fill(bus, reader) == outcome,
+        Step::FillMessage(outcome) => fill_message(bus, reader) == outcome,
+        Step::LookAtFill(outcome) => look_at_fill(bus, reader) == outcome,
+        Step::LookAtMessage(outcome) => look_at_message(bus, reader) == outcome,
+        Step::Consume(count) => {
+            reader.until_short_packet().consume(count);
+            true
+        }
         Step::IsEnd(is_end) => reader.until_short_packet().is_end() == is_end,
         Step::ConsumeEnd(is_end) => reader.until_short_packet().consume_end().is_ok() == is_end,
         Step::Pending(pending) => reader.pending() == pending,

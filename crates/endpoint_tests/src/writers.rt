@@ -11,7 +11,7 @@ use std::test::Fail;
 use usb_bus::KernelBus;
 use usb_desc::NoMemory;
 use usb_endpoint::Endpoint;
-use usb_io::EndpointWrite;
+use usb_io::{EndpointWrite, IntoWriter};
 use usb_kernel::KernelStep;
 use usb_xfer::{Bulk, Out};
 
@@ -23,7 +23,7 @@ fn new_writer(alloc: Global, bus: &mut KernelBus) -> Result<EndpointWrite<Bulk>,
 {
     let key = bus.open()?;
     let endpoint: Endpoint<Bulk, Out> = Endpoint::new(alloc, 0, 0x02, 4, key);
-    Ok(EndpointWrite::new(endpoint, 7))
+    Ok(endpoint.writer(7))
 }
 
 /// Whether an end without bytes is one empty transfer, which its acknowledgement finishes and a

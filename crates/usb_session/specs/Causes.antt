@@ -1,5 +1,5 @@
 -- What a call leaves behind at its source and its sink, and why it failed.
-use Rattle.std.specs.Prelude.{ℕ, ◌≡◌, ◌+◌, ◌-◌, ◌^◌, ◌≤◌, min, List, ◌++◌, length, OnOk, OnErr}
+use Rattle.std.specs.Prelude.{ℕ, ◌≡◌, ◌≢◌, ◌+◌, ◌-◌, ◌^◌, ◌≤◌, min, List, [], ◌++◌, length, OnOk, OnErr}
 use Rattle.std.specs.declared.option.Option.{Option}
 use Rattle.std.specs.declared.result.Result.{Result}
 use Rattle.std.specs.Io.KnownBytes.{Appends, Consumes, IsAtEnd}
@@ -35,6 +35,10 @@ pub record Wrote (old new : Option (List ℕ)) (whole left : List ℕ) : Type 0 
 -- a prefix of the whole was written
 abbrev pub WrotePrefix : Option (List ℕ) → Option (List ℕ) → List ℕ → Type 0
 WrotePrefix old new whole = (left : List ℕ) × Wrote old new whole left
+
+-- a prefix of the whole was written, and not all of it
+abbrev pub WrotePart : Option (List ℕ) → Option (List ℕ) → List ℕ → Type 0
+WrotePart old new whole = (left : List ℕ) × (left ≢ []) × Wrote old new whole left
 
 -- these bytes were read, to the end of the source
 pub record ReadWhole (old new : Option (List ℕ)) (bytes : List ℕ) : Type 0 where

@@ -6,7 +6,7 @@ use Rattle.std.specs.Io.KnownBytes.{Appends}
 use Rattle.usb_script.specs.declared.error.SessionError.{SessionError}
 use Rattle.usb_script.specs.declared.error.SessionError.TheVariants.{WriteFault, Memory}
 use Rattle.usb_script.specs.Words.{number_between}
-use Rattle.usb_session.specs.Causes.{Rose, WrotePrefix}
+use Rattle.usb_session.specs.Causes.{Rose, WrotePart}
 
 -- how many transfers the words ask for: `live N`, with N from 1 to 1000
 abbrev pub live_count : List (List ℕ) → Option ℕ
@@ -26,9 +26,9 @@ abbrev pub live_line : ℕ → List ℕ
 live_line n = run_line n n n 0 0
 
 -- Of n, what the sink got before and after, its faults before and after, and the answer.
--- Ok: the whole line was written. WriteFault: a prefix of it, where the count of faults rose. Memory: nothing
+-- Ok: the whole line was written. WriteFault: a prefix of it and not all, where the count of faults rose. Memory: nothing
 abbrev pub IsLive : {X : Type 0} → ℕ → Option (List ℕ) → Option (List ℕ) → ℕ → ℕ → Result X SessionError → Type 0
 IsLive n old new before now (Ok x) = Appends old new (live_line n)
-IsLive n old new before now (Err WriteFault) = Rose before now × WrotePrefix old new (live_line n)
+IsLive n old new before now (Err WriteFault) = Rose before now × WrotePart old new (live_line n)
 IsLive n old new before now (Err Memory) = (new ≡ old) × (now ≡ before)
 IsLive n old new before now (Err _) = ⊥
