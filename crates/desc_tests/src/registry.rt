@@ -16,22 +16,21 @@ fn put(texts: &mut Registry<String>, alloc: Global, c: char) -> Result<Key, Fail
 }
 
 fn expect_stale<R: Abort + AllocGlobal>(rt: &R, texts: &mut Registry<String>) -> Result<(), Fail> {
-    assert!(rt; texts.is_empty());
+    let was_empty = texts.is_empty();
     let first = put(texts, rt.alloc(), 'a')?;
     let second = put(texts, rt.alloc(), 'b')?;
     let third = put(texts, rt.alloc(), 'c')?;
-    assert!(rt; texts.remove(second).is_some());
+    let was_there = texts.remove(second).is_some();
     let fourth = put(texts, rt.alloc(), 'd')?;
-    assert_eq!(rt; (first.serial, third.serial, fourth.serial), (0, 2, 3));
-    assert_eq!(rt; texts.len(), 3);
-    assert!(rt; texts.get(second).is_none());
+    assert!(rt; was_empty && was_there);
+    assert!(rt; first.serial == 0 && third.serial == 2 && fourth.serial == 3);
+    assert!(rt; texts.len() == 3 && texts.get(second).is_none());
     assert!(rt; texts.remove(second).is_none());
     assert!(rt; texts.replace(second, String::new(rt.alloc())).is_err());
     if let Some(text) = texts.get_mut(fourth) {
         text.push('x')?;
     }
-    let text = texts.get(fourth).ok_or("gone")?;
-    assert_eq!(rt; text.as_str(), "dx");
+    assert!(rt; matches!(texts.get(fourth), Some(text) if text.as_str() == "dx"));
     Ok(())
 }
 

@@ -118,11 +118,11 @@ fn the_front_alone_is_taken(rt: HostRuntime) -> Result<(), Fail> {
     queue.push_back_reserved(Pending::new(0));
     queue.push_back_reserved(Pending::new(1));
     drawers.put(1, 7);
-    assert_eq!(rt; next_byte(&rt, &mut queue, &mut drawers), None);
+    assert!(rt; next_byte(&rt, &mut queue, &mut drawers).is_none());
     drawers.put(0, 6);
-    assert_eq!(rt; next_byte(&rt, &mut queue, &mut drawers), Some(6));
+    assert!(rt; next_byte(&rt, &mut queue, &mut drawers) == Some(6));
     assert!(rt; !drawers.has_lent(0));
-    assert_eq!(rt; next_byte(&rt, &mut queue, &mut drawers), Some(7));
+    assert!(rt; next_byte(&rt, &mut queue, &mut drawers) == Some(7));
     assert!(rt; queue.is_empty());
     queue.destroy_empty();
     Ok(())
@@ -133,14 +133,14 @@ fn an_option_is_taken_when_its_value_came(rt: HostRuntime) -> Result<(), Fail> {
     let mut drawers = Drawers::new(rt.alloc(), 1)?;
     let mut empty = None;
     assert!(rt; take_completed_from_option(&mut empty, &mut drawers).is_none());
-    assert_eq!(rt; empty.map(Pending::spend), None);
+    assert!(rt; empty.map(Pending::spend).is_none());
     let mut option = Some(Pending::new(0));
     assert!(rt; drawers.has_lent(0));
     assert!(rt; take_completed_from_option(&mut option, &mut drawers).is_none());
     drawers.put(0, 5);
     assert!(rt; drawers.has_lent(0));
     let taken = take_completed_from_option(&mut option, &mut drawers);
-    assert_eq!(rt; taken.map(Idle::into_inner), Some(5));
-    assert_eq!(rt; option.map(Pending::spend), None);
+    assert!(rt; taken.map(Idle::into_inner) == Some(5));
+    assert!(rt; option.map(Pending::spend).is_none());
     Ok(())
 }
