@@ -1,8 +1,8 @@
 -- Open devices when one of them changes.
-use Rattle.std.proofs.Common.{◌≡◌, ◌≢◌, ℕ, ◌+◌, ◌<◌, arith, Bool, true, false, cond, List, [], ◌∷◌, ◌++◌, set, Option, Some, None, refl, sym, ap, ◌∙◌, subst, inl, inr}
+use Rattle.std.proofs.Common.{◌≡◌, ◌≢◌, ℕ, ◌+◌, ◌<◌, arith, Bool, true, false, cond, List, [], ◌∷◌, ◌++◌, set, Option, Some, None, refl, sym, ap, ◌∙◌, subst, inl, inr, lt-ltb}
 use Rattle.std.specs.Prelude.{IsSome}
 use Rattle.std.specs.Option.{option_map}
-use Rattle.std.proofs.lemmas.Bool.{cases_eq}
+use Rattle.std.proofs.lemmas.Bool.{cases_eq, cases_Bool}
 use Rattle.std.proofs.lemmas.Option.{none-some, same_Some}
 use Rattle.usb_registry.specs.History.{value_at}
 use Rattle.usb_registry.proofs.ValueLemmas.{some-of, is-some, set-set, value-set_same, value-set_other, value-push}
@@ -133,3 +133,73 @@ pub there-push : (devices : List (Option OpenDevice)) (o : OpenDevice) → Keeps
 there-push devices o k there =
     let d = some-of (value_at devices k) there in
     is-some _ d.0 (value-push devices (Some o) k d.0 d.1)
+
+-- the device of a key has this many handles
+pub record HasHandles (devices : List (Option OpenDevice)) (key n : ℕ) : Type 0 where
+  pub device : OpenDevice
+  pub at : value_at devices key ≡ Some device
+  pub handles : device.handles ≡ n
+
+-- what has an open handle stays, with as many; and what is there was there, with as many
+pub record KeepsOpened (old new : List (Option OpenDevice)) : Type 0 where
+  pub stays : (key : ℕ) (o : OpenDevice) → value_at old key ≡ Some o → 0 < o.handles → HasHandles new key o.handles
+  pub was : (key : ℕ) (o : OpenDevice) → value_at new key ≡ Some o → HasHandles old key o.handles
+
+pub opened-counts : (old new : List (Option OpenDevice)) → KeepsCounts old new → KeepsOpened old new
+opened-counts old new keeps =
+    record {
+      stays = λ key o at some. let c = counted-new old new key o keeps at in record { device = c.device; at = c.at; handles = c.handles };
+      was = λ key o at. let c = counted-old old new key o keeps at in record { device = c.device; at = c.at; handles = c.handles };
+    }
+
+pub opened-same : (old new : List (Option OpenDevice)) → new ≡ old → KeepsOpened old new
+opened-same old new same = opened-counts old new (counts-same old new same)
+
+pub handle-held : (o : OpenDevice) → 0 < o.handles → is_held o ≡ true
+handle-held o some = rw (lt-ltb 0 o.handles some) refl
+
+-- what a device that changed is now
+pub is-changed : (o p : OpenDevice) → if_held o ≡ Some p → p ≡ o
+is-changed o p is =
+    elim (cases_Bool (is_held o)) [
+      | inl yes_ ↦ sym (same_Some o p (sym (ap (λ (b : Bool). cond b (Some o) None) yes_) ∙ is))
+      | inr no_ ↦ absurd (none-some p (sym (ap (λ (b : Bool). cond b (Some o) None) no_) ∙ is))
+    ]
+
+changed-stays : (devices : List (Option OpenDevice)) (k : ℕ) (change : OpenDevice → OpenDevice) → ((o : OpenDevice) → (change o).handles ≡ o.handles) → (key : ℕ) (o : OpenDevice) → value_at devices key ≡ Some o → 0 < o.handles → HasHandles (device_changed devices k change) key o.handles
+changed-stays devices k change same key o at some =
+    elim (cases_eq k key) [
+      | inl here ↦
+          let at_k : value_at devices k ≡ Some o = ap (value_at devices) here ∙ at in
+          let more : 0 < (change o).handles = omega (arith, some, same o) in
+          record {
+            device = change o;
+            at = ap (value_at (device_changed devices k change)) (sym here) ∙ changed-at devices k change o at_k ∙ ap (λ (b : Bool). cond b (Some (change o)) None) (handle-held (change o) more);
+            handles = same o;
+          }
+      | inr apart ↦ record { device = o; at = changed-other devices k key change apart ∙ at; handles = refl }
+    ]
+
+changed-was : (devices : List (Option OpenDevice)) (k : ℕ) (change : OpenDevice → OpenDevice) → ((o : OpenDevice) → (change o).handles ≡ o.handles) → (key : ℕ) (p : OpenDevice) → value_at (device_changed devices k change) key ≡ Some p → HasHandles devices key p.handles
+changed-was devices k change same key p at =
+    elim (cases_eq k key) [
+      | inl here ↦ by (value_at devices k) refl here
+      | inr apart ↦ record { device = p; at = sym (changed-other devices k key change apart) ∙ at; handles = refl }
+    ]
+  where
+    by : (o : Option OpenDevice) → value_at devices k ≡ o → k ≡ key → HasHandles devices key p.handles
+    by None none here =
+        let gone : value_at (device_changed devices k change) key ≡ None = ap (value_at (device_changed devices k change)) (sym here) ∙ ap (λ ds. value_at ds k) (changed-none devices k change none) ∙ none in
+        absurd (none-some p (sym gone ∙ at))
+    by (Some o) there here =
+        let is : if_held (change o) ≡ Some p = sym (changed-at devices k change o there) ∙ ap (value_at (device_changed devices k change)) here ∙ at in
+        record { device = o; at = ap (value_at devices) (sym here) ∙ there; handles = sym (same o) ∙ sym (ap (λ (x : OpenDevice). x.handles) (is-changed (change o) p is)) }
+
+pub opened-changed : (devices : List (Option OpenDevice)) (k : ℕ) (change : OpenDevice → OpenDevice) → ((o : OpenDevice) → (change o).handles ≡ o.handles) → KeepsOpened devices (device_changed devices k change)
+opened-changed devices k change same =
+    record { stays = changed-stays devices k change same; was = changed-was devices k change same }
+
+pub kept-stands : (h g : HostState) (key : ℕ) → KeepsOpened h.devices g.devices → StandsDevice h key → StandsDevice g key
+kept-stands h g key keeps stands =
+    let c = keeps.stays key stands.device stands.at stands.open_handle in
+    record { device = c.device; at = c.at; open_handle = omega (arith, c.handles, stands.open_handle) }

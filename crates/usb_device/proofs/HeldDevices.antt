@@ -20,9 +20,9 @@ use Rattle.usb_device.specs.DeviceLaws.{holds, DevicesAreHeld}
 use Rattle.usb_device.specs.HandleStates.{StandsDevice}
 use Rattle.usb_device.specs.Releases.{owner_gone}
 use Rattle.usb_device.specs.Handles.{device_cloned, device_closed, handle_added, handle_cloned, devices_left, handle_gone, handle_closed}
-use Rattle.usb_device.specs.Opens.{open_tried, opened_by, host_opened}
+use Rattle.usb_device.specs.Opens.{open_tried, open_key, with_key, opened_by, host_opened}
 use Rattle.usb_device.specs.InterfaceClaims.{kernel_claimed, claim_tried, claimed_by, claimed_on, host_claimed}
-use Rattle.usb_device.proofs.DeviceLemmas.{changed-at, changed-other, KeepsCounts, counts-same, counted-new, counted-old, Counted}
+use Rattle.usb_device.proofs.DeviceLemmas.{KeepsOpened, opened-same, opened-changed, changed-at, changed-other, KeepsCounts, counts-same, counted-new, counted-old, Counted}
 use Rattle.usb_device.proofs.TryLemmas.{open-counts}
 
 -- counts over lists of interfaces
@@ -294,3 +294,55 @@ module _ (h : HostState) (i : ℕ) (c : ClaimedInterface) (at : slice_get h.inte
     where
       one : (n : ℕ) → 0 < n → nat_lt 1 n ≡ false → n ≡ 1
       one n some few = grind (arith, common_steps)
+
+-- a claim, and the close of a handle of an interface, leave the handles of devices
+claimed-by-opened : (h : HostState) (c : ClaimedInterface) (r : Result (Unit {0}) ErrorState) → KeepsOpened h.devices (claimed_by h c r).devices
+claimed-by-opened h c (Err error) = opened-same h.devices h.devices refl
+claimed-by-opened h c (Ok done) = opened-changed h.devices c.opened interface_more (λ o. refl)
+
+claimed-on-opened : (h : HostState) (key number : ℕ) (reattach : Bool) (o : Option OpenDevice) → KeepsOpened h.devices (claimed_on h key number reattach o).devices
+claimed-on-opened h key number reattach None = opened-same h.devices h.devices refl
+claimed-on-opened h key number reattach (Some o) = claimed-by-opened (record h { kernel = kernel_claimed h.kernel o number reattach }) (fresh_interface key o.device number reattach) (claim_tried h o number reattach)
+
+pub opened-claimed : (h : HostState) (key number : ℕ) (reattach : Bool) → KeepsOpened h.devices (host_claimed h key number reattach).devices
+unfolding host_claimed
+opened-claimed h key number reattach = claimed-on-opened h key number reattach (value_at h.devices key)
+
+left-opened : (devices : List (Option OpenDevice)) (c : ClaimedInterface) (b : Bool) → KeepsOpened devices (cond b devices (device_changed devices c.opened interface_less))
+left-opened devices c true = opened-same devices devices refl
+left-opened devices c false = opened-changed devices c.opened interface_less (λ o. refl)
+
+gone-opened : (h : HostState) (i : ℕ) (o : Option ClaimedInterface) → KeepsOpened h.devices (handle_gone h i o).devices
+unfolding owner_gone
+gone-opened h i None = opened-same h.devices h.devices refl
+gone-opened h i (Some c) = left-opened h.devices c (nat_lt 1 c.handles)
+
+pub opened-handle_closed : (h : HostState) (i : ℕ) → KeepsOpened h.devices (handle_closed h i).devices
+unfolding handle_closed
+opened-handle_closed h i = gone-opened h i (slice_get h.interfaces i)
+
+-- what an open that was not refused adds, and one that was
+pub record OpensOne (h : HostState) (now : List (Option OpenDevice)) (key : ℕ) : Type 0 where
+  pub device : OpenDevice
+  pub key_is : key ≡ length h.devices
+  pub devices : now ≡ h.devices ++ Some device ∷ []
+  pub handles : device.handles ≡ 1
+
+opens-by : (h : HostState) (key : ℕ) (r : Result OpenDevice ErrorState) → ((o : OpenDevice) → r ≡ Ok o → o.handles ≡ 1) → with_key (length h.devices) r ≡ Ok key → OpensOne h (opened_by h r).devices key
+opens-by h key (Err error) one is = absurd (cc)
+opens-by h key (Ok o) one is = let same : length h.devices ≡ key = cc in record { device = o; key_is = sym same; devices = refl; handles = one o refl }
+
+pub opens-one : (h : HostState) (bus address key : ℕ) → open_key h bus address ≡ Ok key → OpensOne h (host_opened h bus address).devices key
+unfolding open_key host_opened
+opens-one h bus address key is =
+    let step = open_tried bus address h.kernel in
+    let made = opens-by (record h { kernel = step.kernel }) key step.answer (λ o answer. (open-counts bus address h.kernel o answer).0) is in
+    record { device = made.device; key_is = made.key_is; devices = made.devices; handles = made.handles }
+
+refused-by : (h : HostState) (error : ErrorState) (r : Result OpenDevice ErrorState) → with_key (length h.devices) r ≡ Err error → (opened_by h r).devices ≡ h.devices
+refused-by h error (Err other) is = refl
+refused-by h error (Ok o) is = absurd (cc)
+
+pub opens-none : (h : HostState) (bus address : ℕ) (error : ErrorState) → open_key h bus address ≡ Err error → (host_opened h bus address).devices ≡ h.devices
+unfolding open_key host_opened
+opens-none h bus address error is = let step = open_tried bus address h.kernel in refused-by (record h { kernel = step.kernel }) error step.answer is
