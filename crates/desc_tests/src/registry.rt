@@ -1,4 +1,5 @@
-//! A registry of texts, which are not Copy: serial numbers go on, and a stale key finds nothing.
+//! A registry of texts, which are not Copy: serial numbers go on, a stale key finds nothing, and the
+//! memory of what went is used again.
 
 use std::alloc::Global;
 use std::process::Abort;
@@ -38,4 +39,21 @@ fn expect_stale<R: Abort + AllocGlobal>(rt: &R, texts: &mut Registry<String>) ->
 fn a_stale_key_finds_nothing(rt: HostRuntime) -> Result<(), Fail> {
     let mut texts = Registry::new(rt.alloc());
     expect_stale(&rt, &mut texts)
+}
+
+#[test]
+fn memory_is_that_of_what_is_there(rt: HostRuntime) -> Result<(), Fail> {
+    let mut texts = Registry::new(rt.alloc());
+    assert_eq!(rt; texts.capacity(), 0);
+    let first = put(&mut texts, rt.alloc(), 'a')?;
+    let capacity = texts.capacity();
+    assert!(rt; texts.remove(first).is_some());
+    for serial in 1..1000u64 {
+        let key = put(&mut texts, rt.alloc(), 'b')?;
+        assert_eq!(rt; key.serial, serial);
+        assert!(rt; texts.remove(key).is_some());
+    }
+    assert_eq!(rt; texts.capacity(), capacity);
+    assert!(rt; texts.is_empty());
+    Ok(())
 }

@@ -25,7 +25,7 @@ use Rattle.usb_answers.specs.Accounts.{Covered, Accounted, StartIsAccounted, Ans
 use Rattle.usb_answers.specs.Served.{ClosedEndpoint}
 use Rattle.usb_answers.proofs.NameLemmas.{named_of, free_place, named-change_same, named-change_other, named-freed_other, named-set_other}
 use Rattle.usb_answers.proofs.Does.{Quiet, Acts, goes, opens, submits, ends, takes, closes}
-use Rattle.usb_answers.proofs.DeviceLines.{interfaces-quiet}
+use Rattle.usb_answers.proofs.DeviceLines.{handles-quiet}
 use Rattle.usb_answers.proofs.EndpointLines.{closed-does}
 use Rattle.usb_answers.proofs.EveryLine.{answer-does}
 
@@ -180,7 +180,7 @@ accounted-endpoints state (suc n) a = acts-accounted {few = Unit {0}} tt (closed
 
 pub accounted-all_closed : CloseKeepsAccounts
 unfolding all_closed
-accounted-all_closed state a = accounted-quiet (interfaces-quiet (endpoints_closed state 64) 64) (accounted-endpoints state 64 a)
+accounted-all_closed state a = accounted-quiet (handles-quiet (endpoints_closed state 64)) (accounted-endpoints state 64 a)
 
 -- where no name is open no endpoint holds a ticket
 pub accounted-none : (state : State) → Accounted state → ((e : ℕ) → named state.endpoints e ≡ None) → (t : ℕ) → owner_at state.host.tickets t ≡ None

@@ -10,6 +10,8 @@ use Rattle.usb_endpoint.specs.Handles.{Stands, KeepsOthers}
 use Rattle.usb_endpoint.proofs.Frames.{Stands-other}
 use Rattle.usb_device.specs.HostState.{HostState}
 use Rattle.usb_device.specs.HostBus.{bus_of}
+use Rattle.usb_device.proofs.DeviceLemmas.{KeepsCounts, counts-stands, counts-there, opened-counts}
+use Rattle.usb_device.proofs.HeldDevices.{held-same}
 use Rattle.usb_device.proofs.InterfaceFrames.{StandsInterface-same}
 use Rattle.usb_answers.specs.Names.{named, change_named, freed, set_name}
 use Rattle.usb_answers.specs.State.{State, Endpoint, kept}
@@ -17,12 +19,13 @@ use Rattle.usb_answers.specs.SessionState.{SessionState, IsSound}
 use Rattle.usb_answers.specs.Relation.{Represents, session_of}
 use Rattle.usb_answers.proofs.Answering.{named_kept}
 use Rattle.usb_answers.proofs.CountedNames.{counted-same}
+use Rattle.usb_answers.proofs.CountedDevices.{devices-kept}
 use Rattle.usb_answers.proofs.NameLemmas.{named-map, named-set, named-set_other, named-freed, named-freed_other, freed-free, length-freed, length-set_name, map-freed, map-set, map-change_named, put-changed, named-change_same, named-change_other}
 
 -- what is kept between lines
 pub record KeepsSession (old new : HostState) : Type 0 where
   pub idle : new.steps ≡ []
-  pub devices : length new.devices ≡ length old.devices
+  pub devices : KeepsCounts old.devices new.devices
   pub interfaces : new.interfaces ≡ old.interfaces
 
 -- what is open under a name once something was put back
@@ -61,12 +64,6 @@ differ-put s after e x y sound was put key c d g h isg ish apart =
       ]
     ]
 
-no_fewer : (a b : ℕ) → b ≡ a → a ≤ b
-no_fewer a b same = omega arith
-
-devices_stand-kept : (old new : HostState) (key : ℕ) → length new.devices ≡ length old.devices → key < length old.devices → key < length new.devices
-devices_stand-kept old new key same below = omega arith
-
 -- an endpoint was called and put back
 pub sound-put : (s : SessionState) (now : HostState) (after : List (Option EndpointState)) (e : ℕ) (x y : EndpointState) → IsSound s → named s.endpoints e ≡ Some x → after ≡ set_name (freed s.endpoints e) e y → KeepsSession s.host now → Stands (bus_of now) y → y.key ≡ x.key → KeepsOthers (bus_of s.host) (bus_of now) x.key → IsSound (record s { host = now; endpoints = after })
 sound-put s now after e x y sound was put keeps stands key others =
@@ -75,8 +72,10 @@ sound-put s now after e x y sound was put keeps stands key others =
       device_names = sound.device_names;
       interface_names = sound.interface_names;
       endpoint_names = ap (λ (l : List (Option EndpointState)). length l) put ∙ length-set_name (freed s.endpoints e) e y ∙ length-freed s.endpoints e ∙ sound.endpoint_names;
-      devices_stand = λ d k is. devices_stand-kept s.host now k keeps.devices (sound.devices_stand d k is);
-      interfaces_stand = λ i f is. StandsInterface-same s.host now f keeps.interfaces (no_fewer (length s.host.devices) (length now.devices) keeps.devices) (sound.interfaces_stand i f is);
+      devices_stand = λ d k is. counts-stands s.host now k keeps.devices (sound.devices_stand d k is);
+      devices_counted = devices-kept s.host.devices now.devices s.devices (opened-counts s.host.devices now.devices keeps.devices) sound.devices_counted;
+      devices_held = held-same s.host now keeps.devices keeps.interfaces sound.devices_held;
+      interfaces_stand = λ i f is. StandsInterface-same s.host now f keeps.interfaces (counts-there s.host.devices now.devices keeps.devices) (sound.interfaces_stand i f is);
       interfaces_counted = counted-same s.host.interfaces now.interfaces s.interfaces keeps.interfaces sound.interfaces_counted;
       endpoints_stand = stands-put s now after e x y sound was put stands others;
       endpoints_differ = differ-put s after e x y sound was put key;
@@ -90,8 +89,10 @@ sound-freed s now after e x sound was rest keeps others =
       device_names = sound.device_names;
       interface_names = sound.interface_names;
       endpoint_names = ap (λ (l : List (Option EndpointState)). length l) rest ∙ length-freed s.endpoints e ∙ sound.endpoint_names;
-      devices_stand = λ d k is. devices_stand-kept s.host now k keeps.devices (sound.devices_stand d k is);
-      interfaces_stand = λ i f is. StandsInterface-same s.host now f keeps.interfaces (no_fewer (length s.host.devices) (length now.devices) keeps.devices) (sound.interfaces_stand i f is);
+      devices_stand = λ d k is. counts-stands s.host now k keeps.devices (sound.devices_stand d k is);
+      devices_counted = devices-kept s.host.devices now.devices s.devices (opened-counts s.host.devices now.devices keeps.devices) sound.devices_counted;
+      devices_held = held-same s.host now keeps.devices keeps.interfaces sound.devices_held;
+      interfaces_stand = λ i f is. StandsInterface-same s.host now f keeps.interfaces (counts-there s.host.devices now.devices keeps.devices) (sound.interfaces_stand i f is);
       interfaces_counted = counted-same s.host.interfaces now.interfaces s.interfaces keeps.interfaces sound.interfaces_counted;
       endpoints_stand = λ d h is. let there = names-freed s.endpoints after e d h rest is in Stands-other (bus_of s.host) (bus_of now) x.key h others (sound.endpoints_differ d e h x there.1 was there.0) (sound.endpoints_stand d h there.1);
       endpoints_differ = λ c d g h isg ish apart. sound.endpoints_differ c d g h (names-freed s.endpoints after e c g rest isg).1 (names-freed s.endpoints after e d h rest ish).1 apart;
@@ -105,8 +106,10 @@ sound-host s now sound keeps stands =
       device_names = sound.device_names;
       interface_names = sound.interface_names;
       endpoint_names = sound.endpoint_names;
-      devices_stand = λ d k is. devices_stand-kept s.host now k keeps.devices (sound.devices_stand d k is);
-      interfaces_stand = λ i f is. StandsInterface-same s.host now f keeps.interfaces (no_fewer (length s.host.devices) (length now.devices) keeps.devices) (sound.interfaces_stand i f is);
+      devices_stand = λ d k is. counts-stands s.host now k keeps.devices (sound.devices_stand d k is);
+      devices_counted = devices-kept s.host.devices now.devices s.devices (opened-counts s.host.devices now.devices keeps.devices) sound.devices_counted;
+      devices_held = held-same s.host now keeps.devices keeps.interfaces sound.devices_held;
+      interfaces_stand = λ i f is. StandsInterface-same s.host now f keeps.interfaces (counts-there s.host.devices now.devices keeps.devices) (sound.interfaces_stand i f is);
       interfaces_counted = counted-same s.host.interfaces now.interfaces s.interfaces keeps.interfaces sound.interfaces_counted;
       endpoints_stand = λ e h is. stands h (sound.endpoints_stand e h is);
       endpoints_differ = sound.endpoints_differ;

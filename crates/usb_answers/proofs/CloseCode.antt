@@ -3,6 +3,7 @@ use Rattle.std.proofs.Common.{◌≡◌, ℕ, arith, List, [], ◌∷◌, ◌++�
 use Rattle.std.specs.Prelude.{is_some, OnOk}
 use Rattle.std.specs.declared.alloc.Global.{Global}
 use Rattle.std.specs.Option.{option_map}
+use Rattle.usb_device.proofs.DeviceLemmas.{counts-same}
 use Rattle.usb_endpoint.specs.declared.any_endpoint.AnyEndpoint.{AnyEndpoint}
 use Rattle.usb_endpoint.specs.AnyEndpoints.{state_of}
 use Rattle.usb_endpoint.specs.EndpointState.{EndpointState}
@@ -49,7 +50,7 @@ keeps-closed h e idle =
     let line = line-left (before_left h e) e.key in
     record {
       idle = line.steps ∙ before.idle;
-      devices = ap length line.devices ∙ before.devices;
+      devices = λ k. counts-same (before_left h e).devices _ line.devices k ∙ before.devices k;
       interfaces = interfaces-left (before_left h e) e.key ∙ before.interfaces;
     }
 

@@ -17,7 +17,7 @@ use Rattle.usb_answers.proofs.NameLemmas.{free_place, place_of, named_of}
 count-cons : {X : Type 0} (p : X → Bool) (x : X) (xs : List X) → count_by p (x ∷ xs) ≡ one_if (p x) + count_by p xs
 count-cons p x xs = sum_by-cons (λ x. cond (p x) 1 0) x xs
 
-count-change : {X : Type 0} (p : X → Bool) (f : X → X) (xs : List X) (n : ℕ) (x : X) → slice_get xs n ≡ Some x → count_by p (change_at f xs n) + one_if (p x) ≡ count_by p xs + one_if (p (f x))
+pub count-change : {X : Type 0} (p : X → Bool) (f : X → X) (xs : List X) (n : ℕ) (x : X) → slice_get xs n ≡ Some x → count_by p (change_at f xs n) + one_if (p x) ≡ count_by p xs + one_if (p (f x))
 count-change p f [] n x at = absurd (none-some x at)
 count-change p f (y ∷ ys) zero x at =
     let same : y ≡ x = same_Some y x at in
@@ -28,7 +28,7 @@ count-change p f (y ∷ ys) (suc n) x at =
     let rest = count-change p f ys n x at in
     omega (arith, rest, count-cons p y ys, count-cons p y (change_at f ys n))
 
-count-none : {X : Type 0} (p : X → Bool) (xs : List X) → ((n : ℕ) (x : X) → slice_get xs n ≡ Some x → p x ≡ false) → count_by p xs ≡ 0
+pub count-none : {X : Type 0} (p : X → Bool) (xs : List X) → ((n : ℕ) (x : X) → slice_get xs n ≡ Some x → p x ≡ false) → count_by p xs ≡ 0
 count-none p [] none = refl
 count-none p (x ∷ xs) none =
     let here : one_if (p x) ≡ 0 = ap one_if (none 0 x refl) in

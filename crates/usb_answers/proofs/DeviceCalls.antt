@@ -1,5 +1,7 @@
 -- Calls on open devices that go down to the host: the session that they leave, and what they answer.
 use Rattle.std.proofs.Common.{◌≡◌, ◌∙◌, ◌<◌, ◌≤◌, ◌+◌, ℕ, List, length, Some, None, ap, sym, subst, slice_get}
+use Rattle.usb_registry.specs.History.{value_at}
+use Rattle.usb_registry.proofs.ValueLemmas.{value-set_same}
 use Rattle.usb_kernel.proofs.Places.{slice_get-set_same}
 use Rattle.usb_lines.specs.Calls.{condition_line}
 use Rattle.usb_device.specs.declared.opened.OpenDevice.{OpenDevice}
@@ -31,7 +33,7 @@ on_device state d after line =
 pub on_device-none : (s : SessionState) (state : State) (d : ℕ) (after : HostState → ℕ → HostState) (line : HostState → OpenDevice → List ℕ) → named s.devices d ≡ None → Represents s state → Gives s condition_line (on_device state d after line)
 on_device-none s state d after line none r = rw (device-none s state d r none) (barred-gives s state r)
 
-pub on_device-some : (s : SessionState) (state : State) (now : HostState) (d key : ℕ) (o : OpenDevice) (after : HostState → ℕ → HostState) (line : HostState → OpenDevice → List ℕ) → named s.devices d ≡ Some key → slice_get s.host.devices key ≡ Some o → now ≡ after s.host key → Represents s state → Gives (record s { host = now }) (line s.host o) (on_device state d after line)
+pub on_device-some : (s : SessionState) (state : State) (now : HostState) (d key : ℕ) (o : OpenDevice) (after : HostState → ℕ → HostState) (line : HostState → OpenDevice → List ℕ) → named s.devices d ≡ Some key → value_at s.host.devices key ≡ Some o → now ≡ after s.host key → Represents s state → Gives (record s { host = now }) (line s.host o) (on_device state d after line)
 on_device-some s state now d key o after line at there is r =
     let host = host_is s state r in
     rw (device-some s state d key o r at there)
@@ -49,6 +51,6 @@ pub places-used : (h now next : HostState) → now ≡ next → h.kernel.spare �
 places-used h now next is few = subst (λ (g : HostState). h.kernel.spare ≤ g.kernel.spare + 1) (sym is) few
 
 -- an open device once it was asked for the active configuration
-pub asked-device : (h now : HostState) (key : ℕ) (o : OpenDevice) → key < length h.devices → slice_get h.devices key ≡ Some o → now ≡ host_asked h key → slice_get now.devices key ≡ Some (as_asked h.kernel o)
-asked-device h now key o below at is =
-    ap (λ (g : HostState). slice_get g.devices key) (is ∙ asked-at h key o at) ∙ slice_get-set_same h.devices key (as_asked h.kernel o) below
+pub asked-device : (h now : HostState) (key : ℕ) (o : OpenDevice) → value_at h.devices key ≡ Some o → now ≡ host_asked h key → value_at now.devices key ≡ Some (as_asked h.kernel o)
+asked-device h now key o at is =
+    ap (λ (g : HostState). value_at g.devices key) (is ∙ asked-at h key o at) ∙ value-set_same h.devices key o (Some (as_asked h.kernel o)) at

@@ -1,61 +1,89 @@
 -- Handles of devices are cloned and closed.
-use Rattle.std.proofs.Common.{◌≡◌, ℕ, ◌<◌, true, false, List, length, Option, Some, None, refl, ap, sym, ◌∙◌, subst, inl, inr}
+use Rattle.std.proofs.Common.{◌≡◌, ℕ, ◌<◌, arith, Bool, true, false, List, ◌++◌, length, Option, Some, None, Result, Ok, Err, String, string_bytes, refl, ap, sym, ◌∙◌, subst, inl, inr}
+use Rattle.std.specs.Prelude.{◌==◌, OnOk, is_some}
+use Rattle.std.specs.List.{count_by}
+use Rattle.std.specs.declared.alloc.Global.{Global}
+use Rattle.std.proofs.lemmas.Bool.{eq-eqb, ne_eqb}
 use Rattle.usb_lines.specs.Calls.{ok_line, condition_line}
+use Rattle.usb_ledger.specs.OwnerRows.{one_if}
 use Rattle.usb_device.specs.HostState.{HostState}
+use Rattle.usb_device.specs.HandleStates.{StandsDevice}
+use Rattle.usb_device.specs.Devices.{handle_more, handle_less}
+use Rattle.usb_device.specs.Handles.{device_cloned, device_closed}
+use Rattle.usb_device.proofs.HeldDevices.{held-device_cloned, held-device_closed}
 use Rattle.usb_answers.specs.Names.{named, is_free, freed, set_name}
 use Rattle.usb_answers.specs.State.{State}
+use Rattle.usb_answers.specs.Answer.{barred, ok_answer, if_open}
+use Rattle.usb_answers.specs.Answered.{Answered, Answers}
 use Rattle.usb_answers.specs.Clones.{clone_device_answer}
-use Rattle.usb_answers.specs.Closes.{close_device_answer}
-use Rattle.usb_answers.specs.SessionState.{SessionState, IsSound}
+use Rattle.usb_answers.specs.Closes.{close_device_answer, without_device}
+use Rattle.usb_answers.specs.Ends.{name_closed, device_closed_at}
+use Rattle.usb_answers.specs.SessionState.{SessionState, IsSound, is_device_of}
 use Rattle.usb_answers.specs.Relation.{Represents}
-use Rattle.usb_answers.proofs.NameLemmas.{length-set_name, length-freed, names-set, freed-none}
-use Rattle.usb_answers.proofs.Answering.{Gives, barred-gives}
+use Rattle.usb_answers.proofs.NameLemmas.{length-set_name, length-freed, names-set}
+use Rattle.usb_answers.proofs.Answering.{Gives, barred-gives, told-answered, host_is}
 use Rattle.usb_answers.proofs.Called.{names-freed}
+use Rattle.usb_answers.proofs.CountedDevices.{count-opened, count-closed, devices-changed, stands-changed}
+use Rattle.usb_answers.proofs.SoundDevices.{sound-device}
 
 -- what a session has open under a name is open in the state
 device_is : (s : SessionState) (state : State) (d : ℕ) (o : Option ℕ) → Represents s state → named s.devices d ≡ o → named state.devices d ≡ o
 device_is s state d o r at = ap (λ (v : SessionState). named v.devices d) (sym r.is) ∙ at
 
--- the host is as it was
-sound-devices : (s : SessionState) (after : List (Option ℕ)) → IsSound s → length after ≡ length s.devices → ((d key : ℕ) → named after d ≡ Some key → key < length s.host.devices) → IsSound (record s { devices = after })
-sound-devices s after sound names stand =
-    record {
-      idle = sound.idle;
-      device_names = names ∙ sound.device_names;
-      interface_names = sound.interface_names;
-      endpoint_names = sound.endpoint_names;
-      devices_stand = stand;
-      interfaces_stand = sound.interfaces_stand;
-      interfaces_counted = sound.interfaces_counted;
-      endpoints_stand = sound.endpoints_stand;
-      endpoints_differ = sound.endpoints_differ;
-    }
-
-on_host : (s : SessionState) (now : HostState) (after : List (Option ℕ)) → now ≡ s.host → IsSound (record s { devices = after }) → IsSound (record s { host = now; devices = after })
-on_host s now after same sound = subst (λ (h : HostState). IsSound (record s { host = h; devices = after })) (sym same) sound
-
-pub sound-device_cloned : (s : SessionState) (now : HostState) (after : List (Option ℕ)) (n d key : ℕ) → IsSound s → now ≡ s.host → named s.devices d ≡ Some key → is_free s.devices n ≡ true → after ≡ set_name s.devices n key → IsSound (record s { host = now; devices = after })
-sound-device_cloned s now after n d key sound same at free put =
-    on_host s now after same
-    (sound-devices s after sound (ap (λ (l : List (Option ℕ)). length l) put ∙ length-set_name s.devices n key)
-    (λ e k open_. elim (names-set s.devices after n e key k free put open_) [
-      | inl here ↦ subst (λ (m : ℕ). m < length s.host.devices) (sym here.1) (sound.devices_stand d key at)
+-- one more handle is open
+cloned-here : (s : SessionState) (after : List (Option ℕ)) (n d key : ℕ) → IsSound s → named s.devices d ≡ Some key → is_free s.devices n ≡ true → after ≡ set_name s.devices n key → IsSound (record s { host = device_cloned s.host key; devices = after })
+cloned-here s after n d key sound at free put =
+    let now = device_cloned s.host key in
+    let stands = sound.devices_stand d key at in
+    let one : one_if (key == key) ≡ 1 = ap one_if (eq-eqb key key refl) in
+    let here : count_by (is_device_of key) after ≡ (handle_more stands.device).handles =
+    ap (count_by (is_device_of key)) put ∙ omega (arith, one, count-opened key s.devices n key free, sound.devices_counted key stands.device stands.at) in
+    sound-device s now after sound refl refl refl (ap (λ (l : List (Option ℕ)). length l) put ∙ length-set_name s.devices n key)
+    (λ e k open_. stands-changed s.host now after key handle_more stands.device stands.at refl here e k open_
+    (elim (names-set s.devices after n e key k free put open_) [
+      | inl same ↦ subst (StandsDevice s.host) (sym same.1) stands
       | inr there ↦ sound.devices_stand e k there.1
     ]))
+    (devices-changed s.host.devices now.devices s.devices after key handle_more stands.device stands.at refl here
+    (λ k apart.
+    let none : one_if (key == k) ≡ 0 = ap one_if (ne_eqb key k apart) in
+    ap (count_by (is_device_of k)) put ∙ omega (arith, none, count-opened k s.devices n key free))
+    sound.devices_counted)
+    (held-device_cloned s.host key stands sound.devices_held)
 
-pub sound-device_closed : (s : SessionState) (now : HostState) (after : List (Option ℕ)) (d : ℕ) → IsSound s → now ≡ s.host → after ≡ freed s.devices d → IsSound (record s { host = now; devices = after })
-sound-device_closed s now after d sound same rest =
-    on_host s now after same
-    (sound-devices s after sound (ap (λ (l : List (Option ℕ)). length l) rest ∙ length-freed s.devices d)
-    (λ e k open_. sound.devices_stand e k (names-freed s.devices after d e k rest open_).1))
+pub sound-device_cloned : (s : SessionState) (now : HostState) (after : List (Option ℕ)) (n d key : ℕ) → IsSound s → now ≡ device_cloned s.host key → named s.devices d ≡ Some key → is_free s.devices n ≡ true → after ≡ set_name s.devices n key → IsSound (record s { host = now; devices = after })
+sound-device_cloned s now after n d key sound is at free put =
+    subst (λ (h : HostState). IsSound (record s { host = h; devices = after })) (sym is) (cloned-here s after n d key sound at free put)
 
-represents-devices : (s : SessionState) (state : State) (now : HostState) (after names : List (Option ℕ)) → Represents s state → now ≡ s.host → after ≡ names → Represents (record s { host = now; devices = after }) (record state { devices = names })
-represents-devices s state now after names r same put =
+-- a handle is closed
+closed-here : (s : SessionState) (after : List (Option ℕ)) (d key : ℕ) → IsSound s → named s.devices d ≡ Some key → after ≡ freed s.devices d → IsSound (record s { host = device_closed s.host key; devices = after })
+closed-here s after d key sound at rest =
+    let now = device_closed s.host key in
+    let stands = sound.devices_stand d key at in
+    let one : one_if (key == key) ≡ 1 = ap one_if (eq-eqb key key refl) in
+    let here : count_by (is_device_of key) after ≡ (handle_less stands.device).handles =
+    ap (count_by (is_device_of key)) rest ∙ omega (arith, one, count-closed key s.devices d key at, sound.devices_counted key stands.device stands.at) in
+    sound-device s now after sound refl refl refl (ap (λ (l : List (Option ℕ)). length l) rest ∙ length-freed s.devices d)
+    (λ e k open_. stands-changed s.host now after key handle_less stands.device stands.at refl here e k open_
+    (sound.devices_stand e k (names-freed s.devices after d e k rest open_).1))
+    (devices-changed s.host.devices now.devices s.devices after key handle_less stands.device stands.at refl here
+    (λ k apart.
+    let none : one_if (key == k) ≡ 0 = ap one_if (ne_eqb key k apart) in
+    ap (count_by (is_device_of k)) rest ∙ omega (arith, none, count-closed k s.devices d key at))
+    sound.devices_counted)
+    (held-device_closed s.host key stands sound.devices_held)
+
+pub sound-device_closed : (s : SessionState) (now : HostState) (after : List (Option ℕ)) (d key : ℕ) → IsSound s → named s.devices d ≡ Some key → after ≡ freed s.devices d → now ≡ device_closed s.host key → IsSound (record s { host = now; devices = after })
+sound-device_closed s now after d key sound at rest is =
+    subst (λ (h : HostState). IsSound (record s { host = h; devices = after })) (sym is) (closed-here s after d key sound at rest)
+
+represents-devices : (s : SessionState) (state : State) (now host : HostState) (after names : List (Option ℕ)) → Represents s state → now ≡ host → after ≡ names → Represents (record s { host = now; devices = after }) (record state { host = host; devices = names })
+represents-devices s state now host after names r is put =
     record {
       is =
-          ap (λ (h : HostState). record s { host = h; devices = after }) same
-          ∙ ap (λ (l : List (Option ℕ)). record s { devices = l }) put
-          ∙ ap (λ (v : SessionState). record v { devices = names }) r.is;
+          ap (λ (h : HostState). record s { host = h; devices = after }) is
+          ∙ ap (λ (l : List (Option ℕ)). record s { host = host; devices = l }) put
+          ∙ ap (λ (v : SessionState). record v { host = host; devices = names }) r.is;
       few = r.few;
     }
 
@@ -69,21 +97,38 @@ clone_device-used s state n d key at used r =
     let here : is_free state.devices n ≡ false = ap (λ (v : SessionState). is_free v.devices n) (sym r.is) ∙ used in
     rw (device_is s state d (Some key) r at, here) (barred-gives s state r)
 
-pub clone_device-gives : (s : SessionState) (state : State) (now : HostState) (after : List (Option ℕ)) (n d key : ℕ) → named s.devices d ≡ Some key → is_free s.devices n ≡ true → now ≡ s.host → after ≡ set_name s.devices n key → Represents s state → Gives (record s { host = now; devices = after }) ok_line (clone_device_answer state n d)
+pub clone_device-gives : (s : SessionState) (state : State) (now : HostState) (after : List (Option ℕ)) (n d key : ℕ) → named s.devices d ≡ Some key → is_free s.devices n ≡ true → now ≡ device_cloned s.host key → after ≡ set_name s.devices n key → Represents s state → Gives (record s { host = now; devices = after }) ok_line (clone_device_answer state n d)
 unfolding clone_device_answer
-clone_device-gives s state now after n d key at free same put r =
+clone_device-gives s state now after n d key at free is put r =
     let here : is_free state.devices n ≡ true = ap (λ (v : SessionState). is_free v.devices n) (sym r.is) ∙ free in
+    let host : now ≡ device_cloned state.host key = is ∙ ap (λ (h : HostState). device_cloned h key) (host_is s state r) in
     let names : after ≡ set_name state.devices n key = put ∙ ap (λ (v : SessionState). set_name v.devices n key) r.is in
-    rw (device_is s state d (Some key) r at, here) (record { state = represents-devices s state now after (set_name state.devices n key) r same names; same = refl })
+    rw (device_is s state d (Some key) r at, here) (record { state = represents-devices s state now (device_cloned state.host key) after (set_name state.devices n key) r host names; same = refl })
 
-pub close_device-none : (s : SessionState) (state : State) (after : List (Option ℕ)) (d : ℕ) → named s.devices d ≡ None → after ≡ freed s.devices d → Represents s state → Gives (record s { devices = after }) condition_line (close_device_answer state d)
-unfolding close_device_answer
-close_device-none s state after d none rest r =
-    let names : after ≡ state.devices = rest ∙ freed-none s.devices d none ∙ ap (λ (v : SessionState). v.devices) r.is in
-    rw (device_is s state d None r none) (record { state = represents-devices s state s.host after state.devices r refl names; same = refl })
+-- a handle of a device is closed
+was_open : (s : SessionState) (state : State) (d : ℕ) (before after : List ℕ) (o : Option ℕ) → is_some o ≡ true → Represents s (device_closed_at state d o) → after ≡ before ++ ok_line → Answered s before after (if_open o (λ key. ok_answer (without_device state d key)) (barred state))
+was_open s state d before after None some r is = absurd (cc)
+was_open s state d before after (Some key) some r is = told-answered s (without_device state d key) before after ok_line r is
 
-pub close_device-gives : (s : SessionState) (state : State) (now : HostState) (after : List (Option ℕ)) (d key : ℕ) → named s.devices d ≡ Some key → now ≡ s.host → after ≡ freed s.devices d → Represents s state → Gives (record s { host = now; devices = after }) ok_line (close_device_answer state d)
-unfolding close_device_answer
-close_device-gives s state now after d key at same rest r =
-    let names : after ≡ freed state.devices d = rest ∙ ap (λ (v : SessionState). freed v.devices d) r.is in
-    rw (device_is s state d (Some key) r at) (record { state = represents-devices s state now after (freed state.devices d) r same names; same = refl })
+was_free : (s : SessionState) (state : State) (d : ℕ) (before after : List ℕ) (o : Option ℕ) → is_some o ≡ false → Represents s (device_closed_at state d o) → after ≡ before ++ condition_line → Answered s before after (if_open o (λ key. ok_answer (without_device state d key)) (barred state))
+was_free s state d before after None some r is = told-answered s state before after condition_line r is
+was_free s state d before after (Some key) some r is = absurd (cc)
+
+some_is : (S : SessionState) (state : State) (n : ℕ) (b : Bool) → Represents S state → is_some (named S.devices n) ≡ b → is_some (named state.devices n) ≡ b
+some_is S state n b r is = ap (λ (v : SessionState). is_some (named v.devices n)) (sym r.is) ∙ is
+
+pub close_device-answered : {E : Type 0} (S s : SessionState) (n d : ℕ) (before text : String Global) (result : Result Unit E) → n ≡ d → is_some (named S.devices n) ≡ true → ((state : State) → Represents S state → Represents s (name_closed state n)) → OnOk result (string_bytes text ≡ string_bytes before ++ ok_line) → Answers S s before text result (λ state. close_device_answer state d)
+unfolding close_device_answer name_closed
+close_device-answered S s n d before text (Err error) same some now is = tt
+close_device-answered S s n d before text (Ok done) same some now is =
+    λ state r.
+    subst (λ m. Answered s (string_bytes before) (string_bytes text) (if_open (named state.devices m) (λ key. ok_answer (without_device state m key)) (barred state))) same
+    (was_open s state n (string_bytes before) (string_bytes text) (named state.devices n) (some_is S state n true r some) (now state r) is)
+
+pub close_device-barred : {E : Type 0} (S s : SessionState) (n d : ℕ) (before text : String Global) (result : Result Unit E) → n ≡ d → is_some (named S.devices n) ≡ false → ((state : State) → Represents S state → Represents s (name_closed state n)) → OnOk result (string_bytes text ≡ string_bytes before ++ condition_line) → Answers S s before text result (λ state. close_device_answer state d)
+unfolding close_device_answer name_closed
+close_device-barred S s n d before text (Err error) same some now is = tt
+close_device-barred S s n d before text (Ok done) same some now is =
+    λ state r.
+    subst (λ m. Answered s (string_bytes before) (string_bytes text) (if_open (named state.devices m) (λ key. ok_answer (without_device state m key)) (barred state))) same
+    (was_free s state n (string_bytes before) (string_bytes text) (named state.devices n) (some_is S state n false r some) (now state r) is)

@@ -35,8 +35,8 @@ use Rattle.usb_answers.specs.Clones.{with_handle, clone_device_answer, with_clon
 use Rattle.usb_answers.specs.Configurations.{active_line, active_answer, speed_answer, set_configuration_answer, reset_answer}
 use Rattle.usb_answers.specs.Drivers.{detach_answer, attach_answer}
 use Rattle.usb_answers.specs.Settings.{set_alt_setting_answer, get_alt_setting_answer, interface_descriptor_answer}
-use Rattle.usb_answers.specs.Closes.{close_device_answer, without_interface, close_interface_answer, release_answer}
-use Rattle.usb_answers.specs.Ends.{interface_closed_at, interface_closed, interfaces_closed}
+use Rattle.usb_answers.specs.Closes.{close_device_answer, without_device, without_interface, close_interface_answer, release_answer}
+use Rattle.usb_answers.specs.Ends.{interface_closed_at, interface_closed, interfaces_closed, device_closed_at, name_closed, devices_closed}
 use Rattle.usb_answers.proofs.Does.{Quiet, Does, says_done, goes, ends, free-does, try-does, quiet-aside, quiet-same, quiet-then, told-does, error-does, call-does, ask-does, host-does, result-other}
 use Rattle.usb_answers.proofs.DeviceHosts.{KeepsAside, asked-aside, speed-aside, configured-aside, reset-follows, reset-count, detached-aside, attached-aside}
 
@@ -199,3 +199,18 @@ unfolding interface_closed
 interfaces-quiet state zero = quiet-same state
 interfaces-quiet state (suc n) =
     let mid = interfaces_closed state n in quiet-then (interfaces-quiet state n) (interface_closed_at-quiet mid n (named mid.interfaces n))
+
+-- and devices
+device_closed_at-quiet : (state : State) (d : ℕ) (o : Option ℕ) → Quiet state (device_closed_at state d o)
+device_closed_at-quiet state d None = quiet-same state
+device_closed_at-quiet state d (Some key) = quiet-aside state (without_device state d key) refl refl refl
+
+pub devices-quiet : (state : State) (n : ℕ) → Quiet state (devices_closed state n)
+unfolding name_closed
+devices-quiet state zero = quiet-same state
+devices-quiet state (suc n) =
+    let mid = devices_closed state n in quiet-then (devices-quiet state n) (device_closed_at-quiet mid n (named mid.devices n))
+
+-- both
+pub handles-quiet : (state : State) → Quiet state (devices_closed (interfaces_closed state 64) 64)
+handles-quiet state = quiet-then (interfaces-quiet state 64) (devices-quiet (interfaces_closed state 64) 64)

@@ -1,5 +1,7 @@
 -- Devices: they are opened, and tell of themselves.
-use Rattle.std.proofs.Common.{◌≡◌, ℕ, ◌<◌, ◌≤◌, arith, List, length, Option, Some, None, Result, Ok, Err, true, false, refl, ap, sym, ◌∙◌, subst, slice_get, inl, inr}
+use Rattle.std.proofs.Common.{[], ◌≡◌, ℕ, ◌<◌, ◌≤◌, arith, List, length, Option, Some, None, Result, Ok, Err, true, false, refl, ap, sym, ◌∙◌, subst, slice_get, inl, inr}
+use Rattle.usb_registry.specs.History.{value_at}
+use Rattle.usb_registry.proofs.ValueLemmas.{value-within, value-pushed}
 use Rattle.usb_desc.specs.declared.error.Fail.{Fail}
 use Rattle.usb_error.specs.ErrorState.{ErrorState}
 use Rattle.usb_lines.specs.Calls.{ok_line, condition_line, error_line}
@@ -12,7 +14,9 @@ use Rattle.usb_device.specs.HandleStates.{StandsDevice}
 use Rattle.usb_device.specs.CallErrors.{Leaves}
 use Rattle.usb_device.specs.Opens.{host_opened, open_key}
 use Rattle.usb_device.proofs.Left.{left}
-use Rattle.usb_device.proofs.InterfaceFrames.{StandsInterface-same, opened-is, opened-length}
+use Rattle.usb_device.proofs.InterfaceFrames.{opened-is}
+use Rattle.usb_device.proofs.DeviceLemmas.{counts-same}
+use Rattle.usb_device.proofs.HeldDevices.{OpensOne, opens-one, opens-none, held-opened}
 use Rattle.usb_answers.specs.Names.{named, is_free, set_name}
 use Rattle.usb_answers.specs.State.{State, with_host}
 use Rattle.usb_answers.specs.OpenAt.{device_at}
@@ -22,54 +26,52 @@ use Rattle.usb_answers.specs.SessionState.{SessionState, IsSound}
 use Rattle.usb_answers.specs.Relation.{Represents, session_of}
 use Rattle.usb_answers.proofs.CountedNames.{counted-same}
 use Rattle.usb_answers.proofs.NameLemmas.{length-set_name, names-set}
-use Rattle.usb_answers.proofs.Called.{represents-host}
+use Rattle.usb_answers.proofs.CountedDevices.{devices-opened}
+use Rattle.usb_answers.proofs.SoundDevices.{sound-device}
+use Rattle.usb_answers.proofs.Called.{KeepsSession, sound-host, represents-host}
 use Rattle.usb_answers.proofs.Answering.{Gives, barred-gives}
 
-below : (k a b : ℕ) → k < a → a ≤ b → k < b
-below k a b less more = omega (arith, less, more)
-
-opened-more : (h now : HostState) (bus address : ℕ) → now ≡ host_opened h bus address → length h.devices ≤ length now.devices
-opened-more h now bus address is = subst (λ (g : HostState). length h.devices ≤ length g.devices) (sym is) (opened-length h bus address)
-
--- a session whose host tried to open a device
-pub opened-sound : (s : SessionState) (now : HostState) (bus address : ℕ) → IsSound s → now ≡ host_opened s.host bus address → IsSound (record s { host = now })
-opened-sound s now bus address sound is =
-    let made = is ∙ opened-is s.host bus address in
-    let more = opened-more s.host now bus address is in
+-- a session whose host was refused a device
+opened-keeps : (h now : HostState) (bus address : ℕ) (error : ErrorState) → h.steps ≡ [] → now ≡ host_opened h bus address → open_key h bus address ≡ Err error → KeepsSession h now
+opened-keeps h now bus address error idle is refused =
+    let made = is ∙ opened-is h bus address in
     record {
-      idle = ap (λ (g : HostState). g.steps) made ∙ sound.idle;
-      device_names = sound.device_names;
-      interface_names = sound.interface_names;
-      endpoint_names = sound.endpoint_names;
-      devices_stand = λ d k at. below k (length s.host.devices) (length now.devices) (sound.devices_stand d k at) more;
-      interfaces_stand = λ i f at. StandsInterface-same s.host now f (ap (λ (g : HostState). g.interfaces) made) more (sound.interfaces_stand i f at);
-      interfaces_counted = counted-same s.host.interfaces now.interfaces s.interfaces (ap (λ (g : HostState). g.interfaces) made) sound.interfaces_counted;
-      endpoints_stand = λ e h at. subst (λ (b : BusState). Stands b h) (sym (ap bus_of made)) (sound.endpoints_stand e h at);
-      endpoints_differ = sound.endpoints_differ;
+      idle = ap (λ (g : HostState). g.steps) made ∙ idle;
+      devices = counts-same h.devices now.devices (ap (λ (g : HostState). g.devices) is ∙ opens-none h bus address error refused);
+      interfaces = ap (λ (g : HostState). g.interfaces) made;
     }
 
-pub open-left : {A : Type 0} (s : SessionState) (now : HostState) (bus address : ℕ) (r : Result A (Fail ErrorState)) → IsSound s → Leaves r now (host_opened s.host bus address) s.host → IsSound (record s { host = now })
-open-left s now bus address r sound is =
-    left (λ (h : HostState). IsSound (record s { host = h })) r now (host_opened s.host bus address) s.host is (opened-sound s (host_opened s.host bus address) bus address sound refl) sound
+pub open-left : (s : SessionState) (now : HostState) (bus address : ℕ) (error : ErrorState) → IsSound s → open_key s.host bus address ≡ Err error → now ≡ host_opened s.host bus address → IsSound (record s { host = now })
+open-left s now bus address error sound refused is =
+    let bus_is = ap bus_of (is ∙ opened-is s.host bus address) in
+    sound-host s now sound (opened-keeps s.host now bus address error sound.idle is refused) (λ h stands. subst (λ (b : BusState). Stands b h) (sym bus_is) stands)
 
 -- and one in which the device is open
-pub open-sound : (s : SessionState) (now : HostState) (after : List (Option ℕ)) (d key bus address : ℕ) → IsSound s → now ≡ host_opened s.host bus address → StandsDevice now key → is_free s.devices d ≡ true → after ≡ set_name s.devices d key → IsSound (record s { host = now; devices = after })
-open-sound s now after d key bus address sound is stands free put =
-    let tried = opened-sound s now bus address sound is in
-    record {
-      idle = tried.idle;
-      device_names = ap (λ (l : List (Option ℕ)). length l) put ∙ length-set_name s.devices d key ∙ sound.device_names;
-      interface_names = sound.interface_names;
-      endpoint_names = sound.endpoint_names;
-      devices_stand = λ e k at. elim (names-set s.devices after d e key k free put at) [
-        | inl here ↦ subst (StandsDevice now) (sym here.1) stands
-        | inr there ↦ tried.devices_stand e k there.1
-      ];
-      interfaces_stand = tried.interfaces_stand;
-      interfaces_counted = tried.interfaces_counted;
-      endpoints_stand = tried.endpoints_stand;
-      endpoints_differ = sound.endpoints_differ;
-    }
+open-stands : (h : HostState) (now : List (Option OpenDevice)) (key d : ℕ) → OpensOne h now key → StandsDevice h d → value_at now d ≡ value_at h.devices d
+open-stands h now key d opens stands =
+    let within = value-within h.devices d stands.device stands.at in
+    ap (λ ds. value_at ds d) opens.devices ∙ value-pushed h.devices (Some opens.device) d (λ same. absurd (omega (arith, same, within)))
+
+open-here : (s : SessionState) (after : List (Option ℕ)) (d key bus address : ℕ) → IsSound s → open_key s.host bus address ≡ Ok key → StandsDevice (host_opened s.host bus address) key → is_free s.devices d ≡ true → after ≡ set_name s.devices d key → IsSound (record s { host = host_opened s.host bus address; devices = after })
+open-here s after d key bus address sound tried stands free put =
+    let now = host_opened s.host bus address in
+    let made = opened-is s.host bus address in
+    let opens = opens-one s.host bus address key tried in
+    sound-device s now after sound (ap (λ (g : HostState). g.steps) made) (ap (λ (g : HostState). g.interfaces) made) (ap bus_of made)
+    (ap (λ (l : List (Option ℕ)). length l) put ∙ length-set_name s.devices d key)
+    (λ e k at. elim (names-set s.devices after d e key k free put at) [
+      | inl here ↦ subst (StandsDevice now) (sym here.1) stands
+      | inr there ↦
+          let was = sound.devices_stand e k there.1 in
+          record { device = was.device; at = open-stands s.host now.devices key k opens was ∙ was.at; open_handle = was.open_handle }
+    ])
+    (devices-opened s.host now.devices s.devices after d key opens sound.devices_stand free put sound.devices_counted)
+    (held-opened s.host bus address sound.devices_held)
+
+pub open-sound : (s : SessionState) (now : HostState) (after : List (Option ℕ)) (d key bus address : ℕ) → IsSound s → open_key s.host bus address ≡ Ok key → now ≡ host_opened s.host bus address → StandsDevice now key → is_free s.devices d ≡ true → after ≡ set_name s.devices d key → IsSound (record s { host = now; devices = after })
+open-sound s now after d key bus address sound tried is stands free put =
+    subst (λ (h : HostState). IsSound (record s { host = h; devices = after })) (sym is)
+    (open-here s after d key bus address sound tried (subst (λ (h : HostState). StandsDevice h key) is stands) free put)
 
 -- the state in which it is open
 open-by : (state : State) (host now : HostState) (after : List (Option ℕ)) (d key : ℕ) (t : Result ℕ ErrorState) → Represents (session_of state) state → t ≡ Ok key → now ≡ host → after ≡ set_name state.devices d key → Gives (record (session_of state) { host = now; devices = after }) ok_line (opened_as (with_host state host) d t)
@@ -134,10 +136,10 @@ device-none s state d r none =
     let here : named state.devices d ≡ None = ap (λ (v : SessionState). named v.devices d) (sym r.is) ∙ none in
     rw here refl
 
-pub device-some : (s : SessionState) (state : State) (d key : ℕ) (o : OpenDevice) → Represents s state → named s.devices d ≡ Some key → slice_get s.host.devices key ≡ Some o → device_at state d ≡ Some (record { key = key; opened = o })
+pub device-some : (s : SessionState) (state : State) (d key : ℕ) (o : OpenDevice) → Represents s state → named s.devices d ≡ Some key → value_at s.host.devices key ≡ Some o → device_at state d ≡ Some (record { key = key; opened = o })
 device-some s state d key o r at there =
     let here : named state.devices d ≡ Some key = ap (λ (v : SessionState). named v.devices d) (sym r.is) ∙ at in
-    let device : slice_get state.host.devices key ≡ Some o = ap (λ (v : SessionState). slice_get v.host.devices key) (sym r.is) ∙ there in
+    let device : value_at state.host.devices key ≡ Some o = ap (λ (v : SessionState). value_at v.host.devices key) (sym r.is) ∙ there in
     rw (here, device) refl
 
 -- what an open device told of itself
@@ -147,5 +149,5 @@ asked state d line = if_open (device_at state d) (λ x. told state (line x.opene
 pub asked-none : (s : SessionState) (state : State) (d : ℕ) (line : OpenDevice → List ℕ) → named s.devices d ≡ None → Represents s state → Gives s condition_line (asked state d line)
 asked-none s state d line none r = rw (device-none s state d r none) (barred-gives s state r)
 
-pub asked-some : (s : SessionState) (state : State) (d key : ℕ) (o : OpenDevice) (line : OpenDevice → List ℕ) → named s.devices d ≡ Some key → slice_get s.host.devices key ≡ Some o → Represents s state → Gives s (line o) (asked state d line)
+pub asked-some : (s : SessionState) (state : State) (d key : ℕ) (o : OpenDevice) (line : OpenDevice → List ℕ) → named s.devices d ≡ Some key → value_at s.host.devices key ≡ Some o → Represents s state → Gives s (line o) (asked state d line)
 asked-some s state d key o line at there r = rw (device-some s state d key o r at there) (record { state = r; same = refl })

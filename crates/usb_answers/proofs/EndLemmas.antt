@@ -1,5 +1,5 @@
--- The end of a session: interfaces are closed.
-use Rattle.std.proofs.Common.{◌≡◌, ◌≢◌, ℕ, ◌<◌, ◌+◌, arith, suc, zero, List, [], ◌∷◌, ◌++◌, slice_get, length, map, Option, Some, None, refl, ap, sym, ◌∙◌, subst, inl, inr}
+-- The end of a session: interfaces and devices are closed.
+use Rattle.std.proofs.Common.{true, false, ◌≡◌, ◌≢◌, ℕ, ◌<◌, ◌+◌, arith, suc, zero, List, [], ◌∷◌, ◌++◌, slice_get, length, map, Option, Some, None, refl, ap, sym, ◌∙◌, subst, inl, inr}
 use Rattle.std.specs.Option.{option_map}
 use Rattle.std.proofs.lemmas.Bool.{cases_eq, cases_lt}
 use Rattle.std.proofs.lemmas.Option.{none-some}
@@ -7,18 +7,27 @@ use Rattle.usb_endpoint.specs.declared.any_endpoint.AnyEndpoint.{AnyEndpoint}
 use Rattle.usb_endpoint.specs.AnyEndpoints.{state_of}
 use Rattle.usb_device.specs.HostState.{HostState}
 use Rattle.usb_device.specs.HostBus.{owner_at}
-use Rattle.usb_device.specs.Handles.{handle_closed}
-use Rattle.usb_device.specs.Finishes.{finished, HasEnds}
+use Rattle.usb_device.specs.Handles.{device_closed, handle_closed}
+use Rattle.usb_device.specs.Devices.{is_held}
+use Rattle.usb_device.specs.DeviceLaws.{holds}
+use Rattle.usb_device.specs.declared.opened.OpenDevice.{OpenDevice}
+use Rattle.usb_device.proofs.HostFrames.{uses-discarded, uses-reaped}
+use Rattle.usb_registry.specs.History.{value_at}
+use Rattle.usb_kernel.specs.Tickets.{tickets}
+use Rattle.std.specs.List.{count_by}
+use Rattle.usb_device.specs.Finishes.{discarded_below, reaped_below, finished, HasEnds}
 use Rattle.usb_device.specs.HandleStates.{InterfaceState}
 use Rattle.usb_answers.specs.Names.{named, freed}
 use Rattle.usb_answers.specs.State.{State, kept}
 use Rattle.usb_answers.specs.Closes.{closed}
-use Rattle.usb_answers.specs.Ends.{interface_closed, interfaces_closed, endpoints_closed, all_closed, ended}
+use Rattle.usb_answers.specs.Ends.{interface_closed, interfaces_closed, name_closed, devices_closed, endpoints_closed, all_closed, ended}
 use Rattle.usb_answers.specs.SessionState.{SessionState, IsSound}
 use Rattle.usb_answers.specs.SessionFacts.{session_made}
 use Rattle.usb_answers.specs.Relation.{Represents}
 use Rattle.usb_answers.specs.Accounts.{Accounted}
 use Rattle.usb_answers.proofs.AccountLemmas.{accounted-all_closed, accounted-none}
+use Rattle.usb_answers.proofs.CountedNames.{count-none, count-no_name}
+use Rattle.usb_answers.proofs.CountedDevices.{count-no_device}
 use Rattle.usb_answers.proofs.Answering.{named_kept, host_is}
 use Rattle.usb_answers.proofs.NameLemmas.{named-map, named-freed, named-freed_other, named-past, freed-none, named_of, place_of}
 
@@ -53,6 +62,38 @@ interface-nothing S host ds is after es i view none rest state r =
 pub interface-sound_same : (host : HostState) (ds : List (Option ℕ)) (is after : List (Option InterfaceState)) (es : List (Option AnyEndpoint)) (i : ℕ) → IsSound (session_made host ds is es) → named is i ≡ None → after ≡ freed is i → IsSound (session_made host ds after es)
 interface-sound_same host ds is after es i sound none rest =
     subst (λ l. IsSound (session_made host ds l es)) (sym (rest ∙ freed-none is i none)) sound
+
+-- and devices
+device-represents : (s : SessionState) (state : State) (after : List (Option ℕ)) (d key : ℕ) → Represents s state → named s.devices d ≡ Some key → after ≡ freed s.devices d → Represents (record s { host = device_closed s.host key; devices = after }) (name_closed state d)
+unfolding name_closed
+device-represents s state after d key r was rest =
+    let here : named state.devices d ≡ Some key = ap (λ (v : SessionState). named v.devices d) (sym r.is) ∙ was in
+    rw here record {
+      is =
+          ap (λ (l : List (Option ℕ)). record s { host = device_closed s.host key; devices = l }) rest
+          ∙ ap (λ (v : SessionState). record v { host = device_closed v.host key; devices = freed v.devices d }) r.is;
+      few = r.few;
+    }
+
+device-none : (s : SessionState) (state : State) (d : ℕ) → Represents s state → named s.devices d ≡ None → Represents s (name_closed state d)
+unfolding name_closed
+device-none s state d r none =
+    let here : named state.devices d ≡ None = ap (λ (v : SessionState). named v.devices d) (sym r.is) ∙ none in
+    rw here r
+
+pub close_name-code : (S : SessionState) (host now : HostState) (ds after : List (Option ℕ)) (is : List (Option InterfaceState)) (es : List (Option AnyEndpoint)) (d key : ℕ) → session_made host ds is es ≡ S → named ds d ≡ Some key → after ≡ freed ds d → now ≡ device_closed host key → (state : State) → Represents S state → Represents (session_made now after is es) (name_closed state d)
+close_name-code S host now ds after is es d key view was rest closed state r =
+    subst (λ (g : HostState). Represents (session_made g after is es) (name_closed state d)) (sym closed)
+    (device-represents (session_made host ds is es) state after d key (subst (λ v. Represents v state) (sym view) r) was rest)
+
+pub device-nothing : (S : SessionState) (host : HostState) (ds after : List (Option ℕ)) (is : List (Option InterfaceState)) (es : List (Option AnyEndpoint)) (d : ℕ) → session_made host ds is es ≡ S → named ds d ≡ None → after ≡ freed ds d → (state : State) → Represents S state → Represents (session_made host after is es) (name_closed state d)
+device-nothing S host ds after is es d view none rest state r =
+    subst (λ l. Represents (session_made host l is es) (name_closed state d)) (sym (rest ∙ freed-none ds d none))
+    (device-none (session_made host ds is es) state d (subst (λ v. Represents v state) (sym view) r) none)
+
+pub device-sound_same : (host : HostState) (ds after : List (Option ℕ)) (is : List (Option InterfaceState)) (es : List (Option AnyEndpoint)) (d : ℕ) → IsSound (session_made host ds is es) → named ds d ≡ None → after ≡ freed ds d → IsSound (session_made host after is es)
+device-sound_same host ds after is es d sound none rest =
+    subst (λ l. IsSound (session_made host l is es)) (sym (rest ∙ freed-none ds d none)) sound
 
 -- the names below a number are free, and one more
 pub none-more : {X : Type 0} (xs after : List (Option X)) (n : ℕ) → after ≡ freed xs n → ((e : ℕ) → e < n → named xs e ≡ None) → (e : ℕ) → e < n + 1 → named after e ≡ None
@@ -99,13 +140,13 @@ named-last old front o x is at =
     named_of old (length front) o (ap (λ l. slice_get l (length front)) is ∙ slice_get-last front o) ∙ at
 
 -- the host of a session at the end
-pub end-host : (s : SessionState) (host now : HostState) (state : State) → s.host ≡ host → now ≡ finished host → Represents s (interfaces_closed (endpoints_closed state 64) 64) → now ≡ ended state
+pub end-host : (s : SessionState) (host now : HostState) (state : State) → s.host ≡ host → now ≡ finished host → Represents s (devices_closed (interfaces_closed (endpoints_closed state 64) 64) 64) → now ≡ ended state
 unfolding ended all_closed
 end-host s host now state here done r =
     done ∙ ap finished (sym here ∙ ap (λ (v : SessionState). v.host) r.is)
 
 -- all is closed, so no endpoint holds a ticket, and each ticket of the host has its end
-pub end-ended : (s : SessionState) (before now : HostState) (state : State) → before ≡ s.host → ((e : ℕ) → named s.endpoints e ≡ None) → Represents s (interfaces_closed (endpoints_closed state 64) 64) → Accounted state
+pub end-ended : (s : SessionState) (before now : HostState) (state : State) → before ≡ s.host → ((e : ℕ) → named s.endpoints e ≡ None) → Represents s (devices_closed (interfaces_closed (endpoints_closed state 64) 64) 64) → Accounted state
     → (((t : ℕ) → owner_at before.tickets t ≡ None) → HasEnds now.tickets) → HasEnds now.tickets
 unfolding all_closed
 end-ended s before now state same none r a ends =
@@ -119,3 +160,45 @@ endpoints_closed-more state n = let more : n + 1 ≡ suc n = omega arith in rw m
 
 pub interfaces_closed-more : (state : State) (n : ℕ) → interfaces_closed state (n + 1) ≡ interface_closed (interfaces_closed state n) n
 interfaces_closed-more state n = let more : n + 1 ≡ suc n = omega arith in rw more refl
+
+pub devices_closed-more : (state : State) (n : ℕ) → devices_closed state (n + 1) ≡ name_closed (devices_closed state n) n
+devices_closed-more state n = let more : n + 1 ≡ suc n = omega arith in rw more refl
+
+-- where no name is open no open device is left
+none-held : (s : SessionState) → IsSound s → ((i : ℕ) → named s.interfaces i ≡ None) → (key : ℕ) → count_by (holds key) s.host.interfaces ≡ 0
+none-held s sound none key =
+    count-none (holds key) s.host.interfaces (λ i c at.
+    let names = count-no_name i s.interfaces (λ n f open_ same. none-some f (sym (none n) ∙ open_)) in
+    let handles : c.handles ≡ 0 = sym (sound.interfaces_counted i c at) ∙ names in
+    rw handles refl)
+
+pub none-left : (s : SessionState) → IsSound s → ((d : ℕ) → named s.devices d ≡ None) → ((i : ℕ) → named s.interfaces i ≡ None) → (key : ℕ) → value_at s.host.devices key ≡ None
+none-left s sound closed none key = by (value_at s.host.devices key) refl
+  where
+    by : (o : Option OpenDevice) → value_at s.host.devices key ≡ o → value_at s.host.devices key ≡ None
+    by None at = at
+    by (Some o) at =
+        let names = count-no_device key s.devices (λ n k open_ same. none-some k (sym (closed n) ∙ open_)) in
+        let handles : o.handles ≡ 0 = sym (sound.devices_counted key o at) ∙ names in
+        let interfaces : o.interfaces ≡ 0 = sound.devices_held.counted key o at ∙ none-held s sound none key in
+        let held : is_held o ≡ true = sound.devices_held.held key o at in
+        let gone : is_held o ≡ false = rw (handles, interfaces) refl in
+        absurd (cc)
+
+-- the end leaves the open devices
+discarded-devices : (h : HostState) (n : ℕ) → (discarded_below h n).devices ≡ h.devices
+discarded-devices h zero = refl
+discarded-devices h (suc n) = (uses-discarded (discarded_below h n) n).devices ∙ discarded-devices h n
+
+reaped-devices : (h : HostState) (n : ℕ) → (reaped_below h n).devices ≡ h.devices
+reaped-devices h zero = refl
+reaped-devices h (suc n) = (uses-reaped (reaped_below h n) n).devices ∙ reaped-devices h n
+
+pub finished-devices : (h : HostState) → (finished h).devices ≡ h.devices
+unfolding finished
+finished-devices h =
+    let n = length (tickets h.kernel.past) in reaped-devices (discarded_below h n) n ∙ discarded-devices h n
+
+pub end-none : (s : SessionState) (before now : HostState) → before ≡ s.host → now ≡ finished before → IsSound s → ((d : ℕ) → named s.devices d ≡ None) → ((i : ℕ) → named s.interfaces i ≡ None) → (d : ℕ) → value_at now.devices d ≡ None
+end-none s before now same done sound closed none d =
+    ap (λ (h : HostState). value_at h.devices d) done ∙ ap (λ ds. value_at ds d) (finished-devices before) ∙ ap (λ (h : HostState). value_at h.devices d) same ∙ none-left s sound closed none d

@@ -14,7 +14,7 @@ use Rattle.usb_device.specs.HostState.{HostState}
 use Rattle.usb_device.specs.HostBus.{bus_of}
 use Rattle.usb_device.specs.HandleStates.{InterfaceState}
 use Rattle.usb_device.specs.EndpointOpens.{host_asked, host_tries, with_endpoint, fresh_endpoint}
-use Rattle.usb_device.proofs.InterfaceFrames.{StandsInterface-same, asked-is, asked-length}
+use Rattle.usb_device.proofs.InterfaceFrames.{StandsInterface-same, asked-is, asked-counts}
 use Rattle.usb_device.proofs.FreshKeys.{endpoint-within}
 use Rattle.usb_answers.specs.Names.{named, is_free, set_name}
 use Rattle.usb_answers.specs.State.{State, Endpoint, kept, with_host}
@@ -22,6 +22,9 @@ use Rattle.usb_answers.specs.OpenAt.{InterfaceAt}
 use Rattle.usb_answers.specs.Endpoints.{new_endpoint, endpoint_as, endpoint_answer}
 use Rattle.usb_answers.specs.SessionState.{SessionState, IsSound}
 use Rattle.usb_answers.specs.Relation.{Represents, session_of}
+use Rattle.usb_device.proofs.DeviceLemmas.{KeepsCounts, counts-stands, counts-there, opened-counts}
+use Rattle.usb_device.proofs.HeldDevices.{held-same}
+use Rattle.usb_answers.proofs.CountedDevices.{devices-kept}
 use Rattle.usb_answers.proofs.CountedNames.{counted-same}
 use Rattle.usb_answers.proofs.NameLemmas.{length-set_name, map-set, is_free-map, names-set}
 use Rattle.usb_answers.proofs.Called.{KeepsSession, sound-host, represents-host}
@@ -33,7 +36,7 @@ asked-keeps h now key idle is =
     let made = is ∙ asked-is h key in
     record {
       idle = ap (λ (g : HostState). g.steps) made ∙ idle;
-      devices = ap (λ (g : HostState). length g.devices) is ∙ asked-length h key;
+      devices = subst (λ (g : HostState). KeepsCounts h.devices g.devices) (sym is) (asked-counts h key);
       interfaces = ap (λ (g : HostState). g.interfaces) made;
     }
 
@@ -53,7 +56,7 @@ opened-keeps h now key i address idle is =
     let asked = asked-keeps h (host_asked h key) key idle refl in
     record {
       idle = ap (λ (g : HostState). g.steps) is ∙ asked.idle;
-      devices = ap (λ (g : HostState). length g.devices) is ∙ asked.devices;
+      devices = subst (λ (g : HostState). KeepsCounts h.devices g.devices) (sym is) asked.devices;
       interfaces = ap (λ (g : HostState). g.interfaces) is ∙ asked.interfaces;
     }
 
@@ -62,9 +65,6 @@ opened-spare h now key i address is = ap (λ (g : HostState). g.kernel.spare) is
 
 apart-next : (a b l : ℕ) → a < l → b ≡ l → a ≢ b
 apart-next a b l less is = λ same. absurd (omega (arith, less, is, same))
-
-no_fewer : (a b : ℕ) → b ≡ a → a ≤ b
-no_fewer a b same = omega arith
 
 -- a session in which one more endpoint is open
 pub endpoint-sound : (s : SessionState) (now : HostState) (after : List (Option EndpointState)) (e i address : ℕ) (y : EndpointState) (c : ClaimedInterface) → IsSound s → now ≡ with_endpoint (host_asked s.host c.opened) i address → y.key ≡ length s.host.endpoints → Stands (bus_of now) y → KeepsOthers (bus_of s.host) (bus_of now) y.key → is_free s.endpoints e ≡ true → after ≡ set_name s.endpoints e y → IsSound (record s { host = now; endpoints = after })
@@ -76,8 +76,10 @@ endpoint-sound s now after e i address y c sound is key stands others free put =
       device_names = sound.device_names;
       interface_names = sound.interface_names;
       endpoint_names = ap (λ (l : List (Option EndpointState)). length l) put ∙ length-set_name s.endpoints e y ∙ sound.endpoint_names;
-      devices_stand = λ d k at. subst (λ (n : ℕ). k < n) (sym keeps.devices) (sound.devices_stand d k at);
-      interfaces_stand = λ j f at. StandsInterface-same s.host now f keeps.interfaces (no_fewer (length s.host.devices) (length now.devices) keeps.devices) (sound.interfaces_stand j f at);
+      devices_stand = λ d k at. counts-stands s.host now k keeps.devices (sound.devices_stand d k at);
+      devices_counted = devices-kept s.host.devices now.devices s.devices (opened-counts s.host.devices now.devices keeps.devices) sound.devices_counted;
+      devices_held = held-same s.host now keeps.devices keeps.interfaces sound.devices_held;
+      interfaces_stand = λ j f at. StandsInterface-same s.host now f keeps.interfaces (counts-there s.host.devices now.devices keeps.devices) (sound.interfaces_stand j f at);
       interfaces_counted = counted-same s.host.interfaces now.interfaces s.interfaces keeps.interfaces sound.interfaces_counted;
       endpoints_stand = λ d h at. elim (names-set s.endpoints after e d y h free put at) [
         | inl here ↦ subst (Stands (bus_of now)) (sym here.1) stands

@@ -2,6 +2,7 @@
 use Rattle.std.proofs.Common.{◌≡◌, ℕ, ◌<◌, ◌+◌, ◌-◌, arith, Bool, List, [], ◌∷◌, ◌++◌, length, set, slice_get, Option, Some, None, Result, Ok, Err, refl, ap, sym, ◌∙◌, subst, inl, inr}
 use Rattle.std.proofs.lemmas.Bool.{cases_Bool, cases_eq}
 use Rattle.std.proofs.lemmas.Option.{same_Some, slice_get_within}
+use Rattle.usb_registry.specs.History.{value_at}
 use Rattle.usb_simulated.specs.declared.step.KernelCall.TheVariants as call
 use Rattle.usb_simulated.specs.Calls.{same, set_interface_rules}
 use Rattle.usb_kernel.specs.Value.{KernelState}
@@ -18,27 +19,32 @@ use Rattle.usb_ledger.specs.Owners.{has_living}
 use Rattle.usb_device.specs.Handles.{handle_added, handle_cloned, handle_gone, handle_closed}
 use Rattle.usb_device.specs.InterfaceClaims.{claim_tried, kernel_claimed, claimed_by, claimed_on, host_claimed, claimed_key}
 use Rattle.usb_device.specs.OnInterfaces.{setting_unless, alt_setting_asked, alt_setting_set}
-use Rattle.usb_device.proofs.HostKeeps.{KeepsLine}
+use Rattle.usb_device.proofs.HostKeeps.{KeepsSteps}
+use Rattle.usb_device.proofs.DeviceLemmas.{KeepsOpened, opened-same}
+use Rattle.usb_device.proofs.HeldDevices.{opened-claimed, opened-handle_closed}
+use Rattle.usb_device.specs.DeviceLaws.{DevicesAreHeld}
+use Rattle.usb_answers.proofs.SoundDevices.{stands-held}
 use Rattle.usb_device.proofs.InterfaceFrames.{bus-claimed, line-claimed, bus-handle_closed, line-handle_closed}
 use Rattle.usb_device.proofs.CalledHosts.{setting-in_use, setting-asked}
 
--- beside its interfaces a host is as it was to a session
+-- beside its interfaces a host is as it was to a session, and each open device has as many handles
 pub record KeepsBeside (old new : HostState) : Type 0 where
-  pub line : KeepsLine old new
+  pub line : KeepsSteps old new
+  pub devices : KeepsOpened old.devices new.devices
   pub bus : bus_of new ≡ bus_of old
 
 pub claimed-keeps : (h : HostState) (key number : ℕ) (reattach : Bool) → KeepsBeside h (host_claimed h key number reattach)
-claimed-keeps h key number reattach = record { line = line-claimed h key number reattach; bus = bus-claimed h key number reattach }
+claimed-keeps h key number reattach = record { line = line-claimed h key number reattach; devices = opened-claimed h key number reattach; bus = bus-claimed h key number reattach }
 
 pub closed-keeps : (h : HostState) (i : ℕ) → KeepsBeside h (handle_closed h i)
-closed-keeps h i = record { line = line-handle_closed h i; bus = bus-handle_closed h i }
+closed-keeps h i = record { line = line-handle_closed h i; devices = opened-handle_closed h i; bus = bus-handle_closed h i }
 
 same-keeps : (h : HostState) → KeepsBeside h h
-same-keeps h = record { line = record { steps = refl; spare = refl; devices = refl }; bus = refl }
+same-keeps h = record { line = record { steps = refl; spare = refl }; devices = opened-same h.devices h.devices refl; bus = refl }
 
 added-keeps : (h : HostState) (i : ℕ) (o : Option ClaimedInterface) → KeepsBeside h (handle_added h i o)
 added-keeps h i None = same-keeps h
-added-keeps h i (Some c) = record { line = record { steps = refl; spare = refl; devices = refl }; bus = refl }
+added-keeps h i (Some c) = record { line = record { steps = refl; spare = refl }; devices = opened-same h.devices h.devices refl; bus = refl }
 
 pub cloned-keeps : (h : HostState) (i : ℕ) → KeepsBeside h (handle_cloned h i)
 unfolding handle_cloned
@@ -58,7 +64,8 @@ setting_asked-keeps : (h : HostState) (i setting : ℕ) (c : ClaimedInterface) �
 setting_asked-keeps h i setting c =
     let is = setting_asked-is h i setting c in
     record {
-      line = record { steps = ap (λ (g : HostState). g.steps) is; spare = ap (λ (g : HostState). g.kernel.spare) is; devices = ap (λ (g : HostState). g.devices) is };
+      line = record { steps = ap (λ (g : HostState). g.steps) is; spare = ap (λ (g : HostState). g.kernel.spare) is };
+      devices = opened-same h.devices _ (ap (λ (g : HostState). g.devices) is);
       bus = ap bus_of is;
     }
 
@@ -74,8 +81,6 @@ pub record WritesOne (h now : HostState) (i : ℕ) (c d : ClaimedInterface) : Ty
   pub at : slice_get h.interfaces i ≡ Some c
   pub is : now.interfaces ≡ set h.interfaces i d
   pub number : d.number ≡ c.number
-  pub opened : d.opened ≡ c.opened
-  pub devices : now.devices ≡ h.devices
 
 -- one handle less
 abbrev pub fewer : ClaimedInterface → ClaimedInterface
@@ -90,51 +95,38 @@ unfolding handle_closed owner_gone
 closed-interfaces h i c at = ap (λ o. (handle_gone h i o).interfaces) at
 
 pub closed-writes : (h : HostState) (i : ℕ) (c : ClaimedInterface) → slice_get h.interfaces i ≡ Some c → WritesOne h (handle_closed h i) i c (fewer c)
-closed-writes h i c at = record { at = at; is = closed-interfaces h i c at; number = refl; opened = refl; devices = (line-handle_closed h i).devices }
+closed-writes h i c at = record { at = at; is = closed-interfaces h i c at; number = refl }
 
 cloned-interfaces : (h : HostState) (i : ℕ) (c : ClaimedInterface) → slice_get h.interfaces i ≡ Some c → (handle_cloned h i).interfaces ≡ set h.interfaces i (more c)
 unfolding handle_cloned
 cloned-interfaces h i c at = ap (λ o. (handle_added h i o).interfaces) at
 
 pub cloned-writes : (h : HostState) (i : ℕ) (c : ClaimedInterface) → slice_get h.interfaces i ≡ Some c → WritesOne h (handle_cloned h i) i c (more c)
-cloned-writes h i c at = record { at = at; is = cloned-interfaces h i c at; number = refl; opened = refl; devices = (cloned-keeps h i).line.devices }
+cloned-writes h i c at = record { at = at; is = cloned-interfaces h i c at; number = refl }
 
 -- a handle stands where the others do, if one is open
-pub stands-written : (h now : HostState) (i : ℕ) (c d : ClaimedInterface) (f : InterfaceState) → WritesOne h now i c d → ((e : ClaimedInterface) → slice_get now.interfaces f.key ≡ Some e → 0 < e.handles) → StandsInterface h f → StandsInterface now f
-stands-written h now i c d f writes open_ stands =
-    let devices = ap (λ (l : List OpenDevice). length l) writes.devices in
+pub stands-written : (h now : HostState) (i : ℕ) (c d : ClaimedInterface) (f : InterfaceState) → WritesOne h now i c d → DevicesAreHeld now → ((e : ClaimedInterface) → slice_get now.interfaces f.key ≡ Some e → 0 < e.handles) → StandsInterface h f → StandsInterface now f
+stands-written h now i c d f writes held open_ stands =
     elim (cases_eq f.key i) [
       | inl here ↦
           let there : slice_get now.interfaces f.key ≡ Some d = ap (λ l. slice_get l f.key) writes.is ∙ ap (slice_get (set h.interfaces i d)) here ∙ slice_get-set_same h.interfaces i d (slice_get_within h.interfaces i c writes.at) in
           let claim : stands.claim ≡ c = same_Some stands.claim c (sym stands.at ∙ ap (slice_get h.interfaces) here ∙ writes.at) in
-          let opened : stands.claim.opened ≡ c.opened = ap (λ (z : ClaimedInterface). z.opened) claim in
-          record {
-            claim = d;
-            at = there;
-            number = writes.number ∙ sym (ap (λ (z : ClaimedInterface). z.number) claim) ∙ stands.number;
-            open_handle = open_ d there;
-            device = omega (arith, stands.device, devices, opened, writes.opened);
-          }
-      | inr apart ↦ record {
-        claim = stands.claim;
-        at = ap (λ l. slice_get l f.key) writes.is ∙ slice_get-set_other h.interfaces i f.key d apart ∙ stands.at;
-        number = stands.number;
-        open_handle = stands.open_handle;
-        device = omega (arith, stands.device, devices);
-      }
+          stands-held now f d held there (writes.number ∙ sym (ap (λ (z : ClaimedInterface). z.number) claim) ∙ stands.number) (open_ d there)
+      | inr apart ↦
+          stands-held now f stands.claim held (ap (λ l. slice_get l f.key) writes.is ∙ slice_get-set_other h.interfaces i f.key d apart ∙ stands.at) stands.number stands.open_handle
     ]
 
 -- a setting that was set
-pub setting_unless-like : (h now : HostState) (i setting : ℕ) (c : ClaimedInterface) (errno : Option ℕ) → slice_get h.interfaces i ≡ Some c → now.interfaces ≡ set h.interfaces i (setting_unless c setting errno) → now.devices ≡ h.devices → WritesOne h now i c (setting_unless c setting errno)
-setting_unless-like h now i setting c None at is devices = record { at = at; is = is; number = refl; opened = refl; devices = devices }
-setting_unless-like h now i setting c (Some errno) at is devices = record { at = at; is = is; number = refl; opened = refl; devices = devices }
+pub setting_unless-like : (h now : HostState) (i setting : ℕ) (c : ClaimedInterface) (errno : Option ℕ) → slice_get h.interfaces i ≡ Some c → now.interfaces ≡ set h.interfaces i (setting_unless c setting errno) → WritesOne h now i c (setting_unless c setting errno)
+setting_unless-like h now i setting c None at is = record { at = at; is = is; number = refl }
+setting_unless-like h now i setting c (Some errno) at is = record { at = at; is = is; number = refl }
 
 pub setting_unless-handles : (c : ClaimedInterface) (setting : ℕ) (errno : Option ℕ) → (setting_unless c setting errno).handles ≡ c.handles
 setting_unless-handles c setting None = refl
 setting_unless-handles c setting (Some errno) = refl
 
 -- what a claim leaves of the interfaces
-claimed-at : (h : HostState) (key number : ℕ) (reattach : Bool) (o : OpenDevice) → slice_get h.devices key ≡ Some o →
+claimed-at : (h : HostState) (key number : ℕ) (reattach : Bool) (o : OpenDevice) → value_at h.devices key ≡ Some o →
     host_claimed h key number reattach ≡ claimed_by (record h { kernel = kernel_claimed h.kernel o number reattach }) (fresh_interface key o.device number reattach) (claim_tried h o number reattach)
 unfolding host_claimed
 claimed-at h key number reattach o at = ap (claimed_on h key number reattach) at
@@ -147,12 +139,12 @@ by-claimed : (h : HostState) (c : ClaimedInterface) (next key : ℕ) (t : Result
 by-claimed h c next key (Err error) tried = absurd (cc)
 by-claimed h c next key (Ok done) tried = refl
 
-pub claim-refused_interfaces : (h : HostState) (key number : ℕ) (reattach : Bool) (o : OpenDevice) (next : ℕ) (error : ErrorState) → slice_get h.devices key ≡ Some o → claimed_key next (claim_tried h o number reattach) ≡ Err error → (host_claimed h key number reattach).interfaces ≡ h.interfaces
+pub claim-refused_interfaces : (h : HostState) (key number : ℕ) (reattach : Bool) (o : OpenDevice) (next : ℕ) (error : ErrorState) → value_at h.devices key ≡ Some o → claimed_key next (claim_tried h o number reattach) ≡ Err error → (host_claimed h key number reattach).interfaces ≡ h.interfaces
 claim-refused_interfaces h key number reattach o next error at tried =
     ap (λ (g : HostState). g.interfaces) (claimed-at h key number reattach o at)
     ∙ by-refused (record h { kernel = kernel_claimed h.kernel o number reattach }) (fresh_interface key o.device number reattach) next (claim_tried h o number reattach) error tried
 
-pub claim-interfaces : (h : HostState) (key number : ℕ) (reattach : Bool) (o : OpenDevice) (next k : ℕ) → slice_get h.devices key ≡ Some o → claimed_key next (claim_tried h o number reattach) ≡ Ok k → (host_claimed h key number reattach).interfaces ≡ h.interfaces ++ fresh_interface key o.device number reattach ∷ []
+pub claim-interfaces : (h : HostState) (key number : ℕ) (reattach : Bool) (o : OpenDevice) (next k : ℕ) → value_at h.devices key ≡ Some o → claimed_key next (claim_tried h o number reattach) ≡ Ok k → (host_claimed h key number reattach).interfaces ≡ h.interfaces ++ fresh_interface key o.device number reattach ∷ []
 claim-interfaces h key number reattach o next k at tried =
     ap (λ (g : HostState). g.interfaces) (claimed-at h key number reattach o at)
     ∙ by-claimed (record h { kernel = kernel_claimed h.kernel o number reattach }) (fresh_interface key o.device number reattach) next k (claim_tried h o number reattach) tried

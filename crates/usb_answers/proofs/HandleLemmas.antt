@@ -25,7 +25,7 @@ use Rattle.usb_answers.specs.Names.{named, freed}
 use Rattle.usb_answers.specs.State.{State, Endpoint, tickets_of, with_host}
 use Rattle.usb_answers.specs.Closes.{closed_at, closed}
 use Rattle.usb_answers.specs.Answers.{answer}
-use Rattle.usb_answers.specs.Ends.{endpoints_closed, interfaces_closed, all_closed, ended}
+use Rattle.usb_answers.specs.Ends.{endpoints_closed, interfaces_closed, devices_closed, all_closed, ended}
 use Rattle.usb_answers.specs.Output.{start, last_host, final_host}
 use Rattle.usb_answers.specs.Accounts.{Accounted}
 use Rattle.usb_answers.specs.Behind.{behind, GoesOnTo, ScriptsGoOn}
@@ -35,7 +35,7 @@ use Rattle.usb_answers.specs.FinalFates.{FatesOfScripts}
 use Rattle.usb_answers.specs.Sums.{counts_of}
 use Rattle.usb_answers.proofs.FateLemmas.{fates-final}
 use Rattle.usb_answers.proofs.Does.{Quiet, quiet-same, quiet-then}
-use Rattle.usb_answers.proofs.DeviceLines.{interfaces-quiet}
+use Rattle.usb_answers.proofs.DeviceLines.{handles-quiet}
 use Rattle.usb_answers.proofs.AccountLemmas.{accounted-start, accounted-answer}
 use Rattle.usb_answers.proofs.NameLemmas.{named-freed, named-freed_other, named-replicate}
 use Rattle.usb_answers.proofs.TimesLemmas.{times, counts-times, among, among-within, times_in, times_open}
@@ -88,13 +88,13 @@ reaped_below-count : (h : HostState) (n : ℕ) → KeepsCount h (reaped_below h 
 reaped_below-count h zero = count-same h
 reaped_below-count h (suc n) = count-trans h (reaped_below h n) (host_reaped (reaped_below h n) n) (reaped_below-count h n) (reaped-count (reaped_below h n) n)
 
-end-quiet : (state : State) → Quiet state (with_host (interfaces_closed state 64) (finished (interfaces_closed state 64).host))
+end-quiet : (state : State) → Quiet state (with_host (devices_closed (interfaces_closed state 64) 64) (finished (devices_closed (interfaces_closed state 64) 64).host))
 unfolding finished
 end-quiet state =
-    let last = (interfaces_closed state 64).host in
+    let last = (devices_closed (interfaces_closed state 64) 64).host in
     let n = length (tickets last.kernel.past) in
     let discarded = discarded_below last n in
-    quiet-then (interfaces-quiet state 64)
+    quiet-then (handles-quiet state)
     (record { keeps = on-finished last; count = count-trans last discarded (reaped_below discarded n) (discarded_below-count last n) (reaped_below-count discarded n); endpoints = refl })
 
 -- what these items and the end of the session make

@@ -1,5 +1,10 @@
 -- Calls on handles of interfaces: what they keep of a session.
-use Rattle.std.proofs.Common.{◌≡◌, ℕ, ◌<◌, Bool, true, List, length, Option, Some, Result, Ok, Err, refl, ap, sym, ◌∙◌, subst, slice_get, inl, inr}
+use Rattle.std.proofs.Common.{None, set, ◌≡◌, ℕ, ◌<◌, Bool, true, List, length, Option, Some, Result, Ok, Err, refl, ap, sym, ◌∙◌, subst, slice_get, inl, inr}
+use Rattle.usb_registry.specs.History.{value_at}
+use Rattle.usb_device.specs.DeviceLaws.{DevicesAreHeld}
+use Rattle.usb_device.proofs.DeviceLemmas.{counts-same, kept-stands}
+use Rattle.usb_device.proofs.HeldDevices.{held-handle_closed, held-handle_cloned, held-claimed, held-written}
+use Rattle.usb_answers.proofs.CountedDevices.{devices-kept}
 use Rattle.usb_bus.specs.BusState.{BusState}
 use Rattle.usb_error.specs.ErrorState.{ErrorState}
 use Rattle.usb_endpoint.specs.Handles.{Stands}
@@ -25,14 +30,16 @@ use Rattle.usb_answers.proofs.Called.{names-freed}
 use Rattle.usb_answers.proofs.HandleHosts.{KeepsBeside, WritesOne, fewer, more, claimed-keeps, closed-keeps, cloned-keeps, setting-keeps, closed-writes, cloned-writes, stands-written, setting_unless-like, setting_unless-handles, claim-interfaces, claim-refused_interfaces}
 
 -- the interfaces and their names change together
-sound-handled : (s : SessionState) (now : HostState) (after : List (Option InterfaceState)) → IsSound s → KeepsBeside s.host now → length after ≡ length s.interfaces → ((n : ℕ) (f : InterfaceState) → named after n ≡ Some f → StandsInterface now f) → Counted now.interfaces after → IsSound (record s { host = now; interfaces = after })
-sound-handled s now after sound keeps names stands counted =
+sound-handled : (s : SessionState) (now : HostState) (after : List (Option InterfaceState)) → IsSound s → KeepsBeside s.host now → length after ≡ length s.interfaces → ((n : ℕ) (f : InterfaceState) → named after n ≡ Some f → StandsInterface now f) → Counted now.interfaces after → DevicesAreHeld now → IsSound (record s { host = now; interfaces = after })
+sound-handled s now after sound keeps names stands counted held =
     record {
       idle = keeps.line.steps ∙ sound.idle;
       device_names = sound.device_names;
       interface_names = names ∙ sound.interface_names;
       endpoint_names = sound.endpoint_names;
-      devices_stand = λ d k at. subst (λ (n : ℕ). k < n) (sym (ap (λ (l : List OpenDevice). length l) keeps.line.devices)) (sound.devices_stand d k at);
+      devices_stand = λ d k at. kept-stands s.host now k keeps.devices (sound.devices_stand d k at);
+      devices_counted = devices-kept s.host.devices now.devices s.devices keeps.devices sound.devices_counted;
+      devices_held = held;
       interfaces_stand = stands;
       interfaces_counted = counted;
       endpoints_stand = λ e h at. subst (λ (b : BusState). Stands b h) (sym keeps.bus) (sound.endpoints_stand e h at);
@@ -46,12 +53,13 @@ closed-here s after n f sound was rest =
     let stands = sound.interfaces_stand n f was in
     let writes = closed-writes s.host f.key stands.claim stands.at in
     let counted = counted-closed s.host.interfaces now.interfaces s.interfaces after n f stands.claim (fewer stands.claim) sound.interfaces_counted stands.at writes.is refl was rest in
+    let held = held-handle_closed s.host f.key stands.claim stands.at stands.open_handle sound.devices_held in
     sound-handled s now after sound (closed-keeps s.host f.key) (ap (λ (l : List (Option InterfaceState)). length l) rest ∙ length-freed s.interfaces n)
     (λ m g open_.
-    stands-written s.host now f.key stands.claim (fewer stands.claim) g writes
+    stands-written s.host now f.key stands.claim (fewer stands.claim) g writes held
     (λ e at. counted-open now.interfaces after m g e counted open_ at)
     (sound.interfaces_stand m g (names-freed s.interfaces after n m g rest open_).1))
-    counted
+    counted held
 
 pub sound-closed : (s : SessionState) (now : HostState) (after : List (Option InterfaceState)) (n : ℕ) (f : InterfaceState) → IsSound s → named s.interfaces n ≡ Some f → after ≡ freed s.interfaces n → now ≡ handle_closed s.host f.key → IsSound (record s { host = now; interfaces = after })
 sound-closed s now after n f sound was rest is =
@@ -64,22 +72,23 @@ cloned-here s after n i f sound was free put =
     let stands = sound.interfaces_stand i f was in
     let writes = cloned-writes s.host f.key stands.claim stands.at in
     let counted = counted-cloned s.host.interfaces now.interfaces s.interfaces after n f stands.claim (more stands.claim) sound.interfaces_counted stands.at writes.is refl free put in
+    let held = held-handle_cloned s.host f.key stands.claim stands.at stands.open_handle sound.devices_held in
     let before : (m : ℕ) (g : InterfaceState) → named after m ≡ Some g → StandsInterface s.host g = λ m g open_. elim (names-set s.interfaces after n m f g free put open_) [
       | inl here ↦ subst (StandsInterface s.host) (sym here.1) stands
       | inr there ↦ sound.interfaces_stand m g there.1
     ] in
     sound-handled s now after sound (cloned-keeps s.host f.key) (ap (λ (l : List (Option InterfaceState)). length l) put ∙ length-set_name s.interfaces n f)
     (λ m g open_.
-    stands-written s.host now f.key stands.claim (more stands.claim) g writes
+    stands-written s.host now f.key stands.claim (more stands.claim) g writes held
     (λ e at. counted-open now.interfaces after m g e counted open_ at) (before m g open_))
-    counted
+    counted held
 
 pub sound-cloned : (s : SessionState) (now : HostState) (after : List (Option InterfaceState)) (n i : ℕ) (f : InterfaceState) → IsSound s → named s.interfaces i ≡ Some f → is_free s.interfaces n ≡ true → after ≡ set_name s.interfaces n f → now ≡ handle_cloned s.host f.key → IsSound (record s { host = now; interfaces = after })
 sound-cloned s now after n i f sound was free put is =
     subst (λ (h : HostState). IsSound (record s { host = h; interfaces = after })) (sym is) (cloned-here s after n i f sound was free put)
 
 -- an interface is claimed
-claimed-here : (s : SessionState) (after : List (Option InterfaceState)) (i key number : ℕ) (reattach : Bool) (o : OpenDevice) (f : InterfaceState) → IsSound s → slice_get s.host.devices key ≡ Some o → claimed_key (length s.host.interfaces) (claim_tried s.host o number reattach) ≡ Ok f.key → f.key ≡ length s.host.interfaces → StandsInterface (host_claimed s.host key number reattach) f → is_free s.interfaces i ≡ true → after ≡ set_name s.interfaces i f → IsSound (record s { host = host_claimed s.host key number reattach; interfaces = after })
+claimed-here : (s : SessionState) (after : List (Option InterfaceState)) (i key number : ℕ) (reattach : Bool) (o : OpenDevice) (f : InterfaceState) → IsSound s → value_at s.host.devices key ≡ Some o → claimed_key (length s.host.interfaces) (claim_tried s.host o number reattach) ≡ Ok f.key → f.key ≡ length s.host.interfaces → StandsInterface (host_claimed s.host key number reattach) f → is_free s.interfaces i ≡ true → after ≡ set_name s.interfaces i f → IsSound (record s { host = host_claimed s.host key number reattach; interfaces = after })
 claimed-here s after i key number reattach o f sound at tried next stands free put =
     let now = host_claimed s.host key number reattach in
     let is = claim-interfaces s.host key number reattach o (length s.host.interfaces) f.key at tried in
@@ -89,38 +98,43 @@ claimed-here s after i key number reattach o f sound at tried next stands free p
       | inl here ↦ subst (StandsInterface now) (sym here.1) stands
       | inr there ↦ StandsInterface-claimed s.host key number reattach g (sound.interfaces_stand m g there.1)
     ])
-    counted
+    counted (held-claimed s.host key number reattach sound.devices_held)
 
 key-next : (next key : ℕ) (t : Result (Unit {0}) ErrorState) → claimed_key next t ≡ Ok key → key ≡ next
 key-next next key (Err error) tried = absurd (cc)
 key-next next key (Ok done) tried = cc
 
-pub sound-claimed : (s : SessionState) (now : HostState) (after : List (Option InterfaceState)) (i key number : ℕ) (reattach : Bool) (o : OpenDevice) (f : InterfaceState) → IsSound s → slice_get s.host.devices key ≡ Some o → claimed_key (length s.host.interfaces) (claim_tried s.host o number reattach) ≡ Ok f.key → now ≡ host_claimed s.host key number reattach → StandsInterface now f → is_free s.interfaces i ≡ true → after ≡ set_name s.interfaces i f → IsSound (record s { host = now; interfaces = after })
+pub sound-claimed : (s : SessionState) (now : HostState) (after : List (Option InterfaceState)) (i key number : ℕ) (reattach : Bool) (o : OpenDevice) (f : InterfaceState) → IsSound s → value_at s.host.devices key ≡ Some o → claimed_key (length s.host.interfaces) (claim_tried s.host o number reattach) ≡ Ok f.key → now ≡ host_claimed s.host key number reattach → StandsInterface now f → is_free s.interfaces i ≡ true → after ≡ set_name s.interfaces i f → IsSound (record s { host = now; interfaces = after })
 sound-claimed s now after i key number reattach o f sound at tried is stands free put =
     subst (λ (h : HostState). IsSound (record s { host = h; interfaces = after })) (sym is)
     (claimed-here s after i key number reattach o f sound at tried (key-next (length s.host.interfaces) f.key (claim_tried s.host o number reattach) tried) (subst (λ (h : HostState). StandsInterface h f) is stands) free put)
 
 -- or the claim is refused
-refused-here : (s : SessionState) (key number : ℕ) (reattach : Bool) (o : OpenDevice) (error : ErrorState) → IsSound s → slice_get s.host.devices key ≡ Some o → claimed_key (length s.host.interfaces) (claim_tried s.host o number reattach) ≡ Err error → IsSound (record s { host = host_claimed s.host key number reattach })
+refused-here : (s : SessionState) (key number : ℕ) (reattach : Bool) (o : OpenDevice) (error : ErrorState) → IsSound s → value_at s.host.devices key ≡ Some o → claimed_key (length s.host.interfaces) (claim_tried s.host o number reattach) ≡ Err error → IsSound (record s { host = host_claimed s.host key number reattach })
 refused-here s key number reattach o error sound at tried =
     let now = host_claimed s.host key number reattach in
     sound-handled s now s.interfaces sound (claimed-keeps s.host key number reattach) refl
     (λ m g open_. StandsInterface-claimed s.host key number reattach g (sound.interfaces_stand m g open_))
     (counted-same s.host.interfaces now.interfaces s.interfaces (claim-refused_interfaces s.host key number reattach o (length s.host.interfaces) error at tried) sound.interfaces_counted)
+    (held-claimed s.host key number reattach sound.devices_held)
 
-pub sound-refused : (s : SessionState) (now : HostState) (key number : ℕ) (reattach : Bool) (o : OpenDevice) (error : ErrorState) → IsSound s → slice_get s.host.devices key ≡ Some o → claimed_key (length s.host.interfaces) (claim_tried s.host o number reattach) ≡ Err error → now ≡ host_claimed s.host key number reattach → IsSound (record s { host = now })
+pub sound-refused : (s : SessionState) (now : HostState) (key number : ℕ) (reattach : Bool) (o : OpenDevice) (error : ErrorState) → IsSound s → value_at s.host.devices key ≡ Some o → claimed_key (length s.host.interfaces) (claim_tried s.host o number reattach) ≡ Err error → now ≡ host_claimed s.host key number reattach → IsSound (record s { host = now })
 sound-refused s now key number reattach o error sound at tried is =
     subst (λ (h : HostState). IsSound (record s { host = h })) (sym is) (refused-here s key number reattach o error sound at tried)
 
 -- an alternate setting is set
-written-sound : (s : SessionState) (now : HostState) (k : ℕ) (c d : ClaimedInterface) → IsSound s → KeepsBeside s.host now → WritesOne s.host now k c d → d.handles ≡ c.handles → IsSound (record s { host = now })
-written-sound s now k c d sound keeps writes handles =
+written-sound : (s : SessionState) (now : HostState) (k : ℕ) (c d : ClaimedInterface) → IsSound s → KeepsBeside s.host now → WritesOne s.host now k c d → d.handles ≡ c.handles → DevicesAreHeld now → IsSound (record s { host = now })
+written-sound s now k c d sound keeps writes handles held =
     let counted = counted-changed s.host.interfaces now.interfaces s.interfaces k c d sound.interfaces_counted writes.at writes.is handles in
     sound-handled s now s.interfaces sound keeps refl
     (λ m g open_.
-    stands-written s.host now k c d g writes
+    stands-written s.host now k c d g writes held
     (λ e at. counted-open now.interfaces s.interfaces m g e counted open_ at) (sound.interfaces_stand m g open_))
-    counted
+    counted held
+
+held-setting : (s : SessionState) (now : HostState) (k setting : ℕ) (c : ClaimedInterface) (errno : Option ℕ) → IsSound s → slice_get s.host.interfaces k ≡ Some c → now.devices ≡ s.host.devices → now.interfaces ≡ set s.host.interfaces k (setting_unless c setting errno) → DevicesAreHeld now
+held-setting s now k setting c None sound at devices is = held-written s.host now k c (setting_unless c setting None) (counts-same s.host.devices now.devices devices) at is refl refl sound.devices_held
+held-setting s now k setting c (Some errno) sound at devices is = held-written s.host now k c (setting_unless c setting (Some errno)) (counts-same s.host.devices now.devices devices) at is refl refl sound.devices_held
 
 set-here : (s : SessionState) (k setting : ℕ) (c : ClaimedInterface) → IsSound s → slice_get s.host.interfaces k ≡ Some c → IsSound (record s { host = alt_setting_set s.host k setting })
 set-here s k setting c sound at =
@@ -131,8 +145,9 @@ set-here s k setting c sound at =
       | inl living ↦ subst (λ (h : HostState). IsSound (record s { host = h })) (sym (setting-in_use s.host k setting c at living)) sound
       | inr none ↦
           written-sound s now k c (setting_unless c setting errno) sound keeps
-          (setting_unless-like s.host now k setting c errno at (ap (λ (h : HostState). h.interfaces) (setting-asked s.host k setting c at none)) keeps.line.devices)
+          (setting_unless-like s.host now k setting c errno at (ap (λ (h : HostState). h.interfaces) (setting-asked s.host k setting c at none)))
           (setting_unless-handles c setting errno)
+          (held-setting s now k setting c errno sound at (ap (λ (h : HostState). h.devices) (setting-asked s.host k setting c at none)) (ap (λ (h : HostState). h.interfaces) (setting-asked s.host k setting c at none)))
     ]
 
 pub sound-set : (s : SessionState) (now : HostState) (k setting : ℕ) (c : ClaimedInterface) → IsSound s → slice_get s.host.interfaces k ≡ Some c → now ≡ alt_setting_set s.host k setting → IsSound (record s { host = now })

@@ -1,5 +1,6 @@
 -- Interfaces are claimed.
 use Rattle.std.proofs.Common.{◌≡◌, ℕ, Bool, List, length, Option, Some, None, Result, Ok, Err, true, false, refl, ap, sym, ◌∙◌, subst, slice_get}
+use Rattle.usb_registry.specs.History.{value_at}
 use Rattle.usb_desc.specs.declared.error.Fail.{Fail}
 use Rattle.usb_error.specs.ErrorState.{ErrorState}
 use Rattle.usb_lines.specs.Calls.{ok_line, condition_line, error_line}
@@ -37,7 +38,7 @@ claim-by state host now after i number f (Ok key) r tried numbered is put =
     }
 
 abbrev ClaimGives : State → ℕ → ℕ → ℕ → ℕ → Bool → OpenDevice → InterfaceState → HostState → List (Option InterfaceState) → SessionState → Type 0
-ClaimGives state d i key number reattach o f now after v = named v.devices d ≡ Some key → slice_get v.host.devices key ≡ Some o → is_free v.interfaces i ≡ true → claimed_key (length v.host.interfaces) (claim_tried v.host o number reattach) ≡ Ok f.key → f.number ≡ number → now ≡ host_claimed v.host key number reattach → after ≡ set_name v.interfaces i f → Gives (record v { host = now; interfaces = after }) ok_line (claim_answer state d number i reattach)
+ClaimGives state d i key number reattach o f now after v = named v.devices d ≡ Some key → value_at v.host.devices key ≡ Some o → is_free v.interfaces i ≡ true → claimed_key (length v.host.interfaces) (claim_tried v.host o number reattach) ≡ Ok f.key → f.number ≡ number → now ≡ host_claimed v.host key number reattach → after ≡ set_name v.interfaces i f → Gives (record v { host = now; interfaces = after }) ok_line (claim_answer state d number i reattach)
 
 claim-of : (state : State) (now : HostState) (after : List (Option InterfaceState)) (d i key number : ℕ) (reattach : Bool) (o : OpenDevice) (f : InterfaceState) → Represents (session_of state) state → ClaimGives state d i key number reattach o f now after (session_of state)
 unfolding claim_answer
@@ -58,7 +59,7 @@ refused-by state host now i number error (Err other) r tried is =
 refused-by state host now i number error (Ok key) r tried is = absurd (cc)
 
 abbrev ClaimRefused : State → ℕ → ℕ → ℕ → ℕ → Bool → OpenDevice → ErrorState → HostState → SessionState → Type 0
-ClaimRefused state d i key number reattach o error now v = named v.devices d ≡ Some key → slice_get v.host.devices key ≡ Some o → is_free v.interfaces i ≡ true → claimed_key (length v.host.interfaces) (claim_tried v.host o number reattach) ≡ Err error → now ≡ host_claimed v.host key number reattach → Gives (record v { host = now }) (error_line error) (claim_answer state d number i reattach)
+ClaimRefused state d i key number reattach o error now v = named v.devices d ≡ Some key → value_at v.host.devices key ≡ Some o → is_free v.interfaces i ≡ true → claimed_key (length v.host.interfaces) (claim_tried v.host o number reattach) ≡ Err error → now ≡ host_claimed v.host key number reattach → Gives (record v { host = now }) (error_line error) (claim_answer state d number i reattach)
 
 refused-of : (state : State) (now : HostState) (d i key number : ℕ) (reattach : Bool) (o : OpenDevice) (error : ErrorState) → Represents (session_of state) state → ClaimRefused state d i key number reattach o error now (session_of state)
 unfolding claim_answer
@@ -74,7 +75,7 @@ pub claim-none : (s : SessionState) (state : State) (d number i : ℕ) (reattach
 unfolding claim_answer
 claim-none s state d number i reattach none r = rw (device-none s state d r none) (barred-gives s state r)
 
-pub claim-used : (s : SessionState) (state : State) (d key number i : ℕ) (reattach : Bool) (o : OpenDevice) → named s.devices d ≡ Some key → slice_get s.host.devices key ≡ Some o → is_free s.interfaces i ≡ false → Represents s state → Gives s condition_line (claim_answer state d number i reattach)
+pub claim-used : (s : SessionState) (state : State) (d key number i : ℕ) (reattach : Bool) (o : OpenDevice) → named s.devices d ≡ Some key → value_at s.host.devices key ≡ Some o → is_free s.interfaces i ≡ false → Represents s state → Gives s condition_line (claim_answer state d number i reattach)
 unfolding claim_answer
 claim-used s state d key number i reattach o at there used r =
     let here : is_free state.interfaces i ≡ false = ap (λ (v : SessionState). is_free v.interfaces i) (sym r.is) ∙ used in

@@ -3,6 +3,7 @@ use Rattle.std.proofs.Common.{◌≡◌, ℕ, ◌≤◌, ◌+◌, List, ◌++◌
 use Rattle.std.specs.Prelude.{OnOk}
 use Rattle.std.specs.Option.{option_map}
 use Rattle.std.specs.declared.alloc.Global.{Global}
+use Rattle.usb_device.proofs.DeviceLemmas.{counts-same}
 use Rattle.usb_simulated.specs.declared.step.KernelStep.{KernelStep}
 use Rattle.usb_endpoint.specs.declared.any_endpoint.AnyEndpoint.{AnyEndpoint}
 use Rattle.usb_endpoint.specs.AnyEndpoints.{state_of}
@@ -48,7 +49,7 @@ stands-rested now x stands = Stands-later (bus_of now) (bus_of (host_rest now)) 
 keeps-lent : (host now : HostState) (steps : List KernelStep) → LineGoesOn (lent_host host steps) now → KeepsSession host (host_rest now)
 keeps-lent host now steps line =
     let rest = (went-rest now).line in
-    record { idle = rest-steps now; devices = ap length (rest.devices ∙ line.devices); interfaces = rest.interfaces ∙ line.interfaces }
+    record { idle = rest-steps now; devices = counts-same host.devices (host_rest now).devices (rest.devices ∙ line.devices); interfaces = rest.interfaces ∙ line.interfaces }
 
 others-lent : (host now : HostState) (steps : List KernelStep) (key : ℕ) → KeepsOthers (bus_of (lent_host host steps)) (bus_of now) key → KeepsOthers (bus_of host) (bus_of (host_rest now)) key
 others-lent host now steps key others =

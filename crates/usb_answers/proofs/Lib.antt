@@ -3,6 +3,7 @@ pub mod Answering
 pub mod Called
 pub mod CloseCode
 pub mod CountedNames
+pub mod CountedDevices
 pub mod DeviceCalls
 pub mod DeviceHandles
 pub mod DeviceHosts
@@ -31,6 +32,7 @@ pub mod RunLemmas
 pub mod StepLemmas
 pub mod SubmitCode
 pub mod SettingCalls
+pub mod SoundDevices
 pub mod SumLemmas
 pub mod TakeLemmas
 pub mod TakenOut

@@ -4,6 +4,7 @@ use Rattle.std.specs.Prelude.{max}
 use Rattle.std.specs.Option.{option_map}
 use Rattle.std.proofs.lemmas.List.{length-replicate}
 use Rattle.std.proofs.lemmas.Option.{none-some}
+use Rattle.usb_registry.specs.History.{value_at}
 use Rattle.usb_simulated.specs.declared.devices.SimDevice.{SimDevice}
 use Rattle.usb_kernel.specs.Value.{KernelState}
 use Rattle.usb_simulated.specs.Devices.{fresh_device}
@@ -42,14 +43,20 @@ nobody {X} n e x is = none-some x (sym (named-replicate n e) ∙ is)
 abbrev pub empty_session : HostState → SessionState
 empty_session host = record { host = host; devices = replicate 64 None; interfaces = replicate 64 None; endpoints = replicate 64 None }
 
-empty-sound : (host : HostState) → host.steps ≡ [] → host.interfaces ≡ [] → IsSound (empty_session host)
-empty-sound host idle none =
+empty-sound : (host : HostState) → host.steps ≡ [] → host.interfaces ≡ [] → host.devices ≡ [] → IsSound (empty_session host)
+empty-sound host idle none nothing =
     record {
       idle = idle;
       device_names = length-replicate {A = Option ℕ} 64 None;
       interface_names = length-replicate {A = Option InterfaceState} 64 None;
       endpoint_names = length-replicate {A = Option EndpointState} 64 None;
       devices_stand = λ d key is. absurd (nobody 64 d key is);
+      devices_counted = λ key o at. absurd (none-some o (sym (ap (λ ds. value_at ds key) nothing) ∙ at));
+      devices_held = record {
+        held = λ key o at. absurd (none-some o (sym (ap (λ ds. value_at ds key) nothing) ∙ at));
+        counted = λ key o at. absurd (none-some o (sym (ap (λ ds. value_at ds key) nothing) ∙ at));
+        there = λ i c at some. absurd (none-some c (sym (ap (λ (l : List ClaimedInterface). slice_get l i) none) ∙ at));
+      };
       interfaces_stand = λ i f is. absurd (nobody 64 i f is);
       interfaces_counted = λ key c at. absurd (none-some c (sym (ap (λ (l : List ClaimedInterface). slice_get l key) none) ∙ at));
       endpoints_stand = λ e h is. absurd (nobody 64 e h is);
@@ -69,9 +76,13 @@ start-interfaces : (items : List Item) → (start items).host.interfaces ≡ []
 unfolding start
 start-interfaces items = refl
 
+start-devices : (items : List Item) → (start items).host.devices ≡ []
+unfolding start
+start-devices items = refl
+
 pub sound-start : (items : List Item) (host : HostState) (ds : List (Option ℕ)) (is : List (Option InterfaceState)) (es : List (Option AnyEndpoint)) → host ≡ (start items).host → ds ≡ replicate 64 None → is ≡ replicate 64 None → es ≡ replicate 64 None → IsSound (session_made host ds is es)
 sound-start items host ds is es start_ d i e =
-    subst IsSound (sym (made-empty host ds is es d i e)) (empty-sound host (ap (λ (h : HostState). h.steps) start_ ∙ start-steps items) (ap (λ (h : HostState). h.interfaces) start_ ∙ start-interfaces items))
+    subst IsSound (sym (made-empty host ds is es d i e)) (empty-sound host (ap (λ (h : HostState). h.steps) start_ ∙ start-steps items) (ap (λ (h : HostState). h.interfaces) start_ ∙ start-interfaces items) (ap (λ (h : HostState). h.devices) start_ ∙ start-devices items))
 
 empty-start : (items : List Item) → empty_session (start items).host ≡ session_of (start items)
 unfolding start

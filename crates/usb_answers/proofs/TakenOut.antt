@@ -3,6 +3,7 @@ use Rattle.std.proofs.Common.{◌≡◌, ℕ, List, [], ◌∷◌, ◌++◌, len
 use Rattle.std.specs.Prelude.{OnOk, true}
 use Rattle.std.specs.Option.{option_map}
 use Rattle.std.specs.declared.alloc.Global.{Global}
+use Rattle.usb_device.proofs.DeviceLemmas.{counts-same}
 use Rattle.usb_simulated.specs.declared.step.KernelStep.{KernelStep}
 use Rattle.usb_endpoint.specs.declared.any_endpoint.AnyEndpoint.{AnyEndpoint}
 use Rattle.usb_endpoint.specs.AnyEndpoints.{state_of}
@@ -55,7 +56,7 @@ no_front (s ∷ ss) rest is = absurd (cc)
 -- between lines no step is left
 pub keeps-line : (old new : HostState) → old.steps ≡ [] → LineGoesOn old new → KeepsSession old new
 keeps-line old new idle line =
-    record { idle = no_front line.front new.steps (sym idle ∙ line.steps); devices = ap length line.devices; interfaces = line.interfaces }
+    record { idle = no_front line.front new.steps (sym idle ∙ line.steps); devices = counts-same old.devices new.devices line.devices; interfaces = line.interfaces }
 
 pub made-put : (i : Inside) (after : List (Option AnyEndpoint)) (e : ℕ) (x y : AnyEndpoint) → PutBack i.endpoints.items after e x y → map (option_map state_of) after ≡ set_name (freed (map (option_map state_of) i.endpoints.items) e) e (state_of y)
 made-put i after e x y back = put-map i.endpoints.items (freed i.endpoints.items e) after e y refl back.put

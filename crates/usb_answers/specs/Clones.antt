@@ -1,14 +1,15 @@
 -- `clone`: one more handle of an open device, or of a claimed interface. It is barred where that is not open, or the new name is in use.
 use Rattle.std.specs.Prelude.{ℕ, if◌then◌else◌}
 use Rattle.usb_device.specs.HandleStates.{InterfaceState}
-use Rattle.usb_device.specs.Handles.{handle_cloned}
+use Rattle.usb_device.specs.Handles.{device_cloned, handle_cloned}
 use Rattle.usb_answers.specs.Names.{named, is_free, set_name}
 use Rattle.usb_answers.specs.State.{State}
 use Rattle.usb_answers.specs.Answer.{Answer, barred, ok_answer, if_open}
 
 -- a handle of the device of this key is open under a name
 abbrev pub with_handle : State → ℕ → ℕ → State
-with_handle state name key = record state { devices = set_name state.devices name key }
+with_handle state name key =
+    record state { host = device_cloned state.host key; devices = set_name state.devices name key }
 
 -- the answer to `clone` of a device
 unfoldable pub clone_device_answer : State → ℕ → ℕ → Answer

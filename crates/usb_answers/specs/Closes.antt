@@ -4,7 +4,7 @@ use Rattle.usb_endpoint.specs.Closes.{all_discarded, after_close}
 use Rattle.usb_device.specs.HostCalls.{host_discarded, host_left}
 use Rattle.usb_device.specs.TicketEnds.{host_abandoned}
 use Rattle.usb_device.specs.HandleStates.{InterfaceState}
-use Rattle.usb_device.specs.Handles.{handle_closed}
+use Rattle.usb_device.specs.Handles.{device_closed, handle_closed}
 use Rattle.usb_device.specs.Owners.{is_shared}
 use Rattle.usb_error.specs.Errors.{interface_in_use_error}
 use Rattle.usb_answers.specs.Names.{named, freed}
@@ -38,10 +38,13 @@ closed_at state e (Some h) = without_endpoint state e h
 unfoldable pub closed : State → ℕ → State
 closed state e = closed_at state e (named state.endpoints e)
 
--- to close a device changes nothing at the host
+abbrev pub without_device : State → ℕ → ℕ → State
+without_device state d key =
+    record state { host = device_closed state.host key; devices = freed state.devices d }
+
 unfoldable pub close_device_answer : State → ℕ → Answer
 close_device_answer state d =
-    if_open (named state.devices d) (λ key. ok_answer (record state { devices = freed state.devices d })) (barred state)
+    if_open (named state.devices d) (λ key. ok_answer (without_device state d key)) (barred state)
 
 -- a handle of an interface is closed, and its name is free
 abbrev pub without_interface : State → ℕ → InterfaceState → State

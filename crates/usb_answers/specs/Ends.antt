@@ -1,4 +1,4 @@
--- The end of a session: what is open is closed, endpoints by number and then interfaces by number (to close a device changes nothing);
+-- The end of a session: what is open is closed, endpoints by number, then interfaces by number and then devices by number;
 -- then the tickets are discarded by number, and reaped by number.
 use Rattle.std.specs.Prelude.{ℕ, zero, suc, Option, Some, None}
 use Rattle.usb_device.specs.HostState.{HostState}
@@ -6,7 +6,7 @@ use Rattle.usb_device.specs.Finishes.{finished}
 use Rattle.usb_device.specs.HandleStates.{InterfaceState}
 use Rattle.usb_answers.specs.Names.{named}
 use Rattle.usb_answers.specs.State.{State}
-use Rattle.usb_answers.specs.Closes.{closed, without_interface}
+use Rattle.usb_answers.specs.Closes.{closed, without_interface, without_device}
 
 -- the endpoints of the names below k are closed, in order
 abbrev pub endpoints_closed : State → ℕ → State
@@ -28,9 +28,20 @@ abbrev pub interfaces_closed : State → ℕ → State
 interfaces_closed state zero = state
 interfaces_closed state (suc k) = interface_closed (interfaces_closed state k) k
 
--- all endpoints and then all interfaces are closed
+abbrev pub device_closed_at : State → ℕ → Option ℕ → State
+device_closed_at state d None = state
+device_closed_at state d (Some key) = without_device state d key
+
+unfoldable pub name_closed : State → ℕ → State
+name_closed state d = device_closed_at state d (named state.devices d)
+
+abbrev pub devices_closed : State → ℕ → State
+devices_closed state zero = state
+devices_closed state (suc k) = name_closed (devices_closed state k) k
+
+-- all endpoints, then all interfaces and then all devices are closed
 unfoldable pub all_closed : State → State
-all_closed state = interfaces_closed (endpoints_closed state 64) 64
+all_closed state = devices_closed (interfaces_closed (endpoints_closed state 64) 64) 64
 
 -- the host at the end of the session
 unfoldable pub ended : State → HostState

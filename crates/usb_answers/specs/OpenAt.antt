@@ -1,6 +1,7 @@
 -- What is open under a name of a device or of an interface, as the host has it.
 use Rattle.std.specs.Prelude.{ℕ, Option, option_and_then, slice_get}
 use Rattle.std.specs.Option.{option_map}
+use Rattle.usb_registry.specs.History.{value_at}
 use Rattle.usb_device.specs.declared.opened.OpenDevice.{OpenDevice}
 use Rattle.usb_ledger.specs.Entries.{ClaimedInterface}
 use Rattle.usb_device.specs.HandleStates.{InterfaceState}
@@ -21,7 +22,7 @@ pub record InterfaceAt : Type 0 where
 -- what the host has of the device that is open under a name
 abbrev pub device_at : State → ℕ → Option DeviceAt
 device_at state d =
-    option_and_then (λ key. option_map (λ o. record { key = key; opened = o }) (slice_get state.host.devices key)) (named state.devices d)
+    option_and_then (λ key. option_map (λ o. record { key = key; opened = o }) (value_at state.host.devices key)) (named state.devices d)
 
 -- what the host has of the interface that is open under a name
 abbrev pub interface_at : State → ℕ → Option InterfaceAt

@@ -1,12 +1,15 @@
 -- What a session is to its users.
 use Rattle.std.specs.Prelude.{ℕ, ◌≡◌, ◌≢◌, ◌<◌, ◌==◌, Bool, false, List, [], Option, Some, None, length, slice_get}
 use Rattle.std.specs.List.{count_by}
+use Rattle.usb_registry.specs.History.{value_at}
 use Rattle.usb_endpoint.specs.EndpointState.{EndpointState}
 use Rattle.usb_endpoint.specs.Handles.{Stands}
 use Rattle.usb_ledger.specs.Entries.{ClaimedInterface}
+use Rattle.usb_device.specs.declared.opened.OpenDevice.{OpenDevice}
 use Rattle.usb_device.specs.HostState.{HostState}
 use Rattle.usb_device.specs.HostBus.{bus_of}
-use Rattle.usb_device.specs.HandleStates.{InterfaceState, StandsInterface}
+use Rattle.usb_device.specs.HandleStates.{InterfaceState, StandsDevice, StandsInterface}
+use Rattle.usb_device.specs.DeviceLaws.{DevicesAreHeld}
 use Rattle.usb_answers.specs.Names.{named}
 
 -- the host, and what is open by the number of its name: the keys of devices, the interfaces, and the endpoints as their calls see them
@@ -21,14 +24,21 @@ abbrev pub is_handle_of : ℕ → Option InterfaceState → Bool
 is_handle_of key None = false
 is_handle_of key (Some f) = f.key == key
 
--- between calls no step is left; there are 64 names of each kind; what is open under a name stands in the host; an interface has as many open handles as there are names
--- of it; and no endpoint is open under two names
+-- whether it is a handle of the device of a key
+abbrev pub is_device_of : ℕ → Option ℕ → Bool
+is_device_of key None = false
+is_device_of key (Some k) = k == key
+
+-- between calls no step is left; there are 64 names of each kind; what is open under a name stands in the host; a device and an interface have as many open handles as there
+-- are names of them; each device that the host keeps is held; and no endpoint is open under two names
 pub record IsSound (s : SessionState) : Type 0 where
   pub idle : s.host.steps ≡ []
   pub device_names : length s.devices ≡ 64
   pub interface_names : length s.interfaces ≡ 64
   pub endpoint_names : length s.endpoints ≡ 64
-  pub devices_stand : (d key : ℕ) → named s.devices d ≡ Some key → key < length s.host.devices
+  pub devices_stand : (d key : ℕ) → named s.devices d ≡ Some key → StandsDevice s.host key
+  pub devices_counted : (key : ℕ) (o : OpenDevice) → value_at s.host.devices key ≡ Some o → count_by (is_device_of key) s.devices ≡ o.handles
+  pub devices_held : DevicesAreHeld s.host
   pub interfaces_stand : (i : ℕ) (f : InterfaceState) → named s.interfaces i ≡ Some f → StandsInterface s.host f
   pub interfaces_counted : (key : ℕ) (c : ClaimedInterface) → slice_get s.host.interfaces key ≡ Some c → count_by (is_handle_of key) s.interfaces ≡ c.handles
   pub endpoints_stand : (e : ℕ) (h : EndpointState) → named s.endpoints e ≡ Some h → Stands (bus_of s.host) h

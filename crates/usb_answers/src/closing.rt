@@ -8,7 +8,7 @@ ghost use Rattle.usb_answers.specs.State.{State};
 ghost use Rattle.usb_answers.specs.Names.{named, freed};
 ghost use Rattle.usb_answers.specs.Answer.{ok_answer};
 ghost use Rattle.usb_answers.specs.Closes.{cancelled, cancel_answer, closed, close_answer, close_device_answer, close_interface_answer, release_answer};
-ghost use Rattle.usb_answers.specs.Ends.{interface_closed};
+ghost use Rattle.usb_answers.specs.Ends.{interface_closed, name_closed};
 ghost use Rattle.usb_answers.specs.Relation.{Represents};
 ghost use Rattle.usb_answers.specs.Answered.{Answers};
 ghost use Rattle.usb_answers.specs.OpenCalls.{CallKeeps, CallAnswers};
@@ -80,17 +80,34 @@ impl Session {
         }
     }
 
+    /// Closes what is open under the number of a device's name, and says whether anything was.
+    pub(crate) fn close_name(&mut self, number: u8) -> bool
+        ensures was_open { result ≡ is_some (named self.old.devices number) }
+        ensures stands { (state : State) → Represents self.old state →
+            Represents self.new (name_closed state number) }
+        ensures freed { self.new.devices ≡ freed self.old.devices number }
+        ensures interfaces { self.new.interfaces ≡ self.old.interfaces }
+        ensures endpoints { self.new.endpoints ≡ self.old.endpoints }
+        ensures spare { self.new.host.kernel.spare ≡ self.old.host.kernel.spare }
+    {
+        let Some(device) = take_at(&mut self.devices, number) else {
+            return false;
+        };
+        device.close(&mut self.host);
+        true
+    }
+
     /// `close`: a handle of a device is closed.
     pub(crate) fn close_device(&mut self, line: &mut String, name: Name) -> Result<(), NoMemory>
         ensures answered { Answers self.old self.new line.old line.new result
             (λ state. close_device_answer state name) }
         ensures spare { self.new.host.kernel.spare ≡ self.old.host.kernel.spare }
     {
-        let Some(device) = take_at(&mut self.devices, name.number()) else {
-            return write_condition(line);
-        };
-        device.close(&mut self.host);
-        write_ok(line)
+        if self.close_name(name.number()) {
+            write_ok(line)
+        } else {
+            write_condition(line)
+        }
     }
 
     /// Closes what is open under the number of an interface's name, and says whether anything was.

@@ -2,6 +2,7 @@
 
 ghost use Rattle.std.specs.Prelude.{◌≡◌, ◌≤◌, ◌+◌, ◌++◌, OnOk, slice_get, string_bytes};
 ghost use Rattle.std.specs.Option.{ForSome};
+ghost use Rattle.usb_registry.specs.History.{value_at};
 ghost use Rattle.usb_device.specs.HandleStates.{StandsDevice};
 ghost use Rattle.usb_device.specs.OnDevices.{active_of};
 ghost use Rattle.usb_answers.specs.State.{State};
@@ -21,7 +22,7 @@ use usb_script::Name;
 /// Appends the value of the configuration that an open device keeps, or why there is none.
 fn write_active(line: &mut String, device: &Device, host: &Host) -> Result<(), NoMemory>
     requires stands { StandsDevice host.now device.now }
-    ensures text { ForSome (slice_get host.now.devices device.now) (λ o. OnOk result
+    ensures text { ForSome (value_at host.now.devices device.now) (λ o. OnOk result
         (string_bytes line.new ≡ string_bytes line.old ++ active_line (active_of o))) }
 {
     match device.active_configuration(host) {

@@ -2,30 +2,16 @@
 
 ghost use Rattle.std.specs.Prelude.{◌≡◌, ◌<◌, ℕ, Some, None};
 ghost use Rattle.usb_device.specs.Finishes.{HasEnds, HasCompletions};
-ghost use Rattle.usb_device.specs.HandleStates.{StandsDevice};
+ghost use Rattle.usb_registry.specs.History.{value_at};
 ghost use Rattle.usb_answers.specs.State.{State};
 ghost use Rattle.usb_answers.specs.Names.{named, freed};
-ghost use Rattle.usb_answers.specs.Ends.{endpoints_closed, interface_closed, interfaces_closed, ended};
+ghost use Rattle.usb_answers.specs.Ends.{endpoints_closed, interfaces_closed, devices_closed, ended};
 ghost use Rattle.usb_answers.specs.Relation.{Represents};
 ghost use Rattle.usb_answers.specs.Accounts.{Accounted};
 
 use crate::names::drop_names;
 use crate::session::Session;
-use usb_device::{Device, Host};
-
-/// Closes devices. The kernel knows nothing of it.
-fn close_devices(devices: Vec<Option<Device>>, host: &mut Host)
-    requires stand { (d key : ℕ) → named devices.items d ≡ Some key → StandsDevice host.old key }
-    ensures host { host.new ≡ host.old }
-{
-    let mut devices = devices;
-    'places: while let Some(place) = devices.pop() {
-        if let Some(device) = place {
-            device.close(host);
-        }
-    }
-    devices.destroy_empty();
-}
+use usb_device::Host;
 
 impl Session {
     /// Closes the endpoints by number.
@@ -51,17 +37,33 @@ impl Session {
         }
     }
 
-    /// Closes what is open, endpoints by number, then interfaces by number, and then devices; and gives the host, at which all
-    /// tickets are discarded and then reaped, by number. Then each ticket has its completion and its end.
+    /// Closes the devices by number.
+    fn close_devices(&mut self)
+        ensures stands { (state : State) → Represents self.old state →
+            Represents self.new (devices_closed state 64) }
+        ensures none { (d : ℕ) → d < 64 → named self.new.devices d ≡ None }
+        ensures interfaces { self.new.interfaces ≡ self.old.interfaces }
+        ensures endpoints { self.new.endpoints ≡ self.old.endpoints }
+    {
+        for name in 0..64 {
+            self.close_name(name);
+        }
+    }
+
+    /// Closes what is open, endpoints by number, then interfaces and then devices by number; and gives the host, at which all
+    /// tickets are discarded and then reaped, by number. Then each ticket has its completion and its end, and the host keeps
+    /// no open device.
     pub fn end(self) -> Host
         ensures host { (state : State) → Represents self state → result ≡ ended state }
         ensures ended { (state : State) → Represents self state → Accounted state →
             HasEnds result.tickets }
         ensures reaped { HasCompletions result.kernel.past }
+        ensures none_open { (d : ℕ) → value_at result.devices d ≡ None }
     {
         let mut session = self;
         session.close_endpoints();
         session.close_interfaces();
+        session.close_devices();
         let Session {
             mut host,
             devices,
@@ -70,7 +72,7 @@ impl Session {
         } = session;
         drop_names(endpoints);
         drop_names(interfaces);
-        close_devices(devices, &mut host);
+        drop_names(devices);
         host.finish();
         host
     }

@@ -61,7 +61,7 @@ TicketsAgree-some past next slots done s agree comes at =
     }
 
 -- a host at which a completion arrives
-module _ (k : KernelState) (devices : List OpenDevice) (l : LedgerState) (steps : List KernelStep) (done : Done) where
+module _ (k : KernelState) (devices : List (Option OpenDevice)) (l : LedgerState) (steps : List KernelStep) (done : Done) where
   came-held : (key : ℕ) (s : TicketState) → slice_get l.slots done.ticket ≡ Some s → abandoned_key s ≡ None → came (host_made k devices l steps) (Some done) ≡ host_made k devices l steps
   unfolding came
   came-held key (slot.HeldBy j transfer) at none = rw (ticket-at l.slots done.ticket (slot.HeldBy j transfer) at) refl

@@ -14,6 +14,8 @@ use Rattle.usb_simulated.specs.Calls.{same, set_configuration_rules, with_config
 use Rattle.usb_kernel.specs.Calls.{errno_of, called, after_reset}
 use Rattle.usb_kernel.specs.Steps.{after_step}
 use Rattle.usb_kernel.proofs.CallsKept.{reset-unplug, refused-reset}
+use Rattle.usb_registry.specs.History.{value_at}
+use Rattle.usb_registry.proofs.ValueLemmas.{set-value_same}
 use Rattle.usb_device.specs.declared.host.Host.TheInside.{Inside}
 use Rattle.usb_device.specs.declared.opened.OpenDevice.{OpenDevice}
 use Rattle.usb_ledger.specs.declared.slot.TicketState.{TicketState}
@@ -63,7 +65,7 @@ reset-spare k d = by (errno_of k d call.Reset no_rules) refl
     by (Some errno) is = rw (refused-reset k d errno is) (omega arith)
 
 -- a host with another kernel
-pub kernel-put : (k : KernelState) (devices : List OpenDevice) (l : LedgerState) (steps : List KernelStep) (h : HostState) (after next : KernelState) → host_made k devices l steps ≡ h → after ≡ next → host_made after devices l steps ≡ record h { kernel = next }
+pub kernel-put : (k : KernelState) (devices : List (Option OpenDevice)) (l : LedgerState) (steps : List KernelStep) (h : HostState) (after next : KernelState) → host_made k devices l steps ≡ h → after ≡ next → host_made after devices l steps ≡ record h { kernel = next }
 kernel-put k devices l steps h after next is kernel = ap (λ (x : KernelState). host_made x devices l steps) kernel ∙ ap (λ (g : HostState). record g { kernel = next }) is
 
 -- what the kernel answers tells its errno
@@ -81,7 +83,7 @@ set-same (y ∷ ys) zero x at = ap (λ z. z ∷ ys) (sym (same_Some y x at))
 set-same (y ∷ ys) (suc i) x at = ap (λ zs. y ∷ zs) (set-same ys i x at)
 
 -- the calls on an open device
-module _ (h : HostState) (key : ℕ) (o : OpenDevice) (at : slice_get h.devices key ≡ Some o) where
+module _ (h : HostState) (key : ℕ) (o : OpenDevice) (at : value_at h.devices key ≡ Some o) where
   pub detached-at : (i : ℕ) → host_detached h key i ≡ record h { kernel = called h.kernel o.device call.Detach (detach_rules i) (without_driver i) }
   unfolding host_detached
   detached-at i = ap (detached_on h i) at
@@ -103,14 +105,14 @@ module _ (h : HostState) (key : ℕ) (o : OpenDevice) (at : slice_get h.devices 
   configured-refused value errno is =
       let next = called h.kernel o.device call.SetConfig (set_configuration_rules value) (with_configuration value) in
       ap (configured_on h key value) at
-      ∙ ap (λ e. record h { kernel = next; devices = set h.devices key (configured_unless o value e) }) is
-      ∙ ap (λ (xs : List OpenDevice). record h { kernel = next; devices = xs }) (set-same h.devices key o at)
+      ∙ ap (λ e. record h { kernel = next; devices = set h.devices key (Some (configured_unless o value e)) }) is
+      ∙ ap (λ (xs : List (Option OpenDevice)). record h { kernel = next; devices = xs }) (set-value_same h.devices key o at)
 
-  pub configured-at : (value : ℕ) → set_configuration_errno h o value ≡ None → host_configured h key value ≡ record h { kernel = called h.kernel o.device call.SetConfig (set_configuration_rules value) (with_configuration value); devices = set h.devices key (record o { configuration = value }) }
+  pub configured-at : (value : ℕ) → set_configuration_errno h o value ≡ None → host_configured h key value ≡ record h { kernel = called h.kernel o.device call.SetConfig (set_configuration_rules value) (with_configuration value); devices = set h.devices key (Some (record o { configuration = value })) }
   unfolding host_configured
   configured-at value is =
       let next = called h.kernel o.device call.SetConfig (set_configuration_rules value) (with_configuration value) in
-      ap (configured_on h key value) at ∙ ap (λ e. record h { kernel = next; devices = set h.devices key (configured_unless o value e) }) is
+      ap (configured_on h key value) at ∙ ap (λ e. record h { kernel = next; devices = set h.devices key (Some (configured_unless o value e)) }) is
 
 -- and on a claimed interface
 module _ (h : HostState) (i setting : ℕ) (c : ClaimedInterface) (at : slice_get h.interfaces i ≡ Some c) where
@@ -136,7 +138,7 @@ module _ (h : HostState) (i setting : ℕ) (c : ClaimedInterface) (at : slice_ge
 
 -- one more handle
 pub cloned-made :
-    (k : KernelState) (devices : List OpenDevice) (l : LedgerState) (steps : List KernelStep) (i : ℕ) (c : ClaimedInterface) (after : LedgerState) (now : HostState) (r : Result (Unit {0}) NoMemory) → slice_get l.interfaces i ≡ Some c → host_made k devices l steps ≡ now
+    (k : KernelState) (devices : List (Option OpenDevice)) (l : LedgerState) (steps : List KernelStep) (i : ℕ) (c : ClaimedInterface) (after : LedgerState) (now : HostState) (r : Result (Unit {0}) NoMemory) → slice_get l.interfaces i ≡ Some c → host_made k devices l steps ≡ now
     → OnOk r (ForSome (slice_get l.interfaces i) (λ c. after ≡ record l { interfaces = set l.interfaces i (record c { handles = c.handles + 1 }) })) → OnOk r (host_made k devices after steps ≡ handle_cloned now i)
 unfolding handle_cloned
 cloned-made k devices l steps i c after now (Ok done) at is ok =

@@ -20,6 +20,7 @@ use Rattle.usb_endpoint.specs.Submits.{is_valid, transfer_by, entered}
 use Rattle.usb_endpoint.specs.Closes.{all_discarded, all_abandoned, after_close}
 use Rattle.usb_ledger.specs.declared.ends.TicketEnd.{TicketEnd}
 use Rattle.usb_ledger.specs.declared.ends.TicketEnd.TheVariants.{Taken, Dropped, Reclaimed}
+use Rattle.usb_registry.specs.History.{value_at}
 use Rattle.usb_device.specs.declared.opened.OpenDevice.{OpenDevice}
 use Rattle.usb_ledger.specs.Entries.{HostTicket, HostEndpoint, ClaimedInterface, fresh_interface, HeldBy, Abandoned, Ended}
 use Rattle.usb_device.specs.HostState.{HostState}
@@ -216,7 +217,7 @@ claimed_on-count h key number reattach (Some o) =
 
 pub claimed-count : (h : HostState) (key number : ℕ) (reattach : Bool) → KeepsCount h (host_claimed h key number reattach)
 unfolding host_claimed
-claimed-count h key number reattach = claimed_on-count h key number reattach (slice_get h.devices key)
+claimed-count h key number reattach = claimed_on-count h key number reattach (value_at h.devices key)
 
 asked_on-count : (h : HostState) (key : ℕ) (o : Option OpenDevice) → KeepsCount h (asked_on h key o)
 unfolding called
@@ -225,7 +226,7 @@ asked_on-count h key (Some o) = record { count = refl; past = refl }
 
 pub asked-count : (h : HostState) (key : ℕ) → KeepsCount h (host_asked h key)
 unfolding host_asked
-asked-count h key = asked_on-count h key (slice_get h.devices key)
+asked-count h key = asked_on-count h key (value_at h.devices key)
 
 -- a submission adds a ticket, refused or not
 submit_event-count : (past : List Event) (t : ℕ) (s : Submission) (o : Option ℕ) → length (tickets (submit_or_refuse t s o ∷ past)) ≡ length (tickets past) + 1

@@ -16,6 +16,7 @@ use Rattle.usb_kernel.proofs.Places.{slice_get-append_left, slice_get-set_other}
 use Rattle.usb_bus.specs.declared.route.Route.{Route}
 use Rattle.usb_ledger.specs.declared.ends.TicketEnd.{TicketEnd}
 use Rattle.usb_ledger.specs.declared.ends.TicketEnd.TheVariants.{Taken, Dropped, Reclaimed}
+use Rattle.usb_registry.specs.History.{value_at}
 use Rattle.usb_device.specs.declared.opened.OpenDevice.{OpenDevice}
 use Rattle.usb_ledger.specs.Entries.{HostTicket, HostEndpoint, ClaimedInterface, fresh_interface, HeldBy, Abandoned, Ended}
 use Rattle.usb_device.specs.HostState.{HostState}
@@ -174,7 +175,7 @@ claimed-by h key number reattach (Some o) = claimed_by-ends (record h { kernel =
 
 claimed-ends : (h : HostState) (key number : ℕ) (reattach : Bool) → KeepsEnds h (host_claimed h key number reattach)
 unfolding host_claimed
-claimed-ends h key number reattach = claimed-by h key number reattach (slice_get h.devices key)
+claimed-ends h key number reattach = claimed-by h key number reattach (value_at h.devices key)
 
 handle-by : (h : HostState) (i : ℕ) (o : Option ClaimedInterface) → KeepsEnds h (handle_gone h i o)
 unfolding owner_gone
@@ -211,7 +212,7 @@ configured-by h key value (Some o) = λ t end at. at
 
 configured-ends : (h : HostState) (key value : ℕ) → KeepsEnds h (host_configured h key value)
 unfolding host_configured
-configured-ends h key value = configured-by h key value (slice_get h.devices key)
+configured-ends h key value = configured-by h key value (value_at h.devices key)
 
 reset-by : (h : HostState) (o : Option OpenDevice) → KeepsEnds h (reset_on h o)
 reset-by h None = same h
@@ -219,7 +220,7 @@ reset-by h (Some o) = λ t end at. at
 
 reset-ends : (h : HostState) (key : ℕ) → KeepsEnds h (host_reset h key)
 unfolding host_reset
-reset-ends h key = reset-by h (slice_get h.devices key)
+reset-ends h key = reset-by h (value_at h.devices key)
 
 detached-by : (h : HostState) (number : ℕ) (o : Option OpenDevice) → KeepsEnds h (detached_on h number o)
 detached-by h number None = same h
@@ -227,7 +228,7 @@ detached-by h number (Some o) = λ t end at. at
 
 detached-ends : (h : HostState) (key number : ℕ) → KeepsEnds h (host_detached h key number)
 unfolding host_detached
-detached-ends h key number = detached-by h number (slice_get h.devices key)
+detached-ends h key number = detached-by h number (value_at h.devices key)
 
 attached-by : (h : HostState) (number : ℕ) (o : Option OpenDevice) → KeepsEnds h (attached_on h number o)
 attached-by h number None = same h
@@ -235,7 +236,7 @@ attached-by h number (Some o) = λ t end at. at
 
 attached-ends : (h : HostState) (key number : ℕ) → KeepsEnds h (host_attached h key number)
 unfolding host_attached
-attached-ends h key number = attached-by h number (slice_get h.devices key)
+attached-ends h key number = attached-by h number (value_at h.devices key)
 
 speed-by : (h : HostState) (o : Option OpenDevice) → KeepsEnds h (speed_asked_on h o)
 speed-by h None = same h
@@ -243,7 +244,7 @@ speed-by h (Some o) = λ t end at. at
 
 speed-ends : (h : HostState) (key : ℕ) → KeepsEnds h (host_speed_asked h key)
 unfolding host_speed_asked
-speed-ends h key = speed-by h (slice_get h.devices key)
+speed-ends h key = speed-by h (value_at h.devices key)
 
 asked-by : (h : HostState) (key : ℕ) (o : Option OpenDevice) → KeepsEnds h (asked_on h key o)
 asked-by h key None = same h
@@ -251,7 +252,7 @@ asked-by h key (Some o) = λ t end at. at
 
 asked-ends : (h : HostState) (key : ℕ) → KeepsEnds h (host_asked h key)
 unfolding host_asked
-asked-ends h key = asked-by h key (slice_get h.devices key)
+asked-ends h key = asked-by h key (value_at h.devices key)
 
 -- the end
 discarded_below-ends : (h : HostState) (n : ℕ) → KeepsEnds h (discarded_below h n)

@@ -1,11 +1,13 @@
 -- Endpoints are opened.
-use Rattle.std.proofs.Common.{ℕ, zero, suc, arith, ◌≡◌, ◌<◌, Bool, true, false, List, [], ◌∷◌, ◌++◌, length, set, slice_get, Option, Some, None, Ok, refl, ◌∙◌, ap, inl, inr}
+use Rattle.std.specs.Prelude.{IsSome}
+use Rattle.std.proofs.Common.{subst, sym, ℕ, zero, suc, arith, ◌≡◌, ◌<◌, Bool, true, false, List, [], ◌∷◌, ◌++◌, length, set, slice_get, Option, Some, None, Ok, refl, ◌∙◌, ap, inl, inr}
 use Rattle.std.specs.Prelude.{not, ◌==◌}
 use Rattle.std.proofs.lemmas.Grind.{common_steps}
 use Rattle.std.proofs.lemmas.Bool.{cases_Bool}
 use Rattle.usb_desc.specs.declared.types.Direction.{Direction}
 use Rattle.usb_desc.specs.declared.types.TransferType.{TransferType}
 use Rattle.usb_desc.specs.Fields.{direction_of_address, transfer_type, max_packet_size}
+use Rattle.usb_registry.specs.History.{value_at}
 use Rattle.usb_device.specs.declared.opened.OpenDevice.{OpenDevice}
 use Rattle.usb_ledger.specs.Entries.{ClaimedInterface}
 use Rattle.usb_device.specs.HostState.{HostState}
@@ -21,14 +23,15 @@ use Rattle.usb_simulated.specs.declared.step.KernelCall.TheVariants as call
 use Rattle.usb_simulated.specs.Claims.{no_rules}
 use Rattle.usb_simulated.specs.Calls.{same}
 use Rattle.usb_kernel.specs.Calls.{called}
-use Rattle.usb_device.proofs.InterfaceFrames.{asked-is, asked-length}
+use Rattle.usb_device.proofs.InterfaceFrames.{asked-is, asked-counts}
+use Rattle.usb_device.proofs.DeviceLemmas.{counts-there}
 use Rattle.usb_device.specs.EndpointOpens.{active_value, host_asked, asked_on, endpoint_in, endpoint_of_setting, host_tries}
 
-pub asked-at : (h : HostState) (key : ℕ) (o : OpenDevice) → slice_get h.devices key ≡ Some o → host_asked h key ≡ record h { kernel = called h.kernel o.device call.GetConfig no_rules same; devices = set h.devices key (record o { configuration = active_value h.kernel o }) }
+pub asked-at : (h : HostState) (key : ℕ) (o : OpenDevice) → value_at h.devices key ≡ Some o → host_asked h key ≡ record h { kernel = called h.kernel o.device call.GetConfig no_rules same; devices = set h.devices key (Some (record o { configuration = active_value h.kernel o })) }
 unfolding host_asked
 asked-at h key o at = ap (asked_on h key) at
 
-pub tries-at : (h : HostState) (i : ℕ) (c : ClaimedInterface) (o : OpenDevice) (address : ℕ) (kind : TransferType) (direction : Direction) → slice_get h.devices c.opened ≡ Some o
+pub tries-at : (h : HostState) (i : ℕ) (c : ClaimedInterface) (o : OpenDevice) (address : ℕ) (kind : TransferType) (direction : Direction) → value_at h.devices c.opened ≡ Some o
     → host_tries h i c address kind direction ≡ endpoint_tried (endpoint_of_setting o c.number c.setting address) address kind direction (is_in_use h i address)
 unfolding host_tries
 tries-at h i c o address kind direction at = ap (λ d. endpoint_tried (endpoint_in c address d) address kind direction (is_in_use h i address)) at
@@ -48,7 +51,7 @@ used-refused (Some e) address kind direction true maximum ok =
 
 pub tried-unused : (h : HostState) (i : ℕ) (c : ClaimedInterface) (address : ℕ) (kind : TransferType) (direction : Direction) (maximum : ℕ) → host_tries h i c address kind direction ≡ Ok maximum → is_in_use h i address ≡ false
 unfolding host_tries
-tried-unused h i c address kind direction maximum ok = used-refused (endpoint_in c address (slice_get h.devices c.opened)) address kind direction (is_in_use h i address) maximum ok
+tried-unused h i c address kind direction maximum ok = used-refused (endpoint_in c address (value_at h.devices c.opened)) address kind direction (is_in_use h i address) maximum ok
 
 -- the maximum packet size of an endpoint that is opened is not 0
 size-some : (found : Option (List ℕ)) (address : ℕ) (kind : TransferType) (direction : Direction) (used : Bool) (maximum : ℕ) → endpoint_tried found address kind direction used ≡ Ok maximum → 0 < maximum
@@ -75,7 +78,7 @@ size-some (Some e) address kind direction used maximum ok =
 
 pub tried-some : (h : HostState) (i : ℕ) (c : ClaimedInterface) (address : ℕ) (kind : TransferType) (direction : Direction) (maximum : ℕ) → host_tries h i c address kind direction ≡ Ok maximum → 0 < maximum
 unfolding host_tries
-tried-some h i c address kind direction maximum ok = size-some (endpoint_in c address (slice_get h.devices c.opened)) address kind direction (is_in_use h i address) maximum ok
+tried-some h i c address kind direction maximum ok = size-some (endpoint_in c address (value_at h.devices c.opened)) address kind direction (is_in_use h i address) maximum ok
 
 -- an endpoint that was opened stands, and the others stand as before
 key-new : (endpoints : List HostEndpoint) (e : HostEndpoint) → e.is_open ≡ true → key_at (endpoints ++ e ∷ []) (length endpoints) ≡ true
@@ -117,7 +120,7 @@ endpoint-interface h new i device address stands is =
       at = ap (λ (x : HostState). slice_get x.interfaces i.key) (is ∙ ap (λ x. with_endpoint x i.key address) (asked-is h device)) ∙ stands.at;
       number = stands.number;
       open_handle = stands.open_handle;
-      device = rw (ap (λ (x : HostState). length x.devices) is ∙ asked-length h device) stands.device;
+      device = subst (λ (ds : List (Option OpenDevice)). IsSome (value_at ds stands.claim.opened)) (sym (ap (λ (x : HostState). x.devices) is)) (counts-there h.devices (host_asked h device).devices (asked-counts h device) stands.claim.opened stands.device);
     }
 
 pub asked-interface : (h new : HostState) (i : InterfaceState) (device : ℕ) → StandsInterface h i → new ≡ host_asked h device → StandsInterface new i
@@ -127,5 +130,5 @@ asked-interface h new i device stands is =
       at = ap (λ (x : HostState). slice_get x.interfaces i.key) (is ∙ asked-is h device) ∙ stands.at;
       number = stands.number;
       open_handle = stands.open_handle;
-      device = rw (ap (λ (x : HostState). length x.devices) is ∙ asked-length h device) stands.device;
+      device = subst (λ (ds : List (Option OpenDevice)). IsSome (value_at ds stands.claim.opened)) (sym (ap (λ (x : HostState). x.devices) is)) (counts-there h.devices (host_asked h device).devices (asked-counts h device) stands.claim.opened stands.device);
     }

@@ -61,13 +61,13 @@ TicketsAgree-enter past slots s refusal key transfer agree held =
     }
 
 -- the host then
-pub submitted-made : (k k' : KernelState) (devices : List OpenDevice) (l l' : LedgerState) (steps : List KernelStep) (to : Route) (t : TransferData) (b : BufferState) (held : HeldData) (room : ℕ) → buffer_held t.held ≡ Some b
+pub submitted-made : (k k' : KernelState) (devices : List (Option OpenDevice)) (l l' : LedgerState) (steps : List KernelStep) (to : Route) (t : TransferData) (b : BufferState) (held : HeldData) (room : ℕ) → buffer_held t.held ≡ Some b
     → k' ≡ record k { past = after_submit k.devices k.armed k.past (submission_of to b); armed = armed_after_submit k.devices k.armed (submission_of to b) }
     → l' ≡ record l { slots = l.slots ++ slot.HeldBy to.key (record t { held = held }) ∷ []; room = room } → host_made k' devices l' steps ≡ host_submitted (host_made k devices l steps) to t
 unfolding host_submitted
 submitted-made k k' devices l l' steps to t b held room some kernel ledger = rw (some, kernel, ledger, map-append) refl
 
-pub refused-made : (k k' : KernelState) (devices : List OpenDevice) (l l' : LedgerState) (steps : List KernelStep) (to : Route) (t : TransferData) (errno : ℕ) (b : BufferState) (held : HeldData) (room : ℕ) → buffer_held t.held ≡ Some b
+pub refused-made : (k k' : KernelState) (devices : List (Option OpenDevice)) (l l' : LedgerState) (steps : List KernelStep) (to : Route) (t : TransferData) (errno : ℕ) (b : BufferState) (held : HeldData) (room : ℕ) → buffer_held t.held ≡ Some b
     → k' ≡ record k { past = after_refuse k.past (submission_of to b) errno }
     → l' ≡ record l { slots = l.slots ++ slot.HeldBy to.key (record t { held = held }) ∷ []; room = room } → host_made k' devices l' steps ≡ host_refused (host_made k devices l steps) to t errno
 unfolding host_refused

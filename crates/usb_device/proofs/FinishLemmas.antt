@@ -212,7 +212,7 @@ finished-reaped h t below =
     reaped-completed g n t all (omega (arith, count)) (omega (arith, count, reaped-count g n))
 
 -- the slots of a host say so
-pub matched-waits : (k : KernelState) (devices : List OpenDevice) (l : LedgerState) (steps : List KernelStep) → TicketsAgree k.past l.slots → ((t : ℕ) → owner_at (host_made k devices l steps).tickets t ≡ None) → Waits (host_made k devices l steps) (length (tickets k.past))
+pub matched-waits : (k : KernelState) (devices : List (Option OpenDevice)) (l : LedgerState) (steps : List KernelStep) → TicketsAgree k.past l.slots → ((t : ℕ) → owner_at (host_made k devices l steps).tickets t ≡ None) → Waits (host_made k devices l steps) (length (tickets k.past))
 matched-waits k devices l steps agree free =
     record {
       count = length-map l.slots host_ticket ∙ agree.count;

@@ -22,6 +22,7 @@ use Rattle.usb_endpoint.specs.EndpointState.{EndpointState, route_of}
 use Rattle.usb_endpoint.specs.Submits.{is_valid, transfer_by, entered}
 use Rattle.usb_endpoint.specs.Closes.{all_discarded}
 use Rattle.usb_ledger.specs.declared.ends.TicketEnd.TheVariants.{Taken, Dropped, Reclaimed}
+use Rattle.usb_registry.specs.History.{value_at}
 use Rattle.usb_device.specs.declared.opened.OpenDevice.{OpenDevice}
 use Rattle.usb_ledger.specs.Entries.{HostTicket, HostEndpoint, ClaimedInterface, fresh_interface, Hold, HeldBy, Abandoned, Ended}
 use Rattle.usb_device.specs.HostState.{HostState}
@@ -235,7 +236,7 @@ claimed_on-on h key number reattach (Some o) =
 
 pub on-claimed : (h : HostState) (key number : ℕ) (reattach : Bool) → KeepsTickets h (host_claimed h key number reattach)
 unfolding host_claimed
-on-claimed h key number reattach = claimed_on-on h key number reattach (slice_get h.devices key)
+on-claimed h key number reattach = claimed_on-on h key number reattach (value_at h.devices key)
 
 asked_on-on : (h : HostState) (key : ℕ) (o : Option OpenDevice) → KeepsTickets h (asked_on h key o)
 unfolding called
@@ -244,7 +245,7 @@ asked_on-on h key (Some o) = on-kept h (asked_on h key (Some o)) refl refl
 
 pub on-asked : (h : HostState) (key : ℕ) → KeepsTickets h (host_asked h key)
 unfolding host_asked
-on-asked h key = asked_on-on h key (slice_get h.devices key)
+on-asked h key = asked_on-on h key (value_at h.devices key)
 
 -- a submission adds a ticket, which its endpoint holds
 follows-push : (ts : List HostTicket) (x : HostTicket) (t : ℕ) (o : Option HostTicket) → slice_get ts t ≡ o → Follows o (slice_get (ts ++ x ∷ []) t)

@@ -18,6 +18,7 @@ use Rattle.usb_device.specs.CallErrors.{Leaves}
 use Rattle.usb_device.proofs.Left.{left}
 use Rattle.usb_device.specs.Opens.{host_opened}
 use Rattle.usb_device.specs.InterfaceClaims.{host_claimed}
+use Rattle.usb_device.proofs.DeviceLemmas.{there-same}
 use Rattle.usb_device.proofs.WaitFrames.{went-turned}
 use Rattle.usb_device.proofs.EndpointCalls.{keeps-entered, interfaces-closed, line-closed}
 use Rattle.usb_device.proofs.InterfaceFrames.{opened-is, StandsInterface-same, bus-claimed}
@@ -25,8 +26,7 @@ use Rattle.usb_device.proofs.InterfaceFrames.{opened-is, StandsInterface-same, b
 -- a handle stands while the interfaces and the devices stay
 stands-stays : (h g : HostState) (i : InterfaceState) → g.interfaces ≡ h.interfaces → g.devices ≡ h.devices → StandsInterface h i → StandsInterface g i
 stands-stays h g i interfaces devices stands =
-    let more : length g.devices ≡ length h.devices = ap (λ (ds : List OpenDevice). length ds) devices in
-    StandsInterface-same h g i interfaces (omega (arith, more)) stands
+    StandsInterface-same h g i interfaces (there-same h.devices g.devices devices) stands
 
 -- over a turn
 pub stands-turned : (h g : HostState) (i : InterfaceState) → g ≡ host_turned h → StandsInterface h i → StandsInterface g i

@@ -77,7 +77,7 @@ value-some hold (Some c) = refl
 pub hold-of : (slots : List TicketState) (t : ℕ) (w : HeldSlot slots t) → hold_at (map host_ticket slots) t ≡ Some (record { key = w.key; endpoint = w.transfer.endpoint; kind = w.transfer.kind })
 hold-of slots t w = ap (option_and_then held_as) (ticket-at slots t (slot.HeldBy w.key w.transfer) w.at)
 
-pub come-value : (k : KernelState) (devices : List OpenDevice) (l : LedgerState) (steps : List KernelStep) (t : ℕ) (w : HeldSlot l.slots t) → TicketsAgree k.past l.slots
+pub come-value : (k : KernelState) (devices : List (Option OpenDevice)) (l : LedgerState) (steps : List KernelStep) (t : ℕ) (w : HeldSlot l.slots t) → TicketsAgree k.past l.slots
     → is_complete (slot.HeldBy w.key w.transfer) ≡ is_some (host_value (host_made k devices l steps) t)
 unfolding transfer_completion
 come-value k devices l steps t w agree =
@@ -90,7 +90,7 @@ value-at : (transfer : TransferData) (key : ℕ) (o : Option Completion) → tra
 value-at transfer key None held some = absurd (cc)
 value-at transfer key (Some c) held some = ap (λ (h : HeldData). Some (record transfer { held = h })) held
 
-pub value-slot : (k : KernelState) (devices : List OpenDevice) (l : LedgerState) (steps : List KernelStep) (t : ℕ) (w : HeldSlot l.slots t) → TicketsAgree k.past l.slots → IsSome (host_value (host_made k devices l steps) t)
+pub value-slot : (k : KernelState) (devices : List (Option OpenDevice)) (l : LedgerState) (steps : List KernelStep) (t : ℕ) (w : HeldSlot l.slots t) → TicketsAgree k.past l.slots → IsSome (host_value (host_made k devices l steps) t)
     → slot_data (slot.HeldBy w.key w.transfer) ≡ host_value (host_made k devices l steps) t
 value-slot k devices l steps t w agree some =
     let fits : w.transfer.held ≡ held_of (transfer_completion k.past t) = agree.each t (slot.HeldBy w.key w.transfer) w.at in
@@ -98,7 +98,7 @@ value-slot k devices l steps t w agree some =
     value-at w.transfer w.key (transfer_completion k.past t) fits (rw here at some) ∙ sym here
 
 -- a ticket ends
-module _ (k : KernelState) (devices : List OpenDevice) (l : LedgerState) (steps : List KernelStep) (t : ℕ) (w : HeldSlot l.slots t) where
+module _ (k : KernelState) (devices : List (Option OpenDevice)) (l : LedgerState) (steps : List KernelStep) (t : ℕ) (w : HeldSlot l.slots t) where
   ended-made : (end : TicketEnd) → host_ended (host_made k devices l steps) t end ≡ settled (record (host_made k devices l steps) { tickets = set (map host_ticket l.slots) t (Ended end) }) w.key
   unfolding host_ended
   ended-made end = rw (ticket-at l.slots t (slot.HeldBy w.key w.transfer) w.at) refl
@@ -136,7 +136,7 @@ open-at (e ∷ es) zero open_ = record { e = e; at = refl; is_open = open_ }
 open-at (e ∷ es) (suc k) open_ = let w = open-at es k open_ in record { e = w.e; at = w.at; is_open = w.is_open }
 
 -- it is left
-pub left-made : (k : KernelState) (devices : List OpenDevice) (l : LedgerState) (steps : List KernelStep) (key : ℕ) (w : OpenEndpoint l.endpoints key) (l' : LedgerState) (ended : Option EndedClaim) (k' : KernelState)
+pub left-made : (k : KernelState) (devices : List (Option OpenDevice)) (l : LedgerState) (steps : List KernelStep) (key : ℕ) (w : OpenEndpoint l.endpoints key) (l' : LedgerState) (ended : Option EndedClaim) (k' : KernelState)
     → l' ≡ record l { endpoints = set l.endpoints key (record w.e { is_open = false }) } → ended ≡ claim_of l'.interfaces (map host_ticket l'.slots) l'.endpoints key → k' ≡ without_ended k ended → host_made k' devices l' steps ≡ host_left (host_made k devices l steps) key
 unfolding host_left settled
 left-made k devices l steps key w l' ended k' is claim kernel = rw (w.at, released-as k k' ended kernel, claim, is) refl

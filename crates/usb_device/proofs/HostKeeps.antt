@@ -13,7 +13,12 @@ pub record UsesPlaces (places : ℕ) (old new : HostState) : Type 0 where
   pub endpoints : new.endpoints ≡ old.endpoints
   pub later : IsLater (bus_of old) (bus_of new)
 
--- the line, the places for its steps and the open devices are as they were
+-- the line and the places for its steps are as they were
+pub record KeepsSteps (old new : HostState) : Type 0 where
+  pub steps : new.steps ≡ old.steps
+  pub spare : new.kernel.spare ≡ old.kernel.spare
+
+-- and so are the open devices
 pub record KeepsLine (old new : HostState) : Type 0 where
   pub steps : new.steps ≡ old.steps
   pub spare : new.kernel.spare ≡ old.kernel.spare

@@ -1,3 +1,4 @@
+pub mod DeviceLemmas
 pub mod KernelFrames
 pub mod ArrivalLemmas
 pub mod HostCallLemmas
@@ -40,3 +41,4 @@ pub mod OwnerLawCalls
 pub mod OwnerLawWaits
 pub mod OwnerLawClaims
 pub mod OwnerLaw
+pub mod HeldDevices

@@ -17,6 +17,8 @@ use Rattle.usb_kernel.specs.Submits.{kernel_submitted, kernel_refused}
 use Rattle.usb_kernel.proofs.Places.{slice_get-set_same, slice_get-set_other, slice_get-append_seam}
 use Rattle.usb_bus.specs.declared.route.Route.{Route}
 use Rattle.usb_bus.specs.Routes.{submission_of}
+use Rattle.usb_registry.specs.History.{value_at}
+use Rattle.usb_device.specs.Handles.{devices_left}
 use Rattle.usb_device.specs.declared.opened.OpenDevice.{OpenDevice}
 use Rattle.usb_ledger.specs.Entries.{ClaimedInterface, HostTicket, HostEndpoint, HeldBy}
 use Rattle.usb_device.specs.HostState.{HostState}
@@ -102,7 +104,7 @@ asked-by h key (Some o) = claims-kept h (asked_on h key (Some o)) (λ d n. calle
 
 pub asked-owned : (h : HostState) (key : ℕ) → KeepsOwned h (host_asked h key)
 unfolding host_asked
-asked-owned h key = asked-by h key (slice_get h.devices key)
+asked-owned h key = asked-by h key (value_at h.devices key)
 
 configured-by : (h : HostState) (key value : ℕ) (o : Option OpenDevice) → KeepsOwned h (configured_on h key value o)
 configured-by h key value None = stays h
@@ -110,7 +112,7 @@ configured-by h key value (Some o) = claims-kept h (configured_on h key value (S
 
 pub configured-owned : (h : HostState) (key value : ℕ) → KeepsOwned h (host_configured h key value)
 unfolding host_configured
-configured-owned h key value = configured-by h key value (slice_get h.devices key)
+configured-owned h key value = configured-by h key value (value_at h.devices key)
 
 reset-by : (h : HostState) (o : Option OpenDevice) → KeepsOwned h (reset_on h o)
 reset-by h None = stays h
@@ -118,7 +120,7 @@ reset-by h (Some o) = kernel-owned h (after_reset h.kernel o.device) (reset-clai
 
 pub reset-owned : (h : HostState) (key : ℕ) → KeepsOwned h (host_reset h key)
 unfolding host_reset
-reset-owned h key = reset-by h (slice_get h.devices key)
+reset-owned h key = reset-by h (value_at h.devices key)
 
 detached-by : (h : HostState) (number : ℕ) (o : Option OpenDevice) → KeepsOwned h (detached_on h number o)
 detached-by h number None = stays h
@@ -128,7 +130,7 @@ detached-by h number (Some o) =
 
 pub detached-owned : (h : HostState) (key number : ℕ) → KeepsOwned h (host_detached h key number)
 unfolding host_detached
-detached-owned h key number = detached-by h number (slice_get h.devices key)
+detached-owned h key number = detached-by h number (value_at h.devices key)
 
 attached-by : (h : HostState) (number : ℕ) (o : Option OpenDevice) → KeepsOwned h (attached_on h number o)
 attached-by h number None = stays h
@@ -138,7 +140,7 @@ attached-by h number (Some o) =
 
 pub attached-owned : (h : HostState) (key number : ℕ) → KeepsOwned h (host_attached h key number)
 unfolding host_attached
-attached-owned h key number = attached-by h number (slice_get h.devices key)
+attached-owned h key number = attached-by h number (value_at h.devices key)
 
 speed-by : (h : HostState) (o : Option OpenDevice) → KeepsOwned h (speed_asked_on h o)
 speed-by h None = stays h
@@ -148,7 +150,7 @@ speed-by h (Some o) =
 
 pub speed-owned : (h : HostState) (key : ℕ) → KeepsOwned h (host_speed_asked h key)
 unfolding host_speed_asked
-speed-owned h key = speed-by h (slice_get h.devices key)
+speed-owned h key = speed-by h (value_at h.devices key)
 
 -- a claimed interface is written back
 module _ (h : HostState) (i : ℕ) (c next : ClaimedInterface) (at : slice_get h.interfaces i ≡ Some c) where
@@ -230,7 +232,9 @@ module _ (h : HostState) (handle : InterfaceState) (stands : StandsInterface h h
   unfolding owner_gone
   gone-owned =
       let less = record claim { handles = claim.handles - 1 } in
-      owned-settled h (record h { interfaces = set h.interfaces handle.key less }) handle.key (written-left h handle.key claim less stands.at refl refl (handles-own h handle.key claim stands.open_handle))
+      let gone = written-left h handle.key claim less stands.at refl refl (handles-own h handle.key claim stands.open_handle) in
+      owned-settled h (record h { devices = devices_left h.devices claim; interfaces = set h.interfaces handle.key less }) handle.key
+      (record { claim = gone.claim; left = gone.left; was = gone.was; is = gone.is; device = gone.device; number = gone.number; owned = gone.owned; others = gone.others; claims = gone.claims })
 
   pub closed-owned : KeepsOwned h (handle_closed h handle.key)
   unfolding handle_closed

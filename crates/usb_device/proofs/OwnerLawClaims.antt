@@ -17,6 +17,8 @@ use Rattle.usb_kernel.proofs.ClaimCalls.{claim-claims}
 use Rattle.usb_kernel.proofs.Places.{slice_get-append_seam}
 use Rattle.usb_error.specs.Errors.{claim_error}
 use Rattle.usb_endpoint.specs.CallErrors.{or_error}
+use Rattle.usb_registry.specs.History.{value_at}
+use Rattle.usb_device.specs.Devices.{device_changed, interface_more}
 use Rattle.usb_device.specs.declared.opened.OpenDevice.{OpenDevice}
 use Rattle.usb_ledger.specs.Entries.{ClaimedInterface, fresh_interface}
 use Rattle.usb_device.specs.HostState.{HostState}
@@ -68,7 +70,7 @@ module _ (h : HostState) (key number : ℕ) (reattach : Bool) (o : OpenDevice) w
   asked = record h { kernel = kernel_claimed h.kernel o number reattach }
 
   abbrev next : HostState
-  next = record asked { interfaces = h.interfaces ++ fresh ∷ [] }
+  next = record asked { devices = device_changed h.devices key interface_more; interfaces = h.interfaces ++ fresh ∷ [] }
 
   fresh-owned : is_owned_among h.tickets h.endpoints (length h.interfaces) fresh ≡ true
   unfolding is_owned_among
@@ -115,4 +117,4 @@ claimed-at h key number reattach (Some o) = claimed-with h key number reattach o
 
 pub claimed-owned : (h : HostState) (key number : ℕ) (reattach : Bool) → KeepsOwned h (host_claimed h key number reattach)
 unfolding host_claimed
-claimed-owned h key number reattach = claimed-at h key number reattach (slice_get h.devices key)
+claimed-owned h key number reattach = claimed-at h key number reattach (value_at h.devices key)

@@ -1,5 +1,5 @@
 -- What the steps of an open leave of the kernel.
-use Rattle.std.proofs.Common.{◌≡◌, ℕ, List, Result, Ok, Err, refl, ap, ◌∙◌}
+use Rattle.std.proofs.Common.{◌≡◌, ℕ, List, Result, Ok, Err, refl, sym, ap, ◌∙◌}
 use Rattle.usb_desc.specs.Configurations.{device_of}
 use Rattle.usb_simulated.specs.declared.devices.DeviceState.{DeviceState}
 use Rattle.usb_simulated.specs.declared.step.KernelCall.TheVariants as call
@@ -58,7 +58,7 @@ descriptors-arms device k = asks-is k device call.ReadDesc no_rules
 
 -- what is tried behind each answer of an open
 abbrev with_value : ℕ → List ℕ → List ℕ → ℕ → KernelState → Attempt OpenDevice
-with_value device bytes device_descriptor value = giving (record { device = device; configuration = value; device_descriptor = device_descriptor; descriptors = bytes })
+with_value device bytes device_descriptor value = giving (record { device = device; configuration = value; device_descriptor = device_descriptor; descriptors = bytes; handles = 1; interfaces = 0 })
 
 abbrev with_descriptor : ℕ → List ℕ → List ℕ → KernelState → Attempt OpenDevice
 with_descriptor device bytes device_descriptor = configuration_tried device >>= with_value device bytes device_descriptor
@@ -84,3 +84,28 @@ open-arms bus address =
     then-arms (descriptors_tried device) (with_bytes device) (descriptors-arms device) (λ bytes.
     then-arms (present invalid_device_descriptor_error (device_of bytes)) (with_descriptor device bytes) (λ k. refl) (λ device_descriptor.
     then-arms (configuration_tried device) (with_value device bytes device_descriptor) (λ k. asks-is k device call.GetConfig no_rules) (λ value k. refl))))
+
+-- an open device begins with one handle, and no interface
+abbrev Begins : (KernelState → Attempt OpenDevice) → Type 0
+Begins try = (k : KernelState) (o : OpenDevice) → (try k).answer ≡ Ok o → (o.handles ≡ 1) × (o.interfaces ≡ 0)
+
+then-begins : {A : Type 0} (first : KernelState → Attempt A) (next : A → KernelState → Attempt OpenDevice) → ((x : A) → Begins (next x)) → Begins (first >>= next)
+then-begins {A} first next behind k o = by (first k).answer
+  where
+    by : (r : Result A ErrorState) → (going_on next (first k).kernel r).answer ≡ Ok o → (o.handles ≡ 1) × (o.interfaces ≡ 0)
+    by (Ok y) is = behind y (first k).kernel o is
+    by (Err error) is = absurd (cc)
+
+value-begins : (device : ℕ) (bytes device_descriptor : List ℕ) (value : ℕ) → Begins (with_value device bytes device_descriptor value)
+value-begins device bytes device_descriptor value k o is =
+    let made : OpenDevice = record { device = device; configuration = value; device_descriptor = device_descriptor; descriptors = bytes; handles = 1; interfaces = 0 } in
+    let same : made ≡ o = cc in
+    (sym (ap (λ (x : OpenDevice). x.handles) same), sym (ap (λ (x : OpenDevice). x.interfaces) same))
+
+pub open-counts : (bus address : ℕ) (k : KernelState) (o : OpenDevice) → (open_tried bus address k).answer ≡ Ok o → (o.handles ≡ 1) × (o.interfaces ≡ 0)
+unfolding open_tried
+open-counts bus address =
+    then-begins (device_tried bus address) with_device (λ device.
+    then-begins (descriptors_tried device) (with_bytes device) (λ bytes.
+    then-begins (present invalid_device_descriptor_error (device_of bytes)) (with_descriptor device bytes) (λ device_descriptor.
+    then-begins (configuration_tried device) (with_value device bytes device_descriptor) (value-begins device bytes device_descriptor))))

@@ -14,6 +14,7 @@ use Rattle.usb_desc.specs.declared.error.Fail.{Fail}
 use Rattle.usb_error.specs.ErrorState.{ErrorState}
 use Rattle.usb_bus.specs.declared.route.Route.{Route}
 use Rattle.usb_endpoint.specs.EndpointState.{EndpointState}
+use Rattle.usb_registry.specs.History.{value_at}
 use Rattle.usb_device.specs.declared.opened.OpenDevice.{OpenDevice}
 use Rattle.usb_ledger.specs.Entries.{ClaimedInterface}
 use Rattle.usb_device.specs.HostState.{HostState}
@@ -37,11 +38,11 @@ asked_on h key None = h
 asked_on h key (Some o) =
     record h {
       kernel = called h.kernel o.device call.GetConfig no_rules same;
-      devices = set h.devices key (as_asked h.kernel o);
+      devices = set h.devices key (Some (as_asked h.kernel o));
     }
 
 unfoldable pub host_asked : HostState → ℕ → HostState
-host_asked h key = asked_on h key (slice_get h.devices key)
+host_asked h key = asked_on h key (value_at h.devices key)
 
 -- the descriptors of a setting of an interface, in the configuration that the open device keeps
 abbrev pub setting_in : OpenDevice → ℕ → ℕ → Option (List ℕ)
@@ -66,7 +67,7 @@ endpoint_in c address (Some o) = endpoint_of_setting o c.number c.setting addres
 unfoldable pub host_tries : HostState → ℕ → ClaimedInterface → ℕ → TransferType → Direction →
     Result ℕ ErrorState
 host_tries h i c address kind direction =
-    endpoint_tried (endpoint_in c address (slice_get h.devices c.opened)) address kind direction
+    endpoint_tried (endpoint_in c address (value_at h.devices c.opened)) address kind direction
     (is_in_use h i address)
 
 -- one more endpoint is open

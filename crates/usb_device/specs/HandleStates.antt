@@ -1,6 +1,8 @@
 -- Handles, and when they stand.
-use Rattle.std.specs.Prelude.{ℕ, ◌≡◌, ◌<◌, length, Some, slice_get}
+use Rattle.std.specs.Prelude.{ℕ, ◌≡◌, ◌<◌, Some, IsSome, slice_get}
 use Rattle.usb_ledger.specs.Entries.{ClaimedInterface}
+use Rattle.usb_registry.specs.History.{value_at}
+use Rattle.usb_device.specs.declared.opened.OpenDevice.{OpenDevice}
 use Rattle.usb_device.specs.HostState.{HostState}
 
 -- a handle of an interface: the interface's key and its number
@@ -8,9 +10,12 @@ pub record InterfaceState : Type 0 where
   pub key : ℕ
   pub number : ℕ
 
--- a handle of a device, which is its key, stands where the host has a device of this key
-abbrev pub StandsDevice : HostState → ℕ → Type 0
-StandsDevice h key = key < length h.devices
+-- a handle of a device, which is its key, stands where the host has a device of this key with an
+-- open handle
+pub record StandsDevice (h : HostState) (key : ℕ) : Type 0 where
+  pub device : OpenDevice
+  pub at : value_at h.devices key ≡ Some device
+  pub open_handle : 0 < device.handles
 
 -- a handle of an interface stands where the host has an interface of this key and number with an
 -- open handle, and its device
@@ -19,4 +24,4 @@ pub record StandsInterface (h : HostState) (i : InterfaceState) : Type 0 where
   pub at : slice_get h.interfaces i.key ≡ Some claim
   pub number : claim.number ≡ i.number
   pub open_handle : 0 < claim.handles
-  pub device : StandsDevice h claim.opened
+  pub device : IsSome (value_at h.devices claim.opened)

@@ -1,5 +1,5 @@
 -- What is true of all hosts.
-use Rattle.std.specs.Prelude.{ℕ, ◌≡◌, ◌≤◌, List, map, length, Some, None, slice_get}
+use Rattle.std.specs.Prelude.{ℕ, ◌≡◌, ◌≤◌, List, map, length, Option, Some, None, slice_get}
 use Rattle.std.specs.List.{All}
 use Rattle.std.specs.VecDeque.{deque_len}
 use Rattle.usb_kernel.specs.declared.event.Event.{Event}
@@ -18,7 +18,7 @@ use Rattle.usb_device.specs.HostState.{HostState}
 use Rattle.usb_ledger.specs.LedgerState.{LedgerState, host_ticket}
 
 -- a host by its parts
-abbrev pub host_made : KernelState → List OpenDevice → LedgerState → List KernelStep → HostState
+abbrev pub host_made : KernelState → List (Option OpenDevice) → LedgerState → List KernelStep → HostState
 host_made kernel devices l steps =
     record {
       kernel = kernel;

@@ -1,16 +1,16 @@
 -- What a host is to its users.
-use Rattle.std.specs.Prelude.{List, []}
+use Rattle.std.specs.Prelude.{List, [], Option}
 use Rattle.usb_kernel.specs.Value.{KernelState}
 use Rattle.usb_simulated.specs.declared.step.KernelStep.{KernelStep}
 use Rattle.usb_ledger.specs.Entries.{HostTicket, ClaimedInterface, HostEndpoint}
 use Rattle.usb_device.specs.declared.opened.OpenDevice.{OpenDevice}
 
--- the kernel; the devices that were opened, the interfaces that were claimed and the endpoints that
--- were opened, each in this order, in which the n-th, counted from 0, has the key n; what became of each ticket; and
+-- the kernel; the devices that were opened, with nothing where one is held no more (Devices.antt), the interfaces that were claimed and the
+-- endpoints that were opened, each in this order, in which the n-th, counted from 0, has the key n; what became of each ticket; and
 -- the steps of a line that are left
 pub record HostState : Type 0 where
   pub kernel : KernelState
-  pub devices : List OpenDevice
+  pub devices : List (Option OpenDevice)
   pub interfaces : List ClaimedInterface
   pub endpoints : List HostEndpoint
   pub tickets : List HostTicket

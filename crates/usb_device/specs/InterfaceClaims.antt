@@ -1,6 +1,6 @@
 -- An interface of an open device is claimed: with its kernel driver detached, which is noted to be
 -- attached again when the claim ends, or as it is.
-use Rattle.std.specs.Prelude.{ℕ, ◌≡◌, Bool, true, false, [], ◌∷◌, ◌++◌, length, Result, Ok, Err, IfOk, Option, Some, None, slice_get}
+use Rattle.std.specs.Prelude.{ℕ, ◌≡◌, Bool, true, false, [], ◌∷◌, ◌++◌, length, Result, Ok, Err, IfOk, Option, Some, None}
 use Rattle.usb_desc.specs.declared.error.Fail.{Fail}
 use Rattle.usb_simulated.specs.declared.step.KernelCall.TheVariants as call
 use Rattle.usb_simulated.specs.Claims.{claim_rules, with_claim, ok_unless}
@@ -10,9 +10,11 @@ use Rattle.usb_kernel.specs.Value.{KernelState}
 use Rattle.usb_error.specs.ErrorState.{ErrorState}
 use Rattle.usb_error.specs.Errors.{claim_error}
 use Rattle.usb_endpoint.specs.CallErrors.{or_error}
+use Rattle.usb_registry.specs.History.{value_at}
 use Rattle.usb_device.specs.declared.opened.OpenDevice.{OpenDevice}
 use Rattle.usb_ledger.specs.Entries.{ClaimedInterface, fresh_interface}
 use Rattle.usb_device.specs.HostState.{HostState}
+use Rattle.usb_device.specs.Devices.{device_changed, interface_more}
 use Rattle.usb_device.specs.HandleStates.{InterfaceState}
 use Rattle.usb_error.specs.Outcomes.{Tried, result_map}
 use Rattle.usb_device.specs.CallErrors.{Leaves}
@@ -34,10 +36,14 @@ kernel_claimed k o number false =
 kernel_claimed k o number true =
     called k o.device call.DetachClaim (detach_and_claim_rules number) (with_claimed_only number)
 
--- one more interface is claimed, where the kernel did not refuse
+-- one more interface is claimed, where the kernel did not refuse, and holds its open device
 abbrev pub claimed_by : HostState → ClaimedInterface → Result (Unit {0}) ErrorState → HostState
 claimed_by h c (Err error) = h
-claimed_by h c (Ok done) = record h { interfaces = h.interfaces ++ c ∷ [] }
+claimed_by h c (Ok done) =
+    record h {
+      devices = device_changed h.devices c.opened interface_more;
+      interfaces = h.interfaces ++ c ∷ [];
+    }
 
 -- the host after a claim for which there was memory enough
 abbrev pub claimed_on : HostState → ℕ → ℕ → Bool → Option OpenDevice → HostState
@@ -47,7 +53,7 @@ claimed_on h key number reattach (Some o) =
     (fresh_interface key o.device number reattach) (claim_tried h o number reattach)
 
 unfoldable pub host_claimed : HostState → ℕ → ℕ → Bool → HostState
-host_claimed h key number reattach = claimed_on h key number reattach (slice_get h.devices key)
+host_claimed h key number reattach = claimed_on h key number reattach (value_at h.devices key)
 
 -- the claimed interface has the next key
 abbrev pub claimed_key : ℕ → Result (Unit {0}) ErrorState → Result ℕ ErrorState
@@ -58,7 +64,7 @@ claimed_key key (Ok done) = Ok key
 pub record ClaimsInterface (old new : HostState) (key interface : ℕ) (reattach : Bool)
     (result : Result InterfaceState (Fail ErrorState)) : Type 0 where
   pub device : OpenDevice
-  pub at : slice_get old.devices key ≡ Some device
+  pub at : value_at old.devices key ≡ Some device
   pub tried : Tried (result_map (λ (i : InterfaceState). i.key) result)
       (claimed_key (length old.interfaces) (claim_tried old device interface reattach))
   pub number : IfOk result (λ i. i.number ≡ interface)

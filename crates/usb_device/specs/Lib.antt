@@ -1,4 +1,5 @@
 pub mod HostState
+pub mod Devices
 pub mod Owners
 pub mod Releases
 pub mod TicketEnds
@@ -28,3 +29,4 @@ pub mod HostFrames
 pub mod WaitLaws
 pub mod EndLaws
 pub mod OwnerLaws
+pub mod DeviceLaws

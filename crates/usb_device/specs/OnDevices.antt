@@ -1,5 +1,5 @@
 -- Calls on an open device that go down to the kernel: what they answer, and what they leave.
-use Rattle.std.specs.Prelude.{ℕ, List, set, find, Result, Ok, Err, Option, Some, None, slice_get}
+use Rattle.std.specs.Prelude.{ℕ, List, set, find, Result, Ok, Err, Option, Some, None}
 use Rattle.usb_desc.specs.Configurations.{configurations}
 use Rattle.usb_desc.specs.Lookups.{has_value}
 use Rattle.usb_simulated.specs.declared.step.KernelCall.TheVariants as call
@@ -11,6 +11,7 @@ use Rattle.usb_error.specs.ErrorState.{ErrorState}
 use Rattle.usb_error.specs.Errors.{set_configuration_error, detach_error, attach_error, reset_error}
 use Rattle.usb_error.specs.declared.active.ActiveConfigurationError.{ActiveConfigurationError}
 use Rattle.usb_endpoint.specs.CallErrors.{or_error, or_missing}
+use Rattle.usb_registry.specs.History.{value_at}
 use Rattle.usb_device.specs.declared.opened.OpenDevice.{OpenDevice}
 use Rattle.usb_device.specs.HostState.{HostState}
 use Rattle.usb_device.specs.Speeds.{speed_of_code}
@@ -28,7 +29,7 @@ detached_on h number (Some o) =
     }
 
 unfoldable pub host_detached : HostState → ℕ → ℕ → HostState
-host_detached h key number = detached_on h number (slice_get h.devices key)
+host_detached h key number = detached_on h number (value_at h.devices key)
 
 -- `attach_kernel_driver`: it is bound again
 abbrev pub attach_tried : HostState → OpenDevice → ℕ → Result (Unit {0}) ErrorState
@@ -43,7 +44,7 @@ attached_on h number (Some o) =
     }
 
 unfoldable pub host_attached : HostState → ℕ → ℕ → HostState
-host_attached h key number = attached_on h number (slice_get h.devices key)
+host_attached h key number = attached_on h number (value_at h.devices key)
 
 -- `reset`: the device is gone, as if it were unplugged
 abbrev pub reset_tried : HostState → OpenDevice → Result (Unit {0}) ErrorState
@@ -55,7 +56,7 @@ reset_on h None = h
 reset_on h (Some o) = record h { kernel = after_reset h.kernel o.device }
 
 unfoldable pub host_reset : HostState → ℕ → HostState
-host_reset h key = reset_on h (slice_get h.devices key)
+host_reset h key = reset_on h (value_at h.devices key)
 
 -- `set_configuration`: the open device keeps the value of a configuration that is not refused
 abbrev pub set_configuration_errno : HostState → OpenDevice → ℕ → Option ℕ
@@ -77,11 +78,11 @@ configured_on h key value (Some o) =
       kernel = called h.kernel o.device call.SetConfig (set_configuration_rules value)
           (with_configuration value);
       devices = set h.devices key
-          (configured_unless o value (set_configuration_errno h o value));
+          (Some (configured_unless o value (set_configuration_errno h o value)));
     }
 
 unfoldable pub host_configured : HostState → ℕ → ℕ → HostState
-host_configured h key value = configured_on h key value (slice_get h.devices key)
+host_configured h key value = configured_on h key value (value_at h.devices key)
 
 -- `speed`: that of the code which the kernel gives, if it gives one
 abbrev pub speed_given : Result ℕ ℕ → Option Speed
@@ -97,7 +98,7 @@ speed_asked_on h (Some o) =
     record h { kernel = called h.kernel o.device call.Speed no_rules same }
 
 unfoldable pub host_speed_asked : HostState → ℕ → HostState
-host_speed_asked h key = speed_asked_on h (slice_get h.devices key)
+host_speed_asked h key = speed_asked_on h (value_at h.devices key)
 
 -- `active_configuration`: the first configuration with the value that the open device keeps. The
 -- kernel is asked for that value by `ask_configuration` (`host_asked`: EndpointOpens.antt)

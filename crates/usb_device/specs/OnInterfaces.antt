@@ -11,6 +11,7 @@ use Rattle.usb_kernel.specs.Calls.{errno_of, called}
 use Rattle.usb_error.specs.ErrorState.{ErrorState}
 use Rattle.usb_error.specs.Errors.{settings_in_use_error, alt_setting_error}
 use Rattle.usb_endpoint.specs.CallErrors.{or_error}
+use Rattle.usb_registry.specs.History.{value_at}
 use Rattle.usb_device.specs.declared.opened.OpenDevice.{OpenDevice}
 use Rattle.usb_ledger.specs.Entries.{ClaimedInterface}
 use Rattle.usb_device.specs.HostState.{HostState}
@@ -59,7 +60,7 @@ settings_in o number =
 -- `descriptor`: the current setting among these
 abbrev pub current_setting : HostState → ClaimedInterface → Option (List ℕ)
 current_setting h c =
-    option_and_then (λ o. setting_in o c.number c.setting) (slice_get h.devices c.opened)
+    option_and_then (λ o. setting_in o c.number c.setting) (value_at h.devices c.opened)
 
 abbrev pub all_settings : HostState → ClaimedInterface → List (List ℕ)
-all_settings h c = option_map_or (λ o. settings_in o c.number) (slice_get h.devices c.opened) []
+all_settings h c = option_map_or (λ o. settings_in o c.number) (value_at h.devices c.opened) []

@@ -1,5 +1,5 @@
 -- A device is opened at its bus and address.
-use Rattle.std.specs.Prelude.{ℕ, List, [], ◌∷◌, ◌++◌, length, Result, Ok, Err}
+use Rattle.std.specs.Prelude.{ℕ, List, [], ◌∷◌, ◌++◌, length, Some, Result, Ok, Err}
 use Rattle.usb_desc.specs.Configurations.{device_of}
 use Rattle.usb_simulated.specs.declared.step.KernelCall.TheVariants as call
 use Rattle.usb_simulated.specs.Claims.{no_rules}
@@ -32,7 +32,7 @@ configuration_tried device =
     (λ k. called k device call.GetConfig no_rules same)
 
 -- the kernel opens the device and gives its descriptors, of which the first has to be a device
--- descriptor, and its active configuration
+-- descriptor, and its active configuration. It has one handle
 unfoldable pub open_tried : ℕ → ℕ → KernelState → Attempt OpenDevice
 open_tried bus address = do
   device ← device_tried bus address
@@ -44,11 +44,13 @@ open_tried bus address = do
     configuration = value;
     device_descriptor = device_descriptor;
     descriptors = bytes;
+    handles = 1;
+    interfaces = 0;
   })
 
 -- one more device is open, where it was not refused
 abbrev pub with_opened : HostState → OpenDevice → HostState
-with_opened h o = record h { devices = h.devices ++ o ∷ [] }
+with_opened h o = record h { devices = h.devices ++ Some o ∷ [] }
 
 abbrev pub opened_by : HostState → Result OpenDevice ErrorState → HostState
 opened_by h (Err error) = h

@@ -1,6 +1,6 @@
 //! Interfaces of open devices are claimed, and their handles cloned, closed and released.
 
-ghost use Rattle.std.specs.Prelude.{◌≡◌, ◌-◌, ◌^◌, ◌<◌, length, slice_get, OnOk, OnErr};
+ghost use Rattle.std.specs.Prelude.{◌≡◌, ◌-◌, ◌^◌, ◌<◌, length, slice_get, IsSome, OnOk, OnErr};
 ghost use Rattle.std.specs.Option.{ForSome};
 ghost use Rattle.usb_simulated.specs.Claims.{ok_unless};
 ghost use Rattle.usb_device.specs.HostState.{HostState};
@@ -9,12 +9,14 @@ ghost use Rattle.usb_device.specs.InterfaceClaims.{claim_errno, kernel_claimed, 
 ghost use Rattle.usb_device.specs.Owners.{is_shared};
 ghost use Rattle.usb_device.specs.CallErrors.{Leaves};
 ghost use Rattle.usb_error.specs.Outcomes.{Tried};
+ghost use Rattle.usb_registry.specs.History.{value_at};
 
 use crate::host::{Host, release};
 use crate::opened::OpenDevice;
 use usb_desc::{Fail, NoMemory};
 use usb_error::Error;
 use usb_kernel::Kernel;
+use usb_registry::Key;
 
 /// Claims an interface of an open device at the kernel, with its driver detached or as it is.
 fn claim_at(kernel: &mut Kernel, opened: &OpenDevice, number: u8, reattach: bool) -> Result<(), u16>
@@ -34,24 +36,28 @@ impl Host {
     /// before the kernel is asked.
     pub(crate) fn claim(
         &mut self,
-        device: usize,
+        device: Key,
         number: u8,
         reattach: bool,
     ) -> Result<usize, Fail<Error>>
-        requires device { device < length self.old.devices }
-        ensures tried { ForSome (slice_get self.old.devices device) (λ o. Tried result
+        requires device { IsSome (value_at self.old.devices device.serial) }
+        ensures tried { ForSome (value_at self.old.devices device.serial) (λ o. Tried result
             (claimed_key (length self.old.interfaces) (claim_tried self.old o number reattach))) }
-        ensures host { Leaves result self.new (host_claimed self.old device number reattach)
+        ensures host { Leaves result self.new (host_claimed self.old device.serial number reattach)
             self.old }
     {
+        if !self.devices.has_room(device) {
+            return Err(Fail::Memory);
+        }
         if self.ledger.reserve_claim().is_err() {
             return Err(Fail::Memory);
         }
-        let opened = &self.devices[device];
+        let opened = self.devices.get(device);
         if let Err(errno) = claim_at(&mut self.kernel, opened, number, reattach) {
             return Err(Fail::Cause(Error::claim(errno)));
         }
         let at_kernel = opened.device;
+        self.devices.add_interface(device);
         Ok(
             self.ledger
                 .open_interface(device, at_kernel, number, reattach),
@@ -69,12 +75,15 @@ impl Host {
         self.ledger.add_handle(interface)
     }
 
-    /// A handle of a claimed interface is closed. With the last owner the claim ends.
+    /// A handle of a claimed interface is closed. With the last one it holds its open device no
+    /// more, and with the last owner the claim ends.
     pub(crate) fn close_handle(&mut self, interface: usize)
         requires interface { interface < length self.old.interfaces }
         requires open { ForSome (slice_get self.old.interfaces interface) (λ c. 0 < c.handles) }
         ensures closed { self.new ≡ handle_closed self.old interface }
     {
+        let claim = self.ledger.interface(interface);
+        self.devices.leave_interface(claim.opened, claim.handles);
         let ended = self.ledger.close_handle(interface);
         release(&mut self.kernel, ended);
     }

@@ -1,7 +1,8 @@
 //! Calls on open devices that go down to the kernel.
 
-ghost use Rattle.std.specs.Prelude.{◌≡◌, ◌+◌, ◌<◌, length, slice_get, Ok, Err, IfOk, IfErr};
+ghost use Rattle.std.specs.Prelude.{◌≡◌, ◌+◌, ◌<◌, length, slice_get, Ok, Err, IfOk, IfErr, IsSome};
 ghost use Rattle.std.specs.Option.{ForSome};
+ghost use Rattle.usb_registry.specs.History.{value_at};
 ghost use Rattle.usb_device.specs.HostState.{HostState};
 ghost use Rattle.usb_device.specs.OnDevices.{detach_tried, host_detached, attach_tried, host_attached, reset_tried, host_reset, set_configuration_tried, host_configured, speed_tried, host_speed_asked, active_of};
 ghost use Rattle.usb_device.specs.Speeds.{speed_of_code};
@@ -10,6 +11,7 @@ use crate::host::Host;
 use crate::opened::OpenDevice;
 use usb_desc::{ConfigurationDescriptor, find_configuration};
 use usb_error::{ActiveConfigurationError, Error};
+use usb_registry::Key;
 use usb_sysfs::Speed;
 
 /// The speed of a code of the kernel.
@@ -43,19 +45,19 @@ fn active_in(opened: &OpenDevice) -> Result<ConfigurationDescriptor<'_>, ActiveC
 
 impl Host {
     /// The number of an open device at the kernel.
-    fn number_of(&self, device: usize) -> u8
-        requires device { device < length self.now.devices }
-        ensures number { ForSome (slice_get self.now.devices device) (λ o. result ≡ o.device) }
+    fn number_of(&self, device: Key) -> u8
+        requires device { IsSome (value_at self.now.devices device.serial) }
+        ensures number { ForSome (value_at self.now.devices device.serial) (λ o. result ≡ o.device) }
     {
-        self.devices[device].device
+        self.devices.get(device).device
     }
 
     /// Detaches the kernel driver of an interface.
-    pub(crate) fn detach(&mut self, device: usize, interface: u8) -> Result<(), Error>
-        requires device { device < length self.old.devices }
-        ensures tried { ForSome (slice_get self.old.devices device) (λ o.
+    pub(crate) fn detach(&mut self, device: Key, interface: u8) -> Result<(), Error>
+        requires device { IsSome (value_at self.old.devices device.serial) }
+        ensures tried { ForSome (value_at self.old.devices device.serial) (λ o.
             result ≡ detach_tried self.old o interface) }
-        ensures host { self.new ≡ host_detached self.old device interface }
+        ensures host { self.new ≡ host_detached self.old device.serial interface }
     {
         let number = self.number_of(device);
         match self.kernel.detach(number, interface) {
@@ -65,11 +67,11 @@ impl Host {
     }
 
     /// Attaches the kernel driver of an interface.
-    pub(crate) fn attach(&mut self, device: usize, interface: u8) -> Result<(), Error>
-        requires device { device < length self.old.devices }
-        ensures tried { ForSome (slice_get self.old.devices device) (λ o.
+    pub(crate) fn attach(&mut self, device: Key, interface: u8) -> Result<(), Error>
+        requires device { IsSome (value_at self.old.devices device.serial) }
+        ensures tried { ForSome (value_at self.old.devices device.serial) (λ o.
             result ≡ attach_tried self.old o interface) }
-        ensures host { self.new ≡ host_attached self.old device interface }
+        ensures host { self.new ≡ host_attached self.old device.serial interface }
     {
         let number = self.number_of(device);
         match self.kernel.attach(number, interface) {
@@ -80,12 +82,12 @@ impl Host {
 
     /// Resets an open device, which is gone then. The kernel must have a place for it beside those
     /// of the steps that are left.
-    pub(crate) fn reset(&mut self, device: usize) -> Result<(), Error>
-        requires device { device < length self.old.devices }
+    pub(crate) fn reset(&mut self, device: Key) -> Result<(), Error>
+        requires device { IsSome (value_at self.old.devices device.serial) }
         requires room { length self.old.steps < self.old.kernel.spare }
-        ensures tried { ForSome (slice_get self.old.devices device) (λ o.
+        ensures tried { ForSome (value_at self.old.devices device.serial) (λ o.
             result ≡ reset_tried self.old o) }
-        ensures host { self.new ≡ host_reset self.old device }
+        ensures host { self.new ≡ host_reset self.old device.serial }
     {
         let number = self.number_of(device);
         match self.kernel.reset(number) {
@@ -96,27 +98,26 @@ impl Host {
 
     /// Sets the configuration of an open device, which keeps its value where the kernel does not
     /// refuse.
-    pub(crate) fn set_configuration(&mut self, device: usize, value: u8) -> Result<(), Error>
-        requires device { device < length self.old.devices }
-        ensures tried { ForSome (slice_get self.old.devices device) (λ o.
+    pub(crate) fn set_configuration(&mut self, device: Key, value: u8) -> Result<(), Error>
+        requires device { IsSome (value_at self.old.devices device.serial) }
+        ensures tried { ForSome (value_at self.old.devices device.serial) (λ o.
             result ≡ set_configuration_tried self.old o value) }
-        ensures host { self.new ≡ host_configured self.old device value }
+        ensures host { self.new ≡ host_configured self.old device.serial value }
     {
         let number = self.number_of(device);
         if let Err(errno) = self.kernel.set_configuration(number, value) {
             return Err(Error::set_configuration(errno));
         }
-        let opened = &mut self.devices[device];
-        opened.configuration = value;
+        self.devices.set_configuration(device, value);
         Ok(())
     }
 
     /// The speed of an open device, where the kernel tells one.
-    pub(crate) fn speed(&mut self, device: usize) -> Option<Speed>
-        requires device { device < length self.old.devices }
-        ensures tried { ForSome (slice_get self.old.devices device) (λ o.
+    pub(crate) fn speed(&mut self, device: Key) -> Option<Speed>
+        requires device { IsSome (value_at self.old.devices device.serial) }
+        ensures tried { ForSome (value_at self.old.devices device.serial) (λ o.
             result ≡ speed_tried self.old o) }
-        ensures host { self.new ≡ host_speed_asked self.old device }
+        ensures host { self.new ≡ host_speed_asked self.old device.serial }
     {
         let number = self.number_of(device);
         match self.kernel.speed(number) {
@@ -128,14 +129,14 @@ impl Host {
     /// The configuration with the value that an open device keeps.
     pub(crate) fn active_configuration(
         &self,
-        device: usize,
+        device: Key,
     ) -> Result<ConfigurationDescriptor<'_>, ActiveConfigurationError>
-        requires device { device < length self.now.devices }
-        ensures ok { IfOk result (λ c. ForSome (slice_get self.now.devices device) (λ o.
+        requires device { IsSome (value_at self.now.devices device.serial) }
+        ensures ok { IfOk result (λ c. ForSome (value_at self.now.devices device.serial) (λ o.
             active_of o ≡ Ok c)) }
-        ensures err { IfErr result (λ error. ForSome (slice_get self.now.devices device) (λ o.
+        ensures err { IfErr result (λ error. ForSome (value_at self.now.devices device.serial) (λ o.
             active_of o ≡ Err error)) }
     {
-        active_in(&self.devices[device])
+        active_in(self.devices.get(device))
     }
 }

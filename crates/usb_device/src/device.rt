@@ -9,13 +9,14 @@ ghost use Rattle.usb_device.specs.HandleStates.{StandsDevice, StandsInterface};
 ghost use Rattle.usb_endpoint.specs.Handles.{Stands, KeepsOthers};
 ghost use Rattle.usb_device.specs.HostBus.{bus_of};
 ghost use Rattle.usb_device.specs.EndpointOpens.{OpensEndpoint, host_asked};
-ghost use Rattle.usb_device.specs.Handles.{handle_cloned, handle_closed, ReleasesInterface};
+ghost use Rattle.usb_device.specs.Handles.{device_cloned, device_closed, handle_cloned, handle_closed, ReleasesInterface};
 ghost use Rattle.usb_device.specs.OnDevices.{detach_tried, host_detached, attach_tried, host_attached, reset_tried, host_reset, set_configuration_tried, host_configured, speed_tried, host_speed_asked, active_of};
 ghost use Rattle.usb_device.specs.OnInterfaces.{alt_setting_tried, alt_setting_set, current_setting, all_settings};
 ghost use Rattle.usb_device.specs.InterfaceClaims.{ClaimsInterface};
 ghost use Rattle.usb_device.specs.Opens.{host_opened, open_key};
 ghost use Rattle.usb_device.specs.CallErrors.{Leaves};
 ghost use Rattle.usb_error.specs.Outcomes.{Tried};
+ghost use Rattle.usb_registry.specs.History.{value_at};
 
 use crate::host::Host;
 use crate::settings::AltSettingsOf;
@@ -27,12 +28,13 @@ use usb_desc::{
 };
 use usb_endpoint::Endpoint;
 use usb_error::{ActiveConfigurationError, Error};
+use usb_registry::Key;
 use usb_sysfs::Speed;
 use usb_xfer::{EndpointDirection, EndpointType};
 
 /// A handle of a device that is open at a host. `close` spends it.
 pub struct Device {
-    key: usize,
+    key: Key,
 }
 
 impl Model for Device {
@@ -40,7 +42,7 @@ impl Model for Device {
 
     ghost Value = { ℕ };
 
-    ghost view = { λ device. device.key };
+    ghost view = { λ device. device.key.serial };
 }
 
 impl fmt::Debug for Device {
@@ -92,30 +94,31 @@ impl Device {
         }
     }
 
-    /// One more handle of the open device, which takes no memory. They share the value of the active configuration.
+    /// One more handle of the open device. They share the value of the active configuration.
     pub fn clone_on(&self, host: &mut Host) -> Result<Device, NoMemory>
         requires stands { StandsDevice host.old self.now }
-        ensures ok { IsOk result }
         ensures handle { IfOk result (λ device. device ≡ self.now) }
-        ensures host { host.new ≡ host.old }
+        ensures ok { OnOk result (host.new ≡ device_cloned host.old self.now) }
+        ensures err { OnErr result (host.new ≡ host.old) }
     {
-        let _ = host;
+        host.clone_device(self.key)?;
         Ok(Device { key: self.key })
     }
 
-    /// Closes the handle. The kernel keeps the device open.
+    /// Closes the handle. Where no handle of the open device and none of an interface of it is left,
+    /// what the host keeps of it goes. The kernel keeps the device open.
     pub fn close(self, host: &mut Host)
         requires stands { StandsDevice host.old self }
-        ensures host { host.new ≡ host.old }
+        ensures closed { host.new ≡ device_closed host.old self }
     {
-        let Device { key: _ } = self;
-        let _ = host;
+        let Device { key } = self;
+        host.close_device(key);
     }
 
     /// Its device descriptor.
     pub fn device_descriptor<'h>(&self, host: &'h Host) -> &'h DeviceDescriptor
         requires stands { StandsDevice host.now self.now }
-        ensures descriptor { ForSome (slice_get host.now.devices self.now) (λ o.
+        ensures descriptor { ForSome (value_at host.now.devices self.now) (λ o.
             result.now ≡ o.device_descriptor) }
     {
         host.device_descriptor(self.key)
@@ -124,7 +127,7 @@ impl Device {
     /// All descriptors that it gave, of which the first is the device descriptor.
     pub fn descriptors<'h>(&self, host: &'h Host) -> &'h [u8]
         requires stands { StandsDevice host.now self.now }
-        ensures descriptors { ForSome (slice_get host.now.devices self.now) (λ o.
+        ensures descriptors { ForSome (value_at host.now.devices self.now) (λ o.
             result.now ≡ o.descriptors) }
     {
         host.descriptors(self.key)
@@ -133,7 +136,7 @@ impl Device {
     /// Its configurations, in the order in which it gave them.
     pub fn configurations<'h>(&self, host: &'h Host) -> Configurations<'h>
         requires stands { StandsDevice host.now self.now }
-        ensures configurations { ForSome (slice_get host.now.devices self.now) (λ o.
+        ensures configurations { ForSome (value_at host.now.devices self.now) (λ o.
             result ≡ spec.configurations o.descriptors) }
     {
         host.configurations(self.key)
@@ -161,9 +164,9 @@ impl Device {
         host: &'h Host,
     ) -> Result<ConfigurationDescriptor<'h>, ActiveConfigurationError>
         requires stands { StandsDevice host.now self.now }
-        ensures ok { IfOk result (λ c. ForSome (slice_get host.now.devices self.now) (λ o.
+        ensures ok { IfOk result (λ c. ForSome (value_at host.now.devices self.now) (λ o.
             active_of o ≡ Ok c)) }
-        ensures err { IfErr result (λ error. ForSome (slice_get host.now.devices self.now) (λ o.
+        ensures err { IfErr result (λ error. ForSome (value_at host.now.devices self.now) (λ o.
             active_of o ≡ Err error)) }
     {
         host.active_configuration(self.key)
@@ -173,7 +176,7 @@ impl Device {
     /// refusal that is armed for it.
     pub fn speed(&self, host: &mut Host) -> Option<Speed>
         requires stands { StandsDevice host.old self.now }
-        ensures speed { ForSome (slice_get host.old.devices self.now) (λ o.
+        ensures speed { ForSome (value_at host.old.devices self.now) (λ o.
             result ≡ speed_tried host.old o) }
         ensures host { host.new ≡ host_speed_asked host.old self.now }
     {
@@ -190,7 +193,7 @@ impl Device {
     /// `Disconnected` where the device is gone, else `Other`.
     pub fn set_configuration(&self, host: &mut Host, value: u8) -> Result<(), Error>
         requires stands { StandsDevice host.old self.now }
-        ensures result { ForSome (slice_get host.old.devices self.now) (λ o.
+        ensures result { ForSome (value_at host.old.devices self.now) (λ o.
             result ≡ set_configuration_tried host.old o value) }
         ensures host { host.new ≡ host_configured host.old self.now value }
     {
@@ -208,7 +211,7 @@ impl Device {
     pub fn reset(&self, host: &mut Host) -> Result<(), Error>
         requires stands { StandsDevice host.old self.now }
         requires room { length host.old.steps < host.old.kernel.spare }
-        ensures result { ForSome (slice_get host.old.devices self.now) (λ o.
+        ensures result { ForSome (value_at host.old.devices self.now) (λ o.
             result ≡ reset_tried host.old o) }
         ensures host { host.new ≡ host_reset host.old self.now }
     {
@@ -223,7 +226,7 @@ impl Device {
     /// driver is bound, `Disconnected` where the device is gone, else `Other`.
     pub fn detach_kernel_driver(&self, host: &mut Host, interface: u8) -> Result<(), Error>
         requires stands { StandsDevice host.old self.now }
-        ensures result { ForSome (slice_get host.old.devices self.now) (λ o.
+        ensures result { ForSome (value_at host.old.devices self.now) (λ o.
             result ≡ detach_tried host.old o interface) }
         ensures host { host.new ≡ host_detached host.old self.now interface }
     {
@@ -238,7 +241,7 @@ impl Device {
     /// is bound or the interface is claimed, `Disconnected` where the device is gone, else `Other`.
     pub fn attach_kernel_driver(&self, host: &mut Host, interface: u8) -> Result<(), Error>
         requires stands { StandsDevice host.old self.now }
-        ensures result { ForSome (slice_get host.old.devices self.now) (λ o.
+        ensures result { ForSome (value_at host.old.devices self.now) (λ o.
             result ≡ attach_tried host.old o interface) }
         ensures host { host.new ≡ host_attached host.old self.now interface }
     {
@@ -311,7 +314,8 @@ impl Interface {
         })
     }
 
-    /// Closes the handle. With the last owner of the interface its claim ends.
+    /// Closes the handle. With the last handle of the interface it holds its open device no more,
+    /// and with its last owner its claim ends.
     pub fn close(self, host: &mut Host)
         requires stands { StandsInterface host.old self }
         ensures closed { host.new ≡ handle_closed host.old self.key }

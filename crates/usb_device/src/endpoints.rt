@@ -1,6 +1,6 @@
 //! Endpoints of claimed interfaces are opened.
 
-ghost use Rattle.std.specs.Prelude.{◌≡◌, ◌<◌, length, slice_get, set, OnOk, OnErr, IfOk};
+ghost use Rattle.std.specs.Prelude.{◌≡◌, ◌<◌, length, slice_get, set, OnOk, OnErr, IfOk, IsSome};
 ghost use Rattle.std.specs.Option.{ForSome, option_copied};
 ghost use Rattle.usb_desc.specs.Fields.{direction_of_address};
 ghost use Rattle.usb_simulated.specs.declared.step.KernelCall.{KernelCall};
@@ -8,6 +8,7 @@ ghost use Rattle.usb_simulated.specs.Claims.{no_rules};
 ghost use Rattle.usb_simulated.specs.Calls.{same};
 ghost use Rattle.usb_kernel.specs.Calls.{called};
 ghost use Rattle.usb_ledger.specs.Entries.{ClaimedInterface};
+ghost use Rattle.usb_registry.specs.History.{value_at};
 ghost use Rattle.usb_device.specs.HostState.{HostState};
 ghost use Rattle.usb_ledger.specs.OwnerRows.{claim_state};
 ghost use Rattle.usb_device.specs.EndpointRefusals.{endpoint_tried};
@@ -20,6 +21,7 @@ use usb_bus::Route;
 use usb_desc::{Direction, EndpointDescriptor, Fail, TransferType, find_configuration};
 use usb_error::Error;
 use usb_kernel::Kernel;
+use usb_registry::Key;
 
 /// The descriptor of an endpoint of an interface in a setting, in the configuration that the open
 /// device keeps.
@@ -82,20 +84,19 @@ fn active_value(kernel: &mut Kernel, opened: &OpenDevice) -> u8
 impl Host {
     /// Asks the kernel for the value of a device's active configuration, which the open device
     /// keeps.
-    pub(crate) fn ask_configuration(&mut self, device: usize)
-        requires device { device < length self.old.devices }
-        ensures asked { self.new ≡ host_asked self.old device }
+    pub(crate) fn ask_configuration(&mut self, device: Key)
+        requires device { IsSome (value_at self.old.devices device.serial) }
+        ensures asked { self.new ≡ host_asked self.old device.serial }
     {
-        let value = active_value(&mut self.kernel, &self.devices[device]);
-        let opened = &mut self.devices[device];
-        opened.configuration = value;
+        let value = active_value(&mut self.kernel, self.devices.get(device));
+        self.devices.set_configuration(device, value);
     }
 
     /// Asks for that of the device of a claimed interface.
     pub(crate) fn ask_configuration_of(&mut self, interface: usize)
         requires interface { interface < length self.old.interfaces }
         requires device { ForSome (slice_get self.old.interfaces interface) (λ c.
-            c.opened < length self.old.devices) }
+            IsSome (value_at self.old.devices c.opened)) }
         ensures asked { ForSome (slice_get self.old.interfaces interface) (λ c.
             self.new ≡ host_asked self.old c.opened) }
     {
@@ -113,14 +114,14 @@ impl Host {
     ) -> Result<usize, Error>
         requires interface { interface < length self.now.interfaces }
         requires device { ForSome (slice_get self.now.interfaces interface) (λ c.
-            c.opened < length self.now.devices) }
+            IsSome (value_at self.now.devices c.opened)) }
         ensures tried { ForSome (slice_get self.now.interfaces interface) (λ c.
             result ≡ host_tries self.now interface c address kind direction) }
         ensures direction { OnOk result (direction_of_address address ≡ direction) }
     {
         let claim = self.ledger.interface(interface);
         let is_used = self.ledger.is_used(interface, address);
-        let opened = &self.devices[claim.opened];
+        let opened = self.devices.get(claim.opened);
         let found = find_endpoint(opened, claim.number, claim.setting, address);
         maximum_of(found, address, kind, direction, is_used)
     }
@@ -137,7 +138,7 @@ impl Host {
     ) -> Result<Route, Fail<Error>>
         requires interface { interface < length self.old.interfaces }
         requires device { ForSome (slice_get self.old.interfaces interface) (λ c.
-            c.opened < length self.old.devices) }
+            IsSome (value_at self.old.devices c.opened)) }
         ensures tried { ForSome (slice_get self.old.interfaces interface) (λ c.
             Tried (maximum_tried result)
             (host_tries (host_asked self.old c.opened) interface c address kind direction)) }

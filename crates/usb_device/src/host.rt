@@ -1,12 +1,13 @@
 //! The host: a kernel, and what is open on it.
 
-ghost use Rattle.std.specs.Prelude.{◌≡◌, ◌+◌, ◌<◌, ◌≤◌, ◌++◌, ◌∷◌, [], ℕ, List, length, set, true, false, IsSome, is_some, IsTrue, OnOk, OnErr, IfOk, IfErr, IfSome, slice_get, option_and_then, Some, None, refl};
+ghost use Rattle.std.specs.Prelude.{◌≡◌, ◌+◌, ◌<◌, ◌≤◌, ◌++◌, ◌∷◌, [], ℕ, List, length, set, true, false, IsSome, is_some, IsTrue, OnOk, OnErr, IfOk, IfErr, IfSome, slice_get, option_and_then, Option, Some, None, refl};
 ghost use Rattle.std.specs.Option.{ForSome};
 ghost use Rattle.std.specs.List.{All};
 ghost use Rattle.usb_xfer.specs.declared.transfer.Held.{Held};
 ghost use Rattle.usb_kernel.specs.declared.event.Event.{Event};
 ghost use Rattle.usb_simulated.specs.declared.step.KernelStep.{KernelStep};
 ghost use Rattle.usb_kernel.specs.Tickets.{tickets};
+ghost use Rattle.usb_registry.specs.History.{live_count};
 ghost use Rattle.usb_kernel.specs.Completions.{completion};
 ghost use Rattle.usb_simulated.specs.Errnos.{IsErrno};
 ghost use Rattle.usb_kernel.specs.Submits.{number_of, submit_refusal};
@@ -28,7 +29,7 @@ ghost use Rattle.usb_ledger.specs.LedgerState.{ticket_key, host_ticket};
 ghost use Rattle.usb_device.specs.Releases.{without_ended};
 ghost use Rattle.usb_device.specs.TicketEnds.{host_ended, host_taken, host_abandoned, came};
 
-use crate::opened::OpenDevice;
+use crate::devices::Devices;
 use std::alloc::Global;
 use std::collections::VecDeque;
 use std::marker::Model;
@@ -41,7 +42,7 @@ use usb_xfer::{Held, Idle, Pending, Slots, TransferData};
 #[derive(Drop)]
 pub struct Host {
     pub(crate) kernel: Kernel,
-    pub(crate) devices: Vec<OpenDevice>,
+    pub(crate) devices: Devices,
     pub(crate) ledger: Ledger,
     steps: VecDeque<KernelStep>,
 }
@@ -52,7 +53,7 @@ impl Model for Host {
 
     ghost Value = { HostState };
 
-    ghost view = { λ h. host_made h.kernel h.devices.items h.ledger h.steps.items };
+    ghost view = { λ h. host_made h.kernel h.devices h.ledger h.steps.items };
 
     ghost invariant = { IsMatched };
 }
@@ -74,7 +75,7 @@ pub(crate) fn release(kernel: &mut Kernel, ended: Option<EndedClaim>)
 /// A completion has come, or none.
 fn complete(kernel: &mut Kernel, ledger: &mut Ledger, arrived: Option<Done>)
     requires within { ForSome arrived (λ done. done.ticket < length ledger.old.slots) }
-    ensures host { (devices : List OpenDevice) (steps : List KernelStep) →
+    ensures host { (devices : List (Option OpenDevice)) (steps : List KernelStep) →
         host_made kernel.new devices ledger.new steps ≡
         came (host_made kernel.old devices ledger.old steps) arrived }
     ensures agree { (past : List Event) → TicketsAgree past ledger.old.slots →
@@ -120,7 +121,7 @@ impl Host {
     {
         Host {
             kernel,
-            devices: Vec::new(alloc),
+            devices: Devices::new(alloc),
             ledger: Ledger::new(alloc),
             steps: VecDeque::new(alloc),
         }
@@ -128,7 +129,14 @@ impl Host {
 
     /// The allocator that its handles take memory from.
     pub(crate) fn allocator(&self) -> Global {
-        *self.devices.allocator()
+        *self.steps.allocator()
+    }
+
+    /// How many open devices there is memory for at once.
+    pub fn device_capacity(&self) -> usize
+        ensures holds_all { live_count self.now.devices ≤ result }
+    {
+        self.devices.capacity()
     }
 
     /// The kernel.

@@ -9,6 +9,7 @@ mod awaiting;
 mod claiming;
 mod configuring;
 mod device;
+mod devices;
 mod endpoints;
 mod future;
 mod host;

@@ -1,19 +1,23 @@
 //! A device is opened at its bus and address.
 
-ghost use Rattle.std.specs.Prelude.{◌≡◌, ◌<◌, length, slice_get, OnOk, OnErr, IfOk, IfErr};
+ghost use Rattle.std.specs.Prelude.{◌≡◌, length, IsSome, OnOk, OnErr, IfOk, IfErr};
 ghost use Rattle.std.specs.Option.{ForSome};
 ghost use Rattle.usb_desc.specs.Configurations as spec;
 ghost use Rattle.usb_device.specs.HostState.{HostState};
+ghost use Rattle.usb_device.specs.Handles.{device_cloned, device_closed};
 ghost use Rattle.usb_device.specs.Opens.{descriptors_tried, open_tried, open_key, host_opened, with_opened};
 ghost use Rattle.usb_device.specs.CallErrors.{Leaves};
-ghost use Rattle.usb_error.specs.Outcomes.{Tried};
+ghost use Rattle.usb_error.specs.Outcomes.{Tried, result_map};
+ghost use Rattle.usb_registry.specs.History.{value_at};
+ghost use Rattle.usb_registry.specs.declared.registry.Key.{Key};
 
 use crate::host::Host;
 use crate::opened::OpenDevice;
 use std::alloc::Global;
-use usb_desc::{Configurations, DeviceDescriptor, Fail, concatenated};
+use usb_desc::{Configurations, DeviceDescriptor, Fail, NoMemory, concatenated};
 use usb_error::Error;
 use usb_kernel::{Bytes, Kernel};
+use usb_registry::Key;
 
 /// All descriptors of a device.
 #[tactic(auto, unfolding(crate::specs::Opens::descriptors_tried))]
@@ -62,6 +66,8 @@ fn open_at(
             configuration,
             device_descriptor,
             descriptors,
+            handles: 1,
+            interfaces: 0,
         }),
         Err(_) => Err(Fail::Cause(Error::configuration())),
     }
@@ -74,8 +80,9 @@ impl Host {
         alloc: Global,
         bus: u8,
         address: u8,
-    ) -> Result<usize, Fail<Error>>
-        ensures tried { Tried result (open_key self.old bus address) }
+    ) -> Result<Key, Fail<Error>>
+        ensures tried { Tried (result_map (λ (key : Key). key.serial) result)
+            (open_key self.old bus address) }
         ensures host { Leaves result self.new (host_opened self.old bus address) self.old }
     {
         match open_at(&mut self.kernel, alloc, bus, address) {
@@ -85,46 +92,60 @@ impl Host {
     }
 
     /// Keeps an open device under the next key.
-    fn keep_device(&mut self, opened: OpenDevice) -> Result<usize, Fail<Error>>
-        ensures key { IfOk result (λ key. key ≡ length self.old.devices) }
+    fn keep_device(&mut self, opened: OpenDevice) -> Result<Key, Fail<Error>>
+        ensures key { IfOk result (λ key. key.serial ≡ length self.old.devices) }
         ensures ok { OnOk result (self.new ≡ with_opened self.old opened) }
         ensures err { OnErr result (self.new ≡ self.old) }
         ensures memory { IfErr result (λ error. error ≡ Fail.Memory) }
     {
-        let key = self.devices.len();
-        if self.devices.push(opened).is_err() {
-            return Err(Fail::Memory);
+        match self.devices.open(opened) {
+            Ok(key) => Ok(key),
+            Err(NoMemory) => Err(Fail::Memory),
         }
-        Ok(key)
+    }
+
+    /// One more handle of an open device is open.
+    pub(crate) fn clone_device(&mut self, device: Key) -> Result<(), NoMemory>
+        ensures ok { OnOk result (self.new ≡ device_cloned self.old device.serial) }
+        ensures err { OnErr result (self.new ≡ self.old) }
+    {
+        self.devices.add_handle(device)
+    }
+
+    /// A handle of an open device is closed.
+    pub(crate) fn close_device(&mut self, device: Key)
+        ensures closed { self.new ≡ device_closed self.old device.serial }
+    {
+        self.devices.close_handle(device);
     }
 
     /// The device descriptor of an open device.
-    pub(crate) fn device_descriptor(&self, device: usize) -> &DeviceDescriptor
-        requires device { device < length self.now.devices }
-        ensures descriptor { ForSome (slice_get self.now.devices device) (λ o.
+    pub(crate) fn device_descriptor(&self, device: Key) -> &DeviceDescriptor
+        requires device { IsSome (value_at self.now.devices device.serial) }
+        ensures descriptor { ForSome (value_at self.now.devices device.serial) (λ o.
             result.now ≡ o.device_descriptor) }
     {
-        let opened = &self.devices[device];
+        let opened = self.devices.get(device);
         &opened.device_descriptor
     }
 
     /// All descriptors of an open device.
-    pub(crate) fn descriptors(&self, device: usize) -> &[u8]
-        requires device { device < length self.now.devices }
-        ensures descriptors { ForSome (slice_get self.now.devices device) (λ o.
+    pub(crate) fn descriptors(&self, device: Key) -> &[u8]
+        requires device { IsSome (value_at self.now.devices device.serial) }
+        ensures descriptors { ForSome (value_at self.now.devices device.serial) (λ o.
             result.now ≡ o.descriptors) }
     {
-        let opened = &self.devices[device];
+        let opened = self.devices.get(device);
         opened.descriptors.as_slice()
     }
 
     /// The configurations of an open device.
-    pub(crate) fn configurations(&self, device: usize) -> Configurations<'_>
-        requires device { device < length self.now.devices }
-        ensures configurations { ForSome (slice_get self.now.devices device) (λ o.
+    pub(crate) fn configurations(&self, device: Key) -> Configurations<'_>
+        requires device { IsSome (value_at self.now.devices device.serial) }
+        ensures configurations { ForSome (value_at self.now.devices device.serial) (λ o.
             result ≡ spec.configurations o.descriptors) }
     {
-        let opened = &self.devices[device];
+        let opened = self.devices.get(device);
         configurations_in(opened.descriptors.as_slice())
     }
 }

@@ -1,9 +1,10 @@
 //! The alternate settings of claimed interfaces.
 
-ghost use Rattle.std.specs.Prelude.{◌≡◌, ◌<◌, length, slice_get};
+ghost use Rattle.std.specs.Prelude.{◌≡◌, ◌<◌, length, slice_get, IsSome};
 ghost use Rattle.std.specs.Iterator.{YieldsFirst, item_count};
 ghost use Rattle.std.specs.Option.{ForSome};
 ghost use Rattle.usb_ledger.specs.Entries.{ClaimedInterface};
+ghost use Rattle.usb_registry.specs.History.{value_at};
 ghost use Rattle.usb_device.specs.HostState.{HostState};
 ghost use Rattle.usb_device.specs.EndpointOpens.{setting_in};
 ghost use Rattle.usb_device.specs.OnInterfaces.{alt_setting_tried, alt_setting_set, current_setting, settings_in, all_settings};
@@ -103,23 +104,23 @@ impl Host {
     pub(crate) fn interface_descriptor(&self, interface: usize) -> Option<InterfaceDescriptor<'_>>
         requires interface { interface < length self.now.interfaces }
         requires device { ForSome (slice_get self.now.interfaces interface) (λ c.
-            c.opened < length self.now.devices) }
+            IsSome (value_at self.now.devices c.opened)) }
         ensures descriptor { ForSome (slice_get self.now.interfaces interface) (λ c.
             result ≡ current_setting self.now c) }
     {
         let claim = self.ledger.interface(interface);
-        find_setting(&self.devices[claim.opened], claim.number, claim.setting)
+        find_setting(self.devices.get(claim.opened), claim.number, claim.setting)
     }
 
     /// The settings of a claimed interface, in the configuration that its open device keeps.
     pub(crate) fn interface_descriptors(&self, interface: usize) -> AltSettingsOf<'_>
         requires interface { interface < length self.now.interfaces }
         requires device { ForSome (slice_get self.now.interfaces interface) (λ c.
-            c.opened < length self.now.devices) }
+            IsSome (value_at self.now.devices c.opened)) }
         ensures descriptors { ForSome (slice_get self.now.interfaces interface) (λ c.
             result ≡ all_settings self.now c) }
     {
         let claim = self.ledger.interface(interface);
-        find_settings(&self.devices[claim.opened], claim.number)
+        find_settings(self.devices.get(claim.opened), claim.number)
     }
 }

@@ -33,7 +33,7 @@ one_if b = if b then 1 else 0
 abbrev pub claim_state : Claim → ClaimedInterface
 claim_state c =
     record {
-      opened = c.opened;
+      opened = c.opened.serial;
       device = c.device;
       number = c.number;
       setting = c.setting;

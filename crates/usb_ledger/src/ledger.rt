@@ -17,6 +17,7 @@ use std::marker::Model;
 use std::mem;
 use usb_desc::NoMemory;
 use usb_kernel::Done;
+use usb_registry::Key;
 use usb_xfer::TransferData;
 
 /// What a ticket leaves when it ends: its transfer, where its endpoint had it, and the claim that
@@ -233,10 +234,10 @@ impl Ledger {
     }
 
     /// The key of the open device of an interface.
-    pub fn opened(&self, interface: usize) -> usize
+    pub fn opened(&self, interface: usize) -> Key
         requires key { interface < length self.now.interfaces }
         ensures opened { ForSome (slice_get self.now.interfaces interface) (λ c.
-            result ≡ c.opened) }
+            result.serial ≡ c.opened) }
     {
         self.owners.interface(interface).opened
     }
@@ -268,11 +269,11 @@ impl Ledger {
     }
 
     /// One more interface is claimed, with one handle.
-    pub fn open_interface(&mut self, opened: usize, device: u8, number: u8, reattach: bool) -> usize
+    pub fn open_interface(&mut self, opened: Key, device: u8, number: u8, reattach: bool) -> usize
         requires room { 1 ≤ self.old.claim_room }
         ensures key { result ≡ length self.old.interfaces }
         ensures interfaces { self.new ≡ record self.old {
-          interfaces = self.old.interfaces ++ fresh_interface opened device number reattach ∷ [];
+          interfaces = self.old.interfaces ++ fresh_interface opened.serial device number reattach ∷ [];
           claim_room = self.new.claim_room;
         } }
     {

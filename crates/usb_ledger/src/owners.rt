@@ -12,6 +12,7 @@ ghost use Rattle.usb_ledger.specs.OwnerRows.{OwnersState, claim_state, is_alive,
 use std::alloc::Global;
 use std::marker::Model;
 use usb_desc::{EndpointBitSet, NoMemory};
+use usb_registry::Key;
 
 /// A claim that ends: the device's number at the kernel, the interface's number, and whether its
 /// driver is to be attached again.
@@ -27,7 +28,7 @@ pub struct EndedClaim {
 /// how many handles of it are open, how many of its endpoints live, and their bits.
 #[derive(Drop)]
 pub struct Claim {
-    pub opened: usize,
+    pub opened: Key,
     pub device: u8,
     pub number: u8,
     pub setting: u8,
@@ -309,11 +310,11 @@ impl Owners {
     }
 
     /// One more interface is claimed, with one handle.
-    pub fn open_interface(&mut self, opened: usize, device: u8, number: u8, reattach: bool) -> usize
+    pub fn open_interface(&mut self, opened: Key, device: u8, number: u8, reattach: bool) -> usize
         requires room { 1 ≤ self.old.claim_room }
         ensures key { result ≡ length self.old.interfaces }
         ensures interfaces { self.new ≡ record self.old {
-          interfaces = self.old.interfaces ++ fresh_interface opened device number reattach ∷ [];
+          interfaces = self.old.interfaces ++ fresh_interface opened.serial device number reattach ∷ [];
           claim_room = self.new.claim_room;
         } }
     {

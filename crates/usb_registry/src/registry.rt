@@ -1,9 +1,9 @@
 //! A registry of values.
 
-ghost use Rattle.std.specs.Prelude.{◌≡◌, ◌↔◌, IsTrue, ◌+◌, ◌<◌, ◌++◌, ◌∷◌, [], ℕ, length, set, Some, None, OnOk, OnErr, IfOk, IfErr, IfSome, IfNone, IsOk, IsSome, is_some};
+ghost use Rattle.std.specs.Prelude.{◌≡◌, ◌↔◌, IsTrue, ◌+◌, ◌^◌, ◌<◌, ◌≤◌, ◌++◌, ◌∷◌, [], ℕ, length, set, Some, None, OnOk, OnErr, IfOk, IfErr, IfSome, IfNone, IsOk, IsSome, is_some};
 ghost use Rattle.std.specs.Option.{option_copied, option_copied_mut, option_map};
 ghost use Rattle.std.specs.Borrow.{sem};
-ghost use Rattle.slab.specs.Slab.{get, Updates};
+ghost use Rattle.slab.specs.Slab.{get, slab_len, Updates};
 ghost use Rattle.usb_registry.specs.History.{value_at, live_count};
 ghost use Rattle.usb_registry.specs.Entries.{HasSerialAt};
 ghost use Rattle.usb_registry.specs.declared.registry.Entry.{Entry};
@@ -31,7 +31,7 @@ struct Entry<T> {
 
 /// Values, each named by the number of values that were put in before it. A place is used again; a
 /// serial number never is. Contracts see the list of all values that were put in, by serial number,
-/// with `None` for each that was taken out.
+/// with `None` for each that was taken out, and for how many values at once there is memory.
 #[derive(Drop)]
 pub struct Registry<T> {
     entries: Slab<Entry<T>>,
@@ -39,13 +39,18 @@ pub struct Registry<T> {
 }
 
 impl<T> Model for Registry<T> {
-    ghost use Rattle.std.specs.Prelude.{List, Option};
+    ghost use Rattle.usb_registry.specs.History.{RegistryState, registry_code};
 
-    ghost Value = { List (Option T) };
+    ghost Value = { RegistryState T };
+
+    ghost coded = { registry_code T.code };
 
     ghost use Rattle.usb_registry.specs.Entries.{history, IsSound};
 
-    ghost view = { λ r. history r.entries.slots r.next };
+    ghost view = { λ r. record {
+      values = history r.entries.slots r.next;
+      capacity = r.entries.capacity;
+    } };
 
     ghost invariant = { λ r. IsSound r.entries.slots r.next };
 }
@@ -84,6 +89,7 @@ fn value_at_place<T>(entries: &Slab<Entry<T>>, place: usize) -> Option<&T>
 fn take_at_place<T>(entries: &mut Slab<Entry<T>>, place: usize) -> Option<T>
     ensures value { result ≡ option_map (λ (e : Entry T). e.value) (get entries.old place) }
     ensures updates { Updates entries.old entries.new place None }
+    ensures capacity { entries.new.capacity ≡ entries.old.capacity }
 {
     match entries.try_remove(place) {
         Some(entry) => Some(into_value(entry)),
@@ -101,6 +107,7 @@ fn write_at_place<T>(entries: &mut Slab<Entry<T>>, place: usize, value: T) -> Re
     ensures updates { (e : Entry T) → get entries.old place ≡ Some e
         → IsOk result
         × Updates entries.old entries.new place (Some (record e { value = value })) }
+    ensures capacity { entries.new.capacity ≡ entries.old.capacity }
 {
     match entries.get_mut(place) {
         Some(entry) => Ok(mem::replace(&mut entry.value, value)),
@@ -119,9 +126,9 @@ fn into_value<T>(entry: Entry<T>) -> T
 impl<T> Registry<T> {
     ghost use Rattle.usb_registry.specs.Lends.{lends_value, lends_get};
 
-    /// No value.
+    /// No value, and memory for none.
     pub fn new(alloc: Global) -> Registry<T>
-        ensures empty { result ≡ [] }
+        ensures empty { result ≡ record { values = []; capacity = 0 } }
     {
         Registry {
             entries: Slab::new(alloc),
@@ -131,12 +138,17 @@ impl<T> Registry<T> {
 
     /// Puts a value in. Its serial number is the number of values that were put in before. An `Err`
     /// is want of memory, or the serial numbers below 2^64 - 1 are used up: the value comes back, and
-    /// nothing has changed.
+    /// no value has changed. Memory is taken only where there is none for one value more, so it is
+    /// bounded by how many values are there at once.
     pub fn insert(&mut self, value: T) -> Result<Key, AllocFailed<T>>
-        ensures serial { IfOk result (λ key. key.serial ≡ length self.old) }
-        ensures ok { OnOk result (self.new ≡ self.old ++ Some value ∷ []) }
-        ensures err { OnErr result (self.new ≡ self.old) }
+        ensures serial { IfOk result (λ key. key.serial ≡ length self.old.values) }
+        ensures ok { OnOk result (self.new.values ≡ self.old.values ++ Some value ∷ []) }
+        ensures err { OnErr result (self.new.values ≡ self.old.values) }
         ensures back { IfErr result (λ failed. failed.value ≡ value) }
+        ensures succeeds { live_count self.old.values < self.old.capacity →
+            length self.old.values + 1 < 2 ^ 64 → IsOk result }
+        ensures had_room { live_count self.old.values < self.old.capacity →
+            self.new.capacity ≡ self.old.capacity }
     {
         let serial = self.next;
         let Some(next) = serial.checked_add(1) else {
@@ -155,7 +167,7 @@ impl<T> Registry<T> {
 
     /// The value of a key, if it is there.
     pub fn get(&self, key: Key) -> Option<&T>
-        ensures value { option_copied result ≡ value_at self.now key.serial }
+        ensures value { option_copied result ≡ value_at self.now.values key.serial }
     {
         match find_place(&self.entries, key) {
             Some(place) => value_at_place(&self.entries, place),
@@ -165,16 +177,16 @@ impl<T> Registry<T> {
 
     /// Whether the value of a key is there.
     pub fn contains(&self, key: Key) -> bool
-        ensures there { result ≡ is_some (value_at self.now key.serial) }
+        ensures there { result ≡ is_some (value_at self.now.values key.serial) }
     {
         self.get(key).is_some()
     }
 
     /// The value of a key, which must be there, for writing.
     fn value_mut(&mut self, key: Key) -> &mut T
-        requires there { IsSome (value_at self.old key.serial) }
+        requires there { IsSome (value_at self.old.values key.serial) }
         ensures* writes_back { sem 𝓛 (lends_value T.row self.entry key.serial result) }
-        ensures value { value_at self.old key.serial ≡ Some result.now }
+        ensures value { value_at self.old.values key.serial ≡ Some result.now }
     {
         let Some(place) = find_place(&self.entries, key) else {
             unreachable!();
@@ -186,7 +198,7 @@ impl<T> Registry<T> {
     /// The value of a key for writing, if it is there.
     pub fn get_mut(&mut self, key: Key) -> Option<&mut T>
         ensures* writes_back { sem 𝓛 (lends_get T.row self.entry key.serial result) }
-        ensures value { option_copied_mut result ≡ value_at self.old key.serial }
+        ensures value { option_copied_mut result ≡ value_at self.old.values key.serial }
     {
         if self.contains(key) {
             Some(self.value_mut(key))
@@ -197,8 +209,10 @@ impl<T> Registry<T> {
 
     /// Takes the value of a key out, if it is there. Its memory is that of a later value.
     pub fn remove(&mut self, key: Key) -> Option<T>
-        ensures value { result ≡ value_at self.old key.serial }
-        ensures rest { self.new ≡ set self.old key.serial None }
+        ensures value { result ≡ value_at self.old.values key.serial }
+        ensures rest { self.new ≡ record self.old {
+          values = set self.old.values key.serial None;
+        } }
     {
         match find_place(&self.entries, key) {
             Some(place) => take_at_place(&mut self.entries, place),
@@ -209,9 +223,11 @@ impl<T> Registry<T> {
     /// Puts another value in the place of one that is there, which comes out. Where it is gone the
     /// new one comes back.
     pub fn replace(&mut self, key: Key, value: T) -> Result<T, T>
-        ensures was { IfOk result (λ was. value_at self.old key.serial ≡ Some was) }
-        ensures ok { OnOk result (self.new ≡ set self.old key.serial (Some value)) }
-        ensures gone { OnErr result (value_at self.old key.serial ≡ None) }
+        ensures was { IfOk result (λ was. value_at self.old.values key.serial ≡ Some was) }
+        ensures ok { OnOk result (self.new ≡ record self.old {
+          values = set self.old.values key.serial (Some value);
+        }) }
+        ensures gone { OnErr result (value_at self.old.values key.serial ≡ None) }
         ensures err { OnErr result (self.new ≡ self.old) }
         ensures back { IfErr result (λ back. back ≡ value) }
     {
@@ -223,15 +239,23 @@ impl<T> Registry<T> {
 
     /// How many values are there.
     pub fn len(&self) -> usize
-        ensures live { result ≡ live_count self.now }
+        ensures live { result ≡ live_count self.now.values }
     {
         self.entries.len()
     }
 
     /// Whether no value is there.
     pub fn is_empty(&self) -> bool
-        ensures empty { IsTrue result ↔ (live_count self.now ≡ 0) }
+        ensures empty { IsTrue result ↔ (live_count self.now.values ≡ 0) }
     {
         self.len() == 0
+    }
+
+    /// How many values fit with no allocation.
+    pub fn capacity(&self) -> usize
+        ensures capacity { result ≡ self.now.capacity }
+        ensures holds_all { live_count self.now.values ≤ result }
+    {
+        self.entries.capacity()
     }
 }

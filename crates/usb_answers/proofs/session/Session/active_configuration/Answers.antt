@@ -4,10 +4,10 @@ use Rattle.usb_device.specs.declared.opened.OpenDevice.{OpenDevice}
 use Rattle.usb_device.specs.HostState.{HostState}
 use Rattle.usb_device.specs.EndpointOpens.{as_asked, host_asked}
 use Rattle.usb_device.specs.OnDevices.{active_of}
-use Rattle.usb_ledger.proofs.LedgerLemmas.{some-at}
 use Rattle.usb_answers.specs.Configurations.{active_line, active_answer}
 use Rattle.usb_answers.specs.SessionState.{SessionState}
 use Rattle.usb_answers.specs.SessionFacts.{made_of}
+use Rattle.usb_answers.proofs.SoundDevices.{device-of}
 use Rattle.usb_answers.proofs.NameLemmas.{found_at}
 use Rattle.usb_answers.proofs.Answering.{answers, answers-same}
 use Rattle.usb_answers.proofs.DeviceHosts.{asked-aside}
@@ -29,8 +29,8 @@ unfolding active_answer
 returns-clause-answered c =
     let named = found_at _ _ _ _ _ _ c.deref.ensures.value c.number.ensures.value c.open_at.ensures.value (ap option_copied c.in-Some.is) in
     let below = c.self.invariant.devices_stand c.args.device c.in-Some.device.now named in
-    let there = some-at c.self.inside.host.devices c.in-Some.device.now below in
-    let asked = asked-device c.self.inside.host c.ask_configuration.new.host c.in-Some.device.now there.0 below there.1 c.ask_configuration.ensures.host in
+    let there = device-of c.self.inside.host c.in-Some.device.now below in
+    let asked = asked-device c.self.inside.host c.ask_configuration.new.host c.in-Some.device.now there.0 there.1 c.ask_configuration.ensures.host in
     answers _ _ _ c.self.view_is (c.write_active.ensures.text (as_asked c.self.inside.host.kernel there.0) asked)
     (λ state r. on_device-some (made_of c.self.inside) state c.ask_configuration.new.host c.args.device c.in-Some.device.now there.0 host_asked (λ (h : HostState) (o : OpenDevice). active_line (active_of (as_asked h.kernel o))) named there.1 c.ask_configuration.ensures.host r)
 

@@ -1,10 +1,10 @@
 use Rattle.std.proofs.Common.{ℕ, ◌≡◌, ◌∙◌, ap, subst, sym, Ok, Err}
 use Rattle.std.specs.Option.{option_copied}
 use Rattle.usb_device.specs.HostState.{HostState}
-use Rattle.usb_ledger.proofs.LedgerLemmas.{some-at}
 use Rattle.usb_answers.specs.Names.{set_name}
 use Rattle.usb_answers.specs.SessionState.{SessionState, IsSound}
 use Rattle.usb_answers.specs.SessionFacts.{made_of}
+use Rattle.usb_answers.proofs.SoundDevices.{device-of}
 use Rattle.usb_answers.proofs.NameLemmas.{found_at, free_at}
 use Rattle.usb_answers.proofs.Answering.{answers, answers-same}
 use Rattle.usb_answers.proofs.Handled.{sound-claimed, sound-refused}
@@ -19,7 +19,7 @@ returns-in_default-clause-answered c =
 pub returns-then-not-is_free-clause-answered : goal.returns-then-not-is_free-clause-answered
 returns-then-not-is_free-clause-answered c =
     let here = found_at _ _ _ _ _ _ c.deref.ensures.value c.number.ensures.value c.open_at.ensures.value (ap option_copied c.in-Some.is) in
-    let there = some-at c.self.inside.host.devices c.in-Some.device.now (c.self.invariant.devices_stand c.args.device c.in-Some.device.now here) in
+    let there = device-of c.self.inside.host c.in-Some.device.now (c.self.invariant.devices_stand c.args.device c.in-Some.device.now here) in
     answers-same _ _ _ c.self.view_is c.write_condition-then-not-is_free.ensures.text
     (λ state r. claim-used (made_of c.self.inside) state c.args.device c.in-Some.device.now c.args.number c.args.name c.args.reattach there.0 here there.1 (free_at _ _ _ _ _ _ c.deref-2.ensures.value c.number-2.ensures.value c.is_free.ensures.free c.if-not-is_free.true) r)
 

@@ -1,4 +1,6 @@
-use Rattle.std.proofs.Common.{◌≡◌, ap}
+use Rattle.std.proofs.Common.{◌≡◌, ◌∙◌, ap}
+use Rattle.usb_device.specs.HostState.{HostState}
+use Rattle.usb_answers.specs.SessionState.{SessionState}
 use Rattle.std.specs.Option.{option_copied}
 use Rattle.usb_answers.specs.Names.{set_name}
 use Rattle.usb_answers.specs.SessionFacts.{made_of}
@@ -25,7 +27,7 @@ returns-then-not-is_free-clause-answered c =
 
 pub invariant_of-self-2 : goal.invariant_of-self-2
 invariant_of-self-2 c =
-    sound-device_cloned (made_of c.self.inside) c.clone_on.new.host c.put_at.new.names.items c.args.name c.args.device c.in-Some.device.now c.self.invariant c.clone_on.ensures.host
+    sound-device_cloned (made_of c.self.inside) c.clone_on.new.host c.put_at.new.names.items c.args.name c.args.device c.in-Some.device.now c.self.invariant c.in_ok-clone.ensures.ok
     (found_at _ _ _ _ _ _ c.deref.ensures.value c.number.ensures.value c.open_at.ensures.value (ap option_copied c.in-Some.is))
     (free_at _ _ _ _ _ _ c.deref-2.ensures.value c.number-2.ensures.value c.is_free.ensures.free c.if-not-is_free.false) (put c)
 
@@ -34,4 +36,7 @@ returns-clause-answered c =
     answers _ _ _ c.self.view_is c.write_ok.ensures.text
     (λ state r. clone_device-gives (made_of c.self.inside) state c.clone_on.new.host c.put_at.new.names.items c.args.name c.args.device c.in-Some.device.now
     (found_at _ _ _ _ _ _ c.deref.ensures.value c.number.ensures.value c.open_at.ensures.value (ap option_copied c.in-Some.is))
-    (free_at _ _ _ _ _ _ c.deref-2.ensures.value c.number-2.ensures.value c.is_free.ensures.free c.if-not-is_free.false) c.clone_on.ensures.host (put c) r)
+    (free_at _ _ _ _ _ _ c.deref-2.ensures.value c.number-2.ensures.value c.is_free.ensures.free c.if-not-is_free.false) c.in_ok-clone.ensures.ok (put c) r)
+
+pub returns-clause-spare : goal.returns-clause-spare
+returns-clause-spare c = ap (λ (h : HostState). h.kernel.spare) c.in_ok-clone.ensures.ok ∙ ap (λ (v : SessionState). v.host.kernel.spare) c.self.view_is

@@ -2,9 +2,9 @@ use Rattle.std.proofs.Common.{ap}
 use Rattle.std.specs.Option.{option_copied}
 use Rattle.usb_lines.specs.Descriptors.{descriptors_line}
 use Rattle.usb_device.specs.declared.opened.OpenDevice.{OpenDevice}
-use Rattle.usb_ledger.proofs.LedgerLemmas.{some-at}
 use Rattle.usb_answers.specs.Describes.{descriptors_answer}
 use Rattle.usb_answers.specs.SessionFacts.{made_of}
+use Rattle.usb_answers.proofs.SoundDevices.{device-of}
 use Rattle.usb_answers.proofs.NameLemmas.{found_at}
 use Rattle.usb_answers.proofs.Answering.{answers-same}
 use Rattle.usb_answers.proofs.Devices.{asked-none, asked-some}
@@ -21,7 +21,7 @@ returns-in_default c =
 pub returns : goal.returns
 unfolding descriptors_answer
 returns c =
-    let there = some-at c.self.inside.host.devices c.in-Some.device.now (c.self.invariant.devices_stand c.args.device c.in-Some.device.now (found_at _ _ _ _ _ _ c.deref.ensures.value c.number.ensures.value c.open_at.ensures.value (ap option_copied c.in-Some.is))) in
+    let there = device-of c.self.inside.host c.in-Some.device.now (c.self.invariant.devices_stand c.args.device c.in-Some.device.now (found_at _ _ _ _ _ _ c.deref.ensures.value c.number.ensures.value c.open_at.ensures.value (ap option_copied c.in-Some.is))) in
     record {
       answered = answers-same _ _ _ c.self.view_is
           (rw (← c.descriptors.ensures.descriptors there.0 there.1) c.write_descriptors.ensures.text)

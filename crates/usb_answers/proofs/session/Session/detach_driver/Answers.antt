@@ -3,11 +3,11 @@ use Rattle.std.specs.Option.{option_copied}
 use Rattle.usb_device.specs.declared.opened.OpenDevice.{OpenDevice}
 use Rattle.usb_device.specs.HostState.{HostState}
 use Rattle.usb_device.specs.OnDevices.{host_detached, detach_tried}
-use Rattle.usb_ledger.proofs.LedgerLemmas.{some-at}
 use Rattle.usb_lines.specs.Calls.{result_line}
 use Rattle.usb_answers.specs.Drivers.{detach_answer}
 use Rattle.usb_answers.specs.SessionState.{SessionState}
 use Rattle.usb_answers.specs.SessionFacts.{made_of}
+use Rattle.usb_answers.proofs.SoundDevices.{device-of}
 use Rattle.usb_answers.proofs.NameLemmas.{found_at}
 use Rattle.usb_answers.proofs.Answering.{answers, answers-same}
 use Rattle.usb_answers.proofs.DeviceHosts.{detached-aside}
@@ -28,7 +28,7 @@ pub returns-clause-answered : goal.returns-clause-answered
 unfolding detach_answer
 returns-clause-answered c =
     let named = found_at _ _ _ _ _ _ c.deref.ensures.value c.number.ensures.value c.open_at.ensures.value (ap option_copied c.in-Some.is) in
-    let there = some-at c.self.inside.host.devices c.in-Some.device.now (c.self.invariant.devices_stand c.args.device c.in-Some.device.now named) in
+    let there = device-of c.self.inside.host c.in-Some.device.now (c.self.invariant.devices_stand c.args.device c.in-Some.device.now named) in
     answers _ _ _ c.self.view_is (rw (← c.detach_kernel_driver.ensures.result there.0 there.1) c.write_result.ensures.text)
     (λ state r. on_device-some (made_of c.self.inside) state c.detach_kernel_driver.new.host c.args.device c.in-Some.device.now there.0 (λ (h : HostState) key. host_detached h key c.args.number) (λ (h : HostState) (o : OpenDevice). result_line (detach_tried h o c.args.number)) named there.1 c.detach_kernel_driver.ensures.host r)
 

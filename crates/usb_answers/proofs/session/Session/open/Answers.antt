@@ -1,6 +1,7 @@
-use Rattle.std.proofs.Common.{ℕ, ◌≡◌, ◌∙◌, ap, Ok, Err}
+use Rattle.std.proofs.Common.{ℕ, ◌≡◌, ◌∙◌, ap, sym, subst, Ok, Err}
+use Rattle.usb_device.specs.HostState.{HostState}
 use Rattle.usb_answers.specs.Names.{set_name}
-use Rattle.usb_answers.specs.SessionState.{SessionState}
+use Rattle.usb_answers.specs.SessionState.{SessionState, IsSound}
 use Rattle.usb_answers.specs.SessionFacts.{made_of}
 use Rattle.usb_answers.proofs.NameLemmas.{free_at}
 use Rattle.usb_answers.proofs.Answering.{answers, answers-same}
@@ -14,7 +15,7 @@ returns-then-not-is_free-clause-answered c =
 
 pub invariant_of-self : goal.invariant_of-self
 invariant_of-self c =
-    open-sound (made_of c.self.inside) c.open_at.new.host c.put_at.new.names.items c.args.name c.in-Ok.device c.args.bus c.args.address c.self.invariant c.in-Ok.ensures.host c.in-Ok.ensures.stands
+    open-sound (made_of c.self.inside) c.open_at.new.host c.put_at.new.names.items c.args.name c.in-Ok.device c.args.bus c.args.address c.self.invariant c.in-Ok.ensures.tried c.in-Ok.ensures.host c.in-Ok.ensures.stands
     (free_at _ _ _ _ _ _ c.deref.ensures.value c.number.ensures.value c.is_free.ensures.free c.if-not-is_free.false)
     (rw (← c.number-in-Ok.ensures.value) c.put_at.ensures.after)
 
@@ -34,10 +35,12 @@ returns-in-Err-Cause-clause-answered c =
     (λ state r. open-refused (made_of c.self.inside) state c.open_at.new.host c.args.name c.args.bus c.args.address c.in-Err-Cause.error r (free_at _ _ _ _ _ _ c.deref.ensures.value c.number.ensures.value c.is_free.ensures.free c.if-not-is_free.false) (rw c.in-Err-Cause.field-0-is at c.in-Err-Cause.ensures.tried) (rw c.in-Err-Cause.field-0-is at c.in-Err-Cause.ensures.host))
 
 pub invariant_of-self-in-Err-Cause : goal.invariant_of-self-in-Err-Cause
-invariant_of-self-in-Err-Cause c = open-left {A = ℕ} (made_of c.self.inside) c.open_at.new.host c.args.bus c.args.address (Err c.in-Err-Cause.field-0) c.self.invariant c.in-Err-Cause.ensures.host
+invariant_of-self-in-Err-Cause c = open-left (made_of c.self.inside) c.open_at.new.host c.args.bus c.args.address c.in-Err-Cause.error c.self.invariant (rw c.in-Err-Cause.field-0-is at c.in-Err-Cause.ensures.tried) (rw c.in-Err-Cause.field-0-is at c.in-Err-Cause.ensures.host)
 
 pub invariant_of-self-in-Err-Memory : goal.invariant_of-self-in-Err-Memory
-invariant_of-self-in-Err-Memory c = open-left {A = ℕ} (made_of c.self.inside) c.open_at.new.host c.args.bus c.args.address (Err c.in-Err-Memory.field-0) c.self.invariant c.in-Err-Memory.ensures.host
+invariant_of-self-in-Err-Memory c =
+    let same = rw c.in-Err-Memory.field-0-is at c.in-Err-Memory.ensures.host in
+    subst (λ (h : HostState). IsSound (record (made_of c.self.inside) { host = h })) (sym same) c.self.invariant
 
 pub returns-in-Err-Cause-clause-spare : goal.returns-in-Err-Cause-clause-spare
 returns-in-Err-Cause-clause-spare c =

@@ -3,11 +3,11 @@ use Rattle.std.specs.Option.{option_copied}
 use Rattle.usb_device.specs.declared.opened.OpenDevice.{OpenDevice}
 use Rattle.usb_device.specs.HostState.{HostState}
 use Rattle.usb_device.specs.OnDevices.{host_speed_asked, speed_tried}
-use Rattle.usb_ledger.proofs.LedgerLemmas.{some-at}
 use Rattle.usb_lines.specs.Settings.{speed_line}
 use Rattle.usb_answers.specs.Configurations.{speed_answer}
 use Rattle.usb_answers.specs.SessionState.{SessionState}
 use Rattle.usb_answers.specs.SessionFacts.{made_of}
+use Rattle.usb_answers.proofs.SoundDevices.{device-of}
 use Rattle.usb_answers.proofs.NameLemmas.{found_at}
 use Rattle.usb_answers.proofs.Answering.{answers, answers-same}
 use Rattle.usb_answers.proofs.DeviceHosts.{speed-aside}
@@ -28,7 +28,7 @@ pub returns-clause-answered : goal.returns-clause-answered
 unfolding speed_answer
 returns-clause-answered c =
     let named = found_at _ _ _ _ _ _ c.deref.ensures.value c.number.ensures.value c.open_at.ensures.value (ap option_copied c.in-Some.is) in
-    let there = some-at c.self.inside.host.devices c.in-Some.device.now (c.self.invariant.devices_stand c.args.device c.in-Some.device.now named) in
+    let there = device-of c.self.inside.host c.in-Some.device.now (c.self.invariant.devices_stand c.args.device c.in-Some.device.now named) in
     answers _ _ _ c.self.view_is (rw (← c.speed.ensures.speed there.0 there.1) c.write_speed.ensures.text)
     (λ state r. on_device-some (made_of c.self.inside) state c.speed.new.host c.args.device c.in-Some.device.now there.0 host_speed_asked (λ (h : HostState) (o : OpenDevice). speed_line (speed_tried h o)) named there.1 c.speed.ensures.host r)
 

@@ -1,7 +1,14 @@
-use Rattle.std.proofs.Common.{ap, arith, length}
+use Rattle.std.proofs.Common.{ap, sym, subst}
 use Rattle.usb_device.specs.HostState.{HostState}
-use Rattle.usb_device.proofs.InterfaceFrames.{asked-length}
+use Rattle.usb_device.specs.HandleStates.{StandsDevice}
+use Rattle.usb_device.specs.EndpointOpens.{host_asked}
+use Rattle.usb_device.proofs.DeviceLemmas.{counts-stands}
+use Rattle.usb_device.proofs.InterfaceFrames.{asked-counts}
 use Rattle.usb_device.proofs.device.Device.ask_configuration.Goals as goal
 
 pub returns-clause-stands : goal.returns-clause-stands
-returns-clause-stands c = omega (arith, ap (λ (h : HostState). length h.devices) c.ask_configuration.ensures.asked, asked-length c.args.host.now c.self.inside.key, c.requires.stands)
+returns-clause-stands c =
+    let h = c.args.host.now in
+    let key = c.self.inside.key.serial in
+    let stands = rw (← c.self.view_is) at c.requires.stands in
+    rw (← c.self.view_is) (subst (λ (g : HostState). StandsDevice g key) (sym c.ask_configuration.ensures.asked) (counts-stands h (host_asked h key) key (asked-counts h key) stands))

@@ -1,16 +1,15 @@
 use Rattle.std.proofs.Common.{ℕ, refl, true, Ok, Err}
-use Rattle.usb_ledger.proofs.LedgerLemmas.{some-at}
 use Rattle.usb_device.proofs.OpeningLemmas.{claimed-stands, claimed-device}
 use Rattle.usb_device.proofs.device.Device.detach_and_claim_interface.Goals as goal
 
 pub returns-in-Ok-clause-claims : goal.returns-in-Ok-clause-claims
 returns-in-Ok-clause-claims c =
     let key = c.self.view_is in
-    let there = some-at c.args.host.now.devices c.args.self.now c.requires.stands in
+    let stands = c.requires.stands in
     record {
-      device = there.0;
-      at = there.1;
-      tried = (rw key at c.in-Ok.ensures.tried) there.0 there.1;
+      device = stands.device;
+      at = stands.at;
+      tried = (rw key at c.in-Ok.ensures.tried) stands.device stands.at;
       number = refl;
       host = rw key at c.in-Ok.ensures.host;
     }
@@ -18,9 +17,9 @@ returns-in-Ok-clause-claims c =
 pub returns-in-Ok-clause-stands : goal.returns-in-Ok-clause-stands
 returns-in-Ok-clause-stands c =
     let key = c.self.view_is in
-    let there = some-at c.args.host.now.devices c.args.self.now c.requires.stands in
+    let stands = c.requires.stands in
     let tried = rw key at c.in-Ok.ensures.tried in
-    claimed-stands c.args.host.now c.claim.new.self c.args.self.now c.args.interface c.in-Ok.key true there.0 there.1 c.requires.stands (tried there.0 there.1) (rw key at c.in-Ok.ensures.host)
+    claimed-stands c.args.host.now c.claim.new.self c.args.self.now c.args.interface c.in-Ok.key true stands.device stands.at stands (tried stands.device stands.at) (rw key at c.in-Ok.ensures.host)
 
 pub returns-in-Ok-clause-device : goal.returns-in-Ok-clause-device
 returns-in-Ok-clause-device c =
@@ -30,11 +29,11 @@ returns-in-Ok-clause-device c =
 pub returns-in-Err-clause-claims : goal.returns-in-Err-clause-claims
 returns-in-Err-clause-claims c =
     let key = c.self.view_is in
-    let there = some-at c.args.host.now.devices c.args.self.now c.requires.stands in
+    let stands = c.requires.stands in
     record {
-      device = there.0;
-      at = there.1;
-      tried = (rw key at c.in-Err.ensures.tried) there.0 there.1;
+      device = stands.device;
+      at = stands.at;
+      tried = (rw key at c.in-Err.ensures.tried) stands.device stands.at;
       number = tt;
       host = rw key at c.in-Err.ensures.host;
     }

@@ -42,4 +42,4 @@ returns c =
     let l = c.self.inside.ledger in
     let w : HeldSlot l.slots c.args.ticket = held-slot l.slots c.args.ticket (rw (← c.self.view_is) at c.requires.held) in
     let open_ : is_some (completion k.past c.args.ticket) ≡ false = ap (λ (h : HostState). is_some (completion h.kernel.past c.args.ticket)) c.self.view_is ∙ (sym c.has_come.ensures.reaped ∙ c.if-has_come.false) in
-    record { abandoned = abandoned-slot k c.self.inside.devices.items l c.self.inside.steps.items c.args.ticket w c.give_up.new.self open_ (c.give_up.ensures.slots (slot.HeldBy w.key w.transfer) w.at) ∙ ap (λ h. host_abandoned h c.args.ticket) c.self.view_is }
+    record { abandoned = abandoned-slot k c.self.inside.devices l c.self.inside.steps.items c.args.ticket w c.give_up.new.self open_ (c.give_up.ensures.slots (slot.HeldBy w.key w.transfer) w.at) ∙ ap (λ h. host_abandoned h c.args.ticket) c.self.view_is }

@@ -16,4 +16,4 @@ pub returns-clause-ok : goal.returns-clause-ok
 returns-clause-ok c =
     let inside = c.self.inside in
     let there = some-at inside.ledger.interfaces c.args.interface (rw (← c.self.view_is) at c.requires.interface) in
-    cloned-made inside.kernel inside.devices.items inside.ledger inside.steps.items c.args.interface there.0 c.add_handle.new.self c.args.self.now c.add_handle.result there.1 c.self.view_is c.add_handle.ensures.interfaces
+    cloned-made inside.kernel inside.devices inside.ledger inside.steps.items c.args.interface there.0 c.add_handle.new.self c.args.self.now c.add_handle.result there.1 c.self.view_is c.add_handle.ensures.interfaces

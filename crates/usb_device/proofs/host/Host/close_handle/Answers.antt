@@ -1,4 +1,6 @@
-use Rattle.std.proofs.Common.{◌∙◌, ap, arith}
+use Rattle.std.proofs.Common.{◌≡◌, ◌∙◌, ap, arith, Some, slice_get}
+use Rattle.usb_ledger.specs.Entries.{ClaimedInterface}
+use Rattle.usb_ledger.specs.OwnerRows.{claim_state}
 use Rattle.usb_kernel.specs.Value.{KernelState}
 use Rattle.usb_device.specs.Handles.{handle_closed}
 use Rattle.usb_ledger.specs.LedgerState.{LedgerState}
@@ -22,5 +24,6 @@ pub returns : goal.returns
 returns c =
     let k = c.self.inside.kernel in
     let l = c.self.inside.ledger in
-    let there = some-at l.interfaces c.args.interface (rw (← c.self.view_is) at c.requires.interface) in
-    record { closed = closed-made k c.self.inside.devices.items l c.self.inside.steps.items c.args.interface there.0 c.close_handle-ended.new.self c.close_handle-ended.result c.release.new.kernel there.1 (c.close_handle-ended.ensures.interfaces there.0 there.1) c.close_handle-ended.ensures.claim c.release.ensures.kernel ∙ ap (λ h. handle_closed h c.args.interface) c.self.view_is }
+    let claim : ClaimedInterface = claim_state c.interface-claim.result.now in
+    let at : slice_get l.interfaces c.args.interface ≡ Some claim = c.interface-claim.ensures.claim in
+    record { closed = closed-made k c.self.inside.devices c.leave_interface.new.self l c.self.inside.steps.items c.args.interface claim c.close_handle-ended.new.self c.close_handle-ended.result c.release.new.kernel at c.leave_interface.ensures.left (c.close_handle-ended.ensures.interfaces claim at) c.close_handle-ended.ensures.claim c.release.ensures.kernel ∙ ap (λ h. handle_closed h c.args.interface) c.self.view_is }

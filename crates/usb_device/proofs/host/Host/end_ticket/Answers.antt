@@ -13,12 +13,12 @@ returns-clause-ended c =
     let l = c.self.inside.ledger in
     let w : HeldSlot l.slots c.args.ticket = held-slot l.slots c.args.ticket (rw (← c.self.view_is) at c.requires.held) in
     let claim = c.end-ending.ensures.claim (slot.HeldBy w.key w.transfer) w.at in
-    ended-slot k c.self.inside.devices.items l c.self.inside.steps.items c.args.ticket w c.args.end c.end-ending.new.self c.end-ending.result.claim c.release.new.kernel c.end-ending.ensures.slots claim c.release.ensures.kernel ∙ ap (λ h. host_ended h c.args.ticket c.args.end) c.self.view_is
+    ended-slot k c.self.inside.devices l c.self.inside.steps.items c.args.ticket w c.args.end c.end-ending.new.self c.end-ending.result.claim c.release.new.kernel c.end-ending.ensures.slots claim c.release.ensures.kernel ∙ ap (λ h. host_ended h c.args.ticket c.args.end) c.self.view_is
 
 pub returns-clause-value : goal.returns-clause-value
 returns-clause-value c = λ some.
     let k = c.self.inside.kernel in
     let l = c.self.inside.ledger in
     let w : HeldSlot l.slots c.args.ticket = held-slot l.slots c.args.ticket (rw (← c.self.view_is) at c.requires.held) in
-    let some' : IsSome (host_value (host_made k c.self.inside.devices.items l c.self.inside.steps.items) c.args.ticket) = rw (← c.self.view_is) at some in
-    c.end-ending.ensures.transfer (slot.HeldBy w.key w.transfer) w.at ∙ value-slot k c.self.inside.devices.items l c.self.inside.steps.items c.args.ticket w c.self.invariant.agree some' ∙ ap (λ h. host_value h c.args.ticket) c.self.view_is
+    let some' : IsSome (host_value (host_made k c.self.inside.devices l c.self.inside.steps.items) c.args.ticket) = rw (← c.self.view_is) at some in
+    c.end-ending.ensures.transfer (slot.HeldBy w.key w.transfer) w.at ∙ value-slot k c.self.inside.devices l c.self.inside.steps.items c.args.ticket w c.self.invariant.agree some' ∙ ap (λ h. host_value h c.args.ticket) c.self.view_is

@@ -27,8 +27,8 @@ returns-clause-ended c = λ free t below.
     let a : c.loop-ticket.ticket ≡ length (tickets h.kernel.past) = omega (arith, n, c.loop-ticket-test.false, c.loop-ticket.auto) in
     let b : c.loop-ticket-2.ticket ≡ length (tickets h.kernel.past) = omega (arith, n, c.loop-ticket-2-test.false, c.loop-ticket-2.auto) in
     let last : c.loop-ticket-2.self ≡ finished h = c.loop-ticket-2.invariant ∙ ap (reaped_below c.loop-ticket.self) b ∙ ap (λ g. reaped_below g (length (tickets h.kernel.past))) (c.loop-ticket.invariant ∙ ap (discarded_below h) a) in
-    let free_then : (t : ℕ) → owner_at (host_made k c.self.inside.devices.items l c.self.inside.steps.items).tickets t ≡ None = λ t. ap (λ (g : HostState). owner_at g.tickets t) c.self.view_is ∙ free t in
-    let waits = matched-waits k c.self.inside.devices.items l c.self.inside.steps.items c.self.invariant.agree free_then in
+    let free_then : (t : ℕ) → owner_at (host_made k c.self.inside.devices l c.self.inside.steps.items).tickets t ≡ None = λ t. ap (λ (g : HostState). owner_at g.tickets t) c.self.view_is ∙ free t in
+    let waits = matched-waits k c.self.inside.devices l c.self.inside.steps.items c.self.invariant.agree free_then in
     let waits_now : Waits h (length (tickets h.kernel.past)) = rw (← c.self.view_is) waits in
     rw last (finished-ended h waits_now t (rw last at below))
 

@@ -15,7 +15,7 @@ returns-clause-come c =
     let l = c.self.inside.ledger in
     let w : HeldSlot l.slots c.args.ticket = held-slot l.slots c.args.ticket (rw (← c.self.view_is) at c.requires.held) in
     let same : c.slot-slot.result.now ≡ slot.HeldBy w.key w.transfer = same_Some _ _ (sym c.slot-slot.ensures.slot ∙ w.at) in
-    c.is_complete.ensures.complete ∙ ap is_complete same ∙ come-value k c.self.inside.devices.items l c.self.inside.steps.items c.args.ticket w c.self.invariant.agree ∙ ap (λ h. is_some (host_value h c.args.ticket)) c.self.view_is
+    c.is_complete.ensures.complete ∙ ap is_complete same ∙ come-value k c.self.inside.devices l c.self.inside.steps.items c.args.ticket w c.self.invariant.agree ∙ ap (λ h. is_some (host_value h c.args.ticket)) c.self.view_is
 
 pub returns-clause-reaped : goal.returns-clause-reaped
 returns-clause-reaped c =

@@ -25,7 +25,7 @@ returns-in-Ok-clause-host c =
     let before = c.self.inside in
     let tried : (open_tried c.args.bus c.args.address now.kernel).answer ≡ Ok c.in-Ok.opened = rw (← c.self.view_is) c.in-Ok.ensures.tried in
     let made =
-    ap (λ k. host_made k before.devices.items before.ledger before.steps.items) c.in-Ok.ensures.kernel
+    ap (λ k. host_made k before.devices before.ledger before.steps.items) c.in-Ok.ensures.kernel
     ∙ ap (λ (h : HostState). record h { kernel = (open_tried c.args.bus c.args.address h.kernel).kernel }) c.self.view_is in
     opened-leaves now _ c.keep_device.new.self c.args.bus c.args.address c.in-Ok.opened c.keep_device.result tried made c.keep_device.ensures.ok c.keep_device.ensures.err c.keep_device.ensures.memory
 

@@ -1,4 +1,7 @@
-use Rattle.std.proofs.Common.{◌≡◌, ◌<◌, ◌∙◌, ℕ, ap, sym, length, Some, slice_get, List}
+use Rattle.std.specs.Prelude.{IsSome}
+use Rattle.usb_registry.specs.History.{value_at}
+use Rattle.usb_device.proofs.DeviceLemmas.{KeepsThere, counts-there}
+use Rattle.std.proofs.Common.{subst, ◌≡◌, ◌<◌, ◌∙◌, ℕ, ap, sym, length, Some, slice_get, List}
 use Rattle.std.specs.Option.{ForSome}
 use Rattle.std.proofs.lemmas.Option.{same_Some}
 use Rattle.usb_ledger.specs.Entries.{ClaimedInterface}
@@ -6,7 +9,7 @@ use Rattle.usb_device.specs.HostState.{HostState}
 use Rattle.usb_device.specs.Owners.{is_in_use}
 use Rattle.usb_device.specs.EndpointOpens.{host_asked, host_tries, endpoint_route}
 use Rattle.usb_ledger.proofs.LedgerLemmas.{some-at}
-use Rattle.usb_device.proofs.InterfaceFrames.{asked-is, asked-length}
+use Rattle.usb_device.proofs.InterfaceFrames.{asked-is, asked-counts}
 use Rattle.usb_device.proofs.EndpointLemmas.{tried-unused, tried-some}
 use Rattle.usb_device.proofs.host.Host.open_endpoint.Goals as goal
 
@@ -16,7 +19,7 @@ record Asked (now next : HostState) (i : ℕ) : Type 0 where
   at : slice_get now.interfaces i ≡ Some claim
   made : next ≡ host_asked now claim.opened
   interfaces : next.interfaces ≡ now.interfaces
-  places : length next.devices ≡ length now.devices
+  places : KeepsThere now.devices next.devices
 
 asked : (view now next : HostState) (i opened : ℕ) → view ≡ now → i < length now.interfaces → ForSome (slice_get view.interfaces i) (λ c. opened ≡ c.opened) → next ≡ host_asked now opened → Asked now next i
 asked view now next i opened seen within opened_of asks =
@@ -28,7 +31,7 @@ asked view now next i opened seen within opened_of asks =
       at = there.1;
       made = made;
       interfaces = ap (λ (h : HostState). h.interfaces) (made ∙ asked-is now there.0.opened);
-      places = ap (λ (h : HostState). length h.devices) made ∙ asked-length now there.0.opened;
+      places = λ k here. subst (λ (h : HostState). IsSome (value_at h.devices k)) (sym made) (counts-there now.devices (host_asked now there.0.opened).devices (asked-counts now there.0.opened) k here);
     }
 
 -- what was tried at that host
@@ -41,30 +44,30 @@ at-asked now next i a x here = ap (λ (xs : List ClaimedInterface). slice_get xs
 pub ask_configuration-requires : goal.ask_configuration-requires
 ask_configuration-requires c =
     let there = some-at c.args.self.now.interfaces c.args.interface c.requires.interface in
-    let opened : c.opened-opened.result ≡ there.0.opened = c.opened-opened.ensures.opened there.0 (ap (λ (h : HostState). slice_get h.interfaces c.args.interface) c.self.view_is ∙ there.1) in
+    let opened : c.opened-opened.result.serial ≡ there.0.opened = c.opened-opened.ensures.opened there.0 (ap (λ (h : HostState). slice_get h.interfaces c.args.interface) c.self.view_is ∙ there.1) in
     record { device = rw opened (c.requires.device there.0 there.1) }
 
 pub try_endpoint-requires-clause-interface : goal.try_endpoint-requires-clause-interface
 try_endpoint-requires-clause-interface c =
-    let a = asked _ c.args.self.now c.ask_configuration.new.self c.args.interface c.opened-opened.result c.self.view_is c.requires.interface c.opened-opened.ensures.opened c.ask_configuration.ensures.asked in
+    let a = asked _ c.args.self.now c.ask_configuration.new.self c.args.interface c.opened-opened.result.serial c.self.view_is c.requires.interface c.opened-opened.ensures.opened c.ask_configuration.ensures.asked in
     rw a.interfaces c.requires.interface
 
 pub try_endpoint-requires-clause-device : goal.try_endpoint-requires-clause-device
 try_endpoint-requires-clause-device c = λ x here.
-    let a = asked _ c.args.self.now c.ask_configuration.new.self c.args.interface c.opened-opened.result c.self.view_is c.requires.interface c.opened-opened.ensures.opened c.ask_configuration.ensures.asked in
-    rw a.places (c.requires.device x (sym (ap (λ (xs : List ClaimedInterface). slice_get xs c.args.interface) a.interfaces) ∙ here))
+    let a = asked _ c.args.self.now c.ask_configuration.new.self c.args.interface c.opened-opened.result.serial c.self.view_is c.requires.interface c.opened-opened.ensures.opened c.ask_configuration.ensures.asked in
+    a.places x.opened (c.requires.device x (sym (ap (λ (xs : List ClaimedInterface). slice_get xs c.args.interface) a.interfaces) ∙ here))
 
 pub returns-in-Err-clause-tried : goal.returns-in-Err-clause-tried
 returns-in-Err-clause-tried c = λ x here.
     let now = c.args.self.now in
     let next = c.ask_configuration.new.self in
     let i = c.args.interface in
-    let a = asked _ now next i c.opened-opened.result c.self.view_is c.requires.interface c.opened-opened.ensures.opened c.ask_configuration.ensures.asked in
+    let a = asked _ now next i c.opened-opened.result.serial c.self.view_is c.requires.interface c.opened-opened.ensures.opened c.ask_configuration.ensures.asked in
     ap (λ h. host_tries h i x c.args.address c.args.kind c.args.direction) (host-asked now next i a x here) ∙ sym (c.in-Err.ensures.tried x (at-asked now next i a x here))
 
 pub open_endpoint-requires-clause-key : goal.open_endpoint-requires-clause-key
 open_endpoint-requires-clause-key c =
-    let a = asked _ c.args.self.now c.ask_configuration.new.self c.args.interface c.opened-opened.result c.self.view_is c.requires.interface c.opened-opened.ensures.opened c.ask_configuration.ensures.asked in
+    let a = asked _ c.args.self.now c.ask_configuration.new.self c.args.interface c.opened-opened.result.serial c.self.view_is c.requires.interface c.opened-opened.ensures.opened c.ask_configuration.ensures.asked in
     let interfaces = ap (λ (h : HostState). h.interfaces) c.self-2.view_is ∙ a.interfaces in
     rw interfaces c.requires.interface
 
@@ -73,7 +76,7 @@ open_endpoint-requires-clause-unused c =
     let now = c.args.self.now in
     let next = c.ask_configuration.new.self in
     let i = c.args.interface in
-    let a = asked _ now next i c.opened-opened.result c.self.view_is c.requires.interface c.opened-opened.ensures.opened c.ask_configuration.ensures.asked in
+    let a = asked _ now next i c.opened-opened.result.serial c.self.view_is c.requires.interface c.opened-opened.ensures.opened c.ask_configuration.ensures.asked in
     let tried = sym (c.in-Ok.ensures.tried a.claim (at-asked now next i a a.claim a.at)) in
     ap (λ (h : HostState). is_in_use h i c.args.address) c.self-2.view_is ∙ tried-unused next i a.claim c.args.address c.args.kind c.args.direction c.in-Ok.maximum tried
 
@@ -82,7 +85,7 @@ returns-clause-tried c = λ x here.
     let now = c.args.self.now in
     let next = c.ask_configuration.new.self in
     let i = c.args.interface in
-    let a = asked _ now next i c.opened-opened.result c.self.view_is c.requires.interface c.opened-opened.ensures.opened c.ask_configuration.ensures.asked in
+    let a = asked _ now next i c.opened-opened.result.serial c.self.view_is c.requires.interface c.opened-opened.ensures.opened c.ask_configuration.ensures.asked in
     ap (λ h. host_tries h i x c.args.address c.args.kind c.args.direction) (host-asked now next i a x here) ∙ sym (c.in-Ok.ensures.tried x (at-asked now next i a x here))
 
 pub returns-clause-packets : goal.returns-clause-packets
@@ -90,12 +93,12 @@ returns-clause-packets c =
     let now = c.args.self.now in
     let next = c.ask_configuration.new.self in
     let i = c.args.interface in
-    let a = asked _ now next i c.opened-opened.result c.self.view_is c.requires.interface c.opened-opened.ensures.opened c.ask_configuration.ensures.asked in
+    let a = asked _ now next i c.opened-opened.result.serial c.self.view_is c.requires.interface c.opened-opened.ensures.opened c.ask_configuration.ensures.asked in
     tried-some next i a.claim c.args.address c.args.kind c.args.direction c.in-Ok.maximum (sym (c.in-Ok.ensures.tried a.claim (at-asked now next i a a.claim a.at)))
 
 pub returns-clause-route : goal.returns-clause-route
 returns-clause-route c = λ x here.
     let device = c.device-device.ensures.device x (ap (λ (h : HostState). slice_get h.interfaces c.args.interface) c.self.view_is ∙ here) in
-    let made = c.ask_configuration.ensures.asked ∙ asked-is c.args.self.now c.opened-opened.result in
+    let made = c.ask_configuration.ensures.asked ∙ asked-is c.args.self.now c.opened-opened.result.serial in
     let key = c.in-Ok-open_endpoint.ensures.key ∙ ap (λ (h : HostState). length h.endpoints) (c.self-2.view_is ∙ made) in
     ap (λ d. endpoint_route (record x { device = d }) c.args.address c.args.kind c.in-Ok.maximum c.in-Ok-open_endpoint.key) device ∙ ap (endpoint_route x c.args.address c.args.kind c.in-Ok.maximum) key

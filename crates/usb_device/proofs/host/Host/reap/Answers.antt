@@ -21,4 +21,4 @@ unfolding host_reaped
 returns c =
     let k = c.self.inside.kernel in
     let after : c.reap-arrived.new.self ≡ record k { past = after_reap k.past c.args.ticket } = c.reap-arrived.ensures.rest ∙ ap (λ p. record k { past = p }) c.reap-arrived.ensures.past in
-    record { reaped = c.complete.ensures.host c.self.inside.devices.items c.self.inside.steps.items ∙ rw (after, c.reap-arrived.ensures.done, ← c.self.view_is) refl }
+    record { reaped = c.complete.ensures.host c.self.inside.devices c.self.inside.steps.items ∙ rw (after, c.reap-arrived.ensures.done, ← c.self.view_is) refl }

@@ -42,5 +42,5 @@ returns-in-Ok-clause-ok c =
     c.hold.ensures.slots ∙ rw (c.reserve.ensures.rest, c.take_buffer-buffer.ensures.rest) refl in
     let past : c.refuse.new.self.past ≡ submit_or_refuse (length (tickets k.past)) sub refusal ∷ k.past = c.in-Ok.ensures.past ∙ ap (λ s. after_refuse k.past s c.args.errno) c.submission.ensures.submission in
     let kernel : c.refuse.new.self ≡ record k { past = after_refuse k.past sub c.args.errno } = c.refuse.ensures.rest ∙ ap (λ p. record k { past = p }) past in
-    refused-made k c.refuse.new.self c.self.inside.devices.items l c.hold.new.self c.self.inside.steps.items c.args.to c.args.t c.args.errno c.take_buffer-buffer.result held c.hold.new.self.room (ap buffer_held c.take_buffer-buffer.ensures.value) kernel ledger
+    refused-made k c.refuse.new.self c.self.inside.devices l c.hold.new.self c.self.inside.steps.items c.args.to c.args.t c.args.errno c.take_buffer-buffer.result held c.hold.new.self.room (ap buffer_held c.take_buffer-buffer.ensures.value) kernel ledger
     ∙ ap (λ h. host_refused h c.args.to c.args.t c.args.errno) c.self.view_is

@@ -3,7 +3,8 @@ use Rattle.usb_kernel.specs.Calls.{after_reset}
 use Rattle.usb_kernel.specs.Value.{KernelState}
 use Rattle.usb_device.specs.HostState.{HostState}
 use Rattle.usb_device.proofs.ArrivalLemmas.{TicketsAgree-at}
-use Rattle.usb_ledger.proofs.LedgerLemmas.{some-at}
+use Rattle.usb_registry.specs.History.{value_at}
+use Rattle.usb_registry.proofs.ValueLemmas.{some-of}
 use Rattle.usb_device.proofs.CalledHosts.{reset-agree, reset-spare, kernel-put, reset-at}
 use Rattle.usb_device.proofs.host.Host.reset.Goals as goal
 
@@ -24,8 +25,8 @@ pub returns-clause-host : goal.returns-clause-host
 returns-clause-host c =
     let now = c.args.self.now in
     let inside = c.self.inside in
-    let there = some-at now.devices c.args.device c.requires.device in
+    let there = some-of (value_at now.devices c.args.device.serial) c.requires.device in
     let o = there.0 in
     let kernel : c.reset.new.self ≡ after_reset now.kernel o.device =
     c.reset.ensures.rest ∙ ap (after_reset inside.kernel) (c.number_of-number.ensures.number o there.1) ∙ ap (λ (h : HostState). after_reset h.kernel o.device) c.self.view_is in
-    kernel-put inside.kernel inside.devices.items inside.ledger inside.steps.items now c.reset.new.self _ c.self.view_is kernel ∙ sym (reset-at now c.args.device o there.1)
+    kernel-put inside.kernel inside.devices inside.ledger inside.steps.items now c.reset.new.self _ c.self.view_is kernel ∙ sym (reset-at now c.args.device.serial o there.1)

@@ -26,4 +26,4 @@ returns c =
     let nil : c.self.inside.steps.items ≡ [] = nil_from_length c.self.inside.steps.items (omega (arith, c.in_default.ensures.cases)) in
     let left : c.pop_front.new.self.items ≡ [] = nil_from_length c.pop_front.new.self.items (omega (arith, c.in_default.ensures.cases)) in
     let none : c.loop-step.self.steps ≡ [] = sym (ap (λ (h : HostState). h.steps) c.self.view_is) ∙ nil in
-    record { rest = ap (λ (ss : List KernelStep). host_made c.self.inside.kernel c.self.inside.devices.items c.self.inside.ledger ss) (left ∙ sym nil) ∙ c.self.view_is ∙ sym (rest-none c.loop-step.self none) ∙ c.loop-step.invariant }
+    record { rest = ap (λ (ss : List KernelStep). host_made c.self.inside.kernel c.self.inside.devices c.self.inside.ledger ss) (left ∙ sym nil) ∙ c.self.view_is ∙ sym (rest-none c.loop-step.self none) ∙ c.loop-step.invariant }

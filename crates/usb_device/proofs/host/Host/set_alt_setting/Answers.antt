@@ -41,7 +41,7 @@ returns-in-Err-clause-host c =
     c.set_interface.ensures.rest ∙ ap (λ (h : HostState). called h.kernel claim.device call.Alt (set_interface_rules claim.number c.args.setting) same) c.self.view_is in
     let answer = c.in-Err.ensures.result ∙ ap (λ (h : HostState). ok_unless (alt_setting_errno h claim c.args.setting)) c.self.view_is in
     let errno : alt_setting_errno now claim c.args.setting ≡ Some c.in-Err.errno = errno-of_err (alt_setting_errno now claim c.args.setting) c.in-Err.errno answer in
-    kernel-put inside.kernel inside.devices.items inside.ledger inside.steps.items now c.set_interface.new.self _ c.self.view_is kernel ∙ sym (setting-refused now c.args.interface c.args.setting claim at c.in-Err.errno living errno)
+    kernel-put inside.kernel inside.devices inside.ledger inside.steps.items now c.set_interface.new.self _ c.self.view_is kernel ∙ sym (setting-refused now c.args.interface c.args.setting claim at c.in-Err.errno living errno)
 
 pub invariant_of-self-2 : goal.invariant_of-self-2
 invariant_of-self-2 c =
@@ -56,7 +56,7 @@ pub returns-clause-host : goal.returns-clause-host
 returns-clause-host c =
     let now = c.args.self.now in
     let inside = c.self.inside in
-    let devices = inside.devices.items in
+    let devices = inside.devices in
     let steps = inside.steps.items in
     let claim : ClaimedInterface = claim_state c.interface-claim.result.now in
     let at : slice_get now.interfaces c.args.interface ≡ Some claim = ap (λ (h : HostState). slice_get h.interfaces c.args.interface) (sym c.self.view_is) ∙ c.interface-claim.ensures.claim in

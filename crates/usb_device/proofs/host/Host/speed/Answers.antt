@@ -5,7 +5,8 @@ use Rattle.usb_simulated.specs.Calls.{same}
 use Rattle.usb_kernel.specs.Calls.{called}
 use Rattle.usb_kernel.specs.Value.{KernelState}
 use Rattle.usb_device.specs.HostState.{HostState}
-use Rattle.usb_ledger.proofs.LedgerLemmas.{some-at}
+use Rattle.usb_registry.specs.History.{value_at}
+use Rattle.usb_registry.proofs.ValueLemmas.{some-of}
 use Rattle.usb_device.proofs.CalledHosts.{matched-next, called-past, called-spare, kernel-put, speed-at}
 use Rattle.usb_device.proofs.host.Host.speed.Goals as goal
 
@@ -21,8 +22,8 @@ pub returns-clause-host : goal.returns-clause-host
 returns-clause-host c =
     let now = c.args.self.now in
     let inside = c.self.inside in
-    let there = some-at now.devices c.args.device c.requires.device in
+    let there = some-of (value_at now.devices c.args.device.serial) c.requires.device in
     let o = there.0 in
     let kernel : c.speed.new.self ≡ called now.kernel o.device call.Speed no_rules same =
     c.speed.ensures.rest ∙ ap (λ n. called inside.kernel n call.Speed no_rules same) (c.number_of-number.ensures.number o there.1) ∙ ap (λ (h : HostState). called h.kernel o.device call.Speed no_rules same) c.self.view_is in
-    kernel-put inside.kernel inside.devices.items inside.ledger inside.steps.items now c.speed.new.self _ c.self.view_is kernel ∙ sym (speed-at now c.args.device o there.1)
+    kernel-put inside.kernel inside.devices inside.ledger inside.steps.items now c.speed.new.self _ c.self.view_is kernel ∙ sym (speed-at now c.args.device.serial o there.1)

@@ -21,4 +21,4 @@ unfolding host_stepped
 returns c =
     let k = c.self.inside.kernel in
     let after : c.step-arrived.new.self ≡ after_step k c.args.step = kernel-same c.step-arrived.new.self (after_step k c.args.step) c.step-arrived.ensures.past c.step-arrived.ensures.devices c.step-arrived.ensures.clock c.step-arrived.ensures.armed (omega (arith, c.step-arrived.ensures.spare)) in
-    record { stepped = c.complete.ensures.host c.self.inside.devices.items c.self.inside.steps.items ∙ rw (after, c.step-arrived.ensures.done, ← c.self.view_is) refl }
+    record { stepped = c.complete.ensures.host c.self.inside.devices c.self.inside.steps.items ∙ rw (after, c.step-arrived.ensures.done, ← c.self.view_is) refl }

@@ -44,5 +44,5 @@ returns-in-Ok-clause-ok c =
     let armed = c.in-Ok.ensures.armed ∙ ap (λ s. armed_after_submit k.devices k.armed s) c.submission.ensures.submission in
     let kernel : c.submit.new.self ≡ record k { past = after_submit k.devices k.armed k.past sub; armed = armed_after_submit k.devices k.armed sub } =
     c.submit.ensures.rest ∙ ap (λ p. record k { past = p; armed = c.submit.new.self.armed }) past ∙ ap (λ a. record k { past = after_submit k.devices k.armed k.past sub; armed = a }) armed in
-    submitted-made k c.submit.new.self c.self.inside.devices.items l c.hold.new.self c.self.inside.steps.items c.args.to c.args.t c.take_buffer-buffer.result held c.hold.new.self.room (ap buffer_held c.take_buffer-buffer.ensures.value) kernel ledger
+    submitted-made k c.submit.new.self c.self.inside.devices l c.hold.new.self c.self.inside.steps.items c.args.to c.args.t c.take_buffer-buffer.result held c.hold.new.self.room (ap buffer_held c.take_buffer-buffer.ensures.value) kernel ledger
     ∙ ap (λ h. host_submitted h c.args.to c.args.t) c.self.view_is

@@ -25,7 +25,7 @@ pub returns-in-Some-lowest_finished-clause-next : goal.returns-in-Some-lowest_fi
 returns-in-Some-lowest_finished-clause-next c =
     let nil : c.self.inside.steps.items ≡ [] = nil_from_length c.self.inside.steps.items (omega (arith, c.in_default.ensures.cases)) in
     let left : c.pop_front.new.self.items ≡ [] = nil_from_length c.pop_front.new.self.items (omega (arith, c.in_default.ensures.cases)) in
-    c.reap.ensures.reaped ∙ ap (λ (ss : List KernelStep). host_reaped (host_made c.self.inside.kernel c.self.inside.devices.items c.self.inside.ledger ss) c.in-Some-lowest_finished.ticket) (left ∙ sym nil) ∙ ap (λ h. host_reaped h c.in-Some-lowest_finished.ticket) c.self.view_is
+    c.reap.ensures.reaped ∙ ap (λ (ss : List KernelStep). host_reaped (host_made c.self.inside.kernel c.self.inside.devices c.self.inside.ledger ss) c.in-Some-lowest_finished.ticket) (left ∙ sym nil) ∙ ap (λ h. host_reaped h c.in-Some-lowest_finished.ticket) c.self.view_is
     ∙ sym (turned-none c.args.self.now (Some c.in-Some-lowest_finished.ticket) (rw (← c.self.view_is) nil) (rw (← c.self.view_is) (sym c.in-Some-lowest_finished.ensures.lowest)))
 
 pub returns-in-None-clause-turn : goal.returns-in-None-clause-turn
@@ -38,5 +38,5 @@ pub returns-in-None-clause-next : goal.returns-in-None-clause-next
 returns-in-None-clause-next c =
     let nil : c.self.inside.steps.items ≡ [] = nil_from_length c.self.inside.steps.items (omega (arith, c.in_default.ensures.cases)) in
     let left : c.pop_front.new.self.items ≡ [] = nil_from_length c.pop_front.new.self.items (omega (arith, c.in_default.ensures.cases)) in
-    ap (λ (ss : List KernelStep). host_made c.self.inside.kernel c.self.inside.devices.items c.self.inside.ledger ss) (left ∙ sym nil) ∙ c.self.view_is
+    ap (λ (ss : List KernelStep). host_made c.self.inside.kernel c.self.inside.devices c.self.inside.ledger ss) (left ∙ sym nil) ∙ c.self.view_is
     ∙ sym (turned-none c.args.self.now None (rw (← c.self.view_is) nil) (rw (← c.self.view_is) (sym c.in-None.ensures.lowest)))

@@ -1,0 +1,42 @@
+-- Sessions in which devices and their names change together.
+use Rattle.std.proofs.Common.{◌≡◌, ℕ, ◌<◌, List, length, Option, Some, ap, sym, ◌∙◌, subst, slice_get}
+use Rattle.usb_registry.specs.History.{value_at}
+use Rattle.usb_ledger.specs.Entries.{ClaimedInterface}
+use Rattle.usb_device.specs.declared.opened.OpenDevice.{OpenDevice}
+use Rattle.usb_bus.specs.BusState.{BusState}
+use Rattle.usb_endpoint.specs.Handles.{Stands}
+use Rattle.usb_device.specs.HostState.{HostState}
+use Rattle.usb_device.specs.HostBus.{bus_of}
+use Rattle.usb_device.specs.HandleStates.{InterfaceState, StandsDevice, StandsInterface}
+use Rattle.usb_device.specs.DeviceLaws.{DevicesAreHeld}
+use Rattle.usb_answers.specs.Names.{named}
+use Rattle.usb_answers.specs.SessionState.{SessionState, IsSound}
+use Rattle.usb_answers.proofs.CountedNames.{counted-same}
+use Rattle.usb_answers.proofs.CountedDevices.{CountedDevices}
+
+-- the device of a handle that stands
+pub device-of : (h : HostState) (key : ℕ) → StandsDevice h key → (o : OpenDevice) × (value_at h.devices key ≡ Some o)
+device-of h key stands = (stands.device, stands.at)
+
+-- an interface with an open handle has its device
+pub stands-held : (h : HostState) (f : InterfaceState) (c : ClaimedInterface) → DevicesAreHeld h → slice_get h.interfaces f.key ≡ Some c → c.number ≡ f.number → 0 < c.handles → StandsInterface h f
+stands-held h f c held at number some = record { claim = c; at = at; number = number; open_handle = some; device = held.there f.key c at some }
+
+pub sound-device : (s : SessionState) (now : HostState) (after : List (Option ℕ)) → IsSound s → now.steps ≡ s.host.steps → now.interfaces ≡ s.host.interfaces → bus_of now ≡ bus_of s.host → length after ≡ length s.devices
+    → ((d key : ℕ) → named after d ≡ Some key → StandsDevice now key) → CountedDevices now.devices after → DevicesAreHeld now → IsSound (record s { host = now; devices = after })
+sound-device s now after sound steps interfaces bus names stand counted held =
+    record {
+      idle = steps ∙ sound.idle;
+      device_names = names ∙ sound.device_names;
+      interface_names = sound.interface_names;
+      endpoint_names = sound.endpoint_names;
+      devices_stand = stand;
+      devices_counted = counted;
+      devices_held = held;
+      interfaces_stand = λ i f at.
+          let was = sound.interfaces_stand i f at in
+          stands-held now f was.claim held (ap (λ (l : List ClaimedInterface). slice_get l f.key) interfaces ∙ was.at) was.number was.open_handle;
+      interfaces_counted = counted-same s.host.interfaces now.interfaces s.interfaces interfaces sound.interfaces_counted;
+      endpoints_stand = λ e h at. subst (λ (b : BusState). Stands b h) (sym bus) (sound.endpoints_stand e h at);
+      endpoints_differ = sound.endpoints_differ;
+    }

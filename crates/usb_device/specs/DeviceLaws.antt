@@ -1,0 +1,21 @@
+-- Which open devices a host keeps.
+use Rattle.std.specs.Prelude.{ℕ, ◌≡◌, ◌<◌, ◌==◌, ◌&&◌, Bool, true, nat_lt, Some, IsSome, slice_get}
+use Rattle.std.specs.List.{count_by}
+use Rattle.usb_registry.specs.History.{value_at}
+use Rattle.usb_ledger.specs.Entries.{ClaimedInterface}
+use Rattle.usb_device.specs.declared.opened.OpenDevice.{OpenDevice}
+use Rattle.usb_device.specs.Devices.{is_held}
+use Rattle.usb_device.specs.HostState.{HostState}
+
+-- whether a claimed interface holds the open device of a key: it was claimed on it, and has an open handle
+abbrev pub holds : ℕ → ClaimedInterface → Bool
+holds key c = nat_lt 0 c.handles && c.opened == key
+
+-- nothing is kept that has gone: each open device that is there is held. It counts the interfaces that hold it; and one
+-- that an interface holds is there
+pub record DevicesAreHeld (h : HostState) : Type 0 where
+  pub held : (key : ℕ) (o : OpenDevice) → value_at h.devices key ≡ Some o → is_held o ≡ true
+  pub counted : (key : ℕ) (o : OpenDevice) → value_at h.devices key ≡ Some o →
+      o.interfaces ≡ count_by (holds key) h.interfaces
+  pub there : (i : ℕ) (c : ClaimedInterface) → slice_get h.interfaces i ≡ Some c → 0 < c.handles →
+      IsSome (value_at h.devices c.opened)
