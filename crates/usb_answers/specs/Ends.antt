@@ -28,13 +28,16 @@ abbrev pub interfaces_closed : State → ℕ → State
 interfaces_closed state zero = state
 interfaces_closed state (suc k) = interface_closed (interfaces_closed state k) k
 
+-- the device that is open under a name is closed, if there is one
 abbrev pub device_closed_at : State → ℕ → Option ℕ → State
 device_closed_at state d None = state
 device_closed_at state d (Some key) = without_device state d key
 
+-- the same, with the name looked up
 unfoldable pub name_closed : State → ℕ → State
 name_closed state d = device_closed_at state d (named state.devices d)
 
+-- the devices of the names below k are closed, in order
 abbrev pub devices_closed : State → ℕ → State
 devices_closed state zero = state
 devices_closed state (suc k) = name_closed (devices_closed state k) k
