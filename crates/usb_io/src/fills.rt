@@ -18,7 +18,7 @@ use usb_xfer::BulkOrInterrupt;
 
 impl<T: BulkOrInterrupt> EndpointRead<T> {
     /// Turns, and lends what stands.
-    pub(crate) fn fill_within<B: Bus>(
+    fn fill_within<B: Bus>(
         &mut self,
         bus: &mut B,
         until_short: bool,
