@@ -9,6 +9,7 @@ ghost use Rattle.usb_endpoint.specs.Handles.{Stands};
 use crate::cases::{Case, expect};
 use futures::task::Poll;
 use std::alloc::Global;
+use std::io::{self, ErrorKind, Read};
 use std::process::Abort;
 use std::test::Fail;
 use usb_bus::KernelBus;
@@ -165,6 +166,29 @@ fn look_at_message(bus: &mut KernelBus, reader: &mut EndpointRead<Bulk>) -> Outc
     lent_in_time(reader.until_short_packet().poll_fill_buf(bus))
 }
 
+fn told_by_std(read: io::Result<usize>, first: u8) -> Outcome {
+    match read {
+        Ok(0) => Outcome::Nothing,
+        Ok(count) => Outcome::Bytes(count, first),
+        Err(error) => match error.kind() {
+            ErrorKind::ConnectionReset => Outcome::Stall,
+            ErrorKind::TimedOut => Outcome::TimedOut,
+            ErrorKind::UnexpectedEof => Outcome::NothingPending,
+            _ => Outcome::Other,
+        },
+    }
+}
+
+/// A read of up to 3 bytes by std's trait.
+fn read_by_std(bus: &mut KernelBus, reader: &mut EndpointRead<Bulk>) -> Outcome
+    requires stands { Stands (bus_of bus.old) reader.old.endpoint }
+    ensures stands { Stands (bus_of bus.new) reader.new.endpoint }
+{
+    let mut dest = [0; 3];
+    let count = reader.on(bus).read(&mut dest);
+    told_by_std(count, dest[0])
+}
+
 /// A step with a reader, and what it gives.
 #[derive(Clone, Copy)]
 pub enum Step {
@@ -196,6 +220,8 @@ pub enum Step {
     LookAtMessage(Outcome),
     /// So many bytes of those that stand are taken off.
     Consume(usize),
+    /// A read by std's trait.
+    ReadByStd(Outcome),
     /// Whether a message's end comes next.
     IsEnd(bool),
     /// The end of a message is taken, if it comes next.
@@ -208,7 +234,7 @@ pub enum Step {
 
 /// Joined reads, reads that stop at short packets, an error that comes after its bytes and lasts,
 /// and looks.
-const CASES: [(&str, &[Step]); 6] = [
+const CASES: [(&str, &[Step]); 7] = [
     (
         "plain reads join transfers and give up in time",
         &[
@@ -301,6 +327,24 @@ const CASES: [(&str, &[Step]); 6] = [
             Step::Fill(Outcome::TimedOut),
         ],
     ),
+    (
+        "std's read does the same",
+        &[
+            Step::Transfers(2),
+            Step::Packet(&[1, 2, 3, 4]),
+            Step::Packet(&[5]),
+            Step::ReadByStd(Outcome::Bytes(3, 1)),
+            Step::ReadByStd(Outcome::Bytes(2, 4)),
+            Step::NoTime,
+            Step::ReadByStd(Outcome::TimedOut),
+            Step::Stall,
+            Step::Reap,
+            Step::ReadByStd(Outcome::Stall),
+            Step::HasError,
+            Step::CancelAll,
+            Step::ReadByStd(Outcome::Stall),
+        ],
+    ),
 ];
 
 #[test]
@@ -382,6 +426,7 @@ fn is_so(alloc: Global, bus: &mut KernelBus, reader: &mut EndpointRead<Bulk>, st
             reader.until_short_packet().consume(count);
             true
         }
+        Step::ReadByStd(outcome) => read_by_std(bus, reader) == outcome,
         Step::IsEnd(is_end) => reader.until_short_packet().is_end() == is_end,
         Step::ConsumeEnd(is_end) => reader.until_short_packet().consume_end().is_ok() == is_end,
         Step::Pending(pending) => reader.pending() == pending,

@@ -1,0 +1,34 @@
+-- What std's traits tell of a reader's failures.
+use Rattle.std.specs.Prelude.{ℕ, ◌≡◌, Bool}
+use Rattle.std.specs.IoError.{error_kind}
+use Rattle.std.specs.declared.io.Error.{Error}
+use Rattle.std.specs.declared.io.ErrorKind.{ErrorKind}
+use Rattle.std.specs.declared.io.ErrorKind.TheVariants as std
+use Rattle.usb_desc.specs.declared.error.Fail.{Fail}
+use Rattle.usb_desc.specs.declared.error.Fail.TheVariants.{Cause, Memory}
+use Rattle.usb_xfer.specs.declared.error.TransferError.{TransferError}
+use Rattle.usb_xfer.specs.declared.error.TransferError.TheVariants as transfer
+use Rattle.usb_io.specs.declared.fault.ReadFault.{ReadFault}
+use Rattle.usb_io.specs.declared.fault.ReadFault.TheVariants.{Transfer, TimedOut, UnexpectedEof}
+use Rattle.usb_io.specs.Answers.{IsReadError}
+use Rattle.usb_io.specs.Reads.{BusCalls, Reading}
+
+-- which of std's kinds a failure of a read is
+abbrev pub std_kind_of_transfer : TransferError → ErrorKind
+std_kind_of_transfer transfer.Cancelled = std.Interrupted
+std_kind_of_transfer transfer.Stall = std.ConnectionReset
+std_kind_of_transfer transfer.Disconnected = std.ConnectionAborted
+std_kind_of_transfer transfer.Fault = std.Other
+std_kind_of_transfer transfer.InvalidArgument = std.InvalidInput
+std_kind_of_transfer (transfer.Unknown errno) = std.Other
+
+abbrev pub std_kind : Fail ReadFault → ErrorKind
+std_kind (Cause (Transfer e)) = std_kind_of_transfer e
+std_kind (Cause TimedOut) = std.TimedOut
+std_kind (Cause UnexpectedEof) = std.UnexpectedEof
+std_kind Memory = std.OutOfMemory
+
+-- an error of std's that a read answers: of the kind of its failure
+abbrev pub IsStdError : {S : Type 0} → BusCalls S → Bool → ℕ → Reading S → Reading S → Error → Type 0
+IsStdError k until_short timeout old new e =
+    (f : Fail ReadFault) × (error_kind e ≡ std_kind f) × IsReadError k until_short timeout old new f

@@ -1,0 +1,196 @@
+//! A reader on its bus, which std's trait reads.
+
+ghost use Rattle.std.specs.Prelude.{◌≡◌, true};
+ghost use Rattle.usb_io.specs.Held.{IsHeld, IsHeld-prop};
+ghost use Rattle.std.specs.IoError.{error_kind};
+ghost use Rattle.usb_io.specs.StdErrors.{std_kind, std_kind_of_transfer};
+
+use crate::fault::ReadFault;
+use crate::reader::EndpointRead;
+use std::io::{self, ErrorKind, Read};
+use usb_bus::Bus;
+use usb_desc::Fail;
+use usb_xfer::{Bulk, BulkOrInterrupt, Interrupt, TransferError};
+
+/// A reader and the bus that it reads by.
+#[derive(Drop)]
+pub struct ReadOn<'a, T: BulkOrInterrupt, B: Bus> {
+    /// The reader that is read.
+    pub reader: &'a mut EndpointRead<T>,
+    /// The bus that it reads by.
+    pub bus: &'a mut B,
+    ghost key_is_open: { (B.state bus.now).keys reader.now.endpoint.key ≡ true },
+    ghost held: { IsHeld (B.state bus.now) reader.now.endpoint } by { IsHeld-prop (B.state bus.now) reader.now.endpoint },
+}
+
+impl<'a, T: BulkOrInterrupt, B: Bus> ReadOn<'a, T, B> {
+    ghost use Rattle.std.specs.Prelude.{◌≡◌, IfOk, IfErr, OnErr, false};
+    ghost use Rattle.std.specs.Io.{ReadsAtMost};
+    ghost use Rattle.usb_io.specs.Answers.{ReadTook, IsReadError};
+    ghost use Rattle.usb_io.specs.Reads.{reading, bus_calls, GoesAlong, KeepsSettings};
+    ghost use Rattle.usb_io.specs.StdErrors.{IsStdError};
+
+    /// Reads up to as many bytes as fit.
+    fn read_some(&mut self, dest: &mut [u8]) -> Result<usize, Fail<ReadFault>>
+        ensures same_reader { self.new.reader.ghost_name ≡ self.old.reader.ghost_name }
+        ensures same_bus { self.new.bus.ghost_name ≡ self.old.bus.ghost_name }
+        ensures took { IfOk result
+            (λ n. ReadTook (bus_calls B.state B.submitted B.refused B.turned B.turn_of B.taken)
+            false self.old.reader.now.timeout
+            (reading self.old.bus.now self.old.reader.now)
+            (reading self.new.bus.now self.new.reader.now) dest.old dest.new n) }
+        ensures failed { IfErr result
+            (IsReadError (bus_calls B.state B.submitted B.refused B.turned B.turn_of B.taken)
+            false self.old.reader.now.timeout
+            (reading self.old.bus.now self.old.reader.now)
+            (reading self.new.bus.now self.new.reader.now)) }
+        ensures kept { OnErr result (dest.new ≡ dest.old) }
+        ensures goes { GoesAlong (B.state self.old.bus.now) (B.state self.new.bus.now)
+            self.old.reader.now self.new.reader.now }
+        ensures settings { KeepsSettings self.old.reader.now self.new.reader.now }
+    {
+        self.reader.read(&mut *self.bus, dest)
+    }
+
+    /// The same, with an error of std's.
+    fn read_std(&mut self, dest: &mut [u8]) -> io::Result<usize>
+        ensures bound { ReadsAtMost result dest.new }
+        ensures same_reader { self.new.reader.ghost_name ≡ self.old.reader.ghost_name }
+        ensures same_bus { self.new.bus.ghost_name ≡ self.old.bus.ghost_name }
+        ensures took { IfOk result
+            (λ n. ReadTook (bus_calls B.state B.submitted B.refused B.turned B.turn_of B.taken)
+            false self.old.reader.now.timeout
+            (reading self.old.bus.now self.old.reader.now)
+            (reading self.new.bus.now self.new.reader.now) dest.old dest.new n) }
+        ensures failed { IfErr result
+            (IsStdError (bus_calls B.state B.submitted B.refused B.turned B.turn_of B.taken)
+            false self.old.reader.now.timeout
+            (reading self.old.bus.now self.old.reader.now)
+            (reading self.new.bus.now self.new.reader.now)) }
+        ensures kept { OnErr result (dest.new ≡ dest.old) }
+        ensures goes { GoesAlong (B.state self.old.bus.now) (B.state self.new.bus.now)
+            self.old.reader.now self.new.reader.now }
+        ensures settings { KeepsSettings self.old.reader.now self.new.reader.now }
+    {
+        match self.read_some(dest) {
+            Ok(n) => Ok(n),
+            Err(fail) => Err(std_error(fail)),
+        }
+    }
+}
+
+/// The error of std's for a transfer that failed.
+fn transfer_error(error: TransferError) -> io::Error
+    ensures kind { error_kind result ≡ std_kind_of_transfer error }
+{
+    match error {
+        TransferError::Cancelled => {
+            io::Error::new(ErrorKind::Interrupted, "transfer was cancelled")
+        }
+        TransferError::Stall => io::Error::new(ErrorKind::ConnectionReset, "endpoint stalled"),
+        TransferError::Disconnected => {
+            io::Error::new(ErrorKind::ConnectionAborted, "device disconnected")
+        }
+        TransferError::Fault => io::Error::other("hardware fault or protocol violation"),
+        TransferError::InvalidArgument => {
+            io::Error::new(ErrorKind::InvalidInput, "invalid or unsupported argument")
+        }
+        TransferError::Unknown(_) => io::Error::other("unknown error of the system"),
+    }
+}
+
+/// The error of std's for a read that failed.
+fn std_error(fail: Fail<ReadFault>) -> io::Error
+    ensures kind { error_kind result ≡ std_kind fail }
+{
+    match fail {
+        Fail::Cause(ReadFault::Transfer(error)) => transfer_error(error),
+        Fail::Cause(ReadFault::TimedOut) => {
+            io::Error::new(ErrorKind::TimedOut, "timeout waiting for read")
+        }
+        Fail::Cause(ReadFault::UnexpectedEof) => {
+            io::Error::new(ErrorKind::UnexpectedEof, "ended without short packet")
+        }
+        Fail::Memory => io::Error::new(ErrorKind::OutOfMemory, "out of memory"),
+    }
+}
+
+impl<'a, B: Bus> Read for ReadOn<'a, Bulk, B> {
+    ghost use Rattle.std.specs.Prelude.{◌≡◌, IfOk, IfErr, OnErr, None, false};
+    ghost use Rattle.std.specs.Io.{ReadsAtMost};
+    ghost use Rattle.std.specs.Io.KnownBytes.{ReadConsumes};
+    ghost use Rattle.usb_io.specs.Answers.{ReadTook};
+    ghost use Rattle.usb_io.specs.Reads.{reading, bus_calls, GoesAlong, KeepsSettings};
+    ghost use Rattle.usb_io.specs.StdErrors.{IsStdError};
+
+    fn read(&mut self, buf: &mut [u8]) -> io::Result<usize>
+        ensures bound { ReadsAtMost result buf.new }
+        ensures bytes { ReadConsumes None None result buf.new }
+        ensures same_reader { self.new.reader.ghost_name ≡ self.old.reader.ghost_name }
+        ensures same_bus { self.new.bus.ghost_name ≡ self.old.bus.ghost_name }
+        ensures took { IfOk result
+            (λ n. ReadTook (bus_calls B.state B.submitted B.refused B.turned B.turn_of B.taken)
+            false self.old.reader.now.timeout
+            (reading self.old.bus.now self.old.reader.now)
+            (reading self.new.bus.now self.new.reader.now) buf.old buf.new n) }
+        ensures failed { IfErr result
+            (IsStdError (bus_calls B.state B.submitted B.refused B.turned B.turn_of B.taken)
+            false self.old.reader.now.timeout
+            (reading self.old.bus.now self.old.reader.now)
+            (reading self.new.bus.now self.new.reader.now)) }
+        ensures kept { OnErr result (buf.new ≡ buf.old) }
+        ensures goes { GoesAlong (B.state self.old.bus.now) (B.state self.new.bus.now)
+            self.old.reader.now self.new.reader.now }
+        ensures settings { KeepsSettings self.old.reader.now self.new.reader.now }
+    {
+        self.read_std(buf)
+    }
+}
+
+impl<'a, B: Bus> Read for ReadOn<'a, Interrupt, B> {
+    ghost use Rattle.std.specs.Prelude.{◌≡◌, IfOk, IfErr, OnErr, None, false};
+    ghost use Rattle.std.specs.Io.{ReadsAtMost};
+    ghost use Rattle.std.specs.Io.KnownBytes.{ReadConsumes};
+    ghost use Rattle.usb_io.specs.Answers.{ReadTook};
+    ghost use Rattle.usb_io.specs.Reads.{reading, bus_calls, GoesAlong, KeepsSettings};
+    ghost use Rattle.usb_io.specs.StdErrors.{IsStdError};
+
+    fn read(&mut self, buf: &mut [u8]) -> io::Result<usize>
+        ensures bound { ReadsAtMost result buf.new }
+        ensures bytes { ReadConsumes None None result buf.new }
+        ensures same_reader { self.new.reader.ghost_name ≡ self.old.reader.ghost_name }
+        ensures same_bus { self.new.bus.ghost_name ≡ self.old.bus.ghost_name }
+        ensures took { IfOk result
+            (λ n. ReadTook (bus_calls B.state B.submitted B.refused B.turned B.turn_of B.taken)
+            false self.old.reader.now.timeout
+            (reading self.old.bus.now self.old.reader.now)
+            (reading self.new.bus.now self.new.reader.now) buf.old buf.new n) }
+        ensures failed { IfErr result
+            (IsStdError (bus_calls B.state B.submitted B.refused B.turned B.turn_of B.taken)
+            false self.old.reader.now.timeout
+            (reading self.old.bus.now self.old.reader.now)
+            (reading self.new.bus.now self.new.reader.now)) }
+        ensures kept { OnErr result (buf.new ≡ buf.old) }
+        ensures goes { GoesAlong (B.state self.old.bus.now) (B.state self.new.bus.now)
+            self.old.reader.now self.new.reader.now }
+        ensures settings { KeepsSettings self.old.reader.now self.new.reader.now }
+    {
+        self.read_std(buf)
+    }
+}
+
+impl<T: BulkOrInterrupt> EndpointRead<T> {
+    ghost use Rattle.std.specs.Prelude.{false};
+    ghost use Rattle.usb_endpoint.specs.Handles.{Stands};
+
+    /// The reader on this bus, for std's trait.
+    pub fn on<'a, B: Bus>(&'a mut self, bus: &'a mut B) -> ReadOn<'a, T, B>
+        requires stands { Stands (B.state bus.old) self.old.endpoint }
+        ensures reader { (result.reader.ghost_name ≡ self.entry.ghost_name)
+            × (result.reader.now ≡ self.old) }
+        ensures bus { (result.bus.ghost_name ≡ bus.entry.ghost_name)
+            × (result.bus.now ≡ bus.old) }
+    {
+        ReadOn { reader: self, bus }
+    }
+}
