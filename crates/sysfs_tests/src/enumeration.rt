@@ -1,5 +1,7 @@
 //! Trees, listings and packets, with answers worked out by hand.
 
+use crate::lines;
+use crate::opening::expect_opened;
 use futures::task::Poll;
 use std::alloc::Global;
 use std::collections::VecDeque;
@@ -104,6 +106,8 @@ enum Case {
     Matches,
     Events,
     Silence,
+    Opened,
+    Lines,
 }
 
 fn expect_case(
@@ -123,6 +127,8 @@ fn expect_case(
         Case::Matches => expect_matches(rt, alloc, tree),
         Case::Events => expect_watched(rt, alloc, tree),
         Case::Silence => expect_no_event(rt, alloc, tree),
+        Case::Opened => expect_opened(rt, alloc, &probed(alloc, tree, BOX)?),
+        Case::Lines => expect_lines(rt, alloc, tree),
     }
 }
 
@@ -388,14 +394,14 @@ fn a_refused_listing_names_its_errno(rt: HostRuntime) -> Result<(), Fail> {
     expect(&rt, rt.alloc(), Case::NoListings)
 }
 
-/// The address of the device that is found.
+/// The bus and the address of the device that is found.
 fn requested(
     alloc: Global,
     tree: &AttrTree,
     wanted: &[DeviceSelector],
-) -> Result<Option<u8>, usb_desc::Fail<Error>> {
+) -> Result<Option<(u8, u8)>, usb_desc::Fail<Error>> {
     match request_device(alloc, tree, wanted)? {
-        Some(device) => Ok(Some(device.device_address())),
+        Some(device) => Ok(Some((device.id().bus(), device.id().address()))),
         None => Ok(None),
     }
 }
@@ -407,7 +413,7 @@ fn expect_requests(rt: &impl Abort, alloc: Global, tree: &AttrTree) -> Result<()
     ];
     let found = requested(alloc, tree, &wanted);
     let none = requested(alloc, tree, &wanted[..1]);
-    assert!(rt; matches!(found, Ok(Some(6))) && matches!(none, Ok(None)));
+    assert!(rt; matches!(found, Ok(Some((1, 6)))) && matches!(none, Ok(None)));
     Ok(())
 }
 
@@ -595,4 +601,53 @@ fn expect_no_event(rt: &impl Abort, alloc: Global, tree: &AttrTree) -> Result<()
 #[test]
 fn other_packets_give_no_event(rt: HostRuntime) -> Result<(), Fail> {
     expect(&rt, rt.alloc(), Case::Silence)
+}
+
+#[test]
+fn a_device_that_was_found_is_opened_where_it_is_plugged(rt: HostRuntime) -> Result<(), Fail> {
+    expect(&rt, rt.alloc(), Case::Opened)
+}
+
+/// Compares the lines of attributes that give no value.
+fn expect_error_lines(rt: &impl Abort, alloc: Global, tree: &mut AttrTree) -> Result<(), Fail> {
+    let missing = refusal(alloc, tree, "/nowhere")?;
+    lines::expect_error(rt, alloc, &missing, "sysfs /nowhere/busnum io 2\n")?;
+    tree.attr(BOX, "busnum", b"256")?;
+    let refused = refusal(alloc, tree, BOX)?;
+    let line = "sysfs /sys/devices/pci0/usb1/1-6/busnum parse 323536\n";
+    lines::expect_error(rt, alloc, &refused, line)
+}
+
+/// Compares the lines of the next event.
+fn expect_event_line(
+    rt: &impl Abort,
+    alloc: Global,
+    tree: &AttrTree,
+    watch: &mut HotplugWatch,
+    line: &str,
+) -> Result<(), Fail> {
+    let event = watch.poll_next(tree)?;
+    lines::expect_event(rt, alloc, &event, line)
+}
+
+/// Compares the lines of a device that goes and comes, and of no packet.
+fn expect_event_lines(rt: &impl Abort, alloc: Global, tree: &AttrTree) -> Result<(), Fail> {
+    let mut watch = two_packets(alloc)?;
+    expect_event_line(rt, alloc, tree, &mut watch, "disconnected 1 6\n")?;
+    let line =
+        "connected 1 6 6 aaaa bbbb 0100 0200 00 00 00 High none 426f78 none 0:ff:00:00:none\n";
+    expect_event_line(rt, alloc, tree, &mut watch, line)?;
+    expect_event_line(rt, alloc, tree, &mut watch, "pending\n")
+}
+
+fn expect_lines(rt: &impl Abort, alloc: Global, tree: &mut AttrTree) -> Result<(), Fail> {
+    lines::expect_listings(rt, alloc, tree)?;
+    lines::expect_device(rt, alloc, &probed(alloc, tree, BOX)?)?;
+    expect_event_lines(rt, alloc, tree)?;
+    expect_error_lines(rt, alloc, tree)
+}
+
+#[test]
+fn lines_tell_of_listings_devices_and_events(rt: HostRuntime) -> Result<(), Fail> {
+    expect(&rt, rt.alloc(), Case::Lines)
 }

@@ -9,6 +9,7 @@ mod enumeration;
 mod hotplug;
 mod interface;
 mod numbers;
+mod opening;
 mod probe;
 mod selector;
 mod string_descriptor;

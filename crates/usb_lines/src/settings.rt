@@ -50,7 +50,7 @@ pub fn write_no_configuration(
 }
 
 /// The word of a speed.
-fn word_of_speed(speed: Option<Speed>) -> &'static str
+pub fn word_of_speed(speed: Option<Speed>) -> &'static str
     ensures word { result.now ≡ speed_word speed }
 {
     match speed {
