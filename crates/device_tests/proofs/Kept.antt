@@ -15,7 +15,7 @@ use Rattle.usb_device.specs.HostTurns.{host_rest, host_turned}
 use Rattle.usb_device.proofs.CalledHosts.{reset-spare}
 use Rattle.usb_simulated.specs.declared.step.KernelStep.{KernelStep}
 use Rattle.std.proofs.Common.{length-append}
-use Rattle.usb_device.specs.HandleStates.{InterfaceState, StandsInterface}
+use Rattle.usb_device.specs.HandleStates.{InterfaceState, StandsDevice, StandsInterface}
 use Rattle.usb_ledger.specs.Owners.{has_living}
 use Rattle.usb_device.specs.Releases.{owner_gone}
 use Rattle.usb_device.specs.Handles.{handle_added, handle_cloned, handle_gone, handle_closed}
@@ -33,20 +33,33 @@ use Rattle.usb_device.specs.HostState.{HostState}
 use Rattle.usb_device.specs.Opens.{host_opened}
 use Rattle.usb_device.specs.EndpointOpens.{host_asked}
 use Rattle.usb_device.specs.OnDevices.{host_detached, detached_on, host_attached, attached_on, host_configured, configured_on, host_speed_asked, speed_asked_on, host_reset, reset_on}
-use Rattle.usb_device.proofs.InterfaceFrames.{opened-is, opened-length, asked-is, asked-length, line-handle_closed, StandsInterface-same}
+use Rattle.std.specs.Prelude.{IsSome, IfOk, nat_lt, ◌||◌}
+use Rattle.std.proofs.Common.{lt-ltb, ◌≢◌, inl, inr, Result, Ok, Err}
+use Rattle.std.proofs.lemmas.Bool.{cases_eq}
+use Rattle.std.proofs.lemmas.Grind.{common_steps}
+use Rattle.usb_desc.specs.declared.error.Fail.{Fail}
+use Rattle.usb_error.specs.ErrorState.{ErrorState}
+use Rattle.usb_registry.specs.History.{value_at}
+use Rattle.usb_registry.proofs.ValueLemmas.{some-of, is-some, value-push, value-within}
+use Rattle.usb_device.specs.Opens.{open_tried, open_key, opened_by}
+use Rattle.usb_device.specs.InterfaceClaims.{ClaimsInterface, claimed_key, claim_tried, host_claimed}
+use Rattle.usb_device.specs.OnDevices.{configured_unless, set_configuration_errno}
+use Rattle.usb_device.specs.Handles.{device_cloned, device_closed}
+use Rattle.usb_device.specs.Devices.{is_held, device_changed, handle_more, handle_less, interface_more, interface_less}
+use Rattle.usb_device.specs.EndpointOpens.{with_endpoint}
+use Rattle.usb_device.specs.CallErrors.{Leaves}
+use Rattle.usb_device.proofs.Left.{left}
+use Rattle.usb_device.proofs.OpeningLemmas.{claimed-at}
+use Rattle.usb_device.proofs.HeldDevices.{opens-one, opened-handle_closed}
+use Rattle.usb_device.proofs.DeviceLemmas.{KeepsCounts, Counted, counts_of, counts-same, counts-set, counts-stands, counts-there, counted-new, there-same, kept-stands, changed-at, changed-other, handle-held, held-handle_more, held-interface_more}
+use Rattle.usb_device.proofs.InterfaceFrames.{opened-is, opened-there, asked-is, asked-counts, StandsInterface-same}
 use Rattle.usb_device.proofs.WaitFrames.{went-rest, went-turned}
 
 pub opened_interfaces : (h : HostState) (bus address : ℕ) → (host_opened h bus address).interfaces ≡ h.interfaces
 opened_interfaces h bus address = ap (λ (g : HostState). g.interfaces) (opened-is h bus address)
 
-pub opened_more : (h : HostState) (bus address : ℕ) → length h.devices ≤ length (host_opened h bus address).devices
-opened_more h bus address = opened-length h bus address
-
 pub asked_interfaces : (h : HostState) (key : ℕ) → (host_asked h key).interfaces ≡ h.interfaces
 asked_interfaces h key = ap (λ (g : HostState). g.interfaces) (asked-is h key)
-
-pub asked_devices : (h : HostState) (key : ℕ) → length (host_asked h key).devices ≡ length h.devices
-asked_devices h key = asked-length h key
 
 detached_on-interfaces : (h : HostState) (number : ℕ) (o : Option OpenDevice) → (detached_on h number o).interfaces ≡ h.interfaces
 detached_on-interfaces h number None = refl
@@ -58,11 +71,11 @@ detached_on-devices h number (Some o) = refl
 
 pub detached_interfaces : (h : HostState) (key number : ℕ) → (host_detached h key number).interfaces ≡ h.interfaces
 unfolding host_detached
-detached_interfaces h key number = detached_on-interfaces h number (slice_get h.devices key)
+detached_interfaces h key number = detached_on-interfaces h number (value_at h.devices key)
 
 pub detached_devices : (h : HostState) (key number : ℕ) → (host_detached h key number).devices ≡ h.devices
 unfolding host_detached
-detached_devices h key number = detached_on-devices h number (slice_get h.devices key)
+detached_devices h key number = detached_on-devices h number (value_at h.devices key)
 
 attached_on-interfaces : (h : HostState) (number : ℕ) (o : Option OpenDevice) → (attached_on h number o).interfaces ≡ h.interfaces
 attached_on-interfaces h number None = refl
@@ -74,11 +87,11 @@ attached_on-devices h number (Some o) = refl
 
 pub attached_interfaces : (h : HostState) (key number : ℕ) → (host_attached h key number).interfaces ≡ h.interfaces
 unfolding host_attached
-attached_interfaces h key number = attached_on-interfaces h number (slice_get h.devices key)
+attached_interfaces h key number = attached_on-interfaces h number (value_at h.devices key)
 
 pub attached_devices : (h : HostState) (key number : ℕ) → (host_attached h key number).devices ≡ h.devices
 unfolding host_attached
-attached_devices h key number = attached_on-devices h number (slice_get h.devices key)
+attached_devices h key number = attached_on-devices h number (value_at h.devices key)
 
 speed_on-interfaces : (h : HostState) (o : Option OpenDevice) → (speed_asked_on h o).interfaces ≡ h.interfaces
 speed_on-interfaces h None = refl
@@ -90,38 +103,172 @@ speed_on-devices h (Some o) = refl
 
 pub speed_interfaces : (h : HostState) (key : ℕ) → (host_speed_asked h key).interfaces ≡ h.interfaces
 unfolding host_speed_asked
-speed_interfaces h key = speed_on-interfaces h (slice_get h.devices key)
+speed_interfaces h key = speed_on-interfaces h (value_at h.devices key)
 
 pub speed_devices : (h : HostState) (key : ℕ) → (host_speed_asked h key).devices ≡ h.devices
 unfolding host_speed_asked
-speed_devices h key = speed_on-devices h (slice_get h.devices key)
+speed_devices h key = speed_on-devices h (value_at h.devices key)
 
 configured_on-interfaces : (h : HostState) (key value : ℕ) (o : Option OpenDevice) → (configured_on h key value o).interfaces ≡ h.interfaces
 configured_on-interfaces h key value None = refl
 configured_on-interfaces h key value (Some o) = refl
 
-configured_on-length : (h : HostState) (key value : ℕ) (o : Option OpenDevice) → length (configured_on h key value o).devices ≡ length h.devices
-configured_on-length h key value None = refl
-configured_on-length h key value (Some o) = length-set h.devices key _
+configured-kept : (o : OpenDevice) (value : ℕ) (errno : Option ℕ) → counts_of (configured_unless o value errno) ≡ counts_of o
+configured-kept o value None = refl
+configured-kept o value (Some errno) = refl
+
+configured_on-counts : (h : HostState) (key value : ℕ) (o : Option OpenDevice) → value_at h.devices key ≡ o → KeepsCounts h.devices (configured_on h key value o).devices
+configured_on-counts h key value None at = counts-same h.devices h.devices refl
+configured_on-counts h key value (Some o) at = counts-set h.devices key o (configured_unless o value (set_configuration_errno h o value)) at (configured-kept o value (set_configuration_errno h o value))
+
+pub configured_counts : (h : HostState) (key value : ℕ) → KeepsCounts h.devices (host_configured h key value).devices
+unfolding host_configured
+configured_counts h key value = configured_on-counts h key value (value_at h.devices key) refl
 
 pub configured_interfaces : (h : HostState) (key value : ℕ) → (host_configured h key value).interfaces ≡ h.interfaces
 unfolding host_configured
-configured_interfaces h key value = configured_on-interfaces h key value (slice_get h.devices key)
+configured_interfaces h key value = configured_on-interfaces h key value (value_at h.devices key)
 
-pub configured_length : (h : HostState) (key value : ℕ) → length (host_configured h key value).devices ≡ length h.devices
-unfolding host_configured
-configured_length h key value = configured_on-length h key value (slice_get h.devices key)
+-- handles stand while the interfaces stay, and the devices or their counts
+pub device_same : (h g : HostState) (key : ℕ) → g.devices ≡ h.devices → StandsDevice h key → StandsDevice g key
+device_same h g key same stands = record { device = stands.device; at = ap (λ ds. value_at ds key) same ∙ stands.at; open_handle = stands.open_handle }
 
--- a handle stands while the interfaces stay and no device is closed
-pub stands_kept : (h g : HostState) (i : InterfaceState) → g.interfaces ≡ h.interfaces → length h.devices ≤ length g.devices → StandsInterface h i → StandsInterface g i
-stands_kept h g i same more stands = StandsInterface-same h g i same more stands
+pub interface_same : (h g : HostState) (i : InterfaceState) → g.interfaces ≡ h.interfaces → g.devices ≡ h.devices → StandsInterface h i → StandsInterface g i
+interface_same h g i same devices stands = StandsInterface-same h g i same (there-same h.devices g.devices devices) stands
+
+pub interface_counts : (h g : HostState) (i : InterfaceState) → g.interfaces ≡ h.interfaces → KeepsCounts h.devices g.devices → StandsInterface h i → StandsInterface g i
+interface_counts h g i same counts stands = StandsInterface-same h g i same (counts-there h.devices g.devices counts) stands
+
+-- a device is opened
+opened_by-device : (h : HostState) (r : Result OpenDevice ErrorState) (key : ℕ) → StandsDevice h key → StandsDevice (opened_by h r) key
+opened_by-device h (Err error) key stands = stands
+opened_by-device h (Ok o) key stands = record { device = stands.device; at = value-push h.devices (Some o) key stands.device stands.at; open_handle = stands.open_handle }
+
+pub opened_device : (h : HostState) (bus address key : ℕ) → StandsDevice h key → StandsDevice (host_opened h bus address) key
+unfolding host_opened
+opened_device h bus address key stands =
+    let step = open_tried bus address h.kernel in
+    opened_by-device (record h { kernel = step.kernel }) step.answer key (record { device = stands.device; at = stands.at; open_handle = stands.open_handle })
+
+pub opened_interface : (h : HostState) (bus address : ℕ) (i : InterfaceState) → StandsInterface h i → StandsInterface (host_opened h bus address) i
+opened_interface h bus address i stands = StandsInterface-same h (host_opened h bus address) i (opened_interfaces h bus address) (opened-there h bus address) stands
+
+-- another device is closed
+pub closed_other : (h : HostState) (key k : ℕ) → key ≢ k → StandsDevice h k → StandsDevice (device_closed h key) k
+closed_other h key k apart stands = record { device = stands.device; at = changed-other h.devices key k handle_less apart ∙ stands.at; open_handle = stands.open_handle }
+
+pub closed_other-interface : (h : HostState) (key : ℕ) (i : InterfaceState) (s : StandsInterface h i) → key ≢ s.claim.opened → StandsInterface (device_closed h key) i
+closed_other-interface h key i s apart =
+    let o = some-of (value_at h.devices s.claim.opened) s.device in
+    record { claim = s.claim; at = s.at; number = s.number; open_handle = s.open_handle; device = is-some _ o.0 (changed-other h.devices key s.claim.opened handle_less apart ∙ o.1) }
+
+-- one is opened, configured and closed
+below-next : (h : HostState) (key k : ℕ) (o : OpenDevice) → key ≡ length h.devices → value_at h.devices k ≡ Some o → key ≢ k
+below-next h key k o next at = λ same. absurd (omega (arith, next, same, value-within h.devices k o at))
+
+pub elsewhere_device : (h : HostState) (key value k : ℕ) → open_key h 1 6 ≡ Ok key → StandsDevice h k → StandsDevice (device_closed (host_configured (host_opened h 1 6) key value) key) k
+elsewhere_device h key value k tried stands =
+    let mid = host_opened h 1 6 in
+    let next = host_configured mid key value in
+    closed_other next key k (below-next h key k stands.device (opens-one h 1 6 key tried).key_is stands.at) (counts-stands mid next k (configured_counts mid key value) (opened_device h 1 6 k stands))
+
+pub elsewhere_interface : (h : HostState) (key value : ℕ) (i : InterfaceState) → open_key h 1 6 ≡ Ok key → StandsInterface h i → StandsInterface (device_closed (host_configured (host_opened h 1 6) key value) key) i
+elsewhere_interface h key value i tried stands =
+    let mid = host_opened h 1 6 in
+    let next = host_configured mid key value in
+    let o = some-of (value_at h.devices stands.claim.opened) stands.device in
+    let apart = below-next h key stands.claim.opened o.0 (opens-one h 1 6 key tried).key_is o.1 in
+    let there = counts-there mid.devices next.devices (configured_counts mid key value) stands.claim.opened (opened-there h 1 6 stands.claim.opened stands.device) in
+    let p = some-of (value_at next.devices stands.claim.opened) there in
+    record {
+      claim = stands.claim;
+      at = ap (λ (l : List ClaimedInterface). slice_get l i.key) (configured_interfaces mid key value ∙ opened_interfaces h 1 6) ∙ stands.at;
+      number = stands.number;
+      open_handle = stands.open_handle;
+      device = is-some _ p.0 (changed-other next.devices key stands.claim.opened handle_less apart ∙ p.1);
+    }
+
+-- a clone of a handle is asked for the configuration, and closed
+module _ (h : HostState) (key : ℕ) (stands : StandsDevice h key) where
+  abbrev cloned : HostState
+  cloned = device_cloned h key
+
+  abbrev looked : HostState
+  looked = host_asked cloned key
+
+  looked-at : Counted looked.devices key (handle_more stands.device)
+  looked-at = counted-new cloned.devices looked.devices key (handle_more stands.device) (asked-counts cloned key) (changed-at h.devices key handle_more stands.device stands.at ∙ ap (λ (b : Bool). cond b (Some (handle_more stands.device)) None) (held-handle_more stands.device))
+
+  here : StandsDevice (device_closed looked key) key
+  here =
+      let c = looked-at in
+      let n = stands.open_handle in
+      let some : 0 < (handle_less c.device).handles = omega (arith, c.handles, n) in
+      record { device = handle_less c.device; at = changed-at looked.devices key handle_less c.device c.at ∙ ap (λ (b : Bool). cond b (Some (handle_less c.device)) None) (handle-held (handle_less c.device) some); open_handle = some }
+
+  pub active_device : (k : ℕ) → StandsDevice h k → StandsDevice (device_closed looked key) k
+  active_device k other =
+      elim (cases_eq key k) [
+        | inl same ↦ subst (StandsDevice (device_closed looked key)) same here
+        | inr apart ↦
+            closed_other looked key k apart
+            (counts-stands cloned looked k (asked-counts cloned key)
+            (record { device = other.device; at = changed-other h.devices key k handle_more apart ∙ other.at; open_handle = other.open_handle }))
+      ]
+
+  active_there : (k : ℕ) → IsSome (value_at h.devices k) → IsSome (value_at (device_closed looked key).devices k)
+  active_there k there =
+      elim (cases_eq key k) [
+        | inl same ↦ let s = here in subst (λ (n : ℕ). IsSome (value_at (device_closed looked key).devices n)) same (is-some _ s.device s.at)
+        | inr apart ↦
+            let o = some-of (value_at h.devices k) there in
+            let mid = counts-there cloned.devices looked.devices (asked-counts cloned key) k (is-some _ o.0 (changed-other h.devices key k handle_more apart ∙ o.1)) in
+            let p = some-of (value_at looked.devices k) mid in
+            is-some _ p.0 (changed-other looked.devices key k handle_less apart ∙ p.1)
+      ]
+
+  pub active_interface : (i : InterfaceState) → StandsInterface h i → StandsInterface (device_closed looked key) i
+  active_interface i s = StandsInterface-same h (device_closed looked key) i (asked_interfaces cloned key) active_there s
+
+-- an interface is claimed, and then the handle of its device closed
+claim_then : (h new : HostState) (key number : ℕ) (reattach : Bool) (o : OpenDevice) (f : InterfaceState) (next : ℕ) → value_at h.devices key ≡ Some o → claimed_key next (claim_tried h o number reattach) ≡ Ok f.key → new ≡ host_claimed h key number reattach → StandsInterface new f → StandsInterface (device_closed new key) f
+claim_then h new key number reattach o f next at tried is stands =
+    let made = is ∙ claimed-at h key number reattach o tt at (claim_ok next f.key (claim_tried h o number reattach) tried) in
+    let counted : value_at new.devices key ≡ Some (interface_more o) = ap (λ (g : HostState). value_at g.devices key) made ∙ changed-at h.devices key interface_more o at ∙ ap (λ (b : Bool). cond b (Some (interface_more o)) None) (held-interface_more o) in
+    let less = handle_less (interface_more o) in
+    let held : is_held less ≡ true = still (nat_lt 0 (o.handles - 1)) o.interfaces in
+    record {
+      claim = stands.claim;
+      at = stands.at;
+      number = stands.number;
+      open_handle = stands.open_handle;
+      device = elim (cases_eq key stands.claim.opened) [
+        | inl same ↦ subst (λ (n : ℕ). IsSome (value_at (device_closed new key).devices n)) same (is-some _ less (changed-at new.devices key handle_less (interface_more o) counted ∙ ap (λ (b : Bool). cond b (Some less) None) held))
+        | inr apart ↦
+            let p = some-of (value_at new.devices stands.claim.opened) stands.device in
+            is-some _ p.0 (changed-other new.devices key stands.claim.opened handle_less apart ∙ p.1)
+      ];
+    }
+  where
+    still : (b : Bool) (n : ℕ) → (b || nat_lt 0 (n + 1)) ≡ true
+    still true n = refl
+    still false n = grind (arith, common_steps)
+
+    claim_ok : (next key : ℕ) (r : Result (Unit {0}) ErrorState) → claimed_key next r ≡ Ok key → r ≡ Ok tt
+    claim_ok next key (Err error) is = absurd (cc)
+    claim_ok next key (Ok done) is = refl
+
+pub claimed_closed : (h new after : HostState) (key number : ℕ) (reattach : Bool) (r : Result InterfaceState (Fail ErrorState)) → ClaimsInterface h new key number reattach r → IfOk r (StandsInterface new) → after ≡ device_closed new key → IfOk r (StandsInterface after)
+claimed_closed h new after key number reattach (Err error) claims stands is = tt
+claimed_closed h new after key number reattach (Ok f) claims stands is =
+    subst (λ (g : HostState). StandsInterface g f) (sym is) (claim_then h new key number reattach claims.device f (length h.interfaces) claims.at claims.tried claims.host stands)
 
 pub rest_devices : (h : HostState) → (host_rest h).devices ≡ h.devices
 rest_devices h = (went-rest h).line.devices
 
 -- a handle of an interface is closed
-pub closed_devices : (h : HostState) (i : ℕ) → (handle_closed h i).devices ≡ h.devices
-closed_devices h i = (line-handle_closed h i).devices
+pub closed_device : (h : HostState) (i key : ℕ) → StandsDevice h key → StandsDevice (handle_closed h i) key
+closed_device h i key stands = kept-stands h (handle_closed h i) key (opened-handle_closed h i) stands
 
 abbrev fewer : ClaimedInterface → ClaimedInterface
 fewer c = record c { handles = c.handles - 1 }
@@ -130,15 +277,19 @@ closed-interfaces : (h : HostState) (i : ℕ) (c : ClaimedInterface) → slice_g
 unfolding handle_closed owner_gone
 closed-interfaces h i c at = ap (λ o. (handle_gone h i o).interfaces) at
 
-closed-stands : (h : HostState) (i : InterfaceState) (c : ClaimedInterface) → slice_get h.interfaces i.key ≡ Some c → c.number ≡ i.number → 1 < c.handles → c.opened < length h.devices → StandsInterface (handle_closed h i.key) i
-closed-stands h i c at number many below =
-    let devices : length (handle_closed h i.key).devices ≡ length h.devices = ap (λ (ds : List OpenDevice). length ds) (closed_devices h i.key) in
+closed-devices : (h : HostState) (i : ℕ) (c : ClaimedInterface) → slice_get h.interfaces i ≡ Some c → 1 < c.handles → (handle_closed h i).devices ≡ h.devices
+unfolding handle_closed owner_gone
+closed-devices h i c at many =
+    ap (λ o. (handle_gone h i o).devices) at ∙ ap (λ (b : Bool). cond b h.devices (device_changed h.devices c.opened interface_less)) (lt-ltb 1 c.handles many)
+
+closed-stands : (h : HostState) (i : InterfaceState) (c : ClaimedInterface) → slice_get h.interfaces i.key ≡ Some c → c.number ≡ i.number → 1 < c.handles → IsSome (value_at h.devices c.opened) → StandsInterface (handle_closed h i.key) i
+closed-stands h i c at number many there =
     record {
       claim = fewer c;
       at = ap (λ (cs : List ClaimedInterface). slice_get cs i.key) (closed-interfaces h i.key c at) ∙ slice_get-set_same h.interfaces i.key (fewer c) (slice_get_within h.interfaces i.key c at);
       number = number;
       open_handle = omega (arith, many);
-      device = omega (arith, below, devices);
+      device = subst (λ ds. IsSome (value_at ds c.opened)) (sym (closed-devices h i.key c at many)) there;
     }
 
 -- it is cloned before
@@ -178,7 +329,7 @@ clone_closed h i stands =
     (closed-stands (added h i.key stands.claim) i (more stands.claim) (slice_get-set_same h.interfaces i.key (more stands.claim) (slice_get_within h.interfaces i.key stands.claim stands.at)) stands.number (omega (arith, some)) stands.device)
 
 -- an alternate setting is set, or refused
-stands-unless : (h : HostState) (k : KernelState) (i : InterfaceState) (c : ClaimedInterface) (setting : ℕ) (errno : Option ℕ) → slice_get h.interfaces i.key ≡ Some c → c.number ≡ i.number → 0 < c.handles → c.opened < length h.devices → StandsInterface (record h { kernel = k; interfaces = set h.interfaces i.key (setting_unless c setting errno) }) i
+stands-unless : (h : HostState) (k : KernelState) (i : InterfaceState) (c : ClaimedInterface) (setting : ℕ) (errno : Option ℕ) → slice_get h.interfaces i.key ≡ Some c → c.number ≡ i.number → 0 < c.handles → IsSome (value_at h.devices c.opened) → StandsInterface (record h { kernel = k; interfaces = set h.interfaces i.key (setting_unless c setting errno) }) i
 stands-unless h k i c setting None at number some below =
     record {
       claim = record c { setting = setting };
@@ -207,7 +358,7 @@ setting_stands h i setting stands =
     setting-set (λ g. StandsInterface g i) h i.key setting stands
     (λ c at.
     let claim : stands.claim ≡ c = same_Some stands.claim c (sym stands.at ∙ at) in
-    stands-unless h (alt_setting_asked h i.key setting c).kernel i c setting (alt_setting_errno h c setting) at (sym (ap (λ (z : ClaimedInterface). z.number) claim) ∙ stands.number) (subst (λ (z : ClaimedInterface). 0 < z.handles) claim stands.open_handle) (subst (λ (z : ClaimedInterface). z.opened < length h.devices) claim stands.device))
+    stands-unless h (alt_setting_asked h i.key setting c).kernel i c setting (alt_setting_errno h c setting) at (sym (ap (λ (z : ClaimedInterface). z.number) claim) ∙ stands.number) (subst (λ (z : ClaimedInterface). 0 < z.handles) claim stands.open_handle) (subst (λ (z : ClaimedInterface). IsSome (value_at h.devices z.opened)) claim stands.device))
 
 pub setting_devices : (h : HostState) (i setting : ℕ) → (alt_setting_set h i setting).devices ≡ h.devices
 setting_devices h i setting = setting-set (λ g. g.devices ≡ h.devices) h i setting refl (λ c at. refl)
@@ -254,7 +405,7 @@ reset_on-devices h (Some o) = refl
 
 pub reset_devices : (h : HostState) (key : ℕ) → (host_reset h key).devices ≡ h.devices
 unfolding host_reset
-reset_devices h key = reset_on-devices h (slice_get h.devices key)
+reset_devices h key = reset_on-devices h (value_at h.devices key)
 
 reset_on-steps : (h : HostState) (o : Option OpenDevice) → (reset_on h o).steps ≡ h.steps
 reset_on-steps h None = refl
@@ -262,7 +413,7 @@ reset_on-steps h (Some o) = refl
 
 pub reset_steps : (h : HostState) (key : ℕ) → (host_reset h key).steps ≡ h.steps
 unfolding host_reset
-reset_steps h key = reset_on-steps h (slice_get h.devices key)
+reset_steps h key = reset_on-steps h (value_at h.devices key)
 
 reset_on-spare : (h : HostState) (o : Option OpenDevice) → h.kernel.spare - 1 ≤ (reset_on h o).kernel.spare
 reset_on-spare h None = omega arith
@@ -270,7 +421,7 @@ reset_on-spare h (Some o) = reset-spare h.kernel o.device
 
 pub reset_spare : (h : HostState) (key : ℕ) → h.kernel.spare - 1 ≤ (host_reset h key).kernel.spare
 unfolding host_reset
-reset_spare h key = reset_on-spare h (slice_get h.devices key)
+reset_spare h key = reset_on-spare h (value_at h.devices key)
 
 -- what endpoints of other keys hold
 pub others_same : (b : BusState) (key : ℕ) → KeepsOthers b b key
@@ -284,3 +435,86 @@ other_stands h opened between called closed e key last stands fresh same open_ k
     let later : e.key ≢ last = λ is. absurd (omega (arith, within, fresh, same, is)) in
     let over_open = subst (λ (b : BusState). Stands b e) (sym kept) (Stands-other (bus_of h) opened key e open_ apart stands) in
     Stands-other called closed last e close_ later (Stands-other between called key e call_ apart over_open)
+
+-- the handle of a clone stands, and what a look by it leaves
+pub cloned_device : (h g : HostState) (key k : ℕ) → k ≡ key → g ≡ device_cloned h key → StandsDevice h key → StandsDevice g k
+cloned_device h g key k same is stands =
+    let there : StandsDevice (device_cloned h key) key = record {
+      device = handle_more stands.device;
+      at = changed-at h.devices key handle_more stands.device stands.at ∙ ap (λ (b : Bool). cond b (Some (handle_more stands.device)) None) (held-handle_more stands.device);
+      open_handle = omega arith;
+    } in
+    subst (λ (x : HostState). StandsDevice x k) (sym is) (subst (StandsDevice (device_cloned h key)) (sym same) there)
+
+active_host : (h a b d : HostState) (key k : ℕ) → k ≡ key → a ≡ device_cloned h key → b ≡ host_asked a k → d ≡ device_closed b k → d ≡ device_closed (host_asked (device_cloned h key) key) key
+active_host h a b d key k same first second third =
+    third ∙ ap (λ (g : HostState). device_closed g k) (second ∙ ap (λ (g : HostState). host_asked g k) first)
+    ∙ ap (λ (n : ℕ). device_closed (host_asked (device_cloned h key) n) n) same
+
+pub looked_device : (h a b d : HostState) (key k : ℕ) → k ≡ key → a ≡ device_cloned h key → b ≡ host_asked a k → d ≡ device_closed b k → StandsDevice h key → (j : ℕ) → StandsDevice h j → StandsDevice d j
+looked_device h a b d key k same first second third stands j other =
+    subst (λ (x : HostState). StandsDevice x j) (sym (active_host h a b d key k same first second third)) (active_device h key stands j other)
+
+pub looked_interface : (h a b d : HostState) (key k : ℕ) → k ≡ key → a ≡ device_cloned h key → b ≡ host_asked a k → d ≡ device_closed b k → StandsDevice h key → (i : InterfaceState) → StandsInterface h i → StandsInterface d i
+looked_interface h a b d key k same first second third stands i other =
+    subst (λ (x : HostState). StandsInterface x i) (sym (active_host h a b d key k same first second third)) (active_interface h key stands i other)
+
+-- a device is opened, configured and closed
+pub configured_stands : (h g : HostState) (key value k : ℕ) → g ≡ host_configured h key value → StandsDevice h k → StandsDevice g k
+configured_stands h g key value k is stands =
+    subst (λ (x : HostState). StandsDevice x k) (sym is) (counts-stands h (host_configured h key value) k (configured_counts h key value) stands)
+
+elsewhere_host : (h a b d : HostState) (key value : ℕ) → a ≡ host_opened h 1 6 → b ≡ host_configured a key value → d ≡ device_closed b key → d ≡ device_closed (host_configured (host_opened h 1 6) key value) key
+elsewhere_host h a b d key value first second third =
+    third ∙ ap (λ (g : HostState). device_closed g key) (second ∙ ap (λ (g : HostState). host_configured g key value) first)
+
+pub elsewhere_devices : (h a b d : HostState) (key value : ℕ) → a ≡ host_opened h 1 6 → b ≡ host_configured a key value → d ≡ device_closed b key → open_key h 1 6 ≡ Ok key → (j : ℕ) → StandsDevice h j → StandsDevice d j
+elsewhere_devices h a b d key value first second third tried j other =
+    subst (λ (x : HostState). StandsDevice x j) (sym (elsewhere_host h a b d key value first second third)) (elsewhere_device h key value j tried other)
+
+pub elsewhere_interfaces : (h a b d : HostState) (key value : ℕ) → a ≡ host_opened h 1 6 → b ≡ host_configured a key value → d ≡ device_closed b key → open_key h 1 6 ≡ Ok key → (i : InterfaceState) → StandsInterface h i → StandsInterface d i
+elsewhere_interfaces h a b d key value first second third tried i other =
+    subst (λ (x : HostState). StandsInterface x i) (sym (elsewhere_host h a b d key value first second third)) (elsewhere_interface h key value i tried other)
+
+-- or it is not opened
+pub refused_device : {A : Type 0} (h g : HostState) (r : Result A (Fail ErrorState)) → Leaves r g (host_opened h 1 6) h → (j : ℕ) → StandsDevice h j → StandsDevice g j
+refused_device h g r is j stands = left (λ (x : HostState). StandsDevice x j) r g (host_opened h 1 6) h is (opened_device h 1 6 j stands) stands
+
+pub refused_interface : {A : Type 0} (h g : HostState) (r : Result A (Fail ErrorState)) → Leaves r g (host_opened h 1 6) h → (i : InterfaceState) → StandsInterface h i → StandsInterface g i
+refused_interface h g r is i stands = left (λ (x : HostState). StandsInterface x i) r g (host_opened h 1 6) h is (opened_interface h 1 6 i stands) stands
+
+-- a clone of an interface's handle is released
+pub released_device : (h a g : HostState) (i k : ℕ) → a ≡ handle_cloned h i → g ≡ handle_closed a k → (j : ℕ) → StandsDevice h j → StandsDevice g j
+released_device h a g i k first second j stands =
+    subst (λ (x : HostState). StandsDevice x j) (sym second) (closed_device a k j (device_same h a j (ap (λ (x : HostState). x.devices) first ∙ cloned_devices h i) stands))
+
+-- an endpoint is opened, or not, and closed
+pub asked_device : (h g : HostState) (opened : ℕ) → g ≡ host_asked h opened → (j : ℕ) → StandsDevice h j → StandsDevice g j
+asked_device h g opened is j stands = subst (λ (x : HostState). StandsDevice x j) (sym is) (counts-stands h (host_asked h opened) j (asked-counts h opened) stands)
+
+pub endpoint_device : (h a b d : HostState) (opened i address : ℕ) (e : EndpointState) → a ≡ with_endpoint (host_asked h opened) i address → b.devices ≡ a.devices → d ≡ after_close host_discarded host_abandoned host_left b e → (j : ℕ) → StandsDevice h j → StandsDevice d j
+endpoint_device h a b d opened i address e first second third j stands =
+    let asked = asked_device h (host_asked h opened) opened refl j stands in
+    device_same (host_asked h opened) d j (ap (λ (x : HostState). x.devices) third ∙ endpoint_closed b e ∙ second ∙ ap (λ (x : HostState). x.devices) first) asked
+
+pub endpoint_interface : (b d : HostState) (e : EndpointState) (i : InterfaceState) → d ≡ after_close host_discarded host_abandoned host_left b e → StandsInterface b i → StandsInterface d i
+endpoint_interface b d e i is stands =
+    interface_same b d i (ap (λ (x : HostState). x.interfaces) is ∙ closed_interfaces b e) (ap (λ (x : HostState). x.devices) is ∙ endpoint_closed b e) stands
+
+-- a call that leaves what is open
+pub step_device : (h g next : HostState) → g ≡ next → next.devices ≡ h.devices → (j : ℕ) → StandsDevice h j → StandsDevice g j
+step_device h g next is same j stands = device_same h g j (ap (λ (x : HostState). x.devices) is ∙ same) stands
+
+pub step_interface : (h g next : HostState) → g ≡ next → next.interfaces ≡ h.interfaces → next.devices ≡ h.devices → (i : InterfaceState) → StandsInterface h i → StandsInterface g i
+step_interface h g next is same devices i stands = interface_same h g i (ap (λ (x : HostState). x.interfaces) is ∙ same) (ap (λ (x : HostState). x.devices) is ∙ devices) stands
+
+pub configured_interface : (h g : HostState) (key value : ℕ) → g ≡ host_configured h key value → (i : InterfaceState) → StandsInterface h i → StandsInterface g i
+configured_interface h g key value is i stands =
+    subst (λ (x : HostState). StandsInterface x i) (sym is) (interface_counts h (host_configured h key value) i (configured_interfaces h key value) (configured_counts h key value) stands)
+
+-- a device is opened, the line goes on, and it is reset so often
+pub turned_stands : (h g : HostState) (key : ℕ) → g ≡ host_turned h → StandsDevice h key → StandsDevice g key
+turned_stands h g key is stands = step_device h g (host_turned h) is (turned_devices h) key stands
+
+pub reset_stands : (h g : HostState) (key : ℕ) → g ≡ host_reset h key → StandsDevice h key → StandsDevice g key
+reset_stands h g key is stands = step_device h g (host_reset h key) is (reset_devices h key) key stands

@@ -234,7 +234,7 @@ fn an_armed_refusal_is_used_once_by_its_call(rt: HostRuntime) -> Result<(), Fail
 
 /// The device is reset three times, the first of which is refused. Then its handle is asked for the
 /// configuration, and it is opened again.
-#[tactic(auto, using(crate::proofs::Kept::opened_steps, crate::proofs::Kept::opened_spare, crate::proofs::Kept::turned_devices, crate::proofs::Kept::turned_room, crate::proofs::Kept::reset_devices, crate::proofs::Kept::reset_steps, crate::proofs::Kept::reset_spare))]
+#[tactic(auto, using(crate::proofs::Kept::opened_steps, crate::proofs::Kept::opened_spare, crate::proofs::Kept::turned_room, crate::proofs::Kept::reset_steps, crate::proofs::Kept::reset_spare))]
 fn resets(alloc: Global, host: &mut Host) -> Result<[Answer; 5], usb_device::Fail<Error>>
     requires room { length host.old.steps + 3 ≤ host.old.kernel.spare }
 {

@@ -1,6 +1,6 @@
 //! Calls on an open device and on its interface 0, and what they answer.
 
-ghost use Rattle.std.specs.Prelude.{◌≡◌, ◌≤◌, length, IfOk};
+ghost use Rattle.std.specs.Prelude.{◌≡◌, ◌≤◌, length, IfOk, ℕ};
 ghost use Rattle.usb_endpoint.specs.Handles.{Stands};
 ghost use Rattle.usb_device.specs.HostBus.{bus_of};
 ghost use Rattle.usb_device.specs.HandleStates.{InterfaceState, StandsDevice, StandsInterface};
@@ -89,10 +89,10 @@ pub fn failure(error: Fail<Error>) -> Answer {
 }
 
 /// Opens the device once more, and sets a configuration there.
-#[tactic(auto, using(crate::proofs::Kept::opened_interfaces, crate::proofs::Kept::opened_more, crate::proofs::Kept::configured_interfaces, crate::proofs::Kept::configured_length))]
 fn configure_elsewhere(alloc: Global, host: &mut Host, value: u8) -> Answer
-    ensures devices { length host.old.devices ≤ length host.new.devices }
-    ensures interfaces { host.new.interfaces ≡ host.old.interfaces }
+    ensures devices { (key : ℕ) → StandsDevice host.old key → StandsDevice host.new key }
+    ensures interfaces { (i : InterfaceState) → StandsInterface host.old i →
+        StandsInterface host.new i }
 {
     match Device::open_at(alloc, host, 1, 6) {
         Ok(device) => {
@@ -105,11 +105,11 @@ fn configure_elsewhere(alloc: Global, host: &mut Host, value: u8) -> Answer
 }
 
 /// What a clone of the handle tells of the active configuration.
-#[tactic(auto, using(crate::proofs::Kept::asked_interfaces, crate::proofs::Kept::asked_devices))]
 pub fn active(host: &mut Host, device: &Device) -> Answer
     requires stands { StandsDevice host.old device.now }
-    ensures devices { length host.old.devices ≤ length host.new.devices }
-    ensures interfaces { host.new.interfaces ≡ host.old.interfaces }
+    ensures devices { (key : ℕ) → StandsDevice host.old key → StandsDevice host.new key }
+    ensures interfaces { (i : InterfaceState) → StandsInterface host.old i →
+        StandsInterface host.new i }
 {
     let Ok(clone) = device.clone_on(host) else {
         return Answer::NoMemory;
@@ -122,11 +122,11 @@ pub fn active(host: &mut Host, device: &Device) -> Answer
     }
 }
 
-#[tactic(auto, using(crate::proofs::Kept::configured_interfaces, crate::proofs::Kept::configured_length, crate::proofs::Kept::speed_interfaces, crate::proofs::Kept::speed_devices, crate::proofs::Kept::detached_interfaces, crate::proofs::Kept::detached_devices, crate::proofs::Kept::attached_interfaces, crate::proofs::Kept::attached_devices))]
 fn on_device(alloc: Global, host: &mut Host, device: &Device, call: DeviceCall) -> Answer
     requires stands { StandsDevice host.old device.now }
-    ensures devices { length host.old.devices ≤ length host.new.devices }
-    ensures interfaces { host.new.interfaces ≡ host.old.interfaces }
+    ensures devices { (key : ℕ) → StandsDevice host.old key → StandsDevice host.new key }
+    ensures interfaces { (i : InterfaceState) → StandsInterface host.old i →
+        StandsInterface host.new i }
 {
     match call {
         DeviceCall::Configure(value) => outcome(device.set_configuration(host, value)),
@@ -164,7 +164,7 @@ fn number_of(setting: Option<InterfaceDescriptor<'_>>) -> Option<u8> {
 fn set(host: &mut Host, interface: &Interface, setting: u8) -> Answer
     requires stands { StandsInterface host.old interface.now }
     ensures stands { StandsInterface host.new interface.now }
-    ensures devices { length host.old.devices ≤ length host.new.devices }
+    ensures devices { (key : ℕ) → StandsDevice host.old key → StandsDevice host.new key }
 {
     if let Err(error) = interface.set_alt_setting(host, setting) {
         return refusal(&error);
@@ -190,7 +190,7 @@ fn call_in_use(
     requires endpoint { Stands (bus_of host.old) endpoint.old }
     ensures interface { StandsInterface host.new interface.now }
     ensures endpoint { Stands (bus_of host.new) endpoint.new }
-    ensures devices { length host.new.devices ≡ length host.old.devices }
+    ensures devices { host.new.devices ≡ host.old.devices }
 {
     match setting {
         Some(setting) => outcome(interface.set_alt_setting(host, setting)),
@@ -199,11 +199,11 @@ fn call_in_use(
 }
 
 /// The same while endpoint 0x81 is open, which is closed then.
-#[tactic(auto, using(crate::proofs::Kept::endpoint_closed, crate::proofs::Kept::closed_interfaces, crate::proofs::Kept::stands_kept))]
+#[tactic(auto, using(crate::proofs::Kept::endpoint_closed, crate::proofs::Kept::closed_interfaces))]
 fn on_endpoint(host: &mut Host, interface: &Interface, setting: Option<u8>) -> Answer
     requires stands { StandsInterface host.old interface.now }
     ensures stands { StandsInterface host.new interface.now }
-    ensures devices { length host.old.devices ≤ length host.new.devices }
+    ensures devices { (key : ℕ) → StandsDevice host.old key → StandsDevice host.new key }
 {
     let mut endpoint: Endpoint<Bulk, In> = match interface.endpoint(host, 0x81) {
         Ok(endpoint) => endpoint,
@@ -215,11 +215,11 @@ fn on_endpoint(host: &mut Host, interface: &Interface, setting: Option<u8>) -> A
 }
 
 /// One more handle of the interface is released.
-#[tactic(auto, using(crate::proofs::Kept::clone_stands, crate::proofs::Kept::clone_closed, crate::proofs::Kept::cloned_devices, crate::proofs::Kept::closed_devices))]
+#[tactic(auto, using(crate::proofs::Kept::clone_stands, crate::proofs::Kept::clone_closed, crate::proofs::Kept::cloned_devices))]
 fn release_clone(host: &mut Host, interface: &Interface) -> Answer
     requires stands { StandsInterface host.old interface.now }
     ensures stands { StandsInterface host.new interface.now }
-    ensures devices { length host.old.devices ≤ length host.new.devices }
+    ensures devices { (key : ℕ) → StandsDevice host.old key → StandsDevice host.new key }
 {
     match interface.clone_on(host) {
         Ok(clone) => release(host, clone),
@@ -227,7 +227,6 @@ fn release_clone(host: &mut Host, interface: &Interface) -> Answer
     }
 }
 
-#[tactic(auto, using(crate::proofs::Kept::stands_kept))]
 fn on_interface(
     alloc: Global,
     host: &mut Host,
@@ -238,7 +237,7 @@ fn on_interface(
     requires device { StandsDevice host.old device.now }
     requires stands { StandsInterface host.old interface.now }
     ensures stands { StandsInterface host.new interface.now }
-    ensures devices { length host.old.devices ≤ length host.new.devices }
+    ensures devices { (key : ℕ) → StandsDevice host.old key → StandsDevice host.new key }
 {
     match call {
         InterfaceCall::Nothing => Answer::Ok,
@@ -265,7 +264,6 @@ fn claim(host: &mut Host, device: &Device, detach: bool) -> Result<Interface, Fa
 
 /// A call while interface 0 is claimed, which is then released. What refuses the claim is the
 /// answer.
-#[tactic(auto, using(crate::proofs::Kept::closed_devices))]
 fn while_claimed(
     alloc: Global,
     host: &mut Host,
@@ -299,7 +297,6 @@ fn make_call(alloc: Global, host: &mut Host, device: &Device, call: Call) -> Ans
 }
 
 /// Compares the answers to calls on the device once the steps of the line are applied.
-#[tactic(auto, using(crate::proofs::Kept::rest_devices))]
 pub fn expect_answers(rt: &impl Abort, alloc: Global, host: &mut Host, rows: &[(Call, Answer)]) {
     let opened = Device::open_at(alloc, host, 1, 6);
     assert!(rt; opened.is_ok());
