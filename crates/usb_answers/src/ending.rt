@@ -67,6 +67,8 @@ impl Session {
             devices,
             interfaces,
             endpoints,
+            tree: _,
+            watch: _,
         } = session;
         drop_names(endpoints);
         drop_names(interfaces);
