@@ -69,9 +69,11 @@ impl Show for Answer {
             Answer::Matches(true) => text.word("match true"),
             Answer::Matches(false) => text.word("match false"),
             Answer::Came(device) => text.word("connected ").show(device),
-            Answer::Went(bus, address) => {
-                text.word("disconnected ").number((*bus).into()).word(" ").number((*address).into())
-            }
+            Answer::Went(bus, address) => text
+                .word("disconnected ")
+                .number((*bus).into())
+                .word(" ")
+                .number((*address).into()),
         };
     }
 }
@@ -79,15 +81,25 @@ impl Show for Answer {
 fn show_devices<'a>(text: &'a mut Text, devices: &[DeviceInfo]) -> &'a mut Text {
     let text = text.word("list ").number(devices.len() as u64);
     devices.iter().fold(text, |text, it| {
-        text.word(" ").number(it.bus.into()).word(":").number(it.address.into())
+        text.word(" ")
+            .number(it.bus.into())
+            .word(":")
+            .number(it.address.into())
     })
 }
 
 fn show_buses<'a>(text: &'a mut Text, buses: &[BusInfo]) -> &'a mut Text {
     let text = text.word("buses ").number(buses.len() as u64);
     buses.iter().fold(text, |text, it| {
-        let text = text.word(" ").number(it.hub.bus.into()).word(":").word(it.controller());
-        let text = text.word(":").word(it.driver.as_deref().unwrap_or("none")).word(":");
+        let text = text
+            .word(" ")
+            .number(it.hub.bus.into())
+            .word(":")
+            .word(it.controller());
+        let text = text
+            .word(":")
+            .word(it.driver.as_deref().unwrap_or("none"))
+            .word(":");
         string(text, &it.hub.product_text)
     })
 }
@@ -119,16 +131,23 @@ impl Show for BadAttribute {
 impl Show for InterfaceInfo {
     fn show(&self, text: &mut Text) {
         let text = text.number(self.number.into());
-        let text = self.class.iter().fold(text, |text, code| text.word(":").hex(&[*code]));
+        let text = self
+            .class
+            .iter()
+            .fold(text, |text, code| text.word(":").hex(&[*code]));
         string(text.word(":"), &self.text);
     }
 }
 
 impl Show for DeviceInfo {
     fn show(&self, text: &mut Text) {
-        text.number(self.bus.into()).word(" ").number(self.address.into()).word(" ");
+        text.number(self.bus.into())
+            .word(" ")
+            .number(self.address.into())
+            .word(" ");
         for (at, port) in self.ports.iter().enumerate() {
-            text.word(if at == 0 { "" } else { "." }).number((*port).into());
+            text.word(if at == 0 { "" } else { "." })
+                .number((*port).into());
         }
         text.word(if self.ports.is_empty() { "-" } else { "" });
         for word in [self.vendor, self.product, self.version, self.usb] {

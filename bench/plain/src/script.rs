@@ -469,7 +469,11 @@ impl Script {
     }
 
     fn add(&mut self, words: &[&[u8]]) -> Option<()> {
-        if let [b"attr" | b"deny" | b"child" | b"link" | b"entry" | b"root" | b"uevent", ..] = words {
+        if let [
+            b"attr" | b"deny" | b"child" | b"link" | b"entry" | b"root" | b"uevent",
+            ..,
+        ] = words
+        {
             return self.lines.is_empty().then(|| self.set(words))?;
         }
         let line = match words {
@@ -502,11 +506,13 @@ impl Script {
                 self.tree.set(&path(folder)?, &file_name(name)?, content);
             }
             [b"deny", folder, name, code] => {
-                self.tree.set(&path(folder)?, &file_name(name)?, Err(errno(code)?));
+                self.tree
+                    .set(&path(folder)?, &file_name(name)?, Err(errno(code)?));
             }
             [b"child", folder, name] => self.tree.add_child(&path(folder)?, &file_name(name)?),
             [b"link", folder, name, target] => {
-                self.tree.set_link(&path(folder)?, &file_name(name)?, &text(target)?);
+                self.tree
+                    .set_link(&path(folder)?, &file_name(name)?, &text(target)?);
             }
             [b"entry", name, folder] => self.tree.set_entry(&file_name(name)?, &path(folder)?),
             [b"root", code] => self.tree.refuse(errno(code)?),

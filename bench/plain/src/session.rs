@@ -5,13 +5,13 @@ use crate::host::{EndpointKey, Fate, Host, InterfaceKey, OpenDevice, Steps};
 use crate::kernel::{Device, Step};
 use crate::names::{Name, Names};
 use crate::refusal::Refusal;
-use crate::tree::{DeviceInfo, Tree};
-use crate::udev::{self, Notice};
-use std::collections::VecDeque;
 use crate::script::{
     Call, Claim, DeviceCall, EndpointCall, InterfaceCall, Line, Open, OpenEndpoint, Patience,
     SecondHandle,
 };
+use crate::tree::{DeviceInfo, Tree};
+use crate::udev::{self, Notice};
+use std::collections::VecDeque;
 
 #[derive(Default)]
 pub struct Session {
@@ -45,7 +45,11 @@ impl Session {
         tree: Tree,
         packets: VecDeque<(u32, Vec<u8>)>,
     ) -> Session {
-        let mut session = Session { tree, packets, ..Session::default() };
+        let mut session = Session {
+            tree,
+            packets,
+            ..Session::default()
+        };
         for (name, device) in devices {
             session.host.kernel.plug(name, device);
         }
@@ -98,7 +102,9 @@ impl Session {
 
     /// The answer about the device of a folder.
     fn found(&self, folder: &str, answer: impl FnOnce(DeviceInfo) -> Answer) -> Answer {
-        self.tree.probe(folder).map_or_else(Answer::NotFound, answer)
+        self.tree
+            .probe(folder)
+            .map_or_else(Answer::NotFound, answer)
     }
 
     fn open_found(&mut self, name: Name, folder: &str) -> Option<Answer> {

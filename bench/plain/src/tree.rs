@@ -98,15 +98,20 @@ fn speed(text: &str) -> Option<&'static str> {
 
 impl Tree {
     pub fn set(&mut self, folder: &str, name: &str, content: Result<Vec<u8>, Errno>) {
-        self.attributes.insert((folder.into(), name.into()), content);
+        self.attributes
+            .insert((folder.into(), name.into()), content);
     }
 
     pub fn add_child(&mut self, folder: &str, name: &str) {
-        self.children.entry(folder.into()).or_default().insert(name.into());
+        self.children
+            .entry(folder.into())
+            .or_default()
+            .insert(name.into());
     }
 
     pub fn set_link(&mut self, folder: &str, name: &str, target: &str) {
-        self.links.insert((folder.into(), name.into()), target.into());
+        self.links
+            .insert((folder.into(), name.into()), target.into());
     }
 
     pub fn set_entry(&mut self, name: &str, folder: &str) {
@@ -144,7 +149,10 @@ impl Tree {
                 None => Ok(text.to_owned()),
             },
         };
-        Err(BadAttribute { path: inside(folder, name), why })
+        Err(BadAttribute {
+            path: inside(folder, name),
+            why,
+        })
     }
 
     fn string(&self, folder: &Rc<str>, name: &str) -> Option<String> {
@@ -165,8 +173,12 @@ impl Tree {
 
     fn interfaces(&self, folder: &Rc<str>) -> Vec<InterfaceInfo> {
         let names = self.children.get(folder).into_iter().flatten();
-        let folders = names.filter(|name| name.contains(':')).map(|name| inside(folder, name));
-        let mut found: Vec<_> = folders.filter_map(|it| self.interface(&it.into()).ok()).collect();
+        let folders = names
+            .filter(|name| name.contains(':'))
+            .map(|name| inside(folder, name));
+        let mut found: Vec<_> = folders
+            .filter_map(|it| self.interface(&it.into()).ok())
+            .collect();
         found.sort_by_key(|interface| interface.number);
         found
     }
@@ -186,7 +198,9 @@ impl Tree {
                 self.value(&folder, "bDeviceSubClass", hex_byte)?,
                 self.value(&folder, "bDeviceProtocol", hex_byte)?,
             ],
-            ports: self.string(&folder, "devpath").map_or(Vec::new(), |text| ports(&text)),
+            ports: self
+                .string(&folder, "devpath")
+                .map_or(Vec::new(), |text| ports(&text)),
             speed: self.string(&folder, "speed").and_then(|text| speed(&text)),
             manufacturer: self.string(&folder, "manufacturer"),
             product_text: self.string(&folder, "product"),
@@ -201,7 +215,9 @@ impl Tree {
             return Err(errno);
         }
         let named = self.entries.iter().filter(|(name, _)| is_named(name));
-        Ok(named.filter_map(|(_, folder)| self.probe(folder).ok()).collect())
+        Ok(named
+            .filter_map(|(_, folder)| self.probe(folder).ok())
+            .collect())
     }
 
     pub fn devices(&self) -> Result<Vec<DeviceInfo>, Errno> {

@@ -42,7 +42,13 @@ pub fn notice(groups: u32, packet: &[u8]) -> Option<Notice> {
     if properties.iter().any(is_foreign) {
         return None;
     }
-    let last = |wanted| properties.iter().rev().find(|(key, _)| *key == wanted).map(|it| it.1);
+    let last = |wanted| {
+        properties
+            .iter()
+            .rev()
+            .find(|(key, _)| *key == wanted)
+            .map(|it| it.1)
+    };
     let action = last("ACTION")?;
     let bus = last("BUSNUM")?.parse().ok()?;
     let address = last("DEVNUM")?.parse().ok()?;

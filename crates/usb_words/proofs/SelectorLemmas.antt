@@ -1,6 +1,6 @@
 -- The calls that build a selector, one after another.
-use Rattle.std.proofs.Common.{◌≡◌, ℕ, ◌≤◌, ◌<◌, zero, suc, List, [], ◌∷◌, ◌++◌, length, get_or, take, drop, drop-cons, length-drop, subst, Bor, ◌+◌, ◌-◌, Option, Some, None, refl, ap, sym, ◌∙◌, append_assoc, append-nil, arith}
-use Rattle.std.specs.Prelude.{option_and_then, Result, Err}
+use Rattle.std.proofs.Common.{◌≡◌, ℕ, ◌≤◌, ◌<◌, zero, suc, List, [], ◌∷◌, ◌++◌, length, get_or, drop, drop-cons, length-drop, subst, Bor, ◌+◌, Option, Some, None, refl, ap, sym, ◌∙◌, append_assoc, append-nil, arith}
+use Rattle.std.specs.Prelude.{option_and_then, Err}
 use Rattle.std.proofs.lemmas.List.{drop-map, drop-drop}
 use Rattle.usb_words.specs.Outcome.{Gives}
 use Rattle.usb_words.specs.declared.line_error.LineError.{LineError}
