@@ -67,8 +67,8 @@ impl Session {
             devices,
             interfaces,
             endpoints,
-            tree: _,
-            watch: _,
+            tree: _tree,
+            watch: _watch,
         } = session;
         drop_names(endpoints);
         drop_names(interfaces);

@@ -7,7 +7,10 @@ ghost use Rattle.usb_script.specs.Calls.{device_call_of, configuration_call_of, 
 ghost use Rattle.usb_script.specs.ItemKinds.{places_in};
 
 use crate::item::Item;
-use usb_words::{EndpointKind, LineError, Name, byte, four_words, hex_byte, no_word, one_word, reads, three_words, two_words};
+use usb_words::{
+    EndpointKind, LineError, Name, byte, four_words, hex_byte, no_word, one_word, reads,
+    three_words, two_words,
+};
 
 /// `now`, `open d B B`, `devdesc d`, `descriptors d`, or a further call
 #[tactic(auto, unfolding(crate::specs::Calls::device_call_of))]

@@ -18,5 +18,6 @@ pub use error::SessionError;
 pub use item::{Item, Steps};
 pub use script::{MAX_SCRIPT, Script, parse_script};
 pub use usb_words::{
-    Criterion, Data, EndpointKind, Errno, FileName, Length, Name, Path, Selector, Target, Timeout, number_between,
+    Criterion, Data, EndpointKind, Errno, FileName, Length, Name, Path, Selector, Target, Timeout,
+    number_between,
 };

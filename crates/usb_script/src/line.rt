@@ -13,7 +13,9 @@ use crate::reading::Reading;
 use crate::steps::steps;
 use crate::wait::wait_call;
 use std::alloc::Global;
-use usb_words::{Data, LineError, Name, byte, reads, six_words, skip_spaces, split_words, two_words};
+use usb_words::{
+    Data, LineError, Name, byte, reads, six_words, skip_spaces, split_words, two_words,
+};
 
 /// `! STEP ; ..`, `device k B B B B BYTES`, `driver k B`, or a call
 #[tactic(auto, unfolding(crate::specs::LineForms::named_of))]

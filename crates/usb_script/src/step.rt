@@ -8,7 +8,10 @@ ghost use Rattle.usb_script.specs.StepRanges.{IsStepInRange};
 
 use std::alloc::Global;
 use usb_kernel::KernelStep;
-use usb_words::{Data, LineError, MAX_TIME, Name, call, errno, hex_byte, no_word, number, one_word, reads, three_words, two_words};
+use usb_words::{
+    Data, LineError, MAX_TIME, Name, call, errno, hex_byte, no_word, number, one_word, reads,
+    three_words, two_words,
+};
 
 /// The greatest number of a ticket that a script may name.
 const MAX_TICKET: u64 = 4294967295;

@@ -10,8 +10,8 @@ use crate::call::device_call;
 use crate::item::Item;
 use std::alloc::Global;
 use usb_words::{
-    Errno, FileName, LineError, Name, Path, Selector, Target, no_word, number, one_and_more, one_word, reads, three_words,
-    two_words, value,
+    Errno, FileName, LineError, Name, Path, Selector, Target, no_word, number, one_and_more,
+    one_word, reads, three_words, two_words, value,
 };
 
 /// The most groups that a packet of udev is sent to.

@@ -47,11 +47,7 @@ fn selector_with(criteria: &[Criterion]) -> Result<DeviceSelector, NoMemory>
 }
 
 /// The device of a folder, or the attribute that gave no value.
-pub fn probe_at(
-    alloc: Global,
-    tree: &AttrTree,
-    path: &Path,
-) -> Result<DeviceInfo, Fail<SysfsError>>
+pub fn probe_at(alloc: Global, tree: &AttrTree, path: &Path) -> Result<DeviceInfo, Fail<SysfsError>>
     ensures tried { Tried result (probe tree.now path.now) }
 {
     match Text::from_str(alloc, path.as_str()) {
