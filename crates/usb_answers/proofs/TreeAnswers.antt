@@ -1,6 +1,6 @@
 -- Answers of lines on the tree of attributes and on packets of udev.
 use Rattle.std.proofs.Common.{◌≡◌, ℕ, true, false, Bool, List, drop, Result, Ok, Err, refl, ap, sym, ◌∙◌, subst}
-use Rattle.std.specs.Prelude.{String}
+use Rattle.std.specs.Prelude.{String, string_bytes}
 use Rattle.std.specs.declared.alloc.Global.{Global}
 use Rattle.futures.specs.declared.task.Poll.{Poll}
 use Rattle.usb_error.specs.ErrorState.{ErrorState}
@@ -118,7 +118,7 @@ answers-found S now before after (Ok done) d path device free found answers =
     λ state r.
     let here : is_free state.devices d ≡ true = ap (λ (v : SessionState). is_free v.devices d) (sym r.is) ∙ free in
     let there : probe state.tree path ≡ Ok device = ap (λ (v : SessionState). probe v.tree path) (sym r.is) ∙ found in
-    subst (λ (a : Answer). Answered now _ _ a) (opens_found state d path device here there) (answers state r)
+    subst (λ (a : Answer). Answered now (string_bytes before) (string_bytes after) a) (opens_found state d path device here there) (answers state r)
 answers-found S now before after (Err error) d path device free found answers = tt
 
 pub open_path-refused : (s : SessionState) (state : State) (d : ℕ) (path : List ℕ) (error : SysfsError) → is_free s.devices d ≡ true → probe s.tree path ≡ Err error → Represents s state → Gives s (sysfs_line error) (open_path_answer state d path)
