@@ -161,6 +161,55 @@ def printed(_size):
     yield from itertools.repeat(f"{line:.<511}\n")
 
 
+HUB = "/sys/devices/pci0/usb1"
+VALUES = {
+    "busnum": "1", "devnum": "1", "idVendor": "1d6b", "idProduct": "0002", "bcdDevice": "0100", "version": "2.00",
+    "bDeviceClass": "09", "bDeviceSubClass": "00", "bDeviceProtocol": "00", "devpath": "1", "speed": "480", "product": "Box",
+}
+
+
+def folder(path):
+    return "".join(f"attr {path} {name} ={value}\n" for name, value in VALUES.items())
+
+
+def attributes(size):
+    """attributes of ever new devices with an entry each, in half of the script, and then probings of one of them"""
+    written = 0
+    for number in itertools.count():
+        piece = f"{folder(f'{HUB}/1-{number}')}entry 1-{number} {HUB}/1-{number}\n"
+        written += len(piece)
+        if written > size // 2:
+            break
+        yield piece
+    yield "list\nbuses\n"
+    yield from itertools.repeat(f"probe {HUB}/1-0\n")
+
+
+def again(_size):
+    """one attribute that is set again and again, and sub-folders in falling order"""
+    for number in itertools.count():
+        yield f"attr {HUB} busnum ={number % 256}\nchild {HUB} 1-1:{10**6 - number}\nentry 1-{number % 8} {HUB}\n"
+
+
+def matches(_size):
+    """a device with 10 interfaces, and selectors of a class that none of them has, again and again"""
+    yield folder(HUB)
+    for number in range(10):
+        path = f"{HUB}/1-0:1.{number}"
+        yield f"child {HUB} 1-0:1.{number}\nattr {path} bInterfaceNumber ={number:02x}\n"
+        yield "".join(f"attr {path} bInterface{name} =00\n" for name in ("Class", "SubClass", "Protocol"))
+    yield from itertools.repeat(f"match {HUB} class 55\n")
+
+
+def packets(size):
+    """packets of removals, and then the polls that look at them"""
+    body = b"ACTION=remove\0BUSNUM=001\0DEVNUM=006\0DEVPATH=/d\0".hex()
+    line = f"uevent 2 6c69627564657600feedcafe0000000018000000{len(body) // 2:02x}000000{body}\n"
+    count = size // len(line + "hotplug\n")
+    yield from itertools.repeat(line, count)
+    yield from itertools.repeat("hotplug\n", count)
+
+
 def comments(_size):
     """comments"""
     yield OPENED
@@ -171,7 +220,7 @@ KINDS = {
     kind.__name__: kind
     for kind in (
         polls, cycles, behind, flight, cancels, waits, refused, armed, submitout, steps, claims, closes, owners, refusals,
-        descriptors, printed, comments,
+        descriptors, printed, attributes, again, matches, packets, comments,
     )
 }
 

@@ -3,7 +3,8 @@
 
 usage: bench/compare.py PROGRAM OTHER [COUNT [SEED]]
 
-A script has a few simulated devices, and then calls and steps over few names, so that names collide, endpoints are busy,
+In one script in five most calls are about a tree of attributes and packets of udev: the folders of a hub, of devices and of
+interfaces, some of whose attributes are missing, denied or damaged. Each other script has a few simulated devices, and then calls and steps over few names, so that names collide, endpoints are busy,
 tickets are reaped in any order and devices are pulled out while transfers are open. In half of the scripts most calls are
 transfers, in the others most are about owners: claims, clones, closes, kernel drivers, configurations and alternate
 settings. In about a third of the scripts no refusal is armed. One in ten has a malformed line. Some scripts print the
@@ -21,7 +22,7 @@ import sys
 LANGUAGE = pathlib.Path(__file__).parent.parent / "docs/SCRIPT.md"
 ANSWERS = [
     "ok", "condition", "error", "device", "desc", "count", "pending", "none", "done", "now", "ticket", "config", "noconfig", "speed",
-    "alt", "if",
+    "alt", "if", "list", "buses", "info", "sysfs", "match", "connected", "disconnected",
 ]
 STATUSES = ["ok", "cancelled", "stall", "disconnected", "fault", "invalid", "unknown"]
 ENDS = ["taken", "dropped", "reclaimed"]
@@ -235,6 +236,102 @@ def owner_call(r):
     ])()
 
 
+CONTROLLER = "/sys/devices/pci0"
+HUB = f"{CONTROLLER}/usb1"
+FOLDERS = [HUB, f"{HUB}/1-6", f"{HUB}/1-7", "/sys/none", "/"]
+ENTRIES = ["usb1", "usb2", "1-6", "1-7", "1-7.2", "1-6:1.0", "usbmon", "x"]
+# by attribute the values that it has most of the time
+DEVICE_VALUES = {
+    "busnum": ["1"], "devnum": ["6", "7", "8", " 6\n"], "idVendor": ["aaaa", "1d6b", "0xAAAA"], "idProduct": ["bbbb", "+2"],
+    "bcdDevice": ["0100"], "version": [" 2.00\n", "3.10", "2.0.1"], "bDeviceClass": ["00", "09", "ff"],
+    "bDeviceSubClass": ["00"], "bDeviceProtocol": ["00", "01"],
+}
+OTHER_VALUES = {
+    "devpath": ["0", "6", "1.4.2", "1..2", "256", ""], "speed": ["1.5", "12", "480", "5000", "10000", "high", "9"],
+    "product": ["Box", "", "Gr\u00f6\u00dfe"], "manufacturer": ["Linux"], "serial": ["12", " 12\n"],
+}
+INTERFACE_VALUES = {
+    "bInterfaceNumber": ["00", "01", "ff"], "bInterfaceClass": ["ff", "08", "00"], "bInterfaceSubClass": ["00", "06"],
+    "bInterfaceProtocol": ["00", "50"],
+}
+ODD_VALUES = ["", "+", "0x", "0x+2a", "+0x2a", "100", "256", "10000", "2..0", ".", "-1", "1 2", "g", "\u00a06"]
+DRIVERS = ["../bus/pci/drivers/xhci_hcd", "ehci-pci", "OHCI/.", "uhci_hcd/", "vhci", "hci_xhci", "a/..", "dwc2", "/"]
+SELECTORS = [
+    "vid aaaa", "vidpid AAAA bbbb", "vid 1d6b", "class ff", "class 00", "class 09", "classsub 08 06", "classsubproto ff 00 00",
+    "classsubproto 08 06 50", "serial =12", "serial 3132", "serial -",
+]
+
+
+def value_word(r, data):
+    """Bytes as a word of a script."""
+    if data and all(0x21 <= byte <= 0x7E for byte in data) and r.random() < 0.7:
+        return f"={data.decode()}"
+    return data.hex() or r.choice(["-", "="])
+
+
+def attribute(r, folder, name, values):
+    if r.random() < 0.01:
+        return f"deny {folder} {name} {r.choice(ERRNOS)}"
+    value = r.choice(ODD_VALUES if r.random() < 0.02 else values).encode()
+    value += b"\xff" if r.random() < 0.005 else b""
+    return f"attr {folder} {name} {value_word(r, value)}"
+
+
+def attributes(r, folder, values, share):
+    return [attribute(r, folder, name, values[name]) for name in values if r.random() < share]
+
+
+def lines_of_folder(r, folder):
+    lines = attributes(r, folder, DEVICE_VALUES, 0.99) + attributes(r, folder, OTHER_VALUES, 0.6)
+    for child in r.sample(["1-6:1.1", "1-6:1.0", "power", "b:2", "a:2"], r.randint(0, 4)):
+        lines += [f"child {folder} {child}"] * (r.random() < 0.9)
+        lines += attributes(r, f"{folder.rstrip('/')}/{child}", INTERFACE_VALUES, 0.97)
+        lines += attributes(r, f"{folder.rstrip('/')}/{child}", {"interface": ["Disk", ""]}, 0.3)
+    return lines
+
+
+def packet(r):
+    action = r.choice(["remove", "remove", "add", "add", "add", "change"])
+    path = r.choice(["/devices/pci0/usb1/1-6", "devices/pci0/usb1/1-7", "///devices/pci0/usb1", "/none"])
+    parts = [f"ACTION={action}", f"BUSNUM={r.choice(['001', '1', '256'])}", f"DEVNUM={r.choice(['006', '7', 'x'])}", f"DEVPATH={path}"]
+    parts += [it for it in ("SUBSYSTEM=usb", "DEVTYPE=usb_device", "DEVTYPE=usb_interface", "SUBSYSTEM=net") if r.random() < 0.15]
+    parts += [f"ACTION={r.choice(['add', 'remove'])}"] * (r.random() < 0.1) + ["NOTHING"] * (r.random() < 0.1)
+    r.shuffle(parts)
+    body = "\0".join(parts[: r.choice([9, 9, 9, 3])]).encode() + r.choice([b"", b"\0", b"\0\xff=1"])
+    head = r.choice([b"libudev\0"] * 19 + [b"libudeW\0"]) + b"\xfe\xed\xca\xfe" + bytes(4)
+    start, length = r.choice([24] * 9 + [20, 30]), len(body) + r.choice([0] * 9 + [1, -3])
+    return head + start.to_bytes(4, "little") + length.to_bytes(4, "little") + body
+
+
+def lines_of_trees(r):
+    """Setup lines and the first calls of a script in which most calls are about a tree and packets."""
+    lines = [f"device k0 1 6 3 1 {DEVICE.format(0, 1)}{CONFIGURATIONS[0]}"] if r.random() < 0.8 else []
+    for folder in FOLDERS[: r.randint(2, 5)]:
+        lines += lines_of_folder(r, folder)
+    lines += [f"entry {it} {r.choice(FOLDERS)}" for it in r.choices(ENTRIES, k=r.randint(2, 8))]
+    lines += [f"link {it} driver {r.choice(DRIVERS)}" for it in (CONTROLLER, HUB, "/") if r.random() < 0.8]
+    lines += [f"uevent {r.choice([2] * 9 + [0, 1, 3, 4294967295])} {value_word(r, packet(r))}" for _ in range(r.randint(0, 6))]
+    if r.random() < 0.1:
+        lines.append(f"root {r.choice([1, 2, 5, 13])}")
+    if r.random() < 0.3:
+        r.shuffle(lines)
+    return lines
+
+
+def tree_call(r):
+    folder = r.choice(FOLDERS)
+    return r.choice([
+        lambda: "list",
+        lambda: "buses",
+        lambda: f"probe {folder}",
+        lambda: f"probe {folder}",
+        lambda: " ".join([f"match {folder}", *r.choices(SELECTORS, k=r.choice([0, 1, 1, 2]))]),
+        lambda: "hotplug",
+        lambda: "hotplug",
+        lambda: f"openpath {name(r, 'd', 3)} {folder}",
+    ])()
+
+
 def armed_call(r):
     """A refusal, and a line that makes its call."""
     call, line = r.choice(list(LINES_OF.items()))
@@ -283,7 +380,7 @@ def spelled(r, line):
     """The same line in other bytes: more spaces, capital digits, a CR."""
     words = line.split(" ")
     if r.random() < 0.5:
-        words = [word.upper() if re.fullmatch("(?![de][0-9]+$)[0-9a-f]{2,}", word) else word for word in words]
+        words = [word.upper() if re.fullmatch("(?![de][0-9]+$)[0-9a-f]{2,}", word) and words[0] not in SETUP[2:] else word for word in words]
     return " " * r.randrange(3) + (" " * r.randint(1, 2)).join(words) + r.choice(["", " ", "\r"])
 
 
@@ -300,6 +397,9 @@ MALFORMED = [
     "endpoint e0 i0 81 iso-in", "device k0 1 6 3 1 -", "device k5 9 9 3 1 -",
     "driver k0 256", "driver d0 0", "driver k0 0", "driver k0 0 : reap", "clone d0 i0", "clone i0 d0", "clone e0 e1", "clone d0",
     "close k0", "close d0 i0", "setconfig d0", "setconfig d0 256", "setconfig i0 1", "reset e0", "active i0", "speed d0 : reap",
+    "attr / a", "attr a b =1", "attr /a/ b =1", "attr /a/.. b =1", "deny /a b 0", "child /a b/c", "link /a b", "entry /a /b",
+    "entry a b", "root 4096", "uevent 4294967296 -", "uevent 2 0", "attr / a =", "root 5", "list 1", "probe", "probe a", "match",
+    "match / vid", "match / vid 0", "match / serial ff", "match / x 00", "hotplug 1", "openpath d0", "openpath i0 /",
     "detachclaim d0 0", "detach i0 0", "attach d0", "alt i0 256", "alt i0", "getalt d0", "ifdesc i64", "release d0", "halt i0",
 ]
 
@@ -321,15 +421,23 @@ def script(seed):
     r = random.Random(seed)
     if r.random() < 0.03:
         return "\n".join(walks(r)).encode()
+    if r.random() < 0.2:
+        return script_of(r, lines_of_trees(r), lambda: tree_call(r) if r.random() < 0.9 else owner_call(r), 40)
     is_of_owners = r.random() < 0.5
     lines = (lines_of_owners if is_of_owners else lines_of_transfers)(r)
-    for _ in range(r.randint(5, 90 if is_of_owners else 60)):
+    call = lambda: (owner_call if is_of_owners == (r.random() < 0.9) else transfer_call)(r)
+    return script_of(r, lines, call, 90 if is_of_owners else 60)
+
+
+def script_of(r, lines, call, most):
+    """A script of these first lines, and then of steps and calls."""
+    for _ in range(r.randint(5, most)):
         if r.random() < 0.3:
             lines.append(f"! {steps(r)}")
         elif r.random() < 0.12:
             lines += armed_call(r)
         else:
-            lines.append((owner_call if is_of_owners == (r.random() < 0.9) else transfer_call)(r))
+            lines.append(call())
         if r.random() < 0.002:
             lines += burst(r)
     if r.random() < 0.3:
@@ -373,9 +481,12 @@ def kind_of_answer(call, line):
     return re.sub(r"^(error Other failed .*) \(errno [0-9]+\)$", r"\1", line)
 
 
+SETUP = ["device", "driver", "attr", "deny", "child", "link", "entry", "root", "uevent", "!"]
+
+
 def kinds_of_calls(text, answers):
     """What each call about owners was answered, and whether a refusal is armed anywhere in the script."""
-    calls = [kind_of_call(words) for words in lines_of(text) if words[0] not in ("device", "driver", "!")]
+    calls = [kind_of_call(words) for words in lines_of(text) if words[0] not in SETUP]
     is_armed = b"refuse" in text
     for call, line in zip(calls, answers.decode().splitlines()):
         if call in OF_CALLS:

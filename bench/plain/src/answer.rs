@@ -5,6 +5,7 @@ use crate::host::{Completion, End};
 use crate::kernel::{Device, Outcome, SettingPlace, Ticket, Transfer};
 use crate::refusal::Refusal;
 use crate::text::{Show, Text};
+use crate::tree::{BadAttribute, BusInfo, DeviceInfo, InterfaceInfo};
 use std::sync::Arc;
 
 pub enum Answer {
@@ -30,6 +31,14 @@ pub enum Answer {
     Done(Completion),
     /// Nanoseconds.
     Now(u64),
+    Devices(Vec<DeviceInfo>),
+    Buses(Vec<BusInfo>),
+    Found(DeviceInfo),
+    NotFound(BadAttribute),
+    Matches(bool),
+    Came(DeviceInfo),
+    /// The bus and the address.
+    Went(u8, u8),
 }
 
 impl Show for Answer {
@@ -53,7 +62,107 @@ impl Show for Answer {
             Answer::Nothing => text.word("none"),
             Answer::Done(completion) => text.word("done ").show(completion),
             Answer::Now(clock) => text.word("now ").number(*clock),
+            Answer::Devices(devices) => show_devices(text, devices),
+            Answer::Buses(buses) => show_buses(text, buses),
+            Answer::Found(device) => text.word("info ").show(device),
+            Answer::NotFound(bad) => text.word("sysfs ").show(bad),
+            Answer::Matches(true) => text.word("match true"),
+            Answer::Matches(false) => text.word("match false"),
+            Answer::Came(device) => text.word("connected ").show(device),
+            Answer::Went(bus, address) => text
+                .word("disconnected ")
+                .number((*bus).into())
+                .word(" ")
+                .number((*address).into()),
         };
+    }
+}
+
+fn show_devices<'a>(text: &'a mut Text, devices: &[DeviceInfo]) -> &'a mut Text {
+    let text = text.word("list ").number(devices.len() as u64);
+    devices.iter().fold(text, |text, it| {
+        text.word(" ")
+            .number(it.bus.into())
+            .word(":")
+            .number(it.address.into())
+    })
+}
+
+fn show_buses<'a>(text: &'a mut Text, buses: &[BusInfo]) -> &'a mut Text {
+    let text = text.word("buses ").number(buses.len() as u64);
+    buses.iter().fold(text, |text, it| {
+        let text = text
+            .word(" ")
+            .number(it.hub.bus.into())
+            .word(":")
+            .word(it.controller());
+        let text = text
+            .word(":")
+            .word(it.driver.as_deref().unwrap_or("none"))
+            .word(":");
+        string(text, &it.hub.product_text)
+    })
+}
+
+fn bytes_or_dash<'a>(text: &'a mut Text, bytes: &[u8]) -> &'a mut Text {
+    match bytes {
+        [] => text.word("-"),
+        _ => text.hex(bytes),
+    }
+}
+
+fn string<'a>(text: &'a mut Text, string: &Option<String>) -> &'a mut Text {
+    match string {
+        Some(string) => bytes_or_dash(text, string.as_bytes()),
+        None => text.word("none"),
+    }
+}
+
+impl Show for BadAttribute {
+    fn show(&self, text: &mut Text) {
+        let text = text.word(&self.path);
+        match &self.why {
+            Ok(held) => bytes_or_dash(text.word(" parse "), held.as_bytes()),
+            Err(errno) => text.word(" io ").number((*errno).into()),
+        };
+    }
+}
+
+impl Show for InterfaceInfo {
+    fn show(&self, text: &mut Text) {
+        let text = text.number(self.number.into());
+        let text = self
+            .class
+            .iter()
+            .fold(text, |text, code| text.word(":").hex(&[*code]));
+        string(text.word(":"), &self.text);
+    }
+}
+
+impl Show for DeviceInfo {
+    fn show(&self, text: &mut Text) {
+        text.number(self.bus.into())
+            .word(" ")
+            .number(self.address.into())
+            .word(" ");
+        for (at, port) in self.ports.iter().enumerate() {
+            text.word(if at == 0 { "" } else { "." })
+                .number((*port).into());
+        }
+        text.word(if self.ports.is_empty() { "-" } else { "" });
+        for word in [self.vendor, self.product, self.version, self.usb] {
+            text.word(" ").hex(&word.to_be_bytes());
+        }
+        for code in self.class {
+            text.word(" ").hex(&[code]);
+        }
+        text.word(" ").word(self.speed.unwrap_or("none"));
+        for it in [&self.manufacturer, &self.product_text, &self.serial] {
+            string(text.word(" "), it);
+        }
+        for interface in &self.interfaces {
+            text.word(" ").show(interface);
+        }
     }
 }
 

@@ -15,6 +15,8 @@ mod refusal;
 mod script;
 mod session;
 mod text;
+mod tree;
+mod udev;
 
 use fault::Fault;
 use script::Script;
@@ -68,7 +70,7 @@ fn write_answers(script: Script, out: &mut impl Write) -> io::Result<()> {
         text.word("\n");
         out.write_all(text.as_bytes())
     };
-    let mut session = Session::new(script.devices);
+    let mut session = Session::new(script.devices, script.tree, script.packets);
     for line in script.lines {
         if let Some(answer) = session.take(line) {
             write_line(&answer)?;

@@ -23,6 +23,7 @@ pub enum Refusal {
     IncorrectEndpointType,
     EndpointHasNoPacketSize,
     EndpointAlreadyInUse,
+    Listing(Errno),
 }
 
 /// A refusal's kind and its text.
@@ -60,6 +61,17 @@ fn detach_words(errno: Errno) -> Words {
     }
 }
 
+fn listing_words(errno: Errno) -> Words {
+    match errno {
+        errno::NOENT => ("Other", "/sys/bus/usb/devices/ not found"),
+        errno::PERM | errno::ACCES => (
+            "PermissionDenied",
+            "/sys/bus/usb/devices/ permission denied",
+        ),
+        _ => ("Other", "failed to open /sys/bus/usb/devices/"),
+    }
+}
+
 fn attach_words(errno: Errno) -> Words {
     match errno {
         errno::INVAL => ("NotFound", "interface not found"),
@@ -74,6 +86,7 @@ impl Refusal {
             Refusal::Open(errno) => open_words(errno),
             Refusal::ReadDescriptors(_) => ("Other", "failed to read descriptors"),
             Refusal::InvalidDeviceDescriptor => ("Other", "invalid device descriptor"),
+            Refusal::Listing(errno) => listing_words(errno),
             Refusal::Configuration => ("Other", "failed to read sysfs bConfigurationValue"),
             _ if self.errno() == Some(errno::NODEV) => ("Disconnected", "device disconnected"),
             Refusal::SetConfiguration(errno) => set_configuration_words(errno),
@@ -112,7 +125,8 @@ impl Refusal {
             | Refusal::Detach(errno)
             | Refusal::Attach(errno)
             | Refusal::SetInterface(errno)
-            | Refusal::ClearHalt(errno) => Some(errno),
+            | Refusal::ClearHalt(errno)
+            | Refusal::Listing(errno) => Some(errno),
             _ => None,
         }
     }

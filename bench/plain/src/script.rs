@@ -7,9 +7,14 @@ use crate::hex;
 use crate::host::Data;
 use crate::kernel::{Device, KernelCall, Step};
 use crate::names::Name;
+use crate::tree::{Selector, Tree};
+use std::collections::VecDeque;
 
 pub struct Script {
     pub devices: Vec<(Name, Device)>,
+    pub tree: Tree,
+    /// Groups and bytes.
+    pub packets: VecDeque<(u32, Vec<u8>)>,
     pub lines: Vec<Line>,
 }
 
@@ -21,6 +26,13 @@ pub enum Line {
 
 pub enum Call {
     Now,
+    List,
+    Buses,
+    /// Of the device of a folder.
+    Probe(String),
+    Match(String, Selector),
+    OpenFound(Name, String),
+    Hotplug,
     Open(Open),
     CloneDevice(SecondHandle),
     Claim(Claim),
@@ -322,9 +334,80 @@ fn claim(d: &[u8], n: &[u8], i: &[u8], detaches: bool) -> Option<Claim> {
     })
 }
 
+fn text(word: &[u8]) -> Option<String> {
+    String::from_utf8(word.to_vec()).ok()
+}
+
+/// `/`, or names with a slash before each.
+fn path(word: &[u8]) -> Option<String> {
+    let names = word.strip_prefix(b"/")?;
+    let is_name = |name: &[u8]| !matches!(name, b"" | b"." | b"..");
+    let is_path = names.is_empty() || names.split(|byte| *byte == b'/').all(is_name);
+    is_path.then(|| text(word))?
+}
+
+fn file_name(word: &[u8]) -> Option<String> {
+    (!word.contains(&b'/')).then(|| text(word))?
+}
+
+/// What stands behind `=`, or bytes.
+fn value(word: &[u8]) -> Option<Vec<u8>> {
+    match word {
+        [b'=', text @ ..] => Some(text.to_vec()),
+        _ => bytes(word),
+    }
+}
+
+fn hex_word(digits: &[u8]) -> Option<u16> {
+    let (high, low) = digits.split_at_checked(2)?;
+    Some(u16::from_be_bytes([hex::byte(high)?, hex::byte(low)?]))
+}
+
+fn selector(mut words: &[&[u8]]) -> Option<Selector> {
+    let mut selector = Selector::default();
+    while !words.is_empty() {
+        words = match *words {
+            [b"vid", vid, ref rest @ ..] => {
+                selector.vendor = Some(hex_word(vid)?);
+                rest
+            }
+            [b"vidpid", vid, pid, ref rest @ ..] => {
+                selector.vendor = Some(hex_word(vid)?);
+                selector.product = Some(hex_word(pid)?);
+                rest
+            }
+            [b"class", class, ref rest @ ..] => {
+                selector.class[0] = Some(hex::byte(class)?);
+                rest
+            }
+            [b"classsub", class, sub, ref rest @ ..] => {
+                selector.class[0] = Some(hex::byte(class)?);
+                selector.class[1] = Some(hex::byte(sub)?);
+                rest
+            }
+            [b"classsubproto", class, sub, protocol, ref rest @ ..] => {
+                selector.class = [class, sub, protocol].map(hex::byte);
+                selector.class.iter().all(Option::is_some).then_some(rest)?
+            }
+            [b"serial", serial, ref rest @ ..] => {
+                selector.serial = Some(String::from_utf8(value(serial)?).ok()?);
+                rest
+            }
+            _ => return None,
+        };
+    }
+    Some(selector)
+}
+
 fn call(words: &[&[u8]]) -> Option<Call> {
     Some(match *words {
         [b"now"] => Call::Now,
+        [b"list"] => Call::List,
+        [b"buses"] => Call::Buses,
+        [b"probe", folder] => Call::Probe(path(folder)?),
+        [b"match", folder, ref rest @ ..] => Call::Match(path(folder)?, selector(rest)?),
+        [b"openpath", d, folder] => Call::OpenFound(name(d, b'd')?, path(folder)?),
+        [b"hotplug"] => Call::Hotplug,
         [b"open", d, bus, address] => Call::Open(Open {
             device: name(d, b'd')?,
             bus: byte(bus)?,
@@ -367,6 +450,8 @@ impl Script {
     pub fn parse(text: &[u8]) -> Result<Script, Fault> {
         let mut script = Script {
             devices: Vec::new(),
+            tree: Tree::default(),
+            packets: VecDeque::new(),
             lines: Vec::new(),
         };
         let mut words = Vec::new();
@@ -384,6 +469,13 @@ impl Script {
     }
 
     fn add(&mut self, words: &[&[u8]]) -> Option<()> {
+        if let [
+            b"attr" | b"deny" | b"child" | b"link" | b"entry" | b"root" | b"uevent",
+            ..,
+        ] = words
+        {
+            return self.lines.is_empty().then(|| self.set(words))?;
+        }
         let line = match words {
             [b"device", words @ ..] => return self.add_device(device(words)?),
             [b"driver", k, number] => return self.bind_driver(name(k, b'k')?, byte(number)?),
@@ -403,6 +495,33 @@ impl Script {
             return None;
         }
         self.devices.push((name, device));
+        Some(())
+    }
+
+    /// A line that sets a place of the tree, or a packet.
+    fn set(&mut self, words: &[&[u8]]) -> Option<()> {
+        match *words {
+            [b"attr", folder, name, content] => {
+                let content = Ok(value(content)?);
+                self.tree.set(&path(folder)?, &file_name(name)?, content);
+            }
+            [b"deny", folder, name, code] => {
+                self.tree
+                    .set(&path(folder)?, &file_name(name)?, Err(errno(code)?));
+            }
+            [b"child", folder, name] => self.tree.add_child(&path(folder)?, &file_name(name)?),
+            [b"link", folder, name, target] => {
+                self.tree
+                    .set_link(&path(folder)?, &file_name(name)?, &text(target)?);
+            }
+            [b"entry", name, folder] => self.tree.set_entry(&file_name(name)?, &path(folder)?),
+            [b"root", code] => self.tree.refuse(errno(code)?),
+            [b"uevent", groups, packet] => {
+                let groups = number(groups, u32::MAX.into())?;
+                self.packets.push_back((groups, value(packet)?));
+            }
+            _ => return None,
+        }
         Some(())
     }
 

@@ -9,6 +9,9 @@ use crate::script::{
     Call, Claim, DeviceCall, EndpointCall, InterfaceCall, Line, Open, OpenEndpoint, Patience,
     SecondHandle,
 };
+use crate::tree::{DeviceInfo, Tree};
+use crate::udev::{self, Notice};
+use std::collections::VecDeque;
 
 #[derive(Default)]
 pub struct Session {
@@ -16,6 +19,8 @@ pub struct Session {
     devices: Names<OpenDevice>,
     interfaces: Names<InterfaceKey>,
     endpoints: Names<EndpointKey>,
+    tree: Tree,
+    packets: VecDeque<(u32, Vec<u8>)>,
 }
 
 /// Puts what was opened into its name's place, and answers the call.
@@ -35,8 +40,16 @@ fn done(tried: Result<(), Refusal>) -> Answer {
 }
 
 impl Session {
-    pub fn new(devices: Vec<(Name, Device)>) -> Session {
-        let mut session = Session::default();
+    pub fn new(
+        devices: Vec<(Name, Device)>,
+        tree: Tree,
+        packets: VecDeque<(u32, Vec<u8>)>,
+    ) -> Session {
+        let mut session = Session {
+            tree,
+            packets,
+            ..Session::default()
+        };
         for (name, device) in devices {
             session.host.kernel.plug(name, device);
         }
@@ -62,6 +75,20 @@ impl Session {
     fn call(&mut self, call: Call) -> Option<Answer> {
         match call {
             Call::Now => Some(Answer::Now(self.host.kernel.clock)),
+            Call::List => Some(match self.tree.devices() {
+                Ok(devices) => Answer::Devices(devices),
+                Err(errno) => Answer::Refused(Refusal::Listing(errno)),
+            }),
+            Call::Buses => Some(match self.tree.buses() {
+                Ok(buses) => Answer::Buses(buses),
+                Err(errno) => Answer::Refused(Refusal::Listing(errno)),
+            }),
+            Call::Probe(folder) => Some(self.found(&folder, Answer::Found)),
+            Call::Match(folder, selector) => {
+                Some(self.found(&folder, |it| Answer::Matches(selector.matches(&it))))
+            }
+            Call::OpenFound(name, folder) => self.open_found(name, &folder),
+            Call::Hotplug => Some(self.hotplug().unwrap_or(Answer::Pending)),
             Call::Open(open) => self.open(open),
             Call::CloneDevice(handle) => self.clone_device(handle),
             Call::Claim(claim) => self.claim(claim),
@@ -71,6 +98,29 @@ impl Session {
             Call::Interface(name, call) => self.interface_call(name, call),
             Call::Endpoint(name, call) => self.endpoint_call(name, call),
         }
+    }
+
+    /// The answer about the device of a folder.
+    fn found(&self, folder: &str, answer: impl FnOnce(DeviceInfo) -> Answer) -> Answer {
+        self.tree
+            .probe(folder)
+            .map_or_else(Answer::NotFound, answer)
+    }
+
+    fn open_found(&mut self, name: Name, folder: &str) -> Option<Answer> {
+        let place = self.devices.vacant(name)?;
+        Some(match self.tree.probe(folder) {
+            Ok(found) => opened(place, self.host.open_device(found.bus, found.address)),
+            Err(bad) => Answer::NotFound(bad),
+        })
+    }
+
+    fn hotplug(&mut self) -> Option<Answer> {
+        let (groups, packet) = self.packets.pop_front()?;
+        Some(match udev::notice(groups, &packet)? {
+            Notice::Came(folder) => Answer::Came(self.tree.probe(&folder).ok()?),
+            Notice::Went(bus, address) => Answer::Went(bus, address),
+        })
     }
 
     fn open(&mut self, open: Open) -> Option<Answer> {

@@ -98,3 +98,8 @@ fn bars_the_65th_pending_transfer_and_the_1025th_unreaped() {
     output += "ticket 1024 k0 02 cancelled 0 reclaimed\n";
     expect("limits", &[], script.as_bytes(), 0, &output, "");
 }
+
+#[test]
+fn trees_and_packets() {
+    check(include_str!("worked/tree.txt"));
+}

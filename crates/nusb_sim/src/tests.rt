@@ -3,6 +3,7 @@
 mod descriptors;
 mod devices;
 mod endpoints;
+mod enumeration;
 mod lines;
 mod live;
 

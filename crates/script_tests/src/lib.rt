@@ -11,3 +11,5 @@ mod fields;
 mod scripts;
 #[cfg(test)]
 mod steps;
+#[cfg(test)]
+mod tree;

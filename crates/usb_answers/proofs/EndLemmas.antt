@@ -3,6 +3,8 @@ use Rattle.std.proofs.Common.{true, false, ◌≡◌, ◌≢◌, ℕ, ◌<◌, �
 use Rattle.std.specs.Option.{option_map}
 use Rattle.std.proofs.lemmas.Bool.{cases_eq, cases_lt}
 use Rattle.std.proofs.lemmas.Option.{none-some}
+use Rattle.usb_sysfs.specs.Tree.{Tree}
+use Rattle.usb_enum.specs.declared.hotplug.UdevPacket.{UdevPacket}
 use Rattle.usb_endpoint.specs.declared.any_endpoint.AnyEndpoint.{AnyEndpoint}
 use Rattle.usb_endpoint.specs.AnyEndpoints.{state_of}
 use Rattle.usb_device.specs.HostState.{HostState}
@@ -48,20 +50,20 @@ interface-none s state i r none =
     let here : named state.interfaces i ≡ None = ap (λ (v : SessionState). named v.interfaces i) (sym r.is) ∙ none in
     rw here r
 
-pub close_interface-code : (S : SessionState) (host now : HostState) (ds : List (Option ℕ)) (is after : List (Option InterfaceState)) (es : List (Option AnyEndpoint)) (i : ℕ) (f : InterfaceState) → session_made host ds is es ≡ S → named is i ≡ Some f → after ≡ freed is i → now ≡ handle_closed host f.key → (state : State) → Represents S state → Represents (session_made now ds after es) (interface_closed state i)
-close_interface-code S host now ds is after es i f view was rest closed state r =
-    subst (λ (g : HostState). Represents (session_made g ds after es) (interface_closed state i)) (sym closed)
-    (interface-represents (session_made host ds is es) state after i f (subst (λ v. Represents v state) (sym view) r) was rest)
+pub close_interface-code : (S : SessionState) (t : Tree) (p : List UdevPacket) (host now : HostState) (ds : List (Option ℕ)) (is after : List (Option InterfaceState)) (es : List (Option AnyEndpoint)) (i : ℕ) (f : InterfaceState) → session_made t p host ds is es ≡ S → named is i ≡ Some f → after ≡ freed is i → now ≡ handle_closed host f.key → (state : State) → Represents S state → Represents (session_made t p now ds after es) (interface_closed state i)
+close_interface-code S t p host now ds is after es i f view was rest closed state r =
+    subst (λ (g : HostState). Represents (session_made t p g ds after es) (interface_closed state i)) (sym closed)
+    (interface-represents (session_made t p host ds is es) state after i f (subst (λ v. Represents v state) (sym view) r) was rest)
 
 -- nothing was open under the name
-pub interface-nothing : (S : SessionState) (host : HostState) (ds : List (Option ℕ)) (is after : List (Option InterfaceState)) (es : List (Option AnyEndpoint)) (i : ℕ) → session_made host ds is es ≡ S → named is i ≡ None → after ≡ freed is i → (state : State) → Represents S state → Represents (session_made host ds after es) (interface_closed state i)
-interface-nothing S host ds is after es i view none rest state r =
-    subst (λ l. Represents (session_made host ds l es) (interface_closed state i)) (sym (rest ∙ freed-none is i none))
-    (interface-none (session_made host ds is es) state i (subst (λ v. Represents v state) (sym view) r) none)
+pub interface-nothing : (S : SessionState) (t : Tree) (p : List UdevPacket) (host : HostState) (ds : List (Option ℕ)) (is after : List (Option InterfaceState)) (es : List (Option AnyEndpoint)) (i : ℕ) → session_made t p host ds is es ≡ S → named is i ≡ None → after ≡ freed is i → (state : State) → Represents S state → Represents (session_made t p host ds after es) (interface_closed state i)
+interface-nothing S t p host ds is after es i view none rest state r =
+    subst (λ l. Represents (session_made t p host ds l es) (interface_closed state i)) (sym (rest ∙ freed-none is i none))
+    (interface-none (session_made t p host ds is es) state i (subst (λ v. Represents v state) (sym view) r) none)
 
-pub interface-sound_same : (host : HostState) (ds : List (Option ℕ)) (is after : List (Option InterfaceState)) (es : List (Option AnyEndpoint)) (i : ℕ) → IsSound (session_made host ds is es) → named is i ≡ None → after ≡ freed is i → IsSound (session_made host ds after es)
-interface-sound_same host ds is after es i sound none rest =
-    subst (λ l. IsSound (session_made host ds l es)) (sym (rest ∙ freed-none is i none)) sound
+pub interface-sound_same : (t : Tree) (p : List UdevPacket) (host : HostState) (ds : List (Option ℕ)) (is after : List (Option InterfaceState)) (es : List (Option AnyEndpoint)) (i : ℕ) → IsSound (session_made t p host ds is es) → named is i ≡ None → after ≡ freed is i → IsSound (session_made t p host ds after es)
+interface-sound_same t p host ds is after es i sound none rest =
+    subst (λ l. IsSound (session_made t p host ds l es)) (sym (rest ∙ freed-none is i none)) sound
 
 -- and devices
 device-represents : (s : SessionState) (state : State) (after : List (Option ℕ)) (d key : ℕ) → Represents s state → named s.devices d ≡ Some key → after ≡ freed s.devices d → Represents (record s { host = device_closed s.host key; devices = after }) (name_closed state d)

@@ -9,12 +9,26 @@ use Rattle.usb_answers.specs.Accounts.{TookFew}
 use Rattle.usb_answers.specs.Served.{closed_by}
 use Rattle.usb_answers.proofs.Does.{Acts, told-does}
 use Rattle.usb_answers.proofs.DeviceLines.{now-does, open-does, device_descriptor-does, descriptors-does, clone_device-does, close_device-does, active-does, speed-does, set_configuration-does, reset-does, detach-does, attach-does, claim-does, clone_interface-does, close_interface-does, set_alt_setting-does, get_alt_setting-does, interface_descriptor-does, release-does, pending-does}
+use Rattle.usb_answers.proofs.TreeLines.{list-does, buses-does, probe-does, match-does, hotplug-does, open_path-does}
 use Rattle.usb_answers.proofs.EndpointLines.{endpoint-does, submit-does, poll-does, wait-does, transfer-does, cancel-does, clear_halt-does, close-does, steps-does}
 
 pub answer-does : (state : State) (lines : ℕ → List (List ℕ)) (line : Item) → Acts (TookFew state) (answer state line) state (closed_by state lines line)
 unfolding answer
 answer-does state lines (item.Device k bus address speed configuration descriptors) = told-does state [] refl
 answer-does state lines (item.Driver k number) = told-does state [] refl
+answer-does state lines (item.Attribute path name value) = told-does state [] refl
+answer-does state lines (item.Denied path name errno) = told-does state [] refl
+answer-does state lines (item.Child path name) = told-does state [] refl
+answer-does state lines (item.Link path name target) = told-does state [] refl
+answer-does state lines (item.Entry name path) = told-does state [] refl
+answer-does state lines (item.Root errno) = told-does state [] refl
+answer-does state lines (item.Uevent groups bytes) = told-does state [] refl
+answer-does state lines item.List = list-does state
+answer-does state lines item.Buses = buses-does state
+answer-does state lines (item.Probe path) = probe-does state path
+answer-does state lines (item.Match path selector) = match-does state path selector
+answer-does state lines item.Hotplug = hotplug-does state
+answer-does state lines (item.OpenPath d path) = open_path-does state d path
 answer-does state lines item.Now = now-does state
 answer-does state lines (item.Open d bus address) = open-does state d bus address
 answer-does state lines (item.DeviceDescriptor d) = device_descriptor-does state d

@@ -39,3 +39,5 @@ pub mod TakenOut
 pub mod TimesLemmas
 pub mod WaitCode
 mod WorkedOutput
+pub mod TreeAnswers
+pub mod TreeLines

@@ -8,6 +8,10 @@ use Rattle.usb_registry.specs.History.{value_at}
 use Rattle.usb_simulated.specs.declared.devices.SimDevice.{SimDevice}
 use Rattle.usb_kernel.specs.Value.{KernelState}
 use Rattle.usb_simulated.specs.Devices.{fresh_device}
+use Rattle.usb_sysfs.specs.Tree.{Tree}
+use Rattle.usb_enum.specs.declared.hotplug.UdevPacket.{UdevPacket}
+use Rattle.usb_setup.specs.Trees.{tree_of}
+use Rattle.usb_setup.specs.Packets.{packets_of}
 use Rattle.usb_endpoint.specs.declared.any_endpoint.AnyEndpoint.{AnyEndpoint}
 use Rattle.usb_endpoint.specs.EndpointState.{EndpointState}
 use Rattle.usb_endpoint.specs.AnyEndpoints.{state_of}
@@ -40,11 +44,11 @@ nobody : {X : Type 0} (n e : ℕ) (x : X) → named (replicate n None) e ≡ Som
 nobody {X} n e x is = none-some x (sym (named-replicate n e) ∙ is)
 
 -- a session with nothing open
-abbrev pub empty_session : HostState → SessionState
-empty_session host = record { host = host; devices = replicate 64 None; interfaces = replicate 64 None; endpoints = replicate 64 None }
+abbrev pub empty_session : Tree → List UdevPacket → HostState → SessionState
+empty_session t p host = record { host = host; devices = replicate 64 None; interfaces = replicate 64 None; endpoints = replicate 64 None; tree = t; packets = p }
 
-empty-sound : (host : HostState) → host.steps ≡ [] → host.interfaces ≡ [] → host.devices ≡ [] → IsSound (empty_session host)
-empty-sound host idle none nothing =
+empty-sound : (t : Tree) (p : List UdevPacket) (host : HostState) → host.steps ≡ [] → host.interfaces ≡ [] → host.devices ≡ [] → IsSound (empty_session t p host)
+empty-sound t p host idle none nothing =
     record {
       idle = idle;
       device_names = length-replicate {A = Option ℕ} 64 None;
@@ -63,10 +67,10 @@ empty-sound host idle none nothing =
       endpoints_differ = λ d e g h isg ish apart. absurd (nobody 64 d g isg);
     }
 
-made-empty : (host : HostState) (ds : List (Option ℕ)) (is : List (Option InterfaceState)) (es : List (Option AnyEndpoint)) → ds ≡ replicate 64 None → is ≡ replicate 64 None → es ≡ replicate 64 None → session_made host ds is es ≡ empty_session host
-made-empty host ds is es d i e =
-    ap (λ (l : List (Option ℕ)). session_made host l is es) d ∙ ap (λ (l : List (Option InterfaceState)). session_made host (replicate 64 None) l es) i
-    ∙ ap (λ (l : List (Option EndpointState)). record (empty_session host) { endpoints = l }) (ap (map (option_map state_of)) e ∙ sym (map-replicate state_of 64))
+made-empty : (t : Tree) (p : List UdevPacket) (host : HostState) (ds : List (Option ℕ)) (is : List (Option InterfaceState)) (es : List (Option AnyEndpoint)) → ds ≡ replicate 64 None → is ≡ replicate 64 None → es ≡ replicate 64 None → session_made t p host ds is es ≡ empty_session t p host
+made-empty t p host ds is es d i e =
+    ap (λ (l : List (Option ℕ)). session_made t p host l is es) d ∙ ap (λ (l : List (Option InterfaceState)). session_made t p host (replicate 64 None) l es) i
+    ∙ ap (λ (l : List (Option EndpointState)). record (empty_session t p host) { endpoints = l }) (ap (map (option_map state_of)) e ∙ sym (map-replicate state_of 64))
 
 start-steps : (items : List Item) → (start items).host.steps ≡ []
 unfolding start
@@ -80,22 +84,24 @@ start-devices : (items : List Item) → (start items).host.devices ≡ []
 unfolding start
 start-devices items = refl
 
-pub sound-start : (items : List Item) (host : HostState) (ds : List (Option ℕ)) (is : List (Option InterfaceState)) (es : List (Option AnyEndpoint)) → host ≡ (start items).host → ds ≡ replicate 64 None → is ≡ replicate 64 None → es ≡ replicate 64 None → IsSound (session_made host ds is es)
-sound-start items host ds is es start_ d i e =
-    subst IsSound (sym (made-empty host ds is es d i e)) (empty-sound host (ap (λ (h : HostState). h.steps) start_ ∙ start-steps items) (ap (λ (h : HostState). h.interfaces) start_ ∙ start-interfaces items) (ap (λ (h : HostState). h.devices) start_ ∙ start-devices items))
+pub sound-start : (items : List Item) (t : Tree) (p : List UdevPacket) (host : HostState) (ds : List (Option ℕ)) (is : List (Option InterfaceState)) (es : List (Option AnyEndpoint)) → host ≡ (start items).host → ds ≡ replicate 64 None → is ≡ replicate 64 None → es ≡ replicate 64 None → IsSound (session_made t p host ds is es)
+sound-start items t p host ds is es start_ d i e =
+    subst IsSound (sym (made-empty t p host ds is es d i e)) (empty-sound t p host (ap (λ (h : HostState). h.steps) start_ ∙ start-steps items) (ap (λ (h : HostState). h.interfaces) start_ ∙ start-interfaces items) (ap (λ (h : HostState). h.devices) start_ ∙ start-devices items))
 
-empty-start : (items : List Item) → empty_session (start items).host ≡ session_of (start items)
+empty-start : (items : List Item) → empty_session (tree_of items) (packets_of items) (start items).host ≡ session_of (start items)
 unfolding start
-empty-start items = ap (λ (l : List (Option EndpointState)). record (empty_session (start items).host) { endpoints = l }) (map-replicate kept 64)
+empty-start items = ap (λ (l : List (Option EndpointState)). record (empty_session (tree_of items) (packets_of items) (start items).host) { endpoints = l }) (map-replicate kept 64)
 
 few-start : (items : List Item) (e : ℕ) (h : Endpoint) → named (start items).endpoints e ≡ Some h → h.taken ≤ length h.tickets
 unfolding start
 few-start items e h is = absurd (nobody 64 e h is)
 
-pub represents-start : (items : List Item) (host : HostState) (ds : List (Option ℕ)) (is : List (Option InterfaceState)) (es : List (Option AnyEndpoint)) → host ≡ (start items).host → ds ≡ replicate 64 None → is ≡ replicate 64 None → es ≡ replicate 64 None → Represents (session_made host ds is es) (start items)
-represents-start items host ds is es start_ d i e =
+pub represents-start : (items : List Item) (t : Tree) (p : List UdevPacket) (host : HostState) (ds : List (Option ℕ)) (is : List (Option InterfaceState)) (es : List (Option AnyEndpoint)) → host ≡ (start items).host → ds ≡ replicate 64 None → is ≡ replicate 64 None → es ≡ replicate 64 None → t ≡ tree_of items → p ≡ packets_of items → Represents (session_made t p host ds is es) (start items)
+represents-start items t p host ds is es start_ d i e known left =
     record {
-      is = made-empty host ds is es d i e ∙ ap empty_session start_ ∙ empty-start items;
+      is =
+          made-empty t p host ds is es d i e ∙ ap (empty_session t p) start_ ∙ ap (λ s. empty_session s p (start items).host) known
+          ∙ ap (λ l. empty_session (tree_of items) l (start items).host) left ∙ empty-start items;
       few = few-start items;
     }
 

@@ -27,7 +27,7 @@ use Rattle.usb_answers.proofs.Called.{KeepsSession, open_at, sound-put, taken-ma
 
 -- a session with another host and other endpoints
 abbrev pub made_with : Inside → HostState → List (Option AnyEndpoint) → SessionState
-made_with i host endpoints = session_made host i.devices.items i.interfaces.items endpoints
+made_with i host endpoints = session_made i.tree i.watch host i.devices.items i.interfaces.items endpoints
 
 -- an endpoint was taken out of its name, and put back as it was left
 pub record PutBack (es after : List (Option AnyEndpoint)) (e : ℕ) (x y : AnyEndpoint) : Type 0 where

@@ -40,7 +40,7 @@ use Rattle.usb_lines.specs.Tickets.{ticket_line}
 use Rattle.usb_lines.specs.Devices.{device_line, class_words, product_words, string_words}
 use Rattle.usb_lines.specs.Settings.{configuration_line, no_configuration_line, speed_line, alt_setting_line}
 use Rattle.usb_lines.specs.Descriptors.{endpoint_words, class_words as interface_words, setting_words, configuration_words, descriptors_line}
-use Rattle.usb_script.specs.declared.endpoint_kind.EndpointKind.TheVariants.{BulkIn, BulkOut, InterruptIn, InterruptOut}
+use Rattle.usb_words.specs.declared.endpoint_kind.EndpointKind.TheVariants.{BulkIn, BulkOut, InterruptIn, InterruptOut}
 use Rattle.usb_script.specs.declared.item.Item.{Item}
 use Rattle.usb_script.specs.declared.item.Item.TheVariants as item
 use Rattle.usb_script.specs.Parse.{script_of}

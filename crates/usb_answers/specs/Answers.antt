@@ -2,12 +2,15 @@
 use Rattle.std.specs.Prelude.{true, false}
 use Rattle.usb_desc.specs.declared.types.Direction.TheVariants as direction
 use Rattle.usb_script.specs.declared.item.Item.{Item}
-use Rattle.usb_script.specs.declared.item.Item.TheVariants.{Device, Driver, Now, Open, DeviceDescriptor, Descriptors, CloneDevice, CloseDevice, ActiveConfiguration, Speed, SetConfiguration, Reset, DetachDriver, AttachDriver, Claim, DetachAndClaim, CloneInterface, CloseInterface, SetAltSetting, GetAltSetting, InterfaceDescriptor, Release, Endpoint, SubmitIn, SubmitOut, Pending, Poll, Wait, TransferIn, TransferOut, Cancel, ClearHalt, CloseEndpoint, Steps}
-use Rattle.usb_script.specs.EndpointKinds.{transfer_type_of, direction_of}
+use Rattle.usb_script.specs.declared.item.Item.TheVariants.{Device, Driver, Attribute, Denied, Child, Link, Entry, Root, Uevent, List, Buses, Probe, Match, Hotplug, OpenPath, Now, Open, DeviceDescriptor, Descriptors, CloneDevice, CloseDevice, ActiveConfiguration, Speed, SetConfiguration, Reset, DetachDriver, AttachDriver, Claim, DetachAndClaim, CloneInterface, CloseInterface, SetAltSetting, GetAltSetting, InterfaceDescriptor, Release, Endpoint, SubmitIn, SubmitOut, Pending, Poll, Wait, TransferIn, TransferOut, Cancel, ClearHalt, CloseEndpoint, Steps}
+use Rattle.usb_words.specs.EndpointKinds.{transfer_type_of, direction_of}
 use Rattle.usb_answers.specs.State.{State}
 use Rattle.usb_answers.specs.Answer.{Answer, silent}
 use Rattle.usb_answers.specs.Now.{now_answer}
-use Rattle.usb_answers.specs.Opens.{open_answer}
+use Rattle.usb_answers.specs.Opens.{open_answer, open_path_answer}
+use Rattle.usb_answers.specs.Listings.{list_answer, buses_answer}
+use Rattle.usb_answers.specs.Probes.{probe_answer, match_answer}
+use Rattle.usb_answers.specs.Hotplugs.{hotplug_answer}
 use Rattle.usb_answers.specs.Describes.{device_descriptor_answer, descriptors_answer}
 use Rattle.usb_answers.specs.Claims.{claim_answer}
 use Rattle.usb_answers.specs.Endpoints.{endpoint_answer}
@@ -29,6 +32,19 @@ use Rattle.usb_answers.specs.Steps.{steps_answer}
 unfoldable pub answer : State → Item → Answer
 answer state (Device k bus address speed configuration descriptors) = silent state
 answer state (Driver k number) = silent state
+answer state (Attribute path name value) = silent state
+answer state (Denied path name errno) = silent state
+answer state (Child path name) = silent state
+answer state (Link path name target) = silent state
+answer state (Entry name path) = silent state
+answer state (Root errno) = silent state
+answer state (Uevent groups bytes) = silent state
+answer state List = list_answer state
+answer state Buses = buses_answer state
+answer state (Probe path) = probe_answer state path
+answer state (Match path selector) = match_answer state path selector
+answer state Hotplug = hotplug_answer state
+answer state (OpenPath d path) = open_path_answer state d path
 answer state Now = now_answer state
 answer state (Open d bus address) = open_answer state d bus address
 answer state (DeviceDescriptor d) = device_descriptor_answer state d

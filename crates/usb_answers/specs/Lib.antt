@@ -6,6 +6,9 @@ pub mod Now
 pub mod Describes
 pub mod Pending
 pub mod Opens
+pub mod Listings
+pub mod Probes
+pub mod Hotplugs
 pub mod Claims
 pub mod Clones
 pub mod Configurations

@@ -6,6 +6,8 @@ use Rattle.usb_simulated.specs.Devices.{fresh_device}
 use Rattle.usb_script.specs.declared.item.Item.{Item}
 use Rattle.usb_script.specs.declared.item.Item.TheVariants.{Device, Driver}
 use Rattle.usb_script.specs.ItemKinds.{place_count}
+use Rattle.usb_setup.specs.Packets.{packets_of}
+use Rattle.usb_setup.specs.Trees.{tree_of}
 use Rattle.usb_device.specs.HostState.{HostState, host_of}
 use Rattle.usb_answers.specs.State.{State}
 use Rattle.usb_answers.specs.Answers.{answer}
@@ -43,7 +45,8 @@ abbrev pub devices_of : List Item → List (ℕ × SimDevice)
 devices_of [] = []
 devices_of (item ∷ rest) = with_device (device_of_item item rest) (devices_of rest)
 
--- before the first call: the kernel has the script's devices and room for all steps and resets of the script, and nothing is open
+-- before the first call: the kernel has the script's devices and room for all steps and resets of the script, nothing is open, and
+-- the tree and the packets are those of the script
 unfoldable pub start : List Item → State
 start items =
     record {
@@ -51,6 +54,8 @@ start items =
       devices = replicate 64 None;
       interfaces = replicate 64 None;
       endpoints = replicate 64 None;
+      tree = tree_of items;
+      packets = packets_of items;
     }
 
 -- the answers to these items, and then the fate lines of the host at the end

@@ -8,7 +8,14 @@ use Rattle.usb_answers.specs.State.{State, Endpoint, kept}
 -- what a session keeps of a state: of each endpoint the tickets that were not taken
 abbrev pub session_of : State → SessionState
 session_of state =
-    record { host = state.host; devices = state.devices; interfaces = state.interfaces; endpoints = map (option_map kept) state.endpoints }
+    record {
+      host = state.host;
+      devices = state.devices;
+      interfaces = state.interfaces;
+      endpoints = map (option_map kept) state.endpoints;
+      tree = state.tree;
+      packets = state.packets;
+    }
 
 -- a session stands for a state, in which no more tickets of an endpoint were taken than it has
 pub record Represents (s : SessionState) (state : State) : Type 0 where

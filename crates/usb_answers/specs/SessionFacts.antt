@@ -1,6 +1,8 @@
 -- What is true of all sessions.
 use Rattle.std.specs.Prelude.{ℕ, List, Option, map}
 use Rattle.std.specs.Option.{option_map}
+use Rattle.usb_sysfs.specs.Tree.{Tree}
+use Rattle.usb_enum.specs.declared.hotplug.UdevPacket.{UdevPacket}
 use Rattle.usb_endpoint.specs.declared.any_endpoint.AnyEndpoint.{AnyEndpoint}
 use Rattle.usb_endpoint.specs.AnyEndpoints.{state_of}
 use Rattle.usb_device.specs.HostState.{HostState}
@@ -9,12 +11,19 @@ use Rattle.usb_answers.specs.declared.session.Session.TheInside.{Inside}
 use Rattle.usb_answers.specs.SessionState.{SessionState, IsSound}
 
 -- a session by its parts
-abbrev pub session_made : HostState → List (Option ℕ) → List (Option InterfaceState) → List (Option AnyEndpoint) → SessionState
-session_made host devices interfaces endpoints =
-    record { host = host; devices = devices; interfaces = interfaces; endpoints = map (option_map state_of) endpoints }
+abbrev pub session_made : Tree → List UdevPacket → HostState → List (Option ℕ) → List (Option InterfaceState) → List (Option AnyEndpoint) → SessionState
+session_made tree packets host devices interfaces endpoints =
+    record {
+      host = host;
+      devices = devices;
+      interfaces = interfaces;
+      endpoints = map (option_map state_of) endpoints;
+      tree = tree;
+      packets = packets;
+    }
 
 abbrev pub made_of : Inside → SessionState
-made_of s = session_made s.host s.devices.items s.interfaces.items s.endpoints.items
+made_of s = session_made s.tree s.watch s.host s.devices.items s.interfaces.items s.endpoints.items
 
 abbrev pub IsSoundInside : Inside → Type 0
 IsSoundInside s = IsSound (made_of s)

@@ -2,6 +2,8 @@
 use Rattle.std.specs.Prelude.{ℕ, ◌≡◌, ◌≢◌, ◌<◌, ◌==◌, Bool, false, List, [], Option, Some, None, length, slice_get}
 use Rattle.std.specs.List.{count_by}
 use Rattle.usb_registry.specs.History.{value_at}
+use Rattle.usb_sysfs.specs.Tree.{Tree}
+use Rattle.usb_enum.specs.declared.hotplug.UdevPacket.{UdevPacket}
 use Rattle.usb_endpoint.specs.EndpointState.{EndpointState}
 use Rattle.usb_endpoint.specs.Handles.{Stands}
 use Rattle.usb_ledger.specs.Entries.{ClaimedInterface}
@@ -12,12 +14,15 @@ use Rattle.usb_device.specs.HandleStates.{InterfaceState, StandsDevice, StandsIn
 use Rattle.usb_device.specs.DeviceLaws.{DevicesAreHeld}
 use Rattle.usb_answers.specs.Names.{named}
 
--- the host, and what is open by the number of its name: the keys of devices, the interfaces, and the endpoints as their calls see them
+-- the host, and what is open by the number of its name: the keys of devices, the interfaces, and the endpoints as their calls see them; the
+-- tree of attributes, and the packets of udev that are left
 pub record SessionState : Type 0 where
   pub host : HostState
   pub devices : List (Option ℕ)
   pub interfaces : List (Option InterfaceState)
   pub endpoints : List (Option EndpointState)
+  pub tree : Tree
+  pub packets : List UdevPacket
 
 -- whether what is open under a name is a handle of the interface of a key
 abbrev pub is_handle_of : ℕ → Option InterfaceState → Bool

@@ -2,6 +2,8 @@
 use Rattle.std.specs.Prelude.{ℕ, List, Option, drop, length}
 use Rattle.usb_desc.specs.declared.types.TransferType.{TransferType}
 use Rattle.usb_kernel.specs.Tickets.{tickets}
+use Rattle.usb_sysfs.specs.Tree.{Tree}
+use Rattle.usb_enum.specs.declared.hotplug.UdevPacket.{UdevPacket}
 use Rattle.usb_endpoint.specs.EndpointState.{EndpointState}
 use Rattle.usb_device.specs.HostState.{HostState}
 use Rattle.usb_device.specs.HandleStates.{InterfaceState}
@@ -16,12 +18,15 @@ pub record Endpoint : Type 0 where
   pub tickets : List ℕ
   pub taken : ℕ
 
--- the host, and what is open by the number of its name: the keys of devices, the interfaces, and the endpoints
+-- the host, and what is open by the number of its name: the keys of devices, the interfaces, and the endpoints; the tree of
+-- attributes, and the packets of udev that are still to be looked at
 pub record State : Type 0 where
   pub host : HostState
   pub devices : List (Option ℕ)
   pub interfaces : List (Option InterfaceState)
   pub endpoints : List (Option Endpoint)
+  pub tree : Tree
+  pub packets : List UdevPacket
 
 -- the pending tickets of an endpoint
 abbrev pub pending : Endpoint → List ℕ

@@ -5,7 +5,7 @@ ghost use Rattle.usb_script.specs.ItemKinds.{places_in};
 ghost use Rattle.usb_answers.specs.State.{State};
 ghost use Rattle.usb_answers.specs.Answered.{Answers};
 ghost use Rattle.usb_answers.specs.Answers.{answer};
-ghost use Rattle.usb_answers.specs.Kinds.{is_of_endpoint, is_of_interface, is_of_handle};
+ghost use Rattle.usb_answers.specs.Kinds.{is_of_endpoint, is_of_interface, is_of_handle, is_of_tree};
 
 use crate::session::Session;
 use usb_desc::NoMemory;
@@ -120,6 +120,26 @@ impl Session {
         }
     }
 
+    /// The answer to a call on the tree of attributes or on packets of udev.
+    #[tactic(auto, unfolding(crate::specs::Answers::answer))]
+    fn answer_tree(&mut self, line: &mut String, item: Item) -> Result<(), NoMemory>
+        requires kind { IsTrue (is_of_tree item) }
+        ensures answered { Answers self.old self.new line.old line.new result
+            (λ state. answer state item) }
+        ensures spare { OnOk result
+            (self.old.host.kernel.spare ≤ self.new.host.kernel.spare + places_in item) }
+    {
+        match item {
+            Item::List => self.list(line),
+            Item::Buses => self.buses(line),
+            Item::Probe { path } => self.probe(line, &path),
+            Item::Match { path, selector } => self.match_device(line, &path, &selector),
+            Item::Hotplug => self.hotplug(line),
+            Item::OpenPath { device, path } => self.open_path(line, device, &path),
+            _ => unreachable!(),
+        }
+    }
+
     /// Appends the line that answers an item of a script, with its LF, and nothing where the item has no answer.
     #[tactic(auto, unfolding(crate::specs::Answers::answer))]
     pub fn answer(&mut self, line: &mut String, item: Item) -> Result<(), NoMemory>
@@ -130,7 +150,21 @@ impl Session {
             (self.old.host.kernel.spare ≤ self.new.host.kernel.spare + places_in item) }
     {
         match item {
-            Item::Device { .. } | Item::Driver { .. } => Ok(()),
+            Item::Device { .. }
+            | Item::Driver { .. }
+            | Item::Attribute { .. }
+            | Item::Denied { .. }
+            | Item::Child { .. }
+            | Item::Link { .. }
+            | Item::Entry { .. }
+            | Item::Root { .. }
+            | Item::Uevent { .. } => Ok(()),
+            Item::List
+            | Item::Buses
+            | Item::Probe { .. }
+            | Item::Match { .. }
+            | Item::Hotplug
+            | Item::OpenPath { .. } => self.answer_tree(line, item),
             Item::Now => self.now(line),
             Item::Steps(steps) => {
                 self.step_all(steps);

@@ -69,6 +69,8 @@ impl Session {
             devices,
             interfaces,
             endpoints,
+            tree: _tree,
+            watch: _watch,
         } = session;
         drop_names(endpoints);
         drop_names(interfaces);

@@ -1,7 +1,7 @@
 //! `endpoint`: an endpoint of a claimed interface is opened.
 
 ghost use Rattle.std.specs.Prelude.{◌≡◌, OnOk, IfOk, string_bytes};
-ghost use Rattle.usb_script.specs.EndpointKinds.{transfer_type_of, direction_of};
+ghost use Rattle.usb_words.specs.EndpointKinds.{transfer_type_of, direction_of};
 ghost use Rattle.usb_endpoint.specs.Handles.{Stands, KeepsOthers};
 ghost use Rattle.usb_endpoint.specs.AnyEndpoints.{state_of};
 ghost use Rattle.usb_device.specs.HostBus.{bus_of};

@@ -13,11 +13,13 @@ mod ending;
 mod endpoints;
 mod fates;
 mod halting;
+mod listing;
 mod laws;
 mod names;
 mod now;
 mod opening;
 mod polling;
+mod probing;
 mod session;
 mod settings;
 mod stepping;
@@ -25,6 +27,7 @@ mod submitting;
 mod summary;
 mod transferring;
 mod waiting;
+mod watching;
 
 pub use fates::{tickets, write_fate};
 pub use laws::{

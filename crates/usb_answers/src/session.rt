@@ -12,10 +12,13 @@ use std::marker::Model;
 use usb_desc::NoMemory;
 use usb_device::{Device, Host, Interface};
 use usb_endpoint::AnyEndpoint;
+use usb_enum::{AttrTree, HotplugWatch, watch_devices};
 use usb_kernel::{Bytes, Kernel, SimDevice};
 use usb_script::Item;
+use usb_setup::{packets_of, tree_of};
 
-/// A host, and what is open under each name: devices, claimed interfaces and endpoints.
+/// A host, what is open under each name (devices, claimed interfaces and endpoints), the tree of
+/// attributes, and the packets of udev that are left.
 ///
 /// It can't be dropped: `end` has to spend it.
 pub struct Session {
@@ -23,6 +26,8 @@ pub struct Session {
     pub(crate) devices: Vec<Option<Device>>,
     pub(crate) interfaces: Vec<Option<Interface>>,
     pub(crate) endpoints: Vec<Option<AnyEndpoint>>,
+    pub(crate) tree: AttrTree,
+    pub(crate) watch: HotplugWatch,
 }
 
 impl Model for Session {
@@ -38,6 +43,8 @@ impl Model for Session {
       devices = s.devices.items;
       interfaces = s.interfaces.items;
       endpoints = map (option_map state_of) s.endpoints.items;
+      tree = s.tree;
+      packets = s.watch;
     } };
 
     ghost use Rattle.usb_answers.specs.SessionFacts.{IsSoundInside};
@@ -138,6 +145,8 @@ impl Session {
         ensures stands { IfOk result (λ s. Represents s (start items.now)) }
         ensures spare { IfOk result (λ s. s.host.kernel.spare ≡ places) }
     {
+        let tree = tree_of(alloc, items)?;
+        let packets = packets_of(alloc, items)?;
         let host = host_with(alloc, items, places)?;
         let devices = no_names(alloc)?;
         let interfaces = match no_names(alloc) {
@@ -160,6 +169,8 @@ impl Session {
             devices,
             interfaces,
             endpoints,
+            tree,
+            watch: watch_devices(alloc, packets),
         })
     }
 }

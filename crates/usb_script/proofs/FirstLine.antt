@@ -1,7 +1,7 @@
 -- The first line of a script.
 use Rattle.std.proofs.Common.{◌≡◌, ℕ, ◌<◌, suc, zero, List, [], ◌∷◌, length, get_or, take, drop, eqb, false, refl, arith}
 use Rattle.std.proofs.lemmas.Bool.{ne_eqb}
-use Rattle.usb_script.specs.Lines.{lines_of}
+use Rattle.usb_words.specs.Lines.{lines_of}
 
 -- a script whose first LF stands at i
 pub lines_of_at : (bytes : List ℕ) (i : ℕ) → i < length bytes → get_or bytes i 0 ≡ 10 → ((k : ℕ) → k < i → get_or bytes k 0 ≡ 10 → ⊥) → lines_of bytes ≡ take i bytes ∷ lines_of (drop (suc i) bytes)

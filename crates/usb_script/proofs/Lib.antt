@@ -1,5 +1,4 @@
 pub mod FirstLine
-pub mod FirstWord
 pub mod OnLiterals
 pub mod ParseOn
 pub mod StepsOfLine

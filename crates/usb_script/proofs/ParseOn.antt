@@ -3,7 +3,7 @@ use Rattle.std.proofs.Common.{◌≡◌, ℕ, ◌<◌, ◌≤◌, List, [], ◌�
 use Rattle.std.proofs.lemmas.Bool.Decides.{nat_tests}
 use Rattle.usb_script.specs.declared.item.Item.{Item}
 use Rattle.usb_script.specs.declared.error.SessionError.TheVariants as errors
-use Rattle.usb_script.specs.Lines.{lines_of}
+use Rattle.usb_words.specs.Lines.{lines_of}
 use Rattle.usb_script.specs.Parse.{with_line, parse, parse_from, script_of, or_malformed}
 
 script_of_small : (bytes : List ℕ) → length bytes ≤ 1048576 → script_of bytes ≡ or_malformed (parse_from [] 1 (lines_of bytes))

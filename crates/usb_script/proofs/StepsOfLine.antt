@@ -2,8 +2,8 @@
 use Rattle.std.proofs.Common.{◌≡◌, ℕ, ◌<◌, ◌≤◌, ◌+◌, zero, suc, List, [], ◌∷◌, ◌++◌, length, get_or, take, drop, Bor, Option, Some, None, true, false, refl, ap, sym, ◌∙◌, arith, append_assoc}
 use Rattle.std.proofs.lemmas.List.{drop-map}
 use Rattle.usb_simulated.specs.declared.step.KernelStep.{KernelStep}
-use Rattle.usb_script.specs.Words.{◌>>=◌}
-use Rattle.usb_script.specs.Fields.{Word, texts}
+use Rattle.usb_words.specs.Words.{◌>>=◌}
+use Rattle.usb_words.specs.Fields.{Word, texts}
 use Rattle.usb_script.specs.StepForms.{step_of}
 use Rattle.usb_script.specs.KernelSteps.{each, is_semicolon, parts_of, IsFirstPart, steps_of}
 

@@ -1,6 +1,6 @@
 -- Scripts worked out by the definition alone.
 use Rattle.std.proofs.Common.{◌≡◌, ◌++◌, [], ◌∷◌, codes, Some, None, Ok, Err, refl}
-use Rattle.usb_script.specs.declared.endpoint_kind.EndpointKind.TheVariants.{BulkIn, BulkOut, InterruptIn, InterruptOut}
+use Rattle.usb_words.specs.declared.endpoint_kind.EndpointKind.TheVariants.{BulkIn, BulkOut, InterruptIn, InterruptOut}
 use Rattle.usb_script.specs.declared.item.Item.TheVariants.{Device, Driver, Now, Open, DeviceDescriptor, Descriptors, CloneDevice, CloseDevice, ActiveConfiguration, Speed, SetConfiguration, Reset, DetachDriver, AttachDriver, Claim, DetachAndClaim, CloneInterface, CloseInterface, SetAltSetting, GetAltSetting, InterfaceDescriptor, Release, Endpoint, SubmitIn, SubmitOut, Pending, Poll, Wait, TransferIn, TransferOut, Cancel, ClearHalt, CloseEndpoint, Steps}
 use Rattle.usb_script.specs.declared.error.SessionError.TheVariants.{Malformed}
 use Rattle.usb_script.specs.declared.reading.Reading.TheVariants.{Skipped, Read}

@@ -3,10 +3,10 @@ use Rattle.std.specs.Prelude.{List, codes, Option, None, if◌then◌else◌}
 use Rattle.std.specs.Option.{option_or}
 use Rattle.std.specs.Str.{bytes_eq}
 use Rattle.usb_script.specs.declared.item.Item.{Item}
-use Rattle.usb_script.specs.declared.item.Item.TheVariants.{Now, Open, DeviceDescriptor, Descriptors, CloneDevice, CloseDevice, ActiveConfiguration, Speed, SetConfiguration, Reset, DetachDriver, AttachDriver, Claim, DetachAndClaim, CloneInterface, CloseInterface, SetAltSetting, GetAltSetting, InterfaceDescriptor, Release, Endpoint, SubmitIn, SubmitOut, Pending, Poll, Cancel, ClearHalt, CloseEndpoint}
-use Rattle.usb_script.specs.Words.{number_of, name_of, hex_byte_of, bytes_of, kind_of}
-use Rattle.usb_script.specs.Fields.{Word, none, one, two, three, four}
-use Rattle.usb_script.specs.Letters.{device_letter, interface_letter, endpoint_letter}
+use Rattle.usb_script.specs.declared.item.Item.TheVariants.{Now, Open, DeviceDescriptor, Descriptors, CloneDevice, CloseDevice, ActiveConfiguration, Speed, SetConfiguration, Reset, DetachDriver, AttachDriver, Claim, DetachAndClaim, CloneInterface, CloseInterface, SetAltSetting, GetAltSetting, InterfaceDescriptor, Release, Endpoint, CloseEndpoint}
+use Rattle.usb_words.specs.Words.{number_of, name_of, hex_byte_of, kind_of}
+use Rattle.usb_words.specs.Fields.{Word, none, one, two, three, four}
+use Rattle.usb_words.specs.Letters.{device_letter, interface_letter, endpoint_letter}
 
 -- `endpoint e i HH KIND`, `alt i B`, `getalt i`, `ifdesc i`, `release i`
 unfoldable pub interface_call_of : Word → List Word → Option Item
@@ -65,14 +65,3 @@ device_call_of name words =
     else if bytes_eq name (codes "devdesc") then one DeviceDescriptor (name_of device_letter) words
     else if bytes_eq name (codes "descriptors") then one Descriptors (name_of device_letter) words
     else configuration_call_of name words
-
--- `submitin e N`, `submitout e BYTES`, `pending e`, `poll e`, `cancel e`, `halt e`
-unfoldable pub endpoint_call_of : Word → List Word → Option Item
-endpoint_call_of name words =
-    if bytes_eq name (codes "submitin") then two SubmitIn (name_of endpoint_letter) (number_of 65536) words
-    else if bytes_eq name (codes "submitout") then two SubmitOut (name_of endpoint_letter) bytes_of words
-    else if bytes_eq name (codes "pending") then one Pending (name_of endpoint_letter) words
-    else if bytes_eq name (codes "poll") then one Poll (name_of endpoint_letter) words
-    else if bytes_eq name (codes "cancel") then one Cancel (name_of endpoint_letter) words
-    else if bytes_eq name (codes "halt") then one ClearHalt (name_of endpoint_letter) words
-    else device_call_of name words

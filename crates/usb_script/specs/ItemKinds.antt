@@ -2,7 +2,7 @@
 use Rattle.std.specs.Prelude.{ℕ, Bool, true, false, not, ◌&&◌, List, length}
 use Rattle.std.specs.List.{sum_by}
 use Rattle.usb_script.specs.declared.item.Item.{Item}
-use Rattle.usb_script.specs.declared.item.Item.TheVariants.{Device, Driver, Reset, Wait, TransferIn, TransferOut, Steps}
+use Rattle.usb_script.specs.declared.item.Item.TheVariants.{Device, Driver, Attribute, Denied, Child, Link, Entry, Root, Uevent, Reset, Wait, TransferIn, TransferOut, Steps}
 use Rattle.usb_script.specs.declared.reading.Reading.{Reading}
 use Rattle.usb_script.specs.declared.reading.Reading.TheVariants.{Skipped, Read}
 
@@ -10,6 +10,13 @@ use Rattle.usb_script.specs.declared.reading.Reading.TheVariants.{Skipped, Read}
 abbrev pub is_setup : Item → Bool
 is_setup (Device device bus address speed configuration descriptors) = true
 is_setup (Driver device number) = true
+is_setup (Attribute path name value) = true
+is_setup (Denied path name errno) = true
+is_setup (Child path name) = true
+is_setup (Link path name target) = true
+is_setup (Entry name path) = true
+is_setup (Root errno) = true
+is_setup (Uevent groups bytes) = true
 is_setup item = false
 
 -- a line of steps, by itself

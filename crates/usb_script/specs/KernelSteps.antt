@@ -3,8 +3,8 @@ use Rattle.std.specs.Prelude.{◌≡◌, List, [], ◌∷◌, codes, Bool, Optio
 use Rattle.std.specs.List.{slice_split}
 use Rattle.std.specs.Str.{bytes_eq}
 use Rattle.usb_simulated.specs.declared.step.KernelStep.{KernelStep}
-use Rattle.usb_script.specs.Words.{◌>>=◌}
-use Rattle.usb_script.specs.Fields.{Word}
+use Rattle.usb_words.specs.Words.{◌>>=◌}
+use Rattle.usb_words.specs.Fields.{Word}
 use Rattle.usb_script.specs.StepForms.{step_of}
 
 -- all of these, or nothing

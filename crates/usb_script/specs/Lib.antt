@@ -1,12 +1,9 @@
 pub mod Calls
-pub mod EndpointKinds
+pub mod EndpointCalls
 pub mod ErrorText
-pub mod Fields
 pub mod ItemKinds
 pub mod KernelSteps
-pub mod Letters
 pub mod LineForms
-pub mod Lines
 pub mod Order
 pub mod Outcome
 pub mod Parse
@@ -14,6 +11,5 @@ pub mod ScriptFacts
 pub mod StepForms
 pub mod StepRanges
 pub mod Taken
-pub mod Timeouts
+pub mod TreeLines
 pub mod Waits
-pub mod Words

@@ -6,14 +6,14 @@ use Rattle.usb_script.specs.declared.item.Item.{Item}
 use Rattle.usb_script.specs.declared.item.Item.TheVariants.{Device, Driver, Steps}
 use Rattle.usb_script.specs.declared.reading.Reading.{Reading}
 use Rattle.usb_script.specs.declared.reading.Reading.TheVariants.{Skipped, Read}
-use Rattle.usb_script.specs.Lines.{words_of, is_printable, without_cr, is_skipped}
-use Rattle.usb_script.specs.Words.{◌>>=◌, number_of, name_of, bytes_of}
-use Rattle.usb_script.specs.Fields.{Word, two, six}
-use Rattle.usb_script.specs.Letters.{simulated_letter}
+use Rattle.usb_words.specs.Lines.{words_of, is_printable, without_cr, is_skipped}
+use Rattle.usb_words.specs.Words.{◌>>=◌, number_of, name_of, bytes_of}
+use Rattle.usb_words.specs.Fields.{Word, two, six}
+use Rattle.usb_words.specs.Letters.{simulated_letter}
 use Rattle.usb_script.specs.KernelSteps.{steps_of}
 use Rattle.usb_script.specs.Waits.{wait_call_of}
 
--- `! STEP ; ..`, `device k B B B B BYTES`, `driver k B`, and calls
+-- `! STEP ; ..`, `device k B B B B BYTES`, `driver k B`, calls, and lines on the tree of attributes
 unfoldable pub named_of : Word → List Word → Option Item
 named_of name words =
     if bytes_eq name (codes "!") then (steps_of words >>= λ steps. Some (Steps steps))

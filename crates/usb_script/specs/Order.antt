@@ -1,8 +1,8 @@
 -- Which lines may follow which: the rules that look back.
-use Rattle.std.specs.Prelude.{ℕ, ◌==◌, ◌&&◌, Bool, true, false, not, List, [], ◌∷◌, ◌++◌, Option, Some, None, if◌then◌else◌}
+use Rattle.std.specs.Prelude.{ℕ, ◌==◌, ◌&&◌, ◌||◌, Bool, false, not, List, [], ◌∷◌, ◌++◌, Option, Some, None, if◌then◌else◌}
 use Rattle.std.specs.List.{list_all, list_any}
 use Rattle.usb_script.specs.declared.item.Item.{Item}
-use Rattle.usb_script.specs.declared.item.Item.TheVariants.{Device, Driver}
+use Rattle.usb_script.specs.declared.item.Item.TheVariants.{Device}
 use Rattle.usb_script.specs.declared.reading.Reading.{Reading}
 use Rattle.usb_script.specs.declared.reading.Reading.TheVariants.{Skipped, Read}
 use Rattle.usb_script.specs.ItemKinds.{is_setup}
@@ -25,8 +25,7 @@ is_free_device before device bus address =
 -- whether an item may stand behind these; only setup lines look back
 unfoldable pub may_follow : List Item → Item → Bool
 may_follow before (Device device bus address speed configuration descriptors) = is_free_device before device bus address
-may_follow before (Driver device number) = list_all is_setup before
-may_follow before item = true
+may_follow before item = not (is_setup item) || list_all is_setup before
 
 -- the items with those of one more line, or nothing where it may not stand there
 abbrev pub with_reading : List Item → Reading → Option (List Item)

@@ -3,8 +3,8 @@ use Rattle.std.specs.Prelude.{ℕ, ◌+◌, nat_lt, List, [], ◌∷◌, length,
 use Rattle.usb_script.specs.declared.item.Item.{Item}
 use Rattle.usb_script.specs.declared.error.SessionError.{SessionError}
 use Rattle.usb_script.specs.declared.error.SessionError.TheVariants as errors
-use Rattle.usb_script.specs.Lines.{lines_of}
-use Rattle.usb_script.specs.Words.{◌>>=◌}
+use Rattle.usb_words.specs.Lines.{lines_of}
+use Rattle.usb_words.specs.Words.{◌>>=◌}
 use Rattle.usb_script.specs.LineForms.{reading_of}
 use Rattle.usb_script.specs.Order.{with_reading}
 

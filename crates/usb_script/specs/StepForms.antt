@@ -3,9 +3,9 @@ use Rattle.std.specs.Prelude.{[], ◌∷◌, List, codes, Option, Some, None, if
 use Rattle.std.specs.Str.{bytes_eq}
 use Rattle.usb_simulated.specs.declared.step.KernelStep.{KernelStep}
 use Rattle.usb_simulated.specs.declared.step.KernelStep.TheVariants.{Packet, Ack, Fail, Unplug, Clock, Timer, Reap, Refuse}
-use Rattle.usb_script.specs.Words.{number_of, name_of, hex_byte_of, bytes_of, errno_of, call_of}
-use Rattle.usb_script.specs.Fields.{Word, none, one, two, three}
-use Rattle.usb_script.specs.Letters.{simulated_letter}
+use Rattle.usb_words.specs.Words.{number_of, name_of, hex_byte_of, bytes_of, errno_of, call_of}
+use Rattle.usb_words.specs.Fields.{Word, none, one, two, three}
+use Rattle.usb_words.specs.Letters.{simulated_letter}
 
 -- `reap` alone: the lowest ticket that is finished and not reaped; `reap T`: a ticket
 unfoldable pub reap_of : List Word → Option KernelStep

@@ -4,11 +4,11 @@ use Rattle.std.specs.Str.{bytes_eq}
 use Rattle.usb_simulated.specs.declared.step.KernelStep.{KernelStep}
 use Rattle.usb_script.specs.declared.item.Item.{Item}
 use Rattle.usb_script.specs.declared.item.Item.TheVariants.{Wait, TransferIn, TransferOut}
-use Rattle.usb_script.specs.Words.{◌>>=◌, number_of, time_of, name_of, bytes_of}
-use Rattle.usb_script.specs.Fields.{Word, two_and_more, three_and_more}
-use Rattle.usb_script.specs.Calls.{endpoint_call_of}
+use Rattle.usb_words.specs.Words.{◌>>=◌, number_of, time_of, name_of, bytes_of}
+use Rattle.usb_words.specs.Fields.{Word, two_and_more, three_and_more}
+use Rattle.usb_script.specs.EndpointCalls.{endpoint_call_of}
 use Rattle.usb_script.specs.KernelSteps.{own_steps_of}
-use Rattle.usb_script.specs.Letters.{endpoint_letter}
+use Rattle.usb_words.specs.Letters.{endpoint_letter}
 
 -- two words or three, each with its own reading, and then the steps of the call, if there are any
 abbrev pub two_with_steps : {A B : Type 0} → (A → B → List KernelStep → Item) → (Word → Option A) → (Word → Option B) → List Word → Option Item

@@ -1,60 +1,20 @@
 //! Calls by their first word.
 
 ghost use Rattle.std.specs.Prelude.{◌≤◌, length, IfOk};
-ghost use Rattle.usb_script.specs.Fields.{texts};
-ghost use Rattle.usb_script.specs.Outcome.{Gives};
-ghost use Rattle.usb_script.specs.Calls.{device_call_of, configuration_call_of, claim_call_of, name_call_of, clone_of, close_of, interface_call_of, endpoint_call_of};
+ghost use Rattle.usb_words.specs.Fields.{texts};
+ghost use Rattle.usb_words.specs.Outcome.{Gives};
+ghost use Rattle.usb_script.specs.Calls.{device_call_of, configuration_call_of, claim_call_of, name_call_of, clone_of, close_of, interface_call_of};
 ghost use Rattle.usb_script.specs.ItemKinds.{places_in};
 
-use crate::endpoint_kind::EndpointKind;
-use crate::fields::{four_words, no_word, one_word, three_words, two_words};
 use crate::item::Item;
-use crate::length::Length;
-use crate::line_bytes::Data;
-use crate::name::Name;
-use crate::reading::LineError;
-use crate::words::{byte, hex_byte, reads};
-use std::alloc::Global;
-
-/// `submitin e N`, `submitout e BYTES`, `pending e`, `poll e`, `cancel e`, `halt e`, or a further
-/// call. Most lines of a long script are calls on endpoints, so that these come first.
-#[tactic(auto, unfolding(crate::specs::Calls::endpoint_call_of))]
-pub fn endpoint_call(alloc: Global, name: &[u8], words: &[&[u8]]) -> Result<Item, LineError>
-    ensures value { Gives (λ i. i) result (endpoint_call_of name.now (texts words.now)) }
-    ensures few { IfOk result (λ item. places_in item ≤ length words.now) }
-{
-    if reads(name, b"submitin") {
-        let (endpoint, wanted) = two_words(words)?;
-        Ok(Item::SubmitIn {
-            endpoint: Name::parse(b'e', endpoint)?,
-            length: Length::parse(wanted)?,
-        })
-    } else if reads(name, b"submitout") {
-        let (endpoint, sent) = two_words(words)?;
-        Ok(Item::SubmitOut {
-            endpoint: Name::parse(b'e', endpoint)?,
-            bytes: Data::parse(alloc, sent)?,
-        })
-    } else if reads(name, b"pending") {
-        let endpoint = Name::parse(b'e', one_word(words)?)?;
-        Ok(Item::Pending { endpoint })
-    } else if reads(name, b"poll") {
-        let endpoint = Name::parse(b'e', one_word(words)?)?;
-        Ok(Item::Poll { endpoint })
-    } else if reads(name, b"cancel") {
-        let endpoint = Name::parse(b'e', one_word(words)?)?;
-        Ok(Item::Cancel { endpoint })
-    } else if reads(name, b"halt") {
-        let endpoint = Name::parse(b'e', one_word(words)?)?;
-        Ok(Item::ClearHalt { endpoint })
-    } else {
-        device_call(name, words)
-    }
-}
+use usb_words::{
+    EndpointKind, LineError, Name, byte, four_words, hex_byte, no_word, one_word, reads,
+    three_words, two_words,
+};
 
 /// `now`, `open d B B`, `devdesc d`, `descriptors d`, or a further call
 #[tactic(auto, unfolding(crate::specs::Calls::device_call_of))]
-fn device_call(name: &[u8], words: &[&[u8]]) -> Result<Item, LineError>
+pub fn device_call(name: &[u8], words: &[&[u8]]) -> Result<Item, LineError>
     ensures value { Gives (λ i. i) result (device_call_of name.now (texts words.now)) }
     ensures few { IfOk result (λ item. places_in item ≤ length words.now) }
 {

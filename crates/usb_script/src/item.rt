@@ -5,13 +5,11 @@ ghost use Rattle.std.specs.List.{All};
 ghost use Rattle.usb_script.specs.ItemKinds.{is_setup, is_call, places_in};
 ghost use Rattle.usb_script.specs.StepRanges.{IsStepInRange};
 
-use crate::endpoint_kind::EndpointKind;
-use crate::length::Length;
-use crate::line_bytes::Data;
-use crate::name::Name;
-use crate::timeout::Timeout;
 use std::marker::Model;
-use usb_kernel::KernelStep;
+use usb_kernel::{Bytes, KernelStep};
+use usb_words::{
+    Data, EndpointKind, Errno, FileName, Length, Name, Path, Selector, Target, Timeout,
+};
 
 /// The steps of a line, whose fields are in the ranges of a script. A contract sees the list of
 /// them.
@@ -80,6 +78,63 @@ pub enum Item {
         /// The number of the name `k` of its simulated device.
         device: Name,
         number: u8,
+    },
+    /// `attr PATH NAME VALUE`: the attribute of this folder holds these bytes.
+    Attribute {
+        path: Path,
+        name: FileName,
+        value: Bytes,
+    },
+    /// `deny PATH NAME ERRNO`: reading the attribute of this folder fails so.
+    Denied {
+        path: Path,
+        name: FileName,
+        errno: Errno,
+    },
+    /// `child PATH NAME`: the folder has a sub-folder of this name.
+    Child {
+        path: Path,
+        name: FileName,
+    },
+    /// `link PATH NAME TEXT`: the folder has a symbolic link of this name, with this target.
+    Link {
+        path: Path,
+        name: FileName,
+        target: Target,
+    },
+    /// `entry NAME PATH`: the listing of devices holds this name, which leads to the folder.
+    Entry {
+        name: FileName,
+        path: Path,
+    },
+    /// `root ERRNO`: the listing of devices fails so.
+    Root {
+        errno: Errno,
+    },
+    /// `uevent T VALUE`: a packet of udev, with the groups that its sender sent it to.
+    Uevent {
+        groups: u32,
+        bytes: Bytes,
+    },
+    /// `list`: asks for the devices of the listing.
+    List,
+    /// `buses`: asks for the buses.
+    Buses,
+    /// `probe PATH`: asks what the folder tells of a device.
+    Probe {
+        path: Path,
+    },
+    /// `match PATH SEL`: asks whether the device of the folder is one that is looked for.
+    Match {
+        path: Path,
+        selector: Selector,
+    },
+    /// `hotplug`: looks at the next packet of udev.
+    Hotplug,
+    /// `openpath d PATH`: opens the device of the folder.
+    OpenPath {
+        device: Name,
+        path: Path,
     },
     /// `now`: asks for the time on the clock.
     Now,
@@ -247,17 +302,25 @@ impl Item {
     pub fn is_setup(&self) -> bool
         ensures value { result ≡ is_setup self.now }
     {
-        matches!(self, Item::Device { .. } | Item::Driver { .. })
+        matches!(
+            self,
+            Item::Device { .. }
+                | Item::Driver { .. }
+                | Item::Attribute { .. }
+                | Item::Denied { .. }
+                | Item::Child { .. }
+                | Item::Link { .. }
+                | Item::Entry { .. }
+                | Item::Root { .. }
+                | Item::Uevent { .. }
+        )
     }
 
     /// Whether this is a call, which has an answer: neither a setup line nor steps.
     pub fn is_call(&self) -> bool
         ensures value { result ≡ is_call self.now }
     {
-        !matches!(
-            self,
-            Item::Device { .. } | Item::Driver { .. } | Item::Steps(_)
-        )
+        !self.is_setup() && !matches!(self, Item::Steps(_))
     }
 
     /// How many places of the kernel this may use: one for each of its steps, and one

@@ -2,21 +2,20 @@
 
 ghost use Rattle.std.specs.Prelude.{◌≡◌, ◌≤◌, ◌+◌, length, IfOk};
 ghost use Rattle.std.specs.List.{list_all};
-ghost use Rattle.usb_script.specs.Lines.{is_printable, without_cr, is_skipped};
-ghost use Rattle.usb_script.specs.Fields.{texts};
-ghost use Rattle.usb_script.specs.Outcome.{Gives};
+ghost use Rattle.usb_words.specs.Lines.{is_printable, without_cr, is_skipped};
+ghost use Rattle.usb_words.specs.Fields.{texts};
+ghost use Rattle.usb_words.specs.Outcome.{Gives};
 ghost use Rattle.usb_script.specs.LineForms.{named_of, form_of, item_of, item_reading_of, own_reading_of, reading_of};
 ghost use Rattle.usb_script.specs.ItemKinds.{places_in, places_read};
 
-use crate::fields::{six_words, two_words};
 use crate::item::Item;
-use crate::line_bytes::Data;
-use crate::name::Name;
-use crate::reading::{LineError, Reading};
+use crate::reading::Reading;
 use crate::steps::steps;
 use crate::wait::wait_call;
-use crate::words::{byte, reads, skip_spaces, split_words};
 use std::alloc::Global;
+use usb_words::{
+    Data, LineError, Name, byte, reads, six_words, skip_spaces, split_words, two_words,
+};
 
 /// `! STEP ; ..`, `device k B B B B BYTES`, `driver k B`, or a call
 #[tactic(auto, unfolding(crate::specs::LineForms::named_of))]

@@ -2,17 +2,16 @@
 
 ghost use Rattle.std.specs.Prelude.{◌≡◌, ◌==◌, ◌&&◌, ◌++◌, ◌∷◌, [], OnOk, OnErr, IfErr};
 ghost use Rattle.std.specs.List.{list_any};
-ghost use Rattle.usb_script.specs.declared.reading.LineError.TheVariants.{Memory};
+ghost use Rattle.usb_words.specs.declared.line_error.LineError.TheVariants.{Memory};
 ghost use Rattle.usb_script.specs.declared.reading.Reading.TheVariants.{Read};
 ghost use Rattle.usb_script.specs.Order.{has_name, has_bus_address, is_free_device, may_follow, with_reading};
-ghost use Rattle.usb_script.specs.Outcome.{Gives};
+ghost use Rattle.usb_words.specs.Outcome.{Gives};
 ghost use Rattle.usb_script.specs.Taken.{taken_of};
 
 use crate::item::Item;
-use crate::name::Name;
-use crate::reading::LineError;
 use std::alloc::Global;
 use std::marker::Model;
+use usb_words::{LineError, Name};
 
 /// What a device line takes: its name, and its bus with its address.
 #[derive(Clone, Copy)]
@@ -129,8 +128,7 @@ impl ItemsBefore {
                 address,
                 ..
             } => self.is_free_device(*device, *bus, *address),
-            Item::Driver { .. } => self.are_setup,
-            _ => true,
+            item => !item.is_setup() || self.are_setup,
         }
     }
 

@@ -1,18 +1,20 @@
 //! A whole script.
 
 ghost use Rattle.std.specs.Prelude.{◌≡◌, ◌+◌, ◌<◌, ◌≤◌, ◌∷◌, length, OnOk, IfErr};
-ghost use Rattle.usb_script.specs.Lines.{lines_of};
+ghost use Rattle.usb_words.specs.Lines.{lines_of};
 ghost use Rattle.usb_script.specs.Parse.{with_line, script_of};
-ghost use Rattle.usb_script.specs.Outcome.{Gives, OrMemory, IsParsingError};
+ghost use Rattle.usb_script.specs.Outcome.{OrMemory, IsParsingError};
+ghost use Rattle.usb_words.specs.Outcome.{Gives};
 ghost use Rattle.usb_script.specs.ItemKinds.{place_count};
 
 use crate::error::SessionError;
 use crate::item::Item;
 use crate::line::read_line;
 use crate::order::ItemsBefore;
-use crate::reading::{LineError, Reading};
+use crate::reading::Reading;
 use std::alloc::Global;
 use std::marker::Model;
+use usb_words::LineError;
 
 /// The most bytes that a script has.
 pub const MAX_SCRIPT: usize = 1048576;

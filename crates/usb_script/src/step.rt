@@ -1,18 +1,17 @@
 //! Steps by their first word.
 
 ghost use Rattle.std.specs.Prelude.{IfOk};
-ghost use Rattle.usb_script.specs.Fields.{texts};
-ghost use Rattle.usb_script.specs.Outcome.{Gives};
+ghost use Rattle.usb_words.specs.Fields.{texts};
+ghost use Rattle.usb_words.specs.Outcome.{Gives};
 ghost use Rattle.usb_script.specs.StepForms.{reap_of, endpoint_step_of, step_named, step_of};
 ghost use Rattle.usb_script.specs.StepRanges.{IsStepInRange};
 
-use crate::fields::{no_word, one_word, three_words, two_words};
-use crate::line_bytes::Data;
-use crate::name::Name;
-use crate::reading::LineError;
-use crate::words::{MAX_TIME, call, errno, hex_byte, number, reads};
 use std::alloc::Global;
 use usb_kernel::KernelStep;
+use usb_words::{
+    Data, LineError, MAX_TIME, Name, call, errno, hex_byte, no_word, number, one_word, reads,
+    three_words, two_words,
+};
 
 /// The greatest number of a ticket that a script may name.
 const MAX_TICKET: u64 = 4294967295;

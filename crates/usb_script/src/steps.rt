@@ -1,15 +1,14 @@
 //! The steps of a line.
 
 ghost use Rattle.std.specs.Prelude.{◌≡◌, ◌≤◌, ◌+◌, length, drop, IfOk};
-ghost use Rattle.usb_script.specs.Fields.{texts};
-ghost use Rattle.usb_script.specs.Outcome.{Gives};
+ghost use Rattle.usb_words.specs.Fields.{texts};
+ghost use Rattle.usb_words.specs.Outcome.{Gives};
 ghost use Rattle.usb_script.specs.KernelSteps.{IsFirstPart, steps_of, own_steps_of};
 
 use crate::item::Steps;
-use crate::reading::LineError;
 use crate::step::step;
-use crate::words::reads;
 use std::alloc::Global;
+use usb_words::{LineError, reads};
 
 /// The words before the first semicolon, and what begins with it.
 fn first_part<'w, 'a>(words: &'w [&'a [u8]]) -> (&'w [&'a [u8]], &'w [&'a [u8]])

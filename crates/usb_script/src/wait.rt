@@ -1,22 +1,16 @@
 //! Calls that wait, which may have steps of their own, by their first word.
 
 ghost use Rattle.std.specs.Prelude.{◌≤◌, length, IfOk};
-ghost use Rattle.usb_script.specs.Fields.{texts};
-ghost use Rattle.usb_script.specs.Outcome.{Gives};
+ghost use Rattle.usb_words.specs.Fields.{texts};
+ghost use Rattle.usb_words.specs.Outcome.{Gives};
 ghost use Rattle.usb_script.specs.Waits.{wait_call_of};
 ghost use Rattle.usb_script.specs.ItemKinds.{places_in};
 
-use crate::call::endpoint_call;
-use crate::fields::{three_and_more, two_and_more};
+use crate::endpoint_call::endpoint_call;
 use crate::item::Item;
-use crate::length::Length;
-use crate::line_bytes::Data;
-use crate::name::Name;
-use crate::reading::LineError;
 use crate::steps::own_steps;
-use crate::timeout::Timeout;
-use crate::words::reads;
 use std::alloc::Global;
+use usb_words::{Data, Length, LineError, Name, Timeout, reads, three_and_more, two_and_more};
 
 /// `wait e TIME`, `xferin e N TIME`, `xferout e BYTES TIME`, and steps, or a call that doesn't
 /// wait

@@ -5,7 +5,7 @@ use Rattle.std.specs.Str.{bytes_eq}
 use Rattle.std.specs.Io.KnownBytes.{Appends}
 use Rattle.usb_script.specs.declared.error.SessionError.{SessionError}
 use Rattle.usb_script.specs.declared.error.SessionError.TheVariants.{WriteFault, Memory}
-use Rattle.usb_script.specs.Words.{number_between}
+use Rattle.usb_words.specs.Words.{number_between}
 use Rattle.usb_session.specs.Causes.{Rose, WrotePart}
 
 -- how many transfers the words ask for: `live N`, with N from 1 to 1000

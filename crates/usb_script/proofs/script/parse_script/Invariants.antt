@@ -1,5 +1,5 @@
 use Rattle.std.proofs.Common.{◌≡◌, ◌≤◌, ◌+◌, length, []}
-use Rattle.usb_script.specs.Lines.{lines_of}
+use Rattle.usb_words.specs.Lines.{lines_of}
 use Rattle.usb_script.specs.Parse.{parse_from}
 use Rattle.usb_script.specs.ItemKinds.{place_count}
 use Rattle.usb_script.proofs.script.parse_script.Given as goal

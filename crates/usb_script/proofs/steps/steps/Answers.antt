@@ -2,7 +2,7 @@ use Rattle.std.proofs.Common.{◌≡◌, ◌∷◌, ◌++◌, ◌<◌, [], Some,
 use Rattle.std.proofs.lemmas.Grind.{common_steps}
 use Rattle.std.proofs.lemmas.List.{take_rest}
 use Rattle.usb_simulated.specs.declared.step.KernelStep.{KernelStep}
-use Rattle.usb_script.specs.Fields.{texts}
+use Rattle.usb_words.specs.Fields.{texts}
 use Rattle.usb_script.specs.StepForms.{step_of}
 use Rattle.usb_script.specs.KernelSteps.{steps_of}
 use Rattle.usb_script.proofs.StepsOfLine.{no_front, part_more, behind_part}

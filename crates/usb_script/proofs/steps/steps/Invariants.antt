@@ -1,6 +1,6 @@
 use Rattle.std.proofs.Common.{◌≡◌, ◌≤◌, ◌-◌, length, drop}
 use Rattle.std.specs.List.{All}
-use Rattle.usb_script.specs.Fields.{texts}
+use Rattle.usb_words.specs.Fields.{texts}
 use Rattle.usb_script.specs.StepForms.{step_of}
 use Rattle.usb_script.specs.KernelSteps.{each, parts_of, steps_of}
 use Rattle.usb_script.specs.StepRanges.{IsStepInRange}

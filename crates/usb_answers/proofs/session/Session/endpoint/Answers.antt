@@ -1,6 +1,6 @@
 use Rattle.std.proofs.Common.{◌≡◌, ◌∙◌, ap, map}
 use Rattle.std.specs.Option.{option_map, option_copied}
-use Rattle.usb_script.specs.EndpointKinds.{transfer_type_of, direction_of}
+use Rattle.usb_words.specs.EndpointKinds.{transfer_type_of, direction_of}
 use Rattle.usb_endpoint.specs.AnyEndpoints.{state_of}
 use Rattle.usb_endpoint.specs.EndpointState.{EndpointState}
 use Rattle.usb_answers.specs.Names.{set_name}

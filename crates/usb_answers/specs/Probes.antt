@@ -1,0 +1,26 @@
+-- `probe` and `match`: what a folder of the tree tells of a device, and whether the device is one that is looked for; or the
+-- attribute that gave no value.
+use Rattle.std.specs.Prelude.{ℕ, Bool, List, Result, Ok, Err}
+use Rattle.usb_sysfs.specs.declared.sysfs.SysfsError.{SysfsError}
+use Rattle.usb_enum.specs.Devices.{DeviceFacts}
+use Rattle.usb_enum.specs.Probing.{probe}
+use Rattle.usb_words.specs.declared.selector.Criterion.{Criterion}
+use Rattle.usb_setup.specs.Selecting.{matched}
+use Rattle.usb_listings.specs.Attributes.{match_line, sysfs_line}
+use Rattle.usb_listings.specs.Devices.{info_line}
+use Rattle.usb_answers.specs.State.{State}
+use Rattle.usb_answers.specs.Answer.{Answer, told}
+
+abbrev pub probed : State → Result DeviceFacts SysfsError → Answer
+probed state (Ok device) = told state (info_line device)
+probed state (Err error) = told state (sysfs_line error)
+
+unfoldable pub probe_answer : State → List ℕ → Answer
+probe_answer state path = probed state (probe state.tree path)
+
+abbrev pub looked_for : State → Result Bool SysfsError → Answer
+looked_for state (Ok is_match) = told state (match_line is_match)
+looked_for state (Err error) = told state (sysfs_line error)
+
+unfoldable pub match_answer : State → List ℕ → List Criterion → Answer
+match_answer state path selector = looked_for state (matched state.tree path selector)

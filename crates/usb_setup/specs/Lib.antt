@@ -1,0 +1,3 @@
+pub mod Trees
+pub mod Packets
+pub mod Selecting

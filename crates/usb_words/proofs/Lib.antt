@@ -1,0 +1,3 @@
+mod FirstWord
+pub mod PathLemmas
+pub mod SelectorLemmas

@@ -1,0 +1,9 @@
+pub mod EndpointKinds
+pub mod Fields
+pub mod Letters
+pub mod Lines
+pub mod Outcome
+pub mod Places
+pub mod Selectors
+pub mod Timeouts
+pub mod Words

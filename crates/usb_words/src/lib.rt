@@ -1,0 +1,32 @@
+//! The words of a script, and what each of them spells.
+#![tactic(auto)]
+
+mod endpoint_kind;
+mod error_number;
+mod fields;
+mod length;
+mod line_bytes;
+mod line_error;
+mod name;
+mod places;
+mod selector;
+mod timeout;
+mod words;
+
+pub use endpoint_kind::EndpointKind;
+pub use error_number::Errno;
+pub use fields::{
+    four_words, no_word, one_and_more, one_word, six_words, three_and_more, three_words,
+    two_and_more, two_words,
+};
+pub use length::Length;
+pub use line_bytes::Data;
+pub use line_error::LineError;
+pub use name::Name;
+pub use places::{FileName, Path, Target, value};
+pub use selector::{Criterion, Selector};
+pub use timeout::Timeout;
+pub use words::{
+    MAX_TIME, byte, call, errno, hex_byte, hex_word, number, number_between, reads, skip_spaces,
+    split_words,
+};
