@@ -70,9 +70,6 @@ hex_byte_of (high ∷ low ∷ []) = do
   Some (h * 16 + l)
 hex_byte_of word = None
 
-<<<<<<< HEAD:crates/usb_script/specs/Words.antt
--- the bytes that were read, if they were
-=======
 -- HHHH: a number of 16 bits as four hexadecimal digits, in either case
 unfoldable pub hex_word_of : List ℕ → Option ℕ
 hex_word_of (a ∷ b ∷ c ∷ d ∷ []) = do
@@ -81,7 +78,7 @@ hex_word_of (a ∷ b ∷ c ∷ d ∷ []) = do
   Some (high * 256 + low)
 hex_word_of word = None
 
->>>>>>> 808a506f8d8b7b6c335ec6ac2c07e9db73a91d43:crates/usb_words/specs/Words.antt
+-- the bytes that were read, if they were
 abbrev pub or_none : Result (List ℕ) FromHexError → Option (List ℕ)
 or_none (Ok bytes) = Some bytes
 or_none (Err e) = None
