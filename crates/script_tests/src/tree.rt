@@ -53,7 +53,10 @@ const CALLS: [(&str, usize); 10] = [
     ("probe /a/b", 1),
     ("match /a", 1),
     ("match /a vid 00fF", 1),
-    ("match /a vidpid 0000 ffff class 0a classsub 00 01 classsubproto 00 01 02 serial =x", 1),
+    (
+        "match /a vidpid 0000 ffff class 0a classsub 00 01 classsubproto 00 01 02 serial =x",
+        1,
+    ),
     ("match /a serial - serial 4142 vid 0000", 1),
     ("hotplug", 1),
     ("openpath d63 /a", 1),

@@ -3,8 +3,6 @@ use Rattle.std.proofs.Common.{true, false, ◌≡◌, ◌≢◌, ℕ, ◌<◌, �
 use Rattle.std.specs.Option.{option_map}
 use Rattle.std.proofs.lemmas.Bool.{cases_eq, cases_lt}
 use Rattle.std.proofs.lemmas.Option.{none-some}
-use Rattle.usb_sysfs.specs.Tree.{Tree}
-use Rattle.usb_enum.specs.declared.hotplug.UdevPacket.{UdevPacket}
 use Rattle.usb_endpoint.specs.declared.any_endpoint.AnyEndpoint.{AnyEndpoint}
 use Rattle.usb_endpoint.specs.AnyEndpoints.{state_of}
 use Rattle.usb_device.specs.HostState.{HostState}
@@ -24,7 +22,6 @@ use Rattle.usb_answers.specs.State.{State, kept}
 use Rattle.usb_answers.specs.Closes.{closed}
 use Rattle.usb_answers.specs.Ends.{interface_closed, interfaces_closed, name_closed, devices_closed, endpoints_closed, all_closed, ended}
 use Rattle.usb_answers.specs.SessionState.{SessionState, IsSound}
-use Rattle.usb_answers.specs.SessionFacts.{session_made}
 use Rattle.usb_answers.specs.Relation.{Represents}
 use Rattle.usb_answers.specs.Accounts.{Accounted}
 use Rattle.usb_answers.proofs.AccountLemmas.{accounted-all_closed, accounted-none}
@@ -50,20 +47,20 @@ interface-none s state i r none =
     let here : named state.interfaces i ≡ None = ap (λ (v : SessionState). named v.interfaces i) (sym r.is) ∙ none in
     rw here r
 
-pub close_interface-code : (S : SessionState) (t : Tree) (p : List UdevPacket) (host now : HostState) (ds : List (Option ℕ)) (is after : List (Option InterfaceState)) (es : List (Option AnyEndpoint)) (i : ℕ) (f : InterfaceState) → session_made t p host ds is es ≡ S → named is i ≡ Some f → after ≡ freed is i → now ≡ handle_closed host f.key → (state : State) → Represents S state → Represents (session_made t p now ds after es) (interface_closed state i)
-close_interface-code S t p host now ds is after es i f view was rest closed state r =
-    subst (λ (g : HostState). Represents (session_made t p g ds after es) (interface_closed state i)) (sym closed)
-    (interface-represents (session_made t p host ds is es) state after i f (subst (λ v. Represents v state) (sym view) r) was rest)
+pub close_interface-code : (S s : SessionState) (now : HostState) (after : List (Option InterfaceState)) (i : ℕ) (f : InterfaceState) → s ≡ S → named s.interfaces i ≡ Some f → after ≡ freed s.interfaces i → now ≡ handle_closed s.host f.key → (state : State) → Represents S state → Represents (record s { host = now; interfaces = after }) (interface_closed state i)
+close_interface-code S s now after i f view was rest closed state r =
+    subst (λ (g : HostState). Represents (record s { host = g; interfaces = after }) (interface_closed state i)) (sym closed)
+    (interface-represents s state after i f (subst (λ v. Represents v state) (sym view) r) was rest)
 
 -- nothing was open under the name
-pub interface-nothing : (S : SessionState) (t : Tree) (p : List UdevPacket) (host : HostState) (ds : List (Option ℕ)) (is after : List (Option InterfaceState)) (es : List (Option AnyEndpoint)) (i : ℕ) → session_made t p host ds is es ≡ S → named is i ≡ None → after ≡ freed is i → (state : State) → Represents S state → Represents (session_made t p host ds after es) (interface_closed state i)
-interface-nothing S t p host ds is after es i view none rest state r =
-    subst (λ l. Represents (session_made t p host ds l es) (interface_closed state i)) (sym (rest ∙ freed-none is i none))
-    (interface-none (session_made t p host ds is es) state i (subst (λ v. Represents v state) (sym view) r) none)
+pub interface-nothing : (S s : SessionState) (after : List (Option InterfaceState)) (i : ℕ) → s ≡ S → named s.interfaces i ≡ None → after ≡ freed s.interfaces i → (state : State) → Represents S state → Represents (record s { interfaces = after }) (interface_closed state i)
+interface-nothing S s after i view none rest state r =
+    subst (λ (l : List (Option InterfaceState)). Represents (record s { interfaces = l }) (interface_closed state i)) (sym (rest ∙ freed-none s.interfaces i none))
+    (interface-none s state i (subst (λ v. Represents v state) (sym view) r) none)
 
-pub interface-sound_same : (t : Tree) (p : List UdevPacket) (host : HostState) (ds : List (Option ℕ)) (is after : List (Option InterfaceState)) (es : List (Option AnyEndpoint)) (i : ℕ) → IsSound (session_made t p host ds is es) → named is i ≡ None → after ≡ freed is i → IsSound (session_made t p host ds after es)
-interface-sound_same t p host ds is after es i sound none rest =
-    subst (λ l. IsSound (session_made t p host ds l es)) (sym (rest ∙ freed-none is i none)) sound
+pub interface-sound_same : (s : SessionState) (after : List (Option InterfaceState)) (i : ℕ) → IsSound s → named s.interfaces i ≡ None → after ≡ freed s.interfaces i → IsSound (record s { interfaces = after })
+interface-sound_same s after i sound none rest =
+    subst (λ (l : List (Option InterfaceState)). IsSound (record s { interfaces = l })) (sym (rest ∙ freed-none s.interfaces i none)) sound
 
 -- and devices
 device-represents : (s : SessionState) (state : State) (after : List (Option ℕ)) (d key : ℕ) → Represents s state → named s.devices d ≡ Some key → after ≡ freed s.devices d → Represents (record s { host = device_closed s.host key; devices = after }) (name_closed state d)
@@ -83,19 +80,19 @@ device-none s state d r none =
     let here : named state.devices d ≡ None = ap (λ (v : SessionState). named v.devices d) (sym r.is) ∙ none in
     rw here r
 
-pub close_name-code : (S : SessionState) (host now : HostState) (ds after : List (Option ℕ)) (is : List (Option InterfaceState)) (es : List (Option AnyEndpoint)) (d key : ℕ) → session_made host ds is es ≡ S → named ds d ≡ Some key → after ≡ freed ds d → now ≡ device_closed host key → (state : State) → Represents S state → Represents (session_made now after is es) (name_closed state d)
-close_name-code S host now ds after is es d key view was rest closed state r =
-    subst (λ (g : HostState). Represents (session_made g after is es) (name_closed state d)) (sym closed)
-    (device-represents (session_made host ds is es) state after d key (subst (λ v. Represents v state) (sym view) r) was rest)
+pub close_name-code : (S s : SessionState) (now : HostState) (after : List (Option ℕ)) (d key : ℕ) → s ≡ S → named s.devices d ≡ Some key → after ≡ freed s.devices d → now ≡ device_closed s.host key → (state : State) → Represents S state → Represents (record s { host = now; devices = after }) (name_closed state d)
+close_name-code S s now after d key view was rest closed state r =
+    subst (λ (g : HostState). Represents (record s { host = g; devices = after }) (name_closed state d)) (sym closed)
+    (device-represents s state after d key (subst (λ v. Represents v state) (sym view) r) was rest)
 
-pub device-nothing : (S : SessionState) (host : HostState) (ds after : List (Option ℕ)) (is : List (Option InterfaceState)) (es : List (Option AnyEndpoint)) (d : ℕ) → session_made host ds is es ≡ S → named ds d ≡ None → after ≡ freed ds d → (state : State) → Represents S state → Represents (session_made host after is es) (name_closed state d)
-device-nothing S host ds after is es d view none rest state r =
-    subst (λ l. Represents (session_made host l is es) (name_closed state d)) (sym (rest ∙ freed-none ds d none))
-    (device-none (session_made host ds is es) state d (subst (λ v. Represents v state) (sym view) r) none)
+pub device-nothing : (S s : SessionState) (after : List (Option ℕ)) (d : ℕ) → s ≡ S → named s.devices d ≡ None → after ≡ freed s.devices d → (state : State) → Represents S state → Represents (record s { devices = after }) (name_closed state d)
+device-nothing S s after d view none rest state r =
+    subst (λ (l : List (Option ℕ)). Represents (record s { devices = l }) (name_closed state d)) (sym (rest ∙ freed-none s.devices d none))
+    (device-none s state d (subst (λ v. Represents v state) (sym view) r) none)
 
-pub device-sound_same : (host : HostState) (ds after : List (Option ℕ)) (is : List (Option InterfaceState)) (es : List (Option AnyEndpoint)) (d : ℕ) → IsSound (session_made host ds is es) → named ds d ≡ None → after ≡ freed ds d → IsSound (session_made host after is es)
-device-sound_same host ds after is es d sound none rest =
-    subst (λ l. IsSound (session_made host l is es)) (sym (rest ∙ freed-none ds d none)) sound
+pub device-sound_same : (s : SessionState) (after : List (Option ℕ)) (d : ℕ) → IsSound s → named s.devices d ≡ None → after ≡ freed s.devices d → IsSound (record s { devices = after })
+device-sound_same s after d sound none rest =
+    subst (λ (l : List (Option ℕ)). IsSound (record s { devices = l })) (sym (rest ∙ freed-none s.devices d none)) sound
 
 -- the names below a number are free, and one more
 pub none-more : {X : Type 0} (xs after : List (Option X)) (n : ℕ) → after ≡ freed xs n → ((e : ℕ) → e < n → named xs e ≡ None) → (e : ℕ) → e < n + 1 → named after e ≡ None

@@ -52,7 +52,7 @@ impl Session {
         requires free { is_free self.old.devices name ≡ true }
         ensures answered { Answers self.old self.new line.old line.new result
             (λ state. open_answer state name
-                found.now.numbers.busnum found.now.numbers.address) }
+            found.now.numbers.busnum found.now.numbers.address) }
         ensures spare { self.new.host.kernel.spare ≡ self.old.host.kernel.spare }
     {
         match found.open(*line.allocator(), &mut self.host) {

@@ -11,7 +11,7 @@ returns-in-Err c = record {
 
 pub loop-start-preserved : goal.loop-start-preserved
 loop-start-preserved c =
-    let few = rw (take_rest c.args.words.now (c.loop-start.start + 1), length-drop (c.loop-start.start + 1) c.args.words.now) at c.in-Ok.ensures.within in
-    ( omega (arith, few, c.loop-start-test.true)
-    , one_step c.args.words.now _ c.loop-start.start c.in-Ok.count _ c.loop-start.criteria.items c.push.new.self.items c.in-Ok.criterion _ c.loop-start-test.true (take_rest c.args.words.now (c.loop-start.start + 1)) c.in-Ok.ensures.value c.in_ok-push-in-Ok.ensures.items c.loop-start.invariant.1
+    let few = rw (take_rest c.args.words.now (c.loop-start.start + 1), length-drop (c.loop-start.start + 1) c.args.words.now) at c.in-Ok.ensures.within in (
+      omega (arith, few, c.loop-start-test.true),
+      one_step c.args.words.now _ c.loop-start.start c.in-Ok.count _ c.loop-start.criteria.items c.push.new.self.items c.in-Ok.criterion _ c.loop-start-test.true (take_rest c.args.words.now (c.loop-start.start + 1)) c.in-Ok.ensures.value c.in_ok-push-in-Ok.ensures.items c.loop-start.invariant.1,
     )

@@ -8,12 +8,12 @@ use Rattle.usb_answers.proofs.session.Session.close_name.Goals as goal
 
 pub invariant_of-self : goal.invariant_of-self
 invariant_of-self c =
-    device-sound_same c.self.inside.host c.self.inside.devices.items c.take_at.new.names.items c.self.inside.interfaces.items c.self.inside.endpoints.items c.args.number c.self.invariant
+    device-sound_same (made_of c.self.inside) c.take_at.new.names.items c.args.number c.self.invariant
     (sym c.take_at.ensures.taken ∙ c.in_default.is) c.take_at.ensures.rest
 
 pub returns-in_default-clause-stands : goal.returns-in_default-clause-stands
 returns-in_default-clause-stands c =
-    device-nothing c.args.self.now c.self.inside.host c.self.inside.devices.items c.take_at.new.names.items c.self.inside.interfaces.items c.self.inside.endpoints.items c.args.number c.self.view_is
+    device-nothing c.args.self.now (made_of c.self.inside) c.take_at.new.names.items c.args.number c.self.view_is
     (sym c.take_at.ensures.taken ∙ c.in_default.is) c.take_at.ensures.rest
 
 pub invariant_of-self-2 : goal.invariant_of-self-2
@@ -23,7 +23,7 @@ invariant_of-self-2 c =
 
 pub returns-clause-stands : goal.returns-clause-stands
 returns-clause-stands c =
-    close_name-code c.args.self.now c.self.inside.host c.close.new.host c.self.inside.devices.items c.take_at.new.names.items c.self.inside.interfaces.items c.self.inside.endpoints.items c.args.number c.in-Some.device c.self.view_is
+    close_name-code c.args.self.now (made_of c.self.inside) c.close.new.host c.take_at.new.names.items c.args.number c.in-Some.device c.self.view_is
     (sym c.take_at.ensures.taken ∙ c.in-Some.is) c.take_at.ensures.rest c.close.ensures.closed
 
 pub returns-clause-spare : goal.returns-clause-spare

@@ -5,7 +5,7 @@ use Rattle.usb_answers.proofs.session.Session.list.Goals as goal
 
 pub returns-in-Ok : goal.returns-in-Ok
 returns-in-Ok c = record {
-  answered = answers-same _ _ _ c.self.view_is c.write_devices.ensures.text (λ state r. list-gives (made_of c.self.inside) state _ c.in-Ok.ensures.tried r);
+  answered = answers-same _ _ _ c.self.view_is (rw c.deref.ensures.value at c.write_devices.ensures.text) (λ state r. list-gives (made_of c.self.inside) state _ c.in-Ok.ensures.tried r);
 }
 
 pub returns-in-Err-Cause : goal.returns-in-Err-Cause

@@ -1,6 +1,7 @@
-use Rattle.std.proofs.Common.{ℕ, ◌≡◌, ◌∙◌, ap, Ok, Err}
+use Rattle.std.proofs.Common.{ℕ, ◌≡◌, ◌∙◌, ap, sym, subst, Ok, Err}
+use Rattle.usb_device.specs.HostState.{HostState}
 use Rattle.usb_answers.specs.Names.{set_name, is_free}
-use Rattle.usb_answers.specs.SessionState.{SessionState}
+use Rattle.usb_answers.specs.SessionState.{SessionState, IsSound}
 use Rattle.usb_answers.specs.SessionFacts.{made_of}
 use Rattle.usb_answers.proofs.Answering.{answers}
 use Rattle.usb_answers.proofs.Devices.{open-sound, open-left, open-gives, open-refused, open-spare}
@@ -8,7 +9,7 @@ use Rattle.usb_answers.proofs.session.Session.open_found.Goals as goal
 
 pub invariant_of-self : goal.invariant_of-self
 invariant_of-self c =
-    open-sound (made_of c.self.inside) c.open.new.host c.put_at.new.names.items c.args.name c.in-Ok.device c.args.found.now.numbers.busnum c.args.found.now.numbers.address c.self.invariant c.in-Ok.ensures.host c.in-Ok.ensures.stands
+    open-sound (made_of c.self.inside) c.open.new.host c.put_at.new.names.items c.args.name c.in-Ok.device c.args.found.now.numbers.busnum c.args.found.now.numbers.address c.self.invariant c.in-Ok.ensures.tried c.in-Ok.ensures.host c.in-Ok.ensures.stands
     (ap (λ (v : SessionState). is_free v.devices c.args.name) c.self.view_is ∙ c.requires.free)
     (rw (← c.number.ensures.value) c.put_at.ensures.after)
 
@@ -28,10 +29,12 @@ returns-in-Err-Cause-clause-answered c =
     (λ state r. open-refused (made_of c.self.inside) state c.open.new.host c.args.name c.args.found.now.numbers.busnum c.args.found.now.numbers.address c.in-Err-Cause.error r (ap (λ (v : SessionState). is_free v.devices c.args.name) c.self.view_is ∙ c.requires.free) (rw c.in-Err-Cause.field-0-is at c.in-Err-Cause.ensures.tried) (rw c.in-Err-Cause.field-0-is at c.in-Err-Cause.ensures.host))
 
 pub invariant_of-self-in-Err-Cause : goal.invariant_of-self-in-Err-Cause
-invariant_of-self-in-Err-Cause c = open-left {A = ℕ} (made_of c.self.inside) c.open.new.host c.args.found.now.numbers.busnum c.args.found.now.numbers.address (Err c.in-Err-Cause.field-0) c.self.invariant c.in-Err-Cause.ensures.host
+invariant_of-self-in-Err-Cause c = open-left (made_of c.self.inside) c.open.new.host c.args.found.now.numbers.busnum c.args.found.now.numbers.address c.in-Err-Cause.error c.self.invariant (rw c.in-Err-Cause.field-0-is at c.in-Err-Cause.ensures.tried) (rw c.in-Err-Cause.field-0-is at c.in-Err-Cause.ensures.host)
 
 pub invariant_of-self-in-Err-Memory : goal.invariant_of-self-in-Err-Memory
-invariant_of-self-in-Err-Memory c = open-left {A = ℕ} (made_of c.self.inside) c.open.new.host c.args.found.now.numbers.busnum c.args.found.now.numbers.address (Err c.in-Err-Memory.field-0) c.self.invariant c.in-Err-Memory.ensures.host
+invariant_of-self-in-Err-Memory c =
+    let same = rw c.in-Err-Memory.field-0-is at c.in-Err-Memory.ensures.host in
+    subst (λ (h : HostState). IsSound (record (made_of c.self.inside) { host = h })) (sym same) c.self.invariant
 
 pub returns-in-Err-Cause-clause-spare : goal.returns-in-Err-Cause-clause-spare
 returns-in-Err-Cause-clause-spare c =

@@ -24,7 +24,7 @@ back c =
 
 pub invariant_of-self : goal.invariant_of-self
 invariant_of-self c =
-    interface-sound_same c.self.inside.host c.self.inside.devices.items c.self.inside.interfaces.items c.take_at.new.names.items c.self.inside.endpoints.items c.number-number.result c.self.invariant
+    interface-sound_same (made_of c.self.inside) c.take_at.new.names.items c.number-number.result c.self.invariant
     (sym c.take_at.ensures.taken ∙ c.in_default.is) c.take_at.ensures.rest
 
 pub returns-in_default-clause-answered : goal.returns-in_default-clause-answered
