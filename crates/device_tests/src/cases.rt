@@ -6,7 +6,7 @@ ghost use Rattle.usb_kernel.specs.Steps.{HasErrno};
 
 use crate::answers::{expect_resets, expect_speed};
 use crate::calls::{Answer, Call, expect_answers};
-use crate::claims::{expect_busy, expect_opens, expect_release, expect_texts};
+use crate::claims::{expect_busy, expect_opens, expect_release, expect_room, expect_texts};
 use crate::hosts::{PLAIN, Plug, new_host, packet, reap, refuse};
 use crate::transfers::{
     Transfers, expect_other, expect_packet, expect_polls, expect_timed_out, expect_transfers,
@@ -22,6 +22,7 @@ use usb_kernel::KernelCall;
 pub enum Case {
     /// The device is opened at another address and at its own.
     Opens,
+    Room,
     /// The debug texts of the device and of its interface are written.
     Texts,
     /// An endpoint is closed whose second and third ticket are reaped in this order.
@@ -70,6 +71,7 @@ fn expect_case(rt: &impl Abort, alloc: Global, host: &mut Host, case: Case)
 {
     match case {
         Case::Opens => expect_opens(rt, alloc, host),
+        Case::Room => expect_room(rt, alloc, host),
         Case::Texts => expect_texts(rt, alloc, host),
         Case::Busy(_) => expect_busy(rt, alloc, host),
         Case::Release => expect_release(rt, alloc, host),
@@ -90,7 +92,7 @@ fn steps_of(alloc: Global, case: Case) -> Result<Vec<KernelStep>, NoMemory>
     ensures errnos { IfOk result (λ steps. All HasErrno steps.items) }
 {
     match case {
-        Case::Opens | Case::Texts | Case::Release => Ok(Vec::new(alloc)),
+        Case::Opens | Case::Room | Case::Texts | Case::Release => Ok(Vec::new(alloc)),
         Case::Answers(_, _) | Case::Speed(_, _) => Ok(Vec::new(alloc)),
         Case::Refused(_, _) => refusals(alloc),
         Case::Resets => one_step(alloc, refuse(KernelCall::Reset, 71)),

@@ -39,6 +39,30 @@ fn opens_the_device_of_an_address(rt: HostRuntime) -> Result<(), std::test::Fail
     expect(&rt, rt.alloc(), Case::Opens)
 }
 
+/// For how many open devices there is memory once the device was opened and closed this often.
+fn room_after(alloc: Global, host: &mut Host, times: u8) -> Result<usize, Fail<Error>> {
+    for _ in 0..times {
+        let device = Device::open_at(alloc, host, 1, 6)?;
+        device.close(host);
+    }
+    Ok(host.device_capacity())
+}
+
+pub fn expect_room(rt: &impl Abort, alloc: Global, host: &mut Host) {
+    let once = room_after(alloc, host, 1);
+    let often = room_after(alloc, host, 200);
+    let is_same = match (once, often) {
+        (Ok(once), Ok(often)) => once == often,
+        _ => false,
+    };
+    assert!(rt; is_same);
+}
+
+#[test]
+fn memory_of_a_closed_device_is_used_again(rt: HostRuntime) -> Result<(), std::test::Fail> {
+    expect(&rt, rt.alloc(), Case::Room)
+}
+
 /// The debug text of the device.
 fn device_text(alloc: Global, host: &mut Host) -> Option<String> {
     let device = Device::open_at(alloc, host, 1, 6).ok()?;
