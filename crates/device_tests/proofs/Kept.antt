@@ -28,7 +28,7 @@ use Rattle.usb_device.specs.HostCalls.{host_discarded, host_left, host_halt_clea
 use Rattle.usb_device.specs.TicketEnds.{host_abandoned}
 use Rattle.usb_device.proofs.EndpointCalls.{line-closed, interfaces-closed}
 use Rattle.usb_device.specs.OnInterfaces.{alt_setting_errno, setting_unless, alt_setting_asked, alt_setting_on, alt_setting_set}
-use Rattle.usb_device.specs.declared.opened.OpenDevice.{OpenDevice}
+use Rattle.usb_ledger.specs.declared.opened.OpenDevice.{OpenDevice}
 use Rattle.usb_device.specs.HostState.{HostState}
 use Rattle.usb_device.specs.Opens.{host_opened}
 use Rattle.usb_device.specs.EndpointOpens.{host_asked}
@@ -45,7 +45,7 @@ use Rattle.usb_device.specs.Opens.{open_tried, open_key, opened_by}
 use Rattle.usb_device.specs.InterfaceClaims.{ClaimsInterface, claimed_key, claim_tried, host_claimed}
 use Rattle.usb_device.specs.OnDevices.{configured_unless, set_configuration_errno}
 use Rattle.usb_device.specs.Handles.{device_cloned, device_closed}
-use Rattle.usb_device.specs.Devices.{is_held, device_changed, handle_more, handle_less, interface_more, interface_less}
+use Rattle.usb_ledger.specs.Devices.{is_held, device_changed, handle_more, handle_less, interface_more, interface_less}
 use Rattle.usb_device.specs.EndpointOpens.{with_endpoint}
 use Rattle.usb_device.specs.CallErrors.{Leaves}
 use Rattle.usb_device.proofs.Left.{left}

@@ -8,10 +8,10 @@ use Rattle.usb_registry.specs.History.{value_at}
 use Rattle.usb_registry.proofs.ValueLemmas.{value-within, value-last, value-pushed}
 use Rattle.usb_ledger.specs.OwnerRows.{one_if}
 use Rattle.usb_ledger.proofs.ListLemmas.{count-some}
-use Rattle.usb_device.specs.declared.opened.OpenDevice.{OpenDevice}
+use Rattle.usb_ledger.specs.declared.opened.OpenDevice.{OpenDevice}
 use Rattle.usb_device.specs.HostState.{HostState}
 use Rattle.usb_device.specs.HandleStates.{StandsDevice}
-use Rattle.usb_device.specs.Devices.{if_held, device_changed}
+use Rattle.usb_ledger.specs.Devices.{if_held, device_changed}
 use Rattle.usb_device.proofs.DeviceLemmas.{KeepsOpened, changed-at, changed-other, handle-held, is-changed}
 use Rattle.usb_device.proofs.HeldDevices.{OpensOne}
 use Rattle.usb_answers.specs.Names.{named, is_free, freed, nothing, set_name, something}

@@ -4,7 +4,7 @@ use Rattle.usb_registry.specs.History.{value_at}
 use Rattle.usb_registry.proofs.ValueLemmas.{value-set_same}
 use Rattle.usb_kernel.proofs.Places.{slice_get-set_same}
 use Rattle.usb_lines.specs.Calls.{condition_line}
-use Rattle.usb_device.specs.declared.opened.OpenDevice.{OpenDevice}
+use Rattle.usb_ledger.specs.declared.opened.OpenDevice.{OpenDevice}
 use Rattle.usb_device.specs.HostState.{HostState}
 use Rattle.usb_device.specs.EndpointOpens.{as_asked, host_asked}
 use Rattle.usb_device.proofs.EndpointLemmas.{asked-at}

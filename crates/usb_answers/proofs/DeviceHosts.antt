@@ -12,7 +12,7 @@ use Rattle.usb_kernel.specs.Calls.{errno_of, called, reset_by, after_reset}
 use Rattle.usb_kernel.proofs.Extends.{extends-reset}
 use Rattle.usb_endpoint.specs.EndpointState.{EndpointState}
 use Rattle.usb_endpoint.specs.Handles.{Stands, AreHeld}
-use Rattle.usb_device.specs.declared.opened.OpenDevice.{OpenDevice}
+use Rattle.usb_ledger.specs.declared.opened.OpenDevice.{OpenDevice}
 use Rattle.usb_ledger.specs.Entries.{HostTicket, HostEndpoint}
 use Rattle.usb_device.specs.HostState.{HostState}
 use Rattle.usb_device.specs.HostBus.{bus_of, owner_at, key_at}

@@ -7,7 +7,7 @@ use Rattle.usb_error.specs.ErrorState.{ErrorState}
 use Rattle.usb_lines.specs.Calls.{ok_line, condition_line, error_line}
 use Rattle.usb_bus.specs.BusState.{BusState}
 use Rattle.usb_endpoint.specs.Handles.{Stands}
-use Rattle.usb_device.specs.declared.opened.OpenDevice.{OpenDevice}
+use Rattle.usb_ledger.specs.declared.opened.OpenDevice.{OpenDevice}
 use Rattle.usb_device.specs.HostState.{HostState}
 use Rattle.usb_device.specs.HostBus.{bus_of}
 use Rattle.usb_device.specs.HandleStates.{StandsDevice}

@@ -8,9 +8,9 @@ use Rattle.usb_endpoint.specs.AnyEndpoints.{state_of}
 use Rattle.usb_device.specs.HostState.{HostState}
 use Rattle.usb_device.specs.HostBus.{owner_at}
 use Rattle.usb_device.specs.Handles.{device_closed, handle_closed}
-use Rattle.usb_device.specs.Devices.{is_held}
+use Rattle.usb_ledger.specs.Devices.{is_held}
 use Rattle.usb_device.specs.DeviceLaws.{holds}
-use Rattle.usb_device.specs.declared.opened.OpenDevice.{OpenDevice}
+use Rattle.usb_ledger.specs.declared.opened.OpenDevice.{OpenDevice}
 use Rattle.usb_device.proofs.HostFrames.{uses-discarded, uses-reaped}
 use Rattle.usb_registry.specs.History.{value_at}
 use Rattle.usb_kernel.specs.Tickets.{tickets}

@@ -8,7 +8,7 @@ use Rattle.usb_answers.proofs.CountedDevices.{devices-kept}
 use Rattle.usb_bus.specs.BusState.{BusState}
 use Rattle.usb_error.specs.ErrorState.{ErrorState}
 use Rattle.usb_endpoint.specs.Handles.{Stands}
-use Rattle.usb_device.specs.declared.opened.OpenDevice.{OpenDevice}
+use Rattle.usb_ledger.specs.declared.opened.OpenDevice.{OpenDevice}
 use Rattle.usb_ledger.specs.Entries.{ClaimedInterface, fresh_interface}
 use Rattle.usb_device.specs.HostState.{HostState}
 use Rattle.usb_device.specs.HandleStates.{InterfaceState, StandsInterface}

@@ -4,7 +4,7 @@ use Rattle.usb_registry.specs.History.{value_at}
 use Rattle.usb_desc.specs.declared.error.Fail.{Fail}
 use Rattle.usb_error.specs.ErrorState.{ErrorState}
 use Rattle.usb_lines.specs.Calls.{ok_line, condition_line, error_line}
-use Rattle.usb_device.specs.declared.opened.OpenDevice.{OpenDevice}
+use Rattle.usb_ledger.specs.declared.opened.OpenDevice.{OpenDevice}
 use Rattle.usb_device.specs.HostState.{HostState}
 use Rattle.usb_device.specs.HandleStates.{InterfaceState}
 use Rattle.usb_device.specs.CallErrors.{Leaves}

@@ -18,7 +18,7 @@ use Rattle.usb_endpoint.specs.EndpointState.{EndpointState}
 use Rattle.usb_ledger.specs.Owners.{is_used_among, is_owned_among}
 use Rattle.usb_ledger.specs.Releases.{claim_ended, claim_of}
 use Rattle.usb_device.specs.Releases.{owner_gone, settled}
-use Rattle.usb_device.specs.Devices.{device_changed}
+use Rattle.usb_ledger.specs.Devices.{device_changed}
 use Rattle.usb_kernel.specs.Calls.{called, after_reset}
 use Rattle.usb_device.specs.Opens.{descriptors_tried, open_tried, host_opened, open_key}
 use Rattle.usb_device.specs.InterfaceClaims.{host_claimed}

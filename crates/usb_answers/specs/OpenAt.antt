@@ -2,7 +2,7 @@
 use Rattle.std.specs.Prelude.{ℕ, Option, option_and_then, slice_get}
 use Rattle.std.specs.Option.{option_map}
 use Rattle.usb_registry.specs.History.{value_at}
-use Rattle.usb_device.specs.declared.opened.OpenDevice.{OpenDevice}
+use Rattle.usb_ledger.specs.declared.opened.OpenDevice.{OpenDevice}
 use Rattle.usb_ledger.specs.Entries.{ClaimedInterface}
 use Rattle.usb_device.specs.HandleStates.{InterfaceState}
 use Rattle.usb_answers.specs.Names.{named}

@@ -15,7 +15,7 @@ use Rattle.usb_kernel.proofs.Completions.{tickets-turned, completion-turned, com
 use Rattle.usb_bus.specs.Completions.{transfer_completion}
 use Rattle.usb_bus.specs.Completions.{CompletesOnly}
 use Rattle.usb_ledger.specs.declared.ends.TicketEnd.TheVariants.{Reclaimed}
-use Rattle.usb_device.specs.declared.opened.OpenDevice.{OpenDevice}
+use Rattle.usb_ledger.specs.declared.opened.OpenDevice.{OpenDevice}
 use Rattle.usb_ledger.specs.declared.owners.EndedClaim.{EndedClaim}
 use Rattle.usb_ledger.specs.declared.slot.TicketState.{TicketState}
 use Rattle.usb_ledger.specs.declared.slot.TicketState.TheVariants as slot

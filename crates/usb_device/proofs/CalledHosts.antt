@@ -17,7 +17,7 @@ use Rattle.usb_kernel.proofs.CallsKept.{reset-unplug, refused-reset}
 use Rattle.usb_registry.specs.History.{value_at}
 use Rattle.usb_registry.proofs.ValueLemmas.{set-value_same}
 use Rattle.usb_device.specs.declared.host.Host.TheInside.{Inside}
-use Rattle.usb_device.specs.declared.opened.OpenDevice.{OpenDevice}
+use Rattle.usb_ledger.specs.declared.opened.OpenDevice.{OpenDevice}
 use Rattle.usb_ledger.specs.declared.slot.TicketState.{TicketState}
 use Rattle.usb_ledger.specs.Entries.{ClaimedInterface}
 use Rattle.usb_device.specs.HostState.{HostState}

@@ -21,7 +21,7 @@ use Rattle.usb_endpoint.specs.Closes.{all_discarded, all_abandoned, after_close}
 use Rattle.usb_ledger.specs.declared.ends.TicketEnd.{TicketEnd}
 use Rattle.usb_ledger.specs.declared.ends.TicketEnd.TheVariants.{Taken, Dropped, Reclaimed}
 use Rattle.usb_registry.specs.History.{value_at}
-use Rattle.usb_device.specs.declared.opened.OpenDevice.{OpenDevice}
+use Rattle.usb_ledger.specs.declared.opened.OpenDevice.{OpenDevice}
 use Rattle.usb_ledger.specs.Entries.{HostTicket, HostEndpoint, ClaimedInterface, fresh_interface, HeldBy, Abandoned, Ended}
 use Rattle.usb_device.specs.HostState.{HostState}
 use Rattle.usb_device.specs.Releases.{settled, owner_gone}

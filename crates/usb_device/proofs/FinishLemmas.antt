@@ -32,7 +32,7 @@ use Rattle.std.proofs.Common.{map}
 use Rattle.std.proofs.lemmas.List.{length-map}
 use Rattle.usb_kernel.specs.Value.{KernelState}
 use Rattle.usb_simulated.specs.declared.step.KernelStep.{KernelStep}
-use Rattle.usb_device.specs.declared.opened.OpenDevice.{OpenDevice}
+use Rattle.usb_ledger.specs.declared.opened.OpenDevice.{OpenDevice}
 use Rattle.usb_ledger.specs.declared.slot.TicketState.{TicketState}
 use Rattle.usb_ledger.specs.declared.slot.TicketState.TheVariants as slot
 use Rattle.usb_device.specs.HostFacts.{TicketsAgree, Fits, host_made}

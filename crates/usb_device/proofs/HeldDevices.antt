@@ -13,9 +13,9 @@ use Rattle.usb_kernel.specs.Value.{KernelState}
 use Rattle.usb_ledger.specs.Entries.{ClaimedInterface, fresh_interface}
 use Rattle.usb_ledger.specs.OwnerRows.{one_if}
 use Rattle.usb_ledger.proofs.ListLemmas.{slice_get-set, slice_get-push, count-push, count-some}
-use Rattle.usb_device.specs.declared.opened.OpenDevice.{OpenDevice}
+use Rattle.usb_ledger.specs.declared.opened.OpenDevice.{OpenDevice}
 use Rattle.usb_device.specs.HostState.{HostState, host_of}
-use Rattle.usb_device.specs.Devices.{is_held, if_held, device_changed, handle_more, handle_less, interface_more, interface_less}
+use Rattle.usb_ledger.specs.Devices.{is_held, if_held, device_changed, handle_more, handle_less, interface_more, interface_less}
 use Rattle.usb_device.specs.DeviceLaws.{holds, DevicesAreHeld}
 use Rattle.usb_device.specs.HandleStates.{StandsDevice}
 use Rattle.usb_device.specs.Releases.{owner_gone}

@@ -21,7 +21,7 @@ use Rattle.usb_bus.specs.Holds.{transfer_with}
 use Rattle.usb_bus.specs.Turns.{reap_turn}
 use Rattle.usb_ledger.specs.declared.ends.TicketEnd.{TicketEnd}
 use Rattle.usb_ledger.specs.declared.ends.TicketEnd.TheVariants.{Dropped}
-use Rattle.usb_device.specs.declared.opened.OpenDevice.{OpenDevice}
+use Rattle.usb_ledger.specs.declared.opened.OpenDevice.{OpenDevice}
 use Rattle.usb_ledger.specs.declared.owners.EndedClaim.{EndedClaim}
 use Rattle.usb_ledger.specs.declared.slot.TicketState.{TicketState}
 use Rattle.usb_ledger.specs.declared.slot.TicketState.TheVariants as slot

@@ -2,7 +2,7 @@
 use Rattle.std.proofs.Common.{ℕ, zero, suc, ◌≡◌, ◌≢◌, ◌-◌, Bool, List, [], ◌∷◌, ◌++◌, length, length-set, set, slice_get, Option, Some, None, refl, ◌∙◌, ap, ◌≤◌, arith, Result, Ok, Err, length-append}
 use Rattle.std.proofs.lemmas.Option.{none-some}
 use Rattle.usb_registry.specs.History.{value_at}
-use Rattle.usb_device.specs.declared.opened.OpenDevice.{OpenDevice}
+use Rattle.usb_ledger.specs.declared.opened.OpenDevice.{OpenDevice}
 use Rattle.usb_ledger.specs.Entries.{ClaimedInterface}
 use Rattle.usb_device.specs.HostState.{HostState}
 use Rattle.usb_device.specs.HostBus.{bus_of}
@@ -18,7 +18,7 @@ use Rattle.usb_device.specs.EndpointOpens.{asked_on, host_asked}
 use Rattle.usb_device.specs.HandleStates.{InterfaceState, StandsInterface}
 use Rattle.usb_error.specs.ErrorState.{ErrorState}
 use Rattle.usb_device.specs.Opens.{open_tried, opened_by, host_opened}
-use Rattle.usb_device.specs.Devices.{device_changed, interface_more}
+use Rattle.usb_ledger.specs.Devices.{device_changed, interface_more}
 use Rattle.usb_device.proofs.DeviceLemmas.{KeepsThere, KeepsCounts, counts-same, counts-set, changed-there, held-interface_more, there-push}
 use Rattle.usb_device.proofs.HostKeeps.{KeepsSteps}
 use Rattle.usb_device.proofs.KernelFrames.{kernel_claimed-is}

@@ -6,7 +6,7 @@ use Rattle.usb_simulated.specs.Calls.{attach_rules, with_driver, detach_and_clai
 use Rattle.usb_kernel.specs.Calls.{called}
 use Rattle.usb_kernel.specs.Value.{KernelState}
 use Rattle.usb_kernel.proofs.Answered.{called-is}
-use Rattle.usb_device.specs.declared.opened.OpenDevice.{OpenDevice}
+use Rattle.usb_ledger.specs.declared.opened.OpenDevice.{OpenDevice}
 use Rattle.usb_ledger.specs.declared.owners.EndedClaim.{EndedClaim}
 use Rattle.usb_device.specs.Releases.{released, without_ended}
 use Rattle.usb_device.specs.InterfaceClaims.{kernel_claimed}

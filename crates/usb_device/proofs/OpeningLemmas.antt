@@ -11,7 +11,7 @@ use Rattle.usb_registry.specs.History.{value_at}
 use Rattle.usb_registry.proofs.ValueLemmas.{is-some, value-last}
 use Rattle.std.specs.Prelude.{IsSome}
 use Rattle.std.proofs.lemmas.Bool.{cases_eq}
-use Rattle.usb_device.specs.declared.opened.OpenDevice.{OpenDevice}
+use Rattle.usb_ledger.specs.declared.opened.OpenDevice.{OpenDevice}
 use Rattle.usb_device.specs.HostState.{HostState}
 use Rattle.usb_device.specs.Opens.{descriptors_tried, open_tried, open_key, with_key, host_opened, with_opened, opened_by}
 use Rattle.usb_error.specs.Outcomes.{Tried, result_map}
@@ -22,7 +22,7 @@ use Rattle.usb_ledger.specs.declared.owners.EndedClaim.{EndedClaim}
 use Rattle.usb_ledger.specs.Entries.{ClaimedInterface, fresh_interface}
 use Rattle.usb_device.specs.HostFacts.{host_made}
 use Rattle.usb_device.specs.Handles.{devices_left, handle_closed}
-use Rattle.usb_device.specs.Devices.{device_changed, interface_more}
+use Rattle.usb_ledger.specs.Devices.{device_changed, interface_more}
 use Rattle.usb_device.specs.HandleStates.{StandsDevice, StandsInterface}
 use Rattle.usb_kernel.proofs.Places.{slice_get-append_seam}
 use Rattle.std.proofs.Common.{length-append}

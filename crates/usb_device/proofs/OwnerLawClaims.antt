@@ -18,8 +18,8 @@ use Rattle.usb_kernel.proofs.Places.{slice_get-append_seam}
 use Rattle.usb_error.specs.Errors.{claim_error}
 use Rattle.usb_endpoint.specs.CallErrors.{or_error}
 use Rattle.usb_registry.specs.History.{value_at}
-use Rattle.usb_device.specs.Devices.{device_changed, interface_more}
-use Rattle.usb_device.specs.declared.opened.OpenDevice.{OpenDevice}
+use Rattle.usb_ledger.specs.Devices.{device_changed, interface_more}
+use Rattle.usb_ledger.specs.declared.opened.OpenDevice.{OpenDevice}
 use Rattle.usb_ledger.specs.Entries.{ClaimedInterface, fresh_interface}
 use Rattle.usb_device.specs.HostState.{HostState}
 use Rattle.usb_ledger.specs.Owners.{is_owned_among}

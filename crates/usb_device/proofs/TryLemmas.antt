@@ -9,7 +9,7 @@ use Rattle.usb_kernel.specs.Value.{KernelState}
 use Rattle.usb_kernel.proofs.Answered.{asked-uses_none, opens-use_none, asks-is, opens-is}
 use Rattle.usb_error.specs.ErrorState.{ErrorState}
 use Rattle.usb_error.specs.Errors.{open_error, read_descriptors_error, configuration_error, invalid_device_descriptor_error}
-use Rattle.usb_device.specs.declared.opened.OpenDevice.{OpenDevice}
+use Rattle.usb_ledger.specs.declared.opened.OpenDevice.{OpenDevice}
 use Rattle.usb_endpoint.specs.CallErrors.{or_error}
 use Rattle.usb_device.specs.Tries.{Attempt, ◌>>=◌, going_on, present, giving}
 use Rattle.usb_device.specs.Opens.{device_tried, descriptors_tried, configuration_tried, open_tried}

@@ -3,8 +3,8 @@ use Rattle.std.specs.Prelude.{ℕ, ◌≡◌, ◌<◌, ◌==◌, ◌&&◌, Bool,
 use Rattle.std.specs.List.{count_by}
 use Rattle.usb_registry.specs.History.{value_at}
 use Rattle.usb_ledger.specs.Entries.{ClaimedInterface}
-use Rattle.usb_device.specs.declared.opened.OpenDevice.{OpenDevice}
-use Rattle.usb_device.specs.Devices.{is_held}
+use Rattle.usb_ledger.specs.declared.opened.OpenDevice.{OpenDevice}
+use Rattle.usb_ledger.specs.Devices.{is_held}
 use Rattle.usb_device.specs.HostState.{HostState}
 
 -- whether a claimed interface holds the open device of a key: it was claimed on it, and has an open handle

@@ -15,7 +15,7 @@ use Rattle.usb_error.specs.ErrorState.{ErrorState}
 use Rattle.usb_bus.specs.declared.route.Route.{Route}
 use Rattle.usb_endpoint.specs.EndpointState.{EndpointState}
 use Rattle.usb_registry.specs.History.{value_at}
-use Rattle.usb_device.specs.declared.opened.OpenDevice.{OpenDevice}
+use Rattle.usb_ledger.specs.declared.opened.OpenDevice.{OpenDevice}
 use Rattle.usb_ledger.specs.Entries.{ClaimedInterface}
 use Rattle.usb_device.specs.HostState.{HostState}
 use Rattle.usb_device.specs.Owners.{is_in_use}

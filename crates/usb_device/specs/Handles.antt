@@ -3,8 +3,8 @@ use Rattle.std.specs.Prelude.{ℕ, ◌≡◌, ◌+◌, ◌-◌, Bool, true, fals
 use Rattle.usb_error.specs.ErrorState.{ErrorState}
 use Rattle.usb_error.specs.Errors.{interface_in_use_error}
 use Rattle.usb_ledger.specs.Entries.{ClaimedInterface}
-use Rattle.usb_device.specs.declared.opened.OpenDevice.{OpenDevice}
-use Rattle.usb_device.specs.Devices.{device_changed, handle_more, handle_less, interface_less}
+use Rattle.usb_ledger.specs.declared.opened.OpenDevice.{OpenDevice}
+use Rattle.usb_ledger.specs.Devices.{device_changed, handle_more, handle_less, interface_less}
 use Rattle.usb_device.specs.HostState.{HostState}
 use Rattle.usb_device.specs.HandleStates.{InterfaceState}
 use Rattle.usb_device.specs.Owners.{is_shared}

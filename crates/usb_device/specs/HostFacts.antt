@@ -10,7 +10,7 @@ use Rattle.usb_kernel.specs.Completions.{completion}
 use Rattle.usb_kernel.specs.Steps.{HasErrno}
 use Rattle.usb_bus.specs.Completions.{transfer_completion}
 use Rattle.usb_bus.specs.Holds.{held_of}
-use Rattle.usb_device.specs.declared.opened.OpenDevice.{OpenDevice}
+use Rattle.usb_ledger.specs.declared.opened.OpenDevice.{OpenDevice}
 use Rattle.usb_ledger.specs.declared.slot.TicketState.{TicketState}
 use Rattle.usb_ledger.specs.declared.slot.TicketState.TheVariants as slot
 use Rattle.usb_device.specs.declared.host.Host.TheInside.{Inside}

@@ -3,7 +3,7 @@ use Rattle.std.specs.Prelude.{List, [], Option}
 use Rattle.usb_kernel.specs.Value.{KernelState}
 use Rattle.usb_simulated.specs.declared.step.KernelStep.{KernelStep}
 use Rattle.usb_ledger.specs.Entries.{HostTicket, ClaimedInterface, HostEndpoint}
-use Rattle.usb_device.specs.declared.opened.OpenDevice.{OpenDevice}
+use Rattle.usb_ledger.specs.declared.opened.OpenDevice.{OpenDevice}
 
 -- the kernel; the devices that were opened, with nothing where one is held no more (Devices.antt), the interfaces that were claimed and the
 -- endpoints that were opened, each in this order, in which the n-th, counted from 0, has the key n; what became of each ticket; and

@@ -1,5 +1,4 @@
 pub mod HostState
-pub mod Devices
 pub mod Owners
 pub mod Releases
 pub mod TicketEnds

@@ -12,7 +12,7 @@ use Rattle.usb_error.specs.Errors.{set_configuration_error, detach_error, attach
 use Rattle.usb_error.specs.declared.active.ActiveConfigurationError.{ActiveConfigurationError}
 use Rattle.usb_endpoint.specs.CallErrors.{or_error, or_missing}
 use Rattle.usb_registry.specs.History.{value_at}
-use Rattle.usb_device.specs.declared.opened.OpenDevice.{OpenDevice}
+use Rattle.usb_ledger.specs.declared.opened.OpenDevice.{OpenDevice}
 use Rattle.usb_device.specs.HostState.{HostState}
 use Rattle.usb_device.specs.Speeds.{speed_of_code}
 

@@ -8,7 +8,7 @@ use Rattle.usb_kernel.specs.Calls.{open_answer, after_open, asked, called}
 use Rattle.usb_kernel.specs.Value.{KernelState}
 use Rattle.usb_error.specs.ErrorState.{ErrorState}
 use Rattle.usb_error.specs.Errors.{open_error, read_descriptors_error, configuration_error, invalid_device_descriptor_error}
-use Rattle.usb_device.specs.declared.opened.OpenDevice.{OpenDevice}
+use Rattle.usb_ledger.specs.declared.opened.OpenDevice.{OpenDevice}
 use Rattle.usb_device.specs.HostState.{HostState}
 use Rattle.usb_device.specs.Tries.{Attempt, ◌>>=◌, asking, present, giving}
 

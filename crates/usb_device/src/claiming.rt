@@ -12,10 +12,10 @@ ghost use Rattle.usb_error.specs.Outcomes.{Tried};
 ghost use Rattle.usb_registry.specs.History.{value_at};
 
 use crate::host::{Host, release};
-use crate::opened::OpenDevice;
 use usb_desc::{Fail, NoMemory};
 use usb_error::Error;
 use usb_kernel::Kernel;
+use usb_ledger::OpenDevice;
 use usb_registry::Key;
 
 /// Claims an interface of an open device at the kernel, with its driver detached or as it is.

@@ -8,9 +8,9 @@ ghost use Rattle.usb_device.specs.OnDevices.{detach_tried, host_detached, attach
 ghost use Rattle.usb_device.specs.Speeds.{speed_of_code};
 
 use crate::host::Host;
-use crate::opened::OpenDevice;
 use usb_desc::{ConfigurationDescriptor, find_configuration};
 use usb_error::{ActiveConfigurationError, Error};
+use usb_ledger::OpenDevice;
 use usb_registry::Key;
 use usb_sysfs::Speed;
 

@@ -16,11 +16,11 @@ ghost use Rattle.usb_device.specs.EndpointOpens.{active_value, host_asked, endpo
 ghost use Rattle.usb_error.specs.Outcomes.{Tried};
 
 use crate::host::Host;
-use crate::opened::OpenDevice;
 use usb_bus::Route;
 use usb_desc::{Direction, EndpointDescriptor, Fail, TransferType, find_configuration};
 use usb_error::Error;
 use usb_kernel::Kernel;
+use usb_ledger::OpenDevice;
 use usb_registry::Key;
 
 /// The descriptor of an endpoint of an interface in a setting, in the configuration that the open

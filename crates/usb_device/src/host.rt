@@ -15,7 +15,7 @@ ghost use Rattle.usb_kernel.specs.Steps.{HasErrno};
 ghost use Rattle.usb_bus.specs.Routes.{GoesBy, AsksWhole};
 ghost use Rattle.usb_bus.specs.Holds.{held_at_once};
 ghost use Rattle.usb_bus.specs.Completions.{CompletesOnly};
-ghost use Rattle.usb_device.specs.declared.opened.OpenDevice.{OpenDevice};
+ghost use Rattle.usb_ledger.specs.declared.opened.OpenDevice.{OpenDevice};
 ghost use Rattle.usb_device.specs.HostState.{HostState, host_of};
 ghost use Rattle.usb_ledger.specs.EndedTickets.{end_at};
 ghost use Rattle.usb_device.specs.HostBus.{bus_of, hold_at, owner_at, key_at, host_value};
@@ -29,13 +29,12 @@ ghost use Rattle.usb_ledger.specs.LedgerState.{ticket_key, host_ticket};
 ghost use Rattle.usb_device.specs.Releases.{without_ended};
 ghost use Rattle.usb_device.specs.TicketEnds.{host_ended, host_taken, host_abandoned, came};
 
-use crate::devices::Devices;
 use std::alloc::Global;
 use std::collections::VecDeque;
 use std::marker::Model;
 use usb_bus::{Bus, Route, Turn, completion_from};
 use usb_kernel::{Done, Kernel, KernelStep, Submitted};
-use usb_ledger::{EndedClaim, Ledger, TicketEnd, TicketState};
+use usb_ledger::{Devices, EndedClaim, Ledger, TicketEnd, TicketState};
 use usb_xfer::{Held, Idle, Pending, Slots, TransferData};
 
 /// A kernel, what is open on it, and the steps of a line that are left.

@@ -9,12 +9,10 @@ mod awaiting;
 mod claiming;
 mod configuring;
 mod device;
-mod devices;
 mod endpoints;
 mod future;
 mod host;
 mod laws;
-mod opened;
 mod opening;
 mod settings;
 
@@ -25,7 +23,6 @@ pub use laws::{
     blocking_is_by_steps, claims_are_owned, lines_go_on, tickets_end_once, wait_is_by_steps,
     what_is_reaped_is_dropped,
 };
-pub use opened::OpenDevice;
 pub use settings::AltSettingsOf;
 pub use usb_bus::{Bus, Route, Turn};
 pub use usb_desc::{
@@ -34,7 +31,7 @@ pub use usb_desc::{
 pub use usb_endpoint::{AnyEndpoint, Endpoint, NextComplete};
 pub use usb_error::{ActiveConfigurationError, Error, ErrorKind};
 pub use usb_kernel::{Kernel, KernelStep};
-pub use usb_ledger::TicketEnd;
+pub use usb_ledger::{OpenDevice, TicketEnd};
 pub use usb_sysfs::Speed;
 pub use usb_xfer::{
     Buffer, Bulk, BulkOrInterrupt, Completion, EndpointDirection, EndpointType, In, Interrupt, Out,

@@ -12,11 +12,11 @@ ghost use Rattle.usb_registry.specs.History.{value_at};
 ghost use Rattle.usb_registry.specs.declared.registry.Key.{Key};
 
 use crate::host::Host;
-use crate::opened::OpenDevice;
 use std::alloc::Global;
 use usb_desc::{Configurations, DeviceDescriptor, Fail, NoMemory, concatenated};
 use usb_error::Error;
 use usb_kernel::{Bytes, Kernel};
+use usb_ledger::OpenDevice;
 use usb_registry::Key;
 
 /// All descriptors of a device.

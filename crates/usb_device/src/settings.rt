@@ -10,10 +10,10 @@ ghost use Rattle.usb_device.specs.EndpointOpens.{setting_in};
 ghost use Rattle.usb_device.specs.OnInterfaces.{alt_setting_tried, alt_setting_set, current_setting, settings_in, all_settings};
 
 use crate::host::Host;
-use crate::opened::OpenDevice;
 use std::marker::Model;
 use usb_desc::{AltSettings, InterfaceDescriptor, find_configuration};
 use usb_error::Error;
+use usb_ledger::OpenDevice;
 
 /// The settings of one interface in a configuration, in the order of their descriptors (USB 2.0,
 /// section 9.6.5). A contract sees the list of those that are left.

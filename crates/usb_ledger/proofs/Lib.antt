@@ -1,3 +1,4 @@
+pub mod DeviceLemmas
 pub mod ListLemmas
 pub mod OwnerLemmas
 pub mod LedgerLemmas

@@ -6,3 +6,4 @@ pub mod OwnerRows
 pub mod OwnerFacts
 pub mod LedgerState
 pub mod LedgerFacts
+pub mod Devices

@@ -1,13 +1,17 @@
-//! The ledger of a host: claimed interfaces, their endpoints and the tickets of these, and who owns
-//! what, kept as counts and bits.
+//! The ledger of a host: open devices, claimed interfaces, their endpoints and the tickets of these,
+//! and who owns what, kept as counts and bits.
 #![tactic(auto)]
 
+mod devices;
 mod ends;
 mod ledger;
+mod opened;
 mod owners;
 mod slot;
 
+pub use devices::Devices;
 pub use ends::TicketEnd;
 pub use ledger::{Ending, Ledger};
+pub use opened::OpenDevice;
 pub use owners::{Claim, EndedClaim};
 pub use slot::TicketState;

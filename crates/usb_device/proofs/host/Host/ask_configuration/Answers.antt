@@ -7,7 +7,7 @@ use Rattle.usb_kernel.specs.Calls.{called}
 use Rattle.usb_kernel.specs.Value.{KernelState}
 use Rattle.usb_kernel.proofs.Answered.{asks-is}
 use Rattle.usb_registry.specs.History.{value_at}
-use Rattle.usb_device.specs.declared.opened.OpenDevice.{OpenDevice}
+use Rattle.usb_ledger.specs.declared.opened.OpenDevice.{OpenDevice}
 use Rattle.usb_device.specs.HostFacts.{host_made}
 use Rattle.usb_device.specs.EndpointOpens.{host_asked, active_value}
 use Rattle.usb_ledger.proofs.ListLemmas.{place}

@@ -2,10 +2,10 @@ use Rattle.std.proofs.Common.{arith, ◌≡◌, ◌∙◌, ap, sym, refl, length
 use Rattle.std.proofs.lemmas.Option.{same_Some}
 use Rattle.usb_kernel.specs.Value.{KernelState}
 use Rattle.usb_registry.specs.History.{value_at}
-use Rattle.usb_device.specs.declared.opened.OpenDevice.{OpenDevice}
+use Rattle.usb_ledger.specs.declared.opened.OpenDevice.{OpenDevice}
 use Rattle.usb_ledger.specs.Entries.{fresh_interface}
 use Rattle.usb_device.specs.HostState.{HostState}
-use Rattle.usb_device.specs.Devices.{device_changed, interface_more}
+use Rattle.usb_ledger.specs.Devices.{device_changed, interface_more}
 use Rattle.usb_device.specs.HostFacts.{host_made}
 use Rattle.usb_device.specs.InterfaceClaims.{claim_tried, claimed_key, kernel_claimed}
 use Rattle.usb_ledger.specs.LedgerState.{LedgerState}

@@ -5,7 +5,7 @@ use Rattle.usb_simulated.specs.Calls.{set_configuration_rules, with_configuratio
 use Rattle.usb_kernel.specs.Calls.{errno_of, called}
 use Rattle.usb_kernel.specs.Value.{KernelState}
 use Rattle.usb_registry.specs.History.{value_at}
-use Rattle.usb_device.specs.declared.opened.OpenDevice.{OpenDevice}
+use Rattle.usb_ledger.specs.declared.opened.OpenDevice.{OpenDevice}
 use Rattle.usb_device.specs.HostState.{HostState}
 use Rattle.usb_device.specs.HostFacts.{host_made}
 use Rattle.usb_device.specs.OnDevices.{set_configuration_errno}

@@ -1,7 +1,7 @@
 -- The open devices of a host, and what holds them.
 use Rattle.std.specs.Prelude.{ℕ, ◌+◌, ◌-◌, ◌||◌, Bool, List, set, nat_lt, Option, Some, None, if◌then◌else◌}
 use Rattle.usb_registry.specs.History.{value_at}
-use Rattle.usb_device.specs.declared.opened.OpenDevice.{OpenDevice}
+use Rattle.usb_ledger.specs.declared.opened.OpenDevice.{OpenDevice}
 
 -- an open device is held while a handle of it is open, or one of an interface that was claimed on it
 abbrev pub is_held : OpenDevice → Bool

@@ -1,7 +1,7 @@
 //! What is kept of an open device.
 
 ghost use Rattle.std.specs.Prelude.{◌≡◌};
-ghost use Rattle.usb_device.specs.Devices.{is_held};
+ghost use Rattle.usb_ledger.specs.Devices.{is_held};
 
 use usb_desc::DeviceDescriptor;
 use usb_kernel::Bytes;

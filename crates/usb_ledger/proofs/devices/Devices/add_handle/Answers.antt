@@ -2,10 +2,10 @@ use Rattle.std.proofs.Common.{◌≡◌, ◌∙◌, ◌+◌, sym, ap, Some, None
 use Rattle.std.specs.Prelude.{◌||◌, nat_lt}
 use Rattle.usb_registry.specs.History.{value_at}
 use Rattle.usb_registry.proofs.ValueLemmas.{set-value_same}
-use Rattle.usb_device.specs.declared.opened.OpenDevice.{OpenDevice}
-use Rattle.usb_device.specs.Devices.{device_changed, is_held, handle_more}
-use Rattle.usb_device.proofs.DeviceLemmas.{changed-none, changed-held, held-handle_more}
-use Rattle.usb_device.proofs.devices.Devices.add_handle.Goals as goal
+use Rattle.usb_ledger.specs.declared.opened.OpenDevice.{OpenDevice}
+use Rattle.usb_ledger.specs.Devices.{device_changed, is_held, handle_more}
+use Rattle.usb_ledger.proofs.DeviceLemmas.{changed-none, changed-held, held-handle_more}
+use Rattle.usb_ledger.proofs.devices.Devices.add_handle.Goals as goal
 
 pub returns-in_default-clause-ok : goal.returns-in_default-clause-ok
 returns-in_default-clause-ok c =

@@ -1,9 +1,9 @@
 use Rattle.std.proofs.Common.{◌≡◌, ◌∙◌, sym, ap, Some, None}
 use Rattle.usb_registry.specs.History.{value_at}
-use Rattle.usb_device.specs.Devices.{device_changed, interface_more}
-use Rattle.usb_device.proofs.DeviceLemmas.{changed-none, changed-held, held-interface_more}
-use Rattle.usb_device.proofs.devices.Devices.add_interface.Goals as goal
-use Rattle.usb_device.proofs.devices.Devices.add_interface.Goals.{in-Some, in_default}
+use Rattle.usb_ledger.specs.Devices.{device_changed, interface_more}
+use Rattle.usb_ledger.proofs.DeviceLemmas.{changed-none, changed-held, held-interface_more}
+use Rattle.usb_ledger.proofs.devices.Devices.add_interface.Goals as goal
+use Rattle.usb_ledger.proofs.devices.Devices.add_interface.Goals.{in-Some, in_default}
 
 pub returns : goal.returns
 returns c =

@@ -1,10 +1,10 @@
 use Rattle.std.proofs.Common.{◌≡◌, ◌∙◌, sym, ap, Some, None, true, false, set}
 use Rattle.usb_registry.specs.History.{RegistryState, value_at}
-use Rattle.usb_device.specs.declared.opened.OpenDevice.{OpenDevice}
-use Rattle.usb_device.specs.Devices.{device_changed, is_held, handle_less}
-use Rattle.usb_device.proofs.DeviceLemmas.{changed-none, changed-held, changed-removed}
-use Rattle.usb_device.proofs.devices.Devices.close_handle.Goals as goal
-use Rattle.usb_device.proofs.devices.Devices.close_handle.Goals.{in-Some-1, in-None-1}
+use Rattle.usb_ledger.specs.declared.opened.OpenDevice.{OpenDevice}
+use Rattle.usb_ledger.specs.Devices.{device_changed, is_held, handle_less}
+use Rattle.usb_ledger.proofs.DeviceLemmas.{changed-none, changed-held, changed-removed}
+use Rattle.usb_ledger.proofs.devices.Devices.close_handle.Goals as goal
+use Rattle.usb_ledger.proofs.devices.Devices.close_handle.Goals.{in-Some-1, in-None-1}
 
 pub returns-in_default : goal.returns-in_default
 returns-in_default c =

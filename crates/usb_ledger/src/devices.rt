@@ -3,7 +3,7 @@
 ghost use Rattle.std.specs.Prelude.{◌≡◌, ◌+◌, ◌^◌, ◌<◌, ◌≤◌, ◌++◌, ◌∷◌, [], length, set, true, nat_lt, if◌then◌else◌, Some, IsSome, IfOk, OnOk, OnErr};
 ghost use Rattle.std.specs.Option.{ForSome};
 ghost use Rattle.usb_registry.specs.History.{value_at, live_count};
-ghost use Rattle.usb_device.specs.Devices.{device_changed, handle_more, handle_less, interface_more, interface_less};
+ghost use Rattle.usb_ledger.specs.Devices.{device_changed, handle_more, handle_less, interface_more, interface_less};
 
 use crate::opened::OpenDevice;
 use std::alloc::Global;
@@ -14,13 +14,13 @@ use usb_registry::{Key, Registry};
 /// The open devices, each by its key. One that is held no more goes, and its memory with it. A
 /// contract sees the list of all that were opened, with nothing where one has gone.
 #[derive(Drop)]
-pub(crate) struct Devices {
+pub struct Devices {
     entries: Registry<OpenDevice>,
 }
 
 impl Model for Devices {
     ghost use Rattle.std.specs.Prelude.{List, Option};
-    ghost use Rattle.usb_device.specs.declared.opened.OpenDevice.{OpenDevice};
+    ghost use Rattle.usb_ledger.specs.declared.opened.OpenDevice.{OpenDevice};
 
     ghost Value = { List (Option OpenDevice) };
 
