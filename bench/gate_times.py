@@ -1,8 +1,7 @@
 #!/usr/bin/env python3
 """Runs the gate, and prints a table of the processor minutes that each crate took.
 
-usage: bench/gate_times.py [--anew]     all crates; with --anew also those that an earlier run on this machine proved
-       bench/gate_times.py NAME..       these and those below them
+usage: bench/gate_times.py [WORD..]
 
 The words go to `rt ci`, which is run at the top of the repository, and whose lines are passed through. Its log has no
 times, so the checks that it starts are looked at once a second, in /proc: the processor time of each with all that it
