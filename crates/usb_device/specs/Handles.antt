@@ -14,7 +14,7 @@ use Rattle.usb_device.specs.Releases.{owner_gone}
 abbrev pub device_cloned : HostState → ℕ → HostState
 device_cloned h key = record h { devices = device_changed h.devices key handle_more }
 
--- a handle of an open device is closed. The kernel keeps it open
+-- a handle of an open device is closed. The kernel isn't told: it keeps nothing of who opened a device
 abbrev pub device_closed : HostState → ℕ → HostState
 device_closed h key = record h { devices = device_changed h.devices key handle_less }
 
