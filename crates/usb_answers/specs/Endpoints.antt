@@ -1,4 +1,4 @@
--- `endpoint`: an endpoint of a claimed interface is opened. It is barred where the interface is not claimed, or the endpoint's name is in use.
+-- `endpoint`: an endpoint of a claimed interface is opened. It is barred where the interface is not open, or the endpoint's name is in use.
 use Rattle.std.specs.Prelude.{ℕ, [], length, Result, Ok, Err, if◌then◌else◌}
 use Rattle.usb_desc.specs.declared.types.Direction.{Direction}
 use Rattle.usb_desc.specs.declared.types.TransferType.{TransferType}
