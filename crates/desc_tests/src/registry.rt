@@ -41,19 +41,23 @@ fn a_stale_key_finds_nothing(rt: HostRuntime) -> Result<(), Fail> {
     expect_stale(&rt, &mut texts)
 }
 
-#[test]
-fn memory_is_that_of_what_is_there(rt: HostRuntime) -> Result<(), Fail> {
-    let mut texts = Registry::new(rt.alloc());
-    assert_eq!(rt; texts.capacity(), 0);
-    let first = put(&mut texts, rt.alloc(), 'a')?;
-    let capacity = texts.capacity();
-    assert!(rt; texts.remove(first).is_some());
-    for serial in 1..1000u64 {
-        let key = put(&mut texts, rt.alloc(), 'b')?;
-        assert_eq!(rt; key.serial, serial);
-        assert!(rt; texts.remove(key).is_some());
+/// Puts the next value in and takes it out again: whether it had this serial number.
+fn passes(values: &mut Registry<u64>, serial: u64) -> bool {
+    match values.insert(serial) {
+        Ok(key) => key.serial == serial && values.remove(key) == Some(serial),
+        Err(_) => false,
     }
-    assert_eq!(rt; texts.capacity(), capacity);
-    assert!(rt; texts.is_empty());
-    Ok(())
+}
+
+#[test]
+fn memory_is_that_of_what_is_there(rt: HostRuntime) {
+    let mut values = Registry::new(rt.alloc());
+    assert_eq!(rt; values.capacity(), 0);
+    assert!(rt; passes(&mut values, 0));
+    let capacity = values.capacity();
+    for serial in 1..1000u64 {
+        assert!(rt; passes(&mut values, serial), "{serial}");
+    }
+    assert_eq!(rt; values.capacity(), capacity);
+    assert!(rt; values.is_empty());
 }

@@ -16,6 +16,7 @@ enum Call {
     Detach,
     Attach,
     SetInterface(u8),
+    Claim(u8),
     Release,
 }
 
@@ -26,12 +27,13 @@ fn answer(kernel: &mut Kernel, device: u8, call: Call) -> Result<(), u16> {
         Call::Detach => kernel.detach(device, 0),
         Call::Attach => kernel.attach(device, 0),
         Call::SetInterface(setting) => kernel.set_interface(device, 0, setting),
+        Call::Claim(interface) => kernel.claim(device, interface),
         Call::Release => kernel.release(device, 0),
     }
 }
 
 /// Devices, calls and answers, in order.
-const ROWS: [(u8, Call, Result<(), u16>); 20] = [
+const ROWS: [(u8, Call, Result<(), u16>); 29] = [
     (2, Call::SetConfiguration(1), Err(19)),
     (0, Call::SetConfiguration(7), Err(22)),
     (0, Call::SetConfiguration(0), Ok(())),
@@ -52,6 +54,15 @@ const ROWS: [(u8, Call, Result<(), u16>); 20] = [
     (1, Call::Release, Ok(())),
     (1, Call::Attach, Ok(())),
     (1, Call::Detach, Ok(())),
+    (2, Call::Claim(0), Err(19)),
+    (0, Call::Claim(1), Err(2)),
+    (0, Call::Claim(0), Ok(())),
+    (0, Call::Claim(0), Err(16)),
+    (1, Call::Attach, Ok(())),
+    (1, Call::Claim(0), Err(16)),
+    (0, Call::Release, Ok(())),
+    (2, Call::Release, Err(19)),
+    (0, Call::Claim(0), Ok(())),
 ];
 
 pub fn expect_rows(rt: &impl Abort, kernel: &mut Kernel) {

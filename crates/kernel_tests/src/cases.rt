@@ -2,13 +2,10 @@
 
 use crate::calls::{expect_resets, expect_rows};
 use crate::clocks::{expect_clock, expect_due};
-use crate::devices::{expect_answers, expect_claims};
+use crate::devices::expect_answers;
 use crate::kernels::new_kernel;
 use crate::refusals::{expect_armed, expect_nothing, expect_own_call, expect_refusals};
-use crate::transfers::{
-    expect_acknowledged, expect_failure, expect_lowest, expect_overrun, expect_second_first,
-    expect_short_packet, expect_unplugged,
-};
+use crate::transfers::expect_second_first;
 use std::alloc::Global;
 use std::process::Abort;
 use std::test::Fail;
@@ -26,23 +23,12 @@ pub enum Case {
     Armed,
     OwnCall,
     Nothing,
-    ShortPacket,
     SecondFirst,
-    Overrun,
-    Acknowledgements,
-    Failure,
-    Unplug,
-    Lowest,
 }
 
 fn expect_calls(rt: &impl Abort, alloc: Global, kernel: &mut Kernel) -> Result<(), NoMemory> {
     expect_rows(rt, kernel);
     expect_resets(rt, alloc, kernel)
-}
-
-fn expect_devices(rt: &impl Abort, kernel: &mut Kernel) {
-    expect_answers(rt, kernel);
-    expect_claims(rt, kernel);
 }
 
 fn expect_case(
@@ -56,20 +42,14 @@ fn expect_case(
         Case::Timer => expect_due(rt, alloc, kernel),
         Case::Clock => expect_clock(rt, kernel),
         Case::Devices => {
-            expect_devices(rt, kernel);
+            expect_answers(rt, kernel);
             Ok(())
         }
         Case::Refusals => expect_refusals(rt, alloc, kernel),
         Case::Armed => expect_armed(rt, alloc, kernel),
         Case::OwnCall => expect_own_call(rt, alloc, kernel),
         Case::Nothing => expect_nothing(rt, alloc, kernel),
-        Case::ShortPacket => expect_short_packet(rt, alloc, kernel),
         Case::SecondFirst => expect_second_first(rt, alloc, kernel),
-        Case::Overrun => expect_overrun(rt, alloc, kernel),
-        Case::Acknowledgements => expect_acknowledged(rt, alloc, kernel),
-        Case::Failure => expect_failure(rt, alloc, kernel),
-        Case::Unplug => expect_unplugged(rt, alloc, kernel),
-        Case::Lowest => expect_lowest(rt, alloc, kernel),
     }
 }
 

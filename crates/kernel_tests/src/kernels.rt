@@ -40,24 +40,6 @@ pub fn wanting(alloc: Global, device: u8) -> Result<Submission, NoMemory>
     })
 }
 
-/// A bulk transfer that sends this many bytes.
-pub fn sending(alloc: Global, device: u8, len: u8) -> Result<Submission, NoMemory>
-    ensures whole { IfOk result IsWhole }
-    ensures deadline { IfOk result (λ s. s.deadline ≡ None) }
-{
-    let mut buffer = Buffer::new(alloc, len as usize)?;
-    buffer.extend_fill(len as usize, 7);
-    Ok(Submission {
-        device,
-        endpoint: 0x02,
-        kind: TransferType::Bulk,
-        maximum: 64,
-        deadline: None,
-        setup: None,
-        buffer,
-    })
-}
-
 /// An acknowledgement on endpoint 0x02 of device 0.
 pub const ACK: KernelStep = KernelStep::Ack {
     device: 0,

@@ -6,6 +6,7 @@ mod endpoints;
 mod enumeration;
 mod lines;
 mod live;
+mod steps;
 
 use std::alloc::{AllocError, Global};
 use std::io::{BufWriter, Cursor};

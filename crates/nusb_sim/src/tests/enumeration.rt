@@ -91,3 +91,162 @@ const PACKETS: [(&str, &str, &str); 3] = [
 fn answers_polls_for_devices_that_come_and_go(rt: HostRuntime) -> Result<(), Fail> {
     expect_rows(&rt, rt.alloc(), &[], ("", ""), PACKETS.as_slice())
 }
+
+/// Values of attributes, listings, selectors and packets behind the tree, and what is written for them.
+const READINGS: [(&str, &str, &str); 30] = [
+    (
+        "a version whose parts have a plus",
+        "attr /sys/devices/pci0/usb1/1-6 version 2b312e2b32\nprobe /sys/devices/pci0/usb1/1-6\n",
+        "info 1 6 6 aaaa bbbb 0100 0102 00 00 00 High none 426f78 none 0:ff:00:00:none\n",
+    ),
+    (
+        "a version of three parts",
+        "attr /sys/devices/pci0/usb1/1-6 version 313233342e352e36\nprobe /sys/devices/pci0/usb1/1-6\n",
+        "info 1 6 6 aaaa bbbb 0100 0506 00 00 00 High none 426f78 none 0:ff:00:00:none\n",
+    ),
+    (
+        "a version with a prefix",
+        "attr /sys/devices/pci0/usb1/1-6 version 3078322e30\nprobe /sys/devices/pci0/usb1/1-6\n",
+        "sysfs /sys/devices/pci0/usb1/1-6/version parse 3078322e30\n",
+    ),
+    (
+        "a speed with no name",
+        "attr /sys/devices/pci0/usb1/1-6 speed 34383030\nprobe /sys/devices/pci0/usb1/1-6\n",
+        "info 1 6 6 aaaa bbbb 0100 0200 00 00 00 none none 426f78 none 0:ff:00:00:none\n",
+    ),
+    (
+        "a speed in words",
+        "attr /sys/devices/pci0/usb1/1-6 speed 73757065722b0a\nprobe /sys/devices/pci0/usb1/1-6\n",
+        "info 1 6 6 aaaa bbbb 0100 0200 00 00 00 SuperPlus none 426f78 none 0:ff:00:00:none\n",
+    ),
+    (
+        "a text between spaces",
+        "attr /sys/devices/pci0/usb1/1-6 product 20e280836120620a\nprobe /sys/devices/pci0/usb1/1-6\n",
+        "info 1 6 6 aaaa bbbb 0100 0200 00 00 00 High none 612062 none 0:ff:00:00:none\n",
+    ),
+    (
+        "an empty text",
+        "attr /sys/devices/pci0/usb1/1-6 product 0a\nprobe /sys/devices/pci0/usb1/1-6\n",
+        "info 1 6 6 aaaa bbbb 0100 0200 00 00 00 High none - none 0:ff:00:00:none\n",
+    ),
+    (
+        "a chain of ports",
+        "attr /sys/devices/pci0/usb1/1-6 devpath 312e342e320a\nprobe /sys/devices/pci0/usb1/1-6\n",
+        "info 1 6 1.4.2 aaaa bbbb 0100 0200 00 00 00 High none 426f78 none 0:ff:00:00:none\n",
+    ),
+    (
+        "a chain with an empty part",
+        "attr /sys/devices/pci0/usb1/1-6 devpath 312e2e32\nprobe /sys/devices/pci0/usb1/1-6\n",
+        "info 1 6 - aaaa bbbb 0100 0200 00 00 00 High none 426f78 none 0:ff:00:00:none\n",
+    ),
+    (
+        "a port of two zeros",
+        "attr /sys/devices/pci0/usb1/1-6 devpath 3030\nprobe /sys/devices/pci0/usb1/1-6\n",
+        "info 1 6 0 aaaa bbbb 0100 0200 00 00 00 High none 426f78 none 0:ff:00:00:none\n",
+    ),
+    (
+        "zeros in front",
+        "attr /sys/devices/pci0/usb1/1-6 busnum 30303030303030303030303031300a\nattr /sys/devices/pci0/usb1/1-6 idVendor 30303030303030303030303031300a\nprobe /sys/devices/pci0/usb1/1-6\n",
+        "info 10 6 6 0010 bbbb 0100 0200 00 00 00 High none 426f78 none 0:ff:00:00:none\n",
+    ),
+    (
+        "the root folder",
+        "probe /\n",
+        "sysfs /busnum io 2\n",
+    ),
+    (
+        "a number behind a space",
+        "attr / busnum 20323536\nprobe /\n",
+        "sysfs /busnum parse 20323536\n",
+    ),
+    (
+        "bytes that are no text",
+        "attr / busnum ff\nprobe /\n",
+        "sysfs /busnum io 84\n",
+    ),
+    (
+        "an attribute that is denied after it was set",
+        "attr / busnum 31\ndeny / busnum 13\nprobe /\n",
+        "sysfs /busnum io 13\n",
+    ),
+    (
+        "entries that are set again keep their places",
+        "entry 1-7 /sys/devices/pci0/usb1\nentry 1-6 /sys/devices/pci0/usb1\nentry 1-7 /sys/devices/pci0/usb1/1-6\nchild /sys/devices/pci0/usb1/1-6 1-6:1.0\nlist\nprobe /sys/devices/pci0/usb1/1-6\n",
+        "list 2 1:1 1:6\ninfo 1 6 6 aaaa bbbb 0100 0200 00 00 00 High none 426f78 none 0:ff:00:00:none\n",
+    ),
+    (
+        "a listing that fails otherwise",
+        "root 2\nroot 5\nbuses\n",
+        "error Other failed to open /sys/bus/usb/devices/ (errno 5)\n",
+    ),
+    (
+        "interfaces by number and then by folder",
+        "child /sys/devices/pci0/usb1/1-6 z:0\nattr /sys/devices/pci0/usb1/1-6/z:0 bInterfaceNumber 3032\nattr /sys/devices/pci0/usb1/1-6/z:0 bInterfaceClass 3031\nattr /sys/devices/pci0/usb1/1-6/z:0 bInterfaceSubClass 3030\nattr /sys/devices/pci0/usb1/1-6/z:0 bInterfaceProtocol 3030\nattr /sys/devices/pci0/usb1/1-6/z:0 interface 7a3a30\nchild /sys/devices/pci0/usb1/1-6 b:0\nattr /sys/devices/pci0/usb1/1-6/b:0 bInterfaceNumber 3031\nattr /sys/devices/pci0/usb1/1-6/b:0 bInterfaceClass 3032\nattr /sys/devices/pci0/usb1/1-6/b:0 bInterfaceSubClass 3030\nattr /sys/devices/pci0/usb1/1-6/b:0 bInterfaceProtocol 3030\nattr /sys/devices/pci0/usb1/1-6/b:0 interface 623a30\nchild /sys/devices/pci0/usb1/1-6 a:0\nattr /sys/devices/pci0/usb1/1-6/a:0 bInterfaceNumber 30783031\nattr /sys/devices/pci0/usb1/1-6/a:0 bInterfaceClass 3033\nattr /sys/devices/pci0/usb1/1-6/a:0 bInterfaceSubClass 3030\nattr /sys/devices/pci0/usb1/1-6/a:0 bInterfaceProtocol 3030\nattr /sys/devices/pci0/usb1/1-6/a:0 interface 613a30\nchild /sys/devices/pci0/usb1/1-6 power\nchild /sys/devices/pci0/usb1/1-6 c:0\nprobe /sys/devices/pci0/usb1/1-6\n",
+        "info 1 6 6 aaaa bbbb 0100 0200 00 00 00 High none 426f78 none 0:ff:00:00:none 1:03:00:00:613a30 1:02:00:00:623a30 2:01:00:00:7a3a30\n",
+    ),
+    (
+        "what selectors ask",
+        "attr /sys/devices/pci0/usb1/1-6 serial 31320a\nmatch /sys/devices/pci0/usb1/1-6\nmatch /sys/devices/pci0/usb1/1-6 vid aaaa\nmatch /sys/devices/pci0/usb1/1-6 vidpid aaaa bbbc\nmatch /sys/devices/pci0/usb1/1-6 class 00\nmatch /sys/devices/pci0/usb1/1-6 class ff\nmatch /sys/devices/pci0/usb1/1-6 class 03\nmatch /sys/devices/pci0/usb1/1-6 classsub ff 00\nmatch /sys/devices/pci0/usb1/1-6 classsubproto ff 00 01\nmatch /sys/devices/pci0/usb1/1-6 serial =12\nmatch /sys/devices/pci0/usb1/1-6 serial 31320a\n",
+        "match true\nmatch true\nmatch false\nmatch true\nmatch true\nmatch false\nmatch true\nmatch false\nmatch true\nmatch false\n",
+    ),
+    (
+        "a bus driven by ehci-pci",
+        "link /sys/devices/pci0 driver ../bus/pci/drivers/ehci-pci\nbuses\n",
+        "buses 1 1:EHCI:ehci-pci:78484349\n",
+    ),
+    (
+        "a bus driven by OHCI",
+        "link /sys/devices/pci0 driver ../bus/pci/drivers/OHCI\nbuses\n",
+        "buses 1 1:OHCI:OHCI:78484349\n",
+    ),
+    (
+        "a bus driven by uhci_hcd",
+        "link /sys/devices/pci0 driver ../bus/pci/drivers/uhci_hcd\nbuses\n",
+        "buses 1 1:UHCI:uhci_hcd:78484349\n",
+    ),
+    (
+        "a bus driven by vhci_hcd.0",
+        "link /sys/devices/pci0 driver ../bus/pci/drivers/vhci_hcd.0\nbuses\n",
+        "buses 1 1:VHCI:vhci_hcd.0:78484349\n",
+    ),
+    (
+        "a bus driven by hci",
+        "link /sys/devices/pci0 driver ../bus/pci/drivers/hci\nbuses\n",
+        "buses 1 1:none:hci:78484349\n",
+    ),
+    (
+        "a bus driven by hci_xhci",
+        "link /sys/devices/pci0 driver ../bus/pci/drivers/hci_xhci\nbuses\n",
+        "buses 1 1:none:hci_xhci:78484349\n",
+    ),
+    (
+        "a bus driven by dwc2",
+        "link /sys/devices/pci0 driver ../bus/pci/drivers/dwc2\nbuses\n",
+        "buses 1 1:none:dwc2:78484349\n",
+    ),
+    (
+        "a bus driven by ahci_xhci",
+        "link /sys/devices/pci0 driver ../bus/pci/drivers/ahci_xhci\nbuses\n",
+        "buses 1 1:none:ahci_xhci:78484349\n",
+    ),
+    (
+        "properties of which the last counts",
+        "uevent 2 6c69627564657600feedcafe18000000180000002f000000414354494f4e3d72656d6f7665004255534e554d3d303031004445564e554d3d30303600444556504154483d2f6400\nuevent 2 6c69627564657600feedcafe180000001800000053000000414354494f4e3d72656d6f766500414354494f4e3d616464004255534e554d3d31004445564e554d3d37004445564e554d3d3600444556504154483d2f2f646576696365732f706369302f757362312f312d36\nhotplug\nhotplug\nhotplug\n",
+        "disconnected 1 6\nconnected 1 6 6 aaaa bbbb 0100 0200 00 00 00 High none 426f78 none 0:ff:00:00:none\npending\n",
+    ),
+    (
+        "packets of other groups, lengths, subsystems, types and actions",
+        "uevent 1 6c69627564657600feedcafe18000000180000002f000000414354494f4e3d72656d6f7665004255534e554d3d303031004445564e554d3d30303600444556504154483d2f6400\nuevent 2 6c69627564657600feedcafe180000001800000030000000414354494f4e3d72656d6f7665004255534e554d3d303031004445564e554d3d30303600444556504154483d2f6400\nuevent 2 6c69627564657600feedcafe18000000180000003800000053554253595354454d3d6e657400414354494f4e3d72656d6f7665004255534e554d3d31004445564e554d3d3600444556504154483d2f64\nuevent 2 6c69627564657600feedcafe180000001800000040000000444556545950453d7573625f696e7465726661636500414354494f4e3d72656d6f7665004255534e554d3d31004445564e554d3d3600444556504154483d2f64\nuevent 2 6c69627564657600feedcafe180000001800000038000000414354494f4e3d6368616e676500414354494f4e3d72656d6f7665004255534e554d3d31004445564e554d3d3600444556504154483d2f64\nuevent 2 6c69627564657600feedcafe180000001800000033000000414354494f4e3d72656d6f7665004255534e554d3d31004255534e554d3d78004445564e554d3d3600444556504154483d2f64\nuevent 2 6c69627564657600feedcafe18000000180000002b000000414354494f4e3d72656d6f7665004255534e554d3d31004445564e554d3d360044455650415448ff3d2f64\nuevent 2 6c69627564657600feedcafe18000000180000002d000000414354494f4e3d616464004255534e554d3d31004445564e554d3d3600444556504154483d2f6e6f7768657265\nhotplug\nhotplug\nhotplug\nhotplug\nhotplug\nhotplug\nhotplug\nhotplug\n",
+        "pending\npending\npending\npending\npending\npending\npending\npending\n",
+    ),
+    (
+        "the nine numbers alone",
+        "attr /x busnum 33\nattr /x devnum 37\nattr /x idVendor 31643662\nattr /x idProduct 30303032\nattr /x bcdDevice 30313030\nattr /x version 312e3130\nattr /x bDeviceClass 3039\nattr /x bDeviceSubClass 3030\nattr /x bDeviceProtocol 3031\nprobe /x\n",
+        "info 3 7 - 1d6b 0002 0100 0110 09 00 01 none none none none\n",
+    ),
+];
+
+#[test]
+fn values_listings_selectors_and_packets(rt: HostRuntime) -> Result<(), Fail> {
+    expect_rows(&rt, rt.alloc(), &[], TREE, READINGS.as_slice())
+}
