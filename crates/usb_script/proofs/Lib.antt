@@ -1,6 +1,5 @@
 pub mod FirstLine
 pub mod OnLiterals
 pub mod ParseOn
-pub mod StepsOfLine
 pub mod TakenLemmas
 mod WorkedScripts

@@ -9,8 +9,8 @@ use Rattle.usb_script.specs.TreeLines.{tree_call_of, listing_line_of, tree_line_
 use Rattle.usb_words.specs.Places.{path_of, file_name_of, target_of, value_of}
 use Rattle.usb_words.specs.Selectors.{named_criterion, selector_of}
 use Rattle.usb_script.specs.Waits.{wait_call_of}
-use Rattle.usb_script.specs.StepForms.{reap_of, endpoint_step_of, step_named, step_of}
-use Rattle.usb_script.specs.KernelSteps.{parts_of, steps_of, own_steps_of}
+use Rattle.usb_steps.specs.StepForms.{reap_of, endpoint_step_of, step_named, step_of}
+use Rattle.usb_steps.specs.KernelSteps.{parts_of, steps_of, own_steps_of}
 use Rattle.usb_script.specs.LineForms.{named_of, form_of, item_of, item_reading_of, own_reading_of, reading_of}
 use Rattle.usb_script.specs.Order.{is_free_device, may_follow}
 use Rattle.usb_script.specs.Parse.{parse, script_of}

@@ -2,14 +2,11 @@ pub mod Calls
 pub mod EndpointCalls
 pub mod ErrorText
 pub mod ItemKinds
-pub mod KernelSteps
 pub mod LineForms
 pub mod Order
 pub mod Outcome
 pub mod Parse
 pub mod ScriptFacts
-pub mod StepForms
-pub mod StepRanges
 pub mod Taken
 pub mod TreeLines
 pub mod Waits

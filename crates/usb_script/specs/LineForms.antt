@@ -10,7 +10,7 @@ use Rattle.usb_words.specs.Lines.{words_of, is_printable, without_cr, is_skipped
 use Rattle.usb_words.specs.Words.{◌>>=◌, number_of, name_of, bytes_of}
 use Rattle.usb_words.specs.Fields.{Word, two, six}
 use Rattle.usb_words.specs.Letters.{simulated_letter}
-use Rattle.usb_script.specs.KernelSteps.{steps_of}
+use Rattle.usb_steps.specs.KernelSteps.{steps_of}
 use Rattle.usb_script.specs.Waits.{wait_call_of}
 
 -- `! STEP ; ..`, `device k B B B B BYTES`, `driver k B`, calls, and lines on the tree of attributes

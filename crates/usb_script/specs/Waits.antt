@@ -7,7 +7,7 @@ use Rattle.usb_script.specs.declared.item.Item.TheVariants.{Wait, TransferIn, Tr
 use Rattle.usb_words.specs.Words.{◌>>=◌, number_of, time_of, name_of, bytes_of}
 use Rattle.usb_words.specs.Fields.{Word, two_and_more, three_and_more}
 use Rattle.usb_script.specs.EndpointCalls.{endpoint_call_of}
-use Rattle.usb_script.specs.KernelSteps.{own_steps_of}
+use Rattle.usb_steps.specs.KernelSteps.{own_steps_of}
 use Rattle.usb_words.specs.Letters.{endpoint_letter}
 
 -- two words or three, each with its own reading, and then the steps of the call, if there are any

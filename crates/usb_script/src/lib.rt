@@ -9,14 +9,13 @@ mod line;
 mod order;
 mod reading;
 mod script;
-mod step;
-mod steps;
 mod tree_line;
 mod wait;
 
 pub use error::SessionError;
-pub use item::{Item, Steps};
+pub use item::Item;
 pub use script::{MAX_SCRIPT, Script, parse_script};
+pub use usb_steps::Steps;
 pub use usb_words::{
     Criterion, Data, EndpointKind, Errno, FileName, Length, Name, Path, Selector, Target, Timeout,
     number_between,

@@ -10,9 +10,9 @@ ghost use Rattle.usb_script.specs.ItemKinds.{places_in, places_read};
 
 use crate::item::Item;
 use crate::reading::Reading;
-use crate::steps::steps;
 use crate::wait::wait_call;
 use std::alloc::Global;
+use usb_steps::steps;
 use usb_words::{
     Data, LineError, Name, byte, reads, six_words, skip_spaces, split_words, two_words,
 };

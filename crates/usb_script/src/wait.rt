@@ -8,8 +8,8 @@ ghost use Rattle.usb_script.specs.ItemKinds.{places_in};
 
 use crate::endpoint_call::endpoint_call;
 use crate::item::Item;
-use crate::steps::own_steps;
 use std::alloc::Global;
+use usb_steps::own_steps;
 use usb_words::{Data, Length, LineError, Name, Timeout, reads, three_and_more, two_and_more};
 
 /// `wait e TIME`, `xferin e N TIME`, `xferout e BYTES TIME`, and steps, or a call that doesn't

@@ -3,8 +3,8 @@
 ghost use Rattle.std.specs.Prelude.{IfOk};
 ghost use Rattle.usb_words.specs.Fields.{texts};
 ghost use Rattle.usb_words.specs.Outcome.{Gives};
-ghost use Rattle.usb_script.specs.StepForms.{reap_of, endpoint_step_of, step_named, step_of};
-ghost use Rattle.usb_script.specs.StepRanges.{IsStepInRange};
+ghost use Rattle.usb_steps.specs.StepForms.{reap_of, endpoint_step_of, step_named, step_of};
+ghost use Rattle.usb_steps.specs.StepRanges.{IsStepInRange};
 
 use std::alloc::Global;
 use usb_kernel::KernelStep;

@@ -3,10 +3,10 @@ use Rattle.std.proofs.lemmas.Grind.{common_steps}
 use Rattle.std.proofs.lemmas.List.{take_rest}
 use Rattle.usb_simulated.specs.declared.step.KernelStep.{KernelStep}
 use Rattle.usb_words.specs.Fields.{texts}
-use Rattle.usb_script.specs.StepForms.{step_of}
-use Rattle.usb_script.specs.KernelSteps.{steps_of}
-use Rattle.usb_script.proofs.StepsOfLine.{no_front, part_more, behind_part}
-use Rattle.usb_script.proofs.steps.steps.Goals as goal
+use Rattle.usb_steps.specs.StepForms.{step_of}
+use Rattle.usb_steps.specs.KernelSteps.{steps_of}
+use Rattle.usb_steps.proofs.StepsOfLine.{no_front, part_more, behind_part}
+use Rattle.usb_steps.proofs.line.steps.Goals as goal
 
 pub parts-init : goal.parts-init
 parts-init c = rw c.new-steps.ensures.items (record {

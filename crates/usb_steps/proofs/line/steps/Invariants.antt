@@ -1,11 +1,11 @@
 use Rattle.std.proofs.Common.{◌≡◌, ◌≤◌, ◌-◌, length, drop}
 use Rattle.std.specs.List.{All}
 use Rattle.usb_words.specs.Fields.{texts}
-use Rattle.usb_script.specs.StepForms.{step_of}
-use Rattle.usb_script.specs.KernelSteps.{each, parts_of, steps_of}
-use Rattle.usb_script.specs.StepRanges.{IsStepInRange}
-use Rattle.usb_script.proofs.StepsOfLine.{behind}
-use Rattle.usb_script.proofs.steps.steps.Given as goal
+use Rattle.usb_steps.specs.StepForms.{step_of}
+use Rattle.usb_steps.specs.KernelSteps.{each, parts_of, steps_of}
+use Rattle.usb_steps.specs.StepRanges.{IsStepInRange}
+use Rattle.usb_steps.proofs.StepsOfLine.{behind}
+use Rattle.usb_steps.proofs.line.steps.Given as goal
 
 abbrev pub invariant-parts : goal.invariant-parts
 invariant-parts l = record {

@@ -1,6 +1,6 @@
 use Rattle.std.proofs.Common.{[], arith, rules}
-use Rattle.usb_script.proofs.StepsOfLine.{first_part_at}
-use Rattle.usb_script.proofs.steps.first_part.Goals as goal
+use Rattle.usb_steps.proofs.StepsOfLine.{first_part_at}
+use Rattle.usb_steps.proofs.line.first_part.Goals as goal
 
 pub returns-then-reads-clause-parts : goal.returns-then-reads-clause-parts
 returns-then-reads-clause-parts c =

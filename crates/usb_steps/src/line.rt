@@ -3,9 +3,9 @@
 ghost use Rattle.std.specs.Prelude.{◌≡◌, ◌≤◌, ◌+◌, length, drop, IfOk};
 ghost use Rattle.usb_words.specs.Fields.{texts};
 ghost use Rattle.usb_words.specs.Outcome.{Gives};
-ghost use Rattle.usb_script.specs.KernelSteps.{IsFirstPart, steps_of, own_steps_of};
+ghost use Rattle.usb_steps.specs.KernelSteps.{IsFirstPart, steps_of, own_steps_of};
 
-use crate::item::Steps;
+use crate::kernel_steps::Steps;
 use crate::step::step;
 use std::alloc::Global;
 use usb_words::{LineError, reads};

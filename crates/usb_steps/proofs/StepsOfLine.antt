@@ -4,8 +4,8 @@ use Rattle.std.proofs.lemmas.List.{drop-map}
 use Rattle.usb_simulated.specs.declared.step.KernelStep.{KernelStep}
 use Rattle.usb_words.specs.Words.{◌>>=◌}
 use Rattle.usb_words.specs.Fields.{Word, texts}
-use Rattle.usb_script.specs.StepForms.{step_of}
-use Rattle.usb_script.specs.KernelSteps.{each, is_semicolon, parts_of, IsFirstPart, steps_of}
+use Rattle.usb_steps.specs.StepForms.{step_of}
+use Rattle.usb_steps.specs.KernelSteps.{each, is_semicolon, parts_of, IsFirstPart, steps_of}
 
 -- a word before the first semicolon
 onto_part : (word : Word) (words part after : List Word) → is_semicolon word ≡ false → IsFirstPart words part after → IsFirstPart (word ∷ words) (word ∷ part) after

@@ -5,7 +5,7 @@ use Rattle.std.specs.Str.{bytes_eq}
 use Rattle.usb_simulated.specs.declared.step.KernelStep.{KernelStep}
 use Rattle.usb_words.specs.Words.{◌>>=◌}
 use Rattle.usb_words.specs.Fields.{Word}
-use Rattle.usb_script.specs.StepForms.{step_of}
+use Rattle.usb_steps.specs.StepForms.{step_of}
 
 -- all of these, or nothing
 abbrev pub each : {A B : Type 0} → (A → Option B) → List A → Option (List B)

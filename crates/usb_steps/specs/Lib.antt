@@ -1,0 +1,3 @@
+pub mod KernelSteps
+pub mod StepForms
+pub mod StepRanges
