@@ -1,10 +1,11 @@
 //! How a writer takes the fronts of its queue.
 
-ghost use Rattle.std.specs.Prelude.{◌≡◌, ◌<◌, true, length, OnOk, IfErr};
+ghost use Rattle.std.specs.Prelude.{◌≡◌, ◌<◌, [], true, length, OnOk, IfErr};
 ghost use Rattle.usb_endpoint.specs.Handles.{Stands, KeepsOthers};
 ghost use Rattle.usb_io.specs.Reads.{bus_calls};
 ghost use Rattle.usb_io.specs.Fronts.{CameOne, waits_on, DrainedAll, DrainFault};
 ghost use Rattle.usb_io.specs.Writers.{writing, with_taken};
+ghost use Rattle.usb_io.specs.Carried.{TellsOn};
 
 use crate::fault::WriteFault;
 use crate::writer::EndpointWrite;
@@ -45,6 +46,7 @@ impl<T: BulkOrInterrupt> EndpointWrite<T> {
             timeout (writing bus.old self.old) (writing bus.new self.new) result }
         ensures rest { self.new.endpoint
             ≡ record self.old.endpoint { pending = self.new.endpoint.pending } }
+        ensures tells { TellsOn (B.state bus.old) (B.state bus.new) self.old self.new [] }
         ensures stands { Stands (B.state bus.new) self.new.endpoint }
         ensures others { KeepsOthers (B.state bus.old) (B.state bus.new) self.old.endpoint.key }
     {
@@ -84,6 +86,7 @@ impl<T: BulkOrInterrupt> EndpointWrite<T> {
         ensures failed { IfErr result
             (DrainFault (bus_calls B.state B.submitted B.refused B.turned B.turn_of B.taken)
             flushing timeout (writing bus.old self.old) (writing bus.new self.new)) }
+        ensures tells { TellsOn (B.state bus.old) (B.state bus.new) self.old self.new [] }
         ensures key { self.new.endpoint.key ≡ self.old.endpoint.key }
         ensures stands { Stands (B.state bus.new) self.new.endpoint }
         ensures others { KeepsOthers (B.state bus.old) (B.state bus.new) self.old.endpoint.key }

@@ -1,22 +1,38 @@
 //! The writes and flushes of a writer.
 
-ghost use Rattle.std.specs.Prelude.{◌≡◌, ◌+◌, ◌≤◌, true, false, length, IfOk, IfErr, OnOk, OnErr};
+ghost use Rattle.std.specs.Prelude.{◌≡◌, ◌+◌, ◌<◌, ◌≤◌, ◌++◌, [], true, false, length, take, unwrap_or, None, IfOk, IfErr, OnOk, OnErr};
 ghost use Rattle.usb_endpoint.specs.Handles.{Stands, KeepsOthers};
 ghost use Rattle.usb_endpoint.specs.Polls.{IfReady, IfPending};
 ghost use Rattle.usb_io.specs.Answers.{FailsBy};
 ghost use Rattle.usb_io.specs.Reads.{bus_calls};
 ghost use Rattle.usb_io.specs.Fronts.{waits_on, DrainedAll, DrainMissed, DrainFault};
-ghost use Rattle.usb_io.specs.Writers.{writing, not_begun, sent, sent_end, end_need, EndShort};
+ghost use Rattle.usb_io.specs.Writers.{writing, out_buffer, not_begun, sent, sent_end, end_need, EndShort};
 ghost use Rattle.usb_io.specs.WriteAnswers.{accepts, accepted_count, AcceptsNone, Wrote, IsWriteError, IsWrittenInTime, begun_end, PolledEnd, PolledEndFailed, PolledEndShort};
+ghost use Rattle.usb_io.specs.Carried.{CarriesOn, full_bytes, written_calls, poll_written_calls, flushed_calls, poll_flushed_calls, TellsOn, TellsEnd, TellsPolledEnd};
 
 use crate::fault::WriteFault;
 use crate::writer::EndpointWrite;
 use futures::task::Poll;
 use usb_bus::Bus;
 use usb_desc::{Fail, NoMemory};
-use usb_xfer::BulkOrInterrupt;
+use usb_xfer::{Buffer, BulkOrInterrupt};
 
 impl<T: BulkOrInterrupt> EndpointWrite<T> {
+    /// The buffer that stands, or else a new one.
+    fn next_out_buffer(&mut self) -> Result<Buffer, NoMemory>
+        requires goes { waits_on false self.old ≡ false }
+        ensures buffer { IfOk result
+            (λ b. b ≡ out_buffer self.old.size (unwrap_or self.old.buffer [])) }
+        ensures rest { OnOk result (self.new ≡ record self.old { buffer = None }) }
+        ensures few { length self.new.endpoint.pending < 64 }
+        ensures none { OnErr result (self.new ≡ self.old) }
+    {
+        match self.buffer.take() {
+            Some(buffer) => Ok(buffer),
+            None => self.endpoint.allocate(self.transfer_size),
+        }
+    }
+
     /// Accepts what fits, and submits a full buffer. Without memory it accepts nothing.
     fn accept<B: Bus>(&mut self, bus: &mut B, src: &[u8]) -> Result<usize, NoMemory>
         requires goes { waits_on false self.old ≡ false }
@@ -26,15 +42,16 @@ impl<T: BulkOrInterrupt> EndpointWrite<T> {
             (writing bus.new self.new
             ≡ accepts (bus_calls B.state B.submitted B.refused B.turned B.turn_of B.taken)
             src.now (writing bus.old self.old)) }
+        ensures carries { OnOk result
+            (CarriesOn (B.state bus.old) (B.state bus.new) self.old.endpoint self.new.endpoint
+            (full_bytes self.old.size (unwrap_or self.old.buffer []
+            ++ take (accepted_count src.now self.old) src.now))) }
         ensures none { OnErr result
             (AcceptsNone (writing bus.old self.old) (writing bus.new self.new)) }
         ensures stands { Stands (B.state bus.new) self.new.endpoint }
         ensures others { KeepsOthers (B.state bus.old) (B.state bus.new) self.old.endpoint.key }
     {
-        let mut buffer = match self.buffer.take() {
-            Some(buffer) => buffer,
-            None => self.endpoint.allocate(self.transfer_size)?,
-        };
+        let mut buffer = self.next_out_buffer()?;
         let held = buffer.len();
         let n = src.len().min(buffer.remaining_capacity());
         buffer.extend_from_slice(&src[..n]);
@@ -42,7 +59,7 @@ impl<T: BulkOrInterrupt> EndpointWrite<T> {
             self.buffer = Some(buffer);
             return Ok(n);
         }
-        match self.endpoint.submit(bus, buffer) {
+        match self.send(bus, buffer) {
             Ok(()) => Ok(n),
             Err(mut back) => {
                 back.truncate(held);
@@ -66,6 +83,8 @@ impl<T: BulkOrInterrupt> EndpointWrite<T> {
         ensures failed { IfErr result
             (IsWriteError (bus_calls B.state B.submitted B.refused B.turned B.turn_of B.taken)
             timeout (writing bus.old self.old) (writing bus.new self.new)) }
+        ensures tells { TellsOn (B.state bus.old) (B.state bus.new) self.old self.new
+            (written_calls src.now result) }
         ensures key { self.new.endpoint.key ≡ self.old.endpoint.key }
         ensures stands { Stands (B.state bus.new) self.new.endpoint }
         ensures others { KeepsOthers (B.state bus.old) (B.state bus.new) self.old.endpoint.key }
@@ -96,6 +115,8 @@ impl<T: BulkOrInterrupt> EndpointWrite<T> {
         ensures failed { IfErr result
             (IsWriteError (bus_calls B.state B.submitted B.refused B.turned B.turn_of B.taken)
             self.old.timeout (writing bus.old self.old) (writing bus.new self.new)) }
+        ensures tells { TellsOn (B.state bus.old) (B.state bus.new) self.old self.new
+            (written_calls src.now result) }
         ensures key { self.new.endpoint.key ≡ self.old.endpoint.key }
         ensures stands { Stands (B.state bus.new) self.new.endpoint }
         ensures others { KeepsOthers (B.state bus.old) (B.state bus.new) self.old.endpoint.key }
@@ -123,6 +144,8 @@ impl<T: BulkOrInterrupt> EndpointWrite<T> {
         ensures pending { IfPending result
             (DrainMissed (bus_calls B.state B.submitted B.refused B.turned B.turn_of B.taken) false
             0 (not_begun (writing bus.old self.old)) (writing bus.new self.new)) }
+        ensures tells { TellsOn (B.state bus.old) (B.state bus.new) self.old self.new
+            (poll_written_calls src.now result) }
         ensures key { self.new.endpoint.key ≡ self.old.endpoint.key }
         ensures stands { Stands (B.state bus.new) self.new.endpoint }
         ensures others { KeepsOthers (B.state bus.old) (B.state bus.new) self.old.endpoint.key }
@@ -148,6 +171,8 @@ impl<T: BulkOrInterrupt> EndpointWrite<T> {
             (sent (bus_calls B.state B.submitted B.refused B.turned B.turn_of B.taken)
             self.old.buffer (not_begun (writing bus.old self.old))) (writing bus.new self.new))
             (writing bus.new self.new ≡ not_begun (writing bus.old self.old))) }
+        ensures tells { TellsOn (B.state bus.old) (B.state bus.new) self.old self.new
+            (flushed_calls result) }
         ensures key { self.new.endpoint.key ≡ self.old.endpoint.key }
         ensures stands { Stands (B.state bus.new) self.new.endpoint }
         ensures others { KeepsOthers (B.state bus.old) (B.state bus.new) self.old.endpoint.key }
@@ -182,6 +207,8 @@ impl<T: BulkOrInterrupt> EndpointWrite<T> {
             (sent (bus_calls B.state B.submitted B.refused B.turned B.turn_of B.taken)
             self.old.buffer (not_begun (writing bus.old self.old))) (writing bus.new self.new))
             (writing bus.new self.new ≡ not_begun (writing bus.old self.old))) }
+        ensures tells { TellsOn (B.state bus.old) (B.state bus.new) self.old self.new
+            (flushed_calls result) }
         ensures key { self.new.endpoint.key ≡ self.old.endpoint.key }
         ensures stands { Stands (B.state bus.new) self.new.endpoint }
         ensures others { KeepsOthers (B.state bus.old) (B.state bus.new) self.old.endpoint.key }
@@ -210,6 +237,8 @@ impl<T: BulkOrInterrupt> EndpointWrite<T> {
             (DrainMissed (bus_calls B.state B.submitted B.refused B.turned B.turn_of B.taken) true 0
             (sent (bus_calls B.state B.submitted B.refused B.turned B.turn_of B.taken)
             self.old.buffer (not_begun (writing bus.old self.old))) (writing bus.new self.new)) }
+        ensures tells { TellsOn (B.state bus.old) (B.state bus.new) self.old self.new
+            (poll_flushed_calls result) }
         ensures key { self.new.endpoint.key ≡ self.old.endpoint.key }
         ensures stands { Stands (B.state bus.new) self.new.endpoint }
         ensures others { KeepsOthers (B.state bus.old) (B.state bus.new) self.old.endpoint.key }
@@ -245,6 +274,7 @@ impl<T: BulkOrInterrupt> EndpointWrite<T> {
             (EndShort (bus_calls B.state B.submitted B.refused B.turned B.turn_of B.taken)
             self.old.buffer (not_begun (writing bus.old self.old))
             (writing bus.new self.new))) }
+        ensures tells { TellsEnd (B.state bus.old) (B.state bus.new) self.old self.new result }
         ensures key { self.new.endpoint.key ≡ self.old.endpoint.key }
         ensures stands { Stands (B.state bus.new) self.new.endpoint }
         ensures others { KeepsOthers (B.state bus.old) (B.state bus.new) self.old.endpoint.key }
@@ -280,6 +310,8 @@ impl<T: BulkOrInterrupt> EndpointWrite<T> {
             (DrainMissed (bus_calls B.state B.submitted B.refused B.turned B.turn_of B.taken) true 0
             (begun_end (bus_calls B.state B.submitted B.refused B.turned B.turn_of B.taken)
             (writing bus.old self.old)) (writing bus.new self.new)) }
+        ensures tells { TellsPolledEnd (B.state bus.old) (B.state bus.new) self.old self.new
+            result }
         ensures key { self.new.endpoint.key ≡ self.old.endpoint.key }
         ensures stands { Stands (B.state bus.new) self.new.endpoint }
         ensures others { KeepsOthers (B.state bus.old) (B.state bus.new) self.old.endpoint.key }
