@@ -4,7 +4,7 @@ use crate::bus::expect_bus;
 use crate::buses::new_bus;
 use crate::endpoints::{Transfers, expect_text, expect_transfers};
 use crate::readers::{Step, expect_reader};
-use crate::writers::expect_writer;
+use crate::writers::{self, expect_writer};
 use std::alloc::Global;
 use std::process::Abort;
 use std::test::Fail;
@@ -21,8 +21,8 @@ pub enum Case {
     Transfers(usize, Transfers),
     /// Steps with a reader, under a name.
     Reader(&'static str, &'static [Step]),
-    /// An end without bytes is written.
-    Writer,
+    /// Steps with a writer, under a name, and the bytes of the transfers that they submit.
+    Writer(&'static str, &'static [writers::Step], &'static [&'static [u8]]),
 }
 
 /// Compares what is found on a new bus.
@@ -38,6 +38,8 @@ fn expect_case(rt: &impl Abort, alloc: Global, bus: &mut KernelBus, case: Case) 
         Case::Text => expect_text(rt, alloc, bus),
         Case::Transfers(row, transfers) => expect_transfers(rt, alloc, bus, row, transfers),
         Case::Reader(name, steps) => expect_reader(rt, alloc, bus, name, steps),
-        Case::Writer => expect_writer(rt, alloc, bus),
+        Case::Writer(name, steps, transfers) => {
+            expect_writer(rt, alloc, bus, name, steps, transfers);
+        }
     }
 }

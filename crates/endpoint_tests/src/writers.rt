@@ -1,69 +1,401 @@
-//! Writers on the bus over a kernel alone. Expected values come from the rules of the simulation.
+//! Writers on the bus over a kernel alone. Expected values come from the rules of the simulation,
+//! and from USB 2.0, 5.8.3: a transfer ends with a packet that is shorter than the maximum.
 
-ghost use Rattle.std.specs.Prelude.{◌≡◌, [], IfOk, None};
+ghost use Rattle.std.specs.Prelude.{IfOk};
+ghost use Rattle.usb_kernel.specs.Steps.{HasErrno};
 ghost use Rattle.usb_bus.specs.KernelBusCalls.{bus_of};
 ghost use Rattle.usb_endpoint.specs.Handles.{Stands};
 
 use crate::cases::{Case, expect};
+use futures::task::Poll;
 use std::alloc::Global;
 use std::process::Abort;
 use std::test::Fail;
 use usb_bus::KernelBus;
-use usb_desc::NoMemory;
+use usb_desc::{Fail as Failed, NoMemory};
 use usb_endpoint::Endpoint;
-use usb_io::{EndpointWrite, IntoWriter};
-use usb_kernel::KernelStep;
-use usb_xfer::{Bulk, Out};
+use usb_io::{EndpointWrite, IntoWriter, WriteFault};
+use usb_kernel::{Body, Event, KernelStep};
+use usb_xfer::{Bulk, Out, TransferError};
 
-/// A writer of the bulk OUT endpoint 0x02 of device 0, with packets of 4 bytes and transfers of 8.
+/// A writer of the bulk OUT endpoint 0x02 of device 0, with packets of 64 bytes and transfers of
+/// 128.
 fn new_writer(alloc: Global, bus: &mut KernelBus) -> Result<EndpointWrite<Bulk>, NoMemory>
     ensures stands { IfOk result (λ w. Stands (bus_of bus.new) w.endpoint) }
-    ensures none { IfOk result (λ w. w.endpoint.pending ≡ []) }
-    ensures buffer { IfOk result (λ w. w.buffer ≡ None) }
 {
     let key = bus.open()?;
-    let endpoint: Endpoint<Bulk, Out> = Endpoint::new(alloc, 0, 0x02, 4, key);
-    Ok(endpoint.writer(7))
+    let endpoint: Endpoint<Bulk, Out> = Endpoint::new(alloc, 0, 0x02, 64, key);
+    Ok(endpoint.writer(127))
 }
 
-/// Whether an end without bytes is one empty transfer, which its acknowledgement finishes and a
-/// flush takes.
-fn writes_an_end(bus: &mut KernelBus, writer: &mut EndpointWrite<Bulk>) -> Result<bool, NoMemory>
-    requires none { writer.old.endpoint.pending ≡ [] }
-    requires buffer { writer.old.buffer ≡ None }
+/// Makes room for a step and applies it. The writer's endpoint stands as before.
+fn apply(bus: &mut KernelBus, writer: &EndpointWrite<Bulk>, step: KernelStep) -> bool
+    requires errno { HasErrno step }
+    requires stands { Stands (bus_of bus.old) writer.now.endpoint }
+    ensures stands { Stands (bus_of bus.new) writer.now.endpoint }
+{
+    if bus.reserve(1).is_err() {
+        return false;
+    }
+    bus.step(step);
+    true
+}
+
+/// What a call of a writer gave.
+#[derive(Clone, Copy, PartialEq, Eq, Drop)]
+pub enum Outcome {
+    /// So many bytes were accepted.
+    Wrote(usize),
+    Done,
+    /// The front of the queue is not reaped.
+    Pending,
+    Stall,
+    TimedOut,
+    Other,
+}
+
+fn told_of(fail: Failed<WriteFault>) -> Outcome {
+    match fail {
+        Failed::Cause(WriteFault::Transfer(TransferError::Stall)) => Outcome::Stall,
+        Failed::Cause(WriteFault::TimedOut) => Outcome::TimedOut,
+        _ => Outcome::Other,
+    }
+}
+
+fn told_of_write(written: Result<usize, Failed<WriteFault>>) -> Outcome {
+    match written {
+        Ok(count) => Outcome::Wrote(count),
+        Err(fail) => told_of(fail),
+    }
+}
+
+fn told_of_flush(flushed: Result<(), Failed<WriteFault>>) -> Outcome {
+    match flushed {
+        Ok(()) => Outcome::Done,
+        Err(fail) => told_of(fail),
+    }
+}
+
+fn told_of_submission(submitted: Result<(), NoMemory>) -> Outcome {
+    match submitted {
+        Ok(()) => Outcome::Done,
+        Err(_) => Outcome::Other,
+    }
+}
+
+/// Bytes are accepted where a look finds room.
+fn look_at_write(bus: &mut KernelBus, writer: &mut EndpointWrite<Bulk>, bytes: &[u8]) -> Outcome
     requires stands { Stands (bus_of bus.old) writer.old.endpoint }
     ensures stands { Stands (bus_of bus.new) writer.new.endpoint }
 {
-    writer.submit_end(bus)?;
-    bus.reserve(1)?;
-    bus.step(KernelStep::Ack {
-        device: 0,
-        endpoint: 0x02,
-    });
-    let is_one = writer.pending() == 1;
-    if writer.pending() >= 64 {
-        return Err(NoMemory);
+    match writer.poll_write(bus, bytes) {
+        Poll::Ready(written) => told_of_write(written),
+        Poll::Pending => Outcome::Pending,
     }
-    let is_flushed = writer.flush(bus).is_ok();
-    Ok(is_one && is_flushed)
 }
 
-/// The same of a new writer, with which nothing is pending then. It is closed again.
-fn is_so(alloc: Global, bus: &mut KernelBus) -> bool {
-    let Ok(mut writer) = new_writer(alloc, bus) else {
-        return false;
-    };
-    let written = writes_an_end(bus, &mut writer);
-    let pending = writer.pending();
-    writer.close(bus);
-    matches!(written, Ok(true)) && pending == 0
+/// What stands is submitted, and all is taken where a look finds it.
+fn look_at_flush(bus: &mut KernelBus, writer: &mut EndpointWrite<Bulk>) -> Outcome
+    requires stands { Stands (bus_of bus.old) writer.old.endpoint }
+    ensures stands { Stands (bus_of bus.new) writer.new.endpoint }
+{
+    match writer.poll_flush(bus) {
+        Poll::Ready(flushed) => told_of_flush(flushed),
+        Poll::Pending => Outcome::Pending,
+    }
 }
 
-pub fn expect_writer(rt: &impl Abort, alloc: Global, bus: &mut KernelBus) {
-    assert!(rt; is_so(alloc, bus));
+/// An end is submitted.
+fn end(bus: &mut KernelBus, writer: &mut EndpointWrite<Bulk>) -> Outcome
+    requires stands { Stands (bus_of bus.old) writer.old.endpoint }
+    ensures stands { Stands (bus_of bus.new) writer.new.endpoint }
+{
+    if writer.pending() > 64 - writer.end_need() {
+        return Outcome::Other;
+    }
+    told_of_submission(writer.submit_end(bus))
 }
+
+/// An end is submitted, and all is taken.
+fn flush_end(bus: &mut KernelBus, writer: &mut EndpointWrite<Bulk>) -> Outcome
+    requires stands { Stands (bus_of bus.old) writer.old.endpoint }
+    ensures stands { Stands (bus_of bus.new) writer.new.endpoint }
+{
+    if writer.pending() > 64 - writer.end_need() {
+        return Outcome::Other;
+    }
+    told_of_flush(writer.flush_end(bus))
+}
+
+/// An end is submitted where none has begun, and all is taken where a look finds it.
+fn look_at_end(bus: &mut KernelBus, writer: &mut EndpointWrite<Bulk>) -> Outcome
+    requires stands { Stands (bus_of bus.old) writer.old.endpoint }
+    ensures stands { Stands (bus_of bus.new) writer.new.endpoint }
+{
+    if !writer.end_begun() && writer.pending() > 64 - writer.end_need() {
+        return Outcome::Other;
+    }
+    match writer.poll_flush_end(bus) {
+        Poll::Ready(flushed) => told_of_flush(flushed),
+        Poll::Pending => Outcome::Pending,
+    }
+}
+
+/// A step with a writer, and what it gives.
+#[derive(Clone, Copy)]
+pub enum Step {
+    /// A write gives up at once.
+    NoTime,
+    /// The endpoint acknowledges a packet.
+    Ack,
+    /// The oldest transfer stalls.
+    Stall,
+    /// The next finished transfer is reaped.
+    Reap,
+    /// Bytes are written.
+    Write(&'static [u8], Outcome),
+    /// Bytes are written where a look finds room.
+    LookAtWrite(&'static [u8], Outcome),
+    /// What stands is submitted.
+    Submit(Outcome),
+    /// An end is submitted.
+    End(Outcome),
+    /// What stands is submitted, and all is taken.
+    Flush(Outcome),
+    /// All is taken where a look finds it.
+    LookAtFlush(Outcome),
+    /// An end is submitted, and all is taken.
+    FlushEnd(Outcome),
+    /// All of an end is taken where a look finds it.
+    LookAtEnd(Outcome),
+    /// So many transfers are pending.
+    Pending(usize),
+    /// So many bytes stand, where a buffer does.
+    Buffered(Option<usize>),
+    /// Whether an end has begun.
+    EndBegun(bool),
+}
+
+/// Bytes of two packets.
+const ELEVENS: [u8; 128] = [0x11; 128];
+
+/// Bytes of a full packet and a shorter one.
+const TWENTIES: [u8; 100] = [0x22; 100];
+
+/// What is submitted of a hundred bytes and of more than still fit.
+const FULL: [u8; 128] = [
+    0x22, 0x22, 0x22, 0x22, 0x22, 0x22, 0x22, 0x22, 0x22, 0x22, 0x22, 0x22, 0x22, 0x22, 0x22, 0x22,
+    0x22, 0x22, 0x22, 0x22, 0x22, 0x22, 0x22, 0x22, 0x22, 0x22, 0x22, 0x22, 0x22, 0x22, 0x22, 0x22,
+    0x22, 0x22, 0x22, 0x22, 0x22, 0x22, 0x22, 0x22, 0x22, 0x22, 0x22, 0x22, 0x22, 0x22, 0x22, 0x22,
+    0x22, 0x22, 0x22, 0x22, 0x22, 0x22, 0x22, 0x22, 0x22, 0x22, 0x22, 0x22, 0x22, 0x22, 0x22, 0x22,
+    0x22, 0x22, 0x22, 0x22, 0x22, 0x22, 0x22, 0x22, 0x22, 0x22, 0x22, 0x22, 0x22, 0x22, 0x22, 0x22,
+    0x22, 0x22, 0x22, 0x22, 0x22, 0x22, 0x22, 0x22, 0x22, 0x22, 0x22, 0x22, 0x22, 0x22, 0x22, 0x22,
+    0x22, 0x22, 0x22, 0x22, 0x11, 0x11, 0x11, 0x11, 0x11, 0x11, 0x11, 0x11, 0x11, 0x11, 0x11, 0x11,
+    0x11, 0x11, 0x11, 0x11, 0x11, 0x11, 0x11, 0x11, 0x11, 0x11, 0x11, 0x11, 0x11, 0x11, 0x11, 0x11,
+];
+
+/// Steps with a new writer, by name, and the bytes of the transfers that they submit.
+const CASES: [(&str, &[Step], &[&[u8]]); 6] = [
+    (
+        "an end is an empty transfer where no shorter packet ends the bytes",
+        &[
+            Step::End(Outcome::Done),
+            Step::Ack,
+            Step::Write(&ELEVENS, Outcome::Wrote(128)),
+            Step::End(Outcome::Done),
+            Step::Ack,
+            Step::Ack,
+            Step::Ack,
+            Step::Flush(Outcome::Done),
+            Step::Write(&TWENTIES, Outcome::Wrote(100)),
+            Step::End(Outcome::Done),
+            Step::Ack,
+            Step::Flush(Outcome::TimedOut),
+            Step::Ack,
+            Step::Flush(Outcome::Done),
+        ],
+        &[&[], &ELEVENS, &[], &TWENTIES],
+    ),
+    (
+        "polls to an end submit one",
+        &[
+            Step::LookAtWrite(&[1, 2], Outcome::Wrote(2)),
+            Step::LookAtEnd(Outcome::Pending),
+            Step::EndBegun(true),
+            Step::LookAtEnd(Outcome::Pending),
+            Step::Ack,
+            Step::Reap,
+            Step::LookAtEnd(Outcome::Done),
+            Step::EndBegun(false),
+        ],
+        &[&[1, 2]],
+    ),
+    (
+        "a failure is told once",
+        &[
+            Step::Write(&[0x11, 0x11, 0x11], Outcome::Wrote(3)),
+            Step::Submit(Outcome::Done),
+            Step::Stall,
+            Step::Flush(Outcome::Stall),
+            Step::Flush(Outcome::Done),
+        ],
+        &[&[0x11, 0x11, 0x11]],
+    ),
+    (
+        "a write without a buffer waits for the front",
+        &[
+            Step::Write(&TWENTIES, Outcome::Wrote(100)),
+            Step::Buffered(Some(100)),
+            Step::Write(&ELEVENS, Outcome::Wrote(28)),
+            Step::Buffered(None),
+            Step::LookAtWrite(&[1], Outcome::Pending),
+            Step::NoTime,
+            Step::Write(&[1], Outcome::TimedOut),
+            Step::Ack,
+            Step::Ack,
+            Step::Reap,
+            Step::LookAtWrite(&[], Outcome::Wrote(0)),
+            Step::Buffered(Some(0)),
+            Step::Submit(Outcome::Done),
+            Step::Buffered(Some(0)),
+            Step::Pending(0),
+        ],
+        &[&FULL],
+    ),
+    (
+        "a flush to an end takes all of it",
+        &[
+            Step::Write(&ELEVENS, Outcome::Wrote(128)),
+            Step::LookAtFlush(Outcome::Pending),
+            Step::Ack,
+            Step::Ack,
+            Step::Reap,
+            Step::LookAtFlush(Outcome::Done),
+            Step::Stall,
+            Step::FlushEnd(Outcome::TimedOut),
+            Step::Pending(1),
+            Step::Ack,
+            Step::Flush(Outcome::Done),
+        ],
+        &[&ELEVENS, &[]],
+    ),
+    (
+        "an end that has begun is forgotten by another call",
+        &[
+            Step::LookAtEnd(Outcome::Pending),
+            Step::Submit(Outcome::Done),
+            Step::EndBegun(false),
+            Step::LookAtEnd(Outcome::Pending),
+            Step::Pending(2),
+        ],
+        &[&[], &[]],
+    ),
+];
 
 #[test]
-fn an_end_is_an_empty_transfer(rt: HostRuntime) -> Result<(), Fail> {
-    expect(&rt, rt.alloc(), Case::Writer)
+fn writers_submit_what_was_written(rt: HostRuntime) -> Result<(), Fail> {
+    for (name, steps, transfers) in &CASES {
+        expect(&rt, rt.alloc(), Case::Writer(*name, *steps, *transfers))?;
+    }
+    Ok(())
 }
+
+pub fn expect_writer(
+    rt: &impl Abort,
+    alloc: Global,
+    bus: &mut KernelBus,
+    name: &str,
+    steps: &[Step],
+    transfers: &[&[u8]],
+) {
+    let right = right_steps_of_new(alloc, bus, steps);
+    assert!(rt;
+        right == steps.len(),
+        "{name}: only {right} steps were right"
+    );
+    assert!(rt;
+        has_sent(bus.kernel().journal(), transfers),
+        "{name}: the transfers are others"
+    );
+}
+
+/// Whether these are the bytes of the transfers that were submitted, in order.
+fn has_sent(journal: &[Event], transfers: &[&[u8]]) -> bool {
+    let mut rest = transfers;
+    for event in journal {
+        if let Event::Submit {
+            body: Body::Sent(bytes),
+            ..
+        } = event
+        {
+            match rest {
+                [first, others @ ..] if bytes.as_slice() == *first => rest = others,
+                _ => return false,
+            }
+        }
+    }
+    rest.is_empty()
+}
+
+/// Makes the steps with a new writer, which is closed again. Says how many gave what they should
+/// before one didn't.
+fn right_steps_of_new(alloc: Global, bus: &mut KernelBus, steps: &[Step]) -> usize {
+    let Ok(mut writer) = new_writer(alloc, bus) else {
+        return 0;
+    };
+    let right = right_steps(bus, &mut writer, steps);
+    writer.close(bus);
+    right
+}
+
+fn right_steps(bus: &mut KernelBus, writer: &mut EndpointWrite<Bulk>, steps: &[Step]) -> usize
+    requires stands { Stands (bus_of bus.old) writer.old.endpoint }
+    ensures stands { Stands (bus_of bus.new) writer.new.endpoint }
+{
+    for (number, step) in steps.iter().enumerate() {
+        if !is_so(bus, writer, *step) {
+            return number;
+        }
+    }
+    steps.len()
+}
+
+/// Makes a step, and says whether it gives what it should.
+fn is_so(bus: &mut KernelBus, writer: &mut EndpointWrite<Bulk>, step: Step) -> bool
+    requires stands { Stands (bus_of bus.old) writer.old.endpoint }
+    ensures stands { Stands (bus_of bus.new) writer.new.endpoint }
+{
+    match step {
+        Step::NoTime => {
+            writer.set_write_timeout(0);
+            true
+        }
+        Step::Ack => apply(bus, writer, ACK),
+        Step::Stall => apply(bus, writer, STALL),
+        Step::Reap => apply(bus, writer, KernelStep::Reap { ticket: None }),
+        Step::Write(bytes, outcome) => told_of_write(writer.write(bus, bytes)) == outcome,
+        Step::LookAtWrite(bytes, outcome) => look_at_write(bus, writer, bytes) == outcome,
+        Step::Submit(outcome) => told_of_submission(writer.submit(bus)) == outcome,
+        Step::End(outcome) => end(bus, writer) == outcome,
+        Step::Flush(outcome) => told_of_flush(writer.flush(bus)) == outcome,
+        Step::LookAtFlush(outcome) => look_at_flush(bus, writer) == outcome,
+        Step::FlushEnd(outcome) => flush_end(bus, writer) == outcome,
+        Step::LookAtEnd(outcome) => look_at_end(bus, writer) == outcome,
+        Step::Pending(pending) => writer.pending() == pending,
+        Step::Buffered(buffered) => writer.buffered() == buffered,
+        Step::EndBegun(begun) => writer.end_begun() == begun,
+    }
+}
+
+/// An acknowledgement of the writer's endpoint.
+const ACK: KernelStep = KernelStep::Ack {
+    device: 0,
+    endpoint: 0x02,
+};
+
+/// A stall of the writer's endpoint.
+const STALL: KernelStep = KernelStep::Fail {
+    device: 0,
+    endpoint: 0x02,
+    errno: 32,
+};

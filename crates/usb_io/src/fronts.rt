@@ -1,0 +1,103 @@
+//! How a writer takes the fronts of its queue.
+
+ghost use Rattle.std.specs.Prelude.{◌≡◌, ◌<◌, [], true, length, OnOk, IfErr};
+ghost use Rattle.usb_endpoint.specs.Handles.{Stands, KeepsOthers};
+ghost use Rattle.usb_io.specs.Reads.{bus_calls};
+ghost use Rattle.usb_io.specs.Fronts.{CameOne, waits_on, DrainedAll, DrainFault};
+ghost use Rattle.usb_io.specs.Writers.{writing, with_taken};
+ghost use Rattle.usb_io.specs.Carried.{TellsOn};
+
+use crate::fault::WriteFault;
+use crate::writer::EndpointWrite;
+use usb_bus::Bus;
+use usb_xfer::{BulkOrInterrupt, Completion, TransferError};
+
+/// What a wait for the front came to.
+#[derive(Clone, Copy, Debug, PartialEq, Eq)]
+pub(crate) enum Taken {
+    /// The front was taken, and ended so.
+    Took(Result<(), TransferError>),
+    /// The front was not there.
+    NotCome,
+}
+
+impl<T: BulkOrInterrupt> EndpointWrite<T> {
+    /// Keeps the buffer of a transfer that was taken from the endpoint, emptied, where it has the
+    /// size and is wanted.
+    fn keep(&mut self, completion: Completion)
+        ensures kept { self.new ≡ with_taken completion self.old.endpoint.pending self.old }
+    {
+        let mut buffer = completion.buffer;
+        if self.buffer.is_none()
+            && buffer.capacity() == self.transfer_size
+            && self.pending() < self.num_transfers
+        {
+            buffer.clear();
+            buffer.set_requested_len(self.transfer_size);
+            self.buffer = Some(buffer);
+        }
+    }
+
+    /// Waits for the front and takes it.
+    fn take<B: Bus>(&mut self, bus: &mut B, timeout: u64) -> Taken
+        requires some { 0 < length self.old.endpoint.pending }
+        requires stands { Stands (B.state bus.old) self.old.endpoint }
+        ensures came { CameOne (bus_calls B.state B.submitted B.refused B.turned B.turn_of B.taken)
+            timeout (writing bus.old self.old) (writing bus.new self.new) result }
+        ensures rest { self.new.endpoint
+            ≡ record self.old.endpoint { pending = self.new.endpoint.pending } }
+        ensures tells { TellsOn (B.state bus.old) (B.state bus.new) self.old self.new [] }
+        ensures stands { Stands (B.state bus.new) self.new.endpoint }
+        ensures others { KeepsOthers (B.state bus.old) (B.state bus.new) self.old.endpoint.key }
+    {
+        match self.endpoint.wait_next_complete(bus, timeout) {
+            Some(completion) => {
+                let status = completion.status;
+                self.keep(completion);
+                Taken::Took(status)
+            }
+            None => Taken::NotCome,
+        }
+    }
+
+    /// Whether fronts are to be taken.
+    fn goes(&self, flushing: bool) -> bool
+        ensures goes { result ≡ waits_on flushing self.now }
+        ensures some { result ≡ true → 0 < length self.now.endpoint.pending }
+    {
+        if flushing {
+            self.pending() > 0
+        } else {
+            self.buffer.is_none() && self.num_transfers <= self.pending()
+        }
+    }
+
+    /// Takes front after front, until one fails or is not there.
+    pub(crate) fn drain<B: Bus>(
+        &mut self,
+        bus: &mut B,
+        flushing: bool,
+        timeout: u64,
+    ) -> Result<(), WriteFault>
+        requires stands { Stands (B.state bus.old) self.old.endpoint }
+        ensures all { OnOk result
+            (DrainedAll (bus_calls B.state B.submitted B.refused B.turned B.turn_of B.taken)
+            flushing timeout (writing bus.old self.old) (writing bus.new self.new)) }
+        ensures failed { IfErr result
+            (DrainFault (bus_calls B.state B.submitted B.refused B.turned B.turn_of B.taken)
+            flushing timeout (writing bus.old self.old) (writing bus.new self.new)) }
+        ensures tells { TellsOn (B.state bus.old) (B.state bus.new) self.old self.new [] }
+        ensures key { self.new.endpoint.key ≡ self.old.endpoint.key }
+        ensures stands { Stands (B.state bus.new) self.new.endpoint }
+        ensures others { KeepsOthers (B.state bus.old) (B.state bus.new) self.old.endpoint.key }
+    {
+        'fronts: while self.goes(flushing) {
+            match self.take(bus, timeout) {
+                Taken::Took(Ok(())) => {}
+                Taken::Took(Err(error)) => return Err(WriteFault::Transfer(error)),
+                Taken::NotCome => return Err(WriteFault::TimedOut),
+            }
+        }
+        Ok(())
+    }
+}

@@ -1,0 +1,334 @@
+//! The writes and flushes of a writer.
+
+ghost use Rattle.std.specs.Prelude.{◌≡◌, ◌+◌, ◌<◌, ◌≤◌, ◌++◌, [], true, false, length, take, unwrap_or, None, IfOk, IfErr, OnOk, OnErr};
+ghost use Rattle.usb_endpoint.specs.Handles.{Stands, KeepsOthers};
+ghost use Rattle.usb_endpoint.specs.Polls.{IfReady, IfPending};
+ghost use Rattle.usb_io.specs.Answers.{FailsBy};
+ghost use Rattle.usb_io.specs.Reads.{bus_calls};
+ghost use Rattle.usb_io.specs.Fronts.{waits_on, DrainedAll, DrainMissed, DrainFault};
+ghost use Rattle.usb_io.specs.Writers.{writing, out_buffer, not_begun, sent, sent_end, end_need, EndShort};
+ghost use Rattle.usb_io.specs.WriteAnswers.{accepts, accepted_count, AcceptsNone, Wrote, IsWriteError, IsWrittenInTime, begun_end, PolledEnd, PolledEndFailed, PolledEndShort};
+ghost use Rattle.usb_io.specs.Carried.{CarriesOn, full_bytes, written_calls, poll_written_calls, flushed_calls, poll_flushed_calls, TellsOn, TellsEnd, TellsPolledEnd};
+
+use crate::fault::WriteFault;
+use crate::writer::EndpointWrite;
+use futures::task::Poll;
+use usb_bus::Bus;
+use usb_desc::{Fail, NoMemory};
+use usb_xfer::{Buffer, BulkOrInterrupt};
+
+impl<T: BulkOrInterrupt> EndpointWrite<T> {
+    /// The buffer that stands, or else a new one.
+    fn next_out_buffer(&mut self) -> Result<Buffer, NoMemory>
+        requires goes { waits_on false self.old ≡ false }
+        ensures buffer { IfOk result
+            (λ b. b ≡ out_buffer self.old.size (unwrap_or self.old.buffer [])) }
+        ensures rest { OnOk result (self.new ≡ record self.old { buffer = None }) }
+        ensures few { length self.new.endpoint.pending < 64 }
+        ensures none { OnErr result (self.new ≡ self.old) }
+    {
+        match self.buffer.take() {
+            Some(buffer) => Ok(buffer),
+            None => self.endpoint.allocate(self.transfer_size),
+        }
+    }
+
+    /// Accepts what fits, and submits a full buffer. Without memory it accepts nothing.
+    fn accept<B: Bus>(&mut self, bus: &mut B, src: &[u8]) -> Result<usize, NoMemory>
+        requires goes { waits_on false self.old ≡ false }
+        requires stands { Stands (B.state bus.old) self.old.endpoint }
+        ensures count { IfOk result (λ n. n ≡ accepted_count src.now self.old) }
+        ensures ok { OnOk result
+            (writing bus.new self.new
+            ≡ accepts (bus_calls B.state B.submitted B.refused B.turned B.turn_of B.taken)
+            src.now (writing bus.old self.old)) }
+        ensures carries { OnOk result
+            (CarriesOn (B.state bus.old) (B.state bus.new) self.old.endpoint self.new.endpoint
+            (full_bytes self.old.size (unwrap_or self.old.buffer []
+            ++ take (accepted_count src.now self.old) src.now))) }
+        ensures none { OnErr result
+            (AcceptsNone (writing bus.old self.old) (writing bus.new self.new)) }
+        ensures stands { Stands (B.state bus.new) self.new.endpoint }
+        ensures others { KeepsOthers (B.state bus.old) (B.state bus.new) self.old.endpoint.key }
+    {
+        let mut buffer = self.next_out_buffer()?;
+        let held = buffer.len();
+        let n = src.len().min(buffer.remaining_capacity());
+        buffer.extend_from_slice(&src[..n]);
+        if buffer.len() != self.transfer_size {
+            self.buffer = Some(buffer);
+            return Ok(n);
+        }
+        match self.send(bus, buffer) {
+            Ok(()) => Ok(n),
+            Err(mut back) => {
+                back.truncate(held);
+                self.buffer = Some(back);
+                Err(NoMemory)
+            }
+        }
+    }
+
+    /// Takes fronts while it has to, and then accepts what fits.
+    fn write_within<B: Bus>(
+        &mut self,
+        bus: &mut B,
+        src: &[u8],
+        timeout: u64,
+    ) -> Result<usize, Fail<WriteFault>>
+        requires stands { Stands (B.state bus.old) self.old.endpoint }
+        ensures wrote { IfOk result
+            (Wrote (bus_calls B.state B.submitted B.refused B.turned B.turn_of B.taken)
+            timeout src.now (writing bus.old self.old) (writing bus.new self.new)) }
+        ensures failed { IfErr result
+            (IsWriteError (bus_calls B.state B.submitted B.refused B.turned B.turn_of B.taken)
+            timeout (writing bus.old self.old) (writing bus.new self.new)) }
+        ensures tells { TellsOn (B.state bus.old) (B.state bus.new) self.old self.new
+            (written_calls src.now result) }
+        ensures key { self.new.endpoint.key ≡ self.old.endpoint.key }
+        ensures stands { Stands (B.state bus.new) self.new.endpoint }
+        ensures others { KeepsOthers (B.state bus.old) (B.state bus.new) self.old.endpoint.key }
+    {
+        self.begun = false;
+        match self.drain(bus, false, timeout) {
+            Ok(()) => match self.accept(bus, src) {
+                Ok(n) => Ok(n),
+                Err(_) => Err(Fail::Memory),
+            },
+            Err(fault) => Err(Fail::Cause(fault)),
+        }
+    }
+
+    /// Accepts bytes, as many as fit into the buffer that stands or into an empty one, and submits
+    /// a full buffer. While no buffer stands and `num_transfers` are pending, it waits for the
+    /// front and takes it.
+    ///
+    /// # Errors
+    ///
+    /// The error of a transfer that was taken; that the front was not there in time; want of
+    /// memory. No byte is accepted then.
+    pub fn write<B: Bus>(&mut self, bus: &mut B, src: &[u8]) -> Result<usize, Fail<WriteFault>>
+        requires stands { Stands (B.state bus.old) self.old.endpoint }
+        ensures wrote { IfOk result
+            (Wrote (bus_calls B.state B.submitted B.refused B.turned B.turn_of B.taken)
+            self.old.timeout src.now (writing bus.old self.old) (writing bus.new self.new)) }
+        ensures failed { IfErr result
+            (IsWriteError (bus_calls B.state B.submitted B.refused B.turned B.turn_of B.taken)
+            self.old.timeout (writing bus.old self.old) (writing bus.new self.new)) }
+        ensures tells { TellsOn (B.state bus.old) (B.state bus.new) self.old self.new
+            (written_calls src.now result) }
+        ensures key { self.new.endpoint.key ≡ self.old.endpoint.key }
+        ensures stands { Stands (B.state bus.new) self.new.endpoint }
+        ensures others { KeepsOthers (B.state bus.old) (B.state bus.new) self.old.endpoint.key }
+    {
+        let timeout = self.timeout;
+        self.write_within(bus, src, timeout)
+    }
+
+    /// `write`, which is pending where the front is not there.
+    pub fn poll_write<B: Bus>(
+        &mut self,
+        bus: &mut B,
+        src: &[u8],
+    ) -> Poll<Result<usize, Fail<WriteFault>>>
+        requires stands { Stands (B.state bus.old) self.old.endpoint }
+        ensures wrote { IfReady result
+            (λ r. IfOk r
+            (Wrote (bus_calls B.state B.submitted B.refused B.turned B.turn_of B.taken) 0
+            src.now (writing bus.old self.old) (writing bus.new self.new))) }
+        ensures failed { IfReady result
+            (λ r. IfErr r
+            (IsWriteError (bus_calls B.state B.submitted B.refused B.turned B.turn_of B.taken)
+            0 (writing bus.old self.old) (writing bus.new self.new))) }
+        ensures in_time { IfReady result (λ r. IfErr r IsWrittenInTime) }
+        ensures pending { IfPending result
+            (DrainMissed (bus_calls B.state B.submitted B.refused B.turned B.turn_of B.taken) false
+            0 (not_begun (writing bus.old self.old)) (writing bus.new self.new)) }
+        ensures tells { TellsOn (B.state bus.old) (B.state bus.new) self.old self.new
+            (poll_written_calls src.now result) }
+        ensures key { self.new.endpoint.key ≡ self.old.endpoint.key }
+        ensures stands { Stands (B.state bus.new) self.new.endpoint }
+        ensures others { KeepsOthers (B.state bus.old) (B.state bus.new) self.old.endpoint.key }
+    {
+        match self.write_within(bus, src, 0) {
+            Ok(n) => Poll::Ready(Ok(n)),
+            Err(Fail::Cause(WriteFault::TimedOut)) => Poll::Pending,
+            Err(fail) => Poll::Ready(Err(fail)),
+        }
+    }
+
+    /// Submits what stands, and takes all that is pending.
+    fn flush_within<B: Bus>(&mut self, bus: &mut B, timeout: u64) -> Result<(), Fail<WriteFault>>
+        requires stands { Stands (B.state bus.old) self.old.endpoint }
+        ensures ok { OnOk result
+            (DrainedAll (bus_calls B.state B.submitted B.refused B.turned B.turn_of B.taken) true
+            timeout (sent (bus_calls B.state B.submitted B.refused B.turned B.turn_of B.taken)
+            self.old.buffer (not_begun (writing bus.old self.old))) (writing bus.new self.new)) }
+        ensures failed { IfErr result
+            (λ e. FailsBy e
+            (DrainFault (bus_calls B.state B.submitted B.refused B.turned B.turn_of B.taken)
+            true timeout
+            (sent (bus_calls B.state B.submitted B.refused B.turned B.turn_of B.taken)
+            self.old.buffer (not_begun (writing bus.old self.old))) (writing bus.new self.new))
+            (writing bus.new self.new ≡ not_begun (writing bus.old self.old))) }
+        ensures tells { TellsOn (B.state bus.old) (B.state bus.new) self.old self.new
+            (flushed_calls result) }
+        ensures key { self.new.endpoint.key ≡ self.old.endpoint.key }
+        ensures stands { Stands (B.state bus.new) self.new.endpoint }
+        ensures others { KeepsOthers (B.state bus.old) (B.state bus.new) self.old.endpoint.key }
+    {
+        if self.submit(bus).is_err() {
+            return Err(Fail::Memory);
+        }
+        match self.drain(bus, true, timeout) {
+            Ok(()) => Ok(()),
+            Err(fault) => Err(Fail::Cause(fault)),
+        }
+    }
+
+    /// Submits what stands, and takes all that is pending. The first failure is the answer, and the
+    /// rest stays pending.
+    ///
+    /// # Errors
+    ///
+    /// The error of a transfer; that the front was not there in time; want of memory, with nothing
+    /// submitted.
+    pub fn flush<B: Bus>(&mut self, bus: &mut B) -> Result<(), Fail<WriteFault>>
+        requires stands { Stands (B.state bus.old) self.old.endpoint }
+        ensures ok { OnOk result
+            (DrainedAll (bus_calls B.state B.submitted B.refused B.turned B.turn_of B.taken) true
+            self.old.timeout
+            (sent (bus_calls B.state B.submitted B.refused B.turned B.turn_of B.taken)
+            self.old.buffer (not_begun (writing bus.old self.old))) (writing bus.new self.new)) }
+        ensures failed { IfErr result
+            (λ e. FailsBy e
+            (DrainFault (bus_calls B.state B.submitted B.refused B.turned B.turn_of B.taken)
+            true self.old.timeout
+            (sent (bus_calls B.state B.submitted B.refused B.turned B.turn_of B.taken)
+            self.old.buffer (not_begun (writing bus.old self.old))) (writing bus.new self.new))
+            (writing bus.new self.new ≡ not_begun (writing bus.old self.old))) }
+        ensures tells { TellsOn (B.state bus.old) (B.state bus.new) self.old self.new
+            (flushed_calls result) }
+        ensures key { self.new.endpoint.key ≡ self.old.endpoint.key }
+        ensures stands { Stands (B.state bus.new) self.new.endpoint }
+        ensures others { KeepsOthers (B.state bus.old) (B.state bus.new) self.old.endpoint.key }
+    {
+        let timeout = self.timeout;
+        self.flush_within(bus, timeout)
+    }
+
+    /// `flush`, which is pending where the front is not there.
+    pub fn poll_flush<B: Bus>(&mut self, bus: &mut B) -> Poll<Result<(), Fail<WriteFault>>>
+        requires stands { Stands (B.state bus.old) self.old.endpoint }
+        ensures ok { IfReady result
+            (λ r. OnOk r
+            (DrainedAll (bus_calls B.state B.submitted B.refused B.turned B.turn_of B.taken)
+            true 0 (sent (bus_calls B.state B.submitted B.refused B.turned B.turn_of B.taken)
+            self.old.buffer (not_begun (writing bus.old self.old)))
+            (writing bus.new self.new))) }
+        ensures failed { IfReady result
+            (λ r. IfErr r (λ e. FailsBy e
+            (DrainFault (bus_calls B.state B.submitted B.refused B.turned B.turn_of B.taken)
+            true 0 (sent (bus_calls B.state B.submitted B.refused B.turned B.turn_of B.taken)
+            self.old.buffer (not_begun (writing bus.old self.old))) (writing bus.new self.new))
+            (writing bus.new self.new ≡ not_begun (writing bus.old self.old)))) }
+        ensures in_time { IfReady result (λ r. IfErr r IsWrittenInTime) }
+        ensures pending { IfPending result
+            (DrainMissed (bus_calls B.state B.submitted B.refused B.turned B.turn_of B.taken) true 0
+            (sent (bus_calls B.state B.submitted B.refused B.turned B.turn_of B.taken)
+            self.old.buffer (not_begun (writing bus.old self.old))) (writing bus.new self.new)) }
+        ensures tells { TellsOn (B.state bus.old) (B.state bus.new) self.old self.new
+            (poll_flushed_calls result) }
+        ensures key { self.new.endpoint.key ≡ self.old.endpoint.key }
+        ensures stands { Stands (B.state bus.new) self.new.endpoint }
+        ensures others { KeepsOthers (B.state bus.old) (B.state bus.new) self.old.endpoint.key }
+    {
+        match self.flush_within(bus, 0) {
+            Ok(()) => Poll::Ready(Ok(())),
+            Err(Fail::Cause(WriteFault::TimedOut)) => Poll::Pending,
+            Err(fail) => Poll::Ready(Err(fail)),
+        }
+    }
+
+    /// Ends a message as `submit_end` does, and takes all that is pending. The first failure is the
+    /// answer, and the rest stays pending.
+    ///
+    /// # Errors
+    ///
+    /// The error of a transfer; that the front was not there in time; those of `submit_end`.
+    pub fn flush_end<B: Bus>(&mut self, bus: &mut B) -> Result<(), Fail<WriteFault>>
+        requires few { length self.old.endpoint.pending
+            + end_need self.old.endpoint.maximum self.old.buffer ≤ 64 }
+        requires stands { Stands (B.state bus.old) self.old.endpoint }
+        ensures ok { OnOk result
+            (DrainedAll (bus_calls B.state B.submitted B.refused B.turned B.turn_of B.taken) true
+            self.old.timeout
+            (sent_end (bus_calls B.state B.submitted B.refused B.turned B.turn_of B.taken)
+            self.old.buffer (not_begun (writing bus.old self.old))) (writing bus.new self.new)) }
+        ensures failed { IfErr result
+            (λ e. FailsBy e
+            (DrainFault (bus_calls B.state B.submitted B.refused B.turned B.turn_of B.taken)
+            true self.old.timeout
+            (sent_end (bus_calls B.state B.submitted B.refused B.turned B.turn_of B.taken)
+            self.old.buffer (not_begun (writing bus.old self.old))) (writing bus.new self.new))
+            (EndShort (bus_calls B.state B.submitted B.refused B.turned B.turn_of B.taken)
+            self.old.buffer (not_begun (writing bus.old self.old))
+            (writing bus.new self.new))) }
+        ensures tells { TellsEnd (B.state bus.old) (B.state bus.new) self.old self.new result }
+        ensures key { self.new.endpoint.key ≡ self.old.endpoint.key }
+        ensures stands { Stands (B.state bus.new) self.new.endpoint }
+        ensures others { KeepsOthers (B.state bus.old) (B.state bus.new) self.old.endpoint.key }
+    {
+        let timeout = self.timeout;
+        if self.submit_end(bus).is_err() {
+            return Err(Fail::Memory);
+        }
+        match self.drain(bus, true, timeout) {
+            Ok(()) => Ok(()),
+            Err(fault) => Err(Fail::Cause(fault)),
+        }
+    }
+
+    /// `flush_end`, which is pending where the front is not there. The polls up to one that is ready
+    /// submit one end in all, unless another writing, submitting or flushing call comes between.
+    pub fn poll_flush_end<B: Bus>(&mut self, bus: &mut B) -> Poll<Result<(), Fail<WriteFault>>>
+        requires few { self.old.begun ≡ false → length self.old.endpoint.pending
+            + end_need self.old.endpoint.maximum self.old.buffer ≤ 64 }
+        requires stands { Stands (B.state bus.old) self.old.endpoint }
+        ensures ok { IfReady result
+            (λ r. OnOk r
+            (PolledEnd (bus_calls B.state B.submitted B.refused B.turned B.turn_of B.taken)
+            (writing bus.old self.old) (writing bus.new self.new))) }
+        ensures failed { IfReady result
+            (λ r. IfErr r (λ e. FailsBy e
+            (PolledEndFailed (bus_calls B.state B.submitted B.refused B.turned B.turn_of B.taken)
+            (writing bus.old self.old) (writing bus.new self.new))
+            (PolledEndShort (bus_calls B.state B.submitted B.refused B.turned B.turn_of B.taken)
+            (writing bus.old self.old) (writing bus.new self.new)))) }
+        ensures in_time { IfReady result (λ r. IfErr r IsWrittenInTime) }
+        ensures pending { IfPending result
+            (DrainMissed (bus_calls B.state B.submitted B.refused B.turned B.turn_of B.taken) true 0
+            (begun_end (bus_calls B.state B.submitted B.refused B.turned B.turn_of B.taken)
+            (writing bus.old self.old)) (writing bus.new self.new)) }
+        ensures tells { TellsPolledEnd (B.state bus.old) (B.state bus.new) self.old self.new
+            result }
+        ensures key { self.new.endpoint.key ≡ self.old.endpoint.key }
+        ensures stands { Stands (B.state bus.new) self.new.endpoint }
+        ensures others { KeepsOthers (B.state bus.old) (B.state bus.new) self.old.endpoint.key }
+    {
+        if self.begin_end(bus).is_err() {
+            return Poll::Ready(Err(Fail::Memory));
+        }
+        match self.drain(bus, true, 0) {
+            Err(WriteFault::TimedOut) => Poll::Pending,
+            Ok(()) => {
+                self.begun = false;
+                Poll::Ready(Ok(()))
+            }
+            Err(fault) => {
+                self.begun = false;
+                Poll::Ready(Err(Fail::Cause(fault)))
+            }
+        }
+    }
+}
