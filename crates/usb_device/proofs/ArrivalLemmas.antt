@@ -22,7 +22,7 @@ use Rattle.usb_ledger.specs.declared.slot.TicketState.TheVariants as slot
 use Rattle.usb_ledger.specs.Entries.{Ended}
 use Rattle.usb_device.specs.HostState.{HostState}
 use Rattle.usb_device.specs.HostFacts.{TicketsAgree, Fits, host_made}
-use Rattle.usb_ledger.specs.LedgerState.{LedgerState, host_ticket, slot_with, abandoned_key, ended_with}
+use Rattle.usb_ledger.specs.LedgerState.{LedgerState, host_ticket, slot_with, abandoned_key, ended_with, left_with}
 use Rattle.usb_device.specs.Releases.{without_ended, settled}
 use Rattle.usb_device.specs.TicketEnds.{came, host_ended}
 use Rattle.usb_ledger.proofs.ListLemmas.{slice_get-set}
@@ -73,7 +73,7 @@ module _ (k : KernelState) (devices : List (Option OpenDevice)) (l : LedgerState
   unfolding came host_ended
   came-reclaimed key at = rw (ticket-at l.slots done.ticket (slot.Abandoned key) at, ticket-at l.slots done.ticket (slot.Abandoned key) at) refl
 
-  pub came-slot : (s : TicketState) (l' : LedgerState) (ended : Option EndedClaim) (k' : KernelState) → slice_get l.slots done.ticket ≡ Some s → l' ≡ record l { slots = set l.slots done.ticket (slot_with done s) } → ended ≡ ended_with l' (abandoned_key s) → k' ≡ without_ended k ended
+  pub came-slot : (s : TicketState) (l' : LedgerState) (ended : Option EndedClaim) (k' : KernelState) → slice_get l.slots done.ticket ≡ Some s → l' ≡ left_with (record l { slots = set l.slots done.ticket (slot_with done s) }) (abandoned_key s) → ended ≡ ended_with (record l { slots = set l.slots done.ticket (slot_with done s) }) (abandoned_key s) → k' ≡ without_ended k ended
       → host_made k' devices l' steps ≡ came (host_made k devices l steps) (Some done)
   unfolding settled
   came-slot (slot.HeldBy key transfer) l' ended k' at is claim kernel =
@@ -84,6 +84,11 @@ module _ (k : KernelState) (devices : List (Option OpenDevice)) (l : LedgerState
   came-slot (slot.Ended end) l' ended k' at is claim kernel =
       let same = tickets-same l.slots done.ticket (slot.Ended end) (slot_with done (slot.Ended end)) at refl in
       rw (released-as k k' ended kernel, claim, is, same) (sym (came-held 0 (slot.Ended end) at refl))
+
+-- an entry that goes leaves the slots
+pub left-slots : (l : LedgerState) (o : Option ℕ) → (left_with l o).slots ≡ l.slots
+left-slots l None = refl
+left-slots l (Some key) = refl
 
 pub came-none : (h : HostState) → came h None ≡ h
 unfolding came

@@ -20,16 +20,18 @@ use Rattle.usb_device.specs.TicketEnds.{ended_as, host_ended, host_taken, given_
 use Rattle.usb_device.specs.HostCalls.{submitted_with, host_submitted, refused_with, host_refused, closed_if, host_left}
 use Rattle.usb_device.specs.HostBus.{held_as, owner_at, key_at, bus_of}
 use Rattle.usb_device.proofs.HostKeeps.{KeepsLine, KeepsOpen}
-use Rattle.usb_device.proofs.HostFrames.{ended_as-is, owner-set_other}
+use Rattle.usb_device.proofs.HostFrames.{ended_as-is, ended_as-goes, owner-set_other}
+use Rattle.usb_device.proofs.ClaimFrames.{goes-refl, goes-of}
+use Rattle.usb_device.specs.HostFrames.{ClaimsGoOn}
 
 -- nothing that handles stand on has changed
 pub keeps-open : (h : HostState) → KeepsOpen h h
-keeps-open h = record { line = record { steps = refl; spare = refl; devices = refl }; interfaces = refl; endpoints = refl }
+keeps-open h = record { line = record { steps = refl; spare = refl; devices = refl }; interfaces = goes-refl h.interfaces; endpoints = refl }
 
 -- a submission adds a ticket, and changes the journal and the armed refusals
 submitted_with-keeps : (h : HostState) (to : Route) (t : TransferData) (o : Option BufferState) → KeepsOpen h (submitted_with h to t o)
 submitted_with-keeps h to t None = keeps-open h
-submitted_with-keeps h to t (Some b) = record { line = record { steps = refl; spare = refl; devices = refl }; interfaces = refl; endpoints = refl }
+submitted_with-keeps h to t (Some b) = record { line = record { steps = refl; spare = refl; devices = refl }; interfaces = goes-refl h.interfaces; endpoints = refl }
 
 pub keeps-submitted : (h : HostState) (to : Route) (t : TransferData) → KeepsOpen h (host_submitted h to t)
 unfolding host_submitted
@@ -38,7 +40,7 @@ keeps-submitted h to t = submitted_with-keeps h to t (buffer_held t.held)
 -- so does one that is refused
 refused_with-keeps : (h : HostState) (to : Route) (t : TransferData) (errno : ℕ) (o : Option BufferState) → KeepsOpen h (refused_with h to t errno o)
 refused_with-keeps h to t errno None = keeps-open h
-refused_with-keeps h to t errno (Some b) = record { line = record { steps = refl; spare = refl; devices = refl }; interfaces = refl; endpoints = refl }
+refused_with-keeps h to t errno (Some b) = record { line = record { steps = refl; spare = refl; devices = refl }; interfaces = goes-refl h.interfaces; endpoints = refl }
 
 pub keeps-refused : (h : HostState) (to : Route) (t : TransferData) (errno : ℕ) → KeepsOpen h (host_refused h to t errno)
 unfolding host_refused
@@ -109,7 +111,7 @@ keeps-ended h t end =
     let is = ended_as-is h t end (slice_get h.tickets t) in
     record {
       line = record { steps = ap (λ (g : HostState). g.steps) is; spare = ap (λ (g : HostState). g.kernel.spare) is; devices = ap (λ (g : HostState). g.devices) is };
-      interfaces = ap (λ (g : HostState). g.interfaces) is;
+      interfaces = ended_as-goes h t end (slice_get h.tickets t);
       endpoints = ap (λ (g : HostState). g.endpoints) is;
     }
 
@@ -119,7 +121,7 @@ keeps-taken h t = keeps-ended h t Taken
 
 given_up-keeps : (h : HostState) (t : ℕ) (o : Option HostTicket) → KeepsOpen h (given_up h t o)
 given_up-keeps h t None = keeps-open h
-given_up-keeps h t (Some (HeldBy hold)) = record { line = record { steps = refl; spare = refl; devices = refl }; interfaces = refl; endpoints = refl }
+given_up-keeps h t (Some (HeldBy hold)) = record { line = record { steps = refl; spare = refl; devices = refl }; interfaces = goes-refl h.interfaces; endpoints = refl }
 given_up-keeps h t (Some (Abandoned key)) = keeps-open h
 given_up-keeps h t (Some (Ended end)) = keeps-open h
 
@@ -157,8 +159,8 @@ closed_if-keys h k (Some e) at =
     without_key-at (key_at h.endpoints) (key_at (set h.endpoints k (record e { is_open = false }))) k (key-set h.endpoints k e)
     (λ j ne. key-set_other h.endpoints k j (record e { is_open = false }) ne)
 
--- the close of an endpoint changes endpoints, devices of the kernel and what is armed there
-closed_if-is : (h : HostState) (k : ℕ) (o : Option HostEndpoint) → closed_if h k o ≡ record h { kernel = record h.kernel { devices = (closed_if h k o).kernel.devices; armed = (closed_if h k o).kernel.armed }; endpoints = (closed_if h k o).endpoints }
+-- the close of an endpoint changes endpoints, claimed interfaces, devices of the kernel and what is armed there
+closed_if-is : (h : HostState) (k : ℕ) (o : Option HostEndpoint) → closed_if h k o ≡ record h { kernel = record h.kernel { devices = (closed_if h k o).kernel.devices; armed = (closed_if h k o).kernel.armed }; interfaces = (closed_if h k o).interfaces; endpoints = (closed_if h k o).endpoints }
 unfolding settled
 closed_if-is h k None = refl
 closed_if-is h k (Some e) = refl
@@ -175,6 +177,11 @@ line-left h k =
     let is = closed_if-is h k (slice_get h.endpoints k) in
     record { steps = ap (λ (g : HostState). g.steps) is; spare = ap (λ (g : HostState). g.kernel.spare) is; devices = ap (λ (g : HostState). g.devices) is }
 
-pub interfaces-left : (h : HostState) (k : ℕ) → (host_left h k).interfaces ≡ h.interfaces
+closed_if-goes : (h : HostState) (k : ℕ) (o : Option HostEndpoint) → ClaimsGoOn h.interfaces (closed_if h k o).interfaces
+unfolding settled
+closed_if-goes h k None = goes-refl h.interfaces
+closed_if-goes h k (Some e) = goes-of h.interfaces h.tickets (set h.endpoints k (record e { is_open = false })) k
+
+pub interfaces-left : (h : HostState) (k : ℕ) → ClaimsGoOn h.interfaces (host_left h k).interfaces
 unfolding host_left
-interfaces-left h k = ap (λ (g : HostState). g.interfaces) (closed_if-is h k (slice_get h.endpoints k))
+interfaces-left h k = closed_if-goes h k (slice_get h.endpoints k)

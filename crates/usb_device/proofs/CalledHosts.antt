@@ -115,7 +115,7 @@ module _ (h : HostState) (key : ℕ) (o : OpenDevice) (at : value_at h.devices k
       ap (configured_on h key value) at ∙ ap (λ e. record h { kernel = next; devices = set h.devices key (Some (configured_unless o value e)) }) is
 
 -- and on a claimed interface
-module _ (h : HostState) (i setting : ℕ) (c : ClaimedInterface) (at : slice_get h.interfaces i ≡ Some c) where
+module _ (h : HostState) (i setting : ℕ) (c : ClaimedInterface) (at : value_at h.interfaces i ≡ Some c) where
   pub setting-in_use : has_living h.tickets h.endpoints i ≡ true → alt_setting_set h i setting ≡ h
   unfolding alt_setting_set
   setting-in_use living = rw (at, living) refl
@@ -128,18 +128,18 @@ module _ (h : HostState) (i setting : ℕ) (c : ClaimedInterface) (at : slice_ge
   setting-refused errno living is =
       let next = called h.kernel c.device call.Alt (set_interface_rules c.number setting) same in
       setting-asked living
-      ∙ ap (λ e. record h { kernel = next; interfaces = set h.interfaces i (setting_unless c setting e) }) is
-      ∙ ap (λ (xs : List ClaimedInterface). record h { kernel = next; interfaces = xs }) (set-same h.interfaces i c at)
+      ∙ ap (λ e. record h { kernel = next; interfaces = set h.interfaces i (Some (setting_unless c setting e)) }) is
+      ∙ ap (λ (xs : List (Option ClaimedInterface)). record h { kernel = next; interfaces = xs }) (set-value_same h.interfaces i c at)
 
-  pub setting-set : has_living h.tickets h.endpoints i ≡ false → alt_setting_errno h c setting ≡ None → alt_setting_set h i setting ≡ record h { kernel = called h.kernel c.device call.Alt (set_interface_rules c.number setting) same; interfaces = set h.interfaces i (record c { setting = setting }) }
+  pub setting-set : has_living h.tickets h.endpoints i ≡ false → alt_setting_errno h c setting ≡ None → alt_setting_set h i setting ≡ record h { kernel = called h.kernel c.device call.Alt (set_interface_rules c.number setting) same; interfaces = set h.interfaces i (Some (record c { setting = setting })) }
   setting-set living is =
       let next = called h.kernel c.device call.Alt (set_interface_rules c.number setting) same in
-      setting-asked living ∙ ap (λ e. record h { kernel = next; interfaces = set h.interfaces i (setting_unless c setting e) }) is
+      setting-asked living ∙ ap (λ e. record h { kernel = next; interfaces = set h.interfaces i (Some (setting_unless c setting e)) }) is
 
 -- one more handle
 pub cloned-made :
-    (k : KernelState) (devices : List (Option OpenDevice)) (l : LedgerState) (steps : List KernelStep) (i : ℕ) (c : ClaimedInterface) (after : LedgerState) (now : HostState) (r : Result (Unit {0}) NoMemory) → slice_get l.interfaces i ≡ Some c → host_made k devices l steps ≡ now
-    → OnOk r (ForSome (slice_get l.interfaces i) (λ c. after ≡ record l { interfaces = set l.interfaces i (record c { handles = c.handles + 1 }) })) → OnOk r (host_made k devices after steps ≡ handle_cloned now i)
+    (k : KernelState) (devices : List (Option OpenDevice)) (l : LedgerState) (steps : List KernelStep) (i : ℕ) (c : ClaimedInterface) (after : LedgerState) (now : HostState) (r : Result (Unit {0}) NoMemory) → value_at l.interfaces i ≡ Some c → host_made k devices l steps ≡ now
+    → OnOk r (ForSome (value_at l.interfaces i) (λ c. after ≡ record l { interfaces = set l.interfaces i (Some (record c { handles = c.handles + 1 })) })) → OnOk r (host_made k devices after steps ≡ handle_cloned now i)
 unfolding handle_cloned
 cloned-made k devices l steps i c after now (Ok done) at is ok =
     ap (λ (x : LedgerState). host_made k devices x steps) (ok c at) ∙ sym (ap (handle_added (host_made k devices l steps) i) at) ∙ ap (λ (h : HostState). handle_cloned h i) is

@@ -203,7 +203,7 @@ handle_gone-count h i (Some c) = record { count = refl; past = refl }
 
 pub handle_closed-count : (h : HostState) (i : ℕ) → KeepsCount h (handle_closed h i)
 unfolding handle_closed
-handle_closed-count h i = handle_gone-count h i (slice_get h.interfaces i)
+handle_closed-count h i = handle_gone-count h i (value_at h.interfaces i)
 
 claimed_by-count : (h g : HostState) (c : ClaimedInterface) (r : Result (Unit {0}) ErrorState) → KeepsCount h g → KeepsCount h (claimed_by g c r)
 claimed_by-count h g c (Err error) keeps = keeps

@@ -184,7 +184,7 @@ handle-by h i (Some c) = λ t end at. at
 
 handle-ends : (h : HostState) (i : ℕ) → KeepsEnds h (handle_closed h i)
 unfolding handle_closed
-handle-ends h i = handle-by h i (slice_get h.interfaces i)
+handle-ends h i = handle-by h i (value_at h.interfaces i)
 
 cloned-by : (h : HostState) (i : ℕ) (o : Option ClaimedInterface) → KeepsEnds h (handle_added h i o)
 cloned-by h i None = same h
@@ -192,7 +192,7 @@ cloned-by h i (Some c) = λ t end at. at
 
 cloned-ends : (h : HostState) (i : ℕ) → KeepsEnds h (handle_cloned h i)
 unfolding handle_cloned
-cloned-ends h i = cloned-by h i (slice_get h.interfaces i)
+cloned-ends h i = cloned-by h i (value_at h.interfaces i)
 
 setting-unless : (h : HostState) (i setting : ℕ) (c : ClaimedInterface) (living : Bool) → KeepsEnds h (cond living h (alt_setting_asked h i setting c))
 setting-unless h i setting c true = same h
@@ -204,7 +204,7 @@ setting-by h i setting (Some c) = setting-unless h i setting c (has_living h.tic
 
 setting-ends : (h : HostState) (i setting : ℕ) → KeepsEnds h (alt_setting_set h i setting)
 unfolding alt_setting_set
-setting-ends h i setting = setting-by h i setting (slice_get h.interfaces i)
+setting-ends h i setting = setting-by h i setting (value_at h.interfaces i)
 
 configured-by : (h : HostState) (key value : ℕ) (o : Option OpenDevice) → KeepsEnds h (configured_on h key value o)
 configured-by h key value None = same h

@@ -9,6 +9,8 @@ use Rattle.usb_device.specs.TicketEnds.{host_abandoned}
 use Rattle.usb_device.specs.HostCalls.{host_submitted, host_refused, host_discarded, host_left}
 use Rattle.usb_device.specs.HostFrames.{HostGoesOn}
 use Rattle.usb_device.proofs.HostKeeps.{KeepsLine, KeepsOpen}
+use Rattle.usb_device.specs.HostFrames.{ClaimsGoOn}
+use Rattle.usb_device.proofs.ClaimFrames.{goes-refl, goes-trans}
 use Rattle.usb_device.proofs.CallFrames.{keeps-open, keeps-submitted, keeps-refused, keeps-abandoned, line-left, interfaces-left}
 use Rattle.usb_device.proofs.HostFrames.{uses-discarded}
 use Rattle.usb_device.proofs.WaitFrames.{went-uses, went-nowhere, went-trans}
@@ -30,13 +32,13 @@ went-all_discarded h (t ∷ ts) =
 
 keeps-discarded : (h : HostState) (t : ℕ) → KeepsOpen h (host_discarded h t)
 unfolding host_discarded
-keeps-discarded h t = record { line = record { steps = refl; spare = refl; devices = refl }; interfaces = refl; endpoints = refl }
+keeps-discarded h t = record { line = record { steps = refl; spare = refl; devices = refl }; interfaces = goes-refl h.interfaces; endpoints = refl }
 
 keeps-trans : (a b c : HostState) → KeepsOpen a b → KeepsOpen b c → KeepsOpen a c
 keeps-trans a b c first second =
     record {
       line = record { steps = second.line.steps ∙ first.line.steps; spare = second.line.spare ∙ first.line.spare; devices = second.line.devices ∙ first.line.devices };
-      interfaces = second.interfaces ∙ first.interfaces;
+      interfaces = goes-trans a.interfaces b.interfaces c.interfaces first.interfaces second.interfaces;
       endpoints = second.endpoints ∙ first.endpoints;
     }
 
@@ -50,7 +52,7 @@ keeps-all_abandoned h [] = keeps-open h
 keeps-all_abandoned h (t ∷ ts) =
     keeps-trans h (host_abandoned h t) (all_abandoned host_abandoned (host_abandoned h t) ts) (keeps-abandoned h t) (keeps-all_abandoned (host_abandoned h t) ts)
 
--- the close of an endpoint keeps the line, the open devices and the claimed interfaces
+-- the close of an endpoint keeps the line and the open devices, and claimed interfaces go on
 given_up-all : (h : HostState) (e : EndpointState) → KeepsOpen h (all_abandoned host_abandoned (all_discarded host_discarded h e.pending) e.pending)
 given_up-all h e =
     let mid = all_discarded host_discarded h e.pending in
@@ -62,5 +64,7 @@ line-closed h e =
     let left = line-left (all_abandoned host_abandoned (all_discarded host_discarded h e.pending) e.pending) e.key in
     record { steps = left.steps ∙ keeps.line.steps; spare = left.spare ∙ keeps.line.spare; devices = left.devices ∙ keeps.line.devices }
 
-pub interfaces-closed : (h : HostState) (e : EndpointState) → (after_close host_discarded host_abandoned host_left h e).interfaces ≡ h.interfaces
-interfaces-closed h e = interfaces-left (all_abandoned host_abandoned (all_discarded host_discarded h e.pending) e.pending) e.key ∙ (given_up-all h e).interfaces
+pub interfaces-closed : (h : HostState) (e : EndpointState) → ClaimsGoOn h.interfaces (after_close host_discarded host_abandoned host_left h e).interfaces
+interfaces-closed h e =
+    let given = all_abandoned host_abandoned (all_discarded host_discarded h e.pending) e.pending in
+    goes-trans h.interfaces given.interfaces (host_left given e.key).interfaces (given_up-all h e).interfaces (interfaces-left given e.key)

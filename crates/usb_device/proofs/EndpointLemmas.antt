@@ -117,7 +117,7 @@ pub endpoint-interface : (h new : HostState) (i : InterfaceState) (device addres
 endpoint-interface h new i device address stands is =
     record {
       claim = stands.claim;
-      at = ap (λ (x : HostState). slice_get x.interfaces i.key) (is ∙ ap (λ x. with_endpoint x i.key address) (asked-is h device)) ∙ stands.at;
+      at = ap (λ (x : HostState). value_at x.interfaces i.key) (is ∙ ap (λ x. with_endpoint x i.key address) (asked-is h device)) ∙ stands.at;
       number = stands.number;
       open_handle = stands.open_handle;
       device = subst (λ (ds : List (Option OpenDevice)). IsSome (value_at ds stands.claim.opened)) (sym (ap (λ (x : HostState). x.devices) is)) (counts-there h.devices (host_asked h device).devices (asked-counts h device) stands.claim.opened stands.device);
@@ -127,7 +127,7 @@ pub asked-interface : (h new : HostState) (i : InterfaceState) (device : ℕ) �
 asked-interface h new i device stands is =
     record {
       claim = stands.claim;
-      at = ap (λ (x : HostState). slice_get x.interfaces i.key) (is ∙ asked-is h device) ∙ stands.at;
+      at = ap (λ (x : HostState). value_at x.interfaces i.key) (is ∙ asked-is h device) ∙ stands.at;
       number = stands.number;
       open_handle = stands.open_handle;
       device = subst (λ (ds : List (Option OpenDevice)). IsSome (value_at ds stands.claim.opened)) (sym (ap (λ (x : HostState). x.devices) is)) (counts-there h.devices (host_asked h device).devices (asked-counts h device) stands.claim.opened stands.device);

@@ -222,7 +222,7 @@ handle_gone-on h i (Some c) = on-kept h (handle_gone h i (Some c)) refl refl
 
 pub on-handle_closed : (h : HostState) (i : ℕ) → KeepsTickets h (handle_closed h i)
 unfolding handle_closed
-on-handle_closed h i = handle_gone-on h i (slice_get h.interfaces i)
+on-handle_closed h i = handle_gone-on h i (value_at h.interfaces i)
 
 claimed_by-on : (h g : HostState) (c : ClaimedInterface) (r : Result (Unit {0}) ErrorState) → g.kernel.past ≡ h.kernel.past → g.tickets ≡ h.tickets → KeepsTickets h (claimed_by g c r)
 claimed_by-on h g c (Err error) past tickets = on-kept h g past tickets

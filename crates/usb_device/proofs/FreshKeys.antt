@@ -1,6 +1,6 @@
 -- The keys of what is opened last.
 use Rattle.std.proofs.Common.{ℕ, zero, suc, arith, ◌≡◌, ◌<◌, true, false, List, [], ◌∷◌, length}
-use Rattle.std.proofs.lemmas.Option.{slice_get_within}
+use Rattle.usb_registry.proofs.ValueLemmas.{value-within}
 use Rattle.usb_endpoint.specs.EndpointState.{EndpointState}
 use Rattle.usb_endpoint.specs.Handles.{Stands}
 use Rattle.usb_ledger.specs.Entries.{HostEndpoint}
@@ -10,7 +10,7 @@ use Rattle.usb_device.specs.HandleStates.{InterfaceState, StandsInterface}
 
 -- a handle that stands has a key below the next one
 pub stands-within : (h : HostState) (f : InterfaceState) → StandsInterface h f → f.key < length h.interfaces
-stands-within h f stands = slice_get_within h.interfaces f.key stands.claim stands.at
+stands-within h f stands = value-within h.interfaces f.key stands.claim stands.at
 
 -- an endpoint that is open has a key below the next one
 pub key-within : (es : List HostEndpoint) (k : ℕ) → key_at es k ≡ true → k < length es

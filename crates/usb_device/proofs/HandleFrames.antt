@@ -15,6 +15,7 @@ use Rattle.usb_device.specs.HandleStates.{InterfaceState, StandsInterface}
 use Rattle.usb_desc.specs.declared.error.Fail.{Fail}
 use Rattle.usb_error.specs.ErrorState.{ErrorState}
 use Rattle.usb_device.specs.CallErrors.{Leaves}
+use Rattle.usb_device.specs.HostFrames.{ClaimsGoOn}
 use Rattle.usb_device.proofs.Left.{left}
 use Rattle.usb_device.specs.Opens.{host_opened}
 use Rattle.usb_device.specs.InterfaceClaims.{host_claimed}
@@ -23,8 +24,8 @@ use Rattle.usb_device.proofs.WaitFrames.{went-turned}
 use Rattle.usb_device.proofs.EndpointCalls.{keeps-entered, interfaces-closed, line-closed}
 use Rattle.usb_device.proofs.InterfaceFrames.{opened-is, StandsInterface-same, bus-claimed}
 
--- a handle stands while the interfaces and the devices stay
-stands-stays : (h g : HostState) (i : InterfaceState) → g.interfaces ≡ h.interfaces → g.devices ≡ h.devices → StandsInterface h i → StandsInterface g i
+-- a handle stands while claimed interfaces go on and the devices stay
+stands-stays : (h g : HostState) (i : InterfaceState) → ClaimsGoOn h.interfaces g.interfaces → g.devices ≡ h.devices → StandsInterface h i → StandsInterface g i
 stands-stays h g i interfaces devices stands =
     StandsInterface-same h g i interfaces (there-same h.devices g.devices devices) stands
 

@@ -30,7 +30,7 @@ use Rattle.usb_device.specs.HostState.{HostState}
 use Rattle.usb_device.specs.HostBus.{hold_at, held_as, host_value, key_at}
 use Rattle.usb_device.specs.HostFacts.{TicketsAgree, host_made}
 use Rattle.usb_device.specs.HostCalls.{host_left}
-use Rattle.usb_ledger.specs.LedgerState.{LedgerState, host_ticket, slot_data, is_complete, ended_with}
+use Rattle.usb_ledger.specs.LedgerState.{LedgerState, host_ticket, slot_data, is_complete, ended_with, left_with}
 use Rattle.usb_ledger.specs.Releases.{claim_of}
 use Rattle.usb_device.specs.Releases.{without_ended, settled}
 use Rattle.usb_device.specs.HostTurns.{host_turned, host_turn, turned_of, reaped_of, turn_for, host_stepped, host_rest, all_stepped}
@@ -103,7 +103,7 @@ module _ (k : KernelState) (devices : List (Option OpenDevice)) (l : LedgerState
   unfolding host_ended
   ended-made end = rw (ticket-at l.slots t (slot.HeldBy w.key w.transfer) w.at) refl
 
-  pub ended-slot : (end : TicketEnd) (l' : LedgerState) (ended : Option EndedClaim) (k' : KernelState) → l' ≡ record l { slots = set l.slots t (slot.Ended end) } → ended ≡ ended_with l' (Some w.key) → k' ≡ without_ended k ended
+  pub ended-slot : (end : TicketEnd) (l' : LedgerState) (ended : Option EndedClaim) (k' : KernelState) → l' ≡ left_with (record l { slots = set l.slots t (slot.Ended end) }) (Some w.key) → ended ≡ ended_with (record l { slots = set l.slots t (slot.Ended end) }) (Some w.key) → k' ≡ without_ended k ended
       → host_made k' devices l' steps ≡ host_ended (host_made k devices l steps) t end
   unfolding settled
   ended-slot end l' ended k' is claim kernel = rw (ended-made end, released-as k k' ended kernel, claim, is, map-set host_ticket l.slots t (slot.Ended end)) refl
@@ -112,6 +112,13 @@ module _ (k : KernelState) (devices : List (Option OpenDevice)) (l : LedgerState
   pub abandoned-slot : (l' : LedgerState) → is_some (completion k.past t) ≡ false → l' ≡ record l { slots = set l.slots t (slot.Abandoned w.key) } → host_made k devices l' steps ≡ host_abandoned (host_made k devices l steps) t
   unfolding host_abandoned
   abandoned-slot l' open_ is = rw (open_, ticket-at l.slots t (slot.HeldBy w.key w.transfer) w.at, is, map-set host_ticket l.slots t (slot.Abandoned w.key)) refl
+
+pub TicketsAgree-end : (past : List Event) (slots : List TicketState) (t : ℕ) (end : TicketEnd) → TicketsAgree past slots → TicketsAgree past (set slots t (slot.Ended end))
+TicketsAgree-end past slots t end agree =
+    record {
+      count = length-set slots t (slot.Ended end) ∙ agree.count;
+      each = λ u x here. elim (slice_get-set slots t u (slot.Ended end) x here) [ inl w ↦ rw w.1 tt | inr w ↦ agree.each u x w.1 ];
+    }
 
 pub TicketsAgree-abandon : (past : List Event) (slots : List TicketState) (t key : ℕ) → TicketsAgree past slots → completion past t ≡ None → TicketsAgree past (set slots t (slot.Abandoned key))
 TicketsAgree-abandon past slots t key agree none =
@@ -137,7 +144,7 @@ open-at (e ∷ es) (suc k) open_ = let w = open-at es k open_ in record { e = w.
 
 -- it is left
 pub left-made : (k : KernelState) (devices : List (Option OpenDevice)) (l : LedgerState) (steps : List KernelStep) (key : ℕ) (w : OpenEndpoint l.endpoints key) (l' : LedgerState) (ended : Option EndedClaim) (k' : KernelState)
-    → l' ≡ record l { endpoints = set l.endpoints key (record w.e { is_open = false }) } → ended ≡ claim_of l'.interfaces (map host_ticket l'.slots) l'.endpoints key → k' ≡ without_ended k ended → host_made k' devices l' steps ≡ host_left (host_made k devices l steps) key
+    → l' ≡ left_with (record l { endpoints = set l.endpoints key (record w.e { is_open = false }) }) (Some key) → ended ≡ claim_of l.interfaces (map host_ticket l.slots) (set l.endpoints key (record w.e { is_open = false })) key → k' ≡ without_ended k ended → host_made k' devices l' steps ≡ host_left (host_made k devices l steps) key
 unfolding host_left settled
 left-made k devices l steps key w l' ended k' is claim kernel = rw (w.at, released-as k k' ended kernel, claim, is) refl
 

@@ -28,27 +28,49 @@ use Rattle.usb_bus.specs.declared.route.Turn.TheVariants.{TimeUp}
 use Rattle.usb_device.specs.HostTurns.{with_past, host_stepped, host_reaped, all_stepped, turn_for, reaped_of, turned_of, host_turn, host_turned}
 use Rattle.usb_device.specs.HostCalls.{host_discarded, host_idled}
 use Rattle.usb_device.specs.HostBus.{held_as, owner_at, key_at, bus_of}
+use Rattle.usb_device.specs.HostFrames.{ClaimsGoOn}
 use Rattle.usb_device.proofs.HostKeeps.{UsesPlaces}
+use Rattle.usb_device.proofs.ClaimFrames.{goes-same, goes-trans, goes-of}
 
--- the end of a ticket changes tickets, devices of the kernel and what is armed there
-pub ended_as-is : (h : HostState) (t : ℕ) (end : TicketEnd) (o : Option HostTicket) → ended_as h t end o ≡ record h { kernel = record h.kernel { devices = (ended_as h t end o).kernel.devices; armed = (ended_as h t end o).kernel.armed }; tickets = (ended_as h t end o).tickets }
+-- the end of a ticket changes tickets, claimed interfaces, devices of the kernel and what is armed there
+pub ended_as-is : (h : HostState) (t : ℕ) (end : TicketEnd) (o : Option HostTicket) → ended_as h t end o ≡ record h { kernel = record h.kernel { devices = (ended_as h t end o).kernel.devices; armed = (ended_as h t end o).kernel.armed }; interfaces = (ended_as h t end o).interfaces; tickets = (ended_as h t end o).tickets }
 unfolding settled
 ended_as-is h t end None = refl
 ended_as-is h t end (Some (HeldBy hold)) = refl
 ended_as-is h t end (Some (Abandoned key)) = refl
 ended_as-is h t end (Some (Ended before)) = refl
 
-reclaimed_if-is : (h : HostState) (t : ℕ) (o : Option HostTicket) → reclaimed_if h t o ≡ record h { kernel = record h.kernel { devices = (reclaimed_if h t o).kernel.devices; armed = (reclaimed_if h t o).kernel.armed }; tickets = (reclaimed_if h t o).tickets }
+reclaimed_if-is : (h : HostState) (t : ℕ) (o : Option HostTicket) → reclaimed_if h t o ≡ record h { kernel = record h.kernel { devices = (reclaimed_if h t o).kernel.devices; armed = (reclaimed_if h t o).kernel.armed }; interfaces = (reclaimed_if h t o).interfaces; tickets = (reclaimed_if h t o).tickets }
 unfolding host_ended
 reclaimed_if-is h t None = refl
 reclaimed_if-is h t (Some (HeldBy hold)) = refl
 reclaimed_if-is h t (Some (Abandoned key)) = ended_as-is h t Reclaimed (slice_get h.tickets t)
 reclaimed_if-is h t (Some (Ended end)) = refl
 
-pub came-is : (h : HostState) (o : Option Done) → came h o ≡ record h { kernel = record h.kernel { devices = (came h o).kernel.devices; armed = (came h o).kernel.armed }; tickets = (came h o).tickets }
+pub came-is : (h : HostState) (o : Option Done) → came h o ≡ record h { kernel = record h.kernel { devices = (came h o).kernel.devices; armed = (came h o).kernel.armed }; interfaces = (came h o).interfaces; tickets = (came h o).tickets }
 unfolding came
 came-is h None = refl
 came-is h (Some done) = reclaimed_if-is h done.ticket (slice_get h.tickets done.ticket)
+
+-- claimed interfaces go on
+pub ended_as-goes : (h : HostState) (t : ℕ) (end : TicketEnd) (o : Option HostTicket) → ClaimsGoOn h.interfaces (ended_as h t end o).interfaces
+unfolding settled
+ended_as-goes h t end None = goes-same h.interfaces h.interfaces refl
+ended_as-goes h t end (Some (HeldBy hold)) = goes-of h.interfaces (set h.tickets t (Ended end)) h.endpoints hold.key
+ended_as-goes h t end (Some (Abandoned key)) = goes-of h.interfaces (set h.tickets t (Ended end)) h.endpoints key
+ended_as-goes h t end (Some (Ended before)) = goes-same h.interfaces h.interfaces refl
+
+reclaimed_if-goes : (h : HostState) (t : ℕ) (o : Option HostTicket) → ClaimsGoOn h.interfaces (reclaimed_if h t o).interfaces
+unfolding host_ended
+reclaimed_if-goes h t None = goes-same h.interfaces h.interfaces refl
+reclaimed_if-goes h t (Some (HeldBy hold)) = goes-same h.interfaces h.interfaces refl
+reclaimed_if-goes h t (Some (Abandoned key)) = ended_as-goes h t Reclaimed (slice_get h.tickets t)
+reclaimed_if-goes h t (Some (Ended end)) = goes-same h.interfaces h.interfaces refl
+
+pub came-goes : (h : HostState) (o : Option Done) → ClaimsGoOn h.interfaces (came h o).interfaces
+unfolding came
+came-goes h None = goes-same h.interfaces h.interfaces refl
+came-goes h (Some done) = reclaimed_if-goes h done.ticket (slice_get h.tickets done.ticket)
 
 -- owners after a write of a ticket
 pub owner-set : (ts : List HostTicket) (t u : ℕ) (old new : HostTicket) → slice_get ts t ≡ Some old → held_as new ≡ held_as old → owner_at (set ts t new) u ≡ owner_at ts u
@@ -88,7 +110,7 @@ uses-came n old new o uses =
       steps = ap (λ (h : HostState). h.steps) is ∙ uses.steps;
       spare = ap (λ (h : HostState). h.kernel.spare) is ∙ uses.spare;
       devices = ap (λ (h : HostState). h.devices) is ∙ uses.devices;
-      interfaces = ap (λ (h : HostState). h.interfaces) is ∙ uses.interfaces;
+      interfaces = goes-trans old.interfaces new.interfaces (came new o).interfaces uses.interfaces (came-goes new o);
       endpoints = ap (λ (h : HostState). h.endpoints) is ∙ uses.endpoints;
       later = record {
         past = record { more = uses.later.past.more; is = ap (λ (h : HostState). h.kernel.past) is ∙ uses.later.past.is };
@@ -108,7 +130,7 @@ uses-none h =
       steps = refl;
       spare = omega arith;
       devices = refl;
-      interfaces = refl;
+      interfaces = goes-same h.interfaces h.interfaces refl;
       endpoints = refl;
       later = record { past = goes-on h.kernel.past h.kernel.past (extends-same h.kernel.past); clock = omega arith; owner = refl; keys = refl };
     }
@@ -132,7 +154,7 @@ uses-stepped h s =
       steps = refl;
       spare = refl;
       devices = refl;
-      interfaces = refl;
+      interfaces = goes-same h.interfaces h.interfaces refl;
       endpoints = refl;
       later = record {
         past = goes-on h.kernel.past (stepped h.kernel.devices h.kernel.clock h.kernel.past s) (extends-step h.kernel.devices h.kernel.clock h.kernel.past s);
@@ -148,7 +170,7 @@ with_past-uses h past on =
       steps = refl;
       spare = omega arith;
       devices = refl;
-      interfaces = refl;
+      interfaces = goes-same h.interfaces h.interfaces refl;
       endpoints = refl;
       later = record { past = goes-on h.kernel.past past on; clock = omega arith; owner = refl; keys = refl };
     }
@@ -169,7 +191,7 @@ uses-idled h until =
       steps = refl;
       spare = omega arith;
       devices = refl;
-      interfaces = refl;
+      interfaces = goes-same h.interfaces h.interfaces refl;
       endpoints = refl;
       later =
           record {
@@ -197,7 +219,7 @@ uses-all h (s ∷ ss) =
       steps = rest.steps ∙ one.steps;
       spare = omega (arith, one.spare, rest.spare);
       devices = rest.devices ∙ one.devices;
-      interfaces = rest.interfaces ∙ one.interfaces;
+      interfaces = goes-trans h.interfaces (host_stepped h s).interfaces (all_stepped (host_stepped h s) ss).interfaces one.interfaces rest.interfaces;
       endpoints = rest.endpoints ∙ one.endpoints;
       later = later-trans (bus_of h) (bus_of (host_stepped h s)) (bus_of (all_stepped (host_stepped h s) ss)) one.later rest.later;
     }

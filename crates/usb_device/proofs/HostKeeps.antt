@@ -3,13 +3,14 @@ use Rattle.std.specs.Prelude.{ℕ, ◌≡◌, ◌-◌}
 use Rattle.usb_bus.specs.Later.{IsLater}
 use Rattle.usb_device.specs.HostState.{HostState}
 use Rattle.usb_device.specs.HostBus.{bus_of}
+use Rattle.usb_device.specs.HostFrames.{ClaimsGoOn}
 
 -- so many places of the kernel were used, each by a step, and what handles stand on is as it was
 pub record UsesPlaces (places : ℕ) (old new : HostState) : Type 0 where
   pub steps : new.steps ≡ old.steps
   pub spare : new.kernel.spare ≡ old.kernel.spare - places
   pub devices : new.devices ≡ old.devices
-  pub interfaces : new.interfaces ≡ old.interfaces
+  pub interfaces : ClaimsGoOn old.interfaces new.interfaces
   pub endpoints : new.endpoints ≡ old.endpoints
   pub later : IsLater (bus_of old) (bus_of new)
 
@@ -24,8 +25,8 @@ pub record KeepsLine (old new : HostState) : Type 0 where
   pub spare : new.kernel.spare ≡ old.kernel.spare
   pub devices : new.devices ≡ old.devices
 
--- and so are the claimed interfaces and the endpoints
+-- and so are the claimed interfaces with handles, and the endpoints
 pub record KeepsOpen (old new : HostState) : Type 0 where
   pub line : KeepsLine old new
-  pub interfaces : new.interfaces ≡ old.interfaces
+  pub interfaces : ClaimsGoOn old.interfaces new.interfaces
   pub endpoints : new.endpoints ≡ old.endpoints

@@ -20,16 +20,18 @@ use Rattle.usb_error.specs.ErrorState.{ErrorState}
 use Rattle.usb_device.specs.Opens.{open_tried, opened_by, host_opened}
 use Rattle.usb_ledger.specs.Devices.{device_changed, interface_more}
 use Rattle.usb_device.proofs.DeviceLemmas.{KeepsThere, KeepsCounts, counts-same, counts-set, changed-there, held-interface_more, there-push}
+use Rattle.usb_registry.proofs.ValueLemmas.{value-push}
+use Rattle.usb_device.specs.HostFrames.{ClaimsGoOn}
 use Rattle.usb_device.proofs.HostKeeps.{KeepsSteps}
 use Rattle.usb_device.proofs.KernelFrames.{kernel_claimed-is}
 use Rattle.usb_device.proofs.TryLemmas.{open-arms}
 
--- a handle stands while the interfaces stay
-pub StandsInterface-same : (h g : HostState) (f : InterfaceState) → g.interfaces ≡ h.interfaces → KeepsThere h.devices g.devices → StandsInterface h f → StandsInterface g f
-StandsInterface-same h g f same there stands =
+-- a handle stands while claimed interfaces go on
+pub StandsInterface-same : (h g : HostState) (f : InterfaceState) → ClaimsGoOn h.interfaces g.interfaces → KeepsThere h.devices g.devices → StandsInterface h f → StandsInterface g f
+StandsInterface-same h g f goes there stands =
     record {
       claim = stands.claim;
-      at = ap (λ (cs : List ClaimedInterface). slice_get cs f.key) same ∙ stands.at;
+      at = goes.stays f.key stands.claim stands.at stands.open_handle;
       number = stands.number;
       open_handle = stands.open_handle;
       device = there stands.claim.opened stands.device;
@@ -43,19 +45,19 @@ handle_gone-is h i (Some c) = refl
 
 pub bus-handle_closed : (h : HostState) (i : ℕ) → bus_of (handle_closed h i) ≡ bus_of h
 unfolding handle_closed
-bus-handle_closed h i = ap bus_of (handle_gone-is h i (slice_get h.interfaces i))
+bus-handle_closed h i = ap bus_of (handle_gone-is h i (value_at h.interfaces i))
 
 pub line-handle_closed : (h : HostState) (i : ℕ) → KeepsSteps h (handle_closed h i)
 unfolding handle_closed
 line-handle_closed h i =
-    let is = handle_gone-is h i (slice_get h.interfaces i) in
+    let is = handle_gone-is h i (value_at h.interfaces i) in
     record { steps = ap (λ (g : HostState). g.steps) is; spare = ap (λ (g : HostState). g.kernel.spare) is }
 
 -- a claim adds an interface, and changes its open device, devices of the kernel and what is armed there
 claimed_by-is : (h : HostState) (k : KernelState) (c : ClaimedInterface) (r : Result (Unit {0}) ErrorState) → k ≡ record h.kernel { devices = k.devices; armed = k.armed }
     → claimed_by (record h { kernel = k }) c r ≡ record h { kernel = record h.kernel { devices = (claimed_by (record h { kernel = k }) c r).kernel.devices; armed = (claimed_by (record h { kernel = k }) c r).kernel.armed }; devices = (claimed_by (record h { kernel = k }) c r).devices; interfaces = (claimed_by (record h { kernel = k }) c r).interfaces }
 claimed_by-is h k c (Err error) is = ap (λ (x : KernelState). record h { kernel = x }) is
-claimed_by-is h k c (Ok done) is = ap (λ (x : KernelState). record h { kernel = x; devices = device_changed h.devices c.opened interface_more; interfaces = h.interfaces ++ c ∷ [] }) is
+claimed_by-is h k c (Ok done) is = ap (λ (x : KernelState). record h { kernel = x; devices = device_changed h.devices c.opened interface_more; interfaces = h.interfaces ++ Some c ∷ [] }) is
 
 claimed_on-is : (h : HostState) (key number : ℕ) (reattach : Bool) (o : Option OpenDevice) → claimed_on h key number reattach o ≡ record h { kernel = record h.kernel { devices = (claimed_on h key number reattach o).kernel.devices; armed = (claimed_on h key number reattach o).kernel.armed }; devices = (claimed_on h key number reattach o).devices; interfaces = (claimed_on h key number reattach o).interfaces }
 claimed_on-is h key number reattach None = refl
@@ -72,16 +74,11 @@ line-claimed h key number reattach =
     let is = claimed_on-is h key number reattach (value_at h.devices key) in
     record { steps = ap (λ (g : HostState). g.steps) is; spare = ap (λ (g : HostState). g.kernel.spare) is }
 
-get-push : {A : Type 0} (xs : List A) (y x : A) (k : ℕ) → slice_get xs k ≡ Some x → slice_get (xs ++ y ∷ []) k ≡ Some x
-get-push [] y x k at = absurd (none-some x at)
-get-push (z ∷ zs) y x zero at = at
-get-push (z ∷ zs) y x (suc k) at = get-push zs y x k at
-
-claimed_by-stays : (h : HostState) (d : ClaimedInterface) (r : Result (Unit {0}) ErrorState) (k : ℕ) (c : ClaimedInterface) → slice_get h.interfaces k ≡ Some c → slice_get (claimed_by h d r).interfaces k ≡ Some c
+claimed_by-stays : (h : HostState) (d : ClaimedInterface) (r : Result (Unit {0}) ErrorState) (k : ℕ) (c : ClaimedInterface) → value_at h.interfaces k ≡ Some c → value_at (claimed_by h d r).interfaces k ≡ Some c
 claimed_by-stays h d (Err error) k c at = at
-claimed_by-stays h d (Ok done) k c at = get-push h.interfaces d c k at
+claimed_by-stays h d (Ok done) k c at = value-push h.interfaces (Some d) k c at
 
-claimed_on-stays : (h : HostState) (key number k : ℕ) (reattach : Bool) (c : ClaimedInterface) (o : Option OpenDevice) → slice_get h.interfaces k ≡ Some c → slice_get (claimed_on h key number reattach o).interfaces k ≡ Some c
+claimed_on-stays : (h : HostState) (key number k : ℕ) (reattach : Bool) (c : ClaimedInterface) (o : Option OpenDevice) → value_at h.interfaces k ≡ Some c → value_at (claimed_on h key number reattach o).interfaces k ≡ Some c
 claimed_on-stays h key number k reattach c None at = at
 claimed_on-stays h key number k reattach c (Some o) at = claimed_by-stays (record h { kernel = kernel_claimed h.kernel o number reattach }) (fresh_interface key o.device number reattach) (claim_tried h o number reattach) k c at
 

@@ -10,6 +10,7 @@ pub mod EndpointLemmas
 pub mod BusLemmas
 pub mod WorkedRows
 pub mod WorkedWaits
+pub mod ClaimFrames
 pub mod HostKeeps
 pub mod HostFrames
 pub mod WaitFrames

@@ -34,7 +34,7 @@ use Rattle.usb_device.proofs.DeviceLemmas.{changed-at, changed-other, held-inter
 use Rattle.usb_device.proofs.InterfaceFrames.{claimed-there}
 use Rattle.usb_device.proofs.KernelFrames.{released-as}
 use Rattle.usb_ledger.specs.LedgerState.{LedgerState, host_ticket}
-use Rattle.usb_ledger.specs.Releases.{claim_ended}
+use Rattle.usb_ledger.specs.Releases.{claim_ended, without_claim}
 use Rattle.usb_device.specs.Releases.{without_ended, owner_gone}
 
 -- a device is opened: the key, and the host
@@ -96,14 +96,14 @@ claimed-refused h key number reattach o error at refused =
     ap (claimed_on h key number reattach) at ∙ ap (claimed_by (record h { kernel = kernel_claimed h.kernel o number reattach }) (fresh_interface key o.device number reattach)) refused
 
 pub claimed-at : (h : HostState) (key number : ℕ) (reattach : Bool) (o : OpenDevice) (done : Unit {0}) → value_at h.devices key ≡ Some o → claim_tried h o number reattach ≡ Ok done
-    → host_claimed h key number reattach ≡ record h { kernel = kernel_claimed h.kernel o number reattach; devices = device_changed h.devices key interface_more; interfaces = h.interfaces ++ fresh_interface key o.device number reattach ∷ [] }
+    → host_claimed h key number reattach ≡ record h { kernel = kernel_claimed h.kernel o number reattach; devices = device_changed h.devices key interface_more; interfaces = h.interfaces ++ Some (fresh_interface key o.device number reattach) ∷ [] }
 unfolding host_claimed
 claimed-at h key number reattach o done at made =
     ap (claimed_on h key number reattach) at ∙ ap (claimed_by (record h { kernel = kernel_claimed h.kernel o number reattach }) (fresh_interface key o.device number reattach)) made
 
 -- a handle that is closed
-pub closed-made : (k : KernelState) (devices left : List (Option OpenDevice)) (l : LedgerState) (steps : List KernelStep) (i : ℕ) (c : ClaimedInterface) (l' : LedgerState) (ended : Option EndedClaim) (k' : KernelState) → slice_get l.interfaces i ≡ Some c → left ≡ devices_left devices c
-    → l' ≡ record l { interfaces = set l.interfaces i (record c { handles = c.handles - 1 }) } → ended ≡ claim_ended l'.interfaces (map host_ticket l'.slots) l'.endpoints i → k' ≡ without_ended k ended → host_made k' left l' steps ≡ handle_closed (host_made k devices l steps) i
+pub closed-made : (k : KernelState) (devices left : List (Option OpenDevice)) (l : LedgerState) (steps : List KernelStep) (i : ℕ) (c : ClaimedInterface) (l' : LedgerState) (ended : Option EndedClaim) (k' : KernelState) → value_at l.interfaces i ≡ Some c → left ≡ devices_left devices c
+    → l' ≡ record l { interfaces = without_claim (set l.interfaces i (Some (record c { handles = c.handles - 1 }))) (Some i) (claim_ended (set l.interfaces i (Some (record c { handles = c.handles - 1 }))) (map host_ticket l.slots) l.endpoints i) } → ended ≡ claim_ended (set l.interfaces i (Some (record c { handles = c.handles - 1 }))) (map host_ticket l.slots) l.endpoints i → k' ≡ without_ended k ended → host_made k' left l' steps ≡ handle_closed (host_made k devices l steps) i
 unfolding handle_closed owner_gone
 closed-made k devices left l steps i c l' ended k' at less is claim kernel = rw (at, released-as k k' ended kernel, claim, is, less) refl
 
@@ -132,7 +132,7 @@ claimed-stands h new device number key reattach o at stands is made =
     let claim : ClaimedInterface = fresh_interface device o.device number reattach in
     record {
       claim = claim;
-      at = ap (λ (x : HostState). slice_get x.interfaces key) after ∙ ap (slice_get (h.interfaces ++ claim ∷ [])) next.0 ∙ slice_get-append_seam h.interfaces claim;
+      at = ap (λ (x : HostState). value_at x.interfaces key) after ∙ ap (value_at (h.interfaces ++ Some claim ∷ [])) next.0 ∙ value-last h.interfaces (Some claim);
       number = refl;
       open_handle = omega arith;
       device = subst (λ (x : HostState). IsSome (value_at x.devices device)) (sym made) (claimed-there h device number reattach device (is-some (value_at h.devices device) stands.device stands.at));

@@ -1,9 +1,9 @@
 -- The owners of interfaces over a claim.
-use Rattle.std.proofs.Common.{ℕ, ◌<◌, zero, suc, arith, ◌≡◌, ◌≢◌, Bool, true, false, List, [], ◌∷◌, ◌++◌, length, slice_get, Option, Some, None, inl, inr, refl, ◌∙◌, ap}
+use Rattle.std.proofs.Common.{ℕ, ◌<◌, ◌+◌, arith, ◌≡◌, ◌≢◌, length-append, sym, Bool, true, false, List, [], ◌∷◌, ◌++◌, length, slice_get, Option, Some, None, inl, inr, refl, ◌∙◌, ap}
 use Rattle.std.specs.Prelude.{IsSome}
 use Rattle.std.specs.Option.{option_map, option_map_or}
-use Rattle.std.proofs.lemmas.Bool.{cases_Bool}
-use Rattle.std.proofs.lemmas.Option.{slice_get_past, slice_get_within}
+use Rattle.std.proofs.lemmas.Bool.{cases_Bool, cases_eq}
+use Rattle.std.proofs.lemmas.Option.{same_Some}
 use Rattle.usb_simulated.specs.declared.devices.DeviceState.{DeviceState}
 use Rattle.usb_simulated.specs.declared.step.KernelCall.TheVariants as call
 use Rattle.usb_simulated.specs.Claims.{claim_rules, with_claim, ok_unless}
@@ -14,7 +14,7 @@ use Rattle.usb_simulated.proofs.InterfaceLemmas.{contains-insert_other}
 use Rattle.usb_kernel.proofs.ArmedLemmas.{refused-changes_none}
 use Rattle.usb_kernel.proofs.CallsKept.{claimed-refused, detach_and_claim-acts}
 use Rattle.usb_kernel.proofs.ClaimCalls.{claim-claims}
-use Rattle.usb_kernel.proofs.Places.{slice_get-append_seam}
+use Rattle.usb_registry.proofs.ValueLemmas.{value-last, value-past, value-push, value-pushed}
 use Rattle.usb_error.specs.Errors.{claim_error}
 use Rattle.usb_endpoint.specs.CallErrors.{or_error}
 use Rattle.usb_registry.specs.History.{value_at}
@@ -23,11 +23,11 @@ use Rattle.usb_ledger.specs.declared.opened.OpenDevice.{OpenDevice}
 use Rattle.usb_ledger.specs.Entries.{ClaimedInterface, fresh_interface}
 use Rattle.usb_device.specs.HostState.{HostState}
 use Rattle.usb_ledger.specs.Owners.{is_owned_among}
-use Rattle.usb_device.specs.OwnerLaws.{is_owned_claim, HasEnded, KeepsOwned}
+use Rattle.usb_device.specs.OwnerLaws.{is_owned_claim, InterfacesAreOwned, HasEnded, KeepsClaimed, KeepsHandles, KeepsClaims}
 use Rattle.usb_device.specs.InterfaceClaims.{claim_errno, kernel_claimed, claimed_by, claimed_on, host_claimed}
 use Rattle.usb_device.proofs.OwnerLawKernel.{called-claimed}
 use Rattle.usb_device.proofs.OwnerLawTells.{owns, at-owns, tells-from, tells-to, named, unnamed, Gains, tells-gain}
-use Rattle.usb_device.proofs.OwnerLawKept.{claim_as, claim_at, same-owns, same-ended, stays}
+use Rattle.usb_device.proofs.OwnerLawKept.{claim_as, claim_at, same-owns, same-owned, same-ended, stays}
 use Rattle.usb_device.proofs.OwnerLawTurns.{kernel-owned}
 
 -- a claim that is refused claims nothing
@@ -55,13 +55,6 @@ claims-there : (k : KernelState) (o : OpenDevice) (number : ℕ) (reattach : Boo
 claims-there k o number false d n other = called-claimed k o.device call.Claim (claim_rules number) (with_claim number) (λ x. refl) d n (λ here x. contains-insert_other x.claimed number n (other here))
 claims-there k o number true d n other = called-claimed k o.device call.DetachClaim (detach_and_claim_rules number) (with_claimed_only number) (λ x. refl) d n (λ here x. contains-insert_other x.claimed number n (other here))
 
--- the other elements of a list with a new one
-push-other : {X : Type 0} (xs : List X) (y : X) (i : ℕ) → i ≢ length xs → slice_get (xs ++ y ∷ []) i ≡ slice_get xs i
-push-other [] y zero apart = absurd (apart refl)
-push-other [] y (suc i) apart = refl
-push-other (x ∷ xs) y zero apart = refl
-push-other (x ∷ xs) y (suc i) apart = push-other xs y i (λ z. apart (omega (arith, z)))
-
 module _ (h : HostState) (key number : ℕ) (reattach : Bool) (o : OpenDevice) where
   abbrev fresh : ClaimedInterface
   fresh = fresh_interface key o.device number reattach
@@ -70,25 +63,43 @@ module _ (h : HostState) (key number : ℕ) (reattach : Bool) (o : OpenDevice) w
   asked = record h { kernel = kernel_claimed h.kernel o number reattach }
 
   abbrev next : HostState
-  next = record asked { devices = device_changed h.devices key interface_more; interfaces = h.interfaces ++ fresh ∷ [] }
+  next = record asked { devices = device_changed h.devices key interface_more; interfaces = h.interfaces ++ Some fresh ∷ [] }
 
   fresh-owned : is_owned_among h.tickets h.endpoints (length h.interfaces) fresh ≡ true
   unfolding is_owned_among
   fresh-owned = refl
 
-  fresh-owns : (d n : ℕ) → owns next d n (length h.interfaces) ≡ is_owned_claim h d n (length h.interfaces, fresh)
-  fresh-owns d n = at-owns next d n (length h.interfaces) fresh (slice_get-append_seam h.interfaces fresh)
+  fresh-owns : (d n : ℕ) → owns next d n (length h.interfaces) ≡ is_owned_claim h d n (length h.interfaces, Some fresh)
+  fresh-owns d n = at-owns next d n (length h.interfaces) fresh (value-last h.interfaces (Some fresh))
 
   none-before : (d n : ℕ) → owns h d n (length h.interfaces) ≡ false
-  none-before d n = ap (λ (o : Option ClaimedInterface). option_map_or (λ (c : ClaimedInterface). is_owned_claim h d n (length h.interfaces, c)) o false) (slice_get_past h.interfaces (length h.interfaces) (omega arith))
+  none-before d n = ap (λ (o : Option ClaimedInterface). is_owned_claim h d n (length h.interfaces, o)) (value-past h.interfaces (length h.interfaces) (omega arith))
 
   other-claim : (i : ℕ) → i ≢ length h.interfaces → claim_at next i ≡ claim_at h i
-  other-claim i apart = ap (option_map (claim_as h i)) (push-other h.interfaces fresh i apart)
+  other-claim i apart = ap (option_map (claim_as h i)) (value-pushed h.interfaces (Some fresh) i apart)
 
-  still-ended : (d n i : ℕ) → HasEnded h d n i → HasEnded next d n i
-  still-ended d n i e =
-      let below : i < length h.interfaces = slice_get_within h.interfaces i e.claim e.at in
-      same-ended h next i (other-claim i (λ z. absurd (omega (arith, z, below)))) d n e
+  more-given : length next.interfaces ≡ length h.interfaces + 1
+  more-given = length-append h.interfaces (Some fresh ∷ [])
+
+  still-ended : (i : ℕ) → HasEnded h i → HasEnded next i
+  still-ended i e = same-ended h next i (omega (arith, more-given)) (other-claim i (λ z. absurd (omega (arith, z, e.given)))) e
+
+  -- the new one has an owner
+  still-tidy : InterfacesAreOwned h → InterfacesAreOwned next
+  still-tidy own i =
+      elim (cases_eq i (length h.interfaces)) [
+        | inl last ↦ λ c at.
+            let c_is : fresh ≡ c = same_Some fresh c (sym (value-last h.interfaces (Some fresh)) ∙ ap (value_at next.interfaces) (sym last) ∙ at) in
+            ap (is_owned_among h.tickets h.endpoints i) (sym c_is) ∙ ap (λ k. is_owned_among h.tickets h.endpoints k fresh) last ∙ fresh-owned
+        | inr apart ↦ same-owned h next i (other-claim i apart) (own i)
+      ]
+
+  next-claimed : KeepsClaimed h.interfaces next.interfaces
+  next-claimed =
+      record {
+        given = omega (arith, more-given);
+        stays = λ i c at some. record { claim = c; at = value-push h.interfaces (Some fresh) i c at; more = omega arith };
+      }
 
   claim-gains : claim_errno h.kernel o number reattach ≡ None → Gains (is_claimed h.kernel.devices) (is_claimed next.kernel.devices) (owns h) (owns next) o.device number (length h.interfaces)
   claim-gains none =
@@ -102,19 +113,23 @@ module _ (h : HostState) (key number : ℕ) (reattach : Bool) (o : OpenDevice) w
         others = λ d n i apart. same-owns h next i (other-claim i apart) d n;
       }
 
-  claimed-with : (e : Option ℕ) → claim_errno h.kernel o number reattach ≡ e → KeepsOwned h (claimed_by asked fresh (or_error claim_error (ok_unless e)))
+  claimed-with : (e : Option ℕ) → claim_errno h.kernel o number reattach ≡ e → KeepsClaims h (claimed_by asked fresh (or_error claim_error (ok_unless e)))
   claimed-with None none =
       record {
-        owned = λ own. tells-to next (tells-gain (is_claimed h.kernel.devices) (is_claimed next.kernel.devices) (owns h) (owns next) o.device number (length h.interfaces) (claim-gains none) (tells-from h own));
-        ended = still-ended;
+        kept = record {
+          owned = λ own. tells-to next (tells-gain (is_claimed h.kernel.devices) (is_claimed next.kernel.devices) (owns h) (owns next) o.device number (length h.interfaces) (claim-gains none) (tells-from h own));
+          tidy = still-tidy;
+          ended = still-ended;
+        };
+        claimed = next-claimed;
       }
   claimed-with (Some errno) refused =
       kernel-owned h asked.kernel (λ d n. ap (λ (ds : List DeviceState). is_claimed ds d n) (refused-claimed h.kernel o number reattach errno refused))
 
-claimed-at : (h : HostState) (key number : ℕ) (reattach : Bool) (o : Option OpenDevice) → KeepsOwned h (claimed_on h key number reattach o)
+claimed-at : (h : HostState) (key number : ℕ) (reattach : Bool) (o : Option OpenDevice) → KeepsClaims h (claimed_on h key number reattach o)
 claimed-at h key number reattach None = stays h
 claimed-at h key number reattach (Some o) = claimed-with h key number reattach o (claim_errno h.kernel o number reattach) refl
 
-pub claimed-owned : (h : HostState) (key number : ℕ) (reattach : Bool) → KeepsOwned h (host_claimed h key number reattach)
+pub claimed-owned : (h : HostState) (key number : ℕ) (reattach : Bool) → KeepsClaims h (host_claimed h key number reattach)
 unfolding host_claimed
 claimed-owned h key number reattach = claimed-at h key number reattach (value_at h.devices key)

@@ -1,13 +1,15 @@
 -- Hosts that keep their claims and the owners of these.
-use Rattle.std.proofs.Common.{ℕ, ◌≡◌, Bool, false, Option, Some, None, slice_get, refl, sym, ◌∙◌, ap}
+use Rattle.std.proofs.Common.{ℕ, ◌≡◌, ◌≤◌, ◌<◌, arith, length, List, Bool, true, false, Option, Some, None, refl, sym, ◌∙◌, ap}
 use Rattle.std.specs.Prelude.{◌==◌, ◌&&◌}
 use Rattle.std.specs.Option.{option_map, option_map_or}
 use Rattle.std.proofs.lemmas.Option.{none-some, same_Some}
+use Rattle.usb_registry.specs.History.{value_at}
 use Rattle.usb_kernel.specs.ClaimLaws.{is_claimed}
 use Rattle.usb_ledger.specs.Entries.{ClaimedInterface}
 use Rattle.usb_device.specs.HostState.{HostState}
 use Rattle.usb_ledger.specs.Owners.{is_owned_among}
-use Rattle.usb_device.specs.OwnerLaws.{is_owned_claim, HasEnded, KeepsOwned}
+use Rattle.usb_device.specs.HostFrames.{ClaimsGoOn}
+use Rattle.usb_device.specs.OwnerLaws.{is_owned_claim, IsOwned, HasEnded, KeepsOwned, KeepsHandles, KeepsClaimed, KeepsClaims}
 use Rattle.usb_device.proofs.OwnerLawTells.{owns, tells-from, tells-to, tells-same}
 
 -- the claim of a key: its device, its number, and whether it has an owner
@@ -15,12 +17,12 @@ abbrev pub claim_as : HostState → ℕ → ClaimedInterface → ℕ × ℕ × B
 claim_as h i c = (c.device, c.number, is_owned_among h.tickets h.endpoints i c)
 
 abbrev pub claim_at : HostState → ℕ → Option (ℕ × ℕ × Bool)
-claim_at h i = option_map (claim_as h i) (slice_get h.interfaces i)
+claim_at h i = option_map (claim_as h i) (value_at h.interfaces i)
 
-pub at-claim : (h : HostState) (i : ℕ) (c : ClaimedInterface) → slice_get h.interfaces i ≡ Some c → claim_at h i ≡ Some (claim_as h i c)
+pub at-claim : (h : HostState) (i : ℕ) (c : ClaimedInterface) → value_at h.interfaces i ≡ Some c → claim_at h i ≡ Some (claim_as h i c)
 at-claim h i c at = ap (option_map (claim_as h i)) at
 
-pub at-none : (h : HostState) (i : ℕ) → slice_get h.interfaces i ≡ None → claim_at h i ≡ None
+pub at-none : (h : HostState) (i : ℕ) → value_at h.interfaces i ≡ None → claim_at h i ≡ None
 at-none h i none = ap (option_map (claim_as h i)) none
 
 -- it tells what the key owns
@@ -29,48 +31,81 @@ owned-as d n o = option_map_or (λ (s : ℕ × ℕ × Bool). (s.0 == d && s.1 ==
 
 owns-as : (h : HostState) (d n i : ℕ) → owns h d n i ≡ owned-as d n (claim_at h i)
 unfolding owned-as
-owns-as h d n i = by (slice_get h.interfaces i)
+owns-as h d n i = by (value_at h.interfaces i)
   where
-    by : (o : Option ClaimedInterface) → option_map_or (λ (c : ClaimedInterface). is_owned_claim h d n (i, c)) o false ≡ owned-as d n (option_map (claim_as h i) o)
+    by : (o : Option ClaimedInterface) → is_owned_claim h d n (i, o) ≡ owned-as d n (option_map (claim_as h i) o)
     by None = refl
     by (Some c) = refl
 
 pub same-owns : (h g : HostState) (i : ℕ) → claim_at g i ≡ claim_at h i → (d n : ℕ) → owns g d n i ≡ owns h d n i
 same-owns h g i same d n = owns-as g d n i ∙ ap (owned-as d n) same ∙ sym (owns-as h d n i)
 
--- and whether its claim has ended
-from-ended : (h : HostState) (d n i : ℕ) → HasEnded h d n i → claim_at h i ≡ Some (d, n, false)
-from-ended h d n i e = at-claim h i e.claim e.at ∙ rw (e.free, e.device, e.number) refl
-
-to-ended : (h : HostState) (d n i : ℕ) → claim_at h i ≡ Some (d, n, false) → HasEnded h d n i
-to-ended h d n i is = by (slice_get h.interfaces i) refl is
+-- whether it has ended
+from-none : (h : HostState) (i : ℕ) → claim_at h i ≡ None → value_at h.interfaces i ≡ None
+from-none h i is = by (value_at h.interfaces i) refl is
   where
-    by : (o : Option ClaimedInterface) → slice_get h.interfaces i ≡ o → option_map (claim_as h i) o ≡ Some (d, n, false) → HasEnded h d n i
-    by None at is = let gone : ℕ × ℕ × Bool = (d, n, false) in absurd (none-some gone is)
-    by (Some c) at is =
-        let gone : ℕ × ℕ × Bool = (d, n, false) in
-        let same : claim_as h i c ≡ gone = same_Some (claim_as h i c) gone is in
-        record {
-          claim = c;
-          at = at;
-          device = ap (λ (s : ℕ × ℕ × Bool). s.0) same;
-          number = ap (λ (s : ℕ × ℕ × Bool). s.1) same;
-          free = ap (λ (s : ℕ × ℕ × Bool). s.2) same;
-        }
+    by : (o : Option ClaimedInterface) → value_at h.interfaces i ≡ o → option_map (claim_as h i) o ≡ None → value_at h.interfaces i ≡ None
+    by None at is = at
+    by (Some c) at is = absurd (none-some (claim_as h i c) (sym is))
 
-pub same-ended : (h g : HostState) (i : ℕ) → claim_at g i ≡ claim_at h i → (d n : ℕ) → HasEnded h d n i → HasEnded g d n i
-same-ended h g i same d n e = to-ended g d n i (same ∙ from-ended h d n i e)
+pub same-ended : (h g : HostState) (i : ℕ) → length h.interfaces ≤ length g.interfaces → claim_at g i ≡ claim_at h i → HasEnded h i → HasEnded g i
+same-ended h g i given same e = record { given = omega (arith, given, e.given); gone = from-none g i (same ∙ at-none h i e.gone) }
 
--- a host where no claim and no owner has changed
-pub claims-kept : (h g : HostState) → ((d n : ℕ) → is_claimed g.kernel.devices d n ≡ is_claimed h.kernel.devices d n) → ((i : ℕ) → claim_at g i ≡ claim_at h i) → KeepsOwned h g
-claims-kept h g claims same =
+-- and whether it has an owner, if it is there
+claim-there : (h g : HostState) (i : ℕ) (c : ClaimedInterface) (o : Option ClaimedInterface) → value_at h.interfaces i ≡ o → IsOwned h i → option_map (claim_as h i) o ≡ Some (claim_as g i c) → is_owned_among g.tickets g.endpoints i c ≡ true
+claim-there h g i c None at own same = absurd (none-some (claim_as g i c) same)
+claim-there h g i c (Some d) at own same = sym (ap (λ (s : ℕ × ℕ × Bool). s.2) (same_Some (claim_as h i d) (claim_as g i c) same)) ∙ own d at
+
+pub same-owned : (h g : HostState) (i : ℕ) → claim_at g i ≡ claim_at h i → IsOwned h i → IsOwned g i
+same-owned h g i same own c at = claim-there h g i c (value_at h.interfaces i) refl own (sym same ∙ at-claim g i c at)
+
+-- interfaces that stay
+pub claimed-same : (old new : List (Option ClaimedInterface)) → new ≡ old → KeepsClaimed old new
+claimed-same old new same =
+    let count = ap (λ (cs : List (Option ClaimedInterface)). length cs) same in
     record {
-      owned = λ own. tells-to g (tells-same (is_claimed h.kernel.devices) (is_claimed g.kernel.devices) (owns h) (owns g) claims (λ d n i. same-owns h g i (same i) d n) (tells-from h own));
-      ended = λ d n i e. same-ended h g i (same i) d n e;
+      given = omega (arith, count);
+      stays = λ i c at some. record { claim = c; at = ap (λ (cs : List (Option ClaimedInterface)). value_at cs i) same ∙ at; more = omega arith };
     }
 
-pub stays : (h : HostState) → KeepsOwned h h
-stays h = record { owned = λ own. own; ended = λ d n i e. e }
+pub claimed-refl : (cs : List (Option ClaimedInterface)) → KeepsClaimed cs cs
+claimed-refl cs = claimed-same cs cs refl
 
-pub follow : (first second third : HostState) → KeepsOwned first second → KeepsOwned second third → KeepsOwned first third
-follow first second third a b = record { owned = λ own. b.owned (a.owned own); ended = λ d n i e. b.ended d n i (a.ended d n i e) }
+pub claimed-goes : (old new : List (Option ClaimedInterface)) → ClaimsGoOn old new → KeepsClaimed old new
+claimed-goes old new goes =
+    record {
+      given = omega (arith, goes.count);
+      stays = λ i c at some. record { claim = c; at = goes.stays i c at some; more = omega arith };
+    }
+
+pub claimed-trans : (a b c : List (Option ClaimedInterface)) → KeepsClaimed a b → KeepsClaimed b c → KeepsClaimed a c
+claimed-trans a b c first second =
+    record {
+      given = omega (arith, first.given, second.given);
+      stays = λ i x at some.
+          let one = first.stays i x at some in
+          let two = second.stays i one.claim one.at (omega (arith, one.more, some)) in
+          record { claim = two.claim; at = two.at; more = omega (arith, one.more, two.more) };
+    }
+
+-- a host where no claim and no owner has changed
+pub claims-kept : (h g : HostState) → KeepsClaimed h.interfaces g.interfaces → ((d n : ℕ) → is_claimed g.kernel.devices d n ≡ is_claimed h.kernel.devices d n) → ((i : ℕ) → claim_at g i ≡ claim_at h i) → KeepsClaims h g
+claims-kept h g keeps claims same =
+    record {
+      kept = record {
+        owned = λ own. tells-to g (tells-same (is_claimed h.kernel.devices) (is_claimed g.kernel.devices) (owns h) (owns g) claims (λ d n i. same-owns h g i (same i) d n) (tells-from h own));
+        tidy = λ own i. same-owned h g i (same i) (own i);
+        ended = λ i e. same-ended h g i keeps.given (same i) e;
+      };
+      claimed = keeps;
+    }
+
+pub stays : (h : HostState) → KeepsClaims h h
+stays h = record { kept = record { owned = λ own. own; tidy = λ own. own; ended = λ i e. e }; claimed = claimed-refl h.interfaces }
+
+pub follow : (first second third : HostState) → KeepsClaims first second → KeepsClaims second third → KeepsClaims first third
+follow first second third a b =
+    record {
+      kept = record { owned = λ own. b.kept.owned (a.kept.owned own); tidy = λ own. b.kept.tidy (a.kept.tidy own); ended = λ i e. b.kept.ended i (a.kept.ended i e) };
+      claimed = claimed-trans first.interfaces second.interfaces third.interfaces a.claimed b.claimed;
+    }

@@ -1,8 +1,11 @@
 -- The claim of an interface when an owner of it has gone.
-use Rattle.std.proofs.Common.{ℕ, ◌≡◌, ◌≢◌, Bool, true, false, cond, Some, None, slice_get, inl, inr, refl, sym, ◌∙◌, ap}
+use Rattle.std.proofs.Common.{ℕ, arith, ◌≡◌, ◌≢◌, ◌≤◌, Bool, true, false, cond, List, length, length-set, set, Option, Some, None, inl, inr, refl, sym, ◌∙◌, ap}
 use Rattle.std.specs.Prelude.{◌==◌, ◌&&◌}
 use Rattle.std.proofs.lemmas.Bool.{cases_eq}
-use Rattle.std.proofs.lemmas.Option.{same_Some}
+use Rattle.std.proofs.lemmas.Option.{none-some, same_Some}
+use Rattle.std.specs.Option.{option_map}
+use Rattle.usb_registry.proofs.ValueLemmas.{value-set_same, value-set_other}
+use Rattle.usb_registry.specs.History.{value_at}
 use Rattle.usb_simulated.specs.declared.step.KernelCall.TheVariants as call
 use Rattle.usb_simulated.specs.Claims.{after_release}
 use Rattle.usb_simulated.specs.Calls.{attach_rules, with_driver}
@@ -16,10 +19,10 @@ use Rattle.usb_device.specs.HostState.{HostState}
 use Rattle.usb_ledger.specs.Owners.{is_owned_among}
 use Rattle.usb_ledger.specs.Releases.{claim_ended}
 use Rattle.usb_device.specs.Releases.{released, without_ended, with_ended}
-use Rattle.usb_device.specs.OwnerLaws.{HasEnded, KeepsOwned}
+use Rattle.usb_device.specs.OwnerLaws.{is_owned_claim, InterfacesAreOwned, HasEnded, KeepsOwned}
 use Rattle.usb_device.proofs.OwnerLawKernel.{called-claimed, release-claimed}
-use Rattle.usb_device.proofs.OwnerLawTells.{owns, at-owns, tells-from, tells-to, named, unnamed, Loses, tells-loss}
-use Rattle.usb_device.proofs.OwnerLawKept.{claim_at, at-claim, same-owns, same-ended, claims-kept}
+use Rattle.usb_device.proofs.OwnerLawTells.{owns, at-owns, tells-from, tells-to, named, unnamed, tells-same, Loses, tells-loss}
+use Rattle.usb_device.proofs.OwnerLawKept.{claim_as, claim_at, at-claim, same-owns, same-owned, same-ended}
 
 -- a driver that is attached at the end of a claim claims nothing
 attached-claimed : (k : KernelState) (claim : EndedClaim) (b : Bool) (d n : ℕ) →
@@ -35,13 +38,14 @@ ended-claimed k claim d n = attached-claimed k claim claim.reattach d n
 pub record OwnerLeft (h g : HostState) (i : ℕ) : Type 0 where
   pub claim : ClaimedInterface
   pub left : ClaimedInterface
-  pub was : slice_get h.interfaces i ≡ Some claim
-  pub is : slice_get g.interfaces i ≡ Some left
+  pub was : value_at h.interfaces i ≡ Some claim
+  pub is : value_at g.interfaces i ≡ Some left
   pub device : left.device ≡ claim.device
   pub number : left.number ≡ claim.number
   pub owned : is_owned_among h.tickets h.endpoints i claim ≡ true
   pub others : (j : ℕ) → j ≢ i → claim_at g j ≡ claim_at h j
   pub claims : (d n : ℕ) → is_claimed g.kernel.devices d n ≡ is_claimed h.kernel.devices d n
+  pub count : length g.interfaces ≡ length h.interfaces
 
 and_true : (b : Bool) → (b && true) ≡ b
 and_true true = refl
@@ -85,37 +89,60 @@ module _ (h g : HostState) (i : ℕ) (gone : OwnerLeft h g i) where
   unfolding claim_ended
   ended-some free = rw (gone.is, free) refl
 
-  lost : is_owned_among g.tickets g.endpoints i gone.left ≡ false → Loses (is_claimed h.kernel.devices) (is_claimed (with_ended g (Some ended)).kernel.devices) (owns h) (owns (with_ended g (Some ended))) gone.claim.device gone.claim.number i
+  abbrev after : HostState
+  after = with_ended g (Some i) (Some ended)
+
+  none-here : value_at after.interfaces i ≡ None
+  none-here = value-set_same g.interfaces i gone.left None gone.is
+
+  after-other : (j : ℕ) → j ≢ i → claim_at after j ≡ claim_at h j
+  after-other j apart = ap (option_map (claim_as g j)) (value-set_other g.interfaces i j None (λ z. apart (sym z))) ∙ gone.others j apart
+
+  lost : is_owned_among g.tickets g.endpoints i gone.left ≡ false → Loses (is_claimed h.kernel.devices) (is_claimed after.kernel.devices) (owns h) (owns after) gone.claim.device gone.claim.number i
   lost free =
       record {
         was = owned-was gone.claim.device gone.claim.number ∙ named gone.claim.device gone.claim.number gone.claim.device gone.claim.number refl refl;
         only = λ d n other. owned-was d n ∙ unnamed gone.claim.device gone.claim.number d n other;
-        gone = λ d n. owned-is d n false free ∙ and_false (names d n);
+        gone = λ d n. ap (λ (o : Option ClaimedInterface). is_owned_claim after d n (i, o)) none-here;
         here = ended-claimed g.kernel ended gone.claim.device gone.claim.number ∙ rw (gone.device, gone.number) (release-ends g.kernel.devices gone.claim.device gone.claim.number);
         there = λ d n other. ended-claimed g.kernel ended d n ∙ rw (gone.device, gone.number) (release-claimed g.kernel.devices gone.claim.device gone.claim.number d n other) ∙ gone.claims d n;
-        others = λ d n j apart. same-owns h g j (gone.others j apart) d n;
+        others = λ d n j apart. same-owns h after j (after-other j apart) d n;
       }
 
+  count-after : length after.interfaces ≡ length g.interfaces
+  count-after = length-set g.interfaces i None
+
+  more-after : length h.interfaces ≤ length after.interfaces
+  more-after = omega (arith, count-after, gone.count)
+
   -- the other claims have ended or not as before, and this one had an owner
-  still-ended : (d n j : ℕ) → HasEnded h d n j → HasEnded (with_ended g (Some ended)) d n j
-  still-ended d n j e =
+  still-ended : (j : ℕ) → HasEnded h j → HasEnded after j
+  still-ended j e =
       elim (cases_eq j i) [
-        | inl same ↦
-            let at : slice_get h.interfaces i ≡ Some e.claim = ap (slice_get h.interfaces) (sym same) ∙ e.at in
-            let claim : gone.claim ≡ e.claim = same_Some gone.claim e.claim (sym gone.was ∙ at) in
-            let owned : is_owned_among h.tickets h.endpoints j e.claim ≡ true = ap (is_owned_among h.tickets h.endpoints j) (sym claim) ∙ (ap (λ k. is_owned_among h.tickets h.endpoints k gone.claim) same ∙ gone.owned) in
-            absurd (let both : true ≡ false = sym owned ∙ e.free in cc)
-        | inr apart ↦ same-ended h (with_ended g (Some ended)) j (gone.others j apart) d n e
+        | inl same ↦ absurd (none-some gone.claim (sym (ap (value_at h.interfaces) (sym same) ∙ e.gone) ∙ gone.was))
+        | inr apart ↦ same-ended h after j more-after (after-other j apart) e
       ]
 
-  kept-by : (b : Bool) → is_owned_among g.tickets g.endpoints i gone.left ≡ b → KeepsOwned h (with_ended g (claim_ended g.interfaces g.tickets g.endpoints i))
-  kept-by true owned = rw (ended-none owned) (claims-kept h g gone.claims (same-claims owned))
+  still-tidy : InterfacesAreOwned h → InterfacesAreOwned after
+  still-tidy own j =
+      elim (cases_eq j i) [
+        | inl same ↦ λ c at. absurd (none-some c (sym none-here ∙ ap (value_at after.interfaces) (sym same) ∙ at))
+        | inr apart ↦ same-owned h after j (after-other j apart) (own j)
+      ]
+
+  kept-by : (b : Bool) → is_owned_among g.tickets g.endpoints i gone.left ≡ b → KeepsOwned h (with_ended g (Some i) (claim_ended g.interfaces g.tickets g.endpoints i))
+  kept-by true owned =
+      rw (ended-none owned) (record {
+        owned = λ own. tells-to g (tells-same (is_claimed h.kernel.devices) (is_claimed g.kernel.devices) (owns h) (owns g) gone.claims (λ d n j. same-owns h g j (same-claims owned j) d n) (tells-from h own));
+        tidy = λ own j. same-owned h g j (same-claims owned j) (own j);
+        ended = λ j e. same-ended h g j (omega (arith, gone.count)) (same-claims owned j) e;
+      })
   kept-by false free =
-      let next = with_ended g (Some ended) in
       rw (ended-some free) (record {
-        owned = λ own. tells-to next (tells-loss (is_claimed h.kernel.devices) (is_claimed next.kernel.devices) (owns h) (owns next) gone.claim.device gone.claim.number i (lost free) (tells-from h own));
+        owned = λ own. tells-to after (tells-loss (is_claimed h.kernel.devices) (is_claimed after.kernel.devices) (owns h) (owns after) gone.claim.device gone.claim.number i (lost free) (tells-from h own));
+        tidy = still-tidy;
         ended = still-ended;
       })
 
-  pub owned-settled : KeepsOwned h (with_ended g (claim_ended g.interfaces g.tickets g.endpoints i))
+  pub owned-settled : KeepsOwned h (with_ended g (Some i) (claim_ended g.interfaces g.tickets g.endpoints i))
   owned-settled = kept-by (is_owned_among g.tickets g.endpoints i gone.left) refl

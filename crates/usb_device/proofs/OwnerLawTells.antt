@@ -1,17 +1,17 @@
 -- Which claims have an owner, and how one of them comes or goes.
 use Rattle.std.proofs.Common.{ℕ, arith, ◌≡◌, ◌≢◌, ◌+◌, Bool, true, false, Option, Some, None, slice_get, ◌⊎◌, inl, inr, refl, sym, ◌∙◌, ap, subst}
-use Rattle.std.specs.Prelude.{◌==◌, ◌&&◌}
-use Rattle.std.specs.Option.{option_map_or}
+use Rattle.std.specs.Prelude.{◌==◌, ◌&&◌, option_and_then}
 use Rattle.std.proofs.lemmas.Bool.{cases_eq, eq-eqb, ne_eqb}
+use Rattle.usb_registry.specs.History.{value_at}
 use Rattle.usb_kernel.specs.ClaimLaws.{is_claimed}
 use Rattle.usb_ledger.specs.Entries.{ClaimedInterface}
 use Rattle.usb_device.specs.HostState.{HostState}
 use Rattle.usb_device.specs.OwnerLaws.{is_owned_claim, has_owner, ClaimsAreOwned}
-use Rattle.usb_device.proofs.OwnerLawLists.{any-found, any-at}
+use Rattle.usb_device.proofs.OwnerLawLists.{any-found, any-at, entry-at}
 
 -- whether the claimed interface of a key is interface n of device d and has an owner
 abbrev pub owns : HostState → ℕ → ℕ → ℕ → Bool
-owns h d n i = option_map_or (λ (c : ClaimedInterface). is_owned_claim h d n (i, c)) (slice_get h.interfaces i) false
+owns h d n i = is_owned_claim h d n (i, value_at h.interfaces i)
 
 -- what is claimed is owned by exactly one key
 pub record Tells (claimed : ℕ → ℕ → Bool) (owned : ℕ → ℕ → ℕ → Bool) : Type 0 where
@@ -30,18 +30,21 @@ alike false false to from = refl
 -- a claim that has an owner
 pub record OwnsAt (h : HostState) (d n i : ℕ) : Type 0 where
   pub claim : ClaimedInterface
-  pub at : slice_get h.interfaces i ≡ Some claim
-  pub owned : is_owned_claim h d n (i, claim) ≡ true
+  pub at : value_at h.interfaces i ≡ Some claim
+  pub owned : is_owned_claim h d n (i, Some claim) ≡ true
 
 owns-at : (h : HostState) (d n i : ℕ) → owns h d n i ≡ true → OwnsAt h d n i
-owns-at h d n i is = by (slice_get h.interfaces i) refl is
+owns-at h d n i is = by (value_at h.interfaces i) refl is
   where
-    by : (o : Option ClaimedInterface) → slice_get h.interfaces i ≡ o → option_map_or (λ (c : ClaimedInterface). is_owned_claim h d n (i, c)) o false ≡ true → OwnsAt h d n i
+    by : (o : Option ClaimedInterface) → value_at h.interfaces i ≡ o → is_owned_claim h d n (i, o) ≡ true → OwnsAt h d n i
     by None at owned = absurd (cc)
     by (Some c) at owned = record { claim = c; at = at; owned = owned }
 
-pub at-owns : (h : HostState) (d n i : ℕ) (c : ClaimedInterface) → slice_get h.interfaces i ≡ Some c → owns h d n i ≡ is_owned_claim h d n (i, c)
-at-owns h d n i c at = ap (λ (o : Option ClaimedInterface). option_map_or (λ (c : ClaimedInterface). is_owned_claim h d n (i, c)) o false) at
+pub at-owns : (h : HostState) (d n i : ℕ) (c : ClaimedInterface) → value_at h.interfaces i ≡ Some c → owns h d n i ≡ is_owned_claim h d n (i, Some c)
+at-owns h d n i c at = ap (λ (o : Option ClaimedInterface). is_owned_claim h d n (i, o)) at
+
+found-owns : (h : HostState) (d n i : ℕ) (o : Option ClaimedInterface) → slice_get h.interfaces i ≡ Some o → owns h d n i ≡ is_owned_claim h d n (i, o)
+found-owns h d n i o at = ap (λ (e : Option (Option ClaimedInterface)). is_owned_claim h d n (i, option_and_then (λ v. v) e)) at
 
 no_less : (i : ℕ) → 0 + i ≡ i
 no_less i = omega arith
@@ -52,10 +55,10 @@ tells-from h own =
       found = λ d n is.
           let f = any-found (is_owned_claim h d n) 0 h.interfaces (sym (own.claimed d n) ∙ is) in
           let passes : is_owned_claim h d n (f.place, f.item) ≡ true = ap (λ i. is_owned_claim h d n (i, f.item)) (sym (no_less f.place)) ∙ f.passes in
-          (f.place, at-owns h d n f.place f.item f.at ∙ passes);
+          (f.place, found-owns h d n f.place f.item f.at ∙ passes);
       known = λ d n i is.
           let o = owns-at h d n i is in
-          own.claimed d n ∙ any-at (is_owned_claim h d n) 0 h.interfaces i o.claim o.at (ap (λ i. is_owned_claim h d n (i, o.claim)) (no_less i) ∙ o.owned);
+          own.claimed d n ∙ any-at (is_owned_claim h d n) 0 h.interfaces i (Some o.claim) (entry-at h.interfaces i o.claim o.at) (ap (λ i. is_owned_claim h d n (i, Some o.claim)) (no_less i) ∙ o.owned);
       apart = λ d n i j is as_.
           let o = owns-at h d n i is in
           let p = owns-at h d n j as_ in
@@ -70,11 +73,11 @@ tells-to h tells =
           (λ is.
           let f = tells.found d n is in
           let o = owns-at h d n f.0 f.1 in
-          any-at (is_owned_claim h d n) 0 h.interfaces f.0 o.claim o.at (ap (λ i. is_owned_claim h d n (i, o.claim)) (no_less f.0) ∙ o.owned))
+          any-at (is_owned_claim h d n) 0 h.interfaces f.0 (Some o.claim) (entry-at h.interfaces f.0 o.claim o.at) (ap (λ i. is_owned_claim h d n (i, Some o.claim)) (no_less f.0) ∙ o.owned))
           (λ is.
           let f = any-found (is_owned_claim h d n) 0 h.interfaces is in
           let passes : is_owned_claim h d n (f.place, f.item) ≡ true = ap (λ i. is_owned_claim h d n (i, f.item)) (sym (no_less f.place)) ∙ f.passes in
-          tells.known d n f.place (at-owns h d n f.place f.item f.at ∙ passes));
+          tells.known d n f.place (found-owns h d n f.place f.item f.at ∙ passes));
       apart = λ d n i j a b at_a at_b own_a own_b. tells.apart d n i j (at-owns h d n i a at_a ∙ own_a) (at-owns h d n j b at_b ∙ own_b);
     }
 

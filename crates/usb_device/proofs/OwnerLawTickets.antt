@@ -4,16 +4,18 @@ use Rattle.std.specs.Prelude.{◌==◌, ◌&&◌, ◌||◌, nat_lt, option_and_t
 use Rattle.std.specs.Option.{option_map}
 use Rattle.std.proofs.lemmas.Bool.{cases_eq, eq-eqb, ne_eqb}
 use Rattle.std.proofs.lemmas.Option.{none-some, slice_get_within}
+use Rattle.usb_registry.specs.History.{value_at}
 use Rattle.usb_kernel.proofs.Places.{slice_get-set_same}
 use Rattle.usb_ledger.specs.declared.ends.TicketEnd.{TicketEnd}
 use Rattle.usb_ledger.specs.Entries.{ClaimedInterface, HostTicket, HostEndpoint, Ended}
 use Rattle.usb_device.specs.HostState.{HostState}
 use Rattle.usb_ledger.specs.Owners.{is_ticket_of, lives, is_of, lives_on, has_living, is_owned_among}
-use Rattle.usb_ledger.specs.Releases.{claim_ended, claim_of}
+use Rattle.usb_ledger.specs.Releases.{claim_ended, interface_at, claim_of, without_claim}
 use Rattle.usb_device.specs.Releases.{with_ended, settled}
-use Rattle.usb_device.specs.OwnerLaws.{KeepsOwned}
+use Rattle.usb_device.specs.OwnerLaws.{KeepsOwned, KeepsClaims}
 use Rattle.usb_device.proofs.OwnerLawLists.{any-alike, any-at, any-one, any-put, any-set, or_true}
-use Rattle.usb_device.proofs.OwnerLawKept.{claim_at, at-none, claims-kept}
+use Rattle.usb_device.proofs.OwnerLawKept.{claim_at, at-none, claims-kept, claimed-refl, claimed-goes}
+use Rattle.usb_device.proofs.ClaimFrames.{goes-ended}
 use Rattle.usb_device.proofs.OwnerLawLosses.{OwnerLeft, owned-settled}
 
 -- a host with other tickets and endpoints
@@ -24,13 +26,10 @@ with_lists h tickets endpoints = record h { tickets = tickets; endpoints = endpo
 pub claim-living : (h : HostState) (tickets : List HostTicket) (endpoints : List HostEndpoint) (j : ℕ) → has_living tickets endpoints j ≡ has_living h.tickets h.endpoints j → claim_at (with_lists h tickets endpoints) j ≡ claim_at h j
 unfolding is_owned_among
 claim-living h tickets endpoints j living =
-    ap (λ (b : Bool). option_map (λ (c : ClaimedInterface). (c.device, c.number, (nat_lt 0 c.handles || b))) (slice_get h.interfaces j)) living
+    ap (λ (b : Bool). option_map (λ (c : ClaimedInterface). (c.device, c.number, (nat_lt 0 c.handles || b))) (value_at h.interfaces j)) living
 
-pub claims-living : (h : HostState) (tickets : List HostTicket) (endpoints : List HostEndpoint) → ((j : ℕ) → claim_at (with_lists h tickets endpoints) j ≡ claim_at h j) → KeepsOwned h (with_lists h tickets endpoints)
-claims-living h tickets endpoints same = claims-kept h (with_lists h tickets endpoints) (λ d n. refl) same
-
-abbrev pub interface_at : List HostEndpoint → ℕ → Option ℕ
-interface_at endpoints k = option_and_then (λ (e : HostEndpoint). e.interface) (slice_get endpoints k)
+pub claims-living : (h : HostState) (tickets : List HostTicket) (endpoints : List HostEndpoint) → ((j : ℕ) → claim_at (with_lists h tickets endpoints) j ≡ claim_at h j) → KeepsClaims h (with_lists h tickets endpoints)
+claims-living h tickets endpoints same = claims-kept h (with_lists h tickets endpoints) (claimed-refl h.interfaces) (λ d n. refl) same
 
 -- an endpoint that lived may live no more, and all others live as before
 pub record EndpointLeft (h : HostState) (tickets : List HostTicket) (endpoints : List HostEndpoint) (k : ℕ) : Type 0 where
@@ -42,9 +41,9 @@ module _ (h : HostState) (tickets : List HostTicket) (endpoints : List HostEndpo
   abbrev next : HostState
   next = with_lists h tickets endpoints
 
-  settled-at : (o : Option ℕ) → interface_at h.endpoints k ≡ o → settled next k ≡ with_ended next (option_and_then (claim_ended h.interfaces tickets endpoints) o)
+  settled-at : (o : Option ℕ) → interface_at h.endpoints k ≡ o → settled next k ≡ with_ended next o (option_and_then (claim_ended h.interfaces tickets endpoints) o)
   unfolding settled claim_of
-  settled-at o is = ap (λ (o : Option ℕ). with_ended next (option_and_then (claim_ended h.interfaces tickets endpoints) o)) (gone.interface ∙ is)
+  settled-at o is = ap (λ (o : Option ℕ). with_ended next o (option_and_then (claim_ended h.interfaces tickets endpoints) o)) (gone.interface ∙ is)
 
   -- that of another interface, or of none
   claim-other : (i j : ℕ) → interface_at h.endpoints k ≡ Some i → j ≢ i → claim_at next j ≡ claim_at h j
@@ -52,15 +51,15 @@ module _ (h : HostState) (tickets : List HostTicket) (endpoints : List HostEndpo
       let other : is_of j (interface_at h.endpoints k) ≡ false = ap (is_of j) is ∙ ne_eqb i j (λ z. apart (sym z)) in
       claim-living h tickets endpoints j (gone.others j other)
 
-  left-control : interface_at h.endpoints k ≡ None → KeepsOwned h next
+  left-control : interface_at h.endpoints k ≡ None → KeepsClaims h next
   left-control is = claims-living h tickets endpoints (λ j. claim-living h tickets endpoints j (gone.others j (ap (is_of j) is)))
 
   -- that of an interface which is not there
-  ended-nowhere : (i : ℕ) → slice_get h.interfaces i ≡ None → claim_ended h.interfaces tickets endpoints i ≡ None
+  ended-nowhere : (i : ℕ) → value_at h.interfaces i ≡ None → claim_ended h.interfaces tickets endpoints i ≡ None
   unfolding claim_ended
   ended-nowhere i none = rw none refl
 
-  left-nowhere : (i : ℕ) → interface_at h.endpoints k ≡ Some i → slice_get h.interfaces i ≡ None → KeepsOwned h next
+  left-nowhere : (i : ℕ) → interface_at h.endpoints k ≡ Some i → value_at h.interfaces i ≡ None → KeepsClaims h next
   left-nowhere i is none = claims-living h tickets endpoints same
     where
       same : (j : ℕ) → claim_at next j ≡ claim_at h j
@@ -75,7 +74,7 @@ module _ (h : HostState) (tickets : List HostTicket) (endpoints : List HostEndpo
   unfolding is_owned_among
   owned-lived i c is = rw (gone.lived i is) (or_true (nat_lt 0 c.handles))
 
-  left-claimed : (i : ℕ) (c : ClaimedInterface) → interface_at h.endpoints k ≡ Some i → slice_get h.interfaces i ≡ Some c → OwnerLeft h next i
+  left-claimed : (i : ℕ) (c : ClaimedInterface) → interface_at h.endpoints k ≡ Some i → value_at h.interfaces i ≡ Some c → OwnerLeft h next i
   left-claimed i c is at =
       record {
         claim = c;
@@ -87,17 +86,22 @@ module _ (h : HostState) (tickets : List HostTicket) (endpoints : List HostEndpo
         owned = owned-lived i c is;
         others = λ j apart. claim-other i j is apart;
         claims = λ d n. refl;
+        count = refl;
       }
 
-  left-interface : (i : ℕ) → interface_at h.endpoints k ≡ Some i → (o : Option ClaimedInterface) → slice_get h.interfaces i ≡ o → KeepsOwned h (with_ended next (claim_ended h.interfaces tickets endpoints i))
+  left-interface : (i : ℕ) → interface_at h.endpoints k ≡ Some i → (o : Option ClaimedInterface) → value_at h.interfaces i ≡ o → KeepsClaims h (with_ended next (Some i) (claim_ended h.interfaces tickets endpoints i))
   left-interface i is None none = rw (ended-nowhere i none) (left-nowhere i is none)
-  left-interface i is (Some c) at = owned-settled h next i (left-claimed i c is at)
+  left-interface i is (Some c) at =
+      record {
+        kept = owned-settled h next i (left-claimed i c is at);
+        claimed = claimed-goes h.interfaces (without_claim h.interfaces (Some i) (claim_ended h.interfaces tickets endpoints i)) (goes-ended h.interfaces tickets endpoints i);
+      }
 
-  left-by : (o : Option ℕ) → interface_at h.endpoints k ≡ o → KeepsOwned h (settled next k)
+  left-by : (o : Option ℕ) → interface_at h.endpoints k ≡ o → KeepsClaims h (settled next k)
   left-by None is = rw (settled-at None is) (left-control is)
-  left-by (Some i) is = rw (settled-at (Some i) is) (left-interface i is (slice_get h.interfaces i) refl)
+  left-by (Some i) is = rw (settled-at (Some i) is) (left-interface i is (value_at h.interfaces i) refl)
 
-  pub endpoint-settled : KeepsOwned h (settled next k)
+  pub endpoint-settled : KeepsClaims h (settled next k)
   endpoint-settled = left-by (interface_at h.endpoints k) refl
 
 -- the interface of an endpoint

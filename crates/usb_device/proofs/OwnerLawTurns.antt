@@ -13,22 +13,22 @@ use Rattle.usb_ledger.specs.declared.ends.TicketEnd.TheVariants.{Taken, Dropped,
 use Rattle.usb_ledger.specs.Entries.{HostTicket, HostEndpoint, Hold, HeldBy, Abandoned, Ended}
 use Rattle.usb_device.specs.HostState.{HostState}
 use Rattle.usb_ledger.specs.Owners.{is_ticket_of, lives, is_of, lives_on}
-use Rattle.usb_device.specs.OwnerLaws.{KeepsOwned}
+use Rattle.usb_device.specs.OwnerLaws.{KeepsClaims}
 use Rattle.usb_device.specs.TicketEnds.{with_ticket, ended_as, host_ended, host_taken, given_up, host_abandoned, reclaimed_if, came}
 use Rattle.usb_device.specs.HostTurns.{with_past, host_stepped, host_reaped, reaped_of, turned_of, host_turned, all_stepped, host_rest}
 use Rattle.usb_device.specs.HostCalls.{host_discarded}
 use Rattle.usb_device.specs.Finishes.{discarded_below, reaped_below, finished}
 use Rattle.usb_device.proofs.OwnerLawLists.{any-alike, any-put}
 use Rattle.usb_device.proofs.OwnerLawKernel.{stepped-claimed}
-use Rattle.usb_device.proofs.OwnerLawKept.{claim_at, claims-kept, stays, follow}
+use Rattle.usb_device.proofs.OwnerLawKept.{claim_at, claims-kept, stays, follow, claimed-refl}
 use Rattle.usb_device.proofs.OwnerLawTickets.{with_lists, claim-living, claims-living, endpoint-settled, ticket-left}
 
 -- another kernel at which the same interfaces are claimed
-pub kernel-owned : (h : HostState) (k : KernelState) → ((d n : ℕ) → is_claimed k.devices d n ≡ is_claimed h.kernel.devices d n) → KeepsOwned h (record h { kernel = k })
-kernel-owned h k claims = claims-kept h (record h { kernel = k }) claims (λ i. refl)
+pub kernel-owned : (h : HostState) (k : KernelState) → ((d n : ℕ) → is_claimed k.devices d n ≡ is_claimed h.kernel.devices d n) → KeepsClaims h (record h { kernel = k })
+kernel-owned h k claims = claims-kept h (record h { kernel = k }) (claimed-refl h.interfaces) claims (λ i. refl)
 
-pub steps-owned : (h : HostState) (steps : List KernelStep) → KeepsOwned h (record h { steps = steps })
-steps-owned h steps = claims-kept h (record h { steps = steps }) (λ d n. refl) (λ i. refl)
+pub steps-owned : (h : HostState) (steps : List KernelStep) → KeepsClaims h (record h { steps = steps })
+steps-owned h steps = claims-kept h (record h { steps = steps }) (claimed-refl h.interfaces) (λ d n. refl) (λ i. refl)
 
 -- other tickets with which the same endpoints live
 pub claim-tickets : (h : HostState) (tickets : List HostTicket) → ((m : ℕ) (e : HostEndpoint) → slice_get h.endpoints m ≡ Some e → lives tickets (0 + m, e) ≡ lives h.tickets (0 + m, e)) → (j : ℕ) → claim_at (with_lists h tickets h.endpoints) j ≡ claim_at h j
@@ -37,105 +37,105 @@ claim-tickets h tickets alive j =
     (any-alike (lives_on tickets j) (lives_on h.tickets j) 0 h.endpoints (λ m e at. ap (λ b. is_of j e.interface && b) (alive m e at)))
 
 -- tickets that end
-ended_as-owned : (h : HostState) (t : ℕ) (end : TicketEnd) (o : Option HostTicket) → slice_get h.tickets t ≡ o → KeepsOwned h (ended_as h t end o)
+ended_as-owned : (h : HostState) (t : ℕ) (end : TicketEnd) (o : Option HostTicket) → slice_get h.tickets t ≡ o → KeepsClaims h (ended_as h t end o)
 ended_as-owned h t end None at = stays h
 ended_as-owned h t end (Some (HeldBy hold)) at = endpoint-settled h (set h.tickets t (Ended end)) h.endpoints hold.key (ticket-left h t hold.key (HeldBy hold) end at (λ j. refl))
 ended_as-owned h t end (Some (Abandoned key)) at = endpoint-settled h (set h.tickets t (Ended end)) h.endpoints key (ticket-left h t key (Abandoned key) end at (λ j. refl))
 ended_as-owned h t end (Some (Ended before)) at = stays h
 
-pub ended-owned : (h : HostState) (t : ℕ) (end : TicketEnd) → KeepsOwned h (host_ended h t end)
+pub ended-owned : (h : HostState) (t : ℕ) (end : TicketEnd) → KeepsClaims h (host_ended h t end)
 unfolding host_ended
 ended-owned h t end = ended_as-owned h t end (slice_get h.tickets t) refl
 
-pub taken-owned : (h : HostState) (t : ℕ) → KeepsOwned h (host_taken h t)
+pub taken-owned : (h : HostState) (t : ℕ) → KeepsClaims h (host_taken h t)
 unfolding host_taken
 taken-owned h t = ended-owned h t Taken
 
 -- an endpoint that gives a ticket up lives on
-given-owned : (h : HostState) (t : ℕ) (hold : Hold) → slice_get h.tickets t ≡ Some (HeldBy hold) → KeepsOwned h (with_ticket h t (Abandoned hold.key))
+given-owned : (h : HostState) (t : ℕ) (hold : Hold) → slice_get h.tickets t ≡ Some (HeldBy hold) → KeepsClaims h (with_ticket h t (Abandoned hold.key))
 given-owned h t hold at =
     let next = set h.tickets t (Abandoned hold.key) in
     claims-living h next h.endpoints (claim-tickets h next (λ m e here. ap (λ b. e.is_open || b) (any-put (is_ticket_of (0 + m)) h.tickets t (HeldBy hold) (Abandoned hold.key) at refl)))
 
-given_up-owned : (h : HostState) (t : ℕ) (o : Option HostTicket) → slice_get h.tickets t ≡ o → KeepsOwned h (given_up h t o)
+given_up-owned : (h : HostState) (t : ℕ) (o : Option HostTicket) → slice_get h.tickets t ≡ o → KeepsClaims h (given_up h t o)
 given_up-owned h t None at = stays h
 given_up-owned h t (Some (HeldBy hold)) at = given-owned h t hold at
 given_up-owned h t (Some (Abandoned key)) at = stays h
 given_up-owned h t (Some (Ended end)) at = stays h
 
-abandoned-by : (h : HostState) (t : ℕ) (b : Bool) → KeepsOwned h (cond b (host_ended h t Dropped) (given_up h t (slice_get h.tickets t)))
+abandoned-by : (h : HostState) (t : ℕ) (b : Bool) → KeepsClaims h (cond b (host_ended h t Dropped) (given_up h t (slice_get h.tickets t)))
 abandoned-by h t true = ended-owned h t Dropped
 abandoned-by h t false = given_up-owned h t (slice_get h.tickets t) refl
 
-pub abandoned-owned : (h : HostState) (t : ℕ) → KeepsOwned h (host_abandoned h t)
+pub abandoned-owned : (h : HostState) (t : ℕ) → KeepsClaims h (host_abandoned h t)
 unfolding host_abandoned
 abandoned-owned h t = abandoned-by h t (is_some (completion h.kernel.past t))
 
 -- completions that come, steps and turns
-reclaimed-owned : (h : HostState) (t : ℕ) (o : Option HostTicket) → KeepsOwned h (reclaimed_if h t o)
+reclaimed-owned : (h : HostState) (t : ℕ) (o : Option HostTicket) → KeepsClaims h (reclaimed_if h t o)
 reclaimed-owned h t None = stays h
 reclaimed-owned h t (Some (HeldBy hold)) = stays h
 reclaimed-owned h t (Some (Abandoned key)) = ended-owned h t Reclaimed
 reclaimed-owned h t (Some (Ended end)) = stays h
 
-came-owned : (h : HostState) (o : Option Done) → KeepsOwned h (came h o)
+came-owned : (h : HostState) (o : Option Done) → KeepsClaims h (came h o)
 unfolding came
 came-owned h None = stays h
 came-owned h (Some done) = reclaimed-owned h done.ticket (slice_get h.tickets done.ticket)
 
-pub stepped-owned : (h : HostState) (s : KernelStep) → KeepsOwned h (host_stepped h s)
+pub stepped-owned : (h : HostState) (s : KernelStep) → KeepsClaims h (host_stepped h s)
 unfolding host_stepped
 stepped-owned h s =
     let next = record h { kernel = after_step h.kernel s } in
     follow h next (host_stepped h s) (kernel-owned h (after_step h.kernel s) (stepped-claimed h.kernel.devices s)) (came-owned next (step_done h.kernel.past s))
 
-pub reaped-owned : (h : HostState) (t : ℕ) → KeepsOwned h (host_reaped h t)
+pub reaped-owned : (h : HostState) (t : ℕ) → KeepsClaims h (host_reaped h t)
 unfolding host_reaped
 reaped-owned h t =
     let past = after_reap h.kernel.past t in
     follow h (with_past h past) (host_reaped h t) (kernel-owned h (record h.kernel { past = past }) (λ d n. refl)) (came-owned (with_past h past) (reapable h.kernel.past t))
 
-reaped_of-owned : (h : HostState) (o : Option ℕ) → KeepsOwned h (reaped_of h o)
+reaped_of-owned : (h : HostState) (o : Option ℕ) → KeepsClaims h (reaped_of h o)
 reaped_of-owned h None = stays h
 reaped_of-owned h (Some t) = reaped-owned h t
 
-turned_of-owned : (h : HostState) (steps : List KernelStep) → KeepsOwned h (turned_of h steps)
+turned_of-owned : (h : HostState) (steps : List KernelStep) → KeepsClaims h (turned_of h steps)
 turned_of-owned h [] = reaped_of-owned h (lowest h.kernel.past)
 turned_of-owned h (s ∷ ss) =
     let next = record h { steps = ss } in
     follow h next (host_stepped next s) (steps-owned h ss) (stepped-owned next s)
 
-pub turned-owned : (h : HostState) → KeepsOwned h (host_turned h)
+pub turned-owned : (h : HostState) → KeepsClaims h (host_turned h)
 unfolding host_turned
 turned-owned h = turned_of-owned h h.steps
 
-all_stepped-owned : (h : HostState) (steps : List KernelStep) → KeepsOwned h (all_stepped h steps)
+all_stepped-owned : (h : HostState) (steps : List KernelStep) → KeepsClaims h (all_stepped h steps)
 all_stepped-owned h [] = stays h
 all_stepped-owned h (s ∷ ss) = follow h (host_stepped h s) (all_stepped (host_stepped h s) ss) (stepped-owned h s) (all_stepped-owned (host_stepped h s) ss)
 
-pub rest-owned : (h : HostState) → KeepsOwned h (host_rest h)
+pub rest-owned : (h : HostState) → KeepsClaims h (host_rest h)
 rest-owned h =
     let none = record h { steps = [] } in
     follow h none (host_rest h) (steps-owned h []) (all_stepped-owned none h.steps)
 
 -- the end
-pub discarded-owned : (h : HostState) (t : ℕ) → KeepsOwned h (host_discarded h t)
+pub discarded-owned : (h : HostState) (t : ℕ) → KeepsClaims h (host_discarded h t)
 unfolding host_discarded
-discarded-owned h t = claims-kept h (host_discarded h t) (λ d n. refl) (λ i. refl)
+discarded-owned h t = claims-kept h (host_discarded h t) (claimed-refl h.interfaces) (λ d n. refl) (λ i. refl)
 
-discarded_below-owned : (h : HostState) (n : ℕ) → KeepsOwned h (discarded_below h n)
+discarded_below-owned : (h : HostState) (n : ℕ) → KeepsClaims h (discarded_below h n)
 discarded_below-owned h zero = stays h
 discarded_below-owned h (suc n) =
     let before = discarded_below h n in
     follow h before (host_discarded before n) (discarded_below-owned h n) (discarded-owned before n)
 
-reaped_below-owned : (h : HostState) (n : ℕ) → KeepsOwned h (reaped_below h n)
+reaped_below-owned : (h : HostState) (n : ℕ) → KeepsClaims h (reaped_below h n)
 reaped_below-owned h zero = stays h
 reaped_below-owned h (suc n) =
     let before = reaped_below h n in
     follow h before (host_reaped before n) (reaped_below-owned h n) (reaped-owned before n)
 
-pub finished-owned : (h : HostState) → KeepsOwned h (finished h)
+pub finished-owned : (h : HostState) → KeepsClaims h (finished h)
 unfolding finished
 finished-owned h =
     let n = length (tickets h.kernel.past) in

@@ -4,7 +4,7 @@ use Rattle.std.proofs.lemmas.Bool.{cond_both}
 use Rattle.usb_simulated.specs.declared.step.KernelStep.{KernelStep}
 use Rattle.usb_kernel.specs.Completions.{waiting, lowest}
 use Rattle.usb_device.specs.HostState.{HostState}
-use Rattle.usb_device.specs.OwnerLaws.{KeepsOwned}
+use Rattle.usb_device.specs.OwnerLaws.{KeepsClaims}
 use Rattle.usb_device.specs.HostTurns.{host_stepped, host_reaped}
 use Rattle.usb_device.specs.HostCalls.{host_discarded, host_idled}
 use Rattle.usb_device.specs.HostWaits.{is_found, is_late, reap_and, wait_reaps, wait_steps, host_waited}
@@ -16,7 +16,7 @@ use Rattle.usb_device.proofs.OwnerLawCalls.{idled-owned}
 
 -- what a wait leaves
 abbrev LeavesOwned : HostState → Bool × HostState → Type 0
-LeavesOwned h p = KeepsOwned h p.1
+LeavesOwned h p = KeepsClaims h p.1
 
 reaped-further : (h : HostState) (o : Option ℕ) (further : HostState → Bool × HostState) → ((g : HostState) → LeavesOwned g (further g)) → LeavesOwned h (reap_and o h further)
 reaped-further h None further each = stays h
@@ -35,8 +35,8 @@ found-or h found p keeps = cond_both found (true, h) p (LeavesOwned h) (λ yes_.
 late-or : (h : HostState) (late : Bool) (p : Bool × HostState) → LeavesOwned h p → LeavesOwned h (cond late (false, h) p)
 late-or h late p keeps = cond_both late (false, h) p (LeavesOwned h) (λ yes_. stays h) (λ no_. keeps)
 
-then-owned : (h : HostState) (p : Bool × HostState) (next : HostState → HostState) → LeavesOwned h p → ((g : HostState) → KeepsOwned g (next g)) → KeepsOwned h (or_then p next)
-then-owned h p next keeps each = cond_both p.0 p.1 (next p.1) (KeepsOwned h) (λ yes_. keeps) (λ no_. follow h p.1 (next p.1) keeps (each p.1))
+then-owned : (h : HostState) (p : Bool × HostState) (next : HostState → HostState) → LeavesOwned h p → ((g : HostState) → KeepsClaims g (next g)) → KeepsClaims h (or_then p next)
+then-owned h p next keeps each = cond_both p.0 p.1 (next p.1) (KeepsClaims h) (λ yes_. keeps) (λ no_. follow h p.1 (next p.1) keeps (each p.1))
 
 -- a wait with a timeout
 wait_reaps-owned : (n : ℕ) (h : HostState) (t timeout start : ℕ) → LeavesOwned h (wait_reaps n h t timeout start)
@@ -55,16 +55,16 @@ wait_steps-owned (s ∷ ss) h t timeout start =
     found-or h (is_found h t) (cond (is_late h timeout start) (false, h) more)
     (late-or h (is_late h timeout start) more (stepped-further h s ss further (λ g. wait_steps-owned ss g t timeout start)))
 
-pub waited-owned : (h : HostState) (t timeout : ℕ) → KeepsOwned h (host_waited h t timeout).1
+pub waited-owned : (h : HostState) (t timeout : ℕ) → KeepsClaims h (host_waited h t timeout).1
 unfolding host_waited
 waited-owned h t timeout = wait_steps-owned h.steps h t timeout h.kernel.clock
 
 -- a blocking transfer
-seconds-owned : (n : ℕ) (h : HostState) (t : ℕ) → KeepsOwned h (waited_by_seconds n h t)
+seconds-owned : (n : ℕ) (h : HostState) (t : ℕ) → KeepsClaims h (waited_by_seconds n h t)
 seconds-owned zero h t = stays h
 seconds-owned (suc n) h t = then-owned h (host_waited h t 1000000000) (λ g. waited_by_seconds n g t) (waited-owned h t 1000000000) (λ g. seconds-owned n g t)
 
-pub blocked-owned : (h : HostState) (t timeout : ℕ) → KeepsOwned h (host_blocked h t timeout)
+pub blocked-owned : (h : HostState) (t timeout : ℕ) → KeepsClaims h (host_blocked h t timeout)
 unfolding host_blocked
 blocked-owned h t timeout =
     then-owned h (host_waited h t timeout) (λ g. waited_by_seconds (suc (length g.steps)) (host_discarded g t) t) (waited-owned h t timeout)
@@ -86,7 +86,7 @@ sought_steps-owned (s ∷ ss) h t =
     let further = λ (g : HostState). sought_steps ss g t in
     found-or h (is_found h t) (further (host_stepped (record h { steps = ss }) s)) (stepped-further h s ss further (λ g. sought_steps-owned ss g t))
 
-pub awaited-owned : (h : HostState) (t deadline : ℕ) → KeepsOwned h (host_awaited h t deadline)
+pub awaited-owned : (h : HostState) (t deadline : ℕ) → KeepsClaims h (host_awaited h t deadline)
 unfolding host_awaited
 awaited-owned h t deadline =
     then-owned h (sought_steps h.steps h t) (λ g. (sought_steps g.steps (host_idled g deadline) t).1) (sought_steps-owned h.steps h t)

@@ -11,6 +11,7 @@ use Rattle.usb_device.specs.HostWaits.{is_found, is_late, reap_and, wait_reaps, 
 use Rattle.usb_device.specs.HostBlocking.{or_then, waited_by_seconds, host_blocked}
 use Rattle.usb_device.specs.HostFrames.{LineGoesOn, HostGoesOn}
 use Rattle.usb_device.proofs.HostKeeps.{UsesPlaces, KeepsOpen}
+use Rattle.usb_device.proofs.ClaimFrames.{goes-trans}
 use Rattle.usb_device.proofs.HostFrames.{uses-none, uses-stepped, uses-reaped, uses-discarded, uses-all, later-trans}
 
 pub line-trans : (a b c : HostState) → LineGoesOn a b → LineGoesOn b c → LineGoesOn a c
@@ -20,7 +21,7 @@ line-trans a b c first second =
       steps = first.steps ∙ (ap (λ (ss : List KernelStep). first.front ++ ss) second.steps ∙ sym (append_assoc first.front second.front c.steps));
       spare = omega (arith, first.spare, second.spare, length-append first.front second.front);
       devices = second.devices ∙ first.devices;
-      interfaces = second.interfaces ∙ first.interfaces;
+      interfaces = goes-trans a.interfaces b.interfaces c.interfaces first.interfaces second.interfaces;
       endpoints = second.endpoints ∙ first.endpoints;
     }
 

@@ -61,7 +61,7 @@ open_endpoint =
     record {
       kernel = record { past = past; devices = device ∷ []; clock = 0; armed = []; spare = 0 };
       devices = [];
-      interfaces = fresh_interface 0 0 1 false ∷ [];
+      interfaces = Some (fresh_interface 0 0 1 false) ∷ [];
       endpoints = record { interface = Some 0; address = 129; is_open = true } ∷ [];
       tickets = held ∷ held ∷ held ∷ [];
       steps = [];
@@ -126,6 +126,15 @@ ticket_last = refl
 pub last_ends : (host_reaped (host_reaped (handle_closed closed 0) 2) 1).tickets ≡ Ended Dropped ∷ Ended Reclaimed ∷ Ended Reclaimed ∷ []
 unfolding is_used_among is_owned_among claim_ended claim_of settled owner_gone host_ended host_taken host_abandoned came host_reaped host_discarded host_left handle_closed completion
 last_ends = refl
+
+-- and its entry goes then
+pub entry_first : (host_reaped (handle_closed closed 0) 2).interfaces ≡ Some (record (fresh_interface 0 0 1 false) { handles = 0 }) ∷ []
+unfolding is_used_among is_owned_among claim_ended claim_of settled owner_gone host_ended host_taken host_abandoned came host_reaped host_discarded host_left handle_closed completion
+entry_first = refl
+
+pub entry_last : (host_reaped (host_reaped (handle_closed closed 0) 2) 1).interfaces ≡ None ∷ []
+unfolding is_used_among is_owned_among claim_ended claim_of settled owner_gone host_ended host_taken host_abandoned came host_reaped host_discarded host_left handle_closed completion
+entry_last = refl
 
 -- a device with one configuration, of value 1, which has the interface 1
 abbrev bytes : List ℕ

@@ -1,5 +1,5 @@
 -- Which open devices a host keeps.
-use Rattle.std.specs.Prelude.{ℕ, ◌≡◌, ◌<◌, ◌==◌, ◌&&◌, Bool, true, nat_lt, Some, IsSome, slice_get}
+use Rattle.std.specs.Prelude.{ℕ, ◌≡◌, ◌<◌, ◌==◌, ◌&&◌, Bool, true, false, List, nat_lt, Option, Some, None, IsSome}
 use Rattle.std.specs.List.{count_by}
 use Rattle.usb_registry.specs.History.{value_at}
 use Rattle.usb_ledger.specs.Entries.{ClaimedInterface}
@@ -11,11 +11,15 @@ use Rattle.usb_device.specs.HostState.{HostState}
 abbrev pub holds : ℕ → ClaimedInterface → Bool
 holds key c = nat_lt 0 c.handles && c.opened == key
 
+abbrev pub holds_at : ℕ → Option ClaimedInterface → Bool
+holds_at key None = false
+holds_at key (Some c) = holds key c
+
 -- nothing is kept that has gone: each open device that is there is held. It counts the interfaces that hold it; and one
 -- that an interface holds is there
 pub record DevicesAreHeld (h : HostState) : Type 0 where
   pub held : (key : ℕ) (o : OpenDevice) → value_at h.devices key ≡ Some o → is_held o ≡ true
   pub counted : (key : ℕ) (o : OpenDevice) → value_at h.devices key ≡ Some o →
-      o.interfaces ≡ count_by (holds key) h.interfaces
-  pub there : (i : ℕ) (c : ClaimedInterface) → slice_get h.interfaces i ≡ Some c → 0 < c.handles →
+      o.interfaces ≡ count_by (holds_at key) h.interfaces
+  pub there : (i : ℕ) (c : ClaimedInterface) → value_at h.interfaces i ≡ Some c → 0 < c.handles →
       IsSome (value_at h.devices c.opened)

@@ -104,7 +104,7 @@ fresh_endpoint c address kind maximum key =
 pub record OpensEndpoint (old new : HostState) (key address : ℕ) (kind : TransferType)
     (direction : Direction) (result : Result EndpointState (Fail ErrorState)) : Type 0 where
   pub interface : ClaimedInterface
-  pub at : slice_get old.interfaces key ≡ Some interface
+  pub at : value_at old.interfaces key ≡ Some interface
   pub tried : Tried (result_map (λ (e : EndpointState). e.maximum) result)
       (host_tries (host_asked old interface.opened) key interface address kind direction)
   pub endpoint : IfOk result

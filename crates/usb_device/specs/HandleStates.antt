@@ -1,5 +1,5 @@
 -- Handles, and when they stand.
-use Rattle.std.specs.Prelude.{ℕ, ◌≡◌, ◌<◌, Some, IsSome, slice_get}
+use Rattle.std.specs.Prelude.{ℕ, ◌≡◌, ◌<◌, Some, IsSome}
 use Rattle.usb_ledger.specs.Entries.{ClaimedInterface}
 use Rattle.usb_registry.specs.History.{value_at}
 use Rattle.usb_ledger.specs.declared.opened.OpenDevice.{OpenDevice}
@@ -21,7 +21,7 @@ pub record StandsDevice (h : HostState) (key : ℕ) : Type 0 where
 -- open handle, and its device
 pub record StandsInterface (h : HostState) (i : InterfaceState) : Type 0 where
   pub claim : ClaimedInterface
-  pub at : slice_get h.interfaces i.key ≡ Some claim
+  pub at : value_at h.interfaces i.key ≡ Some claim
   pub number : claim.number ≡ i.number
   pub open_handle : 0 < claim.handles
   pub device : IsSome (value_at h.devices claim.opened)

@@ -1,7 +1,8 @@
 -- The handles of open devices and of claimed interfaces.
-use Rattle.std.specs.Prelude.{ℕ, ◌≡◌, ◌+◌, ◌-◌, Bool, true, false, List, set, nat_lt, if◌then◌else◌, Result, Ok, Err, OnOk, OnErr, Option, Some, None, slice_get}
+use Rattle.std.specs.Prelude.{ℕ, ◌≡◌, ◌+◌, ◌-◌, Bool, true, false, List, set, nat_lt, if◌then◌else◌, Result, Ok, Err, OnOk, OnErr, Option, Some, None}
 use Rattle.usb_error.specs.ErrorState.{ErrorState}
 use Rattle.usb_error.specs.Errors.{interface_in_use_error}
+use Rattle.usb_registry.specs.History.{value_at}
 use Rattle.usb_ledger.specs.Entries.{ClaimedInterface}
 use Rattle.usb_ledger.specs.declared.opened.OpenDevice.{OpenDevice}
 use Rattle.usb_ledger.specs.Devices.{device_changed, handle_more, handle_less, interface_less}
@@ -22,10 +23,10 @@ device_closed h key = record h { devices = device_changed h.devices key handle_l
 abbrev pub handle_added : HostState → ℕ → Option ClaimedInterface → HostState
 handle_added h i None = h
 handle_added h i (Some c) =
-    record h { interfaces = set h.interfaces i (record c { handles = c.handles + 1 }) }
+    record h { interfaces = set h.interfaces i (Some (record c { handles = c.handles + 1 })) }
 
 unfoldable pub handle_cloned : HostState → ℕ → HostState
-handle_cloned h i = handle_added h i (slice_get h.interfaces i)
+handle_cloned h i = handle_added h i (value_at h.interfaces i)
 
 -- the open devices when a handle of an interface is closed: with the last one it holds its device no more
 abbrev pub devices_left : List (Option OpenDevice) → ClaimedInterface → List (Option OpenDevice)
@@ -39,12 +40,12 @@ handle_gone h i (Some c) =
     owner_gone
     (record h {
       devices = devices_left h.devices c;
-      interfaces = set h.interfaces i (record c { handles = c.handles - 1 });
+      interfaces = set h.interfaces i (Some (record c { handles = c.handles - 1 }));
     })
     i
 
 unfoldable pub handle_closed : HostState → ℕ → HostState
-handle_closed h i = handle_gone h i (slice_get h.interfaces i)
+handle_closed h i = handle_gone h i (value_at h.interfaces i)
 
 -- the answer to a release: where the interface has another owner, the handle comes back
 abbrev pub release_answer : InterfaceState → Bool → Result (Unit {0}) (InterfaceState × ErrorState)
@@ -55,7 +56,7 @@ release_answer handle false = Ok tt
 pub record ReleasesInterface (old new : HostState) (handle : InterfaceState)
     (result : Result (Unit {0}) (InterfaceState × ErrorState)) : Type 0 where
   pub claim : ClaimedInterface
-  pub at : slice_get old.interfaces handle.key ≡ Some claim
+  pub at : value_at old.interfaces handle.key ≡ Some claim
   pub answer : result ≡ release_answer handle (is_shared old handle.key claim)
   pub ok : OnOk result (new ≡ handle_closed old handle.key)
   pub err : OnErr result (new ≡ old)

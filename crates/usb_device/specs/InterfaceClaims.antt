@@ -42,7 +42,7 @@ claimed_by h c (Err error) = h
 claimed_by h c (Ok done) =
     record h {
       devices = device_changed h.devices c.opened interface_more;
-      interfaces = h.interfaces ++ c ∷ [];
+      interfaces = h.interfaces ++ Some c ∷ [];
     }
 
 -- the host after a claim for which there was memory enough

@@ -1,5 +1,5 @@
 -- Calls on a claimed interface: what they answer, and what they leave.
-use Rattle.std.specs.Prelude.{ℕ, List, [], set, find, Result, Err, Option, Some, None, slice_get, option_and_then, if◌then◌else◌}
+use Rattle.std.specs.Prelude.{ℕ, List, [], set, find, Result, Err, Option, Some, None, option_and_then, if◌then◌else◌}
 use Rattle.std.specs.Option.{option_map_or}
 use Rattle.usb_desc.specs.Configurations.{configurations, alt_settings}
 use Rattle.usb_desc.specs.Interfaces.{settings_of}
@@ -38,7 +38,8 @@ abbrev pub alt_setting_asked : HostState → ℕ → ℕ → ClaimedInterface �
 alt_setting_asked h i setting c =
     record h {
       kernel = called h.kernel c.device call.Alt (set_interface_rules c.number setting) same;
-      interfaces = set h.interfaces i (setting_unless c setting (alt_setting_errno h c setting));
+      interfaces = set h.interfaces i
+          (Some (setting_unless c setting (alt_setting_errno h c setting)));
     }
 
 abbrev pub alt_setting_on : HostState → ℕ → ℕ → Option ClaimedInterface → HostState
@@ -47,7 +48,7 @@ alt_setting_on h i setting (Some c) =
     if has_living h.tickets h.endpoints i then h else alt_setting_asked h i setting c
 
 unfoldable pub alt_setting_set : HostState → ℕ → ℕ → HostState
-alt_setting_set h i setting = alt_setting_on h i setting (slice_get h.interfaces i)
+alt_setting_set h i setting = alt_setting_on h i setting (value_at h.interfaces i)
 
 -- `descriptors`: the settings of an interface in the configuration with the value that its open
 -- device keeps, which the kernel is asked for by `ask_configuration` (EndpointOpens.antt); none

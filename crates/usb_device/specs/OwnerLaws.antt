@@ -1,7 +1,7 @@
 -- The claims of interfaces, and who owns them.
-use Rattle.std.specs.Prelude.{ℕ, ◌≡◌, ◌==◌, ◌&&◌, Bool, true, false, List, map, Some, slice_get}
+use Rattle.std.specs.Prelude.{ℕ, ◌≡◌, ◌≢◌, ◌<◌, ◌≤◌, ◌==◌, ◌&&◌, Bool, true, false, List, length, map, Option, Some, None}
 use Rattle.std.specs.List.{list_any, enumerate_from}
-use Rattle.std.specs.Option.{ForSome}
+use Rattle.std.specs.Option.{ForSome, option_map_or}
 use Rattle.usb_xfer.specs.declared.transfer.TransferData.{TransferData}
 use Rattle.usb_simulated.specs.declared.devices.SimDevice.{SimDevice}
 use Rattle.usb_simulated.specs.declared.step.KernelStep.{KernelStep}
@@ -9,6 +9,7 @@ use Rattle.usb_simulated.specs.Devices.{fresh_device}
 use Rattle.usb_kernel.specs.ClaimLaws.{is_claimed}
 use Rattle.usb_kernel.specs.Value.{KernelState}
 use Rattle.usb_bus.specs.declared.route.Route.{Route}
+use Rattle.usb_registry.specs.History.{value_at}
 use Rattle.usb_ledger.specs.declared.ends.TicketEnd.{TicketEnd}
 use Rattle.usb_ledger.specs.Entries.{ClaimedInterface}
 use Rattle.usb_device.specs.HostState.{HostState, host_of}
@@ -29,40 +30,69 @@ use Rattle.usb_device.specs.EndpointOpens.{host_asked, with_endpoint}
 use Rattle.usb_device.specs.OnDevices.{host_detached, host_attached, host_reset, host_configured, host_speed_asked}
 use Rattle.usb_device.specs.OnInterfaces.{alt_setting_set}
 
--- whether a claimed interface, with its key, is interface n of device d and has an owner
-abbrev pub is_owned_claim : HostState → ℕ → ℕ → ℕ × ClaimedInterface → Bool
+-- whether a claimed interface, with its key, is there, is interface n of device d and has an owner
+abbrev pub is_owned_claim : HostState → ℕ → ℕ → ℕ × Option ClaimedInterface → Bool
 is_owned_claim h d n p =
-    (p.1.device == d && p.1.number == n) && is_owned_among h.tickets h.endpoints p.0 p.1
+    option_map_or
+    (λ (c : ClaimedInterface).
+    (c.device == d && c.number == n) && is_owned_among h.tickets h.endpoints p.0 c)
+    p.1 false
 
 -- whether interface n of device d has an owner
 abbrev pub has_owner : HostState → ℕ → ℕ → Bool
 has_owner h d n = list_any (is_owned_claim h d n) (enumerate_from 0 h.interfaces)
 
--- an interface is claimed at the kernel exactly while it has an owner, and no two claims of it have
--- one
+-- an interface is claimed at the kernel exactly while there is an entry of it that has an owner, and
+-- no two have one
 pub record ClaimsAreOwned (h : HostState) : Type 0 where
   pub claimed : (d n : ℕ) → is_claimed h.kernel.devices d n ≡ has_owner h d n
-  pub apart : (d n i j : ℕ) (a b : ClaimedInterface) → slice_get h.interfaces i ≡ Some a →
-      slice_get h.interfaces j ≡ Some b → is_owned_claim h d n (i, a) ≡ true →
-      is_owned_claim h d n (j, b) ≡ true → i ≡ j
+  pub apart : (d n i j : ℕ) (a b : ClaimedInterface) → value_at h.interfaces i ≡ Some a →
+      value_at h.interfaces j ≡ Some b → is_owned_claim h d n (i, Some a) ≡ true →
+      is_owned_claim h d n (j, Some b) ≡ true → i ≡ j
 
--- a claim, that of this key, of interface n of device d has no owner any more
-pub record HasEnded (h : HostState) (d n i : ℕ) : Type 0 where
-  pub claim : ClaimedInterface
-  pub at : slice_get h.interfaces i ≡ Some claim
-  pub device : claim.device ≡ d
-  pub number : claim.number ≡ n
-  pub free : is_owned_among h.tickets h.endpoints i claim ≡ false
-
--- where it was so it stays so, and a claim that has ended never has an owner again
-pub record KeepsOwned (old new : HostState) : Type 0 where
-  pub owned : ClaimsAreOwned old → ClaimsAreOwned new
-  pub ended : (d n i : ℕ) → HasEnded old d n i → HasEnded new d n i
-
--- the claimed interface of a key, if there is one, has an owner
+-- the claimed interface of a key, if it is there, has an owner
 abbrev pub IsOwned : HostState → ℕ → Type 0
 IsOwned h i =
-    ForSome (slice_get h.interfaces i) (λ c. is_owned_among h.tickets h.endpoints i c ≡ true)
+    ForSome (value_at h.interfaces i) (λ c. is_owned_among h.tickets h.endpoints i c ≡ true)
+
+-- nothing is kept that has gone: each interface that is there has an owner
+abbrev pub InterfacesAreOwned : HostState → Type 0
+InterfacesAreOwned h = (i : ℕ) → IsOwned h i
+
+-- the claim of this key has ended: the key was given, and its entry is gone
+pub record HasEnded (h : HostState) (i : ℕ) : Type 0 where
+  pub given : i < length h.interfaces
+  pub gone : value_at h.interfaces i ≡ None
+
+-- where it was so it stays so, nothing is kept that has gone, and a claim that has ended never has
+-- an owner again
+pub record KeepsOwned (old new : HostState) : Type 0 where
+  pub owned : ClaimsAreOwned old → ClaimsAreOwned new
+  pub tidy : InterfacesAreOwned old → InterfacesAreOwned new
+  pub ended : (i : ℕ) → HasEnded old i → HasEnded new i
+
+-- an interface with an open handle stays, with at least its handles, and a key that was given stays
+-- so
+pub record KeepsHandles (interfaces : List (Option ClaimedInterface)) (i handles : ℕ) : Type 0 where
+  pub claim : ClaimedInterface
+  pub at : value_at interfaces i ≡ Some claim
+  pub more : handles ≤ claim.handles
+
+pub record KeepsClaimed (old new : List (Option ClaimedInterface)) : Type 0 where
+  pub given : length old ≤ length new
+  pub stays : (i : ℕ) (c : ClaimedInterface) → value_at old i ≡ Some c → 0 < c.handles →
+      KeepsHandles new i c.handles
+
+-- the same of all but one
+abbrev pub KeepsOthers : List (Option ClaimedInterface) → List (Option ClaimedInterface) → ℕ →
+    Type 0
+KeepsOthers old new key =
+    (i : ℕ) (c : ClaimedInterface) → i ≢ key → value_at old i ≡ Some c → 0 < c.handles →
+    KeepsHandles new i c.handles
+
+pub record KeepsClaims (old new : HostState) : Type 0 where
+  pub kept : KeepsOwned old new
+  pub claimed : KeepsClaimed old.interfaces new.interfaces
 
 -- so it is at the start, where no interface is claimed, and so it stays over each call. A handle
 -- that is cloned or closed stands, an endpoint is opened on an interface with an owner, and an
@@ -72,42 +102,45 @@ pub record ClaimsStayOwned : Type 0 where
       is_claimed (map fresh_device devices) d n ≡ false
   pub start : (k : KernelState) → ((d n : ℕ) → is_claimed k.devices d n ≡ false) →
       ClaimsAreOwned (host_of k)
-  pub step : (h : HostState) (s : KernelStep) → KeepsOwned h (host_stepped h s)
-  pub reap : (h : HostState) (t : ℕ) → KeepsOwned h (host_reaped h t)
-  pub rest : (h : HostState) → KeepsOwned h (host_rest h)
-  pub turn : (h : HostState) → KeepsOwned h (host_turned h)
-  pub idle : (h : HostState) (until : ℕ) → KeepsOwned h (host_idled h until)
-  pub wait : (h : HostState) (t timeout : ℕ) → KeepsOwned h (host_waited h t timeout).1
-  pub block : (h : HostState) (t timeout : ℕ) → KeepsOwned h (host_blocked h t timeout)
-  pub await_ticket : (h : HostState) (t deadline : ℕ) → KeepsOwned h (host_awaited h t deadline)
+  pub tidy : (k : KernelState) → InterfacesAreOwned (host_of k)
+  pub step : (h : HostState) (s : KernelStep) → KeepsClaims h (host_stepped h s)
+  pub reap : (h : HostState) (t : ℕ) → KeepsClaims h (host_reaped h t)
+  pub rest : (h : HostState) → KeepsClaims h (host_rest h)
+  pub turn : (h : HostState) → KeepsClaims h (host_turned h)
+  pub idle : (h : HostState) (until : ℕ) → KeepsClaims h (host_idled h until)
+  pub wait : (h : HostState) (t timeout : ℕ) → KeepsClaims h (host_waited h t timeout).1
+  pub block : (h : HostState) (t timeout : ℕ) → KeepsClaims h (host_blocked h t timeout)
+  pub await_ticket : (h : HostState) (t deadline : ℕ) → KeepsClaims h (host_awaited h t deadline)
   pub submit : (h : HostState) (to : Route) (t : TransferData) →
-      key_at h.endpoints to.key ≡ true → KeepsOwned h (host_submitted h to t)
+      key_at h.endpoints to.key ≡ true → KeepsClaims h (host_submitted h to t)
   pub refuse : (h : HostState) (to : Route) (t : TransferData) (errno : ℕ) →
-      key_at h.endpoints to.key ≡ true → KeepsOwned h (host_refused h to t errno)
-  pub discard : (h : HostState) (t : ℕ) → KeepsOwned h (host_discarded h t)
-  pub end_ticket : (h : HostState) (t : ℕ) (end : TicketEnd) → KeepsOwned h (host_ended h t end)
-  pub take : (h : HostState) (t : ℕ) → KeepsOwned h (host_taken h t)
-  pub abandon : (h : HostState) (t : ℕ) → KeepsOwned h (host_abandoned h t)
+      key_at h.endpoints to.key ≡ true → KeepsClaims h (host_refused h to t errno)
+  pub discard : (h : HostState) (t : ℕ) → KeepsClaims h (host_discarded h t)
+  pub end_ticket : (h : HostState) (t : ℕ) (end : TicketEnd) → KeepsClaims h (host_ended h t end)
+  pub take : (h : HostState) (t : ℕ) → KeepsClaims h (host_taken h t)
+  pub abandon : (h : HostState) (t : ℕ) → KeepsClaims h (host_abandoned h t)
   pub leave : (h : HostState) (key : ℕ) → key_at h.endpoints key ≡ true →
-      KeepsOwned h (host_left h key)
-  pub open_device : (h : HostState) (bus address : ℕ) → KeepsOwned h (host_opened h bus address)
+      KeepsClaims h (host_left h key)
+  pub open_device : (h : HostState) (bus address : ℕ) → KeepsClaims h (host_opened h bus address)
   pub claim : (h : HostState) (device number : ℕ) (reattach : Bool) →
-      KeepsOwned h (host_claimed h device number reattach)
+      KeepsClaims h (host_claimed h device number reattach)
   pub clone_handle : (h : HostState) (handle : InterfaceState) → StandsInterface h handle →
-      KeepsOwned h (handle_cloned h handle.key)
+      KeepsClaims h (handle_cloned h handle.key)
   pub close_handle : (h : HostState) (handle : InterfaceState) → StandsInterface h handle →
       KeepsOwned h (handle_closed h handle.key)
+  pub close_others : (h : HostState) (handle : InterfaceState) → StandsInterface h handle →
+      KeepsOthers h.interfaces (handle_closed h handle.key).interfaces handle.key
   pub set_alt_setting : (h : HostState) (interface setting : ℕ) →
-      KeepsOwned h (alt_setting_set h interface setting)
-  pub ask : (h : HostState) (device : ℕ) → KeepsOwned h (host_asked h device)
+      KeepsClaims h (alt_setting_set h interface setting)
+  pub ask : (h : HostState) (device : ℕ) → KeepsClaims h (host_asked h device)
   pub open_endpoint : (h : HostState) (interface address : ℕ) → IsOwned h interface →
-      KeepsOwned h (with_endpoint h interface address)
+      KeepsClaims h (with_endpoint h interface address)
   pub set_configuration : (h : HostState) (device value : ℕ) →
-      KeepsOwned h (host_configured h device value)
-  pub reset : (h : HostState) (device : ℕ) → KeepsOwned h (host_reset h device)
-  pub detach : (h : HostState) (device number : ℕ) → KeepsOwned h (host_detached h device number)
-  pub attach : (h : HostState) (device number : ℕ) → KeepsOwned h (host_attached h device number)
-  pub ask_speed : (h : HostState) (device : ℕ) → KeepsOwned h (host_speed_asked h device)
+      KeepsClaims h (host_configured h device value)
+  pub reset : (h : HostState) (device : ℕ) → KeepsClaims h (host_reset h device)
+  pub detach : (h : HostState) (device number : ℕ) → KeepsClaims h (host_detached h device number)
+  pub attach : (h : HostState) (device number : ℕ) → KeepsClaims h (host_attached h device number)
+  pub ask_speed : (h : HostState) (device : ℕ) → KeepsClaims h (host_speed_asked h device)
   pub clear_halt : (h : HostState) (device endpoint : ℕ) →
-      KeepsOwned h (host_halt_cleared h device endpoint)
-  pub finish : (h : HostState) → KeepsOwned h (finished h)
+      KeepsClaims h (host_halt_cleared h device endpoint)
+  pub finish : (h : HostState) → KeepsClaims h (finished h)

@@ -1,4 +1,4 @@
--- When the last owner of an interface goes, its claim ends. An `EndedClaim` is a claim that ends: the device, the interface, and
+-- When the last owner of an interface goes, its claim ends, and what the host keeps of it goes. An `EndedClaim` is a claim that ends: the device, the interface, and
 -- whether its driver is to be attached again (usb_ledger/src/owners.rt).
 use Rattle.std.specs.Prelude.{ℕ, Option, Some, None, if◌then◌else◌}
 use Rattle.usb_simulated.specs.declared.step.KernelCall.TheVariants as call
@@ -8,7 +8,7 @@ use Rattle.usb_kernel.specs.Calls.{called}
 use Rattle.usb_kernel.specs.Value.{KernelState}
 use Rattle.usb_ledger.specs.declared.owners.EndedClaim.{EndedClaim}
 use Rattle.usb_device.specs.HostState.{HostState}
-use Rattle.usb_ledger.specs.Releases.{claim_ended, claim_of}
+use Rattle.usb_ledger.specs.Releases.{claim_ended, interface_at, claim_of, without_claim}
 
 -- the kernel when a claim ends: the interface is released
 abbrev pub released : KernelState → EndedClaim → KernelState
@@ -27,21 +27,24 @@ abbrev pub without_ended : KernelState → Option EndedClaim → KernelState
 without_ended k None = k
 without_ended k (Some claim) = reattached (released k claim) claim
 
--- the host when a claim ends: devices of the kernel change, and what is armed there
-abbrev pub with_ended : HostState → Option EndedClaim → HostState
-with_ended h ended =
+-- the host when the claim of an interface ends, if one does: devices of the kernel change, and what
+-- is armed there, and the interface's entry goes
+abbrev pub with_ended : HostState → Option ℕ → Option EndedClaim → HostState
+with_ended h i ended =
     record h {
       kernel = record h.kernel {
         devices = (without_ended h.kernel ended).devices;
         armed = (without_ended h.kernel ended).armed;
       };
+      interfaces = without_claim h.interfaces i ended;
     }
 
 -- an owner of the interface is there no more: its claim ends if nothing owns it
 unfoldable pub owner_gone : HostState → ℕ → HostState
-owner_gone h i = with_ended h (claim_ended h.interfaces h.tickets h.endpoints i)
+owner_gone h i = with_ended h (Some i) (claim_ended h.interfaces h.tickets h.endpoints i)
 
 -- the endpoint of a key may have been the last owner of its interface: the claim ends if nothing
 -- owns it
 unfoldable pub settled : HostState → ℕ → HostState
-settled h k = with_ended h (claim_of h.interfaces h.tickets h.endpoints k)
+settled h k =
+    with_ended h (interface_at h.endpoints k) (claim_of h.interfaces h.tickets h.endpoints k)

@@ -1,6 +1,6 @@
 //! Interfaces of open devices are claimed, and their handles cloned, closed and released.
 
-ghost use Rattle.std.specs.Prelude.{◌≡◌, ◌-◌, ◌^◌, ◌<◌, length, slice_get, IsSome, OnOk, OnErr};
+ghost use Rattle.std.specs.Prelude.{◌≡◌, ◌-◌, ◌^◌, ◌<◌, length, IsSome, OnOk, OnErr};
 ghost use Rattle.std.specs.Option.{ForSome};
 ghost use Rattle.usb_simulated.specs.Claims.{ok_unless};
 ghost use Rattle.usb_device.specs.HostState.{HostState};
@@ -8,8 +8,9 @@ ghost use Rattle.usb_device.specs.Handles.{handle_cloned, handle_closed};
 ghost use Rattle.usb_device.specs.InterfaceClaims.{claim_errno, kernel_claimed, claim_tried, claimed_key, host_claimed};
 ghost use Rattle.usb_device.specs.Owners.{is_shared};
 ghost use Rattle.usb_device.specs.CallErrors.{Leaves};
-ghost use Rattle.usb_error.specs.Outcomes.{Tried};
+ghost use Rattle.usb_error.specs.Outcomes.{Tried, result_map};
 ghost use Rattle.usb_registry.specs.History.{value_at};
+ghost use Rattle.usb_registry.specs.declared.registry.Key.{Key};
 
 use crate::host::{Host, release};
 use usb_desc::{Fail, NoMemory};
@@ -39,9 +40,10 @@ impl Host {
         device: Key,
         number: u8,
         reattach: bool,
-    ) -> Result<usize, Fail<Error>>
+    ) -> Result<Key, Fail<Error>>
         requires device { IsSome (value_at self.old.devices device.serial) }
-        ensures tried { ForSome (value_at self.old.devices device.serial) (λ o. Tried result
+        ensures tried { ForSome (value_at self.old.devices device.serial) (λ o.
+            Tried (result_map (λ (key : Key). key.serial) result)
             (claimed_key (length self.old.interfaces) (claim_tried self.old o number reattach))) }
         ensures host { Leaves result self.new (host_claimed self.old device.serial number reattach)
             self.old }
@@ -65,11 +67,11 @@ impl Host {
     }
 
     /// One more handle of a claimed interface is open.
-    pub(crate) fn clone_handle(&mut self, interface: usize) -> Result<(), NoMemory>
-        requires interface { interface < length self.old.interfaces }
-        ensures ok { OnOk result (self.new ≡ handle_cloned self.old interface) }
+    pub(crate) fn clone_handle(&mut self, interface: Key) -> Result<(), NoMemory>
+        requires interface { IsSome (value_at self.old.interfaces interface.serial) }
+        ensures ok { OnOk result (self.new ≡ handle_cloned self.old interface.serial) }
         ensures err { OnErr result (self.new ≡ self.old) }
-        ensures full { OnErr result (ForSome (slice_get self.old.interfaces interface) (λ c.
+        ensures full { OnErr result (ForSome (value_at self.old.interfaces interface.serial) (λ c.
             c.handles ≡ 2 ^ 64 - 1)) }
     {
         self.ledger.add_handle(interface)
@@ -77,10 +79,10 @@ impl Host {
 
     /// A handle of a claimed interface is closed. With the last one it holds its open device no
     /// more, and with the last owner the claim ends.
-    pub(crate) fn close_handle(&mut self, interface: usize)
-        requires interface { interface < length self.old.interfaces }
-        requires open { ForSome (slice_get self.old.interfaces interface) (λ c. 0 < c.handles) }
-        ensures closed { self.new ≡ handle_closed self.old interface }
+    pub(crate) fn close_handle(&mut self, interface: Key)
+        requires interface { IsSome (value_at self.old.interfaces interface.serial) }
+        requires open { ForSome (value_at self.old.interfaces interface.serial) (λ c. 0 < c.handles) }
+        ensures closed { self.new ≡ handle_closed self.old interface.serial }
     {
         let claim = self.ledger.interface(interface);
         self.devices.leave_interface(claim.opened, claim.handles);
@@ -89,10 +91,10 @@ impl Host {
     }
 
     /// Whether a claimed interface has an owner beside one of its handles.
-    pub(crate) fn is_shared(&self, interface: usize) -> bool
-        requires interface { interface < length self.now.interfaces }
-        ensures shared { ForSome (slice_get self.now.interfaces interface) (λ c.
-            result ≡ is_shared self.now interface c) }
+    pub(crate) fn is_shared(&self, interface: Key) -> bool
+        requires interface { IsSome (value_at self.now.interfaces interface.serial) }
+        ensures shared { ForSome (value_at self.now.interfaces interface.serial) (λ c.
+            result ≡ is_shared self.now interface.serial c) }
     {
         self.ledger.is_shared(interface)
     }

@@ -1,6 +1,6 @@
 //! Handles of open devices and of claimed interfaces.
 
-ghost use Rattle.std.specs.Prelude.{◌≡◌, IsOk, ◌+◌, ◌-◌, ◌^◌, ◌<◌, length, slice_get, true, false, Some, Ok, Err, IfOk, IfErr, OnOk, OnErr};
+ghost use Rattle.std.specs.Prelude.{◌≡◌, IsOk, ◌+◌, ◌-◌, ◌^◌, ◌<◌, length, true, false, Some, Ok, Err, IfOk, IfErr, OnOk, OnErr};
 ghost use Rattle.std.specs.Option.{ForSome, option_copied};
 ghost use Rattle.usb_desc.specs.Configurations as spec;
 ghost use Rattle.usb_desc.specs.Fields.{direction_of_address};
@@ -53,7 +53,7 @@ impl fmt::Debug for Device {
 
 /// A handle of an interface that is claimed at a host (USB 2.0, section 9.2.3). `close` spends it.
 pub struct Interface {
-    key: usize,
+    key: Key,
     number: u8,
 }
 
@@ -62,7 +62,7 @@ impl Model for Interface {
 
     ghost Value = { InterfaceState };
 
-    ghost view = { λ i. record { key = i.key; number = i.number } };
+    ghost view = { λ i. record { key = i.key.serial; number = i.number } };
 }
 
 impl fmt::Debug for Interface {
@@ -304,7 +304,7 @@ impl Interface {
         ensures handle { IfOk result (λ interface. interface ≡ self.now) }
         ensures ok { OnOk result (host.new ≡ handle_cloned host.old self.now.key) }
         ensures err { OnErr result (host.new ≡ host.old) }
-        ensures full { OnErr result (ForSome (slice_get host.old.interfaces self.now.key) (λ c.
+        ensures full { OnErr result (ForSome (value_at host.old.interfaces self.now.key) (λ c.
             c.handles ≡ 2 ^ 64 - 1)) }
     {
         host.clone_handle(self.key)?;
@@ -346,7 +346,7 @@ impl Interface {
     /// `Disconnected` where the device is gone, else `Other`.
     pub fn set_alt_setting(&self, host: &mut Host, setting: u8) -> Result<(), Error>
         requires stands { StandsInterface host.old self.now }
-        ensures result { ForSome (slice_get host.old.interfaces self.now.key) (λ c.
+        ensures result { ForSome (value_at host.old.interfaces self.now.key) (λ c.
             result ≡ alt_setting_tried host.old self.now.key c setting) }
         ensures host { host.new ≡ alt_setting_set host.old self.now.key setting }
     {
@@ -356,7 +356,7 @@ impl Interface {
     /// The current alternate setting.
     pub fn get_alt_setting(&self, host: &Host) -> u8
         requires stands { StandsInterface host.now self.now }
-        ensures setting { ForSome (slice_get host.now.interfaces self.now.key) (λ c.
+        ensures setting { ForSome (value_at host.now.interfaces self.now.key) (λ c.
             result ≡ c.setting) }
     {
         host.alt_setting(self.key)
@@ -366,7 +366,7 @@ impl Interface {
     /// `Device::ask_configuration`.
     pub fn ask_configuration(&self, host: &mut Host)
         requires stands { StandsInterface host.old self.now }
-        ensures host { ForSome (slice_get host.old.interfaces self.now.key) (λ c.
+        ensures host { ForSome (value_at host.old.interfaces self.now.key) (λ c.
             host.new ≡ host_asked host.old c.opened) }
         ensures stands { StandsInterface host.new self.now }
     {
@@ -377,7 +377,7 @@ impl Interface {
     /// open device keeps. The kernel is not asked for it: that is `ask_configuration`.
     pub fn descriptor<'h>(&self, host: &'h Host) -> Option<InterfaceDescriptor<'h>>
         requires stands { StandsInterface host.now self.now }
-        ensures descriptor { ForSome (slice_get host.now.interfaces self.now.key) (λ c.
+        ensures descriptor { ForSome (value_at host.now.interfaces self.now.key) (λ c.
             result ≡ current_setting host.now c) }
     {
         host.interface_descriptor(self.key)
@@ -387,7 +387,7 @@ impl Interface {
     /// none where no configuration has the value.
     pub fn descriptors<'h>(&self, host: &'h Host) -> AltSettingsOf<'h>
         requires stands { StandsInterface host.now self.now }
-        ensures descriptors { ForSome (slice_get host.now.interfaces self.now.key) (λ c.
+        ensures descriptors { ForSome (value_at host.now.interfaces self.now.key) (λ c.
             result ≡ all_settings host.now c) }
     {
         host.interface_descriptors(self.key)

@@ -1,6 +1,6 @@
 //! Endpoints of claimed interfaces are opened.
 
-ghost use Rattle.std.specs.Prelude.{◌≡◌, ◌<◌, length, slice_get, set, OnOk, OnErr, IfOk, IsSome};
+ghost use Rattle.std.specs.Prelude.{◌≡◌, ◌<◌, length, set, OnOk, OnErr, IfOk, IsSome};
 ghost use Rattle.std.specs.Option.{ForSome, option_copied};
 ghost use Rattle.usb_desc.specs.Fields.{direction_of_address};
 ghost use Rattle.usb_simulated.specs.declared.step.KernelCall.{KernelCall};
@@ -93,11 +93,11 @@ impl Host {
     }
 
     /// Asks for that of the device of a claimed interface.
-    pub(crate) fn ask_configuration_of(&mut self, interface: usize)
-        requires interface { interface < length self.old.interfaces }
-        requires device { ForSome (slice_get self.old.interfaces interface) (λ c.
+    pub(crate) fn ask_configuration_of(&mut self, interface: Key)
+        requires interface { IsSome (value_at self.old.interfaces interface.serial) }
+        requires device { ForSome (value_at self.old.interfaces interface.serial) (λ c.
             IsSome (value_at self.old.devices c.opened)) }
-        ensures asked { ForSome (slice_get self.old.interfaces interface) (λ c.
+        ensures asked { ForSome (value_at self.old.interfaces interface.serial) (λ c.
             self.new ≡ host_asked self.old c.opened) }
     {
         let opened = self.ledger.opened(interface);
@@ -107,16 +107,16 @@ impl Host {
     /// The maximum packet size of an endpoint that may be opened, or why it may not.
     fn try_endpoint(
         &self,
-        interface: usize,
+        interface: Key,
         address: u8,
         kind: TransferType,
         direction: Direction,
     ) -> Result<usize, Error>
-        requires interface { interface < length self.now.interfaces }
-        requires device { ForSome (slice_get self.now.interfaces interface) (λ c.
+        requires interface { IsSome (value_at self.now.interfaces interface.serial) }
+        requires device { ForSome (value_at self.now.interfaces interface.serial) (λ c.
             IsSome (value_at self.now.devices c.opened)) }
-        ensures tried { ForSome (slice_get self.now.interfaces interface) (λ c.
-            result ≡ host_tries self.now interface c address kind direction) }
+        ensures tried { ForSome (value_at self.now.interfaces interface.serial) (λ c.
+            result ≡ host_tries self.now interface.serial c address kind direction) }
         ensures direction { OnOk result (direction_of_address address ≡ direction) }
     {
         let claim = self.ledger.interface(interface);
@@ -131,26 +131,26 @@ impl Host {
     /// not opened.
     pub(crate) fn open_endpoint(
         &mut self,
-        interface: usize,
+        interface: Key,
         address: u8,
         kind: TransferType,
         direction: Direction,
     ) -> Result<Route, Fail<Error>>
-        requires interface { interface < length self.old.interfaces }
-        requires device { ForSome (slice_get self.old.interfaces interface) (λ c.
+        requires interface { IsSome (value_at self.old.interfaces interface.serial) }
+        requires device { ForSome (value_at self.old.interfaces interface.serial) (λ c.
             IsSome (value_at self.old.devices c.opened)) }
-        ensures tried { ForSome (slice_get self.old.interfaces interface) (λ c.
+        ensures tried { ForSome (value_at self.old.interfaces interface.serial) (λ c.
             Tried (maximum_tried result)
-            (host_tries (host_asked self.old c.opened) interface c address kind direction)) }
+            (host_tries (host_asked self.old c.opened) interface.serial c address kind direction)) }
         ensures packets { IfOk result (λ route. 0 < route.maximum) }
         ensures direction { OnOk result (direction_of_address address ≡ direction) }
-        ensures route { ForSome (slice_get self.old.interfaces interface) (λ c.
+        ensures route { ForSome (value_at self.old.interfaces interface.serial) (λ c.
             IfOk result (λ route.
             route ≡ endpoint_route c address kind route.maximum (length self.old.endpoints))) }
-        ensures ok { ForSome (slice_get self.old.interfaces interface) (λ c.
+        ensures ok { ForSome (value_at self.old.interfaces interface.serial) (λ c.
             OnOk result (self.new ≡ with_endpoint (host_asked self.old c.opened)
-            interface address)) }
-        ensures err { ForSome (slice_get self.old.interfaces interface) (λ c.
+            interface.serial address)) }
+        ensures err { ForSome (value_at self.old.interfaces interface.serial) (λ c.
             OnErr result (self.new ≡ host_asked self.old c.opened)) }
     {
         let device = self.ledger.device(interface);

@@ -138,6 +138,13 @@ impl Host {
         self.devices.capacity()
     }
 
+    /// How many claimed interfaces there is memory for at once.
+    pub fn interface_capacity(&self) -> usize
+        ensures holds_all { live_count self.now.interfaces ≤ result }
+    {
+        self.ledger.claim_capacity()
+    }
+
     /// The kernel.
     pub fn kernel(&self) -> &Kernel
         ensures kernel { result.now ≡ self.now.kernel }

@@ -38,9 +38,11 @@ pub fn what_is_reaped_is_dropped()
     ensures dropped { DroppedWhereReaped }
 {}
 
-/// An interface is claimed at the kernel exactly while it has an owner: an open handle, or an
-/// endpoint that lives. Each claim ends once: with its last owner, after which it never has one
-/// again.
+/// An interface is claimed at the kernel exactly while there is an entry of it that has an owner: an
+/// open handle, or an endpoint that lives. Nothing is kept that has gone: each entry that is there
+/// has an owner, so it goes with the last one, and after that its key never has an owner again. An
+/// interface with an open handle stays, with at least its handles, over every call but the close of
+/// a handle of its own.
 pub fn claims_are_owned()
     ensures { ClaimsStayOwned }
 {}

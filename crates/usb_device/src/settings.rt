@@ -1,6 +1,6 @@
 //! The alternate settings of claimed interfaces.
 
-ghost use Rattle.std.specs.Prelude.{◌≡◌, ◌<◌, length, slice_get, IsSome};
+ghost use Rattle.std.specs.Prelude.{◌≡◌, IsSome};
 ghost use Rattle.std.specs.Iterator.{YieldsFirst, item_count};
 ghost use Rattle.std.specs.Option.{ForSome};
 ghost use Rattle.usb_ledger.specs.Entries.{ClaimedInterface};
@@ -14,6 +14,7 @@ use std::marker::Model;
 use usb_desc::{AltSettings, InterfaceDescriptor, find_configuration};
 use usb_error::Error;
 use usb_ledger::OpenDevice;
+use usb_registry::Key;
 
 /// The settings of one interface in a configuration, in the order of their descriptors (USB 2.0,
 /// section 9.6.5). A contract sees the list of those that are left.
@@ -70,11 +71,11 @@ fn find_settings(opened: &OpenDevice, number: u8) -> AltSettingsOf<'_>
 
 impl Host {
     /// Sets the alternate setting of a claimed interface, none of whose endpoints lives.
-    pub(crate) fn set_alt_setting(&mut self, interface: usize, setting: u8) -> Result<(), Error>
-        requires interface { interface < length self.old.interfaces }
-        ensures tried { ForSome (slice_get self.old.interfaces interface) (λ c.
-            result ≡ alt_setting_tried self.old interface c setting) }
-        ensures host { self.new ≡ alt_setting_set self.old interface setting }
+    pub(crate) fn set_alt_setting(&mut self, interface: Key, setting: u8) -> Result<(), Error>
+        requires interface { IsSome (value_at self.old.interfaces interface.serial) }
+        ensures tried { ForSome (value_at self.old.interfaces interface.serial) (λ c.
+            result ≡ alt_setting_tried self.old interface.serial c setting) }
+        ensures host { self.new ≡ alt_setting_set self.old interface.serial setting }
     {
         if self.ledger.has_living(interface) {
             return Err(Error::settings_in_use());
@@ -91,9 +92,9 @@ impl Host {
     }
 
     /// The current alternate setting of a claimed interface.
-    pub(crate) fn alt_setting(&self, interface: usize) -> u8
-        requires interface { interface < length self.now.interfaces }
-        ensures setting { ForSome (slice_get self.now.interfaces interface) (λ c.
+    pub(crate) fn alt_setting(&self, interface: Key) -> u8
+        requires interface { IsSome (value_at self.now.interfaces interface.serial) }
+        ensures setting { ForSome (value_at self.now.interfaces interface.serial) (λ c.
             result ≡ c.setting) }
     {
         self.ledger.interface(interface).setting
@@ -101,11 +102,11 @@ impl Host {
 
     /// The descriptor of the current setting of a claimed interface, in the configuration that its
     /// open device keeps.
-    pub(crate) fn interface_descriptor(&self, interface: usize) -> Option<InterfaceDescriptor<'_>>
-        requires interface { interface < length self.now.interfaces }
-        requires device { ForSome (slice_get self.now.interfaces interface) (λ c.
+    pub(crate) fn interface_descriptor(&self, interface: Key) -> Option<InterfaceDescriptor<'_>>
+        requires interface { IsSome (value_at self.now.interfaces interface.serial) }
+        requires device { ForSome (value_at self.now.interfaces interface.serial) (λ c.
             IsSome (value_at self.now.devices c.opened)) }
-        ensures descriptor { ForSome (slice_get self.now.interfaces interface) (λ c.
+        ensures descriptor { ForSome (value_at self.now.interfaces interface.serial) (λ c.
             result ≡ current_setting self.now c) }
     {
         let claim = self.ledger.interface(interface);
@@ -113,11 +114,11 @@ impl Host {
     }
 
     /// The settings of a claimed interface, in the configuration that its open device keeps.
-    pub(crate) fn interface_descriptors(&self, interface: usize) -> AltSettingsOf<'_>
-        requires interface { interface < length self.now.interfaces }
-        requires device { ForSome (slice_get self.now.interfaces interface) (λ c.
+    pub(crate) fn interface_descriptors(&self, interface: Key) -> AltSettingsOf<'_>
+        requires interface { IsSome (value_at self.now.interfaces interface.serial) }
+        requires device { ForSome (value_at self.now.interfaces interface.serial) (λ c.
             IsSome (value_at self.now.devices c.opened)) }
-        ensures descriptors { ForSome (slice_get self.now.interfaces interface) (λ c.
+        ensures descriptors { ForSome (value_at self.now.interfaces interface.serial) (λ c.
             result ≡ all_settings self.now c) }
     {
         let claim = self.ledger.interface(interface);

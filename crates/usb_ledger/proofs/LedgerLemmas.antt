@@ -7,13 +7,15 @@ use Rattle.std.proofs.lemmas.Bool.{eq-eqb, ne_eqb}
 use Rattle.std.proofs.lemmas.Option.{none-some, same_Some, slice_get_within, slice_get-map, get_or_from_slice_get}
 use Rattle.std.proofs.lemmas.List.Elements.{All-set, All-get_or, All-append}
 use Rattle.std.proofs.lemmas.List.Sums.{sum_by-cons}
+use Rattle.usb_registry.specs.History.{value_at}
+use Rattle.usb_registry.specs.declared.registry.Key.{Key}
 use Rattle.usb_ledger.specs.declared.ends.TicketEnd.{TicketEnd}
 use Rattle.usb_ledger.specs.declared.owners.EndpointRow.{EndpointRow}
 use Rattle.usb_ledger.specs.declared.owners.EndedClaim.{EndedClaim}
 use Rattle.usb_ledger.specs.Entries.{HostTicket, HostEndpoint, ClaimedInterface, HeldBy, Abandoned, Ended}
 use Rattle.usb_ledger.specs.Owners.{is_of, is_ticket_of, lives, lives_on, uses_bit, shares_bit, is_used_among, is_owned_among}
-use Rattle.usb_ledger.specs.Releases.{claim_ended, claim_of}
-use Rattle.usb_ledger.specs.OwnerRows.{endpoint_of, is_alive, is_alive_on, uses_row, one_if, is_counted, row_gone, claim_gone}
+use Rattle.usb_ledger.specs.Releases.{claim_ended, claim_of, interface_at}
+use Rattle.usb_ledger.specs.OwnerRows.{endpoint_of, row_interface, interface_of_row, is_alive, is_alive_on, uses_row, one_if, is_counted, row_gone, claim_gone}
 use Rattle.usb_ledger.specs.declared.slot.TicketState.{TicketState}
 use Rattle.usb_ledger.specs.declared.slot.TicketState.TheVariants as slot
 use Rattle.usb_kernel.specs.declared.submission.Done.{Done}
@@ -146,13 +148,27 @@ Tied-open rows tickets e tied none =
 abbrev ended : ClaimedInterface → EndedClaim
 ended c = record { device = c.device; number = c.number; reattach = c.reattach }
 
+-- the interface of an endpoint is that of its row
+pub interface-row : (rows : List EndpointRow) (k : ℕ) → interface_at (map endpoint_of rows) k ≡ interface_of_row rows k
+interface-row rows k = rw (slice_get-map endpoint_of rows k) (by (slice_get rows k))
+  where
+    by : (o : Option EndpointRow) → option_and_then (λ (e : HostEndpoint). e.interface) (option_map endpoint_of o) ≡ option_and_then row_interface o
+    by None = refl
+    by (Some e) = refl
+
+-- a row that is written keeps its interface
+pub interface-set : (rows : List EndpointRow) (k : ℕ) (e next : EndpointRow) → slice_get rows k ≡ Some e → next.interface ≡ e.interface → interface_of_row (set rows k next) k ≡ interface_of_row rows k
+interface-set [] k e next at same = refl
+interface-set (x ∷ xs) zero e next at same = ap (option_map (λ (key : Key). key.serial)) (same ∙ ap (λ (y : EndpointRow). y.interface) (sym (same_Some x e at)))
+interface-set (x ∷ xs) (suc k) e next at same = interface-set xs k e next at same
+
 -- what the rows count is what the tickets say
 module _ (rows : List EndpointRow) (tickets : List HostTicket) (tied : Tied rows tickets) where
   pub lives-row : (k : ℕ) (e : EndpointRow) → slice_get rows k ≡ Some e → lives tickets (k, endpoint_of e) ≡ is_alive e
   lives-row k e at = ap (λ b. e.is_open || b) (any-count (is_ticket_of k) tickets ∙ ap (nat_lt 0) (sym (tied.counts k e at)))
 
   lives_on-row : (i k : ℕ) (e : EndpointRow) → slice_get rows k ≡ Some e → lives_on tickets i (k, endpoint_of e) ≡ is_alive_on i e
-  lives_on-row i k e at = ap (λ b. is_of i e.interface && b) (lives-row k e at)
+  lives_on-row i k e at = ap (λ b. is_of i (row_interface e) && b) (lives-row k e at)
 
   uses-row : (i address k : ℕ) (e : EndpointRow) → slice_get rows k ≡ Some e → uses_bit tickets i address (k, endpoint_of e) ≡ uses_row i address e
   uses-row i address k e at = ap (λ b. b && shares_bit e.address address) (lives_on-row i k e at)
@@ -171,25 +187,21 @@ module _ (rows : List EndpointRow) (tickets : List HostTicket) (tied : Tied rows
   unfolding is_owned_among
   is_owned-rows i c = ap (λ b. nat_lt 0 c.handles || b) (any-rows (lives_on tickets i) (is_alive_on i) (lives_on-row i) ∙ any-count (is_alive_on i) rows)
 
-  pub claim_ended-rows : (interfaces : List ClaimedInterface) (i : ℕ) → claim_ended interfaces tickets (map endpoint_of rows) i ≡ claim_gone interfaces rows i
+  pub claim_ended-rows : (interfaces : List (Option ClaimedInterface)) (i : ℕ) → claim_ended interfaces tickets (map endpoint_of rows) i ≡ claim_gone interfaces rows i
   unfolding claim_ended claim_gone
-  claim_ended-rows interfaces i = by (slice_get interfaces i)
+  claim_ended-rows interfaces i = by (value_at interfaces i)
     where
       by : (o : Option ClaimedInterface) → option_and_then (λ (c : ClaimedInterface). cond (is_owned_among tickets (map endpoint_of rows) i c) None (Some (ended c))) o ≡ option_and_then (λ (c : ClaimedInterface). cond (is_counted rows i c) None (Some (ended c))) o
       by None = refl
       by (Some c) = rw (is_owned-rows i c) refl
 
-  pub claim_of-rows : (interfaces : List ClaimedInterface) (k : ℕ) → claim_of interfaces tickets (map endpoint_of rows) k ≡ row_gone interfaces rows k
+  pub claim_of-rows : (interfaces : List (Option ClaimedInterface)) (k : ℕ) → claim_of interfaces tickets (map endpoint_of rows) k ≡ row_gone interfaces rows k
   unfolding claim_of row_gone
-  claim_of-rows interfaces k = rw (slice_get-map endpoint_of rows k) (by (slice_get rows k))
+  claim_of-rows interfaces k = rw (interface-row rows k) (at (interface_of_row rows k))
     where
       at : (o : Option ℕ) → option_and_then (claim_ended interfaces tickets (map endpoint_of rows)) o ≡ option_and_then (claim_gone interfaces rows) o
       at None = refl
       at (Some i) = claim_ended-rows interfaces i
-
-      by : (o : Option EndpointRow) → option_and_then (claim_ended interfaces tickets (map endpoint_of rows)) (option_and_then (λ (e : HostEndpoint). e.interface) (option_map endpoint_of o)) ≡ option_and_then (claim_gone interfaces rows) (option_and_then (λ (e : EndpointRow). e.interface) o)
-      by None = refl
-      by (Some e) = at e.interface
 
 pub some-at : {X : Type 0} (xs : List X) (i : ℕ) → i < length xs → (x : X) × (slice_get xs i ≡ Some x)
 some-at [] i within = absurd (omega arith)

@@ -5,7 +5,7 @@ use Rattle.std.specs.List.{count_by}
 use Rattle.usb_ledger.specs.declared.owners.EndpointRow.{EndpointRow}
 use Rattle.usb_ledger.specs.Entries.{HostTicket}
 use Rattle.usb_ledger.specs.Owners.{is_of, lives_on, has_living}
-use Rattle.usb_ledger.specs.OwnerRows.{endpoint_of, is_alive_on}
+use Rattle.usb_ledger.specs.OwnerRows.{endpoint_of, row_interface, is_alive_on}
 use Rattle.usb_ledger.specs.LedgerState.{Tied}
 use Rattle.usb_ledger.proofs.ListLemmas.{any-count, any-enumerated}
 use Rattle.usb_ledger.proofs.LedgerLemmas.{lives-row}
@@ -18,4 +18,4 @@ pub has_living-rows : (rows : List EndpointRow) (tickets : List HostTicket) → 
 has_living-rows rows tickets tied i = any-enumerated endpoint_of (lives_on tickets i) (is_alive_on i) 0 rows each ∙ any-count (is_alive_on i) rows
   where
     each : (k : ℕ) (e : EndpointRow) → slice_get rows k ≡ Some e → lives_on tickets i (0 + k, endpoint_of e) ≡ is_alive_on i e
-    each k e at = rw (zero_more k) (ap (λ b. is_of i e.interface && b) (lives-row rows tickets tied k e at))
+    each k e at = rw (zero_more k) (ap (λ b. is_of i (row_interface e) && b) (lives-row rows tickets tied k e at))

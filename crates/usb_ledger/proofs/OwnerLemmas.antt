@@ -1,31 +1,34 @@
 -- The counts and the bits of owners.
-use Rattle.std.proofs.Common.{ℕ, zero, suc, arith, ◌≡◌, ◌≢◌, ◌<◌, ◌+◌, ◌-◌, Bool, true, false, cond, List, [], ◌∷◌, ◌++◌, length, map, set, get_or, slice_get, Option, Some, None, inl, inr, refl, sym, ◌∙◌, ap, length-set, length-append}
-use Rattle.std.specs.Prelude.{◌||◌, ◌&&◌, ◌==◌, not, nat_lt, option_and_then}
+use Rattle.std.proofs.Common.{ℕ, zero, suc, arith, ◌≡◌, ◌≢◌, ◌<◌, ◌+◌, ◌-◌, Bool, true, false, cond, List, [], ◌∷◌, ◌++◌, length, map, set, get_or, slice_get, Option, Some, None, inl, inr, refl, sym, ◌∙◌, ap, subst}
+use Rattle.std.specs.Prelude.{◌||◌, ◌&&◌, ◌==◌, not, nat_lt, option_and_then, IsSome}
 use Rattle.std.specs.List.{count_by, list_any, All}
 use Rattle.std.specs.Prelude.{◌%◌, ◌/◌}
 use Rattle.usb_ledger.specs.Owners.{shares_bit, is_of}
-use Rattle.std.specs.Option.{ForSome}
-use Rattle.std.proofs.lemmas.Option.{none-some, same_Some}
+use Rattle.std.specs.Option.{option_map}
+use Rattle.std.proofs.lemmas.Option.{none-some, same_Some, slice_get-get_or}
 use Rattle.std.specs.FinSet as bits
 use Rattle.std.specs.Ordering.{nat_cmp}
 use Rattle.std.specs.Cmp.{unsigned_tied}
 use Rattle.std.proofs.lemmas.Cmp.{nat_cmp_total}
 use Rattle.std.proofs.lemmas.Bool.{cases_Bool, cases_eq, eq-eqb, ne_eqb, lt-ltb}
-use Rattle.std.proofs.lemmas.Option.{slice_get-map}
+use Rattle.std.proofs.lemmas.List.{map-set}
 use Rattle.std.proofs.lemmas.List.Elements.{All-set, All-get_or, All-append}
 use Rattle.std.proofs.lemmas.List.Sums.{sum_by-cons}
 use Rattle.std.proofs.lemmas.Grind.{common_steps}
 use Rattle.usb_desc.specs.BitSet.{bit_of, members}
+use Rattle.usb_registry.specs.History.{value_at}
+use Rattle.usb_registry.proofs.ValueLemmas.{some-of, is-some, value-put, value-taken, value-push_cases, value-past, value-push, value-map, value-set_other, set-value_same, set-set, there-put}
 use Rattle.usb_ledger.specs.declared.owners.Claim.{Claim}
 use Rattle.usb_ledger.specs.declared.owners.EndpointRow.{EndpointRow}
 use Rattle.usb_ledger.specs.declared.owners.EndedClaim.{EndedClaim}
 use Rattle.usb_ledger.specs.Entries.{ClaimedInterface}
-use Rattle.usb_ledger.specs.OwnerRows.{CountsOf, is_alive, is_alive_on, is_alive_with, uses_row, one_if, claim_state, with_row, is_counted, row_gone, claim_gone}
+use Rattle.usb_ledger.specs.Releases.{without_claim}
+use Rattle.usb_ledger.specs.OwnerRows.{CountsOf, AreOwned, row_interface, is_alive, is_alive_on, is_alive_with, uses_row, one_if, claim_state, has_owners, claim_if, with_row, is_counted, row_gone, claim_gone}
 use Rattle.usb_ledger.proofs.ListLemmas.{slice_get-set, slice_get-push, place, count-set, count-same, count-less, count-push, count-some, any-count}
 
 -- a row with the same interface and address, that lives or not like the other
 pub record Like (e next : EndpointRow) : Type 0 where
-  pub interface : next.interface ≡ e.interface
+  pub interface : row_interface next ≡ row_interface e
   pub address : next.address ≡ e.address
 
 same_alive : (i : ℕ) (e next : EndpointRow) → Like e next → is_alive e ≡ true → is_alive next ≡ true → is_alive_on i next ≡ is_alive_on i e
@@ -35,38 +38,46 @@ same_with : (i bit : ℕ) (e next : EndpointRow) → Like e next → is_alive e 
 same_with i bit e next like was is = rw (was, is, like.interface, like.address) refl
 
 dead_on : (i : ℕ) (e : EndpointRow) → is_alive e ≡ false → is_alive_on i e ≡ false
-dead_on i e is = rw is (elim (is_of i e.interface) as (λ v. v && false ≡ false) [ true ↦ refl | false ↦ refl ])
+dead_on i e is = rw is (elim (is_of i (row_interface e)) as (λ v. v && false ≡ false) [ true ↦ refl | false ↦ refl ])
 
 dead_with : (i bit : ℕ) (e : EndpointRow) → is_alive e ≡ false → is_alive_with i bit e ≡ false
 dead_with i bit e is = rw (dead_on i e is) refl
 
-apart_on : (i j : ℕ) (e : EndpointRow) → e.interface ≡ Some j → i ≢ j → is_alive_on i e ≡ false
+apart_on : (i j : ℕ) (e : EndpointRow) → row_interface e ≡ Some j → i ≢ j → is_alive_on i e ≡ false
 apart_on i j e on apart = rw (on, ne_eqb j i (λ z. apart (sym z))) refl
 
-apart_with : (i bit j : ℕ) (e : EndpointRow) → e.interface ≡ Some j → i ≢ j → is_alive_with i bit e ≡ false
+apart_with : (i bit j : ℕ) (e : EndpointRow) → row_interface e ≡ Some j → i ≢ j → is_alive_with i bit e ≡ false
 apart_with i bit j e on apart = rw (apart_on i j e on apart) refl
 
-none_on : (i : ℕ) (e : EndpointRow) → e.interface ≡ None → is_alive_on i e ≡ false
+none_on : (i : ℕ) (e : EndpointRow) → row_interface e ≡ None → is_alive_on i e ≡ false
 none_on i e on = rw on refl
 
-none_with : (i bit : ℕ) (e : EndpointRow) → e.interface ≡ None → is_alive_with i bit e ≡ false
+none_with : (i bit : ℕ) (e : EndpointRow) → row_interface e ≡ None → is_alive_with i bit e ≡ false
 none_with i bit e on = rw on refl
 
-alive_on : (j : ℕ) (e : EndpointRow) → e.interface ≡ Some j → is_alive e ≡ true → is_alive_on j e ≡ true
+alive_on : (j : ℕ) (e : EndpointRow) → row_interface e ≡ Some j → is_alive e ≡ true → is_alive_on j e ≡ true
 alive_on j e on was = rw (on, was, eq-eqb j j refl) refl
 
-alive_with : (bit j : ℕ) (e : EndpointRow) → e.interface ≡ Some j → is_alive e ≡ true → is_alive_with j bit e ≡ (bit_of e.address == bit)
+alive_with : (bit j : ℕ) (e : EndpointRow) → row_interface e ≡ Some j → is_alive e ≡ true → is_alive_with j bit e ≡ (bit_of e.address == bit)
 alive_with bit j e on was = rw (alive_on j e on was) refl
 
 all-place : (P : EndpointRow → Type 0) (rows : List EndpointRow) (k : ℕ) (e : EndpointRow) → All P rows → k < length rows → e ≡ get_or rows k e → P e
 all-place P rows k e all within at = rw at (All-get_or P rows k e within all)
 
-module _ (claims : List Claim) (rows : List EndpointRow) (k : ℕ) (e next : EndpointRow) (counts : CountsOf claims rows) (within : k < length rows) (at : e ≡ get_or rows k e) (was : is_alive e ≡ true) (like : Like e next) where
+module _ (claims : List (Option Claim)) (rows : List EndpointRow) (k : ℕ) (e next : EndpointRow) (counts : CountsOf claims rows) (within : k < length rows) (at : e ≡ get_or rows k e) (was : is_alive e ≡ true) (like : Like e next) where
   small-next : next.address < 256
   small-next = rw like.address (all-place (λ (e : EndpointRow). e.address < 256) rows k e counts.small within at)
 
-  pub placed-e : ForSome e.interface (λ i. i < length claims)
-  placed-e = all-place (λ (e : EndpointRow). ForSome e.interface (λ i. i < length claims)) rows k e counts.placed within at
+  -- its interface is there
+  pub placed-e : (j : ℕ) → row_interface e ≡ Some j → IsSome (value_at claims j)
+  placed-e j on = counts.placed k j e (place rows k e within at) was on
+
+  placed-next : (m i : ℕ) (f : EndpointRow) → slice_get (set rows k next) m ≡ Some f → is_alive f ≡ true → row_interface f ≡ Some i → IsSome (value_at claims i)
+  placed-next m i f there alive on =
+      elim (slice_get-set rows k m next f there) [
+        | inl w ↦ placed-e i (sym like.interface ∙ ap row_interface (sym w.1) ∙ on)
+        | inr w ↦ counts.placed m i f w.1 alive on
+      ]
 
   -- an endpoint lives on
   pub CountsOf-kept : is_alive next ≡ true → CountsOf claims (set rows k next)
@@ -74,30 +85,30 @@ module _ (claims : List Claim) (rows : List EndpointRow) (k : ℕ) (e next : End
       record {
         living = λ i c here. counts.living i c here ∙ sym (count-same (is_alive_on i) rows k e next within at (same_alive i e next like was is));
         used = λ i c bit here. count-same (is_alive_with i bit) rows k e next within at (same_with i bit e next like was is) ∙ counts.used i c bit here;
-        placed = All-set (λ (e : EndpointRow). ForSome e.interface (λ i. i < length claims)) rows k next (rw like.interface placed-e) counts.placed;
+        placed = placed-next;
         small = All-set (λ (e : EndpointRow). e.address < 256) rows k next small-next counts.small;
       }
 
   -- a control endpoint lives no more
-  pub CountsOf-dropped : e.interface ≡ None → CountsOf claims (set rows k next)
+  pub CountsOf-dropped : row_interface e ≡ None → CountsOf claims (set rows k next)
   CountsOf-dropped on =
       record {
         living = λ i c here. counts.living i c here ∙ sym (count-same (is_alive_on i) rows k e next within at (none_on i next (like.interface ∙ on) ∙ sym (none_on i e on)));
         used = λ i c bit here. count-same (is_alive_with i bit) rows k e next within at (none_with i bit next (like.interface ∙ on) ∙ sym (none_with i bit e on)) ∙ counts.used i c bit here;
-        placed = All-set (λ (e : EndpointRow). ForSome e.interface (λ i. i < length claims)) rows k next (rw like.interface placed-e) counts.placed;
+        placed = placed-next;
         small = All-set (λ (e : EndpointRow). e.address < 256) rows k next small-next counts.small;
       }
 
-  pub some-living : (j : ℕ) → e.interface ≡ Some j → (claim : Claim) → claim ≡ get_or claims j claim → is_alive next ≡ false → 0 < claim.living
+  pub some-living : (j : ℕ) → row_interface e ≡ Some j → (claim : Claim) → value_at claims j ≡ Some claim → is_alive next ≡ false → 0 < claim.living
   some-living j on claim here is =
-      let counted = counts.living j claim (place claims j claim (placed-e j on) here) in
+      let counted = counts.living j claim here in
       let fewer = count-less (is_alive_on j) rows k e next within at (alive_on j e on was) (dead_on j next is) in
       omega (arith, counted, fewer)
 
-  module _ (j : ℕ) (on : e.interface ≡ Some j) (claim lost : Claim) (here : claim ≡ get_or claims j claim) (living : lost.living ≡ claim.living - 1) (bits_are : members lost.bits ≡ bits.remove (members claim.bits) (bit_of e.address)) (is : is_alive next ≡ false) where
+  module _ (j : ℕ) (on : row_interface e ≡ Some j) (claim lost : Claim) (here : value_at claims j ≡ Some claim) (living : lost.living ≡ claim.living - 1) (bits_are : members lost.bits ≡ bits.remove (members claim.bits) (bit_of e.address)) (is : is_alive next ≡ false) where
     pub lost-living : lost.living ≡ count_by (is_alive_on j) (set rows k next)
     lost-living =
-        let counted = counts.living j claim (place claims j claim (placed-e j on) here) in
+        let counted = counts.living j claim here in
         let fewer = count-less (is_alive_on j) rows k e next within at (alive_on j e on was) (dead_on j next is) in
         omega (arith, living, counted, fewer)
 
@@ -106,7 +117,7 @@ module _ (claims : List Claim) (rows : List EndpointRow) (k : ℕ) (e next : End
 
     lost-used : (bit : ℕ) → count_by (is_alive_with j bit) (set rows k next) ≡ one_if (bits.contains (members lost.bits) bit)
     lost-used bit =
-        let counted = counts.used j claim bit (place claims j claim (placed-e j on) here) in
+        let counted = counts.used j claim bit here in
         let change = count-set (is_alive_with j bit) rows k e next within at in
         let none : one_if (is_alive_with j bit next) ≡ 0 = ap one_if (dead_with j bit next is) in
         elim (cases_eq bit (bit_of e.address)) [
@@ -124,20 +135,20 @@ module _ (claims : List Claim) (rows : List EndpointRow) (k : ℕ) (e next : End
         ]
 
     -- an endpoint lives no more
-    pub CountsOf-gone : CountsOf (set claims j lost) (set rows k next)
+    pub CountsOf-gone : CountsOf (set claims j (Some lost)) (set rows k next)
     CountsOf-gone =
         record {
           living = λ i c there.
-              elim (slice_get-set claims j i lost c there) [
+              elim (value-put claims j i lost c there) [
                 | inl w ↦ rw (w.0, w.1) lost-living
                 | inr w ↦ counts.living i c w.1 ∙ sym (count-same (is_alive_on i) rows k e next within at (apart_on i j next (like.interface ∙ on) w.0 ∙ sym (apart_on i j e on w.0)))
               ];
           used = λ i c bit there.
-              elim (slice_get-set claims j i lost c there) [
+              elim (value-put claims j i lost c there) [
                 | inl w ↦ rw (w.0, w.1) (lost-used bit)
                 | inr w ↦ count-same (is_alive_with i bit) rows k e next within at (apart_with i bit j next (like.interface ∙ on) w.0 ∙ sym (apart_with i bit j e on w.0)) ∙ counts.used i c bit w.1
               ];
-          placed = All-set (λ (x : EndpointRow). ForSome x.interface (λ i. i < length (set claims j lost))) rows k next (rw (length-set, like.interface) placed-e) (simp length-set counts.placed);
+          placed = λ m i f there alive on. there-put claims j i lost (placed-next m i f there alive on);
           small = All-set (λ (e : EndpointRow). e.address < 256) rows k next small-next counts.small;
         }
 
@@ -150,54 +161,124 @@ abbrev ended : ClaimedInterface → EndedClaim
 ended c = record { device = c.device; number = c.number; reattach = c.reattach }
 
 -- an interface of an endpoint that lives has an owner
-is_counted-alive : (rows : List EndpointRow) (k : ℕ) (e : EndpointRow) (j : ℕ) (c : ClaimedInterface) → slice_get rows k ≡ Some e → e.interface ≡ Some j → is_alive e ≡ true → is_counted rows j c ≡ true
+is_counted-alive : (rows : List EndpointRow) (k : ℕ) (e : EndpointRow) (j : ℕ) (c : ClaimedInterface) → slice_get rows k ≡ Some e → row_interface e ≡ Some j → is_alive e ≡ true → is_counted rows j c ≡ true
 is_counted-alive rows k e j c at on is =
     let some : 0 < count_by (is_alive_on j) rows = count-some (is_alive_on j) rows k e at (alive_on j e on is) in
     rw (lt-ltb 0 (count_by (is_alive_on j) rows) some) (elim (nat_lt 0 c.handles) as (λ b. b || true ≡ true) [ true ↦ refl | false ↦ refl ])
 
-pub row_gone-alive : (interfaces : List ClaimedInterface) (rows : List EndpointRow) (k : ℕ) (e : EndpointRow) → slice_get rows k ≡ Some e → is_alive e ≡ true → row_gone interfaces rows k ≡ None
+pub row_gone-alive : (interfaces : List (Option ClaimedInterface)) (rows : List EndpointRow) (k : ℕ) (e : EndpointRow) → slice_get rows k ≡ Some e → is_alive e ≡ true → row_gone interfaces rows k ≡ None
 unfolding row_gone claim_gone
-row_gone-alive interfaces rows k e at is = rw at (by e.interface refl)
+row_gone-alive interfaces rows k e at is = rw at (by (row_interface e) refl)
   where
-    of : (j : ℕ) → e.interface ≡ Some j → (o : Option ClaimedInterface) → option_and_then (λ (c : ClaimedInterface). cond (is_counted rows j c) None (Some (ended c))) o ≡ None
+    of : (j : ℕ) → row_interface e ≡ Some j → (o : Option ClaimedInterface) → option_and_then (λ (c : ClaimedInterface). cond (is_counted rows j c) None (Some (ended c))) o ≡ None
     of j on None = refl
     of j on (Some c) = rw (is_counted-alive rows k e j c at on is) refl
 
-    by : (o : Option ℕ) → e.interface ≡ o → option_and_then (λ j. option_and_then (λ (c : ClaimedInterface). cond (is_counted rows j c) None (Some (ended c))) (slice_get interfaces j)) o ≡ None
+    by : (o : Option ℕ) → row_interface e ≡ o → option_and_then (λ j. option_and_then (λ (c : ClaimedInterface). cond (is_counted rows j c) None (Some (ended c))) (value_at interfaces j)) o ≡ None
     by None on = refl
-    by (Some j) on = of j on (slice_get interfaces j)
+    by (Some j) on = of j on (value_at interfaces j)
 
--- the claim of an interface without owners
-abbrev pub claim_if : Claim → Option EndedClaim
-claim_if c = cond (nat_lt 0 c.handles || nat_lt 0 c.living) None (Some (record { device = c.device; number = c.number; reattach = c.reattach }))
-
-pub claim_gone-at : (claims : List Claim) (rows : List EndpointRow) (i : ℕ) (c : Claim) → slice_get claims i ≡ Some c → c.living ≡ count_by (is_alive_on i) rows → claim_gone (map claim_state claims) rows i ≡ claim_if c
+-- the claim of an interface that counts right
+pub claim_gone-at : (interfaces : List (Option ClaimedInterface)) (rows : List EndpointRow) (i : ℕ) (c : Claim) → value_at interfaces i ≡ Some (claim_state c) → c.living ≡ count_by (is_alive_on i) rows → claim_gone interfaces rows i ≡ claim_if c
 unfolding claim_gone
-claim_gone-at claims rows i c at living = rw (slice_get-map claim_state claims i, at, living) refl
+claim_gone-at interfaces rows i c at living = rw (at, living) refl
 
-pub row_gone-control : (interfaces : List ClaimedInterface) (rows : List EndpointRow) (k : ℕ) (e : EndpointRow) → slice_get rows k ≡ Some e → e.interface ≡ None → row_gone interfaces rows k ≡ None
+pub row_gone-control : (interfaces : List (Option ClaimedInterface)) (rows : List EndpointRow) (k : ℕ) (e : EndpointRow) → slice_get rows k ≡ Some e → row_interface e ≡ None → row_gone interfaces rows k ≡ None
 unfolding row_gone
 row_gone-control interfaces rows k e at on = rw (at, on) refl
 
-pub row_gone-dead : (claims : List Claim) (rows : List EndpointRow) (k : ℕ) (e : EndpointRow) (j : ℕ) (c : Claim) → slice_get rows k ≡ Some e → e.interface ≡ Some j → slice_get claims j ≡ Some c → c.living ≡ count_by (is_alive_on j) rows
-    → row_gone (map claim_state claims) rows k ≡ claim_if c
+pub row_gone-dead : (interfaces : List (Option ClaimedInterface)) (rows : List EndpointRow) (k : ℕ) (e : EndpointRow) (j : ℕ) (c : Claim) → slice_get rows k ≡ Some e → row_interface e ≡ Some j → value_at interfaces j ≡ Some (claim_state c) → c.living ≡ count_by (is_alive_on j) rows
+    → row_gone interfaces rows k ≡ claim_if c
 unfolding row_gone
-row_gone-dead claims rows k e j c at on there living = rw (at, on) (claim_gone-at claims rows j c there living)
+row_gone-dead interfaces rows k e j c at on there living = rw (at, on) (claim_gone-at interfaces rows j c there living)
 
--- a handle of an interface goes
-pub CountsOf-handle : (claims : List Claim) (rows : List EndpointRow) (i : ℕ) (claim next : Claim) → CountsOf claims rows → i < length claims → claim ≡ get_or claims i claim → next.living ≡ claim.living → next.bits ≡ claim.bits → CountsOf (set claims i next) rows
-CountsOf-handle claims rows i claim next counts within at living bits_are =
-    let here = place claims i claim within at in
+-- the state of what is there
+pub state-at : (claims : List (Option Claim)) (i : ℕ) (c : Claim) → value_at claims i ≡ Some c → value_at (map (option_map claim_state) claims) i ≡ Some (claim_state c)
+state-at claims i c at = value-map claim_state claims i ∙ ap (option_map claim_state) at
+
+pub claim-there : (claims : List (Option Claim)) (i : ℕ) → IsSome (value_at (map (option_map claim_state) claims) i) → IsSome (value_at claims i)
+claim-there claims i there = by (value_at claims i) (subst IsSome (value-map claim_state claims i) there)
+  where
+    by : (o : Option Claim) → IsSome (option_map claim_state o) → IsSome o
+    by None some = some
+    by (Some c) some = refl
+
+-- a claim that is written back with the same state
+pub states-kept : (claims : List (Option Claim)) (i : ℕ) (c next : Claim) → value_at claims i ≡ Some c → claim_state next ≡ claim_state c → map (option_map claim_state) (set claims i (Some next)) ≡ map (option_map claim_state) claims
+states-kept claims i c next at same =
+    map-set (option_map claim_state) claims i (Some next)
+    ∙ ap (λ (s : ClaimedInterface). set (map (option_map claim_state) claims) i (Some s)) same
+    ∙ set-value_same (map (option_map claim_state) claims) i (claim_state c) (state-at claims i c at)
+
+pub states-without : (claims : List (Option Claim)) (o : Option ℕ) (r : Option EndedClaim) → map (option_map claim_state) (without_claim claims o r) ≡ without_claim (map (option_map claim_state) claims) o r
+states-without claims o None = refl
+states-without claims None (Some r) = refl
+states-without claims (Some i) (Some r) = map-set (option_map claim_state) claims i None
+
+-- a handle of an interface comes or goes
+pub CountsOf-handle : (claims : List (Option Claim)) (rows : List EndpointRow) (i : ℕ) (claim next : Claim) → CountsOf claims rows → value_at claims i ≡ Some claim → next.living ≡ claim.living → next.bits ≡ claim.bits → CountsOf (set claims i (Some next)) rows
+CountsOf-handle claims rows i claim next counts here living bits_are =
     record {
-      living = λ j c there. elim (slice_get-set claims i j next c there) [ inl w ↦ rw (w.0, w.1) (living ∙ counts.living i claim here) | inr w ↦ counts.living j c w.1 ];
+      living = λ j c there. elim (value-put claims i j next c there) [ inl w ↦ rw (w.0, w.1) (living ∙ counts.living i claim here) | inr w ↦ counts.living j c w.1 ];
       used = λ j c bit there.
-          elim (slice_get-set claims i j next c there) [
+          elim (value-put claims i j next c there) [
             | inl w ↦ rw (w.0, w.1) (counts.used i claim bit here ∙ ap (λ b. one_if (bits.contains (members b) bit)) (sym bits_are))
             | inr w ↦ counts.used j c bit w.1
           ];
-      placed = simp length-set counts.placed;
+      placed = λ m j e there alive on. there-put claims i j next (counts.placed m j e there alive on);
       small = counts.small;
     }
+
+-- an interface that no endpoint lives on goes
+CountsOf-without : (claims : List (Option Claim)) (rows : List EndpointRow) (i : ℕ) (claim : Claim) → CountsOf claims rows → value_at claims i ≡ Some claim → claim.living ≡ 0 → CountsOf (set claims i None) rows
+CountsOf-without claims rows i claim counts here none =
+    record {
+      living = λ j c there. counts.living j c (value-taken claims i j c there).1;
+      used = λ j c bit there. counts.used j c bit (value-taken claims i j c there).1;
+      placed = λ m j e there alive on.
+          elim (cases_eq i j) [
+            | inl same ↦
+                let some = count-some (is_alive_on i) rows m e there (alive_on i e (on ∙ ap Some (sym same)) alive) in
+                absurd (omega (arith, some, none, counts.living i claim here))
+            | inr apart ↦ subst IsSome (sym (value-set_other claims i j None apart)) (counts.placed m j e there alive on)
+          ];
+      small = counts.small;
+    }
+
+or-false : (a b : Bool) → (a || b) ≡ false → b ≡ false
+or-false true b is = absurd (cc)
+or-false false b is = is
+
+positive-none : (n : ℕ) → nat_lt 0 n ≡ false → n ≡ 0
+positive-none n is = grind (arith, common_steps)
+
+-- a claim ends where it has no owner
+pub ended-some : (c : Claim) → has_owners c ≡ true → claim_if c ≡ None
+ended-some c owned = rw owned refl
+
+pub ended-none : (c : Claim) → has_owners c ≡ false → claim_if c ≡ Some (record { device = c.device; number = c.number; reattach = c.reattach })
+ended-none c free = rw free refl
+
+pub CountsOf-ended : (claims : List (Option Claim)) (rows : List EndpointRow) (i : ℕ) (c : Claim) → CountsOf claims rows → value_at claims i ≡ Some c → CountsOf (without_claim claims (Some i) (claim_if c)) rows
+CountsOf-ended claims rows i c counts here =
+    elim (cases_Bool (has_owners c)) [
+      | inl owned ↦ rw (ended-some c owned) counts
+      | inr free ↦ rw (ended-none c free) (CountsOf-without claims rows i c counts here (positive-none c.living (or-false (nat_lt 0 c.handles) (nat_lt 0 c.living) free)))
+    ]
+
+-- what is there has an owner
+pub owned-put : (claims : List (Option Claim)) (i : ℕ) (next : Claim) → AreOwned claims → has_owners next ≡ true → AreOwned (set claims i (Some next))
+owned-put claims i next owned some j c there = elim (value-put claims i j next c there) [ inl w ↦ ap has_owners w.1 ∙ some | inr w ↦ owned j c w.1 ]
+
+pub owned-push : (claims : List (Option Claim)) (next : Claim) → AreOwned claims → has_owners next ≡ true → AreOwned (claims ++ Some next ∷ [])
+owned-push claims next owned some j c there = elim (value-push_cases claims next c j there) [ inl w ↦ ap has_owners w.1 ∙ some | inr w ↦ owned j c w.1 ]
+
+pub owned-ended : (claims : List (Option Claim)) (i : ℕ) (next : Claim) → AreOwned claims → AreOwned (without_claim (set claims i (Some next)) (Some i) (claim_if next))
+owned-ended claims i next owned =
+    elim (cases_Bool (has_owners next)) [
+      | inl some ↦ rw (ended-some next some) (owned-put claims i next owned some)
+      | inr free ↦ rw (ended-none next free, set-set claims i (Some next) None) (λ j c there. owned j c (value-taken claims i j c there).1)
+    ]
 
 count-none : {X : Type 0} (p : X → Bool) (xs : List X) → All (λ x. p x ≡ false) xs → count_by p xs ≡ 0
 count-none p [] none = refl
@@ -207,27 +288,41 @@ count-none p (x ∷ xs) none =
     omega (arith, here, IH, sum_by-cons (λ y. cond (p y) 1 0) x xs)
 
 -- an interface that is new has no endpoint
-not-placed : (n : ℕ) (o : Option ℕ) → ForSome o (λ i. i < n) → is_of n o ≡ false
-not-placed n None below = refl
-not-placed n (Some j) below = let less : j < n = below j refl in ne_eqb j n (λ same. omega arith)
+no-row : (claims : List (Option Claim)) (rows : List EndpointRow) → CountsOf claims rows → (k : ℕ) (e : EndpointRow) → slice_get rows k ≡ Some e → is_alive_on (length claims) e ≡ false
+no-row claims rows counts k e there = elim (cases_Bool (is_alive_on (length claims) e)) [
+  | inl yes_ ↦ absurd (by (row_interface e) refl (is_alive e) refl yes_)
+  | inr no_ ↦ no_
+]
+  where
+    by : (o : Option ℕ) → row_interface e ≡ o → (b : Bool) → is_alive e ≡ b → (is_of (length claims) o && b) ≡ true → ⊥
+    by None on b alive yes_ = absurd (cc)
+    by (Some j) on false alive yes_ = absurd (elim (is_of (length claims) (Some j)) as (λ v. (v && false) ≡ true → ⊥) [ true ↦ λ z. absurd (cc) | false ↦ λ z. absurd (cc) ] yes_)
+    by (Some j) on true alive yes_ =
+        elim (cases_eq j (length claims)) [
+          | inl same ↦
+              let some = some-of (value_at claims j) (counts.placed k j e there alive on) in
+              none-some some.0 (sym (value-past claims j (omega (arith, same))) ∙ some.1)
+          | inr apart ↦ absurd (let no_ : is_of (length claims) (Some j) ≡ false = ne_eqb j (length claims) apart in let both = rw no_ at yes_ in cc)
+        ]
 
-no-rows : (claims : List Claim) (rows : List EndpointRow) → CountsOf claims rows → All (λ (e : EndpointRow). is_alive_on (length claims) e ≡ false) rows
-no-rows claims rows counts = λ k d l. rw (not-placed (length claims) (get_or rows k d).interface (counts.placed k d l)) refl
+no-rows : (claims : List (Option Claim)) (rows : List EndpointRow) → CountsOf claims rows → All (λ (e : EndpointRow). is_alive_on (length claims) e ≡ false) rows
+no-rows claims rows counts = λ k d l. no-row claims rows counts k (get_or rows k d) (slice_get-get_or rows k d l)
 
-no-bits : (claims : List Claim) (rows : List EndpointRow) (bit : ℕ) → CountsOf claims rows → All (λ (e : EndpointRow). is_alive_with (length claims) bit e ≡ false) rows
-no-bits claims rows bit counts = λ k d l. rw (not-placed (length claims) (get_or rows k d).interface (counts.placed k d l)) refl
+no-bits : (claims : List (Option Claim)) (rows : List EndpointRow) (bit : ℕ) → CountsOf claims rows → All (λ (e : EndpointRow). is_alive_with (length claims) bit e ≡ false) rows
+no-bits claims rows bit counts = λ k d l. rw (no-rows claims rows counts k d l) refl
 
-pub CountsOf-claim : (claims : List Claim) (rows : List EndpointRow) (fresh : Claim) → CountsOf claims rows → fresh.living ≡ 0 → members fresh.bits ≡ bits.empty → CountsOf (claims ++ fresh ∷ []) rows
+pub CountsOf-claim : (claims : List (Option Claim)) (rows : List EndpointRow) (fresh : Claim) → CountsOf claims rows → fresh.living ≡ 0 → members fresh.bits ≡ bits.empty → CountsOf (claims ++ Some fresh ∷ []) rows
 CountsOf-claim claims rows fresh counts living bits_are =
-    let more : length (claims ++ fresh ∷ []) ≡ length claims + 1 = length-append claims (fresh ∷ []) in
     record {
-      living = λ j c there. elim (slice_get-push claims fresh c j there) [ inl w ↦ rw (w.0, w.1) (living ∙ sym (count-none (is_alive_on (length claims)) rows (no-rows claims rows counts))) | inr w ↦ counts.living j c w ];
+      living = λ j c there. elim (value-push_cases claims fresh c j there) [ inl w ↦ rw (w.0, w.1) (living ∙ sym (count-none (is_alive_on (length claims)) rows (no-rows claims rows counts))) | inr w ↦ counts.living j c w.1 ];
       used = λ j c bit there.
-          elim (slice_get-push claims fresh c j there) [
+          elim (value-push_cases claims fresh c j there) [
             | inl w ↦ rw (w.0, w.1, bits_are, bits.contains-empty nat_cmp bit) (count-none (is_alive_with (length claims) bit) rows (no-bits claims rows bit counts))
-            | inr w ↦ counts.used j c bit w
+            | inr w ↦ counts.used j c bit w.1
           ];
-      placed = λ k d l j on. let below : j < length claims = counts.placed k d l j on in omega arith;
+      placed = λ m j e there alive on.
+          let c = some-of (value_at claims j) (counts.placed m j e there alive on) in
+          is-some _ c.0 (value-push claims (Some fresh) j c.0 c.1);
       small = counts.small;
     }
 
@@ -235,25 +330,34 @@ All-one : (P : EndpointRow → Type 0) (x : EndpointRow) → P x → All P (x �
 All-one P x p zero d inside = p
 All-one P x p (suc k) d inside = absurd (omega arith)
 
+-- the rows with a new one
+module _ (claims : List (Option Claim)) (rows : List EndpointRow) (e : EndpointRow) (counts : CountsOf claims rows) where
+  placed-more : ((i : ℕ) → row_interface e ≡ Some i → IsSome (value_at claims i)) → (m i : ℕ) (f : EndpointRow) → slice_get (rows ++ e ∷ []) m ≡ Some f → is_alive f ≡ true → row_interface f ≡ Some i → IsSome (value_at claims i)
+  placed-more there m i f at alive on =
+      elim (slice_get-push rows e f m at) [
+        | inl w ↦ there i (ap row_interface (sym w.1) ∙ on)
+        | inr w ↦ counts.placed m i f w alive on
+      ]
+
 -- a control endpoint is opened
-pub CountsOf-control : (claims : List Claim) (rows : List EndpointRow) (e : EndpointRow) → CountsOf claims rows → e.interface ≡ None → e.address < 256 → CountsOf claims (rows ++ e ∷ [])
+pub CountsOf-control : (claims : List (Option Claim)) (rows : List EndpointRow) (e : EndpointRow) → CountsOf claims rows → row_interface e ≡ None → e.address < 256 → CountsOf claims (rows ++ e ∷ [])
 CountsOf-control claims rows e counts on small =
     record {
       living = λ i c here. let new : one_if (is_alive_on i e) ≡ 0 = ap one_if (none_on i e on) in omega (arith, counts.living i c here, new, count-push (is_alive_on i) rows e);
       used = λ i c bit here. let new : one_if (is_alive_with i bit e) ≡ 0 = ap one_if (none_with i bit e on) in omega (arith, new, count-push (is_alive_with i bit) rows e) ∙ counts.used i c bit here;
-      placed = All-append (λ (x : EndpointRow). ForSome x.interface (λ i. i < length claims)) rows (e ∷ []) counts.placed (All-one (λ (x : EndpointRow). ForSome x.interface (λ i. i < length claims)) e (λ i is. absurd (none-some i (sym on ∙ is))));
+      placed = placed-more claims rows e counts (λ i is. absurd (none-some i (sym on ∙ is)));
       small = All-append (λ (x : EndpointRow). x.address < 256) rows (e ∷ []) counts.small (All-one (λ (x : EndpointRow). x.address < 256) e small);
     }
 
 -- an endpoint is opened, whose bit is free
-module _ (claims : List Claim) (rows : List EndpointRow) (e : EndpointRow) (j : ℕ) (on : e.interface ≡ Some j) (claim gained : Claim) (counts : CountsOf claims rows) (within : j < length claims) (at : claim ≡ get_or claims j claim) (alive : is_alive e ≡ true) (small : e.address < 256)
+module _ (claims : List (Option Claim)) (rows : List EndpointRow) (e : EndpointRow) (j : ℕ) (on : row_interface e ≡ Some j) (claim gained : Claim) (counts : CountsOf claims rows) (at : value_at claims j ≡ Some claim) (alive : is_alive e ≡ true) (small : e.address < 256)
     (living : gained.living ≡ claim.living + 1) (bits_are : members gained.bits ≡ bits.insert (members claim.bits) (bit_of e.address)) (unused : count_by (is_alive_with j (bit_of e.address)) rows ≡ 0) where
   inserted : (bit : ℕ) → bits.contains (members gained.bits) bit ≡ ((bit == bit_of e.address) || bits.contains (members claim.bits) bit)
   inserted bit = rw bits_are (bits.contains-insert nat_cmp_total (members claim.bits) (bit_of e.address) bit ∙ ap (λ b. b || bits.contains (members claim.bits) bit) (unsigned_tied bit (bit_of e.address)))
 
   gained-used : (bit : ℕ) → count_by (is_alive_with j bit) (rows ++ e ∷ []) ≡ one_if (bits.contains (members gained.bits) bit)
   gained-used bit =
-      let counted = counts.used j claim bit (place claims j claim within at) in
+      let counted = counts.used j claim bit at in
       let more = count-push (is_alive_with j bit) rows e in
       elim (cases_eq bit (bit_of e.address)) [
         | inl same ↦
@@ -269,7 +373,7 @@ module _ (claims : List Claim) (rows : List EndpointRow) (e : EndpointRow) (j : 
 
   gained-living : gained.living ≡ count_by (is_alive_on j) (rows ++ e ∷ [])
   gained-living =
-      let counted = counts.living j claim (place claims j claim within at) in
+      let counted = counts.living j claim at in
       let new : one_if (is_alive_on j e) ≡ 1 = ap one_if (alive_on j e on alive) in
       omega (arith, living, counted, new, count-push (is_alive_on j) rows e)
 
@@ -281,12 +385,12 @@ module _ (claims : List Claim) (rows : List EndpointRow) (e : EndpointRow) (j : 
   other-used i bit apart =
       let new : one_if (is_alive_with i bit e) ≡ 0 = ap one_if (apart_with i bit j e on apart) in omega (arith, new, count-push (is_alive_with i bit) rows e)
 
-  pub CountsOf-row : CountsOf (set claims j gained) (rows ++ e ∷ [])
+  pub CountsOf-row : CountsOf (set claims j (Some gained)) (rows ++ e ∷ [])
   CountsOf-row =
       record {
-        living = λ i c there. elim (slice_get-set claims j i gained c there) [ inl w ↦ rw (w.0, w.1) gained-living | inr w ↦ counts.living i c w.1 ∙ sym (other-living i w.0) ];
-        used = λ i c bit there. elim (slice_get-set claims j i gained c there) [ inl w ↦ rw (w.0, w.1) (gained-used bit) | inr w ↦ other-used i bit w.0 ∙ counts.used i c bit w.1 ];
-        placed = All-append (λ (x : EndpointRow). ForSome x.interface (λ i. i < length (set claims j gained))) rows (e ∷ []) (simp length-set counts.placed) (All-one (λ (x : EndpointRow). ForSome x.interface (λ i. i < length (set claims j gained))) e (λ i is. rw (length-set, same_Some i j (sym is ∙ on)) within));
+        living = λ i c there. elim (value-put claims j i gained c there) [ inl w ↦ rw (w.0, w.1) gained-living | inr w ↦ counts.living i c w.1 ∙ sym (other-living i w.0) ];
+        used = λ i c bit there. elim (value-put claims j i gained c there) [ inl w ↦ rw (w.0, w.1) (gained-used bit) | inr w ↦ other-used i bit w.0 ∙ counts.used i c bit w.1 ];
+        placed = λ m i f there lives on_. there-put claims j i gained (placed-more claims rows e counts (λ i is. is-some _ claim (ap (value_at claims) (same_Some i j (sym is ∙ on)) ∙ at)) m i f there lives on_);
         small = All-append (λ (x : EndpointRow). x.address < 256) rows (e ∷ []) counts.small (All-one (λ (x : EndpointRow). x.address < 256) e small);
       }
 
@@ -295,8 +399,8 @@ one_if-positive true = refl
 one_if-positive false = refl
 
 -- whether a bit is in use
-pub bit-used : (claims : List Claim) (rows : List EndpointRow) (i bit : ℕ) (claim : Claim) → CountsOf claims rows → i < length claims → claim ≡ get_or claims i claim → bits.contains (members claim.bits) bit ≡ nat_lt 0 (count_by (is_alive_with i bit) rows)
-bit-used claims rows i bit claim counts within at = rw (counts.used i claim bit (place claims i claim within at)) (sym (one_if-positive (bits.contains (members claim.bits) bit)))
+pub bit-used : (claims : List (Option Claim)) (rows : List EndpointRow) (i bit : ℕ) (claim : Claim) → CountsOf claims rows → value_at claims i ≡ Some claim → bits.contains (members claim.bits) bit ≡ nat_lt 0 (count_by (is_alive_with i bit) rows)
+bit-used claims rows i bit claim counts at = rw (counts.used i claim bit at) (sym (one_if-positive (bits.contains (members claim.bits) bit)))
 
 -- of addresses the bits tell which share one
 pub bit_of-shares : (a b : ℕ) → a < 256 → b < 256 → shares_bit a b ≡ (bit_of a == bit_of b)
@@ -326,8 +430,12 @@ rows-used rows i address small fits =
     any-same (uses_row i address) (is_alive_with i (bit_of address)) rows (λ k d l. ap (λ b. is_alive_on i (get_or rows k d) && b) (bit_of-shares (get_or rows k d).address address (small k d l) fits))
     ∙ any-count (is_alive_with i (bit_of address)) rows
 
-positive-none : (n : ℕ) → nat_lt 0 n ≡ false → n ≡ 0
-positive-none n is = grind (arith, common_steps)
-
 pub rows-unused : (rows : List EndpointRow) (i address : ℕ) → All (λ (e : EndpointRow). e.address < 256) rows → address < 256 → list_any (uses_row i address) rows ≡ false → count_by (is_alive_with i (bit_of address)) rows ≡ 0
 rows-unused rows i address small fits none = positive-none _ (sym (rows-used rows i address small fits) ∙ none)
+
+-- an interface with an open handle, or with an endpoint that lives, has an owner
+pub handle-owns : (c : Claim) → 0 < c.handles → has_owners c ≡ true
+handle-owns c some = rw (lt-ltb 0 c.handles some) refl
+
+pub living-owns : (c : Claim) → 0 < c.living → has_owners c ≡ true
+living-owns c some = rw (lt-ltb 0 c.living some) (elim (nat_lt 0 c.handles) as (λ b. (b || true) ≡ true) [ true ↦ refl | false ↦ refl ])

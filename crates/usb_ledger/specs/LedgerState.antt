@@ -14,7 +14,7 @@ use Rattle.usb_ledger.specs.declared.owners.EndedClaim.{EndedClaim}
 use Rattle.usb_ledger.specs.declared.owners.EndpointRow.{EndpointRow}
 use Rattle.usb_ledger.specs.Entries.{HostTicket, HostEndpoint, ClaimedInterface, HeldBy, Abandoned, Ended}
 use Rattle.usb_ledger.specs.Owners.{is_ticket_of}
-use Rattle.usb_ledger.specs.Releases.{claim_of}
+use Rattle.usb_ledger.specs.Releases.{claim_of, interface_at, without_claim}
 
 -- what became of the ticket of a slot
 abbrev pub host_ticket : TicketState → HostTicket
@@ -23,13 +23,14 @@ host_ticket (slot.HeldBy key transfer) =
 host_ticket (slot.Abandoned key) = Abandoned key
 host_ticket (slot.Ended end) = Ended end
 
--- room and claim_room: how many more tickets and interfaces there is a place for
+-- room: how many more tickets there is a place for. claim_capacity: how many interfaces there is
+-- memory for at once
 pub record LedgerState : Type 0 where
-  pub interfaces : List ClaimedInterface
+  pub interfaces : List (Option ClaimedInterface)
   pub endpoints : List HostEndpoint
   pub slots : List TicketState
   pub room : ℕ
-  pub claim_room : ℕ
+  pub claim_capacity : ℕ
 
 abbrev pub tickets_in : LedgerState → List HostTicket
 tickets_in l = map host_ticket l.slots
@@ -70,6 +71,15 @@ slot_without (slot.Ended end) = slot.Ended end
 abbrev pub ended_with : LedgerState → Option ℕ → Option EndedClaim
 ended_with l None = None
 ended_with l (Some key) = claim_of l.interfaces (tickets_in l) l.endpoints key
+
+-- the ledger without the entry of that claim
+abbrev pub left_with : LedgerState → Option ℕ → LedgerState
+left_with l None = l
+left_with l (Some key) =
+    record l {
+      interfaces = without_claim l.interfaces (interface_at l.endpoints key)
+          (claim_of l.interfaces (tickets_in l) l.endpoints key);
+    }
 
 -- the key of the endpoint that gave a ticket up
 abbrev pub abandoned_key : TicketState → Option ℕ

@@ -1,6 +1,7 @@
 -- What is true of all owners.
 use Rattle.usb_ledger.specs.declared.owners.Owners.TheInside.{Inside}
-use Rattle.usb_ledger.specs.OwnerRows.{CountsOf}
+use Rattle.usb_ledger.specs.OwnerRows.{CountsOf, AreOwned}
 
-abbrev pub AreCounted : Inside → Type 0
-AreCounted o = CountsOf o.claims.items o.rows.items
+pub record AreCounted (o : Inside) : Type 0 where
+  pub counts : CountsOf o.claims.values o.rows.items
+  pub owned : AreOwned o.claims.values

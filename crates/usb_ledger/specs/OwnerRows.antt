@@ -1,24 +1,30 @@
 -- How the owners of interfaces are counted.
-use Rattle.std.specs.Prelude.{ℕ, ◌≡◌, ◌<◌, ◌==◌, ◌&&◌, ◌||◌, Bool, List, length, set, Option, Some, None, slice_get, option_and_then, nat_lt, if◌then◌else◌}
+use Rattle.std.specs.Prelude.{ℕ, ◌≡◌, ◌<◌, ◌==◌, ◌&&◌, ◌||◌, Bool, true, List, set, Option, Some, None, IsSome, slice_get, option_and_then, nat_lt, if◌then◌else◌}
 use Rattle.std.specs.List.{All, count_by}
+use Rattle.std.specs.Option.{option_map}
 use Rattle.std.specs.FinSet as bits
 use Rattle.usb_desc.specs.BitSet.{bit_of, members}
+use Rattle.usb_registry.specs.History.{value_at}
+use Rattle.usb_registry.specs.declared.registry.Key.{Key}
 use Rattle.usb_ledger.specs.declared.owners.Claim.{Claim}
 use Rattle.usb_ledger.specs.declared.owners.EndpointRow.{EndpointRow}
 use Rattle.usb_ledger.specs.declared.owners.EndedClaim.{EndedClaim}
 use Rattle.usb_ledger.specs.Entries.{ClaimedInterface, HostEndpoint}
-use Rattle.std.specs.Option.{ForSome}
 use Rattle.usb_ledger.specs.Owners.{shares_bit, is_of}
+
+-- the serial number of the interface of a row
+abbrev pub row_interface : EndpointRow → Option ℕ
+row_interface e = option_map (λ (key : Key). key.serial) e.interface
 
 -- an endpoint with a count of its tickets that have no end
 abbrev pub endpoint_of : EndpointRow → HostEndpoint
-endpoint_of e = record { interface = e.interface; address = e.address; is_open = e.is_open }
+endpoint_of e = record { interface = row_interface e; address = e.address; is_open = e.is_open }
 
 abbrev pub is_alive : EndpointRow → Bool
 is_alive e = e.is_open || nat_lt 0 e.tickets
 
 abbrev pub is_alive_on : ℕ → EndpointRow → Bool
-is_alive_on i e = is_of i e.interface && is_alive e
+is_alive_on i e = is_of i (row_interface e) && is_alive e
 
 abbrev pub is_alive_with : ℕ → ℕ → EndpointRow → Bool
 is_alive_with i bit e = is_alive_on i e && bit_of e.address == bit
@@ -41,11 +47,11 @@ claim_state c =
       handles = c.handles;
     }
 
--- what the owners are to the host. claim_room: how many more interfaces there is a place for
+-- what the owners are to the host. claim_capacity: how many interfaces there is memory for at once
 pub record OwnersState : Type 0 where
-  pub interfaces : List ClaimedInterface
+  pub interfaces : List (Option ClaimedInterface)
   pub rows : List EndpointRow
-  pub claim_room : ℕ
+  pub claim_capacity : ℕ
 
 -- the rows when one has another count or is closed
 abbrev pub rows_by : List EndpointRow → ℕ → Bool → ℕ → Option EndpointRow → List EndpointRow
@@ -56,30 +62,48 @@ rows_by rows k is_open tickets (Some e) =
 unfoldable pub with_row : List EndpointRow → ℕ → Bool → ℕ → List EndpointRow
 with_row rows k is_open tickets = rows_by rows k is_open tickets (slice_get rows k)
 
+-- the interface of the row of a key
+abbrev pub interface_of_row : List EndpointRow → ℕ → Option ℕ
+interface_of_row rows k = option_and_then row_interface (slice_get rows k)
+
 -- the claim that ends where an owner of an interface has gone, by the counts
 abbrev pub is_counted : List EndpointRow → ℕ → ClaimedInterface → Bool
 is_counted rows i c = nat_lt 0 c.handles || nat_lt 0 (count_by (is_alive_on i) rows)
 
-unfoldable pub claim_gone : List ClaimedInterface → List EndpointRow → ℕ → Option EndedClaim
+unfoldable pub claim_gone : List (Option ClaimedInterface) → List EndpointRow → ℕ →
+    Option EndedClaim
 claim_gone interfaces rows i =
     option_and_then
     (λ (c : ClaimedInterface).
     if is_counted rows i c then None
     else Some (record { device = c.device; number = c.number; reattach = c.reattach }))
-    (slice_get interfaces i)
+    (value_at interfaces i)
 
 -- and where an endpoint may have gone
-unfoldable pub row_gone : List ClaimedInterface → List EndpointRow → ℕ → Option EndedClaim
+unfoldable pub row_gone : List (Option ClaimedInterface) → List EndpointRow → ℕ → Option EndedClaim
 row_gone interfaces rows k =
-    option_and_then (claim_gone interfaces rows)
-    (option_and_then (λ (e : EndpointRow). e.interface) (slice_get rows k))
+    option_and_then (claim_gone interfaces rows) (interface_of_row rows k)
+
+-- whether a claim has an owner, by what it counts, and the claim that ends if it has none
+abbrev pub has_owners : Claim → Bool
+has_owners c = nat_lt 0 c.handles || nat_lt 0 c.living
+
+abbrev pub claim_if : Claim → Option EndedClaim
+claim_if c =
+    if has_owners c then None
+    else Some (record { device = c.device; number = c.number; reattach = c.reattach })
 
 -- the counts and the bits of each interface are those of its endpoints that live, of which no two
--- share a bit
-pub record CountsOf (claims : List Claim) (rows : List EndpointRow) : Type 0 where
-  pub living : (i : ℕ) (c : Claim) → slice_get claims i ≡ Some c →
+-- share a bit; and the interface of each endpoint that lives is there
+pub record CountsOf (claims : List (Option Claim)) (rows : List EndpointRow) : Type 0 where
+  pub living : (i : ℕ) (c : Claim) → value_at claims i ≡ Some c →
       c.living ≡ count_by (is_alive_on i) rows
-  pub used : (i : ℕ) (c : Claim) (bit : ℕ) → slice_get claims i ≡ Some c →
+  pub used : (i : ℕ) (c : Claim) (bit : ℕ) → value_at claims i ≡ Some c →
       count_by (is_alive_with i bit) rows ≡ one_if (bits.contains (members c.bits) bit)
-  pub placed : All (λ (e : EndpointRow). ForSome e.interface (λ i. i < length claims)) rows
+  pub placed : (k i : ℕ) (e : EndpointRow) → slice_get rows k ≡ Some e → is_alive e ≡ true →
+      row_interface e ≡ Some i → IsSome (value_at claims i)
   pub small : All (λ (e : EndpointRow). e.address < 256) rows
+
+-- nothing is kept that has gone: each interface that is there has an owner
+abbrev pub AreOwned : List (Option Claim) → Type 0
+AreOwned claims = (i : ℕ) (c : Claim) → value_at claims i ≡ Some c → has_owners c ≡ true

@@ -2,12 +2,13 @@
 
 ghost use Rattle.std.specs.Prelude.{◌≡◌, ◌+◌, ◌-◌, ◌^◌, ◌<◌, ◌≤◌, ◌++◌, ◌∷◌, [], length, set, true, false, slice_get, Some, None, IsSome, OnOk, OnErr, IfOk, vec_len, vec_capacity};
 ghost use Rattle.std.specs.Option.{ForSome};
+ghost use Rattle.usb_registry.specs.History.{value_at, live_count};
 ghost use Rattle.usb_ledger.specs.OwnerRows.{claim_state};
 ghost use Rattle.usb_ledger.specs.Owners.{is_used_among, has_living, is_owned_among};
-ghost use Rattle.usb_ledger.specs.Releases.{claim_of, claim_ended};
+ghost use Rattle.usb_ledger.specs.Releases.{claim_of, claim_ended, without_claim, interface_at};
 ghost use Rattle.usb_ledger.specs.EndedTickets.{end_at};
 ghost use Rattle.usb_ledger.specs.Entries.{fresh_interface};
-ghost use Rattle.usb_ledger.specs.LedgerState.{host_ticket, tickets_in, ticket_key, slot_data, slot_with, slot_without, ended_with, abandoned_key};
+ghost use Rattle.usb_ledger.specs.LedgerState.{host_ticket, tickets_in, ticket_key, slot_data, slot_with, slot_without, ended_with, left_with, abandoned_key};
 
 use crate::ends::TicketEnd;
 use crate::owners::{Claim, EndedClaim, Owners};
@@ -48,7 +49,7 @@ impl Model for Ledger {
       endpoints = map endpoint_of l.owners.rows;
       slots = l.slots.items;
       room = vec_capacity l.slots - vec_len l.slots;
-      claim_room = l.owners.claim_room;
+      claim_capacity = l.owners.claim_capacity;
     } };
 
     ghost use Rattle.usb_ledger.specs.LedgerFacts.{IsTied};
@@ -64,7 +65,7 @@ impl Ledger {
           endpoints = [];
           slots = [];
           room = result.room;
-          claim_room = result.claim_room;
+          claim_capacity = 0;
         } }
     {
         Ledger {
@@ -78,13 +79,16 @@ impl Ledger {
         requires within { ticket < length self.old.slots }
         requires key { ForSome (slice_get self.old.slots ticket) (λ s.
             IsSome (ticket_key (host_ticket s))) }
-        ensures slots { self.new ≡ record self.old {
-          slots = set self.old.slots ticket (TicketState.Ended end);
-        } }
+        ensures slots { ForSome (slice_get self.old.slots ticket) (λ s.
+            self.new ≡ left_with (record self.old {
+              slots = set self.old.slots ticket (TicketState.Ended end);
+            }) (ticket_key (host_ticket s))) }
         ensures transfer { ForSome (slice_get self.old.slots ticket) (λ s.
             result.transfer ≡ slot_data s) }
         ensures claim { ForSome (slice_get self.old.slots ticket) (λ s.
-            result.claim ≡ ended_with self.new (ticket_key (host_ticket s))) }
+            result.claim ≡ ended_with (record self.old {
+              slots = set self.old.slots ticket (TicketState.Ended end);
+            }) (ticket_key (host_ticket s))) }
     {
         let slot = mem::replace(&mut self.slots[ticket], TicketState::Ended(end));
         let parts = slot.into_parts();
@@ -100,11 +104,13 @@ impl Ledger {
     pub fn complete(&mut self, done: Done) -> Option<EndedClaim>
         requires within { done.ticket < length self.old.slots }
         ensures slots { ForSome (slice_get self.old.slots done.ticket) (λ s.
-            self.new ≡ record self.old {
+            self.new ≡ left_with (record self.old {
               slots = set self.old.slots done.ticket (slot_with done s);
-            }) }
+            }) (abandoned_key s)) }
         ensures claim { ForSome (slice_get self.old.slots done.ticket) (λ s.
-            result ≡ ended_with self.new (abandoned_key s)) }
+            result ≡ ended_with (record self.old {
+              slots = set self.old.slots done.ticket (slot_with done s);
+            }) (abandoned_key s)) }
     {
         let ticket = done.ticket as usize;
         let slot = &mut self.slots[ticket];
@@ -157,138 +163,160 @@ impl Ledger {
         requires key { key < length self.old.endpoints }
         requires open { ForSome (slice_get self.old.endpoints key) (λ e. e.is_open ≡ true) }
         ensures endpoints { ForSome (slice_get self.old.endpoints key) (λ e.
-            self.new ≡ record self.old {
+            self.new ≡ left_with (record self.old {
               endpoints = set self.old.endpoints key (record e { is_open = false });
-            }) }
-        ensures claim { result ≡ claim_of self.new.interfaces (tickets_in self.new)
-            self.new.endpoints key }
+            }) (Some key)) }
+        ensures claim { ForSome (slice_get self.old.endpoints key) (λ e.
+            result ≡ claim_of self.old.interfaces (tickets_in self.old)
+            (set self.old.endpoints key (record e { is_open = false })) key) }
     {
         self.owners.close_endpoint(key)
     }
 
-    /// A handle of an interface is closed.
-    pub fn close_handle(&mut self, interface: usize) -> Option<EndedClaim>
-        requires key { interface < length self.old.interfaces }
-        requires some { ForSome (slice_get self.old.interfaces interface) (λ c. 0 < c.handles) }
-        ensures interfaces { ForSome (slice_get self.old.interfaces interface) (λ c.
+    /// A handle of an interface is closed. The claim ends where it was the last owner.
+    pub fn close_handle(&mut self, interface: Key) -> Option<EndedClaim>
+        requires there { IsSome (value_at self.old.interfaces interface.serial) }
+        requires some { ForSome (value_at self.old.interfaces interface.serial) (λ c.
+            0 < c.handles) }
+        ensures interfaces { ForSome (value_at self.old.interfaces interface.serial) (λ c.
+            let left = set self.old.interfaces interface.serial
+            (Some (record c { handles = c.handles - 1 })) in
             self.new ≡ record self.old {
-              interfaces = set self.old.interfaces interface
-                  (record c { handles = c.handles - 1 });
+              interfaces = without_claim left (Some interface.serial)
+                  (claim_ended left (tickets_in self.old) self.old.endpoints interface.serial);
             }) }
-        ensures claim { result ≡ claim_ended self.new.interfaces (tickets_in self.new)
-            self.new.endpoints interface }
+        ensures claim { ForSome (value_at self.old.interfaces interface.serial) (λ c.
+            let left = set self.old.interfaces interface.serial
+            (Some (record c { handles = c.handles - 1 })) in
+            result ≡ claim_ended left (tickets_in self.old) self.old.endpoints
+            interface.serial) }
     {
         self.owners.close_handle(interface)
     }
 
     /// One more handle of an interface is open.
-    pub fn add_handle(&mut self, interface: usize) -> Result<(), NoMemory>
-        requires key { interface < length self.old.interfaces }
-        ensures interfaces { OnOk result (ForSome (slice_get self.old.interfaces interface) (λ c.
+    pub fn add_handle(&mut self, interface: Key) -> Result<(), NoMemory>
+        requires there { IsSome (value_at self.old.interfaces interface.serial) }
+        ensures interfaces { OnOk result
+            (ForSome (value_at self.old.interfaces interface.serial) (λ c.
             self.new ≡ record self.old {
-              interfaces = set self.old.interfaces interface
-                  (record c { handles = c.handles + 1 });
+              interfaces = set self.old.interfaces interface.serial
+                  (Some (record c { handles = c.handles + 1 }));
             })) }
         ensures err { OnErr result (self.new ≡ self.old) }
-        ensures full { OnErr result (ForSome (slice_get self.old.interfaces interface) (λ c.
+        ensures full { OnErr result
+            (ForSome (value_at self.old.interfaces interface.serial) (λ c.
             c.handles ≡ 2 ^ 64 - 1)) }
     {
         self.owners.add_handle(interface)
     }
 
     /// An interface has another alternate setting.
-    pub fn set_setting(&mut self, interface: usize, setting: u8)
-        requires key { interface < length self.old.interfaces }
-        ensures interfaces { ForSome (slice_get self.old.interfaces interface) (λ c.
+    pub fn set_setting(&mut self, interface: Key, setting: u8)
+        requires there { IsSome (value_at self.old.interfaces interface.serial) }
+        ensures interfaces { ForSome (value_at self.old.interfaces interface.serial) (λ c.
             self.new ≡ record self.old {
-              interfaces = set self.old.interfaces interface (record c { setting = setting });
+              interfaces = set self.old.interfaces interface.serial
+                  (Some (record c { setting = setting }));
             }) }
     {
         self.owners.set_setting(interface, setting);
     }
 
     /// Whether an endpoint of an interface lives.
-    pub fn has_living(&self, interface: usize) -> bool
-        requires key { interface < length self.now.interfaces }
-        ensures living { result ≡ has_living (tickets_in self.now) self.now.endpoints interface }
+    pub fn has_living(&self, interface: Key) -> bool
+        requires there { IsSome (value_at self.now.interfaces interface.serial) }
+        ensures living { result ≡
+            has_living (tickets_in self.now) self.now.endpoints interface.serial }
     {
         self.owners.has_living(interface)
     }
 
     /// Whether an interface has an owner beside one of its handles.
-    pub fn is_shared(&self, interface: usize) -> bool
-        requires key { interface < length self.now.interfaces }
-        ensures shared { ForSome (slice_get self.now.interfaces interface) (λ c.
-            result ≡ is_owned_among (tickets_in self.now) self.now.endpoints interface
+    pub fn is_shared(&self, interface: Key) -> bool
+        requires there { IsSome (value_at self.now.interfaces interface.serial) }
+        ensures shared { ForSome (value_at self.now.interfaces interface.serial) (λ c.
+            result ≡ is_owned_among (tickets_in self.now) self.now.endpoints interface.serial
             (record c { handles = c.handles - 1 })) }
     {
         self.owners.is_shared(interface)
     }
 
     /// A claimed interface.
-    pub fn interface(&self, interface: usize) -> &Claim
-        requires key { interface < length self.now.interfaces }
-        ensures claim { slice_get self.now.interfaces interface ≡ Some (claim_state result.now) }
+    pub fn interface(&self, interface: Key) -> &Claim
+        requires there { IsSome (value_at self.now.interfaces interface.serial) }
+        ensures claim { value_at self.now.interfaces interface.serial ≡
+            Some (claim_state result.now) }
     {
         self.owners.interface(interface)
     }
 
     /// The key of the open device of an interface.
-    pub fn opened(&self, interface: usize) -> Key
-        requires key { interface < length self.now.interfaces }
-        ensures opened { ForSome (slice_get self.now.interfaces interface) (λ c.
+    pub fn opened(&self, interface: Key) -> Key
+        requires there { IsSome (value_at self.now.interfaces interface.serial) }
+        ensures opened { ForSome (value_at self.now.interfaces interface.serial) (λ c.
             result.serial ≡ c.opened) }
     {
         self.owners.interface(interface).opened
     }
 
     /// The number of the device of an interface at the kernel.
-    pub fn device(&self, interface: usize) -> u8
-        requires key { interface < length self.now.interfaces }
-        ensures device { ForSome (slice_get self.now.interfaces interface) (λ c.
+    pub fn device(&self, interface: Key) -> u8
+        requires there { IsSome (value_at self.now.interfaces interface.serial) }
+        ensures device { ForSome (value_at self.now.interfaces interface.serial) (λ c.
             result ≡ c.device) }
     {
         self.owners.interface(interface).device
     }
 
     /// Whether the bit of an address is in use at an interface.
-    pub fn is_used(&self, interface: usize, address: u8) -> bool
-        requires key { interface < length self.now.interfaces }
+    pub fn is_used(&self, interface: Key, address: u8) -> bool
+        requires there { IsSome (value_at self.now.interfaces interface.serial) }
         ensures used { result ≡ is_used_among (tickets_in self.now) self.now.endpoints
-            interface address }
+            interface.serial address }
     {
         self.owners.is_used(interface, address)
     }
 
     /// Makes room for one more claimed interface.
     pub fn reserve_claim(&mut self) -> Result<(), NoMemory>
-        ensures room { OnOk result (1 ≤ self.new.claim_room) }
-        ensures rest { self.new ≡ record self.old { claim_room = self.new.claim_room } }
+        ensures room { OnOk result (live_count self.new.interfaces < self.new.claim_capacity) }
+        ensures serials { OnOk result (length self.new.interfaces + 1 < 2 ^ 64) }
+        ensures rest { self.new ≡ record self.old { claim_capacity = self.new.claim_capacity } }
     {
         self.owners.reserve_claim()
     }
 
     /// One more interface is claimed, with one handle.
-    pub fn open_interface(&mut self, opened: Key, device: u8, number: u8, reattach: bool) -> usize
-        requires room { 1 ≤ self.old.claim_room }
-        ensures key { result ≡ length self.old.interfaces }
+    pub fn open_interface(&mut self, opened: Key, device: u8, number: u8, reattach: bool) -> Key
+        requires room { live_count self.old.interfaces < self.old.claim_capacity }
+        requires serials { length self.old.interfaces + 1 < 2 ^ 64 }
+        ensures key { result.serial ≡ length self.old.interfaces }
         ensures interfaces { self.new ≡ record self.old {
-          interfaces = self.old.interfaces ++ fresh_interface opened.serial device number reattach ∷ [];
-          claim_room = self.new.claim_room;
+          interfaces = self.old.interfaces ++ Some (fresh_interface opened.serial device number
+              reattach) ∷ [];
         } }
     {
         self.owners.open_interface(opened, device, number, reattach)
     }
 
+    /// How many claimed interfaces there is memory for.
+    pub fn claim_capacity(&self) -> usize
+        ensures capacity { result ≡ self.now.claim_capacity }
+        ensures holds_all { live_count self.now.interfaces ≤ result }
+    {
+        self.owners.claim_capacity()
+    }
+
     /// One more endpoint of an interface is open. Its bit must not be in use.
-    pub fn open_endpoint(&mut self, interface: usize, address: u8) -> Result<usize, NoMemory>
-        requires key { interface < length self.old.interfaces }
-        requires unused { is_used_among (tickets_in self.old) self.old.endpoints interface address ≡
-            false }
+    pub fn open_endpoint(&mut self, interface: Key, address: u8) -> Result<usize, NoMemory>
+        requires there { IsSome (value_at self.old.interfaces interface.serial) }
+        requires unused { is_used_among (tickets_in self.old) self.old.endpoints
+            interface.serial address ≡ false }
         ensures key { IfOk result (λ key. key ≡ length self.old.endpoints) }
         ensures endpoints { OnOk result (self.new ≡ record self.old {
           endpoints = self.old.endpoints ++ record {
-            interface = Some interface;
+            interface = Some interface.serial;
             address = address;
             is_open = true;
           } ∷ [];

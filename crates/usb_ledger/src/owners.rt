@@ -1,18 +1,20 @@
 //! Who owns the claimed interfaces, and which of their endpoints are in use, kept as counts and
 //! bits.
 
-ghost use Rattle.std.specs.Prelude.{◌≡◌, ◌+◌, ◌-◌, ◌^◌, ◌<◌, ◌≤◌, ◌++◌, ◌∷◌, [], ◌||◌, length, set, true, false, IfSome, nat_lt, slice_get, Some, None, OnOk, OnErr, IfOk, if◌then◌else◌, vec_len, vec_capacity};
+ghost use Rattle.std.specs.Prelude.{◌≡◌, ◌+◌, ◌-◌, ◌^◌, ◌<◌, ◌≤◌, ◌++◌, ◌∷◌, [], length, set, true, false, IfSome, IsSome, nat_lt, slice_get, option_and_then, Some, None, OnOk, OnErr, IfOk};
 ghost use Rattle.std.specs.Option.{ForSome};
 ghost use Rattle.std.specs.List.{list_any, count_by};
 ghost use Rattle.std.specs.FinSet as bits;
 ghost use Rattle.usb_desc.specs.BitSet.{bit_of, members};
+ghost use Rattle.usb_registry.specs.History.{value_at, live_count};
 ghost use Rattle.usb_ledger.specs.Entries.{fresh_interface};
-ghost use Rattle.usb_ledger.specs.OwnerRows.{OwnersState, claim_state, is_alive, is_alive_on, is_counted, uses_row, with_row, row_gone, claim_gone};
+ghost use Rattle.usb_ledger.specs.Releases.{without_claim};
+ghost use Rattle.usb_ledger.specs.OwnerRows.{OwnersState, claim_state, claim_if, is_alive, is_alive_on, is_counted, uses_row, interface_of_row, with_row, row_gone, claim_gone};
 
 use std::alloc::Global;
 use std::marker::Model;
 use usb_desc::{EndpointBitSet, NoMemory};
-use usb_registry::Key;
+use usb_registry::{Key, Registry};
 
 /// A claim that ends: the device's number at the kernel, the interface's number, and whether its
 /// driver is to be attached again.
@@ -42,29 +44,31 @@ pub struct Claim {
 /// handle is open, and how many of its tickets have no end.
 #[derive(Drop)]
 pub(crate) struct EndpointRow {
-    pub interface: Option<usize>,
+    pub interface: Option<Key>,
     pub address: u8,
     pub is_open: bool,
     pub tickets: usize,
 }
 
-/// The claimed interfaces and their endpoints, each by its key.
+/// The claimed interfaces and their endpoints, each by its key. An interface that has no owner any
+/// more goes, and its memory with it.
 #[derive(Drop)]
 pub(crate) struct Owners {
-    claims: Vec<Claim>,
+    claims: Registry<Claim>,
     rows: Vec<EndpointRow>,
 }
 
 impl Model for Owners {
-    ghost use Rattle.std.specs.Prelude.{map, ◌-◌, vec_len, vec_capacity};
+    ghost use Rattle.std.specs.Prelude.{map};
+    ghost use Rattle.std.specs.Option.{option_map};
     ghost use Rattle.usb_ledger.specs.OwnerRows.{OwnersState, claim_state};
 
     ghost Value = { OwnersState };
 
     ghost view = { λ o. record {
-      interfaces = map claim_state o.claims.items;
+      interfaces = map (option_map claim_state) o.claims.values;
       rows = o.rows.items;
-      claim_room = vec_capacity o.claims - vec_len o.claims;
+      claim_capacity = o.claims.capacity;
     } };
 
     ghost use Rattle.usb_ledger.specs.OwnerFacts.{AreCounted};
@@ -84,12 +88,7 @@ impl EndpointRow {
 impl Claim {
     /// The claim, where the interface has no owner.
     fn if_left(&self) -> Option<EndedClaim>
-        ensures left { result ≡ (if nat_lt 0 self.now.handles || nat_lt 0 self.now.living then None
-            else Some (record {
-              device = self.now.device;
-              number = self.now.number;
-              reattach = self.now.reattach;
-            })) }
+        ensures left { result ≡ claim_if self.now }
     {
         if self.handles > 0 || self.living > 0 {
             return None;
@@ -132,6 +131,24 @@ impl Claim {
     }
 }
 
+/// Takes the entry of an interface out, where it has no owner. Its claim ends.
+fn end_claim(claims: &mut Registry<Claim>, interface: Key) -> Option<EndedClaim>
+    ensures ended { result ≡ option_and_then claim_if (value_at claims.old.values
+        interface.serial) }
+    ensures gone { claims.new ≡ record claims.old {
+      values = without_claim claims.old.values (Some interface.serial) result;
+    } }
+{
+    let Some(claim) = claims.get(interface) else {
+        return None;
+    };
+    let Some(ended) = claim.if_left() else {
+        return None;
+    };
+    let _ = claims.remove(interface);
+    Some(ended)
+}
+
 impl Owners {
     /// An endpoint that lives is open or not, and has this many tickets without an end. The claim
     /// of its interface ends where it was the last owner and lives no more.
@@ -139,9 +156,11 @@ impl Owners {
         requires key { key < length self.old.rows }
         requires alive { ForSome (slice_get self.old.rows key) (λ e. is_alive e ≡ true) }
         ensures rows { self.new ≡ record self.old {
+          interfaces = without_claim self.old.interfaces (interface_of_row self.old.rows key)
+              result;
           rows = with_row self.old.rows key is_open tickets;
         } }
-        ensures gone { result ≡ row_gone self.new.interfaces self.new.rows key }
+        ensures gone { result ≡ row_gone self.old.interfaces self.new.rows key }
     {
         let row = &mut self.rows[key];
         row.is_open = is_open;
@@ -153,9 +172,11 @@ impl Owners {
         let Some(interface) = row.interface else {
             return None;
         };
-        let claim = &mut self.claims[interface];
+        let Some(claim) = self.claims.get_mut(interface) else {
+            return None;
+        };
         claim.lose(address);
-        claim.if_left()
+        end_claim(&mut self.claims, interface)
     }
 
     /// No interface, and no endpoint.
@@ -163,11 +184,11 @@ impl Owners {
         ensures empty { result ≡ record {
           interfaces = [];
           rows = [];
-          claim_room = result.claim_room;
+          claim_capacity = 0;
         } }
     {
         Owners {
-            claims: Vec::new(alloc),
+            claims: Registry::new(alloc),
             rows: Vec::new(alloc),
         }
     }
@@ -191,9 +212,11 @@ impl Owners {
         requires some { ForSome (slice_get self.old.rows key) (λ e. 0 < e.tickets) }
         ensures rows { ForSome (slice_get self.old.rows key) (λ e.
             self.new ≡ record self.old {
+              interfaces = without_claim self.old.interfaces (interface_of_row self.old.rows key)
+                  result;
               rows = with_row self.old.rows key e.is_open (e.tickets - 1);
             }) }
-        ensures gone { result ≡ row_gone self.new.interfaces self.new.rows key }
+        ensures gone { result ≡ row_gone self.old.interfaces self.new.rows key }
     {
         let row = &self.rows[key];
         let is_open = row.is_open;
@@ -206,43 +229,58 @@ impl Owners {
         requires key { key < length self.old.rows }
         requires open { ForSome (slice_get self.old.rows key) (λ e. e.is_open ≡ true) }
         ensures rows { ForSome (slice_get self.old.rows key) (λ e.
-            self.new ≡ record self.old { rows = with_row self.old.rows key false e.tickets }) }
-        ensures gone { result ≡ row_gone self.new.interfaces self.new.rows key }
+            self.new ≡ record self.old {
+              interfaces = without_claim self.old.interfaces (interface_of_row self.old.rows key)
+                  result;
+              rows = with_row self.old.rows key false e.tickets;
+            }) }
+        ensures gone { result ≡ row_gone self.old.interfaces self.new.rows key }
     {
         let row = &self.rows[key];
         let tickets = row.tickets;
         self.change(key, false, tickets)
     }
 
-    /// A handle of an interface is closed.
-    pub fn close_handle(&mut self, interface: usize) -> Option<EndedClaim>
-        requires key { interface < length self.old.interfaces }
-        requires some { ForSome (slice_get self.old.interfaces interface) (λ c. 0 < c.handles) }
-        ensures interfaces { ForSome (slice_get self.old.interfaces interface) (λ c.
+    /// A handle of an interface is closed. The claim ends where it was the last owner.
+    pub fn close_handle(&mut self, interface: Key) -> Option<EndedClaim>
+        requires there { IsSome (value_at self.old.interfaces interface.serial) }
+        requires some { ForSome (value_at self.old.interfaces interface.serial) (λ c.
+            0 < c.handles) }
+        ensures interfaces { ForSome (value_at self.old.interfaces interface.serial) (λ c.
+            let left = set self.old.interfaces interface.serial
+            (Some (record c { handles = c.handles - 1 })) in
             self.new ≡ record self.old {
-              interfaces = set self.old.interfaces interface
-                  (record c { handles = c.handles - 1 });
+              interfaces = without_claim left (Some interface.serial) result;
             }) }
-        ensures gone { result ≡ claim_gone self.new.interfaces self.new.rows interface }
+        ensures gone { ForSome (value_at self.old.interfaces interface.serial) (λ c.
+            let left = set self.old.interfaces interface.serial
+            (Some (record c { handles = c.handles - 1 })) in
+            result ≡ claim_gone left self.old.rows interface.serial) }
     {
-        let claim = &mut self.claims[interface];
+        let Some(claim) = self.claims.get_mut(interface) else {
+            return None;
+        };
         claim.handles -= 1;
-        claim.if_left()
+        end_claim(&mut self.claims, interface)
     }
 
     /// One more handle of an interface is open.
-    pub fn add_handle(&mut self, interface: usize) -> Result<(), NoMemory>
-        requires key { interface < length self.old.interfaces }
-        ensures interfaces { OnOk result (ForSome (slice_get self.old.interfaces interface) (λ c.
+    pub fn add_handle(&mut self, interface: Key) -> Result<(), NoMemory>
+        requires there { IsSome (value_at self.old.interfaces interface.serial) }
+        ensures interfaces { OnOk result
+            (ForSome (value_at self.old.interfaces interface.serial) (λ c.
             self.new ≡ record self.old {
-              interfaces = set self.old.interfaces interface
-                  (record c { handles = c.handles + 1 });
+              interfaces = set self.old.interfaces interface.serial
+                  (Some (record c { handles = c.handles + 1 }));
             })) }
         ensures err { OnErr result (self.new ≡ self.old) }
-        ensures full { OnErr result (ForSome (slice_get self.old.interfaces interface) (λ c.
+        ensures full { OnErr result
+            (ForSome (value_at self.old.interfaces interface.serial) (λ c.
             c.handles ≡ 2 ^ 64 - 1)) }
     {
-        let claim = &mut self.claims[interface];
+        let Some(claim) = self.claims.get_mut(interface) else {
+            return Ok(());
+        };
         if claim.handles == usize::MAX {
             return Err(NoMemory);
         }
@@ -251,75 +289,84 @@ impl Owners {
     }
 
     /// An interface has another alternate setting.
-    pub fn set_setting(&mut self, interface: usize, setting: u8)
-        requires key { interface < length self.old.interfaces }
-        ensures interfaces { ForSome (slice_get self.old.interfaces interface) (λ c.
+    pub fn set_setting(&mut self, interface: Key, setting: u8)
+        requires there { IsSome (value_at self.old.interfaces interface.serial) }
+        ensures interfaces { ForSome (value_at self.old.interfaces interface.serial) (λ c.
             self.new ≡ record self.old {
-              interfaces = set self.old.interfaces interface (record c { setting = setting });
+              interfaces = set self.old.interfaces interface.serial
+                  (Some (record c { setting = setting }));
             }) }
     {
-        let claim = &mut self.claims[interface];
-        claim.setting = setting;
-    }
-
-    /// Whether an endpoint of an interface lives.
-    pub fn has_living(&self, interface: usize) -> bool
-        requires key { interface < length self.now.interfaces }
-        ensures living { result ≡ nat_lt 0 (count_by (is_alive_on interface) self.now.rows) }
-    {
-        let claim = &self.claims[interface];
-        claim.living > 0
-    }
-
-    /// Whether an interface has an owner beside one of its handles.
-    pub fn is_shared(&self, interface: usize) -> bool
-        requires key { interface < length self.now.interfaces }
-        ensures shared { ForSome (slice_get self.now.interfaces interface) (λ c.
-            result ≡ is_counted self.now.rows interface (record c { handles = c.handles - 1 })) }
-    {
-        let claim = &self.claims[interface];
-        claim.handles > 1 || claim.living > 0
+        if let Some(claim) = self.claims.get_mut(interface) {
+            claim.setting = setting;
+        }
     }
 
     /// A claimed interface.
-    pub fn interface(&self, interface: usize) -> &Claim
-        requires key { interface < length self.now.interfaces }
-        ensures claim { slice_get self.now.interfaces interface ≡ Some (claim_state result.now) }
+    pub fn interface(&self, interface: Key) -> &Claim
+        requires there { IsSome (value_at self.now.interfaces interface.serial) }
+        ensures claim { value_at self.now.interfaces interface.serial ≡
+            Some (claim_state result.now) }
+        ensures living { result.now.living ≡
+            count_by (is_alive_on interface.serial) self.now.rows }
     {
-        &self.claims[interface]
+        self.claims.get(interface).unwrap()
+    }
+
+    /// Whether an endpoint of an interface lives.
+    pub fn has_living(&self, interface: Key) -> bool
+        requires there { IsSome (value_at self.now.interfaces interface.serial) }
+        ensures living { result ≡
+            nat_lt 0 (count_by (is_alive_on interface.serial) self.now.rows) }
+    {
+        self.interface(interface).living > 0
+    }
+
+    /// Whether an interface has an owner beside one of its handles.
+    pub fn is_shared(&self, interface: Key) -> bool
+        requires there { IsSome (value_at self.now.interfaces interface.serial) }
+        ensures shared { ForSome (value_at self.now.interfaces interface.serial) (λ c.
+            result ≡ is_counted self.now.rows interface.serial
+            (record c { handles = c.handles - 1 })) }
+    {
+        let claim = self.interface(interface);
+        claim.handles > 1 || claim.living > 0
     }
 
     /// Whether a living endpoint of an interface has the bit of an address.
-    pub fn is_used(&self, interface: usize, address: u8) -> bool
-        requires key { interface < length self.now.interfaces }
-        ensures used { result ≡ list_any (uses_row interface address) self.now.rows }
+    pub fn is_used(&self, interface: Key, address: u8) -> bool
+        requires there { IsSome (value_at self.now.interfaces interface.serial) }
+        ensures used { result ≡ list_any (uses_row interface.serial address) self.now.rows }
     {
-        let claim = &self.claims[interface];
-        claim.bits.is_set(address)
+        match self.claims.get(interface) {
+            Some(claim) => claim.bits.is_set(address),
+            None => false,
+        }
     }
 
     /// Makes room for one more claimed interface.
     pub fn reserve_claim(&mut self) -> Result<(), NoMemory>
-        ensures room { OnOk result (1 ≤ self.new.claim_room) }
-        ensures rest { self.new ≡ record self.old { claim_room = self.new.claim_room } }
+        ensures room { OnOk result (live_count self.new.interfaces < self.new.claim_capacity) }
+        ensures serials { OnOk result (length self.new.interfaces + 1 < 2 ^ 64) }
+        ensures rest { self.new ≡ record self.old { claim_capacity = self.new.claim_capacity } }
     {
-        if self.claims.reserve(1).is_err() {
+        if self.claims.reserve().is_err() {
             return Err(NoMemory);
         }
         Ok(())
     }
 
     /// One more interface is claimed, with one handle.
-    pub fn open_interface(&mut self, opened: Key, device: u8, number: u8, reattach: bool) -> usize
-        requires room { 1 ≤ self.old.claim_room }
-        ensures key { result ≡ length self.old.interfaces }
+    pub fn open_interface(&mut self, opened: Key, device: u8, number: u8, reattach: bool) -> Key
+        requires room { live_count self.old.interfaces < self.old.claim_capacity }
+        requires serials { length self.old.interfaces + 1 < 2 ^ 64 }
+        ensures key { result.serial ≡ length self.old.interfaces }
         ensures interfaces { self.new ≡ record self.old {
-          interfaces = self.old.interfaces ++ fresh_interface opened.serial device number reattach ∷ [];
-          claim_room = self.new.claim_room;
+          interfaces = self.old.interfaces ++ Some (fresh_interface opened.serial device number
+              reattach) ∷ [];
         } }
     {
-        let key = self.claims.len();
-        self.claims.push_reserved(Claim {
+        self.claims.insert_reserved(Claim {
             opened,
             device,
             number,
@@ -328,14 +375,21 @@ impl Owners {
             handles: 1,
             living: 0,
             bits: EndpointBitSet::new(),
-        });
-        key
+        })
+    }
+
+    /// How many claimed interfaces there is memory for.
+    pub fn claim_capacity(&self) -> usize
+        ensures capacity { result ≡ self.now.claim_capacity }
+        ensures holds_all { live_count self.now.interfaces ≤ result }
+    {
+        self.claims.capacity()
     }
 
     /// One more endpoint of an interface is open. Its bit must not be in use.
-    pub fn open_endpoint(&mut self, interface: usize, address: u8) -> Result<usize, NoMemory>
-        requires key { interface < length self.old.interfaces }
-        requires unused { list_any (uses_row interface address) self.old.rows ≡ false }
+    pub fn open_endpoint(&mut self, interface: Key, address: u8) -> Result<usize, NoMemory>
+        requires there { IsSome (value_at self.old.interfaces interface.serial) }
+        requires unused { list_any (uses_row interface.serial address) self.old.rows ≡ false }
         ensures key { IfOk result (λ key. key ≡ length self.old.rows) }
         ensures rows { OnOk result (self.new ≡ record self.old {
           rows = self.old.rows ++ record {
@@ -357,7 +411,9 @@ impl Owners {
         if self.rows.push(row).is_err() {
             return Err(NoMemory);
         }
-        let claim = &mut self.claims[interface];
+        let Some(claim) = self.claims.get_mut(interface) else {
+            unreachable!();
+        };
         claim.gain(address);
         Ok(key)
     }

@@ -1,8 +1,10 @@
 -- What is found by a serial number when a list of values changes.
-use Rattle.std.proofs.Common.{◌≡◌, ◌≢◌, ℕ, zero, suc, ◌<◌, arith, is_some, List, [], ◌∷◌, ◌++◌, length, set, slice_get, Option, Some, None, refl, sym, ap, ◌∙◌}
+use Rattle.std.proofs.Common.{◌≡◌, ◌≢◌, ◌⊎◌, inl, inr, ℕ, zero, suc, ◌+◌, ◌<◌, ◌≤◌, arith, cond, is_some, List, [], ◌∷◌, ◌++◌, length, map, set, slice_get, Option, Some, None, refl, sym, ap, ◌∙◌}
 use Rattle.std.specs.Prelude.{IsSome}
-use Rattle.std.proofs.lemmas.Option.{none-some}
-use Rattle.usb_registry.specs.History.{value_at}
+use Rattle.std.specs.Option.{option_map}
+use Rattle.std.proofs.lemmas.Option.{none-some, same_Some}
+use Rattle.std.proofs.lemmas.List.Sums.{sum_by-cons}
+use Rattle.usb_registry.specs.History.{value_at, live_count}
 
 module _ {X : Type 0} where
   -- what is there
@@ -57,3 +59,73 @@ module _ {X : Type 0} where
   value-pushed [] o (suc k) apart = refl
   value-pushed (y ∷ ys) o zero apart = refl
   value-pushed (y ∷ ys) o (suc k) apart = value-pushed ys o k (λ z. apart (ap suc z))
+
+  -- what is there after a write, or after a push
+  pub value-set : (xs : List (Option X)) (k t : ℕ) (o : Option X) (x : X) → value_at (set xs k o) t ≡ Some x → ((t ≡ k) × (o ≡ Some x)) ⊎ ((t ≢ k) × (value_at xs t ≡ Some x))
+  value-set [] k t o x at = absurd (none-some x at)
+  value-set (y ∷ ys) zero zero o x at = inl (refl, at)
+  value-set (y ∷ ys) zero (suc t) o x at = inr (λ z. absurd (omega arith), at)
+  value-set (y ∷ ys) (suc k) zero o x at = inr (λ z. absurd (omega arith), at)
+  value-set (y ∷ ys) (suc k) (suc t) o x at =
+      elim (value-set ys k t o x at) [
+        | inl w ↦ inl (ap suc w.0, w.1)
+        | inr w ↦ inr (λ z. w.0 (omega arith), w.1)
+      ]
+
+  pub value-push_cases : (xs : List (Option X)) (y x : X) (t : ℕ) → value_at (xs ++ Some y ∷ []) t ≡ Some x → ((t ≡ length xs) × (x ≡ y)) ⊎ ((t ≢ length xs) × (value_at xs t ≡ Some x))
+  value-push_cases [] y x zero at = inl (refl, sym (same_Some y x at))
+  value-push_cases [] y x (suc t) at = absurd (none-some x at)
+  value-push_cases (z ∷ zs) y x zero at = inr (λ e. absurd (omega arith), at)
+  value-push_cases (z ∷ zs) y x (suc t) at =
+      elim (value-push_cases zs y x t at) [
+        | inl w ↦ inl (ap suc w.0, w.1)
+        | inr w ↦ inr (λ e. w.0 (omega arith), w.1)
+      ]
+
+  pub value-past : (xs : List (Option X)) (k : ℕ) → length xs ≤ k → value_at xs k ≡ None
+  value-past [] k past = refl
+  value-past (y ∷ ys) zero past = absurd (omega (arith, past))
+  value-past (y ∷ ys) (suc k) past = value-past ys k (omega (arith, past))
+
+  -- the list of what is there, each changed
+  pub value-map : {Y : Type 0} (f : X → Y) (xs : List (Option X)) (k : ℕ) → value_at (map (option_map f) xs) k ≡ option_map f (value_at xs k)
+  value-map f [] k = refl
+  value-map f (None ∷ ys) zero = refl
+  value-map f (Some y ∷ ys) zero = refl
+  value-map f (y ∷ ys) (suc k) = value-map f ys k
+
+  pub live-map : {Y : Type 0} (f : X → Y) (xs : List (Option X)) → live_count (map (option_map f) xs) ≡ live_count xs
+  live-map f [] = refl
+  live-map {Y = Y} f (x ∷ xs) =
+      let here : is_some (option_map f x) ≡ is_some x = some-map x in
+      let rest = live-map f xs in
+      let after = sum_by-cons (λ (o : Option Y). cond (is_some o) 1 0) (option_map f x) (map (option_map f) xs) in
+      let before = sum_by-cons (λ (o : Option X). cond (is_some o) 1 0) x xs in
+      let one : ◌≡◌ {A = ℕ} (cond (is_some (option_map f x)) 1 0) (cond (is_some x) 1 0) = ap (λ b. cond b 1 0) here in
+      omega (arith, rest, after, before, one)
+    where
+      some-map : (o : Option X) → is_some (option_map f o) ≡ is_some o
+      some-map None = refl
+      some-map (Some x) = refl
+
+  pub value-put : (xs : List (Option X)) (k t : ℕ) (r x : X) → value_at (set xs k (Some r)) t ≡ Some x → ((t ≡ k) × (x ≡ r)) ⊎ ((t ≢ k) × (value_at xs t ≡ Some x))
+  value-put xs k t r x at =
+      elim (value-set xs k t (Some r) x at) [
+        | inl w ↦ inl (w.0, sym (same_Some r x w.1))
+        | inr w ↦ inr w
+      ]
+
+  pub value-taken : (xs : List (Option X)) (k t : ℕ) (x : X) → value_at (set xs k None) t ≡ Some x → (t ≢ k) × (value_at xs t ≡ Some x)
+  value-taken xs k t x at =
+      elim (value-set xs k t None x at) [
+        | inl w ↦ absurd (none-some x w.1)
+        | inr w ↦ w
+      ]
+
+  -- what is there stays there over a write
+  pub there-put : (xs : List (Option X)) (k t : ℕ) (r : X) → IsSome (value_at xs t) → IsSome (value_at (set xs k (Some r)) t)
+  there-put [] k t r there = there
+  there-put (y ∷ ys) zero zero r there = refl
+  there-put (y ∷ ys) zero (suc t) r there = there
+  there-put (y ∷ ys) (suc k) zero r there = there
+  there-put (y ∷ ys) (suc k) (suc t) r there = there-put ys k t r there

@@ -9,7 +9,7 @@ ghost use Rattle.usb_registry.specs.Entries.{HasSerialAt};
 ghost use Rattle.usb_registry.specs.declared.registry.Entry.{Entry};
 
 use slab::Slab;
-use std::alloc::{AllocFailed, Global};
+use std::alloc::{AllocError, AllocFailed, Global};
 use std::marker::Model;
 use std::mem;
 
@@ -163,6 +163,35 @@ impl<T> Registry<T> {
                 value: into_value(failed.value),
             }),
         }
+    }
+
+    /// Makes room for one value more, of which `insert_reserved` needs no memory. An `Err` is want of
+    /// memory, or the serial numbers below 2^64 - 1 are used up.
+    pub fn reserve(&mut self) -> Result<(), AllocError>
+        ensures room { OnOk result (live_count self.new.values < self.new.capacity) }
+        ensures serials { OnOk result (length self.new.values + 1 < 2 ^ 64) }
+        ensures values { self.new ≡ record self.old { capacity = self.new.capacity } }
+    {
+        if self.next == u64::MAX {
+            return Err(AllocError);
+        }
+        self.entries.reserve(1)
+    }
+
+    /// Puts a value in where there is room for it, and takes no memory. Its serial number is the
+    /// number of values that were put in before.
+    pub fn insert_reserved(&mut self, value: T) -> Key
+        requires room { live_count self.old.values < self.old.capacity }
+        requires serials { length self.old.values + 1 < 2 ^ 64 }
+        ensures serial { result.serial ≡ length self.old.values }
+        ensures inserted { self.new ≡ record self.old {
+          values = self.old.values ++ Some value ∷ [];
+        } }
+    {
+        let serial = self.next;
+        let place = self.entries.insert_reserved(Entry { serial, value });
+        self.next = serial + 1;
+        Key { serial, place }
     }
 
     /// The value of a key, if it is there.

@@ -1,9 +1,9 @@
-use Rattle.std.proofs.Common.{ap, sym}
+use Rattle.std.proofs.Common.{ap, sym, set, ◌∙◌}
 use Rattle.usb_kernel.specs.Value.{KernelState}
 use Rattle.usb_device.specs.HostFacts.{host_made}
-use Rattle.usb_ledger.specs.LedgerState.{LedgerState}
+use Rattle.usb_ledger.specs.LedgerState.{LedgerState, slot_with, abandoned_key}
 use Rattle.usb_ledger.proofs.LedgerLemmas.{some-at}
-use Rattle.usb_device.proofs.ArrivalLemmas.{TicketsAgree-none, TicketsAgree-some, came-slot, came-none}
+use Rattle.usb_device.proofs.ArrivalLemmas.{TicketsAgree-none, TicketsAgree-some, came-slot, left-slots, came-none}
 use Rattle.usb_device.proofs.host.complete.Goals as goal
 
 pub returns-in_default-clause-host : goal.returns-in_default-clause-host
@@ -22,6 +22,6 @@ pub returns-clause-agree : goal.returns-clause-agree
 returns-clause-agree c = λ past agree comes.
     let done = c.in-Some.done in
     let there = some-at c.args.ledger.now.slots done.ticket (c.requires.within done c.in-Some.is) in
-    let slots = ap (λ (l : LedgerState). l.slots) (c.complete-ended.ensures.slots there.0 there.1) in
+    let slots = ap (λ (l : LedgerState). l.slots) (c.complete-ended.ensures.slots there.0 there.1) ∙ left-slots (record c.args.ledger.now { slots = set c.args.ledger.now.slots done.ticket (slot_with done there.0) }) (abandoned_key there.0) in
     let same = ap (λ (k : KernelState). k.past) c.release.ensures.rest in
     rw (slots, same) (TicketsAgree-some past c.args.kernel.now.past c.args.ledger.now.slots done there.0 agree (rw c.in-Some.is at comes) there.1)

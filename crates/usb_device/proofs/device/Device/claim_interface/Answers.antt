@@ -19,7 +19,7 @@ returns-in-Ok-clause-stands c =
     let key = c.self.view_is in
     let stands = c.requires.stands in
     let tried = rw key at c.in-Ok.ensures.tried in
-    claimed-stands c.args.host.now c.claim.new.self c.args.self.now c.args.interface c.in-Ok.key false stands.device stands.at stands (tried stands.device stands.at) (rw key at c.in-Ok.ensures.host)
+    claimed-stands c.args.host.now c.claim.new.self c.args.self.now c.args.interface c.in-Ok.key.serial false stands.device stands.at stands (tried stands.device stands.at) (rw key at c.in-Ok.ensures.host)
 
 pub returns-in-Ok-clause-device : goal.returns-in-Ok-clause-device
 returns-in-Ok-clause-device c =

@@ -1,4 +1,5 @@
 use Rattle.std.proofs.Common.{◌≡◌, ◌∙◌, ap, Some, slice_get}
+use Rattle.usb_registry.specs.History.{value_at}
 use Rattle.usb_device.specs.HandleStates.{InterfaceState}
 use Rattle.usb_device.proofs.EndpointLemmas.{asked-interface}
 use Rattle.usb_device.proofs.device.Interface.ask_configuration.Goals as goal
@@ -7,5 +8,5 @@ pub returns-clause-stands : goal.returns-clause-stands
 returns-clause-stands c =
     let host = c.args.host.now in
     let stands = c.requires.stands in
-    let at : slice_get host.interfaces c.self.inside.key ≡ Some stands.claim = ap (λ (i : InterfaceState). slice_get host.interfaces i.key) c.self.view_is ∙ stands.at in
+    let at : value_at host.interfaces c.self.inside.key.serial ≡ Some stands.claim = ap (λ (i : InterfaceState). value_at host.interfaces i.key) c.self.view_is ∙ stands.at in
     asked-interface host c.ask_configuration_of.new.self c.args.self.now stands.claim.opened stands (c.ask_configuration_of.ensures.asked stands.claim at)

@@ -1,4 +1,5 @@
 use Rattle.std.proofs.Common.{◌≡◌, ◌∙◌, ap, Some, slice_get, length, []}
+use Rattle.usb_registry.specs.History.{value_at}
 use Rattle.usb_bus.specs.declared.route.Route.{Route}
 use Rattle.usb_endpoint.specs.EndpointState.{EndpointState}
 use Rattle.usb_device.specs.HandleStates.{InterfaceState}
@@ -11,7 +12,7 @@ returns-in-Ok-clause-opens g c =
     let host = c.args.host.now in
     let claim = c.requires.stands.claim in
     let key = ap (λ (i : InterfaceState). i.key) c.self.view_is in
-    let at : slice_get host.interfaces c.self.inside.key ≡ Some claim = ap (slice_get host.interfaces) key ∙ c.requires.stands.at in
+    let at : value_at host.interfaces c.self.inside.key.serial ≡ Some claim = ap (value_at host.interfaces) key ∙ c.requires.stands.at in
     record {
       interface = claim;
       at = c.requires.stands.at;
@@ -25,33 +26,33 @@ pub returns-in-Ok-clause-stands : goal.returns-in-Ok-clause-stands
 returns-in-Ok-clause-stands g c =
     let host = c.args.host.now in
     let stands = c.requires.stands in
-    let at : slice_get host.interfaces c.self.inside.key ≡ Some stands.claim = ap (λ (i : InterfaceState). slice_get host.interfaces i.key) c.self.view_is ∙ stands.at in
+    let at : value_at host.interfaces c.self.inside.key.serial ≡ Some stands.claim = ap (λ (i : InterfaceState). value_at host.interfaces i.key) c.self.view_is ∙ stands.at in
     let ok = c.in-Ok.ensures.ok stands.claim at in
     let route = c.in-Ok.ensures.route stands.claim at in
     let key : c.new.result.key ≡ length host.endpoints = ap (λ (e : EndpointState). e.key) c.new.ensures.fresh ∙ ap (λ (r : Route). r.key) route in
     let none = ap (λ (e : EndpointState). e.pending) c.new.ensures.fresh in
-    endpoint-stands host c.open_endpoint.new.self stands.claim.opened c.self.inside.key c.args.address c.new.result ok key none
+    endpoint-stands host c.open_endpoint.new.self stands.claim.opened c.self.inside.key.serial c.args.address c.new.result ok key none
 
 pub returns-in-Ok-clause-others : goal.returns-in-Ok-clause-others
 returns-in-Ok-clause-others g c =
     let host = c.args.host.now in
     let stands = c.requires.stands in
-    let at : slice_get host.interfaces c.self.inside.key ≡ Some stands.claim = ap (λ (i : InterfaceState). slice_get host.interfaces i.key) c.self.view_is ∙ stands.at in
-    endpoint-others host c.open_endpoint.new.self stands.claim.opened c.self.inside.key c.args.address c.new.result.key (c.in-Ok.ensures.ok stands.claim at)
+    let at : value_at host.interfaces c.self.inside.key.serial ≡ Some stands.claim = ap (λ (i : InterfaceState). value_at host.interfaces i.key) c.self.view_is ∙ stands.at in
+    endpoint-others host c.open_endpoint.new.self stands.claim.opened c.self.inside.key.serial c.args.address c.new.result.key (c.in-Ok.ensures.ok stands.claim at)
 
 pub returns-in-Ok-clause-interface : goal.returns-in-Ok-clause-interface
 returns-in-Ok-clause-interface g c =
     let host = c.args.host.now in
     let stands = c.requires.stands in
-    let at : slice_get host.interfaces c.self.inside.key ≡ Some stands.claim = ap (λ (i : InterfaceState). slice_get host.interfaces i.key) c.self.view_is ∙ stands.at in
-    let key : c.self.inside.key ≡ c.args.self.now.key = ap (λ (i : InterfaceState). i.key) c.self.view_is in
+    let at : value_at host.interfaces c.self.inside.key.serial ≡ Some stands.claim = ap (λ (i : InterfaceState). value_at host.interfaces i.key) c.self.view_is ∙ stands.at in
+    let key : c.self.inside.key.serial ≡ c.args.self.now.key = ap (λ (i : InterfaceState). i.key) c.self.view_is in
     endpoint-interface host c.open_endpoint.new.self c.args.self.now stands.claim.opened c.args.address stands (c.in-Ok.ensures.ok stands.claim at ∙ ap (λ k. with_endpoint (host_asked host stands.claim.opened) k c.args.address) key)
 
 pub returns-in-Err-clause-interface : goal.returns-in-Err-clause-interface
 returns-in-Err-clause-interface g c =
     let host = c.args.host.now in
     let stands = c.requires.stands in
-    let at : slice_get host.interfaces c.self.inside.key ≡ Some stands.claim = ap (λ (i : InterfaceState). slice_get host.interfaces i.key) c.self.view_is ∙ stands.at in
+    let at : value_at host.interfaces c.self.inside.key.serial ≡ Some stands.claim = ap (λ (i : InterfaceState). value_at host.interfaces i.key) c.self.view_is ∙ stands.at in
     asked-interface host c.open_endpoint.new.self c.args.self.now stands.claim.opened stands (c.in-Err.ensures.err stands.claim at)
 
 pub returns-in-Err-clause-opens : goal.returns-in-Err-clause-opens
@@ -59,7 +60,7 @@ returns-in-Err-clause-opens g c =
     let host = c.args.host.now in
     let claim = c.requires.stands.claim in
     let key = ap (λ (i : InterfaceState). i.key) c.self.view_is in
-    let at : slice_get host.interfaces c.self.inside.key ≡ Some claim = ap (slice_get host.interfaces) key ∙ c.requires.stands.at in
+    let at : value_at host.interfaces c.self.inside.key.serial ≡ Some claim = ap (value_at host.interfaces) key ∙ c.requires.stands.at in
     record {
       interface = claim;
       at = c.requires.stands.at;

@@ -50,7 +50,7 @@ returns-clause-tried c = λ x here.
     let at_now : value_at now.devices c.args.device.serial ≡ Some o = ap (λ (h : HostState). value_at h.devices c.args.device.serial) (sym c.self.view_is) ∙ at in
     let answer : claim_tried now o c.args.number c.args.reattach ≡ Ok c.in_default.field-0 = ap (λ (h : HostState). claim_tried h o c.args.number c.args.reattach) (sym c.self.view_is) ∙ ap (or_error claim_error) (sym c.in_default.ensures.result) in
     let reserved = ap (λ (l : LedgerState). length l.interfaces) c.reserve_claim.ensures.rest in
-    let key : length now.interfaces ≡ c.open_interface.result = ap (λ (h : HostState). length h.interfaces) (sym c.self.view_is) ∙ sym (c.open_interface.ensures.key ∙ reserved) in
+    let key : length now.interfaces ≡ c.open_interface.result.serial = ap (λ (h : HostState). length h.interfaces) (sym c.self.view_is) ∙ sym (c.open_interface.ensures.key ∙ reserved) in
     ap (λ (y : OpenDevice). claimed_key (length now.interfaces) (claim_tried now y c.args.number c.args.reattach)) (same_Some x o (sym here ∙ at_now)) ∙ ap (claimed_key (length now.interfaces)) answer ∙ ap Ok key
 
 pub returns-clause-host : goal.returns-clause-host
@@ -65,12 +65,12 @@ returns-clause-host c =
     let at_now : value_at now.devices c.args.device.serial ≡ Some o = ap (λ (h : HostState). value_at h.devices c.args.device.serial) (sym c.self.view_is) ∙ at in
     let answer : claim_tried now o c.args.number c.args.reattach ≡ Ok c.in_default.field-0 = ap (λ (h : HostState). claim_tried h o c.args.number c.args.reattach) (sym c.self.view_is) ∙ ap (or_error claim_error) (sym c.in_default.ensures.result) in
     let fresh = fresh_interface c.args.device.serial o.device c.args.number c.args.reattach in
-    let opened : c.open_interface.new.self ≡ record l { interfaces = l.interfaces ++ fresh ∷ []; claim_room = c.open_interface.new.self.claim_room } =
+    let opened : c.open_interface.new.self ≡ record l { interfaces = l.interfaces ++ Some fresh ∷ []; claim_capacity = c.reserve_claim.new.self.claim_capacity } =
     c.open_interface.ensures.interfaces ∙ rw c.reserve_claim.ensures.rest refl in
     ap (λ x. host_made x c.add_interface.new.self c.open_interface.new.self steps) c.claim_at.ensures.kernel
     ∙ ap (λ ds. host_made (kernel_claimed k o c.args.number c.args.reattach) ds c.open_interface.new.self steps) c.add_interface.ensures.added
     ∙ ap (λ x. host_made (kernel_claimed k o c.args.number c.args.reattach) (device_changed devices c.args.device.serial interface_more) x steps) opened
-    ∙ ap (λ (h : HostState). record h { kernel = kernel_claimed h.kernel o c.args.number c.args.reattach; devices = device_changed h.devices c.args.device.serial interface_more; interfaces = h.interfaces ++ fresh ∷ [] }) c.self.view_is
+    ∙ ap (λ (h : HostState). record h { kernel = kernel_claimed h.kernel o c.args.number c.args.reattach; devices = device_changed h.devices c.args.device.serial interface_more; interfaces = h.interfaces ++ Some fresh ∷ [] }) c.self.view_is
     ∙ sym (claimed-at now c.args.device.serial c.args.number c.args.reattach o c.in_default.field-0 at_now answer)
 
 pub invariant_of-self-in-Err : goal.invariant_of-self-in-Err

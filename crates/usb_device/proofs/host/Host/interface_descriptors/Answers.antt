@@ -9,5 +9,5 @@ use Rattle.usb_device.proofs.host.Host.interface_descriptors.Goals as goal
 pub get-requires : goal.get-requires
 get-requires c =
     let claim : ClaimedInterface = claim_state c.interface-claim.result.now in
-    let here : slice_get c.args.self.now.interfaces c.args.interface ≡ Some claim = ap (λ (h : HostState). slice_get h.interfaces c.args.interface) (sym c.self.view_is) ∙ c.interface-claim.ensures.claim in
+    let here : value_at c.args.self.now.interfaces c.args.interface.serial ≡ Some claim = ap (λ (h : HostState). value_at h.interfaces c.args.interface.serial) (sym c.self.view_is) ∙ c.interface-claim.ensures.claim in
     record { there = subst (λ (h : HostState). IsSome (value_at h.devices claim.opened)) (sym c.self.view_is) (c.requires.device claim here) }

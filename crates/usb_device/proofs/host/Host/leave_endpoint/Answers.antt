@@ -25,4 +25,4 @@ returns c =
     let l = c.self.inside.ledger in
     let w : OpenEndpoint l.endpoints c.args.key = open-at l.endpoints c.args.key (rw (← c.self.view_is) at c.requires.key) in
     let ledger = c.leave-ended.ensures.endpoints w.e w.at in
-    record { left = left-made k c.self.inside.devices l c.self.inside.steps.items c.args.key w c.leave-ended.new.self c.leave-ended.result c.release.new.kernel ledger c.leave-ended.ensures.claim c.release.ensures.kernel ∙ ap (λ h. host_left h c.args.key) c.self.view_is }
+    record { left = left-made k c.self.inside.devices l c.self.inside.steps.items c.args.key w c.leave-ended.new.self c.leave-ended.result c.release.new.kernel ledger (c.leave-ended.ensures.claim w.e w.at) c.release.ensures.kernel ∙ ap (λ h. host_left h c.args.key) c.self.view_is }

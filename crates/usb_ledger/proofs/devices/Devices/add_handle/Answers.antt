@@ -1,9 +1,8 @@
-use Rattle.std.proofs.Common.{◌≡◌, ◌∙◌, ◌+◌, sym, ap, Some, None, true, set, arith}
-use Rattle.std.specs.Prelude.{◌||◌, nat_lt}
+use Rattle.std.proofs.Common.{◌≡◌, ◌∙◌, ◌+◌, sym, ap, Some, None, set}
 use Rattle.usb_registry.specs.History.{value_at}
 use Rattle.usb_registry.proofs.ValueLemmas.{set-value_same}
 use Rattle.usb_ledger.specs.declared.opened.OpenDevice.{OpenDevice}
-use Rattle.usb_ledger.specs.Devices.{device_changed, is_held, handle_more}
+use Rattle.usb_ledger.specs.Devices.{device_changed, handle_more}
 use Rattle.usb_ledger.proofs.DeviceLemmas.{changed-none, changed-held, held-handle_more}
 use Rattle.usb_ledger.proofs.devices.Devices.add_handle.Goals as goal
 

@@ -5,7 +5,7 @@ use Rattle.usb_kernel.proofs.Places.{slice_get-set_same}
 use Rattle.usb_ledger.specs.declared.ends.TicketEnd.TheVariants.{Reclaimed}
 use Rattle.usb_ledger.specs.declared.slot.TicketState.{TicketState}
 use Rattle.usb_ledger.specs.declared.slot.TicketState.TheVariants as slot
-use Rattle.usb_ledger.specs.LedgerState.{host_ticket, ticket_key, is_given_up, abandoned_key, ended_with}
+use Rattle.usb_ledger.specs.LedgerState.{host_ticket, ticket_key, is_given_up, abandoned_key}
 use Rattle.usb_ledger.proofs.ListLemmas.{place}
 use Rattle.usb_ledger.proofs.LedgerLemmas.{given-with, given-key, kept-with, kept-key, kept-ticket, tickets-same}
 use Rattle.usb_ledger.proofs.ledger.Ledger.complete.Goals as goal
@@ -18,7 +18,8 @@ returns-then-keep-clause-slots c = λ x there.
     let at : slice_get slots c.args.done.ticket ≡ Some s = place slots c.args.done.ticket s within c.index_mut-slot.ensures.value in
     let same : x ≡ s = same_Some x s (sym there ∙ rw (← c.self.view_is) at) in
     let given : is_given_up s ≡ true = sym c.keep.ensures.given_up ∙ c.if-keep.true in
-    c.end.ensures.slots ∙ rw (← c.self.view_is, same, given-with c.args.done s given, set-set slots c.args.done.ticket c.keep.new.self (slot.Ended Reclaimed)) refl
+    let key : ticket_key (host_ticket c.keep.new.self) ≡ abandoned_key s = ap (λ (y : TicketState). ticket_key (host_ticket y)) c.keep.ensures.slot ∙ given-key c.args.done s given in
+    c.end.ensures.slots c.keep.new.self (slice_get-set_same slots c.args.done.ticket c.keep.new.self within) ∙ rw (← c.self.view_is, same, key, given-with c.args.done s given, set-set slots c.args.done.ticket c.keep.new.self (slot.Ended Reclaimed)) refl
 
 pub returns-then-keep-clause-claim : goal.returns-then-keep-clause-claim
 returns-then-keep-clause-claim c = λ x there.
@@ -29,7 +30,7 @@ returns-then-keep-clause-claim c = λ x there.
     let same : x ≡ s = same_Some x s (sym there ∙ rw (← c.self.view_is) at) in
     let given : is_given_up s ≡ true = sym c.keep.ensures.given_up ∙ c.if-keep.true in
     let key : ticket_key (host_ticket c.keep.new.self) ≡ abandoned_key s = ap (λ (y : TicketState). ticket_key (host_ticket y)) c.keep.ensures.slot ∙ given-key c.args.done s given in
-    c.end.ensures.claim c.keep.new.self (slice_get-set_same slots c.args.done.ticket c.keep.new.self within) ∙ ap (ended_with c.end.new.self) (key ∙ ap abandoned_key (sym same))
+    c.end.ensures.claim c.keep.new.self (slice_get-set_same slots c.args.done.ticket c.keep.new.self within) ∙ rw (← c.self.view_is, same, key, given-with c.args.done s given, set-set slots c.args.done.ticket c.keep.new.self (slot.Ended Reclaimed)) refl
 
 pub invariant_of-self-else-keep : goal.invariant_of-self-else-keep
 invariant_of-self-else-keep c =
@@ -47,7 +48,7 @@ returns-clause-slots c = λ x there.
     let at : slice_get slots c.args.done.ticket ≡ Some s = place slots c.args.done.ticket s within c.index_mut-slot.ensures.value in
     let same : x ≡ s = same_Some x s (sym there ∙ rw (← c.self.view_is) at) in
     let given : is_given_up s ≡ false = sym c.keep.ensures.given_up ∙ c.if-keep.false in
-    rw (← c.self.view_is, same, kept-with c.args.done s given, c.keep.ensures.slot) refl
+    rw (← c.self.view_is, same, kept-with c.args.done s given, kept-key s given, c.keep.ensures.slot) refl
 
 pub returns-clause-claim : goal.returns-clause-claim
 returns-clause-claim c = λ x there.

@@ -7,4 +7,4 @@ pub returns : goal.returns
 returns c =
     let rows = c.self.inside.owners.rows in
     let tickets = map host_ticket c.self.inside.slots.items in
-    record { living = c.has_living.ensures.living ∙ sym (has_living-rows rows tickets c.self.invariant c.args.interface) ∙ rw (← c.self.view_is) refl }
+    record { living = c.has_living.ensures.living ∙ sym (has_living-rows rows tickets c.self.invariant c.args.interface.serial) ∙ rw (← c.self.view_is) refl }

@@ -1,4 +1,5 @@
-use Rattle.std.proofs.Common.{◌≡◌, ◌-◌, Some, slice_get, map, sym, refl, ap, ◌∙◌}
+use Rattle.std.proofs.Common.{◌≡◌, ◌-◌, Some, map, sym, refl, ap, ◌∙◌}
+use Rattle.usb_registry.specs.History.{value_at}
 use Rattle.usb_ledger.specs.LedgerState.{LedgerState, host_ticket}
 use Rattle.usb_ledger.specs.Entries.{ClaimedInterface}
 use Rattle.usb_ledger.proofs.LedgerLemmas.{is_owned-rows}
@@ -10,7 +11,7 @@ returns c =
     let tickets = map host_ticket c.self.inside.slots.items in
     record {
       shared = λ x there.
-          let here : slice_get c.self.inside.owners.interfaces c.args.interface ≡ Some x = ap (λ (l : LedgerState). slice_get l.interfaces c.args.interface) c.self.view_is ∙ there in
+          let here : value_at c.self.inside.owners.interfaces c.args.interface.serial ≡ Some x = ap (λ (l : LedgerState). value_at l.interfaces c.args.interface.serial) c.self.view_is ∙ there in
           let fewer : ClaimedInterface = record x { handles = x.handles - 1 } in
-          c.is_shared.ensures.shared x here ∙ sym (is_owned-rows rows tickets c.self.invariant c.args.interface fewer) ∙ rw (← c.self.view_is) refl;
+          c.is_shared.ensures.shared x here ∙ sym (is_owned-rows rows tickets c.self.invariant c.args.interface.serial fewer) ∙ rw (← c.self.view_is) refl;
     }

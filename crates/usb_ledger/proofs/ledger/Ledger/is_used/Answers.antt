@@ -7,4 +7,4 @@ pub returns : goal.returns
 returns c =
     let rows = c.self.inside.owners.rows in
     let tickets = map host_ticket c.self.inside.slots.items in
-    record { used = c.is_used.ensures.used ∙ sym (is_used-rows rows tickets c.self.invariant c.args.interface c.args.address) ∙ rw (← c.self.view_is) refl }
+    record { used = c.is_used.ensures.used ∙ sym (is_used-rows rows tickets c.self.invariant c.args.interface.serial c.args.address) ∙ rw (← c.self.view_is) refl }

@@ -7,7 +7,7 @@ use Rattle.usb_ledger.proofs.ledger.Ledger.open_endpoint.Goals as goal
 pub open_endpoint-requires-clause-unused : goal.open_endpoint-requires-clause-unused
 open_endpoint-requires-clause-unused c =
     let rows = c.self.inside.owners.rows in
-    sym (is_used-rows rows (map host_ticket c.self.inside.slots.items) c.self.invariant c.args.interface c.args.address) ∙ rw (← c.self.view_is) at c.requires.unused
+    sym (is_used-rows rows (map host_ticket c.self.inside.slots.items) c.self.invariant c.args.interface.serial c.args.address) ∙ rw (← c.self.view_is) at c.requires.unused
 
 pub invariant_of-self : goal.invariant_of-self
 invariant_of-self c =

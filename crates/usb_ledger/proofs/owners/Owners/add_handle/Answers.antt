@@ -1,25 +1,64 @@
-use Rattle.std.proofs.Common.{◌≡◌, ◌<◌, ◌+◌, Some, length, map, slice_get, refl, sym, ap, ◌∙◌, arith}
-use Rattle.std.proofs.lemmas.Option.{slice_get-map, same_Some}
-use Rattle.std.proofs.lemmas.List.{map-set, length-map}
+use Rattle.std.proofs.Common.{◌≡◌, ◌+◌, Some, refl, sym, ap, ◌∙◌, arith}
+use Rattle.std.specs.Option.{option_map}
+use Rattle.std.proofs.lemmas.List.{map-set}
+use Rattle.std.proofs.lemmas.Option.{same_Some}
+use Rattle.usb_registry.specs.History.{value_at}
+use Rattle.usb_registry.proofs.ValueLemmas.{set-value_same}
 use Rattle.usb_ledger.specs.declared.owners.Claim.{Claim}
-use Rattle.usb_ledger.specs.OwnerRows.{OwnersState, claim_state}
-use Rattle.usb_ledger.proofs.ListLemmas.{place}
-use Rattle.usb_ledger.proofs.OwnerLemmas.{CountsOf-handle}
+use Rattle.usb_ledger.specs.Entries.{ClaimedInterface}
+use Rattle.usb_ledger.specs.OwnerRows.{claim_state}
+use Rattle.usb_ledger.proofs.OwnerLemmas.{CountsOf-handle, owned-put, handle-owns, state-at}
 use Rattle.usb_ledger.proofs.owners.Owners.add_handle.Goals as goal
+
+pub invariant_of-self-then-claim : goal.invariant_of-self-then-claim
+invariant_of-self-then-claim c =
+    let claims = c.self.inside.claims.values in
+    let key = c.args.interface.serial in
+    let claim = c.in-Some.claim.now in
+    let here : value_at claims key ≡ Some claim = sym c.in-Some.ensures.value in
+    record {
+      counts = CountsOf-handle claims c.self.inside.rows.items key claim claim c.self.invariant.counts here refl refl;
+      owned = owned-put claims key claim c.self.invariant.owned (c.self.invariant.owned key claim here);
+    }
+
+pub returns-then-claim-clause-err : goal.returns-then-claim-clause-err
+returns-then-claim-clause-err c =
+    let claims = c.self.inside.claims.values in
+    let key = c.args.interface.serial in
+    let claim = c.in-Some.claim.now in
+    let here : value_at claims key ≡ Some claim = sym c.in-Some.ensures.value in
+    rw (← c.self.view_is) (rw (set-value_same claims key claim here) refl)
+
+pub returns-then-claim-clause-full : goal.returns-then-claim-clause-full
+returns-then-claim-clause-full c x there =
+    let claims = c.self.inside.claims.values in
+    let key = c.args.interface.serial in
+    let claim = c.in-Some.claim.now in
+    let here : value_at claims key ≡ Some claim = sym c.in-Some.ensures.value in
+    let state : value_at c.args.self.now.interfaces key ≡ Some (claim_state claim) = rw (← c.self.view_is) (state-at claims key claim here) in
+    let same : claim_state claim ≡ x = same_Some (claim_state claim) x (sym state ∙ there) in
+    let handles : claim.handles ≡ x.handles = ap (λ (s : ClaimedInterface). s.handles) same in
+    omega (arith, handles, c.if-claim.true)
 
 pub invariant_of-self-2 : goal.invariant_of-self-2
 invariant_of-self-2 c =
-    let claims = c.self.inside.claims.items in
-    let claim = c.index_mut-claim.result.now in
-    let within : c.args.interface < length claims = omega (arith, ap (λ (s : OwnersState). length s.interfaces) c.self.view_is, length-map claims claim_state, c.requires.key) in
-    CountsOf-handle claims c.self.inside.rows.items c.args.interface claim _ c.self.invariant within c.index_mut-claim.ensures.value refl refl
+    let claims = c.self.inside.claims.values in
+    let key = c.args.interface.serial in
+    let claim = c.in-Some.claim.now in
+    let here : value_at claims key ≡ Some claim = sym c.in-Some.ensures.value in
+    let next : Claim = record claim { handles = claim.handles + 1 } in
+    record {
+      counts = CountsOf-handle claims c.self.inside.rows.items key claim next c.self.invariant.counts here refl refl;
+      owned = owned-put claims key next c.self.invariant.owned (handle-owns next (omega arith));
+    }
 
 pub returns-clause-interfaces : goal.returns-clause-interfaces
 returns-clause-interfaces c x there =
-    let claims = c.self.inside.claims.items in
-    let claim = c.index_mut-claim.result.now in
-    let within : c.args.interface < length claims = omega (arith, ap (λ (s : OwnersState). length s.interfaces) c.self.view_is, length-map claims claim_state, c.requires.key) in
-    let state : slice_get (map claim_state claims) c.args.interface ≡ Some (claim_state claim) = rw (slice_get-map claim_state claims c.args.interface, place claims c.args.interface claim within c.index_mut-claim.ensures.value) refl in
-    let same_claim : claim_state claim ≡ x = same_Some (claim_state claim) x (sym (rw (← c.self.view_is) state) ∙ there) in
+    let claims = c.self.inside.claims.values in
+    let key = c.args.interface.serial in
+    let claim = c.in-Some.claim.now in
+    let here : value_at claims key ≡ Some claim = sym c.in-Some.ensures.value in
+    let state : value_at c.args.self.now.interfaces key ≡ Some (claim_state claim) = rw (← c.self.view_is) (state-at claims key claim here) in
+    let same : claim_state claim ≡ x = same_Some (claim_state claim) x (sym state ∙ there) in
     let next : Claim = record claim { handles = claim.handles + 1 } in
-    rw (← c.self.view_is, ← same_claim) (rw (map-set claim_state claims c.args.interface next) refl)
+    rw (← same) (rw (← c.self.view_is) (rw (map-set (option_map claim_state) claims key (Some next)) refl))

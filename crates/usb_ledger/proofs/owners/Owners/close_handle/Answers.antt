@@ -1,44 +1,72 @@
-use Rattle.std.proofs.Common.{◌≡◌, ◌<◌, ◌-◌, Some, set, length, map, slice_get, refl, sym, ap, ◌∙◌, arith}
-use Rattle.std.proofs.lemmas.Option.{slice_get-map, same_Some}
-use Rattle.std.proofs.lemmas.List.{map-set, length-map}
-use Rattle.usb_kernel.proofs.Places.{slice_get-set_same}
+use Rattle.std.proofs.Common.{◌≡◌, ◌-◌, Some, None, set, refl, sym, ap, ◌∙◌}
+use Rattle.std.specs.Prelude.{option_and_then}
+use Rattle.std.specs.Option.{option_map}
+use Rattle.std.proofs.lemmas.List.{map-set}
+use Rattle.std.proofs.lemmas.Option.{none-some, same_Some}
+use Rattle.usb_registry.specs.History.{RegistryState, value_at}
+use Rattle.usb_registry.proofs.ValueLemmas.{some-of, value-set_same}
 use Rattle.usb_ledger.specs.declared.owners.Claim.{Claim}
-use Rattle.usb_ledger.specs.OwnerRows.{OwnersState, claim_state}
-use Rattle.usb_ledger.proofs.ListLemmas.{place}
-use Rattle.usb_ledger.proofs.OwnerLemmas.{CountsOf-handle, claim_gone-at}
+use Rattle.usb_ledger.specs.Releases.{without_claim}
+use Rattle.usb_ledger.specs.OwnerRows.{OwnersState, claim_state, claim_if}
+use Rattle.usb_ledger.proofs.OwnerLemmas.{CountsOf-handle, CountsOf-ended, owned-ended, claim_gone-at, state-at, states-without, claim-there}
 use Rattle.usb_ledger.proofs.owners.Owners.close_handle.Goals as goal
+
+pub returns-in_default : goal.returns-in_default
+returns-in_default c =
+    let claims = c.self.inside.claims.values in
+    let key = c.args.interface.serial in
+    let none : value_at claims key ≡ None = sym c.in_default.ensures.value in
+    let some = some-of (value_at claims key) (claim-there claims key (rw (← c.self.view_is) at c.requires.there)) in
+    absurd (none-some some.0 (sym none ∙ some.1))
 
 pub overflow_sub-claim : goal.overflow_sub-claim
 overflow_sub-claim c =
-    let claims = c.self.inside.claims.items in
-    let claim = c.index_mut-claim.result.now in
-    let within : c.args.interface < length claims = omega (arith, ap (λ (s : OwnersState). length s.interfaces) c.self.view_is, length-map claims claim_state, c.requires.key) in
-    let state : slice_get (map claim_state claims) c.args.interface ≡ Some (claim_state claim) = rw (slice_get-map claim_state claims c.args.interface, place claims c.args.interface claim within c.index_mut-claim.ensures.value) refl in
-    c.requires.some (claim_state claim) (rw (← c.self.view_is) state)
+    let claims = c.self.inside.claims.values in
+    let key = c.args.interface.serial in
+    let claim = c.in-Some.claim.now in
+    let here : value_at claims key ≡ Some claim = sym c.in-Some.ensures.value in
+    c.requires.some (claim_state claim) (rw (← c.self.view_is) (state-at claims key claim here))
 
-pub invariant_of-self : goal.invariant_of-self
-invariant_of-self c =
-    let claims = c.self.inside.claims.items in
-    let claim = c.index_mut-claim.result.now in
-    let within : c.args.interface < length claims = omega (arith, ap (λ (s : OwnersState). length s.interfaces) c.self.view_is, length-map claims claim_state, c.requires.key) in
-    let state : slice_get (map claim_state claims) c.args.interface ≡ Some (claim_state claim) = rw (slice_get-map claim_state claims c.args.interface, place claims c.args.interface claim within c.index_mut-claim.ensures.value) refl in
-    CountsOf-handle claims c.self.inside.rows.items c.args.interface claim _ c.self.invariant within c.index_mut-claim.ensures.value refl refl
+pub invariant_of-self-2 : goal.invariant_of-self-2
+invariant_of-self-2 c =
+    let claims = c.self.inside.claims.values in
+    let key = c.args.interface.serial in
+    let claim = c.in-Some.claim.now in
+    let here : value_at claims key ≡ Some claim = sym c.in-Some.ensures.value in
+    let next : Claim = record claim { handles = claim.handles - 1 } in
+    let put : value_at (set claims key (Some next)) key ≡ Some next = value-set_same claims key claim (Some next) here in
+    let ended : c.end_claim.result ≡ claim_if next = c.end_claim.ensures.ended ∙ ap (option_and_then claim_if) put in
+    let left : c.end_claim.new.claims.values ≡ without_claim (set claims key (Some next)) (Some key) (claim_if next) = ap (λ (r : RegistryState Claim). r.values) c.end_claim.ensures.gone ∙ ap (without_claim (set claims key (Some next)) (Some key)) ended in
+    let counts = CountsOf-handle claims c.self.inside.rows.items key claim next c.self.invariant.counts here refl refl in
+    record {
+      counts = rw left (CountsOf-ended (set claims key (Some next)) c.self.inside.rows.items key next counts put);
+      owned = rw left (owned-ended claims key next c.self.invariant.owned);
+    }
 
 pub returns-clause-interfaces : goal.returns-clause-interfaces
 returns-clause-interfaces c x there =
-    let claims = c.self.inside.claims.items in
-    let claim = c.index_mut-claim.result.now in
-    let within : c.args.interface < length claims = omega (arith, ap (λ (s : OwnersState). length s.interfaces) c.self.view_is, length-map claims claim_state, c.requires.key) in
-    let state : slice_get (map claim_state claims) c.args.interface ≡ Some (claim_state claim) = rw (slice_get-map claim_state claims c.args.interface, place claims c.args.interface claim within c.index_mut-claim.ensures.value) refl in
-    let same_claim : claim_state claim ≡ x = same_Some (claim_state claim) x (sym (rw (← c.self.view_is) state) ∙ there) in
+    let claims = c.self.inside.claims.values in
+    let key = c.args.interface.serial in
+    let claim = c.in-Some.claim.now in
+    let here : value_at claims key ≡ Some claim = sym c.in-Some.ensures.value in
+    let state : value_at c.args.self.now.interfaces key ≡ Some (claim_state claim) = rw (← c.self.view_is) (state-at claims key claim here) in
+    let same : claim_state claim ≡ x = same_Some (claim_state claim) x (sym state ∙ there) in
     let next : Claim = record claim { handles = claim.handles - 1 } in
-    rw (← c.self.view_is, ← same_claim) (rw (map-set claim_state claims c.args.interface next) refl)
+    let left : c.end_claim.new.claims.values ≡ without_claim (set claims key (Some next)) (Some key) c.end_claim.result = ap (λ (r : RegistryState Claim). r.values) c.end_claim.ensures.gone in
+    let room : c.end_claim.new.claims.capacity ≡ c.self.inside.claims.capacity = ap (λ (r : RegistryState Claim). r.capacity) c.end_claim.ensures.gone in
+    rw (← same) (rw (← c.self.view_is) (rw (left, room, states-without (set claims key (Some next)) (Some key) c.end_claim.result, map-set (option_map claim_state) claims key (Some next)) refl))
 
 pub returns-clause-gone : goal.returns-clause-gone
-returns-clause-gone c =
-    let claims = c.self.inside.claims.items in
-    let claim = c.index_mut-claim.result.now in
-    let within : c.args.interface < length claims = omega (arith, ap (λ (s : OwnersState). length s.interfaces) c.self.view_is, length-map claims claim_state, c.requires.key) in
-    let state : slice_get (map claim_state claims) c.args.interface ≡ Some (claim_state claim) = rw (slice_get-map claim_state claims c.args.interface, place claims c.args.interface claim within c.index_mut-claim.ensures.value) refl in
+returns-clause-gone c x there =
+    let claims = c.self.inside.claims.values in
+    let key = c.args.interface.serial in
+    let claim = c.in-Some.claim.now in
+    let here : value_at claims key ≡ Some claim = sym c.in-Some.ensures.value in
+    let state : value_at c.args.self.now.interfaces key ≡ Some (claim_state claim) = rw (← c.self.view_is) (state-at claims key claim here) in
+    let same : claim_state claim ≡ x = same_Some (claim_state claim) x (sym state ∙ there) in
     let next : Claim = record claim { handles = claim.handles - 1 } in
-    c.if_left.ensures.left ∙ sym (claim_gone-at (set claims c.args.interface next) c.self.inside.rows.items c.args.interface next (slice_get-set_same claims c.args.interface next within) (c.self.invariant.living c.args.interface claim (place claims c.args.interface claim within c.index_mut-claim.ensures.value)))
+    let put : value_at (set claims key (Some next)) key ≡ Some next = value-set_same claims key claim (Some next) here in
+    let ended : c.end_claim.result ≡ claim_if next = c.end_claim.ensures.ended ∙ ap (option_and_then claim_if) put in
+    let rows : c.self.inside.rows.items ≡ c.args.self.now.rows = ap (λ (s : OwnersState). s.rows) c.self.view_is in
+    let after : value_at (set c.args.self.now.interfaces key (Some (claim_state next))) key ≡ Some (claim_state next) = value-set_same c.args.self.now.interfaces key (claim_state claim) (Some (claim_state next)) state in
+    rw (← same) (ended ∙ sym (claim_gone-at (set c.args.self.now.interfaces key (Some (claim_state next))) c.args.self.now.rows key next after (rw (← rows) (c.self.invariant.counts.living key claim here))))

@@ -1,49 +1,62 @@
-use Rattle.std.proofs.Common.{Some, ◌≡◌, ◌<◌, ◌++◌, ◌∷◌, [], true, ap, length, map, set, get_or, ◌∙◌, arith, refl, length-append}
+use Rattle.std.proofs.Common.{Some, None, ◌≡◌, ◌++◌, ◌∷◌, [], true, ap, length, map, set, sym, ◌∙◌, arith, refl, length-append}
 use Rattle.std.specs.List.{count_by}
-use Rattle.std.proofs.Math.Seq.{map-set_same}
-use Rattle.std.proofs.lemmas.List.{length-map}
+use Rattle.std.specs.Option.{option_map}
+use Rattle.std.proofs.lemmas.Option.{none-some}
 use Rattle.std.proofs.lemmas.List.Sums.{count_by-le-length}
 use Rattle.usb_desc.specs.BitSet.{bit_of}
+use Rattle.usb_registry.specs.History.{value_at}
+use Rattle.usb_registry.proofs.ValueLemmas.{some-of}
 use Rattle.usb_ledger.specs.declared.owners.Claim.{Claim}
 use Rattle.usb_ledger.specs.declared.owners.EndpointRow.{EndpointRow}
 use Rattle.usb_ledger.specs.OwnerRows.{OwnersState, claim_state, is_alive_on, is_alive_with}
-use Rattle.usb_ledger.proofs.ListLemmas.{place}
-use Rattle.usb_ledger.proofs.OwnerLemmas.{CountsOf-row, rows-unused}
+use Rattle.usb_ledger.proofs.OwnerLemmas.{CountsOf-row, rows-unused, owned-put, living-owns, states-kept, claim-there}
 use Rattle.usb_ledger.proofs.owners.Owners.open_endpoint.Goals as goal
+
+pub unreachable-requires : goal.unreachable-requires
+unreachable-requires c =
+    let claims = c.self.inside.claims.values in
+    let key = c.args.interface.serial in
+    let none : value_at claims key ≡ None = sym c.in_default.ensures.value in
+    let some = some-of (value_at claims key) (claim-there claims key (rw (← c.self.view_is) at c.requires.there)) in
+    none-some some.0 (sym none ∙ some.1)
 
 pub gain-requires : goal.gain-requires
 gain-requires c =
-    let claims = c.self.inside.claims.items in
+    let claims = c.self.inside.claims.values in
+    let key = c.args.interface.serial in
+    let claim = c.in-Some.claim.now in
+    let here : value_at claims key ≡ Some claim = sym c.in-Some.ensures.value in
     let rows = c.self.inside.rows.items in
-    let claim = c.index_mut-claim.result.now in
     let row : EndpointRow = record { interface = Some c.args.interface; address = c.args.address; is_open = true; tickets = 0 } in
-    let same : rows ≡ c.args.self.now.rows = ap (λ (s : OwnersState). s.rows) c.self.view_is in
-    let within : c.args.interface < length claims = omega (arith, ap (λ (s : OwnersState). length s.interfaces) c.self.view_is, length-map claims claim_state, c.requires.key) in
     let pushed : c.push.new.self.items ≡ rows ++ row ∷ [] = rw (c.if-is_err.ensures.negation) at c.push.ensures.items in
-    let counted = c.self.invariant.living c.args.interface claim (place claims c.args.interface claim within c.index_mut-claim.ensures.value) in
-    record { small = omega (arith, counted, count_by-le-length (is_alive_on c.args.interface) rows, c.push.ensures.upper_bound, ap length pushed, length-append rows (row ∷ [])) }
+    let counted = c.self.invariant.counts.living key claim here in
+    record { small = omega (arith, counted, count_by-le-length (is_alive_on key) rows, c.push.ensures.upper_bound, ap length pushed, length-append rows (row ∷ [])) }
 
 pub invariant_of-self-2 : goal.invariant_of-self-2
 invariant_of-self-2 c =
-    let claims = c.self.inside.claims.items in
+    let claims = c.self.inside.claims.values in
+    let key = c.args.interface.serial in
+    let claim = c.in-Some.claim.now in
+    let here : value_at claims key ≡ Some claim = sym c.in-Some.ensures.value in
     let rows = c.self.inside.rows.items in
-    let claim = c.index_mut-claim.result.now in
     let row : EndpointRow = record { interface = Some c.args.interface; address = c.args.address; is_open = true; tickets = 0 } in
     let same : rows ≡ c.args.self.now.rows = ap (λ (s : OwnersState). s.rows) c.self.view_is in
-    let within : c.args.interface < length claims = omega (arith, ap (λ (s : OwnersState). length s.interfaces) c.self.view_is, length-map claims claim_state, c.requires.key) in
     let pushed : c.push.new.self.items ≡ rows ++ row ∷ [] = rw (c.if-is_err.ensures.negation) at c.push.ensures.items in
-    let unused : count_by (is_alive_with c.args.interface (bit_of c.args.address)) rows ≡ 0 = rows-unused rows c.args.interface c.args.address c.self.invariant.small (omega (arith, c.ranges.address.fits)) (rw same c.requires.unused) in
-    rw pushed (CountsOf-row claims rows row c.args.interface refl claim c.gain.new.self c.self.invariant within c.index_mut-claim.ensures.value refl (omega (arith, c.ranges.address.fits)) (ap (λ (x : Claim). x.living) c.gain.ensures.rest) c.gain.ensures.bits unused)
+    let more = ap (λ (x : Claim). x.living) c.gain.ensures.rest in
+    let unused : count_by (is_alive_with key (bit_of c.args.address)) rows ≡ 0 = rows-unused rows key c.args.address c.self.invariant.counts.small (omega (arith, c.ranges.address.fits)) (rw same c.requires.unused) in
+    record {
+      counts = rw pushed (CountsOf-row claims rows row key refl claim c.gain.new.self c.self.invariant.counts here refl (omega (arith, c.ranges.address.fits)) more c.gain.ensures.bits unused);
+      owned = owned-put claims key c.gain.new.self c.self.invariant.owned (living-owns c.gain.new.self (omega (arith, more)));
+    }
 
 pub returns-clause-rows : goal.returns-clause-rows
 returns-clause-rows c =
-    let claims = c.self.inside.claims.items in
+    let claims = c.self.inside.claims.values in
+    let key = c.args.interface.serial in
+    let claim = c.in-Some.claim.now in
+    let here : value_at claims key ≡ Some claim = sym c.in-Some.ensures.value in
     let rows = c.self.inside.rows.items in
-    let claim = c.index_mut-claim.result.now in
     let row : EndpointRow = record { interface = Some c.args.interface; address = c.args.address; is_open = true; tickets = 0 } in
-    let same : rows ≡ c.args.self.now.rows = ap (λ (s : OwnersState). s.rows) c.self.view_is in
-    let within : c.args.interface < length claims = omega (arith, ap (λ (s : OwnersState). length s.interfaces) c.self.view_is, length-map claims claim_state, c.requires.key) in
     let pushed : c.push.new.self.items ≡ rows ++ row ∷ [] = rw (c.if-is_err.ensures.negation) at c.push.ensures.items in
-    let state : claim_state c.gain.new.self ≡ claim_state (get_or claims c.args.interface claim) = ap claim_state c.gain.ensures.rest ∙ ap claim_state c.index_mut-claim.ensures.value in
-    let interfaces : map claim_state (set claims c.args.interface c.gain.new.self) ≡ map claim_state claims = map-set_same claim_state claims c.args.interface c.gain.new.self claim state in
-    rw (← c.self.view_is, interfaces, pushed) refl
+    let kept : map (option_map claim_state) (set claims key (Some c.gain.new.self)) ≡ map (option_map claim_state) claims = states-kept claims key claim c.gain.new.self here (ap claim_state c.gain.ensures.rest) in
+    rw (← c.self.view_is, kept, pushed) refl
