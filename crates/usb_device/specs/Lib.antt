@@ -6,6 +6,7 @@ pub mod HostTurns
 pub mod HostCalls
 pub mod Finishes
 pub mod HostBus
+pub mod HeldTransfers
 pub mod HandleStates
 pub mod Handles
 pub mod CallErrors

@@ -94,12 +94,16 @@ impl Device {
         }
     }
 
-    /// One more handle of the open device. They share the value of the active configuration.
+    /// One more handle of the open device. They share the value of the active configuration. It
+    /// takes no memory: want of memory is the answer only where the count of its handles is at its
+    /// end.
     pub fn clone_on(&self, host: &mut Host) -> Result<Device, NoMemory>
         requires stands { StandsDevice host.old self.now }
         ensures handle { IfOk result (λ device. device ≡ self.now) }
         ensures ok { OnOk result (host.new ≡ device_cloned host.old self.now) }
         ensures err { OnErr result (host.new ≡ host.old) }
+        ensures full { OnErr result (ForSome (value_at host.old.devices self.now) (λ o.
+            o.handles ≡ 2 ^ 64 - 1)) }
     {
         host.clone_device(self.key)?;
         Ok(Device { key: self.key })

@@ -20,6 +20,7 @@ ghost use Rattle.usb_device.specs.HostState.{HostState, host_of};
 ghost use Rattle.usb_ledger.specs.EndedTickets.{end_at};
 ghost use Rattle.usb_device.specs.HostBus.{bus_of, hold_at, owner_at, key_at, host_value};
 ghost use Rattle.usb_device.specs.HostBusFacts.{bus_of-taken};
+ghost use Rattle.usb_device.specs.HeldTransfers.{host_transfer};
 ghost use Rattle.usb_device.specs.HostCalls.{host_submitted, host_refused, host_discarded, host_left, host_idled, host_halt_result, host_halt_cleared};
 ghost use Rattle.usb_device.specs.Finishes.{finished, HasEnds, HasCompletions};
 ghost use Rattle.usb_device.specs.HostFacts.{TicketsAgree, host_made};
@@ -314,6 +315,7 @@ impl Host {
         requires held { IsSome (hold_at self.old.tickets ticket) }
         ensures ended { self.new ≡ host_ended self.old ticket end }
         ensures value { IsSome (host_value self.old ticket) → result ≡ host_value self.old ticket }
+        ensures transfer { result ≡ host_transfer self.old ticket }
     {
         let ending = self.ledger.end(ticket as usize, end);
         release(&mut self.kernel, ending.claim);

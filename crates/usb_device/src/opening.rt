@@ -1,6 +1,6 @@
 //! A device is opened at its bus and address.
 
-ghost use Rattle.std.specs.Prelude.{◌≡◌, length, IsSome, OnOk, OnErr, IfOk, IfErr};
+ghost use Rattle.std.specs.Prelude.{◌≡◌, ◌-◌, ◌^◌, length, IsSome, OnOk, OnErr, IfOk, IfErr};
 ghost use Rattle.std.specs.Option.{ForSome};
 ghost use Rattle.usb_desc.specs.Configurations as spec;
 ghost use Rattle.usb_device.specs.HostState.{HostState};
@@ -108,6 +108,8 @@ impl Host {
     pub(crate) fn clone_device(&mut self, device: Key) -> Result<(), NoMemory>
         ensures ok { OnOk result (self.new ≡ device_cloned self.old device.serial) }
         ensures err { OnErr result (self.new ≡ self.old) }
+        ensures full { OnErr result (ForSome (value_at self.old.devices device.serial) (λ o.
+            o.handles ≡ 2 ^ 64 - 1)) }
     {
         self.devices.add_handle(device)
     }

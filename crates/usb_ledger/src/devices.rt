@@ -1,6 +1,6 @@
 //! The open devices of a host.
 
-ghost use Rattle.std.specs.Prelude.{◌≡◌, ◌+◌, ◌^◌, ◌<◌, ◌≤◌, ◌++◌, ◌∷◌, [], length, set, true, nat_lt, if◌then◌else◌, Some, IsSome, IfOk, OnOk, OnErr};
+ghost use Rattle.std.specs.Prelude.{◌≡◌, ◌+◌, ◌-◌, ◌^◌, ◌<◌, ◌≤◌, ◌++◌, ◌∷◌, [], length, set, true, false, nat_lt, if◌then◌else◌, Some, IsSome, IfOk, OnOk, OnErr};
 ghost use Rattle.std.specs.Option.{ForSome};
 ghost use Rattle.usb_registry.specs.History.{value_at, live_count};
 ghost use Rattle.usb_ledger.specs.Devices.{device_changed, handle_more, handle_less, interface_more, interface_less};
@@ -72,14 +72,16 @@ impl Devices {
     pub fn add_handle(&mut self, key: Key) -> Result<(), NoMemory>
         ensures ok { OnOk result (self.new ≡ device_changed self.old key.serial handle_more) }
         ensures err { OnErr result (self.new ≡ self.old) }
+        ensures full { OnErr result (ForSome (value_at self.old key.serial) (λ o.
+            o.handles ≡ 2 ^ 64 - 1)) }
     {
         let Some(opened) = self.entries.get_mut(key) else {
             return Ok(());
         };
-        let Some(handles) = opened.handles.checked_add(1) else {
+        if opened.handles == usize::MAX {
             return Err(NoMemory);
-        };
-        opened.handles = handles;
+        }
+        opened.handles += 1;
         Ok(())
     }
 
@@ -101,6 +103,8 @@ impl Devices {
     pub fn has_room(&self, key: Key) -> bool
         ensures room { ForSome (value_at self.now key.serial) (λ o.
             result ≡ true → o.interfaces + 1 < 2 ^ 64) }
+        ensures full { ForSome (value_at self.now key.serial) (λ o.
+            result ≡ false → 2 ^ 64 ≤ o.interfaces + 1) }
     {
         match self.entries.get(key) {
             Some(opened) => opened.interfaces < usize::MAX,

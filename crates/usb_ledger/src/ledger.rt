@@ -150,7 +150,7 @@ impl Ledger {
         requires open { ForSome (slice_get self.old.endpoints key) (λ e. e.is_open ≡ true) }
         ensures slots { self.new ≡ record self.old {
           slots = self.old.slots ++ TicketState.HeldBy key transfer ∷ [];
-          room = self.new.room;
+          room = self.old.room - 1;
         } }
     {
         self.slots

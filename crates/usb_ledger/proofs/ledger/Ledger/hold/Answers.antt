@@ -1,4 +1,4 @@
-use Rattle.std.proofs.Common.{◌≡◌, ◌+◌, map, set, length, true, slice_get, ap, sym, refl, ◌∙◌, arith}
+use Rattle.std.proofs.Common.{◌≡◌, ◌+◌, ◌-◌, map, set, length, true, slice_get, vec_len, vec_capacity, ap, sym, refl, ◌∙◌, arith}
 use Rattle.std.proofs.lemmas.List.{map-append, length-map}
 use Rattle.usb_ledger.specs.declared.owners.EndpointRow.{EndpointRow}
 use Rattle.usb_ledger.specs.declared.slot.TicketState.TheVariants as slot
@@ -31,4 +31,6 @@ returns c =
     let owners = c.add_ticket.ensures.rows e there.1 in
     let is_open : e.is_open ≡ true = c.requires.open (endpoint_of e) (ap (λ (l : LedgerState). slice_get l.endpoints c.args.key) (sym c.self.view_is) ∙ endpoint-at rows c.args.key e there.1) in
     let kept : map endpoint_of (set rows c.args.key next) ≡ map endpoint_of rows = endpoints-kept rows c.args.key e next there.1 (rw is_open refl) in
-    record { slots = rw (← c.self.view_is, owners, c.push_reserved.ensures.items, with_row-at rows c.args.key e true (e.tickets + 1) there.1, kept) refl }
+    let slots = c.push_reserved.new.self in
+    let room : vec_capacity slots - vec_len slots ≡ vec_capacity c.self.inside.slots - vec_len c.self.inside.slots - 1 = omega (arith, c.push_reserved.ensures.capacity, c.push_reserved.ensures.len) in
+    record { slots = rw (← c.self.view_is, owners, c.push_reserved.ensures.items, room, with_row-at rows c.args.key e true (e.tickets + 1) there.1, kept) refl }
