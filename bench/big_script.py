@@ -137,6 +137,14 @@ def owners(_size):
     yield from itertools.repeat(claimed + endpoint + detached + drivers + configurations)
 
 
+def openings(_size):
+    """a device of 30,000 bytes of descriptors that is opened, claimed, submitted to, closed whole and reaped, again and again"""
+    # (behind the configuration with the endpoints come others that have none)
+    yield f"device k0 1 6 3 1 {TWO_ENDPOINTS}{configuration(5, []) * 3300}\n"
+    opened = "open d0 1 6\nclaim d0 0 i0\nendpoint e0 i0 81 bulk-in\nsubmitin e0 64\n"
+    yield from itertools.repeat(opened + "close e0\nclose i0\nclose d0\n! reap\n")
+
+
 def refusals(size):
     """refusals of several calls for one device, and then the calls that use them up, one kind of call after the other"""
     head = f"device k0 1 6 3 1 {TWO_CONFIGURATIONS}\nopen d0 1 6\nclaim d0 0 i0\nendpoint e0 i0 81 bulk-in\nclaim d0 1 i1\n"
@@ -219,8 +227,8 @@ def comments(_size):
 KINDS = {
     kind.__name__: kind
     for kind in (
-        polls, cycles, behind, flight, cancels, waits, refused, armed, submitout, steps, claims, closes, owners, refusals,
-        descriptors, printed, attributes, again, matches, packets, comments,
+        polls, cycles, behind, flight, cancels, waits, refused, armed, submitout, steps, claims, closes, owners, openings,
+        refusals, descriptors, printed, attributes, again, matches, packets, comments,
     )
 }
 
