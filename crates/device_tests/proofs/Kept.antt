@@ -3,7 +3,6 @@ use Rattle.std.proofs.Common.{ℕ, ◌≡◌, ◌≢◌, ◌≤◌, ◌<◌, ◌
 use Rattle.std.specs.Prelude.{List}
 use Rattle.std.proofs.lemmas.Option.{slice_get_within, same_Some}
 use Rattle.usb_kernel.specs.Value.{KernelState}
-use Rattle.usb_kernel.proofs.Places.{slice_get-set_same}
 use Rattle.usb_bus.specs.BusState.{BusState}
 use Rattle.usb_endpoint.specs.EndpointState.{EndpointState}
 use Rattle.usb_endpoint.specs.Handles.{Stands, KeepsOthers}
@@ -26,6 +25,8 @@ use Rattle.usb_kernel.proofs.Answered.{called-is}
 use Rattle.usb_endpoint.specs.Closes.{after_close}
 use Rattle.usb_device.specs.HostCalls.{host_discarded, host_left, host_halt_cleared}
 use Rattle.usb_device.specs.TicketEnds.{host_abandoned}
+use Rattle.usb_device.specs.HostFrames.{ClaimsGoOn}
+use Rattle.usb_device.proofs.ClaimFrames.{goes-same, goes-ended}
 use Rattle.usb_device.proofs.EndpointCalls.{line-closed, interfaces-closed}
 use Rattle.usb_device.specs.OnInterfaces.{alt_setting_errno, setting_unless, alt_setting_asked, alt_setting_on, alt_setting_set}
 use Rattle.usb_ledger.specs.declared.opened.OpenDevice.{OpenDevice}
@@ -40,7 +41,7 @@ use Rattle.std.proofs.lemmas.Grind.{common_steps}
 use Rattle.usb_desc.specs.declared.error.Fail.{Fail}
 use Rattle.usb_error.specs.ErrorState.{ErrorState}
 use Rattle.usb_registry.specs.History.{value_at}
-use Rattle.usb_registry.proofs.ValueLemmas.{some-of, is-some, value-push, value-within}
+use Rattle.usb_registry.proofs.ValueLemmas.{some-of, is-some, value-push, value-within, value-set_same}
 use Rattle.usb_device.specs.Opens.{open_tried, open_key, opened_by}
 use Rattle.usb_device.specs.InterfaceClaims.{ClaimsInterface, claimed_key, claim_tried, host_claimed}
 use Rattle.usb_device.specs.OnDevices.{configured_unless, set_configuration_errno}
@@ -133,11 +134,11 @@ configured_interfaces h key value = configured_on-interfaces h key value (value_
 pub device_same : (h g : HostState) (key : ℕ) → g.devices ≡ h.devices → StandsDevice h key → StandsDevice g key
 device_same h g key same stands = record { device = stands.device; at = ap (λ ds. value_at ds key) same ∙ stands.at; open_handle = stands.open_handle }
 
-pub interface_same : (h g : HostState) (i : InterfaceState) → g.interfaces ≡ h.interfaces → g.devices ≡ h.devices → StandsInterface h i → StandsInterface g i
+pub interface_same : (h g : HostState) (i : InterfaceState) → ClaimsGoOn h.interfaces g.interfaces → g.devices ≡ h.devices → StandsInterface h i → StandsInterface g i
 interface_same h g i same devices stands = StandsInterface-same h g i same (there-same h.devices g.devices devices) stands
 
 pub interface_counts : (h g : HostState) (i : InterfaceState) → g.interfaces ≡ h.interfaces → KeepsCounts h.devices g.devices → StandsInterface h i → StandsInterface g i
-interface_counts h g i same counts stands = StandsInterface-same h g i same (counts-there h.devices g.devices counts) stands
+interface_counts h g i same counts stands = StandsInterface-same h g i (goes-same h.interfaces g.interfaces same) (counts-there h.devices g.devices counts) stands
 
 -- a device is opened
 opened_by-device : (h : HostState) (r : Result OpenDevice ErrorState) (key : ℕ) → StandsDevice h key → StandsDevice (opened_by h r) key
@@ -151,7 +152,7 @@ opened_device h bus address key stands =
     opened_by-device (record h { kernel = step.kernel }) step.answer key (record { device = stands.device; at = stands.at; open_handle = stands.open_handle })
 
 pub opened_interface : (h : HostState) (bus address : ℕ) (i : InterfaceState) → StandsInterface h i → StandsInterface (host_opened h bus address) i
-opened_interface h bus address i stands = StandsInterface-same h (host_opened h bus address) i (opened_interfaces h bus address) (opened-there h bus address) stands
+opened_interface h bus address i stands = StandsInterface-same h (host_opened h bus address) i (goes-same h.interfaces (host_opened h bus address).interfaces (opened_interfaces h bus address)) (opened-there h bus address) stands
 
 -- another device is closed
 pub closed_other : (h : HostState) (key k : ℕ) → key ≢ k → StandsDevice h k → StandsDevice (device_closed h key) k
@@ -182,7 +183,7 @@ elsewhere_interface h key value i tried stands =
     let p = some-of (value_at next.devices stands.claim.opened) there in
     record {
       claim = stands.claim;
-      at = ap (λ (l : List ClaimedInterface). slice_get l i.key) (configured_interfaces mid key value ∙ opened_interfaces h 1 6) ∙ stands.at;
+      at = ap (λ (l : List (Option ClaimedInterface)). value_at l i.key) (configured_interfaces mid key value ∙ opened_interfaces h 1 6) ∙ stands.at;
       number = stands.number;
       open_handle = stands.open_handle;
       device = is-some _ p.0 (changed-other next.devices key stands.claim.opened handle_less apart ∙ p.1);
@@ -228,7 +229,7 @@ module _ (h : HostState) (key : ℕ) (stands : StandsDevice h key) where
       ]
 
   pub active_interface : (i : InterfaceState) → StandsInterface h i → StandsInterface (device_closed looked key) i
-  active_interface i s = StandsInterface-same h (device_closed looked key) i (asked_interfaces cloned key) active_there s
+  active_interface i s = StandsInterface-same h (device_closed looked key) i (goes-same h.interfaces looked.interfaces (asked_interfaces cloned key)) active_there s
 
 -- an interface is claimed, and then the handle of its device closed
 claim_then : (h new : HostState) (key number : ℕ) (reattach : Bool) (o : OpenDevice) (f : InterfaceState) (next : ℕ) → value_at h.devices key ≡ Some o → claimed_key next (claim_tried h o number reattach) ≡ Ok f.key → new ≡ host_claimed h key number reattach → StandsInterface new f → StandsInterface (device_closed new key) f
@@ -273,20 +274,21 @@ closed_device h i key stands = kept-stands h (handle_closed h i) key (opened-han
 abbrev fewer : ClaimedInterface → ClaimedInterface
 fewer c = record c { handles = c.handles - 1 }
 
-closed-interfaces : (h : HostState) (i : ℕ) (c : ClaimedInterface) → slice_get h.interfaces i ≡ Some c → (handle_closed h i).interfaces ≡ set h.interfaces i (fewer c)
+closed-goes : (h : HostState) (i : ℕ) (c : ClaimedInterface) → value_at h.interfaces i ≡ Some c → ClaimsGoOn (set h.interfaces i (Some (fewer c))) (handle_closed h i).interfaces
 unfolding handle_closed owner_gone
-closed-interfaces h i c at = ap (λ o. (handle_gone h i o).interfaces) at
+closed-goes h i c at =
+    subst (λ (o : Option ClaimedInterface). ClaimsGoOn (set h.interfaces i (Some (fewer c))) (handle_gone h i o).interfaces) (sym at) (goes-ended (set h.interfaces i (Some (fewer c))) h.tickets h.endpoints i)
 
-closed-devices : (h : HostState) (i : ℕ) (c : ClaimedInterface) → slice_get h.interfaces i ≡ Some c → 1 < c.handles → (handle_closed h i).devices ≡ h.devices
+closed-devices : (h : HostState) (i : ℕ) (c : ClaimedInterface) → value_at h.interfaces i ≡ Some c → 1 < c.handles → (handle_closed h i).devices ≡ h.devices
 unfolding handle_closed owner_gone
 closed-devices h i c at many =
     ap (λ o. (handle_gone h i o).devices) at ∙ ap (λ (b : Bool). cond b h.devices (device_changed h.devices c.opened interface_less)) (lt-ltb 1 c.handles many)
 
-closed-stands : (h : HostState) (i : InterfaceState) (c : ClaimedInterface) → slice_get h.interfaces i.key ≡ Some c → c.number ≡ i.number → 1 < c.handles → IsSome (value_at h.devices c.opened) → StandsInterface (handle_closed h i.key) i
+closed-stands : (h : HostState) (i : InterfaceState) (c : ClaimedInterface) → value_at h.interfaces i.key ≡ Some c → c.number ≡ i.number → 1 < c.handles → IsSome (value_at h.devices c.opened) → StandsInterface (handle_closed h i.key) i
 closed-stands h i c at number many there =
     record {
       claim = fewer c;
-      at = ap (λ (cs : List ClaimedInterface). slice_get cs i.key) (closed-interfaces h i.key c at) ∙ slice_get-set_same h.interfaces i.key (fewer c) (slice_get_within h.interfaces i.key c at);
+      at = (closed-goes h i.key c at).stays i.key (fewer c) (value-set_same h.interfaces i.key c (Some (fewer c)) at) (omega (arith, many));
       number = number;
       open_handle = omega (arith, many);
       device = subst (λ ds. IsSome (value_at ds c.opened)) (sym (closed-devices h i.key c at many)) there;
@@ -296,7 +298,7 @@ closed-stands h i c at number many there =
 abbrev more : ClaimedInterface → ClaimedInterface
 more c = record c { handles = c.handles + 1 }
 
-cloned-at : (h : HostState) (i : ℕ) (c : ClaimedInterface) → slice_get h.interfaces i ≡ Some c → handle_cloned h i ≡ record h { interfaces = set h.interfaces i (more c) }
+cloned-at : (h : HostState) (i : ℕ) (c : ClaimedInterface) → value_at h.interfaces i ≡ Some c → handle_cloned h i ≡ record h { interfaces = set h.interfaces i (Some (more c)) }
 unfolding handle_cloned
 cloned-at h i c at = ap (handle_added h i) at
 
@@ -306,17 +308,17 @@ added_devices h i (Some c) = refl
 
 pub cloned_devices : (h : HostState) (i : ℕ) → (handle_cloned h i).devices ≡ h.devices
 unfolding handle_cloned
-cloned_devices h i = added_devices h i (slice_get h.interfaces i)
+cloned_devices h i = added_devices h i (value_at h.interfaces i)
 
 abbrev added : HostState → ℕ → ClaimedInterface → HostState
-added h i c = record h { interfaces = set h.interfaces i (more c) }
+added h i c = record h { interfaces = set h.interfaces i (Some (more c)) }
 
 pub clone_stands : (h : HostState) (i : InterfaceState) → StandsInterface h i → StandsInterface (handle_cloned h i.key) i
 clone_stands h i stands =
     subst (λ (g : HostState). StandsInterface g i) (sym (cloned-at h i.key stands.claim stands.at))
     (record {
       claim = more stands.claim;
-      at = slice_get-set_same h.interfaces i.key (more stands.claim) (slice_get_within h.interfaces i.key stands.claim stands.at);
+      at = value-set_same h.interfaces i.key stands.claim (Some (more stands.claim)) stands.at;
       number = stands.number;
       open_handle = omega arith;
       device = stands.device;
@@ -326,20 +328,20 @@ pub clone_closed : (h : HostState) (i : InterfaceState) → StandsInterface h i 
 clone_closed h i stands =
     let some = stands.open_handle in
     subst (λ (g : HostState). StandsInterface (handle_closed g i.key) i) (sym (cloned-at h i.key stands.claim stands.at))
-    (closed-stands (added h i.key stands.claim) i (more stands.claim) (slice_get-set_same h.interfaces i.key (more stands.claim) (slice_get_within h.interfaces i.key stands.claim stands.at)) stands.number (omega (arith, some)) stands.device)
+    (closed-stands (added h i.key stands.claim) i (more stands.claim) (value-set_same h.interfaces i.key stands.claim (Some (more stands.claim)) stands.at) stands.number (omega (arith, some)) stands.device)
 
 -- an alternate setting is set, or refused
-stands-unless : (h : HostState) (k : KernelState) (i : InterfaceState) (c : ClaimedInterface) (setting : ℕ) (errno : Option ℕ) → slice_get h.interfaces i.key ≡ Some c → c.number ≡ i.number → 0 < c.handles → IsSome (value_at h.devices c.opened) → StandsInterface (record h { kernel = k; interfaces = set h.interfaces i.key (setting_unless c setting errno) }) i
+stands-unless : (h : HostState) (k : KernelState) (i : InterfaceState) (c : ClaimedInterface) (setting : ℕ) (errno : Option ℕ) → value_at h.interfaces i.key ≡ Some c → c.number ≡ i.number → 0 < c.handles → IsSome (value_at h.devices c.opened) → StandsInterface (record h { kernel = k; interfaces = set h.interfaces i.key (Some (setting_unless c setting errno)) }) i
 stands-unless h k i c setting None at number some below =
     record {
       claim = record c { setting = setting };
-      at = slice_get-set_same h.interfaces i.key (record c { setting = setting }) (slice_get_within h.interfaces i.key c at);
+      at = value-set_same h.interfaces i.key c (Some (record c { setting = setting })) at;
       number = number;
       open_handle = some;
       device = below;
     }
 stands-unless h k i c setting (Some errno) at number some below =
-    record { claim = c; at = slice_get-set_same h.interfaces i.key c (slice_get_within h.interfaces i.key c at); number = number; open_handle = some; device = below }
+    record { claim = c; at = value-set_same h.interfaces i.key c (Some c) at; number = number; open_handle = some; device = below }
 
 of-two : (P : HostState → Type 0) (b : Bool) (x y : HostState) → P x → P y → P (cond b x y)
 of-two P true x y px py = px
@@ -349,9 +351,9 @@ setting-on : (P : HostState → Type 0) (h : HostState) (i setting : ℕ) (o : O
 setting-on P h i setting None same asked = same
 setting-on P h i setting (Some c) same asked = of-two P (has_living h.tickets h.endpoints i) h (alt_setting_asked h i setting c) same (asked c refl)
 
-setting-set : (P : HostState → Type 0) (h : HostState) (i setting : ℕ) → P h → ((c : ClaimedInterface) → slice_get h.interfaces i ≡ Some c → P (alt_setting_asked h i setting c)) → P (alt_setting_set h i setting)
+setting-set : (P : HostState → Type 0) (h : HostState) (i setting : ℕ) → P h → ((c : ClaimedInterface) → value_at h.interfaces i ≡ Some c → P (alt_setting_asked h i setting c)) → P (alt_setting_set h i setting)
 unfolding alt_setting_set
-setting-set P h i setting same asked = setting-on P h i setting (slice_get h.interfaces i) same asked
+setting-set P h i setting same asked = setting-on P h i setting (value_at h.interfaces i) same asked
 
 pub setting_stands : (h : HostState) (i : InterfaceState) (setting : ℕ) → StandsInterface h i → StandsInterface (alt_setting_set h i.key setting) i
 setting_stands h i setting stands =
@@ -379,7 +381,7 @@ halt_interface h device endpoint i stands =
 pub endpoint_closed : (h : HostState) (e : EndpointState) → (after_close host_discarded host_abandoned host_left h e).devices ≡ h.devices
 endpoint_closed h e = (line-closed h e).devices
 
-pub closed_interfaces : (h : HostState) (e : EndpointState) → (after_close host_discarded host_abandoned host_left h e).interfaces ≡ h.interfaces
+pub closed_interfaces : (h : HostState) (e : EndpointState) → ClaimsGoOn h.interfaces (after_close host_discarded host_abandoned host_left h e).interfaces
 closed_interfaces h e = interfaces-closed h e
 
 -- the places of the kernel that are left for the steps of a line and for three more
@@ -499,14 +501,14 @@ endpoint_device h a b d opened i address e first second third j stands =
 
 pub endpoint_interface : (b d : HostState) (e : EndpointState) (i : InterfaceState) → d ≡ after_close host_discarded host_abandoned host_left b e → StandsInterface b i → StandsInterface d i
 endpoint_interface b d e i is stands =
-    interface_same b d i (ap (λ (x : HostState). x.interfaces) is ∙ closed_interfaces b e) (ap (λ (x : HostState). x.devices) is ∙ endpoint_closed b e) stands
+    interface_same b d i (subst (λ (x : HostState). ClaimsGoOn b.interfaces x.interfaces) (sym is) (closed_interfaces b e)) (ap (λ (x : HostState). x.devices) is ∙ endpoint_closed b e) stands
 
 -- a call that leaves what is open
 pub step_device : (h g next : HostState) → g ≡ next → next.devices ≡ h.devices → (j : ℕ) → StandsDevice h j → StandsDevice g j
 step_device h g next is same j stands = device_same h g j (ap (λ (x : HostState). x.devices) is ∙ same) stands
 
 pub step_interface : (h g next : HostState) → g ≡ next → next.interfaces ≡ h.interfaces → next.devices ≡ h.devices → (i : InterfaceState) → StandsInterface h i → StandsInterface g i
-step_interface h g next is same devices i stands = interface_same h g i (ap (λ (x : HostState). x.interfaces) is ∙ same) (ap (λ (x : HostState). x.devices) is ∙ devices) stands
+step_interface h g next is same devices i stands = interface_same h g i (goes-same h.interfaces g.interfaces (ap (λ (x : HostState). x.interfaces) is ∙ same)) (ap (λ (x : HostState). x.devices) is ∙ devices) stands
 
 pub configured_interface : (h g : HostState) (key value : ℕ) → g ≡ host_configured h key value → (i : InterfaceState) → StandsInterface h i → StandsInterface g i
 configured_interface h g key value is i stands =

@@ -48,18 +48,35 @@ fn room_after(alloc: Global, host: &mut Host, times: u8) -> Result<usize, Fail<E
     Ok(host.device_capacity())
 }
 
+/// For how many claimed interfaces there is memory once the interface was claimed and released this
+/// often.
+fn claims_after(alloc: Global, host: &mut Host, times: u8) -> Result<usize, Fail<Error>> {
+    for _ in 0..times {
+        let interface = claim(alloc, host)?;
+        interface.close(host);
+    }
+    Ok(host.interface_capacity())
+}
+
+/// Whether two rooms are there and the same.
+fn is_same(once: Result<usize, Fail<Error>>, often: Result<usize, Fail<Error>>) -> bool {
+    match (once, often) {
+        (Ok(once), Ok(often)) => once == often,
+        _ => false,
+    }
+}
+
 pub fn expect_room(rt: &impl Abort, alloc: Global, host: &mut Host) {
     let once = room_after(alloc, host, 1);
     let often = room_after(alloc, host, 200);
-    let is_same = match (once, often) {
-        (Ok(once), Ok(often)) => once == often,
-        _ => false,
-    };
-    assert!(rt; is_same);
+    assert!(rt; is_same(once, often));
+    let once = claims_after(alloc, host, 1);
+    let often = claims_after(alloc, host, 200);
+    assert!(rt; is_same(once, often));
 }
 
 #[test]
-fn memory_of_a_closed_device_is_used_again(rt: HostRuntime) -> Result<(), std::test::Fail> {
+fn memory_of_a_closed_handle_is_used_again(rt: HostRuntime) -> Result<(), std::test::Fail> {
     expect(&rt, rt.alloc(), Case::Room)
 }
 

@@ -10,15 +10,16 @@ use Rattle.usb_endpoint.specs.Handles.{Stands, KeepsOthers}
 use Rattle.usb_endpoint.proofs.Frames.{Stands-other}
 use Rattle.usb_device.specs.HostState.{HostState}
 use Rattle.usb_device.specs.HostBus.{bus_of}
+use Rattle.usb_device.specs.HostFrames.{ClaimsGoOn}
 use Rattle.usb_device.proofs.DeviceLemmas.{KeepsCounts, counts-stands, counts-there, opened-counts}
-use Rattle.usb_device.proofs.HeldDevices.{held-same}
+use Rattle.usb_device.proofs.HeldDevices.{held-goes}
 use Rattle.usb_device.proofs.InterfaceFrames.{StandsInterface-same}
 use Rattle.usb_answers.specs.Names.{named, change_named, freed, set_name}
 use Rattle.usb_answers.specs.State.{State, Endpoint, kept}
 use Rattle.usb_answers.specs.SessionState.{SessionState, IsSound}
 use Rattle.usb_answers.specs.Relation.{Represents, session_of}
 use Rattle.usb_answers.proofs.Answering.{named_kept}
-use Rattle.usb_answers.proofs.CountedNames.{counted-same}
+use Rattle.usb_answers.proofs.CountedNames.{counted-goes}
 use Rattle.usb_answers.proofs.CountedDevices.{devices-kept}
 use Rattle.usb_answers.proofs.NameLemmas.{named-map, named-set, named-set_other, named-freed, named-freed_other, freed-free, length-freed, length-set_name, map-freed, map-set, map-change_named, put-changed, named-change_same, named-change_other}
 
@@ -26,7 +27,7 @@ use Rattle.usb_answers.proofs.NameLemmas.{named-map, named-set, named-set_other,
 pub record KeepsSession (old new : HostState) : Type 0 where
   pub idle : new.steps ≡ []
   pub devices : KeepsCounts old.devices new.devices
-  pub interfaces : new.interfaces ≡ old.interfaces
+  pub interfaces : ClaimsGoOn old.interfaces new.interfaces
 
 -- what is open under a name once something was put back
 names-put : {X : Type 0} (xs after : List (Option X)) (n m : ℕ) (x y z : X) → named xs n ≡ Some x → after ≡ set_name (freed xs n) n y → named after m ≡ Some z → ((m ≡ n) × (z ≡ y)) ⊎ ((m ≢ n) × (named xs m ≡ Some z))
@@ -74,9 +75,9 @@ sound-put s now after e x y sound was put keeps stands key others =
       endpoint_names = ap (λ (l : List (Option EndpointState)). length l) put ∙ length-set_name (freed s.endpoints e) e y ∙ length-freed s.endpoints e ∙ sound.endpoint_names;
       devices_stand = λ d k is. counts-stands s.host now k keeps.devices (sound.devices_stand d k is);
       devices_counted = devices-kept s.host.devices now.devices s.devices (opened-counts s.host.devices now.devices keeps.devices) sound.devices_counted;
-      devices_held = held-same s.host now keeps.devices keeps.interfaces sound.devices_held;
+      devices_held = held-goes s.host now keeps.devices keeps.interfaces sound.devices_held;
       interfaces_stand = λ i f is. StandsInterface-same s.host now f keeps.interfaces (counts-there s.host.devices now.devices keeps.devices) (sound.interfaces_stand i f is);
-      interfaces_counted = counted-same s.host.interfaces now.interfaces s.interfaces keeps.interfaces sound.interfaces_counted;
+      interfaces_counted = counted-goes s.host.interfaces now.interfaces s.interfaces keeps.interfaces sound.interfaces_counted;
       endpoints_stand = stands-put s now after e x y sound was put stands others;
       endpoints_differ = differ-put s after e x y sound was put key;
     }
@@ -91,9 +92,9 @@ sound-freed s now after e x sound was rest keeps others =
       endpoint_names = ap (λ (l : List (Option EndpointState)). length l) rest ∙ length-freed s.endpoints e ∙ sound.endpoint_names;
       devices_stand = λ d k is. counts-stands s.host now k keeps.devices (sound.devices_stand d k is);
       devices_counted = devices-kept s.host.devices now.devices s.devices (opened-counts s.host.devices now.devices keeps.devices) sound.devices_counted;
-      devices_held = held-same s.host now keeps.devices keeps.interfaces sound.devices_held;
+      devices_held = held-goes s.host now keeps.devices keeps.interfaces sound.devices_held;
       interfaces_stand = λ i f is. StandsInterface-same s.host now f keeps.interfaces (counts-there s.host.devices now.devices keeps.devices) (sound.interfaces_stand i f is);
-      interfaces_counted = counted-same s.host.interfaces now.interfaces s.interfaces keeps.interfaces sound.interfaces_counted;
+      interfaces_counted = counted-goes s.host.interfaces now.interfaces s.interfaces keeps.interfaces sound.interfaces_counted;
       endpoints_stand = λ d h is. let there = names-freed s.endpoints after e d h rest is in Stands-other (bus_of s.host) (bus_of now) x.key h others (sound.endpoints_differ d e h x there.1 was there.0) (sound.endpoints_stand d h there.1);
       endpoints_differ = λ c d g h isg ish apart. sound.endpoints_differ c d g h (names-freed s.endpoints after e c g rest isg).1 (names-freed s.endpoints after e d h rest ish).1 apart;
     }
@@ -108,9 +109,9 @@ sound-host s now sound keeps stands =
       endpoint_names = sound.endpoint_names;
       devices_stand = λ d k is. counts-stands s.host now k keeps.devices (sound.devices_stand d k is);
       devices_counted = devices-kept s.host.devices now.devices s.devices (opened-counts s.host.devices now.devices keeps.devices) sound.devices_counted;
-      devices_held = held-same s.host now keeps.devices keeps.interfaces sound.devices_held;
+      devices_held = held-goes s.host now keeps.devices keeps.interfaces sound.devices_held;
       interfaces_stand = λ i f is. StandsInterface-same s.host now f keeps.interfaces (counts-there s.host.devices now.devices keeps.devices) (sound.interfaces_stand i f is);
-      interfaces_counted = counted-same s.host.interfaces now.interfaces s.interfaces keeps.interfaces sound.interfaces_counted;
+      interfaces_counted = counted-goes s.host.interfaces now.interfaces s.interfaces keeps.interfaces sound.interfaces_counted;
       endpoints_stand = λ e h is. stands h (sound.endpoints_stand e h is);
       endpoints_differ = sound.endpoints_differ;
     }

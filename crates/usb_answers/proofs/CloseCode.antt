@@ -3,6 +3,7 @@ use Rattle.std.proofs.Common.{◌≡◌, ℕ, arith, List, [], ◌∷◌, ◌++�
 use Rattle.std.specs.Prelude.{is_some, OnOk}
 use Rattle.std.specs.declared.alloc.Global.{Global}
 use Rattle.std.specs.Option.{option_map}
+use Rattle.usb_device.proofs.ClaimFrames.{goes-trans}
 use Rattle.usb_device.proofs.DeviceLemmas.{counts-same}
 use Rattle.usb_endpoint.specs.declared.any_endpoint.AnyEndpoint.{AnyEndpoint}
 use Rattle.usb_endpoint.specs.AnyEndpoints.{state_of}
@@ -51,7 +52,7 @@ keeps-closed h e idle =
     record {
       idle = line.steps ∙ before.idle;
       devices = λ k. counts-same (before_left h e).devices _ line.devices k ∙ before.devices k;
-      interfaces = interfaces-left (before_left h e) e.key ∙ before.interfaces;
+      interfaces = goes-trans h.interfaces (before_left h e).interfaces (host_left (before_left h e) e.key).interfaces before.interfaces (interfaces-left (before_left h e) e.key);
     }
 
 pub closed-sound : (i : Inside) (now : HostState) (mid : List (Option AnyEndpoint)) (n : ℕ) (x : AnyEndpoint) → IsSound (made_of i) → named i.endpoints.items n ≡ Some x → mid ≡ freed i.endpoints.items n → now ≡ after_close host_discarded host_abandoned host_left i.host (state_of x) → KeepsOthers (bus_of i.host) (bus_of now) (state_of x).key → IsSound (made_with i now mid)

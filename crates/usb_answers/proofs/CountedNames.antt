@@ -8,7 +8,10 @@ use Rattle.std.proofs.lemmas.List.Sums.{sum_by-cons}
 use Rattle.usb_ledger.specs.OwnerRows.{one_if}
 use Rattle.usb_ledger.specs.Entries.{ClaimedInterface}
 use Rattle.usb_device.specs.HandleStates.{InterfaceState}
-use Rattle.usb_ledger.proofs.ListLemmas.{count-some, slice_get-set, slice_get-push}
+use Rattle.usb_registry.specs.History.{value_at}
+use Rattle.usb_registry.proofs.ValueLemmas.{value-within, value-put, value-push_cases}
+use Rattle.usb_ledger.proofs.ListLemmas.{count-some}
+use Rattle.usb_device.specs.HostFrames.{ClaimsGoOn}
 use Rattle.usb_answers.specs.Names.{named, is_free, change_at, freed, nothing, set_name, something}
 use Rattle.usb_answers.specs.SessionState.{is_handle_of}
 use Rattle.usb_answers.proofs.NameLemmas.{free_place, place_of, named_of}
@@ -54,46 +57,49 @@ pub count-no_name : (key : ℕ) (xs : List (Option InterfaceState)) → ((n : �
 count-no_name key xs apart = count-none (is_handle_of key) xs (no_handle key xs apart)
 
 -- each claimed interface has as many handles as names
-abbrev pub Counted : List ClaimedInterface → List (Option InterfaceState) → Type 0
-Counted claims names = (key : ℕ) (c : ClaimedInterface) → slice_get claims key ≡ Some c → count_by (is_handle_of key) names ≡ c.handles
+abbrev pub Counted : List (Option ClaimedInterface) → List (Option InterfaceState) → Type 0
+Counted claims names = (key : ℕ) (c : ClaimedInterface) → value_at claims key ≡ Some c → count_by (is_handle_of key) names ≡ c.handles
 
-pub counted-same : (claims now : List ClaimedInterface) (names : List (Option InterfaceState)) → now ≡ claims → Counted claims names → Counted now names
+pub counted-same : (claims now : List (Option ClaimedInterface)) (names : List (Option InterfaceState)) → now ≡ claims → Counted claims names → Counted now names
 counted-same claims now names same counted = subst (λ l. Counted l names) (sym same) counted
 
+pub counted-goes : (claims now : List (Option ClaimedInterface)) (names : List (Option InterfaceState)) → ClaimsGoOn claims now → Counted claims names → Counted now names
+counted-goes claims now names goes counted key c at = counted key c (goes.was key c at)
+
 -- so an interface with a name has an open handle
-pub counted-open : (claims : List ClaimedInterface) (names : List (Option InterfaceState)) (n : ℕ) (f : InterfaceState) (c : ClaimedInterface) → Counted claims names → named names n ≡ Some f → slice_get claims f.key ≡ Some c → 0 < c.handles
+pub counted-open : (claims : List (Option ClaimedInterface)) (names : List (Option InterfaceState)) (n : ℕ) (f : InterfaceState) (c : ClaimedInterface) → Counted claims names → named names n ≡ Some f → value_at claims f.key ≡ Some c → 0 < c.handles
 counted-open claims names n f c counted at here =
     let some = count-some (is_handle_of f.key) names n (Some f) (place_of names n f at) (eq-eqb f.key f.key refl) in
     omega (arith, some, counted f.key c here)
 
 -- one more interface is claimed, under a name that was free
-pub counted-claimed : (claims now : List ClaimedInterface) (names after : List (Option InterfaceState)) (n : ℕ) (f : InterfaceState) (c : ClaimedInterface) → Counted claims names → ((m : ℕ) (g : InterfaceState) → named names m ≡ Some g → g.key < length claims) → f.key ≡ length claims → c.handles ≡ 1 → now ≡ claims ++ c ∷ [] → is_free names n ≡ true → after ≡ set_name names n f → Counted now after
+pub counted-claimed : (claims now : List (Option ClaimedInterface)) (names after : List (Option InterfaceState)) (n : ℕ) (f : InterfaceState) (c : ClaimedInterface) → Counted claims names → ((m : ℕ) (g : InterfaceState) → named names m ≡ Some g → g.key < length claims) → f.key ≡ length claims → c.handles ≡ 1 → now ≡ claims ++ Some c ∷ [] → is_free names n ≡ true → after ≡ set_name names n f → Counted now after
 counted-claimed claims now names after n f c counted below next one is free put key d at =
     let more = ap (count_by (is_handle_of key)) put ∙ count-set_name key names n f free in
-    elim (slice_get-push claims c d key (ap (λ l. slice_get l key) (sym is) ∙ at)) [
+    elim (value-push_cases claims c d key (ap (λ l. value_at l key) (sym is) ∙ at)) [
       | inl last ↦
           let none = count-no_name key names (λ m g open_ same. absurd (apart g.key key (length claims) (below m g open_) last.0 same)) in
           let here : one_if (f.key == key) ≡ 1 = ap one_if (eq-eqb f.key key (next ∙ sym last.0)) in
           let handles : d.handles ≡ 1 = ap (λ (z : ClaimedInterface). z.handles) last.1 ∙ one in
           omega (arith, more, none, here, handles)
       | inr old ↦
-          let other : one_if (f.key == key) ≡ 0 = ap one_if (ne_eqb f.key key (λ same. absurd (apart key f.key (length claims) (slice_get_within claims key d old) next (sym same)))) in
-          omega (arith, more, other, counted key d old)
+          let other : one_if (f.key == key) ≡ 0 = ap one_if (ne_eqb f.key key (λ same. absurd (apart key f.key (length claims) (value-within claims key d old.1) next (sym same)))) in
+          omega (arith, more, other, counted key d old.1)
     ]
   where
     apart : (a b l : ℕ) → a < l → b ≡ l → a ≢ b
     apart a b l less is = λ same. absurd (omega (arith, less, is, same))
 
 -- one interface is written, whose names are as many as its handles then
-pub counted-set : (claims now : List ClaimedInterface) (names after : List (Option InterfaceState)) (k : ℕ) (c : ClaimedInterface) → Counted claims names → now ≡ set claims k c → count_by (is_handle_of k) after ≡ c.handles → ((key : ℕ) → k ≢ key → count_by (is_handle_of key) after ≡ count_by (is_handle_of key) names) → Counted now after
+pub counted-set : (claims now : List (Option ClaimedInterface)) (names after : List (Option InterfaceState)) (k : ℕ) (c : ClaimedInterface) → Counted claims names → now ≡ set claims k (Some c) → count_by (is_handle_of k) after ≡ c.handles → ((key : ℕ) → k ≢ key → count_by (is_handle_of key) after ≡ count_by (is_handle_of key) names) → Counted now after
 counted-set claims now names after k c counted is here others key d at =
-    elim (slice_get-set claims k key c d (ap (λ l. slice_get l key) (sym is) ∙ at)) [
+    elim (value-put claims k key c d (ap (λ l. value_at l key) (sym is) ∙ at)) [
       | inl this ↦ rw (this.0, this.1) here
       | inr other ↦ others key (λ same. other.0 (sym same)) ∙ counted key d other.1
     ]
 
 -- a handle of it is closed
-pub counted-closed : (claims now : List ClaimedInterface) (names after : List (Option InterfaceState)) (n : ℕ) (f : InterfaceState) (c d : ClaimedInterface) → Counted claims names → slice_get claims f.key ≡ Some c → now ≡ set claims f.key d → d.handles ≡ c.handles - 1 → named names n ≡ Some f → after ≡ freed names n → Counted now after
+pub counted-closed : (claims now : List (Option ClaimedInterface)) (names after : List (Option InterfaceState)) (n : ℕ) (f : InterfaceState) (c d : ClaimedInterface) → Counted claims names → value_at claims f.key ≡ Some c → now ≡ set claims f.key (Some d) → d.handles ≡ c.handles - 1 → named names n ≡ Some f → after ≡ freed names n → Counted now after
 counted-closed claims now names after n f c d counted at is less open_ rest =
     let here : one_if (f.key == f.key) ≡ 1 = ap one_if (eq-eqb f.key f.key refl) in
     counted-set claims now names after f.key d counted is
@@ -103,7 +109,7 @@ counted-closed claims now names after n f c d counted at is less open_ rest =
     ap (count_by (is_handle_of key)) rest ∙ omega (arith, count-freed key names n f open_, other))
 
 -- one more handle of it is open
-pub counted-cloned : (claims now : List ClaimedInterface) (names after : List (Option InterfaceState)) (n : ℕ) (f : InterfaceState) (c d : ClaimedInterface) → Counted claims names → slice_get claims f.key ≡ Some c → now ≡ set claims f.key d → d.handles ≡ c.handles + 1 → is_free names n ≡ true → after ≡ set_name names n f → Counted now after
+pub counted-cloned : (claims now : List (Option ClaimedInterface)) (names after : List (Option InterfaceState)) (n : ℕ) (f : InterfaceState) (c d : ClaimedInterface) → Counted claims names → value_at claims f.key ≡ Some c → now ≡ set claims f.key (Some d) → d.handles ≡ c.handles + 1 → is_free names n ≡ true → after ≡ set_name names n f → Counted now after
 counted-cloned claims now names after n f c d counted at is more free put =
     let here : one_if (f.key == f.key) ≡ 1 = ap one_if (eq-eqb f.key f.key refl) in
     counted-set claims now names after f.key d counted is
@@ -113,5 +119,5 @@ counted-cloned claims now names after n f c d counted at is more free put =
     ap (count_by (is_handle_of key)) put ∙ omega (arith, count-set_name key names n f free, other))
 
 -- it has as many as before
-pub counted-changed : (claims now : List ClaimedInterface) (names : List (Option InterfaceState)) (k : ℕ) (c d : ClaimedInterface) → Counted claims names → slice_get claims k ≡ Some c → now ≡ set claims k d → d.handles ≡ c.handles → Counted now names
+pub counted-changed : (claims now : List (Option ClaimedInterface)) (names : List (Option InterfaceState)) (k : ℕ) (c d : ClaimedInterface) → Counted claims names → value_at claims k ≡ Some c → now ≡ set claims k (Some d) → d.handles ≡ c.handles → Counted now names
 counted-changed claims now names k c d counted at is same = counted-set claims now names names k d counted is (counted k c at ∙ sym same) (λ key apart. refl)

@@ -7,6 +7,7 @@ use Rattle.usb_lines.specs.Calls.{condition_line}
 use Rattle.usb_ledger.specs.declared.opened.OpenDevice.{OpenDevice}
 use Rattle.usb_device.specs.HostState.{HostState}
 use Rattle.usb_device.specs.EndpointOpens.{as_asked, host_asked}
+use Rattle.usb_device.proofs.ClaimFrames.{goes-same}
 use Rattle.usb_device.proofs.EndpointLemmas.{asked-at}
 use Rattle.usb_answers.specs.Names.{named}
 use Rattle.usb_answers.specs.State.{State, with_host}
@@ -23,7 +24,7 @@ use Rattle.usb_answers.proofs.DeviceHosts.{KeepsHandles, KeepsAside, stands-hand
 pub sound-handles : (s : SessionState) (now next : HostState) → IsSound s → now ≡ next → KeepsHandles s.host next → IsSound (record s { host = now })
 sound-handles s now next sound is keeps =
     subst (λ (h : HostState). IsSound (record s { host = h })) (sym is)
-    (sound-host s next sound (record { idle = keeps.steps ∙ sound.idle; devices = keeps.devices; interfaces = keeps.interfaces }) (stands-handles s.host next keeps))
+    (sound-host s next sound (record { idle = keeps.steps ∙ sound.idle; devices = keeps.devices; interfaces = goes-same s.host.interfaces next.interfaces keeps.interfaces }) (stands-handles s.host next keeps))
 
 -- a call that leaves this host, and tells this line
 abbrev pub on_device : State → ℕ → (HostState → ℕ → HostState) → (HostState → OpenDevice → List ℕ) → Answer

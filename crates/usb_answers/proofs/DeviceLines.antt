@@ -1,6 +1,7 @@
 -- What lines do that ask, and those on devices and interfaces: they change no ticket.
 use Rattle.std.proofs.Common.{◌≡◌, ℕ, zero, suc, length, List, Bool, false, Option, Some, None, Result, Ok, Err, refl, ap, slice_get}
 use Rattle.std.proofs.lemmas.Bool.{cond_both}
+use Rattle.usb_registry.specs.History.{value_at}
 use Rattle.usb_error.specs.Errors.{interface_in_use_error}
 use Rattle.usb_error.specs.declared.active.ActiveConfigurationError.{ActiveConfigurationError}
 use Rattle.usb_lines.specs.Completions.{count_line, now_line}
@@ -140,7 +141,7 @@ clone_interface-does state name i =
     call-does (named state.interfaces i) _ (λ f is.
     free-does (λ free.
     let mid = with_host state (handle_cloned state.host f.key) in
-    ends refl (quiet-then (cloned-quiet state f.key (slice_get state.host.interfaces f.key)) (quiet-aside mid (with_clone state name f) refl refl refl))))
+    ends refl (quiet-then (cloned-quiet state f.key (value_at state.host.interfaces f.key)) (quiet-aside mid (with_clone state name f) refl refl refl))))
 
 -- a handle of an interface is closed
 without_interface-quiet : (state : State) (i : ℕ) (f : InterfaceState) → Quiet state (without_interface state i f)
@@ -171,7 +172,7 @@ pub set_alt_setting-does : (state : State) (i setting : ℕ) → Does state (set
 unfolding set_alt_setting_answer alt_setting_set
 set_alt_setting-does state i setting =
     host-does (interface_at state i) _ _ (λ x. result-other (alt_setting_tried state.host x.handle.key x.claimed setting))
-    (λ x. set-quiet state x.handle.key setting (slice_get state.host.interfaces x.handle.key))
+    (λ x. set-quiet state x.handle.key setting (value_at state.host.interfaces x.handle.key))
 
 pub get_alt_setting-does : (state : State) (i : ℕ) → Does state (get_alt_setting_answer state i)
 unfolding get_alt_setting_answer alt_setting_line

@@ -16,6 +16,7 @@ use Rattle.usb_device.specs.Opens.{host_opened, open_key}
 use Rattle.usb_device.proofs.Left.{left}
 use Rattle.usb_device.proofs.InterfaceFrames.{opened-is}
 use Rattle.usb_device.proofs.DeviceLemmas.{counts-same}
+use Rattle.usb_device.proofs.ClaimFrames.{goes-same}
 use Rattle.usb_device.proofs.HeldDevices.{OpensOne, opens-one, opens-none, held-opened}
 use Rattle.usb_answers.specs.Names.{named, is_free, set_name}
 use Rattle.usb_answers.specs.State.{State, with_host}
@@ -38,7 +39,7 @@ opened-keeps h now bus address error idle is refused =
     record {
       idle = ap (λ (g : HostState). g.steps) made ∙ idle;
       devices = counts-same h.devices now.devices (ap (λ (g : HostState). g.devices) is ∙ opens-none h bus address error refused);
-      interfaces = ap (λ (g : HostState). g.interfaces) made;
+      interfaces = goes-same h.interfaces now.interfaces (ap (λ (g : HostState). g.interfaces) made);
     }
 
 pub open-left : (s : SessionState) (now : HostState) (bus address : ℕ) (error : ErrorState) → IsSound s → open_key s.host bus address ≡ Err error → now ≡ host_opened s.host bus address → IsSound (record s { host = now })

@@ -9,7 +9,9 @@ use Rattle.usb_device.specs.HostState.{HostState}
 use Rattle.usb_device.specs.HostBus.{owner_at}
 use Rattle.usb_device.specs.Handles.{device_closed, handle_closed}
 use Rattle.usb_ledger.specs.Devices.{is_held}
-use Rattle.usb_device.specs.DeviceLaws.{holds}
+use Rattle.usb_device.specs.DeviceLaws.{holds_at}
+use Rattle.std.specs.Prelude.{option_and_then}
+use Rattle.usb_ledger.specs.Entries.{ClaimedInterface}
 use Rattle.usb_ledger.specs.declared.opened.OpenDevice.{OpenDevice}
 use Rattle.usb_device.proofs.HostFrames.{uses-discarded, uses-reaped}
 use Rattle.usb_registry.specs.History.{value_at}
@@ -163,13 +165,16 @@ interfaces_closed-more state n = let more : n + 1 ≡ suc n = omega arith in rw 
 pub devices_closed-more : (state : State) (n : ℕ) → devices_closed state (n + 1) ≡ name_closed (devices_closed state n) n
 devices_closed-more state n = let more : n + 1 ≡ suc n = omega arith in rw more refl
 
--- where no name is open no open device is left
-none-held : (s : SessionState) → IsSound s → ((i : ℕ) → named s.interfaces i ≡ None) → (key : ℕ) → count_by (holds key) s.host.interfaces ≡ 0
-none-held s sound none key =
-    count-none (holds key) s.host.interfaces (λ i c at.
-    let names = count-no_name i s.interfaces (λ n f open_ same. none-some f (sym (none n) ∙ open_)) in
-    let handles : c.handles ≡ 0 = sym (sound.interfaces_counted i c at) ∙ names in
-    rw handles refl)
+-- where no name is open no interface has a handle, and no open device is left
+no-handles : (s : SessionState) → IsSound s → ((i : ℕ) → named s.interfaces i ≡ None) → (i : ℕ) (c : ClaimedInterface) → value_at s.host.interfaces i ≡ Some c → c.handles ≡ 0
+no-handles s sound none i c at = sym (sound.interfaces_counted i c at) ∙ count-no_name i s.interfaces (λ n f open_ same. none-some f (sym (none n) ∙ open_))
+
+none-held : (s : SessionState) → IsSound s → ((i : ℕ) → named s.interfaces i ≡ None) → (key : ℕ) → count_by (holds_at key) s.host.interfaces ≡ 0
+none-held s sound none key = count-none (holds_at key) s.host.interfaces (λ i o at. by i o at)
+  where
+    by : (i : ℕ) (o : Option ClaimedInterface) → slice_get s.host.interfaces i ≡ Some o → holds_at key o ≡ false
+    by i None at = refl
+    by i (Some c) at = rw (no-handles s sound none i c (ap (option_and_then (λ v. v)) at)) refl
 
 pub none-left : (s : SessionState) → IsSound s → ((d : ℕ) → named s.devices d ≡ None) → ((i : ℕ) → named s.interfaces i ≡ None) → (key : ℕ) → value_at s.host.devices key ≡ None
 none-left s sound closed none key = by (value_at s.host.devices key) refl

@@ -1,6 +1,7 @@
 -- Endpoints of claimed interfaces are opened.
 use Rattle.std.proofs.Common.{◌≡◌, ◌≢◌, ℕ, ◌<◌, ◌≤◌, arith, List, [], length, map, Option, Some, None, Result, Ok, Err, true, false, refl, ap, sym, ◌∙◌, subst, slice_get, inl, inr}
 use Rattle.std.specs.Option.{option_map}
+use Rattle.usb_registry.specs.History.{value_at}
 use Rattle.usb_desc.specs.declared.types.Direction.{Direction}
 use Rattle.usb_desc.specs.declared.types.TransferType.{TransferType}
 use Rattle.usb_error.specs.ErrorState.{ErrorState}
@@ -23,9 +24,11 @@ use Rattle.usb_answers.specs.Endpoints.{new_endpoint, endpoint_as, endpoint_answ
 use Rattle.usb_answers.specs.SessionState.{SessionState, IsSound}
 use Rattle.usb_answers.specs.Relation.{Represents, session_of}
 use Rattle.usb_device.proofs.DeviceLemmas.{KeepsCounts, counts-stands, counts-there, opened-counts}
-use Rattle.usb_device.proofs.HeldDevices.{held-same}
+use Rattle.usb_device.specs.HostFrames.{ClaimsGoOn}
+use Rattle.usb_device.proofs.ClaimFrames.{goes-same}
+use Rattle.usb_device.proofs.HeldDevices.{held-goes}
 use Rattle.usb_answers.proofs.CountedDevices.{devices-kept}
-use Rattle.usb_answers.proofs.CountedNames.{counted-same}
+use Rattle.usb_answers.proofs.CountedNames.{counted-goes}
 use Rattle.usb_answers.proofs.NameLemmas.{length-set_name, map-set, is_free-map, names-set}
 use Rattle.usb_answers.proofs.Called.{KeepsSession, sound-host, represents-host}
 use Rattle.usb_answers.proofs.Answering.{Gives, barred-gives, free_kept}
@@ -37,7 +40,7 @@ asked-keeps h now key idle is =
     record {
       idle = ap (λ (g : HostState). g.steps) made ∙ idle;
       devices = subst (λ (g : HostState). KeepsCounts h.devices g.devices) (sym is) (asked-counts h key);
-      interfaces = ap (λ (g : HostState). g.interfaces) made;
+      interfaces = goes-same h.interfaces now.interfaces (ap (λ (g : HostState). g.interfaces) made);
     }
 
 asked-bus : (h now : HostState) (key : ℕ) → now ≡ host_asked h key → bus_of now ≡ bus_of h
@@ -57,7 +60,7 @@ opened-keeps h now key i address idle is =
     record {
       idle = ap (λ (g : HostState). g.steps) is ∙ asked.idle;
       devices = subst (λ (g : HostState). KeepsCounts h.devices g.devices) (sym is) asked.devices;
-      interfaces = ap (λ (g : HostState). g.interfaces) is ∙ asked.interfaces;
+      interfaces = subst (λ (g : HostState). ClaimsGoOn h.interfaces g.interfaces) (sym is) asked.interfaces;
     }
 
 pub opened-spare : (h now : HostState) (key i address : ℕ) → now ≡ with_endpoint (host_asked h key) i address → now.kernel.spare ≡ h.kernel.spare
@@ -78,9 +81,9 @@ endpoint-sound s now after e i address y c sound is key stands others free put =
       endpoint_names = ap (λ (l : List (Option EndpointState)). length l) put ∙ length-set_name s.endpoints e y ∙ sound.endpoint_names;
       devices_stand = λ d k at. counts-stands s.host now k keeps.devices (sound.devices_stand d k at);
       devices_counted = devices-kept s.host.devices now.devices s.devices (opened-counts s.host.devices now.devices keeps.devices) sound.devices_counted;
-      devices_held = held-same s.host now keeps.devices keeps.interfaces sound.devices_held;
+      devices_held = held-goes s.host now keeps.devices keeps.interfaces sound.devices_held;
       interfaces_stand = λ j f at. StandsInterface-same s.host now f keeps.interfaces (counts-there s.host.devices now.devices keeps.devices) (sound.interfaces_stand j f at);
-      interfaces_counted = counted-same s.host.interfaces now.interfaces s.interfaces keeps.interfaces sound.interfaces_counted;
+      interfaces_counted = counted-goes s.host.interfaces now.interfaces s.interfaces keeps.interfaces sound.interfaces_counted;
       endpoints_stand = λ d h at. elim (names-set s.endpoints after e d y h free put at) [
         | inl here ↦ subst (Stands (bus_of now)) (sym here.1) stands
         | inr there ↦ Stands-other (bus_of s.host) (bus_of now) y.key h others (old d h there.1) (sound.endpoints_stand d h there.1)
@@ -126,7 +129,7 @@ open-as state host now after e address maximum kind x y (Ok m) r free tried fres
 -- where the interface of this handle is claimed
 abbrev EndpointGives : State → ℕ → ℕ → ℕ → TransferType → Direction → ℕ → InterfaceState → ClaimedInterface → EndpointState → HostState → List (Option EndpointState) → SessionState → Type 0
 EndpointGives state e i address kind direction maximum f c y now after v =
-    named v.interfaces i ≡ Some f → slice_get v.host.interfaces f.key ≡ Some c → is_free v.endpoints e ≡ true → host_tries (host_asked v.host c.opened) f.key c address kind direction ≡ Ok maximum → y ≡ fresh_endpoint c address kind maximum (length v.host.endpoints) → now ≡ with_endpoint (host_asked v.host c.opened) f.key address → after ≡ set_name v.endpoints e y → Gives (record v { host = now; endpoints = after }) ok_line (endpoint_answer state e i address kind direction)
+    named v.interfaces i ≡ Some f → value_at v.host.interfaces f.key ≡ Some c → is_free v.endpoints e ≡ true → host_tries (host_asked v.host c.opened) f.key c address kind direction ≡ Ok maximum → y ≡ fresh_endpoint c address kind maximum (length v.host.endpoints) → now ≡ with_endpoint (host_asked v.host c.opened) f.key address → after ≡ set_name v.endpoints e y → Gives (record v { host = now; endpoints = after }) ok_line (endpoint_answer state e i address kind direction)
 
 asked-endpoints : (h : HostState) (key : ℕ) → h.endpoints ≡ (host_asked h key).endpoints
 asked-endpoints h key = sym (ap (λ (g : HostState). g.endpoints) (asked-is h key))
@@ -154,7 +157,7 @@ refused-as state host now e address kind error x (Ok m) r tried is = absurd (cc)
 
 abbrev EndpointRefused : State → ℕ → ℕ → ℕ → TransferType → Direction → ErrorState → InterfaceState → ClaimedInterface → HostState → SessionState → Type 0
 EndpointRefused state e i address kind direction error f c now v =
-    named v.interfaces i ≡ Some f → slice_get v.host.interfaces f.key ≡ Some c → is_free v.endpoints e ≡ true → host_tries (host_asked v.host c.opened) f.key c address kind direction ≡ Err error → now ≡ host_asked v.host c.opened → Gives (record v { host = now }) (error_line error) (endpoint_answer state e i address kind direction)
+    named v.interfaces i ≡ Some f → value_at v.host.interfaces f.key ≡ Some c → is_free v.endpoints e ≡ true → host_tries (host_asked v.host c.opened) f.key c address kind direction ≡ Err error → now ≡ host_asked v.host c.opened → Gives (record v { host = now }) (error_line error) (endpoint_answer state e i address kind direction)
 
 refused-of : (state : State) (now : HostState) (e i address : ℕ) (kind : TransferType) (direction : Direction) (error : ErrorState) (f : InterfaceState) (c : ClaimedInterface) → Represents (session_of state) state → EndpointRefused state e i address kind direction error f c now (session_of state)
 unfolding endpoint_answer
@@ -174,10 +177,10 @@ endpoint-none s state e i address kind direction none r =
     let here : named state.interfaces i ≡ None = ap (λ (v : SessionState). named v.interfaces i) (sym r.is) ∙ none in
     rw here (barred-gives s state r)
 
-pub endpoint-used : (s : SessionState) (state : State) (e i address : ℕ) (kind : TransferType) (direction : Direction) (f : InterfaceState) (c : ClaimedInterface) → named s.interfaces i ≡ Some f → slice_get s.host.interfaces f.key ≡ Some c → is_free s.endpoints e ≡ false → Represents s state → Gives s condition_line (endpoint_answer state e i address kind direction)
+pub endpoint-used : (s : SessionState) (state : State) (e i address : ℕ) (kind : TransferType) (direction : Direction) (f : InterfaceState) (c : ClaimedInterface) → named s.interfaces i ≡ Some f → value_at s.host.interfaces f.key ≡ Some c → is_free s.endpoints e ≡ false → Represents s state → Gives s condition_line (endpoint_answer state e i address kind direction)
 unfolding endpoint_answer
 endpoint-used s state e i address kind direction f c at there used r =
     let here : named state.interfaces i ≡ Some f = ap (λ (v : SessionState). named v.interfaces i) (sym r.is) ∙ at in
-    let interface : slice_get state.host.interfaces f.key ≡ Some c = ap (λ (v : SessionState). slice_get v.host.interfaces f.key) (sym r.is) ∙ there in
+    let interface : value_at state.host.interfaces f.key ≡ Some c = ap (λ (v : SessionState). value_at v.host.interfaces f.key) (sym r.is) ∙ there in
     let taken : is_free state.endpoints e ≡ false = sym (free_kept s state e r) ∙ used in
     rw (here, interface, taken) (barred-gives s state r)

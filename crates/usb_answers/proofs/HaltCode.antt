@@ -11,6 +11,7 @@ use Rattle.usb_device.specs.HostFrames.{LineGoesOn}
 use Rattle.usb_device.specs.HostCalls.{host_halt_result, host_halt_cleared}
 use Rattle.usb_device.proofs.WaitFrames.{line-keeps}
 use Rattle.usb_lines.specs.Calls.{result_line}
+use Rattle.usb_device.proofs.ClaimFrames.{goes-refl}
 use Rattle.usb_answers.specs.State.{State, with_host}
 use Rattle.usb_answers.specs.Answer.{Answer, told}
 use Rattle.usb_answers.specs.Halts.{halt_cleared}
@@ -20,7 +21,7 @@ use Rattle.usb_answers.proofs.Queue.{call-host}
 pub line-halt : (h : HostState) (device endpoint : ℕ) → LineGoesOn h (host_halt_cleared h device endpoint)
 unfolding called
 line-halt h device endpoint =
-    line-keeps h (host_halt_cleared h device endpoint) (record { line = record { steps = refl; spare = refl; devices = refl }; interfaces = refl; endpoints = refl })
+    line-keeps h (host_halt_cleared h device endpoint) (record { line = record { steps = refl; spare = refl; devices = refl }; interfaces = goes-refl h.interfaces; endpoints = refl })
 
 -- what is printed of it
 abbrev pub halt_line : HostState → EndpointState → List ℕ

@@ -19,6 +19,9 @@ use Rattle.usb_ledger.specs.Owners.{has_living}
 use Rattle.usb_device.specs.Handles.{handle_added, handle_cloned, handle_gone, handle_closed}
 use Rattle.usb_device.specs.InterfaceClaims.{claim_tried, kernel_claimed, claimed_by, claimed_on, host_claimed, claimed_key}
 use Rattle.usb_device.specs.OnInterfaces.{setting_unless, alt_setting_asked, alt_setting_set}
+use Rattle.usb_registry.proofs.ValueLemmas.{value-set_same, value-set_other}
+use Rattle.usb_device.specs.HostFrames.{ClaimsGoOn}
+use Rattle.usb_device.proofs.ClaimFrames.{goes-same, goes-ended}
 use Rattle.usb_device.proofs.HostKeeps.{KeepsSteps}
 use Rattle.usb_device.proofs.DeviceLemmas.{KeepsOpened, opened-same}
 use Rattle.usb_device.proofs.HeldDevices.{opened-claimed, opened-handle_closed}
@@ -48,7 +51,7 @@ added-keeps h i (Some c) = record { line = record { steps = refl; spare = refl }
 
 pub cloned-keeps : (h : HostState) (i : ℕ) → KeepsBeside h (handle_cloned h i)
 unfolding handle_cloned
-cloned-keeps h i = added-keeps h i (slice_get h.interfaces i)
+cloned-keeps h i = added-keeps h i (value_at h.interfaces i)
 
 -- an alternate setting that is set changes interfaces, devices of the kernel and what is armed there
 setting_asked-is : (h : HostState) (i setting : ℕ) (c : ClaimedInterface) →
@@ -69,17 +72,17 @@ setting_asked-keeps h i setting c =
       bus = ap bus_of is;
     }
 
-pub setting-keeps : (h : HostState) (i setting : ℕ) (c : ClaimedInterface) → slice_get h.interfaces i ≡ Some c → KeepsBeside h (alt_setting_set h i setting)
+pub setting-keeps : (h : HostState) (i setting : ℕ) (c : ClaimedInterface) → value_at h.interfaces i ≡ Some c → KeepsBeside h (alt_setting_set h i setting)
 setting-keeps h i setting c at =
     elim (cases_Bool (has_living h.tickets h.endpoints i)) [
       | inl living ↦ subst (KeepsBeside h) (sym (setting-in_use h i setting c at living)) (same-keeps h)
       | inr none ↦ subst (KeepsBeside h) (sym (setting-asked h i setting c at none)) (setting_asked-keeps h i setting c)
     ]
 
--- the interfaces of a host are as they were, but for this one, which is like this
+-- the interfaces of a host are as they were, but for this one, which is like this or gone
 pub record WritesOne (h now : HostState) (i : ℕ) (c d : ClaimedInterface) : Type 0 where
-  pub at : slice_get h.interfaces i ≡ Some c
-  pub is : now.interfaces ≡ set h.interfaces i d
+  pub at : value_at h.interfaces i ≡ Some c
+  pub goes : ClaimsGoOn (set h.interfaces i (Some d)) now.interfaces
   pub number : d.number ≡ c.number
 
 -- one handle less
@@ -90,36 +93,40 @@ fewer c = record c { handles = c.handles - 1 }
 abbrev pub more : ClaimedInterface → ClaimedInterface
 more c = record c { handles = c.handles + 1 }
 
-closed-interfaces : (h : HostState) (i : ℕ) (c : ClaimedInterface) → slice_get h.interfaces i ≡ Some c → (handle_closed h i).interfaces ≡ set h.interfaces i (fewer c)
+pub closed-writes : (h : HostState) (i : ℕ) (c : ClaimedInterface) → value_at h.interfaces i ≡ Some c → WritesOne h (handle_closed h i) i c (fewer c)
 unfolding handle_closed owner_gone
-closed-interfaces h i c at = ap (λ o. (handle_gone h i o).interfaces) at
+closed-writes h i c at =
+    record {
+      at = at;
+      goes = subst (λ (o : Option ClaimedInterface). ClaimsGoOn (set h.interfaces i (Some (fewer c))) (handle_gone h i o).interfaces) (sym at) (goes-ended (set h.interfaces i (Some (fewer c))) h.tickets h.endpoints i);
+      number = refl;
+    }
 
-pub closed-writes : (h : HostState) (i : ℕ) (c : ClaimedInterface) → slice_get h.interfaces i ≡ Some c → WritesOne h (handle_closed h i) i c (fewer c)
-closed-writes h i c at = record { at = at; is = closed-interfaces h i c at; number = refl }
-
-cloned-interfaces : (h : HostState) (i : ℕ) (c : ClaimedInterface) → slice_get h.interfaces i ≡ Some c → (handle_cloned h i).interfaces ≡ set h.interfaces i (more c)
+cloned-interfaces : (h : HostState) (i : ℕ) (c : ClaimedInterface) → value_at h.interfaces i ≡ Some c → (handle_cloned h i).interfaces ≡ set h.interfaces i (Some (more c))
 unfolding handle_cloned
 cloned-interfaces h i c at = ap (λ o. (handle_added h i o).interfaces) at
 
-pub cloned-writes : (h : HostState) (i : ℕ) (c : ClaimedInterface) → slice_get h.interfaces i ≡ Some c → WritesOne h (handle_cloned h i) i c (more c)
-cloned-writes h i c at = record { at = at; is = cloned-interfaces h i c at; number = refl }
+pub cloned-writes : (h : HostState) (i : ℕ) (c : ClaimedInterface) → value_at h.interfaces i ≡ Some c → WritesOne h (handle_cloned h i) i c (more c)
+cloned-writes h i c at = record { at = at; goes = goes-same (set h.interfaces i (Some (more c))) (handle_cloned h i).interfaces (cloned-interfaces h i c at); number = refl }
 
 -- a handle stands where the others do, if one is open
-pub stands-written : (h now : HostState) (i : ℕ) (c d : ClaimedInterface) (f : InterfaceState) → WritesOne h now i c d → DevicesAreHeld now → ((e : ClaimedInterface) → slice_get now.interfaces f.key ≡ Some e → 0 < e.handles) → StandsInterface h f → StandsInterface now f
+pub stands-written : (h now : HostState) (i : ℕ) (c d : ClaimedInterface) (f : InterfaceState) → WritesOne h now i c d → DevicesAreHeld now → ((e : ClaimedInterface) → value_at (set h.interfaces i (Some d)) f.key ≡ Some e → 0 < e.handles) → StandsInterface h f → StandsInterface now f
 stands-written h now i c d f writes held open_ stands =
-    elim (cases_eq f.key i) [
+    elim (cases_eq i f.key) [
       | inl here ↦
-          let there : slice_get now.interfaces f.key ≡ Some d = ap (λ l. slice_get l f.key) writes.is ∙ ap (slice_get (set h.interfaces i d)) here ∙ slice_get-set_same h.interfaces i d (slice_get_within h.interfaces i c writes.at) in
-          let claim : stands.claim ≡ c = same_Some stands.claim c (sym stands.at ∙ ap (slice_get h.interfaces) here ∙ writes.at) in
-          stands-held now f d held there (writes.number ∙ sym (ap (λ (z : ClaimedInterface). z.number) claim) ∙ stands.number) (open_ d there)
+          let written : value_at (set h.interfaces i (Some d)) f.key ≡ Some d = ap (value_at (set h.interfaces i (Some d))) (sym here) ∙ value-set_same h.interfaces i c (Some d) writes.at in
+          let some = open_ d written in
+          let claim : stands.claim ≡ c = same_Some stands.claim c (sym stands.at ∙ ap (value_at h.interfaces) (sym here) ∙ writes.at) in
+          stands-held now f d held (writes.goes.stays f.key d written some) (writes.number ∙ sym (ap (λ (z : ClaimedInterface). z.number) claim) ∙ stands.number) some
       | inr apart ↦
-          stands-held now f stands.claim held (ap (λ l. slice_get l f.key) writes.is ∙ slice_get-set_other h.interfaces i f.key d apart ∙ stands.at) stands.number stands.open_handle
+          let kept = value-set_other h.interfaces i f.key (Some d) apart ∙ stands.at in
+          stands-held now f stands.claim held (writes.goes.stays f.key stands.claim kept stands.open_handle) stands.number stands.open_handle
     ]
 
 -- a setting that was set
-pub setting_unless-like : (h now : HostState) (i setting : ℕ) (c : ClaimedInterface) (errno : Option ℕ) → slice_get h.interfaces i ≡ Some c → now.interfaces ≡ set h.interfaces i (setting_unless c setting errno) → WritesOne h now i c (setting_unless c setting errno)
-setting_unless-like h now i setting c None at is = record { at = at; is = is; number = refl }
-setting_unless-like h now i setting c (Some errno) at is = record { at = at; is = is; number = refl }
+pub setting_unless-like : (h now : HostState) (i setting : ℕ) (c : ClaimedInterface) (errno : Option ℕ) → value_at h.interfaces i ≡ Some c → now.interfaces ≡ set h.interfaces i (Some (setting_unless c setting errno)) → WritesOne h now i c (setting_unless c setting errno)
+setting_unless-like h now i setting c None at is = record { at = at; goes = goes-same (set h.interfaces i (Some (record c { setting = setting }))) now.interfaces is; number = refl }
+setting_unless-like h now i setting c (Some errno) at is = record { at = at; goes = goes-same (set h.interfaces i (Some c)) now.interfaces is; number = refl }
 
 pub setting_unless-handles : (c : ClaimedInterface) (setting : ℕ) (errno : Option ℕ) → (setting_unless c setting errno).handles ≡ c.handles
 setting_unless-handles c setting None = refl
@@ -135,7 +142,7 @@ by-refused : (h : HostState) (c : ClaimedInterface) (next : ℕ) (t : Result (Un
 by-refused h c next (Err other) error tried = refl
 by-refused h c next (Ok done) error tried = absurd (cc)
 
-by-claimed : (h : HostState) (c : ClaimedInterface) (next key : ℕ) (t : Result (Unit {0}) ErrorState) → claimed_key next t ≡ Ok key → (claimed_by h c t).interfaces ≡ h.interfaces ++ c ∷ []
+by-claimed : (h : HostState) (c : ClaimedInterface) (next key : ℕ) (t : Result (Unit {0}) ErrorState) → claimed_key next t ≡ Ok key → (claimed_by h c t).interfaces ≡ h.interfaces ++ Some c ∷ []
 by-claimed h c next key (Err error) tried = absurd (cc)
 by-claimed h c next key (Ok done) tried = refl
 
@@ -144,7 +151,7 @@ claim-refused_interfaces h key number reattach o next error at tried =
     ap (λ (g : HostState). g.interfaces) (claimed-at h key number reattach o at)
     ∙ by-refused (record h { kernel = kernel_claimed h.kernel o number reattach }) (fresh_interface key o.device number reattach) next (claim_tried h o number reattach) error tried
 
-pub claim-interfaces : (h : HostState) (key number : ℕ) (reattach : Bool) (o : OpenDevice) (next k : ℕ) → value_at h.devices key ≡ Some o → claimed_key next (claim_tried h o number reattach) ≡ Ok k → (host_claimed h key number reattach).interfaces ≡ h.interfaces ++ fresh_interface key o.device number reattach ∷ []
+pub claim-interfaces : (h : HostState) (key number : ℕ) (reattach : Bool) (o : OpenDevice) (next k : ℕ) → value_at h.devices key ≡ Some o → claimed_key next (claim_tried h o number reattach) ≡ Ok k → (host_claimed h key number reattach).interfaces ≡ h.interfaces ++ Some (fresh_interface key o.device number reattach) ∷ []
 claim-interfaces h key number reattach o next k at tried =
     ap (λ (g : HostState). g.interfaces) (claimed-at h key number reattach o at)
     ∙ by-claimed (record h { kernel = kernel_claimed h.kernel o number reattach }) (fresh_interface key o.device number reattach) next k (claim_tried h o number reattach) tried

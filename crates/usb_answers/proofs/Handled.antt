@@ -25,7 +25,7 @@ use Rattle.usb_answers.specs.State.{State}
 use Rattle.usb_answers.specs.SessionState.{SessionState, IsSound}
 use Rattle.usb_answers.specs.Relation.{Represents}
 use Rattle.usb_answers.proofs.NameLemmas.{length-set_name, length-freed, names-set}
-use Rattle.usb_answers.proofs.CountedNames.{Counted, counted-same, counted-open, counted-claimed, counted-closed, counted-cloned, counted-changed}
+use Rattle.usb_answers.proofs.CountedNames.{Counted, counted-same, counted-goes, counted-open, counted-claimed, counted-closed, counted-cloned, counted-changed}
 use Rattle.usb_answers.proofs.Called.{names-freed}
 use Rattle.usb_answers.proofs.HandleHosts.{KeepsBeside, WritesOne, fewer, more, claimed-keeps, closed-keeps, cloned-keeps, setting-keeps, closed-writes, cloned-writes, stands-written, setting_unless-like, setting_unless-handles, claim-interfaces, claim-refused_interfaces}
 
@@ -52,14 +52,15 @@ closed-here s after n f sound was rest =
     let now = handle_closed s.host f.key in
     let stands = sound.interfaces_stand n f was in
     let writes = closed-writes s.host f.key stands.claim stands.at in
-    let counted = counted-closed s.host.interfaces now.interfaces s.interfaces after n f stands.claim (fewer stands.claim) sound.interfaces_counted stands.at writes.is refl was rest in
+    let written = set s.host.interfaces f.key (Some (fewer stands.claim)) in
+    let counted = counted-closed s.host.interfaces written s.interfaces after n f stands.claim (fewer stands.claim) sound.interfaces_counted stands.at refl refl was rest in
     let held = held-handle_closed s.host f.key stands.claim stands.at stands.open_handle sound.devices_held in
     sound-handled s now after sound (closed-keeps s.host f.key) (ap (λ (l : List (Option InterfaceState)). length l) rest ∙ length-freed s.interfaces n)
     (λ m g open_.
     stands-written s.host now f.key stands.claim (fewer stands.claim) g writes held
-    (λ e at. counted-open now.interfaces after m g e counted open_ at)
+    (λ e at. counted-open written after m g e counted open_ at)
     (sound.interfaces_stand m g (names-freed s.interfaces after n m g rest open_).1))
-    counted held
+    (counted-goes written now.interfaces after writes.goes counted) held
 
 pub sound-closed : (s : SessionState) (now : HostState) (after : List (Option InterfaceState)) (n : ℕ) (f : InterfaceState) → IsSound s → named s.interfaces n ≡ Some f → after ≡ freed s.interfaces n → now ≡ handle_closed s.host f.key → IsSound (record s { host = now; interfaces = after })
 sound-closed s now after n f sound was rest is =
@@ -71,7 +72,8 @@ cloned-here s after n i f sound was free put =
     let now = handle_cloned s.host f.key in
     let stands = sound.interfaces_stand i f was in
     let writes = cloned-writes s.host f.key stands.claim stands.at in
-    let counted = counted-cloned s.host.interfaces now.interfaces s.interfaces after n f stands.claim (more stands.claim) sound.interfaces_counted stands.at writes.is refl free put in
+    let written = set s.host.interfaces f.key (Some (more stands.claim)) in
+    let counted = counted-cloned s.host.interfaces written s.interfaces after n f stands.claim (more stands.claim) sound.interfaces_counted stands.at refl refl free put in
     let held = held-handle_cloned s.host f.key stands.claim stands.at stands.open_handle sound.devices_held in
     let before : (m : ℕ) (g : InterfaceState) → named after m ≡ Some g → StandsInterface s.host g = λ m g open_. elim (names-set s.interfaces after n m f g free put open_) [
       | inl here ↦ subst (StandsInterface s.host) (sym here.1) stands
@@ -80,8 +82,8 @@ cloned-here s after n i f sound was free put =
     sound-handled s now after sound (cloned-keeps s.host f.key) (ap (λ (l : List (Option InterfaceState)). length l) put ∙ length-set_name s.interfaces n f)
     (λ m g open_.
     stands-written s.host now f.key stands.claim (more stands.claim) g writes held
-    (λ e at. counted-open now.interfaces after m g e counted open_ at) (before m g open_))
-    counted held
+    (λ e at. counted-open written after m g e counted open_ at) (before m g open_))
+    (counted-goes written now.interfaces after writes.goes counted) held
 
 pub sound-cloned : (s : SessionState) (now : HostState) (after : List (Option InterfaceState)) (n i : ℕ) (f : InterfaceState) → IsSound s → named s.interfaces i ≡ Some f → is_free s.interfaces n ≡ true → after ≡ set_name s.interfaces n f → now ≡ handle_cloned s.host f.key → IsSound (record s { host = now; interfaces = after })
 sound-cloned s now after n i f sound was free put is =
@@ -125,18 +127,19 @@ sound-refused s now key number reattach o error sound at tried is =
 -- an alternate setting is set
 written-sound : (s : SessionState) (now : HostState) (k : ℕ) (c d : ClaimedInterface) → IsSound s → KeepsBeside s.host now → WritesOne s.host now k c d → d.handles ≡ c.handles → DevicesAreHeld now → IsSound (record s { host = now })
 written-sound s now k c d sound keeps writes handles held =
-    let counted = counted-changed s.host.interfaces now.interfaces s.interfaces k c d sound.interfaces_counted writes.at writes.is handles in
+    let written = set s.host.interfaces k (Some d) in
+    let counted = counted-changed s.host.interfaces written s.interfaces k c d sound.interfaces_counted writes.at refl handles in
     sound-handled s now s.interfaces sound keeps refl
     (λ m g open_.
     stands-written s.host now k c d g writes held
-    (λ e at. counted-open now.interfaces s.interfaces m g e counted open_ at) (sound.interfaces_stand m g open_))
-    counted held
+    (λ e at. counted-open written s.interfaces m g e counted open_ at) (sound.interfaces_stand m g open_))
+    (counted-goes written now.interfaces s.interfaces writes.goes counted) held
 
-held-setting : (s : SessionState) (now : HostState) (k setting : ℕ) (c : ClaimedInterface) (errno : Option ℕ) → IsSound s → slice_get s.host.interfaces k ≡ Some c → now.devices ≡ s.host.devices → now.interfaces ≡ set s.host.interfaces k (setting_unless c setting errno) → DevicesAreHeld now
+held-setting : (s : SessionState) (now : HostState) (k setting : ℕ) (c : ClaimedInterface) (errno : Option ℕ) → IsSound s → value_at s.host.interfaces k ≡ Some c → now.devices ≡ s.host.devices → now.interfaces ≡ set s.host.interfaces k (Some (setting_unless c setting errno)) → DevicesAreHeld now
 held-setting s now k setting c None sound at devices is = held-written s.host now k c (setting_unless c setting None) (counts-same s.host.devices now.devices devices) at is refl refl sound.devices_held
 held-setting s now k setting c (Some errno) sound at devices is = held-written s.host now k c (setting_unless c setting (Some errno)) (counts-same s.host.devices now.devices devices) at is refl refl sound.devices_held
 
-set-here : (s : SessionState) (k setting : ℕ) (c : ClaimedInterface) → IsSound s → slice_get s.host.interfaces k ≡ Some c → IsSound (record s { host = alt_setting_set s.host k setting })
+set-here : (s : SessionState) (k setting : ℕ) (c : ClaimedInterface) → IsSound s → value_at s.host.interfaces k ≡ Some c → IsSound (record s { host = alt_setting_set s.host k setting })
 set-here s k setting c sound at =
     let now = alt_setting_set s.host k setting in
     let keeps = setting-keeps s.host k setting c at in
@@ -150,7 +153,7 @@ set-here s k setting c sound at =
           (held-setting s now k setting c errno sound at (ap (λ (h : HostState). h.devices) (setting-asked s.host k setting c at none)) (ap (λ (h : HostState). h.interfaces) (setting-asked s.host k setting c at none)))
     ]
 
-pub sound-set : (s : SessionState) (now : HostState) (k setting : ℕ) (c : ClaimedInterface) → IsSound s → slice_get s.host.interfaces k ≡ Some c → now ≡ alt_setting_set s.host k setting → IsSound (record s { host = now })
+pub sound-set : (s : SessionState) (now : HostState) (k setting : ℕ) (c : ClaimedInterface) → IsSound s → value_at s.host.interfaces k ≡ Some c → now ≡ alt_setting_set s.host k setting → IsSound (record s { host = now })
 sound-set s now k setting c sound at is =
     subst (λ (h : HostState). IsSound (record s { host = h })) (sym is) (set-here s k setting c sound at)
 

@@ -2,6 +2,7 @@
 use Rattle.std.proofs.Common.{◌≡◌, ℕ, Bool, true, false, List, ◌++◌, Option, Some, None, Result, Ok, Err, String, string_bytes, refl, ap, sym, ◌∙◌, subst, slice_get}
 use Rattle.std.specs.Prelude.{OnOk, is_some}
 use Rattle.std.specs.declared.alloc.Global.{Global}
+use Rattle.usb_registry.specs.History.{value_at}
 use Rattle.usb_error.specs.ErrorState.{ErrorState}
 use Rattle.usb_error.specs.Errors.{interface_in_use_error}
 use Rattle.usb_lines.specs.Calls.{ok_line, condition_line, error_line}
@@ -32,9 +33,9 @@ interface_is s state i o r at = ap (λ (v : SessionState). named v.interfaces i)
 pub interface-none : (s : SessionState) (state : State) (i : ℕ) → Represents s state → named s.interfaces i ≡ None → interface_at state i ≡ None
 interface-none s state i r none = rw (interface_is s state i None r none) refl
 
-pub interface-some : (s : SessionState) (state : State) (i : ℕ) (f : InterfaceState) (c : ClaimedInterface) → Represents s state → named s.interfaces i ≡ Some f → slice_get s.host.interfaces f.key ≡ Some c → interface_at state i ≡ Some (record { handle = f; claimed = c })
+pub interface-some : (s : SessionState) (state : State) (i : ℕ) (f : InterfaceState) (c : ClaimedInterface) → Represents s state → named s.interfaces i ≡ Some f → value_at s.host.interfaces f.key ≡ Some c → interface_at state i ≡ Some (record { handle = f; claimed = c })
 interface-some s state i f c r at there =
-    let interface : slice_get state.host.interfaces f.key ≡ Some c = ap (λ (v : SessionState). slice_get v.host.interfaces f.key) (sym r.is) ∙ there in
+    let interface : value_at state.host.interfaces f.key ≡ Some c = ap (λ (v : SessionState). value_at v.host.interfaces f.key) (sym r.is) ∙ there in
     rw (interface_is s state i (Some f) r at, interface) refl
 
 -- one more handle of an interface
@@ -96,7 +97,7 @@ release-none s state after i none rest r =
 shared_is : (s : SessionState) (state : State) (f : InterfaceState) (c : ClaimedInterface) (b : Bool) → Represents s state → is_shared s.host f.key c ≡ b → is_shared state.host f.key c ≡ b
 shared_is s state f c b r is = ap (λ (h : HostState). is_shared h f.key c) (sym (host_is s state r)) ∙ is
 
-pub release-gives : (s : SessionState) (state : State) (now : HostState) (after : List (Option InterfaceState)) (i : ℕ) (f : InterfaceState) (c : ClaimedInterface) → named s.interfaces i ≡ Some f → slice_get s.host.interfaces f.key ≡ Some c → is_shared s.host f.key c ≡ false → now ≡ handle_closed s.host f.key → after ≡ freed s.interfaces i → Represents s state → Gives (record s { host = now; interfaces = after }) ok_line (release_answer state i)
+pub release-gives : (s : SessionState) (state : State) (now : HostState) (after : List (Option InterfaceState)) (i : ℕ) (f : InterfaceState) (c : ClaimedInterface) → named s.interfaces i ≡ Some f → value_at s.host.interfaces f.key ≡ Some c → is_shared s.host f.key c ≡ false → now ≡ handle_closed s.host f.key → after ≡ freed s.interfaces i → Represents s state → Gives (record s { host = now; interfaces = after }) ok_line (release_answer state i)
 unfolding release_answer
 release-gives s state now after i f c at there alone is rest r =
     let host : now ≡ handle_closed state.host f.key = is ∙ ap (λ (h : HostState). handle_closed h f.key) (host_is s state r) in
@@ -104,7 +105,7 @@ release-gives s state now after i f c at there alone is rest r =
     rw (interface-some s state i f c r at there, shared_is s state f c false r alone)
     (record { state = represents-handled s state now (handle_closed state.host f.key) after (freed state.interfaces i) r host names; same = refl })
 
-pub release-refused : (s : SessionState) (state : State) (now : HostState) (after : List (Option InterfaceState)) (i : ℕ) (f : InterfaceState) (c : ClaimedInterface) (error : ErrorState) → named s.interfaces i ≡ Some f → slice_get s.host.interfaces f.key ≡ Some c → is_shared s.host f.key c ≡ true → error ≡ interface_in_use_error → now ≡ s.host → after ≡ s.interfaces → Represents s state → Gives (record s { host = now; interfaces = after }) (error_line error) (release_answer state i)
+pub release-refused : (s : SessionState) (state : State) (now : HostState) (after : List (Option InterfaceState)) (i : ℕ) (f : InterfaceState) (c : ClaimedInterface) (error : ErrorState) → named s.interfaces i ≡ Some f → value_at s.host.interfaces f.key ≡ Some c → is_shared s.host f.key c ≡ true → error ≡ interface_in_use_error → now ≡ s.host → after ≡ s.interfaces → Represents s state → Gives (record s { host = now; interfaces = after }) (error_line error) (release_answer state i)
 unfolding release_answer
 release-refused s state now after i f c error at there shared in_use same put r =
     rw (interface-some s state i f c r at there, shared_is s state f c true r shared)

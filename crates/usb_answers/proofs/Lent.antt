@@ -28,6 +28,7 @@ use Rattle.usb_answers.specs.Relation.{Represents}
 use Rattle.usb_answers.specs.Answered.{Answered, Answers}
 use Rattle.usb_answers.specs.OpenCalls.{CallKeeps, CallAnswers, with_called}
 use Rattle.usb_answers.proofs.Answering.{told-answered, answered-none, answered-some, none_kept, host_is}
+use Rattle.usb_device.proofs.ClaimFrames.{goes-trans}
 use Rattle.usb_answers.proofs.Called.{KeepsSession, represents-host, sound-host, sound-put, taken-map, open_at}
 use Rattle.usb_answers.proofs.TakenOut.{made_with, PutBack, named-made, none_made, made-put, made-called}
 
@@ -49,7 +50,7 @@ stands-rested now x stands = Stands-later (bus_of now) (bus_of (host_rest now)) 
 keeps-lent : (host now : HostState) (steps : List KernelStep) → LineGoesOn (lent_host host steps) now → KeepsSession host (host_rest now)
 keeps-lent host now steps line =
     let rest = (went-rest now).line in
-    record { idle = rest-steps now; devices = counts-same host.devices (host_rest now).devices (rest.devices ∙ line.devices); interfaces = rest.interfaces ∙ line.interfaces }
+    record { idle = rest-steps now; devices = counts-same host.devices (host_rest now).devices (rest.devices ∙ line.devices); interfaces = goes-trans host.interfaces now.interfaces (host_rest now).interfaces line.interfaces rest.interfaces }
 
 others-lent : (host now : HostState) (steps : List KernelStep) (key : ℕ) → KeepsOthers (bus_of (lent_host host steps)) (bus_of now) key → KeepsOthers (bus_of host) (bus_of (host_rest now)) key
 others-lent host now steps key others =

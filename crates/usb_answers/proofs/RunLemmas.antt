@@ -59,10 +59,10 @@ empty-sound t p host idle none nothing =
       devices_held = record {
         held = λ key o at. absurd (none-some o (sym (ap (λ ds. value_at ds key) nothing) ∙ at));
         counted = λ key o at. absurd (none-some o (sym (ap (λ ds. value_at ds key) nothing) ∙ at));
-        there = λ i c at some. absurd (none-some c (sym (ap (λ (l : List ClaimedInterface). slice_get l i) none) ∙ at));
+        there = λ i c at some. absurd (none-some c (sym (ap (λ (l : List (Option ClaimedInterface)). value_at l i) none) ∙ at));
       };
       interfaces_stand = λ i f is. absurd (nobody 64 i f is);
-      interfaces_counted = λ key c at. absurd (none-some c (sym (ap (λ (l : List ClaimedInterface). slice_get l key) none) ∙ at));
+      interfaces_counted = λ key c at. absurd (none-some c (sym (ap (λ (l : List (Option ClaimedInterface)). value_at l key) none) ∙ at));
       endpoints_stand = λ e h is. absurd (nobody 64 e h is);
       endpoints_differ = λ d e g h isg ish apart. absurd (nobody 64 d g isg);
     }

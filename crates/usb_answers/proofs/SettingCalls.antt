@@ -1,5 +1,6 @@
 -- The alternate settings of claimed interfaces.
 use Rattle.std.proofs.Common.{◌≡◌, ℕ, List, Option, Some, None, Result, ap, sym, ◌∙◌, subst, slice_get}
+use Rattle.usb_registry.specs.History.{value_at}
 use Rattle.usb_error.specs.ErrorState.{ErrorState}
 use Rattle.usb_lines.specs.Calls.{condition_line, result_line}
 use Rattle.usb_lines.specs.Settings.{alt_setting_line, interface_line}
@@ -23,7 +24,7 @@ pub alt-none : (s : SessionState) (state : State) (i setting : ℕ) → named s.
 unfolding set_alt_setting_answer
 alt-none s state i setting none r = rw (interface-none s state i r none) (barred-gives s state r)
 
-pub alt-gives : (s : SessionState) (state : State) (now : HostState) (i setting : ℕ) (f : InterfaceState) (c : ClaimedInterface) (result : Result (Unit {0}) ErrorState) → named s.interfaces i ≡ Some f → slice_get s.host.interfaces f.key ≡ Some c → result ≡ alt_setting_tried s.host f.key c setting → now ≡ alt_setting_set s.host f.key setting → Represents s state → Gives (record s { host = now }) (result_line result) (set_alt_setting_answer state i setting)
+pub alt-gives : (s : SessionState) (state : State) (now : HostState) (i setting : ℕ) (f : InterfaceState) (c : ClaimedInterface) (result : Result (Unit {0}) ErrorState) → named s.interfaces i ≡ Some f → value_at s.host.interfaces f.key ≡ Some c → result ≡ alt_setting_tried s.host f.key c setting → now ≡ alt_setting_set s.host f.key setting → Represents s state → Gives (record s { host = now }) (result_line result) (set_alt_setting_answer state i setting)
 unfolding set_alt_setting_answer
 alt-gives s state now i setting f c result at there tried is r =
     rw (interface-some s state i f c r at there)
@@ -37,7 +38,7 @@ pub getalt-none : (s : SessionState) (state : State) (i : ℕ) → named s.inter
 unfolding get_alt_setting_answer
 getalt-none s state i none r = rw (interface-none s state i r none) (barred-gives s state r)
 
-pub getalt-gives : (s : SessionState) (state : State) (i setting : ℕ) (f : InterfaceState) (c : ClaimedInterface) → named s.interfaces i ≡ Some f → slice_get s.host.interfaces f.key ≡ Some c → setting ≡ c.setting → Represents s state → Gives s (alt_setting_line setting) (get_alt_setting_answer state i)
+pub getalt-gives : (s : SessionState) (state : State) (i setting : ℕ) (f : InterfaceState) (c : ClaimedInterface) → named s.interfaces i ≡ Some f → value_at s.host.interfaces f.key ≡ Some c → setting ≡ c.setting → Represents s state → Gives s (alt_setting_line setting) (get_alt_setting_answer state i)
 unfolding get_alt_setting_answer
 getalt-gives s state i setting f c at there is r =
     rw (interface-some s state i f c r at there) (record { state = r; same = ap alt_setting_line (sym is) })
@@ -47,10 +48,10 @@ pub ifdesc-none : (s : SessionState) (state : State) (i : ℕ) → named s.inter
 unfolding interface_descriptor_answer
 ifdesc-none s state i none r = rw (interface-none s state i r none) (barred-gives s state r)
 
-pub asked-claim : (h now : HostState) (key k : ℕ) (c : ClaimedInterface) → now ≡ host_asked h key → slice_get h.interfaces k ≡ Some c → slice_get now.interfaces k ≡ Some c
-asked-claim h now key k c is at = ap (λ (g : HostState). slice_get g.interfaces k) (is ∙ asked-is h key) ∙ at
+pub asked-claim : (h now : HostState) (key k : ℕ) (c : ClaimedInterface) → now ≡ host_asked h key → value_at h.interfaces k ≡ Some c → value_at now.interfaces k ≡ Some c
+asked-claim h now key k c is at = ap (λ (g : HostState). value_at g.interfaces k) (is ∙ asked-is h key) ∙ at
 
-pub ifdesc-gives : (s : SessionState) (state : State) (now : HostState) (i : ℕ) (f : InterfaceState) (c : ClaimedInterface) (setting : Option (List ℕ)) → named s.interfaces i ≡ Some f → slice_get s.host.interfaces f.key ≡ Some c → now ≡ host_asked s.host c.opened → setting ≡ current_setting now c → Represents s state → Gives (record s { host = now }) (interface_line setting) (interface_descriptor_answer state i)
+pub ifdesc-gives : (s : SessionState) (state : State) (now : HostState) (i : ℕ) (f : InterfaceState) (c : ClaimedInterface) (setting : Option (List ℕ)) → named s.interfaces i ≡ Some f → value_at s.host.interfaces f.key ≡ Some c → now ≡ host_asked s.host c.opened → setting ≡ current_setting now c → Represents s state → Gives (record s { host = now }) (interface_line setting) (interface_descriptor_answer state i)
 unfolding interface_descriptor_answer
 ifdesc-gives s state now i f c setting at there is told r =
     let host : now ≡ host_asked state.host c.opened = is ∙ ap (λ (h : HostState). host_asked h c.opened) (host_is s state r) in

@@ -19,7 +19,7 @@ pub device-of : (h : HostState) (key : ℕ) → StandsDevice h key → (o : Open
 device-of h key stands = (stands.device, stands.at)
 
 -- an interface with an open handle has its device
-pub stands-held : (h : HostState) (f : InterfaceState) (c : ClaimedInterface) → DevicesAreHeld h → slice_get h.interfaces f.key ≡ Some c → c.number ≡ f.number → 0 < c.handles → StandsInterface h f
+pub stands-held : (h : HostState) (f : InterfaceState) (c : ClaimedInterface) → DevicesAreHeld h → value_at h.interfaces f.key ≡ Some c → c.number ≡ f.number → 0 < c.handles → StandsInterface h f
 stands-held h f c held at number some = record { claim = c; at = at; number = number; open_handle = some; device = held.there f.key c at some }
 
 pub sound-device : (s : SessionState) (now : HostState) (after : List (Option ℕ)) → IsSound s → now.steps ≡ s.host.steps → now.interfaces ≡ s.host.interfaces → bus_of now ≡ bus_of s.host → length after ≡ length s.devices
@@ -35,7 +35,7 @@ sound-device s now after sound steps interfaces bus names stand counted held =
       devices_held = held;
       interfaces_stand = λ i f at.
           let was = sound.interfaces_stand i f at in
-          stands-held now f was.claim held (ap (λ (l : List ClaimedInterface). slice_get l f.key) interfaces ∙ was.at) was.number was.open_handle;
+          stands-held now f was.claim held (ap (λ (l : List (Option ClaimedInterface)). value_at l f.key) interfaces ∙ was.at) was.number was.open_handle;
       interfaces_counted = counted-same s.host.interfaces now.interfaces s.interfaces interfaces sound.interfaces_counted;
       endpoints_stand = λ e h at. subst (λ (b : BusState). Stands b h) (sym bus) (sound.endpoints_stand e h at);
       endpoints_differ = sound.endpoints_differ;

@@ -1,5 +1,5 @@
 -- What is open under a name of a device or of an interface, as the host has it.
-use Rattle.std.specs.Prelude.{ℕ, Option, option_and_then, slice_get}
+use Rattle.std.specs.Prelude.{ℕ, Option, option_and_then}
 use Rattle.std.specs.Option.{option_map}
 use Rattle.usb_registry.specs.History.{value_at}
 use Rattle.usb_ledger.specs.declared.opened.OpenDevice.{OpenDevice}
@@ -27,4 +27,4 @@ device_at state d =
 -- what the host has of the interface that is open under a name
 abbrev pub interface_at : State → ℕ → Option InterfaceAt
 interface_at state i =
-    option_and_then (λ (f : InterfaceState). option_map (λ c. record { handle = f; claimed = c }) (slice_get state.host.interfaces f.key)) (named state.interfaces i)
+    option_and_then (λ (f : InterfaceState). option_map (λ c. record { handle = f; claimed = c }) (value_at state.host.interfaces f.key)) (named state.interfaces i)

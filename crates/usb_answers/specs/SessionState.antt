@@ -1,5 +1,5 @@
 -- What a session is to its users.
-use Rattle.std.specs.Prelude.{ℕ, ◌≡◌, ◌≢◌, ◌<◌, ◌==◌, Bool, false, List, [], Option, Some, None, length, slice_get}
+use Rattle.std.specs.Prelude.{ℕ, ◌≡◌, ◌≢◌, ◌<◌, ◌==◌, Bool, false, List, [], Option, Some, None, length}
 use Rattle.std.specs.List.{count_by}
 use Rattle.usb_registry.specs.History.{value_at}
 use Rattle.usb_sysfs.specs.Tree.{Tree}
@@ -45,6 +45,6 @@ pub record IsSound (s : SessionState) : Type 0 where
   pub devices_counted : (key : ℕ) (o : OpenDevice) → value_at s.host.devices key ≡ Some o → count_by (is_device_of key) s.devices ≡ o.handles
   pub devices_held : DevicesAreHeld s.host
   pub interfaces_stand : (i : ℕ) (f : InterfaceState) → named s.interfaces i ≡ Some f → StandsInterface s.host f
-  pub interfaces_counted : (key : ℕ) (c : ClaimedInterface) → slice_get s.host.interfaces key ≡ Some c → count_by (is_handle_of key) s.interfaces ≡ c.handles
+  pub interfaces_counted : (key : ℕ) (c : ClaimedInterface) → value_at s.host.interfaces key ≡ Some c → count_by (is_handle_of key) s.interfaces ≡ c.handles
   pub endpoints_stand : (e : ℕ) (h : EndpointState) → named s.endpoints e ≡ Some h → Stands (bus_of s.host) h
   pub endpoints_differ : (d e : ℕ) (g h : EndpointState) → named s.endpoints d ≡ Some g → named s.endpoints e ≡ Some h → d ≢ e → g.key ≢ h.key
