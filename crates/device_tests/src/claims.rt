@@ -13,32 +13,6 @@ use std::process::Abort;
 use usb_device::{Bulk, Device, Error, Fail, Host, In, Interface, TicketEnd};
 use usb_error::Message;
 
-/// Why a device is not opened at an address of bus 1. It is closed again where it is opened.
-fn open_refusal(
-    alloc: Global,
-    host: &mut Host,
-    address: u8,
-) -> Result<Option<Message>, Fail<Error>> {
-    match Device::open_at(alloc, host, 1, address) {
-        Ok(device) => {
-            device.close(host);
-            Ok(None)
-        }
-        Err(error) => message_of(error),
-    }
-}
-
-pub fn expect_opens(rt: &impl Abort, alloc: Global, host: &mut Host) {
-    let elsewhere = open_refusal(alloc, host, 7);
-    assert!(rt; matches!(elsewhere, Ok(Some(Message::DeviceNotFound))));
-    assert!(rt; matches!(open_refusal(alloc, host, 6), Ok(None)));
-}
-
-#[test]
-fn opens_the_device_of_an_address(rt: HostRuntime) -> Result<(), std::test::Fail> {
-    expect(&rt, rt.alloc(), Case::Opens)
-}
-
 /// For how many open devices there is memory once the device was opened and closed this often.
 fn room_after(alloc: Global, host: &mut Host, times: u8) -> Result<usize, Fail<Error>> {
     for _ in 0..times {

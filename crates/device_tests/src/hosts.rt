@@ -1,7 +1,6 @@
 //! Hosts that the tests begin with, and their calls.
 
-ghost use Rattle.std.specs.Prelude.{◌≡◌, ◌≤◌, ◌+◌, length, IfOk};
-ghost use Rattle.usb_simulated.specs.Errnos.{IsErrno};
+ghost use Rattle.std.specs.Prelude.{◌≡◌, IfOk};
 ghost use Rattle.std.specs.List.{All};
 ghost use Rattle.usb_kernel.specs.Steps.{HasErrno};
 ghost use Rattle.usb_endpoint.specs.EndpointState.{EndpointState};
@@ -16,48 +15,15 @@ use usb_device::{
     Bulk, Bus, Completion, Device, Endpoint, Error, Fail, Host, In, Interface, KernelStep, NoMemory,
 };
 use usb_error::Message;
-use usb_kernel::{Bytes, KernelCall};
+use usb_kernel::Bytes;
 
-/// A device as it is plugged in: its descriptors, the code of its speed, the value of its active
-/// configuration and its kernel drivers.
-#[derive(Clone, Copy)]
-pub struct Plug {
-    pub descriptors: &'static [u8],
-    pub speed: u8,
-    pub configuration: u8,
-    pub drivers: &'static [u8],
-}
-
-/// A device of one interface and one setting.
-pub const PLAIN: Plug = Plug {
-    descriptors: &DEVICE,
-    speed: 3,
-    configuration: 1,
-    drivers: &[],
-};
-
-/// The descriptors of a device of two configurations. That of value 1 has interface 0 with two
-/// settings, each with bulk IN endpoint 0x81 of packets of 64 bytes, and that of value 2 has
-/// interface 1, with no endpoint.
-pub const SETTINGS: [u8; 77] = [
-    0x12, 0x01, 0x00, 0x02, 0x00, 0x00, 0x00, 0x40, 0xaa, 0xaa, 0xbb, 0xbb, 0x00, 0x01, 0x00, 0x00,
-    0x00, 0x02, 0x09, 0x02, 0x29, 0x00, 0x01, 0x01, 0x00, 0x80, 0x32, 0x09, 0x04, 0x00, 0x00, 0x01,
-    0xff, 0x00, 0x00, 0x00, 0x07, 0x05, 0x81, 0x02, 0x40, 0x00, 0x00, 0x09, 0x04, 0x00, 0x01, 0x01,
-    0xff, 0x00, 0x00, 0x00, 0x07, 0x05, 0x81, 0x02, 0x40, 0x00, 0x00, 0x09, 0x02, 0x12, 0x00, 0x01,
-    0x02, 0x00, 0x80, 0x32, 0x09, 0x04, 0x01, 0x00, 0x00, 0xff, 0x00, 0x00, 0x00,
-];
-
-/// A host of a kernel with device 0 at address 6 of bus 1, and the steps of a line. The kernel has
-/// places for three more.
-pub fn new_host(alloc: Global, plug: Plug, steps: Vec<KernelStep>) -> Result<Host, NoMemory>
+/// A host of a kernel with device 0 at address 6 of bus 1, and the steps of a line.
+pub fn new_host(alloc: Global, steps: Vec<KernelStep>) -> Result<Host, NoMemory>
     requires errnos { All HasErrno steps.items }
-    ensures room { IfOk result (λ host. length host.steps + 3 ≤ host.kernel.spare) }
 {
-    let mut device = device(alloc, 6, plug.descriptors, plug.drivers)?;
-    device.speed = plug.speed;
-    device.config = plug.configuration;
+    let device = device(alloc, 6, &DEVICE, &[])?;
     let mut kernel = kernel_with(alloc, device)?;
-    kernel.reserve(steps.len() + 3)?;
+    kernel.reserve(steps.len())?;
     let mut host = Host::new(alloc, kernel);
     host.lend_steps(steps);
     Ok(host)
@@ -80,18 +46,6 @@ pub fn reap(ticket: u64) -> KernelStep
 {
     KernelStep::Reap {
         ticket: Some(ticket),
-    }
-}
-
-/// The next call of a kind on device 0 is refused with an errno.
-pub fn refuse(call: KernelCall, errno: u16) -> KernelStep
-    requires errno { IsErrno errno }
-    ensures errno { HasErrno result }
-{
-    KernelStep::Refuse {
-        device: 0,
-        call,
-        errno,
     }
 }
 

@@ -1,12 +1,10 @@
 //! Tests of the host, of what is opened at it, and of transfers there: the crate `usb_device`.
 //!
+//! What calls answer is asked by whole scripts too, of the crate `nusb_sim`.
+//!
 //! A function that owns a host is slow to prove, so one does, and lends it to the others.
 #![tactic(auto)]
 
-#[cfg(test)]
-mod answers;
-#[cfg(test)]
-mod calls;
 #[cfg(test)]
 mod cases;
 #[cfg(test)]

@@ -82,3 +82,67 @@ const WAITS: [(&str, &str, &str); 3] = [
 fn answers_waits_by_the_steps_of_their_lines(rt: HostRuntime) -> Result<(), Fail> {
     expect_rows(&rt, rt.alloc(), &[], OPENED, WAITS.as_slice())
 }
+
+/// Orders of reaps, and what other endpoints, closes, waits and unplugs leave.
+const ORDERS: [(&str, &str, &str); 11] = [
+    (
+        "reaps of tickets 0, 1, 2",
+        "submitin e0 64\nsubmitin e0 64\nsubmitin e0 64\n! pkt k0 81 01 ; pkt k0 81 0102 ; pkt k0 81 010203\n! reap 0\npoll e0\n! reap 1\npoll e0\n! reap 2\npoll e0\npoll e0\npoll e0\n",
+        "ok\nok\nok\ndone ok 1 64 01\ndone ok 2 64 0102\ndone ok 3 64 010203\ncondition\ncondition\nticket 0 k0 81 ok 1 taken\nticket 1 k0 81 ok 2 taken\nticket 2 k0 81 ok 3 taken\n",
+    ),
+    (
+        "reaps of tickets 0, 2, 1",
+        "submitin e0 64\nsubmitin e0 64\nsubmitin e0 64\n! pkt k0 81 01 ; pkt k0 81 0102 ; pkt k0 81 010203\n! reap 0\npoll e0\n! reap 2\npoll e0\n! reap 1\npoll e0\npoll e0\npoll e0\n",
+        "ok\nok\nok\ndone ok 1 64 01\npending\ndone ok 2 64 0102\ndone ok 3 64 010203\ncondition\nticket 0 k0 81 ok 1 taken\nticket 1 k0 81 ok 2 taken\nticket 2 k0 81 ok 3 taken\n",
+    ),
+    (
+        "reaps of tickets 1, 0, 2",
+        "submitin e0 64\nsubmitin e0 64\nsubmitin e0 64\n! pkt k0 81 01 ; pkt k0 81 0102 ; pkt k0 81 010203\n! reap 1\npoll e0\n! reap 0\npoll e0\n! reap 2\npoll e0\npoll e0\npoll e0\n",
+        "ok\nok\nok\npending\ndone ok 1 64 01\ndone ok 2 64 0102\ndone ok 3 64 010203\ncondition\nticket 0 k0 81 ok 1 taken\nticket 1 k0 81 ok 2 taken\nticket 2 k0 81 ok 3 taken\n",
+    ),
+    (
+        "reaps of tickets 1, 2, 0",
+        "submitin e0 64\nsubmitin e0 64\nsubmitin e0 64\n! pkt k0 81 01 ; pkt k0 81 0102 ; pkt k0 81 010203\n! reap 1\npoll e0\n! reap 2\npoll e0\n! reap 0\npoll e0\npoll e0\npoll e0\n",
+        "ok\nok\nok\npending\npending\ndone ok 1 64 01\ndone ok 2 64 0102\ndone ok 3 64 010203\nticket 0 k0 81 ok 1 taken\nticket 1 k0 81 ok 2 taken\nticket 2 k0 81 ok 3 taken\n",
+    ),
+    (
+        "reaps of tickets 2, 0, 1",
+        "submitin e0 64\nsubmitin e0 64\nsubmitin e0 64\n! pkt k0 81 01 ; pkt k0 81 0102 ; pkt k0 81 010203\n! reap 2\npoll e0\n! reap 0\npoll e0\n! reap 1\npoll e0\npoll e0\npoll e0\n",
+        "ok\nok\nok\npending\ndone ok 1 64 01\ndone ok 2 64 0102\ndone ok 3 64 010203\ncondition\nticket 0 k0 81 ok 1 taken\nticket 1 k0 81 ok 2 taken\nticket 2 k0 81 ok 3 taken\n",
+    ),
+    (
+        "reaps of tickets 2, 1, 0",
+        "submitin e0 64\nsubmitin e0 64\nsubmitin e0 64\n! pkt k0 81 01 ; pkt k0 81 0102 ; pkt k0 81 010203\n! reap 2\npoll e0\n! reap 1\npoll e0\n! reap 0\npoll e0\npoll e0\npoll e0\n",
+        "ok\nok\nok\npending\npending\ndone ok 1 64 01\ndone ok 2 64 0102\ndone ok 3 64 010203\nticket 0 k0 81 ok 1 taken\nticket 1 k0 81 ok 2 taken\nticket 2 k0 81 ok 3 taken\n",
+    ),
+    (
+        "a close leaves the transfers of another endpoint",
+        "endpoint e1 i0 02 bulk-out\nsubmitin e0 64\nsubmitout e1 -\nclose e1\npending e0\npoll e0\n! pkt k0 81 0102 ; reap 0\npoll e0\n",
+        "ok\nok\nok\nok\ncount 1\npending\ndone ok 2 64 0102\nticket 0 k0 81 ok 2 taken\nticket 1 k0 02 cancelled 0 reclaimed\n",
+    ),
+    (
+        "an endpoint is in use until its last ticket is reaped",
+        "submitin e0 64\nsubmitin e0 64\nsubmitin e0 64\n! pkt k0 81 01 ; pkt k0 81 0102 ; reap 0\nclose e0\nendpoint e0 i0 81 bulk-in\n! reap 2\nendpoint e0 i0 81 bulk-in\n! reap 1\nendpoint e0 i0 81 bulk-in\n",
+        "ok\nok\nok\nok\nerror Busy endpoint already in use\nerror Busy endpoint already in use\nok\nticket 0 k0 81 ok 1 dropped\nticket 1 k0 81 ok 2 reclaimed\nticket 2 k0 81 cancelled 0 reclaimed\n",
+    ),
+    (
+        "a wait of time zero only looks",
+        "submitin e0 64\n! pkt k0 81 0102\nwait e0 0\nwait e0 1\n",
+        "ok\nnone\ndone ok 2 64 0102\nticket 0 k0 81 ok 2 taken\n",
+    ),
+    (
+        "one transfer has its packet, and the device goes",
+        "submitin e0 64\nsubmitin e0 64\n! pkt k0 81 01 ; unplug k0 ; reap 0 ; reap 1\npoll e0\npoll e0\nsubmitin e0 64\npoll e0\n",
+        "ok\nok\ndone ok 1 64 01\ndone disconnected 0 64 -\nok\ndone disconnected 0 64 -\nticket 0 k0 81 ok 1 taken\nticket 1 k0 81 disconnected 0 taken\nticket 2 k0 81 disconnected 0 taken\n",
+    ),
+    (
+        "a blocking transfer that times out is cancelled",
+        "xferin e0 64 5 : clock 5\npending e0\n",
+        "done cancelled 0 64 -\ncount 0\nticket 0 k0 81 cancelled 0 taken\n",
+    ),
+];
+
+#[test]
+fn completions_come_in_order_of_submission(rt: HostRuntime) -> Result<(), Fail> {
+    expect_rows(&rt, rt.alloc(), &[], OPENED, ORDERS.as_slice())
+}

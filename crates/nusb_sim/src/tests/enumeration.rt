@@ -149,11 +149,7 @@ const READINGS: [(&str, &str, &str); 30] = [
         "attr /sys/devices/pci0/usb1/1-6 busnum 30303030303030303030303031300a\nattr /sys/devices/pci0/usb1/1-6 idVendor 30303030303030303030303031300a\nprobe /sys/devices/pci0/usb1/1-6\n",
         "info 10 6 6 0010 bbbb 0100 0200 00 00 00 High none 426f78 none 0:ff:00:00:none\n",
     ),
-    (
-        "the root folder",
-        "probe /\n",
-        "sysfs /busnum io 2\n",
-    ),
+    ("the root folder", "probe /\n", "sysfs /busnum io 2\n"),
     (
         "a number behind a space",
         "attr / busnum 20323536\nprobe /\n",
