@@ -1,6 +1,6 @@
 //! The session.
 
-ghost use Rattle.std.specs.Prelude.{◌≡◌, IfOk};
+ghost use Rattle.std.specs.Prelude.{◌≡◌, IfOk, replicate, None};
 ghost use Rattle.std.specs.List.{filter_map};
 ghost use Rattle.usb_script.specs.ItemKinds.{place_count};
 ghost use Rattle.usb_answers.specs.Output.{driver_of_item, device_of_item, devices_of, start};
@@ -138,6 +138,42 @@ fn host_with(alloc: Global, items: &[Item], places: usize) -> Result<Host, NoMem
     Ok(Host::new(alloc, kernel))
 }
 
+/// What is open under each name, by the kind of name.
+struct Names {
+    devices: Vec<Option<Device>>,
+    interfaces: Vec<Option<Interface>>,
+    endpoints: Vec<Option<AnyEndpoint>>,
+}
+
+/// Names of each kind under which nothing is open.
+fn all_names(alloc: Global) -> Result<Names, NoMemory>
+    ensures devices { IfOk result (λ n. n.devices.items ≡ replicate 64 None) }
+    ensures interfaces { IfOk result (λ n. n.interfaces.items ≡ replicate 64 None) }
+    ensures endpoints { IfOk result (λ n. n.endpoints.items ≡ replicate 64 None) }
+{
+    let devices = no_names(alloc)?;
+    let interfaces = match no_names(alloc) {
+        Ok(names) => names,
+        Err(error) => {
+            drop_names(devices);
+            return Err(error);
+        }
+    };
+    let endpoints = match no_names(alloc) {
+        Ok(names) => names,
+        Err(error) => {
+            drop_names(devices);
+            drop_names(interfaces);
+            return Err(error);
+        }
+    };
+    Ok(Names {
+        devices,
+        interfaces,
+        endpoints,
+    })
+}
+
 impl Session {
     /// A session over the devices that these items declare, with room for their steps and resets, of which there are so many.
     pub fn new(alloc: Global, items: &[Item], places: usize) -> Result<Session, NoMemory>
@@ -145,22 +181,20 @@ impl Session {
         ensures stands { IfOk result (λ s. Represents s (start items.now)) }
         ensures spare { IfOk result (λ s. s.host.kernel.spare ≡ places) }
     {
-        let tree = tree_of(alloc, items)?;
-        let packets = packets_of(alloc, items)?;
         let host = host_with(alloc, items, places)?;
-        let devices = no_names(alloc)?;
-        let interfaces = match no_names(alloc) {
-            Ok(names) => names,
-            Err(error) => {
-                drop_names(devices);
-                return Err(error);
-            }
-        };
-        let endpoints = match no_names(alloc) {
-            Ok(names) => names,
+        let packets = packets_of(alloc, items)?;
+        let names = all_names(alloc)?;
+        let Names {
+            devices,
+            interfaces,
+            endpoints,
+        } = names;
+        let tree = match tree_of(alloc, items) {
+            Ok(tree) => tree,
             Err(error) => {
                 drop_names(devices);
                 drop_names(interfaces);
+                drop_names(endpoints);
                 return Err(error);
             }
         };

@@ -1,0 +1,13 @@
+use Rattle.std.proofs.Common.{◌∙◌, ap}
+use Rattle.usb_answers.specs.Names.{named}
+use Rattle.usb_answers.proofs.NameLemmas.{named-replicate}
+use Rattle.usb_answers.proofs.session.all_names.Goals as goal
+
+pub drop_names-requires : goal.drop_names-requires
+drop_names-requires c = record { none = λ n. ap (λ l. named l n) c.in_ok-devices.ensures.empty ∙ named-replicate 64 n }
+
+pub drop_names-requires-in-Err-no_names : goal.drop_names-requires-in-Err-no_names
+drop_names-requires-in-Err-no_names c = record { none = λ n. ap (λ l. named l n) c.in_ok-devices.ensures.empty ∙ named-replicate 64 n }
+
+pub drop_names-requires-in-Err-no_names-2 : goal.drop_names-requires-in-Err-no_names-2
+drop_names-requires-in-Err-no_names-2 c = record { none = λ n. ap (λ l. named l n) c.in-Ok.ensures.empty ∙ named-replicate 64 n }
