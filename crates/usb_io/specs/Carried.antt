@@ -75,7 +75,7 @@ abbrev pub full_bytes : ℕ → List ℕ → List (List ℕ)
 full_bytes size c = if length c == size then c ∷ [] else []
 
 -- what a write that answered counts as
-abbrev pub written_calls : List ℕ → Result ℕ (Fail WriteFault) → List Call
+abbrev pub written_calls : {E : Type 0} → List ℕ → Result ℕ E → List Call
 written_calls src (Ok n) = Accept (take n src) ∷ []
 written_calls src (Err e) = []
 

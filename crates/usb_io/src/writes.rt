@@ -3,11 +3,10 @@
 ghost use Rattle.std.specs.Prelude.{◌≡◌, ◌+◌, ◌<◌, ◌≤◌, ◌++◌, [], true, false, length, take, unwrap_or, None, IfOk, IfErr, OnOk, OnErr};
 ghost use Rattle.usb_endpoint.specs.Handles.{Stands, KeepsOthers};
 ghost use Rattle.usb_endpoint.specs.Polls.{IfReady, IfPending};
-ghost use Rattle.usb_io.specs.Answers.{FailsBy};
 ghost use Rattle.usb_io.specs.Reads.{bus_calls};
-ghost use Rattle.usb_io.specs.Fronts.{waits_on, DrainedAll, DrainMissed, DrainFault};
-ghost use Rattle.usb_io.specs.Writers.{writing, out_buffer, not_begun, sent, sent_end, end_need, EndShort};
-ghost use Rattle.usb_io.specs.WriteAnswers.{accepts, accepted_count, AcceptsNone, Wrote, IsWriteError, IsWrittenInTime, begun_end, PolledEnd, PolledEndFailed, PolledEndShort};
+ghost use Rattle.usb_io.specs.Fronts.{waits_on};
+ghost use Rattle.usb_io.specs.Writers.{writing, out_buffer, end_need};
+ghost use Rattle.usb_io.specs.WriteAnswers.{accepts, accepted_count, AcceptsNone, Wrote, IsWriteError, WritePending, IsWrittenInTime, Flushed, IsFlushError, FlushPending, FlushedEnd, IsFlushEndError, PolledEnd, IsPollEndError, EndPending};
 ghost use Rattle.usb_io.specs.Carried.{CarriesOn, full_bytes, written_calls, poll_written_calls, flushed_calls, poll_flushed_calls, TellsOn, TellsEnd, TellsPolledEnd};
 
 use crate::fault::WriteFault;
@@ -142,8 +141,8 @@ impl<T: BulkOrInterrupt> EndpointWrite<T> {
             0 (writing bus.old self.old) (writing bus.new self.new))) }
         ensures in_time { IfReady result (λ r. IfErr r IsWrittenInTime) }
         ensures pending { IfPending result
-            (DrainMissed (bus_calls B.state B.submitted B.refused B.turned B.turn_of B.taken) false
-            0 (not_begun (writing bus.old self.old)) (writing bus.new self.new)) }
+            (WritePending (bus_calls B.state B.submitted B.refused B.turned B.turn_of B.taken)
+            (writing bus.old self.old) (writing bus.new self.new)) }
         ensures tells { TellsOn (B.state bus.old) (B.state bus.new) self.old self.new
             (poll_written_calls src.now result) }
         ensures key { self.new.endpoint.key ≡ self.old.endpoint.key }
@@ -161,16 +160,11 @@ impl<T: BulkOrInterrupt> EndpointWrite<T> {
     fn flush_within<B: Bus>(&mut self, bus: &mut B, timeout: u64) -> Result<(), Fail<WriteFault>>
         requires stands { Stands (B.state bus.old) self.old.endpoint }
         ensures ok { OnOk result
-            (DrainedAll (bus_calls B.state B.submitted B.refused B.turned B.turn_of B.taken) true
-            timeout (sent (bus_calls B.state B.submitted B.refused B.turned B.turn_of B.taken)
-            self.old.buffer (not_begun (writing bus.old self.old))) (writing bus.new self.new)) }
+            (Flushed (bus_calls B.state B.submitted B.refused B.turned B.turn_of B.taken)
+            timeout (writing bus.old self.old) (writing bus.new self.new)) }
         ensures failed { IfErr result
-            (λ e. FailsBy e
-            (DrainFault (bus_calls B.state B.submitted B.refused B.turned B.turn_of B.taken)
-            true timeout
-            (sent (bus_calls B.state B.submitted B.refused B.turned B.turn_of B.taken)
-            self.old.buffer (not_begun (writing bus.old self.old))) (writing bus.new self.new))
-            (writing bus.new self.new ≡ not_begun (writing bus.old self.old))) }
+            (IsFlushError (bus_calls B.state B.submitted B.refused B.turned B.turn_of B.taken)
+            timeout (writing bus.old self.old) (writing bus.new self.new)) }
         ensures tells { TellsOn (B.state bus.old) (B.state bus.new) self.old self.new
             (flushed_calls result) }
         ensures key { self.new.endpoint.key ≡ self.old.endpoint.key }
@@ -196,17 +190,11 @@ impl<T: BulkOrInterrupt> EndpointWrite<T> {
     pub fn flush<B: Bus>(&mut self, bus: &mut B) -> Result<(), Fail<WriteFault>>
         requires stands { Stands (B.state bus.old) self.old.endpoint }
         ensures ok { OnOk result
-            (DrainedAll (bus_calls B.state B.submitted B.refused B.turned B.turn_of B.taken) true
-            self.old.timeout
-            (sent (bus_calls B.state B.submitted B.refused B.turned B.turn_of B.taken)
-            self.old.buffer (not_begun (writing bus.old self.old))) (writing bus.new self.new)) }
+            (Flushed (bus_calls B.state B.submitted B.refused B.turned B.turn_of B.taken)
+            self.old.timeout (writing bus.old self.old) (writing bus.new self.new)) }
         ensures failed { IfErr result
-            (λ e. FailsBy e
-            (DrainFault (bus_calls B.state B.submitted B.refused B.turned B.turn_of B.taken)
-            true self.old.timeout
-            (sent (bus_calls B.state B.submitted B.refused B.turned B.turn_of B.taken)
-            self.old.buffer (not_begun (writing bus.old self.old))) (writing bus.new self.new))
-            (writing bus.new self.new ≡ not_begun (writing bus.old self.old))) }
+            (IsFlushError (bus_calls B.state B.submitted B.refused B.turned B.turn_of B.taken)
+            self.old.timeout (writing bus.old self.old) (writing bus.new self.new)) }
         ensures tells { TellsOn (B.state bus.old) (B.state bus.new) self.old self.new
             (flushed_calls result) }
         ensures key { self.new.endpoint.key ≡ self.old.endpoint.key }
@@ -222,21 +210,16 @@ impl<T: BulkOrInterrupt> EndpointWrite<T> {
         requires stands { Stands (B.state bus.old) self.old.endpoint }
         ensures ok { IfReady result
             (λ r. OnOk r
-            (DrainedAll (bus_calls B.state B.submitted B.refused B.turned B.turn_of B.taken)
-            true 0 (sent (bus_calls B.state B.submitted B.refused B.turned B.turn_of B.taken)
-            self.old.buffer (not_begun (writing bus.old self.old)))
-            (writing bus.new self.new))) }
+            (Flushed (bus_calls B.state B.submitted B.refused B.turned B.turn_of B.taken)
+            0 (writing bus.old self.old) (writing bus.new self.new))) }
         ensures failed { IfReady result
-            (λ r. IfErr r (λ e. FailsBy e
-            (DrainFault (bus_calls B.state B.submitted B.refused B.turned B.turn_of B.taken)
-            true 0 (sent (bus_calls B.state B.submitted B.refused B.turned B.turn_of B.taken)
-            self.old.buffer (not_begun (writing bus.old self.old))) (writing bus.new self.new))
-            (writing bus.new self.new ≡ not_begun (writing bus.old self.old)))) }
+            (λ r. IfErr r
+            (IsFlushError (bus_calls B.state B.submitted B.refused B.turned B.turn_of B.taken)
+            0 (writing bus.old self.old) (writing bus.new self.new))) }
         ensures in_time { IfReady result (λ r. IfErr r IsWrittenInTime) }
         ensures pending { IfPending result
-            (DrainMissed (bus_calls B.state B.submitted B.refused B.turned B.turn_of B.taken) true 0
-            (sent (bus_calls B.state B.submitted B.refused B.turned B.turn_of B.taken)
-            self.old.buffer (not_begun (writing bus.old self.old))) (writing bus.new self.new)) }
+            (FlushPending (bus_calls B.state B.submitted B.refused B.turned B.turn_of B.taken)
+            (writing bus.old self.old) (writing bus.new self.new)) }
         ensures tells { TellsOn (B.state bus.old) (B.state bus.new) self.old self.new
             (poll_flushed_calls result) }
         ensures key { self.new.endpoint.key ≡ self.old.endpoint.key }
@@ -261,19 +244,11 @@ impl<T: BulkOrInterrupt> EndpointWrite<T> {
             + end_need self.old.endpoint.maximum self.old.buffer ≤ 64 }
         requires stands { Stands (B.state bus.old) self.old.endpoint }
         ensures ok { OnOk result
-            (DrainedAll (bus_calls B.state B.submitted B.refused B.turned B.turn_of B.taken) true
-            self.old.timeout
-            (sent_end (bus_calls B.state B.submitted B.refused B.turned B.turn_of B.taken)
-            self.old.buffer (not_begun (writing bus.old self.old))) (writing bus.new self.new)) }
+            (FlushedEnd (bus_calls B.state B.submitted B.refused B.turned B.turn_of B.taken)
+            self.old.timeout (writing bus.old self.old) (writing bus.new self.new)) }
         ensures failed { IfErr result
-            (λ e. FailsBy e
-            (DrainFault (bus_calls B.state B.submitted B.refused B.turned B.turn_of B.taken)
-            true self.old.timeout
-            (sent_end (bus_calls B.state B.submitted B.refused B.turned B.turn_of B.taken)
-            self.old.buffer (not_begun (writing bus.old self.old))) (writing bus.new self.new))
-            (EndShort (bus_calls B.state B.submitted B.refused B.turned B.turn_of B.taken)
-            self.old.buffer (not_begun (writing bus.old self.old))
-            (writing bus.new self.new))) }
+            (IsFlushEndError (bus_calls B.state B.submitted B.refused B.turned B.turn_of B.taken)
+            self.old.timeout (writing bus.old self.old) (writing bus.new self.new)) }
         ensures tells { TellsEnd (B.state bus.old) (B.state bus.new) self.old self.new result }
         ensures key { self.new.endpoint.key ≡ self.old.endpoint.key }
         ensures stands { Stands (B.state bus.new) self.new.endpoint }
@@ -300,16 +275,13 @@ impl<T: BulkOrInterrupt> EndpointWrite<T> {
             (PolledEnd (bus_calls B.state B.submitted B.refused B.turned B.turn_of B.taken)
             (writing bus.old self.old) (writing bus.new self.new))) }
         ensures failed { IfReady result
-            (λ r. IfErr r (λ e. FailsBy e
-            (PolledEndFailed (bus_calls B.state B.submitted B.refused B.turned B.turn_of B.taken)
-            (writing bus.old self.old) (writing bus.new self.new))
-            (PolledEndShort (bus_calls B.state B.submitted B.refused B.turned B.turn_of B.taken)
-            (writing bus.old self.old) (writing bus.new self.new)))) }
+            (λ r. IfErr r
+            (IsPollEndError (bus_calls B.state B.submitted B.refused B.turned B.turn_of B.taken)
+            (writing bus.old self.old) (writing bus.new self.new))) }
         ensures in_time { IfReady result (λ r. IfErr r IsWrittenInTime) }
         ensures pending { IfPending result
-            (DrainMissed (bus_calls B.state B.submitted B.refused B.turned B.turn_of B.taken) true 0
-            (begun_end (bus_calls B.state B.submitted B.refused B.turned B.turn_of B.taken)
-            (writing bus.old self.old)) (writing bus.new self.new)) }
+            (EndPending (bus_calls B.state B.submitted B.refused B.turned B.turn_of B.taken)
+            (writing bus.old self.old) (writing bus.new self.new)) }
         ensures tells { TellsPolledEnd (B.state bus.old) (B.state bus.new) self.old self.new
             result }
         ensures key { self.new.endpoint.key ≡ self.old.endpoint.key }
