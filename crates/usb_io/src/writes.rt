@@ -264,8 +264,9 @@ impl<T: BulkOrInterrupt> EndpointWrite<T> {
         }
     }
 
-    /// `flush_end`, which is pending where the front is not there. The polls up to one that is ready
-    /// submit one end in all, unless another writing, submitting or flushing call comes between.
+    /// `flush_end`, which is pending where the front is not there. The polls up to one that is
+    /// ready submit one end in all, unless another writing, submitting or flushing call comes
+    /// between.
     pub fn poll_flush_end<B: Bus>(&mut self, bus: &mut B) -> Poll<Result<(), Fail<WriteFault>>>
         requires few { self.old.begun ≡ false → length self.old.endpoint.pending
             + end_need self.old.endpoint.maximum self.old.buffer ≤ 64 }
