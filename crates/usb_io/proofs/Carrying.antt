@@ -18,7 +18,7 @@ use Rattle.usb_endpoint.specs.EndpointState.{EndpointState, route_of}
 use Rattle.usb_endpoint.specs.Submits.{Enters}
 use Rattle.usb_io.specs.Readers.{no_bytes}
 use Rattle.usb_io.specs.Reads.{BusCalls}
-use Rattle.usb_io.specs.Writers.{WriterState, Writing, writing, out_buffer, empty_buffer, send, sent, sent_end, kept_buffer, with_taken}
+use Rattle.usb_io.specs.Writers.{WriterState, Writing, writing, out_buffer, empty_buffer, send, sent, sent_end, kept_buffer, with_taken, KeepsWriter}
 use Rattle.usb_io.specs.WriteAnswers.{accepted, accepted_count, accepts, AcceptsNone}
 use Rattle.usb_io.specs.Writes.{Call, Accept, Flush, Finish, Written, written, flushes, ending, accepts as accepts_of}
 use Rattle.usb_io.specs.Carried.{Carries, AllCarry, HandleCarries, CarriesOn, TellsOn, TellsShort, sent_bytes, ended_bytes, full_bytes}
@@ -264,3 +264,15 @@ not-full w b c src n free len size fresh after count room measured same apart is
 pub none-sent : (bytes : List ℕ) → true ≡ (length bytes == 0) → sent_bytes (Some bytes) ≡ []
 none-sent [] empty = refl
 none-sent (b ∷ bytes) empty = absurd (let none : length (b ∷ bytes) ≡ 0 = eqb-true (length (b ∷ bytes)) 0 (sym empty) in omega arith)
+
+-- what was set stays
+pub keeps_same : (w : WriterState) → KeepsWriter w w
+keeps_same w = record { n = refl; size = refl; timeout = refl; endpoint = refl }
+
+pub keeps_trans : (r s t : WriterState) → KeepsWriter r s → KeepsWriter s t → KeepsWriter r t
+keeps_trans r s t one two = record {
+  n = two.n ∙ one.n;
+  size = two.size ∙ one.size;
+  timeout = two.timeout ∙ one.timeout;
+  endpoint = two.endpoint ∙ ap (λ (e : EndpointState). record e { pending = t.endpoint.pending }) one.endpoint;
+}

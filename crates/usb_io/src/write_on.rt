@@ -28,7 +28,7 @@ impl<'a, T: BulkOrInterrupt, B: Bus> WriteOn<'a, T, B> {
     ghost use Rattle.std.specs.Prelude.{◌≡◌, IfOk, IfErr, OnOk};
     ghost use Rattle.std.specs.Io.{WritesAtMost};
     ghost use Rattle.usb_io.specs.Reads.{bus_calls};
-    ghost use Rattle.usb_io.specs.Writers.{writing};
+    ghost use Rattle.usb_io.specs.Writers.{writing, KeepsWriter};
     ghost use Rattle.usb_io.specs.WriteAnswers.{Wrote, IsWriteError, Flushed, IsFlushError};
     ghost use Rattle.usb_io.specs.Carried.{written_calls, flushed_calls, TellsOn};
     ghost use Rattle.usb_io.specs.StdErrors.{IsStdWriteError, IsStdFlushError, TellsStdFlush};
@@ -47,6 +47,7 @@ impl<'a, T: BulkOrInterrupt, B: Bus> WriteOn<'a, T, B> {
             (writing self.new.bus.now self.new.writer.now)) }
         ensures tells { TellsOn (B.state self.old.bus.now) (B.state self.new.bus.now)
             self.old.writer.now self.new.writer.now (written_calls src.now result) }
+        ensures settings { KeepsWriter self.old.writer.now self.new.writer.now }
     {
         self.writer.write(&mut *self.bus, src)
     }
@@ -66,6 +67,7 @@ impl<'a, T: BulkOrInterrupt, B: Bus> WriteOn<'a, T, B> {
             (writing self.new.bus.now self.new.writer.now)) }
         ensures tells { TellsOn (B.state self.old.bus.now) (B.state self.new.bus.now)
             self.old.writer.now self.new.writer.now (written_calls src.now result) }
+        ensures settings { KeepsWriter self.old.writer.now self.new.writer.now }
     {
         match self.write_some(src) {
             Ok(n) => Ok(n),
@@ -87,6 +89,7 @@ impl<'a, T: BulkOrInterrupt, B: Bus> WriteOn<'a, T, B> {
             (writing self.new.bus.now self.new.writer.now)) }
         ensures tells { TellsOn (B.state self.old.bus.now) (B.state self.new.bus.now)
             self.old.writer.now self.new.writer.now (flushed_calls result) }
+        ensures settings { KeepsWriter self.old.writer.now self.new.writer.now }
     {
         self.writer.flush(&mut *self.bus)
     }
@@ -105,6 +108,7 @@ impl<'a, T: BulkOrInterrupt, B: Bus> WriteOn<'a, T, B> {
             (writing self.new.bus.now self.new.writer.now)) }
         ensures tells { TellsStdFlush (B.state self.old.bus.now) (B.state self.new.bus.now)
             self.old.writer.now self.new.writer.now result }
+        ensures settings { KeepsWriter self.old.writer.now self.new.writer.now }
     {
         match self.flush_some() {
             Ok(()) => Ok(()),
@@ -129,7 +133,7 @@ impl<'a, B: Bus> Write for WriteOn<'a, Bulk, B> {
     ghost use Rattle.std.specs.Io.{WritesAtMost};
     ghost use Rattle.std.specs.Io.KnownBytes.{WriteAppends, Keeps};
     ghost use Rattle.usb_io.specs.Reads.{bus_calls};
-    ghost use Rattle.usb_io.specs.Writers.{writing};
+    ghost use Rattle.usb_io.specs.Writers.{writing, KeepsWriter};
     ghost use Rattle.usb_io.specs.WriteAnswers.{Wrote, Flushed};
     ghost use Rattle.usb_io.specs.Carried.{written_calls, TellsOn};
     ghost use Rattle.usb_io.specs.StdErrors.{IsStdWriteError, IsStdFlushError, TellsStdFlush};
@@ -149,6 +153,7 @@ impl<'a, B: Bus> Write for WriteOn<'a, Bulk, B> {
             (writing self.new.bus.now self.new.writer.now)) }
         ensures tells { TellsOn (B.state self.old.bus.now) (B.state self.new.bus.now)
             self.old.writer.now self.new.writer.now (written_calls buf.now result) }
+        ensures settings { KeepsWriter self.old.writer.now self.new.writer.now }
     {
         self.write_std(buf)
     }
@@ -167,6 +172,7 @@ impl<'a, B: Bus> Write for WriteOn<'a, Bulk, B> {
             (writing self.new.bus.now self.new.writer.now)) }
         ensures tells { TellsStdFlush (B.state self.old.bus.now) (B.state self.new.bus.now)
             self.old.writer.now self.new.writer.now result }
+        ensures settings { KeepsWriter self.old.writer.now self.new.writer.now }
     {
         self.flush_std()
     }
@@ -177,7 +183,7 @@ impl<'a, B: Bus> Write for WriteOn<'a, Interrupt, B> {
     ghost use Rattle.std.specs.Io.{WritesAtMost};
     ghost use Rattle.std.specs.Io.KnownBytes.{WriteAppends, Keeps};
     ghost use Rattle.usb_io.specs.Reads.{bus_calls};
-    ghost use Rattle.usb_io.specs.Writers.{writing};
+    ghost use Rattle.usb_io.specs.Writers.{writing, KeepsWriter};
     ghost use Rattle.usb_io.specs.WriteAnswers.{Wrote, Flushed};
     ghost use Rattle.usb_io.specs.Carried.{written_calls, TellsOn};
     ghost use Rattle.usb_io.specs.StdErrors.{IsStdWriteError, IsStdFlushError, TellsStdFlush};
@@ -197,6 +203,7 @@ impl<'a, B: Bus> Write for WriteOn<'a, Interrupt, B> {
             (writing self.new.bus.now self.new.writer.now)) }
         ensures tells { TellsOn (B.state self.old.bus.now) (B.state self.new.bus.now)
             self.old.writer.now self.new.writer.now (written_calls buf.now result) }
+        ensures settings { KeepsWriter self.old.writer.now self.new.writer.now }
     {
         self.write_std(buf)
     }
@@ -215,6 +222,7 @@ impl<'a, B: Bus> Write for WriteOn<'a, Interrupt, B> {
             (writing self.new.bus.now self.new.writer.now)) }
         ensures tells { TellsStdFlush (B.state self.old.bus.now) (B.state self.new.bus.now)
             self.old.writer.now self.new.writer.now result }
+        ensures settings { KeepsWriter self.old.writer.now self.new.writer.now }
     {
         self.flush_std()
     }

@@ -5,7 +5,7 @@ ghost use Rattle.usb_endpoint.specs.Handles.{Stands, KeepsOthers};
 ghost use Rattle.usb_endpoint.specs.Polls.{IfReady, IfPending};
 ghost use Rattle.usb_io.specs.Reads.{bus_calls};
 ghost use Rattle.usb_io.specs.Fronts.{waits_on};
-ghost use Rattle.usb_io.specs.Writers.{writing, out_buffer, end_need};
+ghost use Rattle.usb_io.specs.Writers.{writing, out_buffer, end_need, KeepsWriter};
 ghost use Rattle.usb_io.specs.WriteAnswers.{accepts, accepted_count, AcceptsNone, Wrote, IsWriteError, WritePending, IsWrittenInTime, Flushed, IsFlushError, FlushPending, FlushedEnd, IsFlushEndError, PolledEnd, IsPollEndError, EndPending};
 ghost use Rattle.usb_io.specs.Carried.{CarriesOn, full_bytes, written_calls, poll_written_calls, flushed_calls, poll_flushed_calls, TellsOn, TellsEnd, TellsPolledEnd};
 
@@ -47,6 +47,7 @@ impl<T: BulkOrInterrupt> EndpointWrite<T> {
             ++ take (accepted_count src.now self.old) src.now))) }
         ensures none { OnErr result
             (AcceptsNone (writing bus.old self.old) (writing bus.new self.new)) }
+        ensures settings { KeepsWriter self.old self.new }
         ensures stands { Stands (B.state bus.new) self.new.endpoint }
         ensures others { KeepsOthers (B.state bus.old) (B.state bus.new) self.old.endpoint.key }
     {
@@ -85,6 +86,7 @@ impl<T: BulkOrInterrupt> EndpointWrite<T> {
         ensures tells { TellsOn (B.state bus.old) (B.state bus.new) self.old self.new
             (written_calls src.now result) }
         ensures key { self.new.endpoint.key ≡ self.old.endpoint.key }
+        ensures settings { KeepsWriter self.old self.new }
         ensures stands { Stands (B.state bus.new) self.new.endpoint }
         ensures others { KeepsOthers (B.state bus.old) (B.state bus.new) self.old.endpoint.key }
     {
@@ -116,7 +118,7 @@ impl<T: BulkOrInterrupt> EndpointWrite<T> {
             self.old.timeout (writing bus.old self.old) (writing bus.new self.new)) }
         ensures tells { TellsOn (B.state bus.old) (B.state bus.new) self.old self.new
             (written_calls src.now result) }
-        ensures key { self.new.endpoint.key ≡ self.old.endpoint.key }
+        ensures settings { KeepsWriter self.old self.new }
         ensures stands { Stands (B.state bus.new) self.new.endpoint }
         ensures others { KeepsOthers (B.state bus.old) (B.state bus.new) self.old.endpoint.key }
     {
@@ -145,7 +147,7 @@ impl<T: BulkOrInterrupt> EndpointWrite<T> {
             (writing bus.old self.old) (writing bus.new self.new)) }
         ensures tells { TellsOn (B.state bus.old) (B.state bus.new) self.old self.new
             (poll_written_calls src.now result) }
-        ensures key { self.new.endpoint.key ≡ self.old.endpoint.key }
+        ensures settings { KeepsWriter self.old self.new }
         ensures stands { Stands (B.state bus.new) self.new.endpoint }
         ensures others { KeepsOthers (B.state bus.old) (B.state bus.new) self.old.endpoint.key }
     {
@@ -168,6 +170,7 @@ impl<T: BulkOrInterrupt> EndpointWrite<T> {
         ensures tells { TellsOn (B.state bus.old) (B.state bus.new) self.old self.new
             (flushed_calls result) }
         ensures key { self.new.endpoint.key ≡ self.old.endpoint.key }
+        ensures settings { KeepsWriter self.old self.new }
         ensures stands { Stands (B.state bus.new) self.new.endpoint }
         ensures others { KeepsOthers (B.state bus.old) (B.state bus.new) self.old.endpoint.key }
     {
@@ -197,7 +200,7 @@ impl<T: BulkOrInterrupt> EndpointWrite<T> {
             self.old.timeout (writing bus.old self.old) (writing bus.new self.new)) }
         ensures tells { TellsOn (B.state bus.old) (B.state bus.new) self.old self.new
             (flushed_calls result) }
-        ensures key { self.new.endpoint.key ≡ self.old.endpoint.key }
+        ensures settings { KeepsWriter self.old self.new }
         ensures stands { Stands (B.state bus.new) self.new.endpoint }
         ensures others { KeepsOthers (B.state bus.old) (B.state bus.new) self.old.endpoint.key }
     {
@@ -222,7 +225,7 @@ impl<T: BulkOrInterrupt> EndpointWrite<T> {
             (writing bus.old self.old) (writing bus.new self.new)) }
         ensures tells { TellsOn (B.state bus.old) (B.state bus.new) self.old self.new
             (poll_flushed_calls result) }
-        ensures key { self.new.endpoint.key ≡ self.old.endpoint.key }
+        ensures settings { KeepsWriter self.old self.new }
         ensures stands { Stands (B.state bus.new) self.new.endpoint }
         ensures others { KeepsOthers (B.state bus.old) (B.state bus.new) self.old.endpoint.key }
     {
@@ -250,7 +253,7 @@ impl<T: BulkOrInterrupt> EndpointWrite<T> {
             (IsFlushEndError (bus_calls B.state B.submitted B.refused B.turned B.turn_of B.taken)
             self.old.timeout (writing bus.old self.old) (writing bus.new self.new)) }
         ensures tells { TellsEnd (B.state bus.old) (B.state bus.new) self.old self.new result }
-        ensures key { self.new.endpoint.key ≡ self.old.endpoint.key }
+        ensures settings { KeepsWriter self.old self.new }
         ensures stands { Stands (B.state bus.new) self.new.endpoint }
         ensures others { KeepsOthers (B.state bus.old) (B.state bus.new) self.old.endpoint.key }
     {
@@ -285,7 +288,7 @@ impl<T: BulkOrInterrupt> EndpointWrite<T> {
             (writing bus.old self.old) (writing bus.new self.new)) }
         ensures tells { TellsPolledEnd (B.state bus.old) (B.state bus.new) self.old self.new
             result }
-        ensures key { self.new.endpoint.key ≡ self.old.endpoint.key }
+        ensures settings { KeepsWriter self.old self.new }
         ensures stands { Stands (B.state bus.new) self.new.endpoint }
         ensures others { KeepsOthers (B.state bus.old) (B.state bus.new) self.old.endpoint.key }
     {
