@@ -8,11 +8,11 @@ use Rattle.usb_io.proofs.Messages.{messages_are_framed}
 use Rattle.usb_io.proofs.Pieces.{packets_say_items}
 
 pub fresh_tells : FreshTells
-fresh_tells past e size none = record { carries = rw none tt; stands = refl }
+fresh_tells past e size none = record { carries = rw none (tt, tt); stands = refl }
 
 pub later_tells : LaterTells
 later_tells old new w h extends tells = record {
-  carries = all-later old new w.endpoint.device w.endpoint.address w.endpoint.maximum (h.taken ++ w.endpoint.pending) (written w.endpoint.maximum w.size h.calls).transfers extends tells.carries;
+  carries = (all-later old new w.endpoint.device w.endpoint.address w.endpoint.maximum (h.taken ++ w.endpoint.pending) (written w.endpoint.maximum w.size h.calls).transfers extends tells.carries.0, tells.carries.1);
   stands = tells.stands;
 }
 
