@@ -9,6 +9,7 @@ ghost use Rattle.usb_endpoint.specs.Handles.{Stands};
 use crate::cases::{Case, expect};
 use futures::task::Poll;
 use std::alloc::Global;
+use std::io::{self, ErrorKind, Write};
 use std::process::Abort;
 use std::test::Fail;
 use usb_bus::KernelBus;
@@ -80,6 +81,36 @@ fn told_of_submission(submitted: Result<(), NoMemory>) -> Outcome {
     match submitted {
         Ok(()) => Outcome::Done,
         Err(_) => Outcome::Other,
+    }
+}
+
+fn told_by_std(error: &io::Error) -> Outcome {
+    match error.kind() {
+        ErrorKind::ConnectionReset => Outcome::Stall,
+        ErrorKind::TimedOut => Outcome::TimedOut,
+        _ => Outcome::Other,
+    }
+}
+
+/// A write by std's trait.
+fn write_by_std(bus: &mut KernelBus, writer: &mut EndpointWrite<Bulk>, bytes: &[u8]) -> Outcome
+    requires stands { Stands (bus_of bus.old) writer.old.endpoint }
+    ensures stands { Stands (bus_of bus.new) writer.new.endpoint }
+{
+    match writer.on(bus).write(bytes) {
+        Ok(count) => Outcome::Wrote(count),
+        Err(error) => told_by_std(&error),
+    }
+}
+
+/// A flush by std's trait.
+fn flush_by_std(bus: &mut KernelBus, writer: &mut EndpointWrite<Bulk>) -> Outcome
+    requires stands { Stands (bus_of bus.old) writer.old.endpoint }
+    ensures stands { Stands (bus_of bus.new) writer.new.endpoint }
+{
+    match writer.on(bus).flush() {
+        Ok(()) => Outcome::Done,
+        Err(error) => told_by_std(&error),
     }
 }
 
@@ -168,6 +199,10 @@ pub enum Step {
     FlushEnd(Outcome),
     /// All of an end is taken where a look finds it.
     LookAtEnd(Outcome),
+    /// A write by std's trait.
+    WriteByStd(&'static [u8], Outcome),
+    /// A flush by std's trait.
+    FlushByStd(Outcome),
     /// So many transfers are pending.
     Pending(usize),
     /// So many bytes stand, where a buffer does.
@@ -195,7 +230,7 @@ const FULL: [u8; 128] = [
 ];
 
 /// Steps with a new writer, by name, and the bytes of the transfers that they submit.
-const CASES: [(&str, &[Step], &[&[u8]]); 6] = [
+const CASES: [(&str, &[Step], &[&[u8]]); 7] = [
     (
         "an end is an empty transfer where no shorter packet ends the bytes",
         &[
@@ -290,6 +325,24 @@ const CASES: [(&str, &[Step], &[&[u8]]); 6] = [
         ],
         &[&[], &[]],
     ),
+    (
+        "std's write does the same",
+        &[
+            Step::WriteByStd(&ELEVENS, Outcome::Wrote(128)),
+            Step::NoTime,
+            Step::WriteByStd(&[1], Outcome::TimedOut),
+            Step::Ack,
+            Step::Stall,
+            Step::Reap,
+            Step::WriteByStd(&[1], Outcome::Stall),
+            Step::WriteByStd(&[1, 2], Outcome::Wrote(2)),
+            Step::FlushByStd(Outcome::TimedOut),
+            Step::Ack,
+            Step::Reap,
+            Step::FlushByStd(Outcome::Done),
+        ],
+        &[&ELEVENS, &[1, 2]],
+    ),
 ];
 
 #[test]
@@ -381,6 +434,8 @@ fn is_so(bus: &mut KernelBus, writer: &mut EndpointWrite<Bulk>, step: Step) -> b
         Step::LookAtFlush(outcome) => look_at_flush(bus, writer) == outcome,
         Step::FlushEnd(outcome) => flush_end(bus, writer) == outcome,
         Step::LookAtEnd(outcome) => look_at_end(bus, writer) == outcome,
+        Step::WriteByStd(bytes, outcome) => write_by_std(bus, writer, bytes) == outcome,
+        Step::FlushByStd(outcome) => flush_by_std(bus, writer) == outcome,
         Step::Pending(pending) => writer.pending() == pending,
         Step::Buffered(buffered) => writer.buffered() == buffered,
         Step::EndBegun(begun) => writer.end_begun() == begun,

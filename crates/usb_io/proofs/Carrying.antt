@@ -18,11 +18,13 @@ use Rattle.usb_endpoint.specs.EndpointState.{EndpointState, route_of}
 use Rattle.usb_endpoint.specs.Submits.{Enters}
 use Rattle.usb_io.specs.Readers.{no_bytes}
 use Rattle.usb_io.specs.Reads.{BusCalls}
-use Rattle.usb_io.specs.Writers.{WriterState, Writing, writing, out_buffer, empty_buffer, send, sent, sent_end, kept_buffer, with_taken}
+use Rattle.usb_io.specs.Writers.{WriterState, Writing, writing, out_buffer, empty_buffer, send, sent, sent_end, kept_buffer, with_taken, KeepsWriter}
 use Rattle.usb_io.specs.WriteAnswers.{accepted, accepted_count, accepts, AcceptsNone}
 use Rattle.usb_io.specs.Writes.{Call, Accept, Flush, Finish, Written, written, flushes, ending, accepts as accepts_of}
 use Rattle.usb_io.specs.Carried.{Carries, AllCarry, HandleCarries, CarriesOn, TellsOn, TellsShort, sent_bytes, ended_bytes, full_bytes}
-use Rattle.usb_io.proofs.Following.{slice_get-last}
+use Rattle.usb_io.specs.Streams.{Each, IsAscending}
+use Rattle.usb_io.proofs.Following.{slice_get-last, ascending-push}
+use Rattle.std.proofs.lemmas.Option.{slice_get_within}
 
 -- whatever comes
 carries-later : (old new : List Event) (d e m t : ℕ) (b : List ℕ) → Extends old new → Carries old d e m t b → Carries new d e m t b
@@ -48,43 +50,69 @@ own-ticket : (past : List Event) (e : EndpointState) (b : BufferState) (refusal 
 own-ticket past e b None output = record { s = _; at = slice_get-last (tickets past) _; device = refl; endpoint = refl; maximum = refl; body = own-body e.address b output }
 own-ticket past e b (Some errno) output = record { s = _; at = slice_get-last (tickets past) _; device = refl; endpoint = refl; maximum = refl; body = own-body e.address b output }
 
+all-below : (past : List Event) (d e m : ℕ) (ts : List ℕ) (bs : List (List ℕ)) → AllCarry past d e m ts bs → Each (λ u. u < length (tickets past)) ts
+all-below past d e m [] [] all = tt
+all-below past d e m [] (b ∷ bs) all = tt
+all-below past d e m (t ∷ ts) [] all = absurd all
+all-below past d e m (t ∷ ts) (b ∷ bs) all = (slice_get_within (tickets past) t all.0.s all.0.at, all-below past d e m ts bs all.1)
+
 -- a submission
 pub carries_submitted : (old new : BusState) (e next : EndpointState) (b : BufferState) (valid : Bool) → e.address < 128 → Enters old new (route_of e) b valid → next ≡ record e { pending = e.pending ++ length (tickets old.past) ∷ [] } → CarriesOn old new e next (b.bytes ∷ [])
 carries_submitted old new e next b valid output enters is = record {
   maximum = ap (λ (e : EndpointState). e.maximum) is;
-  all = λ taken transfers carry. (taken, subst (λ (e : EndpointState). HandleCarries new.past e taken (transfers ++ b.bytes ∷ [])) (sym is) (more taken transfers carry));
+  all = λ taken transfers carry. (
+    taken,
+    length (tickets old.past) ∷ [],
+    ap (λ (e : EndpointState). taken ++ e.pending) is ∙ sym (append_assoc taken e.pending (length (tickets old.past) ∷ [])),
+    subst (λ (e : EndpointState). HandleCarries new.past e taken (transfers ++ b.bytes ∷ [])) (sym is) (more taken transfers carry),
+  );
 }
   where
-    more : (taken : List ℕ) (transfers : List (List ℕ)) → HandleCarries old.past e taken transfers → AllCarry new.past e.device e.address e.maximum (taken ++ (e.pending ++ length (tickets old.past) ∷ [])) (transfers ++ b.bytes ∷ [])
+    more : (taken : List ℕ) (transfers : List (List ℕ)) → HandleCarries old.past e taken transfers → HandleCarries new.past (record e { pending = e.pending ++ length (tickets old.past) ∷ [] }) taken (transfers ++ b.bytes ∷ [])
     more taken transfers carry =
-        let here = all-later old.past (submit_or_refuse (length (tickets old.past)) (submission_of (route_of e) b) enters.refusal ∷ old.past) e.device e.address e.maximum (taken ++ e.pending) transfers (extends-event old.past _) carry in
+        let here = all-later old.past (submit_or_refuse (length (tickets old.past)) (submission_of (route_of e) b) enters.refusal ∷ old.past) e.device e.address e.maximum (taken ++ e.pending) transfers (extends-event old.past _) carry.0 in
         let pushed = all-push (submit_or_refuse (length (tickets old.past)) (submission_of (route_of e) b) enters.refusal ∷ old.past) e.device e.address e.maximum (taken ++ e.pending) transfers (length (tickets old.past)) b.bytes here (own-ticket old.past e b enters.refusal output) in
-        subst (λ (past : List Event). AllCarry past e.device e.address e.maximum (taken ++ (e.pending ++ length (tickets old.past) ∷ [])) (transfers ++ b.bytes ∷ [])) (sym enters.ticket.past)
-        (subst (λ (ts : List ℕ). AllCarry (submit_or_refuse (length (tickets old.past)) (submission_of (route_of e) b) enters.refusal ∷ old.past) e.device e.address e.maximum ts (transfers ++ b.bytes ∷ [])) (append_assoc taken e.pending (length (tickets old.past) ∷ [])) pushed)
+        let up = ascending-push (taken ++ e.pending) (length (tickets old.past)) carry.1 (all-below old.past e.device e.address e.maximum (taken ++ e.pending) transfers carry.0) in (
+          subst (λ (past : List Event). AllCarry past e.device e.address e.maximum (taken ++ (e.pending ++ length (tickets old.past) ∷ [])) (transfers ++ b.bytes ∷ [])) (sym enters.ticket.past)
+              (subst (λ (ts : List ℕ). AllCarry (submit_or_refuse (length (tickets old.past)) (submission_of (route_of e) b) enters.refusal ∷ old.past) e.device e.address e.maximum ts (transfers ++ b.bytes ∷ [])) (append_assoc taken e.pending (length (tickets old.past) ∷ [])) pushed),
+          subst IsAscending (append_assoc taken e.pending (length (tickets old.past) ∷ [])) up,
+        )
 
 -- nothing happens
 pub carries_same : (b : BusState) (e : EndpointState) → CarriesOn b b e e []
-carries_same b e = record { maximum = refl; all = λ taken transfers carry. (taken, rw (append-nil transfers) carry) }
+carries_same b e = record { maximum = refl; all = λ taken transfers carry. (taken, [], sym (append-nil (taken ++ e.pending)), (rw (append-nil transfers) carry.0, carry.1)) }
 
 -- a wait in vain
 pub carries_missed : (old new : BusState) (e next : EndpointState) → Extends old.past new.past → next ≡ e → CarriesOn old new e next []
 carries_missed old new e next extends is = record {
   maximum = ap (λ (e : EndpointState). e.maximum) is;
-  all = λ taken transfers carry. (taken, subst (λ (e : EndpointState). HandleCarries new.past e taken (transfers ++ [])) (sym is) (rw (append-nil transfers) (all-later old.past new.past e.device e.address e.maximum (taken ++ e.pending) transfers extends carry)));
+  all = λ taken transfers carry. (
+    taken,
+    [],
+    ap (λ (e : EndpointState). taken ++ e.pending) is ∙ sym (append-nil (taken ++ e.pending)),
+    subst (λ (e : EndpointState). HandleCarries new.past e taken (transfers ++ [])) (sym is) (rw (append-nil transfers) (all-later old.past new.past e.device e.address e.maximum (taken ++ e.pending) transfers extends carry.0), carry.1),
+  );
 }
 
 -- the front is taken
 pub carries_taken : (old new : BusState) (e next : EndpointState) (front : ℕ) (others : List ℕ) → Extends old.past new.past → e.pending ≡ front ∷ others → next ≡ record e { pending = others } → CarriesOn old new e next []
 carries_taken old new e next front others extends was is = record {
   maximum = ap (λ (e : EndpointState). e.maximum) is;
-  all = λ taken transfers carry. (taken ++ front ∷ [], subst (λ (e : EndpointState). HandleCarries new.past e (taken ++ front ∷ []) (transfers ++ [])) (sym is) (moved taken transfers carry));
+  all = λ taken transfers carry. (
+    taken ++ front ∷ [],
+    [],
+    ap (λ (e : EndpointState). (taken ++ front ∷ []) ++ e.pending) is ∙ sym (same taken) ∙ sym (append-nil (taken ++ e.pending)),
+    subst (λ (e : EndpointState). HandleCarries new.past e (taken ++ front ∷ []) (transfers ++ [])) (sym is) (moved taken transfers carry),
+  );
 }
   where
-    moved : (taken : List ℕ) (transfers : List (List ℕ)) → HandleCarries old.past e taken transfers → AllCarry new.past e.device e.address e.maximum ((taken ++ front ∷ []) ++ others) (transfers ++ [])
+    same : (taken : List ℕ) → taken ++ e.pending ≡ (taken ++ front ∷ []) ++ others
+    same taken = ap (λ (ts : List ℕ). taken ++ ts) was ∙ sym (append_assoc taken (front ∷ []) others)
+
+    moved : (taken : List ℕ) (transfers : List (List ℕ)) → HandleCarries old.past e taken transfers → HandleCarries new.past (record e { pending = others }) (taken ++ front ∷ []) (transfers ++ [])
     moved taken transfers carry =
-        let here = all-later old.past new.past e.device e.address e.maximum (taken ++ e.pending) transfers extends carry in
-        let same : taken ++ e.pending ≡ (taken ++ front ∷ []) ++ others = ap (λ (ts : List ℕ). taken ++ ts) was ∙ sym (append_assoc taken (front ∷ []) others) in
-        rw (append-nil transfers) (subst (λ (ts : List ℕ). AllCarry new.past e.device e.address e.maximum ts transfers) same here)
+        let here = all-later old.past new.past e.device e.address e.maximum (taken ++ e.pending) transfers extends carry.0 in
+        (rw (append-nil transfers) (subst (λ (ts : List ℕ). AllCarry new.past e.device e.address e.maximum ts transfers) (same taken) here), subst IsAscending (same taken) carry.1)
 
 -- one step after another
 pub carries_trans : (x y z : BusState) (a b c : EndpointState) (first second : List (List ℕ)) → CarriesOn x y a b first → CarriesOn y z b c second → CarriesOn x z a c (first ++ second)
@@ -92,8 +120,8 @@ carries_trans x y z a b c first second one two = record {
   maximum = two.maximum ∙ one.maximum;
   all = λ taken transfers carry. (
       let mid = one.all taken transfers carry in
-      let last = two.all mid.0 (transfers ++ first) mid.1 in
-      (last.0, subst (λ (bs : List (List ℕ)). HandleCarries z.past c last.0 bs) (append_assoc transfers first second) last.1)
+      let last = two.all mid.0 (transfers ++ first) mid.3 in
+      (last.0, mid.1 ++ last.1, last.2 ∙ ap (λ (ts : List ℕ). ts ++ last.1) mid.2 ∙ append_assoc (taken ++ a.pending) mid.1 last.1, subst (λ (bs : List (List ℕ)). HandleCarries z.past c last.0 bs) (append_assoc transfers first second) last.3)
       );
 }
 
@@ -106,9 +134,11 @@ tells_from old new w w' more calls carries size writes h tells =
     let next = carries.all h.taken (written w.endpoint.maximum w.size h.calls).transfers tells.carries in
     let same : written w'.endpoint.maximum w'.size (calls ++ h.calls) ≡ written w.endpoint.maximum w.size (calls ++ h.calls) = ap (λ m. written m w'.size (calls ++ h.calls)) carries.maximum ∙ ap (λ size. written w.endpoint.maximum size (calls ++ h.calls)) size in (
       record { taken = next.0; calls = calls ++ h.calls },
+      next.1,
       refl,
+      next.2,
       record {
-        carries = subst (λ (bs : List (List ℕ)). HandleCarries new.past w'.endpoint next.0 bs) (sym known.0 ∙ ap (λ (x : Written). x.transfers) (sym same)) next.1;
+        carries = subst (λ (bs : List (List ℕ)). HandleCarries new.past w'.endpoint next.0 bs) (sym known.0 ∙ ap (λ (x : Written). x.transfers) (sym same)) next.3;
         stands = sym known.1 ∙ ap (λ (x : Written). x.standing) (sym same);
       },
     )
@@ -118,13 +148,13 @@ pub tells_drained : (old new : BusState) (w w' : WriterState) → CarriesOn old 
 tells_drained old new w w' carries size bytes = tells_from old new w w' [] [] carries size (λ before stands. (sym (append-nil _), sym stands ∙ sym bytes))
 
 pub tells_same : (b : BusState) (w : WriterState) → TellsOn b b w w []
-tells_same b w h tells = (h, refl, tells)
+tells_same b w h tells = (h, [], refl, sym (append-nil (h.taken ++ w.endpoint.pending)), tells)
 
 pub tells_trans : (x y z : BusState) (r s t : WriterState) (first second : List Call) → TellsOn x y r s first → TellsOn y z s t second → TellsOn x z r t (second ++ first)
 tells_trans x y z r s t first second one two h tells =
     let mid = one h tells in
-    let last = two mid.0 mid.2 in
-    (last.0, last.1 ∙ ap (λ (cs : List Call). second ++ cs) mid.1 ∙ sym (append_assoc second first h.calls), last.2)
+    let last = two mid.0 mid.4 in
+    (last.0, mid.1 ++ last.1, last.2 ∙ ap (λ (cs : List Call). second ++ cs) mid.2 ∙ sym (append_assoc second first h.calls), last.3 ∙ ap (λ (ts : List ℕ). ts ++ last.1) mid.3 ∙ append_assoc (h.taken ++ r.endpoint.pending) mid.1 last.1, last.4)
 
 -- an end of no bytes is one empty transfer
 none-whole : (m : ℕ) → is_whole m 0 ≡ false
@@ -264,3 +294,15 @@ not-full w b c src n free len size fresh after count room measured same apart is
 pub none-sent : (bytes : List ℕ) → true ≡ (length bytes == 0) → sent_bytes (Some bytes) ≡ []
 none-sent [] empty = refl
 none-sent (b ∷ bytes) empty = absurd (let none : length (b ∷ bytes) ≡ 0 = eqb-true (length (b ∷ bytes)) 0 (sym empty) in omega arith)
+
+-- what was set stays
+pub keeps_same : (w : WriterState) → KeepsWriter w w
+keeps_same w = record { n = refl; size = refl; timeout = refl; endpoint = refl }
+
+pub keeps_trans : (r s t : WriterState) → KeepsWriter r s → KeepsWriter s t → KeepsWriter r t
+keeps_trans r s t one two = record {
+  n = two.n ∙ one.n;
+  size = two.size ∙ one.size;
+  timeout = two.timeout ∙ one.timeout;
+  endpoint = two.endpoint ∙ ap (λ (e : EndpointState). record e { pending = t.endpoint.pending }) one.endpoint;
+}

@@ -10,6 +10,7 @@ use Rattle.usb_kernel.specs.Tickets.{Ticket, tickets}
 use Rattle.usb_bus.specs.BusState.{BusState}
 use Rattle.usb_endpoint.specs.EndpointState.{EndpointState}
 use Rattle.usb_io.specs.declared.fault.WriteFault.{WriteFault}
+use Rattle.usb_io.specs.Streams.{IsAscending}
 use Rattle.usb_io.specs.Writers.{WriterState}
 use Rattle.usb_io.specs.Writes.{Call, Accept, Flush, Finish, ending, written}
 
@@ -29,36 +30,38 @@ AllCarry past d e m [] (b ∷ bs) = ⊥
 AllCarry past d e m (t ∷ ts) [] = ⊥
 AllCarry past d e m (t ∷ ts) (b ∷ bs) = Carries past d e m t b × AllCarry past d e m ts bs
 
--- so do the tickets of a handle: those that were taken of it, and the pending ones
+-- so do the tickets of a handle, which ascend: those that were taken of it, and the pending ones
 abbrev pub HandleCarries : List Event → EndpointState → List ℕ → List (List ℕ) → Type 0
-HandleCarries past e taken transfers = AllCarry past e.device e.address e.maximum (taken ++ e.pending) transfers
+HandleCarries past e taken transfers = AllCarry past e.device e.address e.maximum (taken ++ e.pending) transfers × IsAscending (taken ++ e.pending)
 
--- a step of a handle, after which its tickets carry these bytes too
+-- a step of a handle, after which it has its tickets and more, which carry these bytes too
 pub record CarriesOn (old new : BusState) (e e' : EndpointState) (more : List (List ℕ)) : Type 0 where
   pub maximum : e'.maximum ≡ e.maximum
-  pub all : (taken : List ℕ) (transfers : List (List ℕ)) → HandleCarries old.past e taken transfers → (taken' : List ℕ) × HandleCarries new.past e' taken' (transfers ++ more)
+  pub all : (taken : List ℕ) (transfers : List (List ℕ)) → HandleCarries old.past e taken transfers → (taken' : List ℕ) × (submitted : List ℕ) × (taken' ++ e'.pending ≡ (taken ++ e.pending) ++ submitted) × HandleCarries new.past e' taken' (transfers ++ more)
 
 -- what a writer did from its first call on: the tickets that it took, and its accepted calls, from
 -- the latest on
-pub record Record : Type 0 where
+pub record WriterHistory : Type 0 where
   pub taken : List ℕ
   pub calls : List Call
 
 -- the tickets carry the transfers of the calls, and the rest of what was written stands
-pub record TellsOf (past : List Event) (e : EndpointState) (size : ℕ) (buffer : Option (List ℕ)) (h : Record) : Type 0 where
+pub record TellsOf (past : List Event) (e : EndpointState) (size : ℕ) (buffer : Option (List ℕ)) (h : WriterHistory) : Type 0 where
   pub carries : HandleCarries past e h.taken (written e.maximum size h.calls).transfers
   pub stands : unwrap_or buffer [] ≡ (written e.maximum size h.calls).standing
 
-abbrev pub Tells : List Event → WriterState → Record → Type 0
+abbrev pub Tells : List Event → WriterState → WriterHistory → Type 0
 Tells past w h = TellsOf past w.endpoint w.size w.buffer h
 
 -- a new writer over an endpoint with nothing pending did nothing
-abbrev pub no_record : Record
-no_record = record { taken = []; calls = [] }
+abbrev pub nothing_written : WriterHistory
+nothing_written = record { taken = []; calls = [] }
 
--- a call that counts as these accepted calls, from the latest on
+-- a call that counts as these accepted calls, from the latest on: the handle has its tickets, and
+-- those that were submitted
 abbrev pub TellsOn : BusState → BusState → WriterState → WriterState → List Call → Type 0
-TellsOn old new w w' calls = (h : Record) → Tells old.past w h → (h' : Record) × (h'.calls ≡ calls ++ h.calls) × Tells new.past w' h'
+TellsOn old new w w' calls = (h : WriterHistory) → Tells old.past w h →
+    (h' : WriterHistory) × (submitted : List ℕ) × (h'.calls ≡ calls ++ h.calls) × (h'.taken ++ w'.endpoint.pending ≡ (h.taken ++ w.endpoint.pending) ++ submitted) × Tells new.past w' h'
 
 -- the bytes that a flush submits of a buffer that may stand, and those that an end submits
 abbrev pub sent_bytes : Option (List ℕ) → List (List ℕ)
@@ -75,7 +78,7 @@ abbrev pub full_bytes : ℕ → List ℕ → List (List ℕ)
 full_bytes size c = if length c == size then c ∷ [] else []
 
 -- what a write that answered counts as
-abbrev pub written_calls : List ℕ → Result ℕ (Fail WriteFault) → List Call
+abbrev pub written_calls : {E : Type 0} → List ℕ → Result ℕ E → List Call
 written_calls src (Ok n) = Accept (take n src) ∷ []
 written_calls src (Err e) = []
 

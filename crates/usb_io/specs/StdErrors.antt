@@ -1,5 +1,5 @@
--- What std's traits tell of a reader's failures.
-use Rattle.std.specs.Prelude.{ℕ, ◌≡◌, Bool}
+-- What std's traits tell of the failures of a reader and of a writer.
+use Rattle.std.specs.Prelude.{ℕ, ◌≡◌, Bool, [], ◌∷◌, Result, Ok, Err}
 use Rattle.std.specs.IoError.{error_kind}
 use Rattle.std.specs.declared.io.Error.{Error}
 use Rattle.std.specs.declared.io.ErrorKind.{ErrorKind}
@@ -8,10 +8,17 @@ use Rattle.usb_desc.specs.declared.error.Fail.{Fail}
 use Rattle.usb_desc.specs.declared.error.Fail.TheVariants.{Cause, Memory}
 use Rattle.usb_xfer.specs.declared.error.TransferError.{TransferError}
 use Rattle.usb_xfer.specs.declared.error.TransferError.TheVariants as transfer
+use Rattle.usb_bus.specs.BusState.{BusState}
 use Rattle.usb_io.specs.declared.fault.ReadFault.{ReadFault}
 use Rattle.usb_io.specs.declared.fault.ReadFault.TheVariants.{Transfer, TimedOut, UnexpectedEof}
+use Rattle.usb_io.specs.declared.fault.WriteFault.{WriteFault}
+use Rattle.usb_io.specs.declared.fault.WriteFault.TheVariants as write
 use Rattle.usb_io.specs.Answers.{IsReadError}
 use Rattle.usb_io.specs.Reads.{BusCalls, Reading}
+use Rattle.usb_io.specs.WriteAnswers.{IsWriteError, IsFlushError}
+use Rattle.usb_io.specs.Carried.{TellsOn, flushed_calls}
+use Rattle.usb_io.specs.Writers.{WriterState, Writing}
+use Rattle.usb_io.specs.Writes.{Flush}
 
 -- which of std's kinds a failure of a read is
 abbrev pub std_kind_of_transfer : TransferError → ErrorKind
@@ -32,3 +39,21 @@ std_kind Memory = std.OutOfMemory
 abbrev pub IsStdError : {S : Type 0} → BusCalls S → Bool → ℕ → Reading S → Reading S → Error → Type 0
 IsStdError k until_short timeout old new e =
     (f : Fail ReadFault) × (error_kind e ≡ std_kind f) × IsReadError k until_short timeout old new f
+
+-- which of them a failure of a write is
+abbrev pub std_write_kind : Fail WriteFault → ErrorKind
+std_write_kind (Cause (write.Transfer e)) = std_kind_of_transfer e
+std_write_kind (Cause write.TimedOut) = std.TimedOut
+std_write_kind Memory = std.OutOfMemory
+
+-- errors of std's that a write and a flush answer
+abbrev pub IsStdWriteError : {S : Type 0} → BusCalls S → ℕ → Writing S → Writing S → Error → Type 0
+IsStdWriteError k timeout old new e = (f : Fail WriteFault) × (error_kind e ≡ std_write_kind f) × IsWriteError k timeout old new f
+
+abbrev pub IsStdFlushError : {S : Type 0} → BusCalls S → ℕ → Writing S → Writing S → Error → Type 0
+IsStdFlushError k timeout old new e = (f : Fail WriteFault) × (error_kind e ≡ std_write_kind f) × IsFlushError k timeout old new f
+
+-- what a flush that answered so counts as
+abbrev pub TellsStdFlush : BusState → BusState → WriterState → WriterState → Result (Unit {0}) Error → Type 0
+TellsStdFlush old new w w' (Ok u) = TellsOn old new w w' (Flush ∷ [])
+TellsStdFlush old new w w' (Err e) = (f : Fail WriteFault) × (error_kind e ≡ std_write_kind f) × TellsOn old new w w' (flushed_calls (Err f))

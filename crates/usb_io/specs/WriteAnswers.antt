@@ -4,9 +4,9 @@ use Rattle.usb_desc.specs.declared.error.Fail.{Fail}
 use Rattle.usb_io.specs.declared.fault.WriteFault.{WriteFault}
 use Rattle.usb_io.specs.declared.fault.WriteFault.TheVariants.{TimedOut}
 use Rattle.usb_io.specs.Answers.{FailsBy}
-use Rattle.usb_io.specs.Fronts.{DrainedAll, DrainFault}
+use Rattle.usb_io.specs.Fronts.{DrainedAll, DrainMissed, DrainFault}
 use Rattle.usb_io.specs.Reads.{BusCalls}
-use Rattle.usb_io.specs.Writers.{WriterState, Writing, out_buffer, not_begun, send, sent_end, EndShort}
+use Rattle.usb_io.specs.Writers.{WriterState, Writing, out_buffer, not_begun, send, sent, sent_end, EndShort}
 
 -- these bytes stand, or are submitted where they are a whole transfer
 abbrev pub accepted : {S : Type 0} → BusCalls S → List ℕ → Writing S → Writing S
@@ -44,6 +44,39 @@ abbrev pub IsWriteError : {S : Type 0} → BusCalls S → ℕ → Writing S → 
 IsWriteError k timeout old new e =
     FailsBy e (DrainFault k false timeout (not_begun old) new) (WroteNone k timeout old new)
 
+-- a poll of a write found no front
+abbrev pub WritePending : {S : Type 0} → BusCalls S → Writing S → Writing S → Type 0
+WritePending k old new = DrainMissed k false 0 (not_begun old) new
+
+-- what a flush submits before it takes fronts, and what one to an end does
+abbrev pub flush_start : {S : Type 0} → BusCalls S → Writing S → Writing S
+flush_start k w = sent k w.writer.buffer (not_begun w)
+
+abbrev pub end_start : {S : Type 0} → BusCalls S → Writing S → Writing S
+end_start k w = sent_end k w.writer.buffer (not_begun w)
+
+-- a flush submitted, and took all
+abbrev pub Flushed : {S : Type 0} → BusCalls S → ℕ → Writing S → Writing S → Type 0
+Flushed k timeout old new = DrainedAll k true timeout (flush_start k old) new
+
+-- why one answers an error: a front failed or was not there, or memory was wanted, with nothing
+-- submitted
+abbrev pub IsFlushError : {S : Type 0} → BusCalls S → ℕ → Writing S → Writing S → Fail WriteFault → Type 0
+IsFlushError k timeout old new e = FailsBy e (DrainFault k true timeout (flush_start k old) new) (new ≡ not_begun old)
+
+-- a poll of one found no front
+abbrev pub FlushPending : {S : Type 0} → BusCalls S → Writing S → Writing S → Type 0
+FlushPending k old new = DrainMissed k true 0 (flush_start k old) new
+
+-- a flush to an end submitted one, and took all
+abbrev pub FlushedEnd : {S : Type 0} → BusCalls S → ℕ → Writing S → Writing S → Type 0
+FlushedEnd k timeout old new = DrainedAll k true timeout (end_start k old) new
+
+-- why one answers an error
+abbrev pub IsFlushEndError : {S : Type 0} → BusCalls S → ℕ → Writing S → Writing S → Fail WriteFault → Type 0
+IsFlushEndError k timeout old new e =
+    FailsBy e (DrainFault k true timeout (end_start k old) new) (EndShort k old.writer.buffer (not_begun old) new)
+
 -- a poll does not time out
 abbrev pub IsWrittenInTime : Fail WriteFault → Type 0
 IsWrittenInTime e = FailsBy e (λ f. f ≢ TimedOut) (Unit {0})
@@ -71,3 +104,11 @@ pub record PolledEndFailed {S : Type 0} (k : BusCalls S) (old new : Writing S) (
 pub record PolledEndShort {S : Type 0} (k : BusCalls S) (old new : Writing S) : Type 0 where
   pub none : old.writer.begun ≡ false
   pub short : EndShort k old.writer.buffer old new
+
+-- why a poll to an end answers an error
+abbrev pub IsPollEndError : {S : Type 0} → BusCalls S → Writing S → Writing S → Fail WriteFault → Type 0
+IsPollEndError k old new e = FailsBy e (PolledEndFailed k old new) (PolledEndShort k old new)
+
+-- or found no front
+abbrev pub EndPending : {S : Type 0} → BusCalls S → Writing S → Writing S → Type 0
+EndPending k old new = DrainMissed k true 0 (begun_end k old) new

@@ -4,7 +4,7 @@ ghost use Rattle.std.specs.Prelude.{◌≡◌, ◌<◌, [], true, length, OnOk, 
 ghost use Rattle.usb_endpoint.specs.Handles.{Stands, KeepsOthers};
 ghost use Rattle.usb_io.specs.Reads.{bus_calls};
 ghost use Rattle.usb_io.specs.Fronts.{CameOne, waits_on, DrainedAll, DrainFault};
-ghost use Rattle.usb_io.specs.Writers.{writing, with_taken};
+ghost use Rattle.usb_io.specs.Writers.{writing, with_taken, KeepsWriter};
 ghost use Rattle.usb_io.specs.Carried.{TellsOn};
 
 use crate::fault::WriteFault;
@@ -47,6 +47,7 @@ impl<T: BulkOrInterrupt> EndpointWrite<T> {
         ensures rest { self.new.endpoint
             ≡ record self.old.endpoint { pending = self.new.endpoint.pending } }
         ensures tells { TellsOn (B.state bus.old) (B.state bus.new) self.old self.new [] }
+        ensures settings { KeepsWriter self.old self.new }
         ensures stands { Stands (B.state bus.new) self.new.endpoint }
         ensures others { KeepsOthers (B.state bus.old) (B.state bus.new) self.old.endpoint.key }
     {
@@ -88,6 +89,7 @@ impl<T: BulkOrInterrupt> EndpointWrite<T> {
             flushing timeout (writing bus.old self.old) (writing bus.new self.new)) }
         ensures tells { TellsOn (B.state bus.old) (B.state bus.new) self.old self.new [] }
         ensures key { self.new.endpoint.key ≡ self.old.endpoint.key }
+        ensures settings { KeepsWriter self.old self.new }
         ensures stands { Stands (B.state bus.new) self.new.endpoint }
         ensures others { KeepsOthers (B.state bus.old) (B.state bus.new) self.old.endpoint.key }
     {

@@ -80,7 +80,7 @@ impl<'a, T: BulkOrInterrupt, B: Bus> ReadOn<'a, T, B> {
 }
 
 /// The error of std's for a transfer that failed.
-fn transfer_error(error: TransferError) -> io::Error
+pub(crate) fn transfer_error(error: TransferError) -> io::Error
     ensures kind { error_kind result ≡ std_kind_of_transfer error }
 {
     match error {

@@ -4,7 +4,7 @@ ghost use Rattle.std.specs.Prelude.{◌≡◌, ◌+◌, ◌<◌, ◌≤◌, ◌�
 ghost use Rattle.usb_endpoint.specs.Handles.{Stands, KeepsOthers};
 ghost use Rattle.usb_kernel.specs.WholePackets.{is_whole};
 ghost use Rattle.usb_io.specs.Reads.{bus_calls};
-ghost use Rattle.usb_io.specs.Writers.{writing, not_begun, empty_buffer, send, sent, sent_end, end_need, EndShort};
+ghost use Rattle.usb_io.specs.Writers.{writing, not_begun, empty_buffer, send, sent, sent_end, end_need, EndShort, KeepsWriter};
 ghost use Rattle.usb_io.specs.WriteAnswers.{begun_end};
 ghost use Rattle.usb_io.specs.Carried.{CarriesOn, sent_bytes, ended_bytes, begun_calls, TellsOn, TellsShort};
 ghost use Rattle.usb_io.specs.Writes.{Flush, Finish};
@@ -34,6 +34,7 @@ impl<T: BulkOrInterrupt> EndpointWrite<T> {
         ensures err { OnErr result (writing bus.new self.new ≡ writing bus.old self.old) }
         ensures back { IfErr result (λ back. back ≡ buffer) }
         ensures key { self.new.endpoint.key ≡ self.old.endpoint.key }
+        ensures settings { KeepsWriter self.old self.new }
         ensures stands { Stands (B.state bus.new) self.new.endpoint }
         ensures others { KeepsOthers (B.state bus.old) (B.state bus.new) self.old.endpoint.key }
     {
@@ -52,6 +53,7 @@ impl<T: BulkOrInterrupt> EndpointWrite<T> {
             (sent_bytes self.old.buffer)) }
         ensures err { OnErr result (writing bus.new self.new ≡ writing bus.old self.old) }
         ensures key { self.new.endpoint.key ≡ self.old.endpoint.key }
+        ensures settings { KeepsWriter self.old self.new }
         ensures stands { Stands (B.state bus.new) self.new.endpoint }
         ensures others { KeepsOthers (B.state bus.old) (B.state bus.new) self.old.endpoint.key }
     {
@@ -84,6 +86,7 @@ impl<T: BulkOrInterrupt> EndpointWrite<T> {
             (CarriesOn (B.state bus.old) (B.state bus.new) self.old.endpoint self.new.endpoint
             ([] ∷ [])) }
         ensures err { OnErr result (writing bus.new self.new ≡ writing bus.old self.old) }
+        ensures settings { KeepsWriter self.old self.new }
         ensures stands { Stands (B.state bus.new) self.new.endpoint }
         ensures others { KeepsOthers (B.state bus.old) (B.state bus.new) self.old.endpoint.key }
     {
@@ -130,6 +133,7 @@ impl<T: BulkOrInterrupt> EndpointWrite<T> {
         ensures short { OnErr result
             (TellsShort (B.state bus.old) (B.state bus.new) self.old self.new) }
         ensures key { self.new.endpoint.key ≡ self.old.endpoint.key }
+        ensures settings { KeepsWriter self.old self.new }
         ensures stands { Stands (B.state bus.new) self.new.endpoint }
         ensures others { KeepsOthers (B.state bus.old) (B.state bus.new) self.old.endpoint.key }
     {
@@ -166,6 +170,7 @@ impl<T: BulkOrInterrupt> EndpointWrite<T> {
         ensures short { OnErr result
             (TellsShort (B.state bus.old) (B.state bus.new) self.old self.new) }
         ensures key { self.new.endpoint.key ≡ self.old.endpoint.key }
+        ensures settings { KeepsWriter self.old self.new }
         ensures stands { Stands (B.state bus.new) self.new.endpoint }
         ensures others { KeepsOthers (B.state bus.old) (B.state bus.new) self.old.endpoint.key }
     {
@@ -199,6 +204,7 @@ impl<T: BulkOrInterrupt> EndpointWrite<T> {
         ensures nothing { OnErr result
             (TellsOn (B.state bus.old) (B.state bus.new) self.old self.new []) }
         ensures key { self.new.endpoint.key ≡ self.old.endpoint.key }
+        ensures settings { KeepsWriter self.old self.new }
         ensures stands { Stands (B.state bus.new) self.new.endpoint }
         ensures others { KeepsOthers (B.state bus.old) (B.state bus.new) self.old.endpoint.key }
     {
@@ -229,6 +235,7 @@ impl<T: BulkOrInterrupt> EndpointWrite<T> {
         ensures short { OnErr result
             (TellsShort (B.state bus.old) (B.state bus.new) self.old self.new) }
         ensures key { self.new.endpoint.key ≡ self.old.endpoint.key }
+        ensures settings { KeepsWriter self.old self.new }
         ensures stands { Stands (B.state bus.new) self.new.endpoint }
         ensures others { KeepsOthers (B.state bus.old) (B.state bus.new) self.old.endpoint.key }
     {

@@ -3,11 +3,10 @@
 ghost use Rattle.std.specs.Prelude.{◌≡◌, ◌+◌, ◌<◌, ◌≤◌, ◌++◌, [], true, false, length, take, unwrap_or, None, IfOk, IfErr, OnOk, OnErr};
 ghost use Rattle.usb_endpoint.specs.Handles.{Stands, KeepsOthers};
 ghost use Rattle.usb_endpoint.specs.Polls.{IfReady, IfPending};
-ghost use Rattle.usb_io.specs.Answers.{FailsBy};
 ghost use Rattle.usb_io.specs.Reads.{bus_calls};
-ghost use Rattle.usb_io.specs.Fronts.{waits_on, DrainedAll, DrainMissed, DrainFault};
-ghost use Rattle.usb_io.specs.Writers.{writing, out_buffer, not_begun, sent, sent_end, end_need, EndShort};
-ghost use Rattle.usb_io.specs.WriteAnswers.{accepts, accepted_count, AcceptsNone, Wrote, IsWriteError, IsWrittenInTime, begun_end, PolledEnd, PolledEndFailed, PolledEndShort};
+ghost use Rattle.usb_io.specs.Fronts.{waits_on};
+ghost use Rattle.usb_io.specs.Writers.{writing, out_buffer, end_need, KeepsWriter};
+ghost use Rattle.usb_io.specs.WriteAnswers.{accepts, accepted_count, AcceptsNone, Wrote, IsWriteError, WritePending, IsWrittenInTime, Flushed, IsFlushError, FlushPending, FlushedEnd, IsFlushEndError, PolledEnd, IsPollEndError, EndPending};
 ghost use Rattle.usb_io.specs.Carried.{CarriesOn, full_bytes, written_calls, poll_written_calls, flushed_calls, poll_flushed_calls, TellsOn, TellsEnd, TellsPolledEnd};
 
 use crate::fault::WriteFault;
@@ -48,6 +47,7 @@ impl<T: BulkOrInterrupt> EndpointWrite<T> {
             ++ take (accepted_count src.now self.old) src.now))) }
         ensures none { OnErr result
             (AcceptsNone (writing bus.old self.old) (writing bus.new self.new)) }
+        ensures settings { KeepsWriter self.old self.new }
         ensures stands { Stands (B.state bus.new) self.new.endpoint }
         ensures others { KeepsOthers (B.state bus.old) (B.state bus.new) self.old.endpoint.key }
     {
@@ -86,6 +86,7 @@ impl<T: BulkOrInterrupt> EndpointWrite<T> {
         ensures tells { TellsOn (B.state bus.old) (B.state bus.new) self.old self.new
             (written_calls src.now result) }
         ensures key { self.new.endpoint.key ≡ self.old.endpoint.key }
+        ensures settings { KeepsWriter self.old self.new }
         ensures stands { Stands (B.state bus.new) self.new.endpoint }
         ensures others { KeepsOthers (B.state bus.old) (B.state bus.new) self.old.endpoint.key }
     {
@@ -117,7 +118,7 @@ impl<T: BulkOrInterrupt> EndpointWrite<T> {
             self.old.timeout (writing bus.old self.old) (writing bus.new self.new)) }
         ensures tells { TellsOn (B.state bus.old) (B.state bus.new) self.old self.new
             (written_calls src.now result) }
-        ensures key { self.new.endpoint.key ≡ self.old.endpoint.key }
+        ensures settings { KeepsWriter self.old self.new }
         ensures stands { Stands (B.state bus.new) self.new.endpoint }
         ensures others { KeepsOthers (B.state bus.old) (B.state bus.new) self.old.endpoint.key }
     {
@@ -142,11 +143,11 @@ impl<T: BulkOrInterrupt> EndpointWrite<T> {
             0 (writing bus.old self.old) (writing bus.new self.new))) }
         ensures in_time { IfReady result (λ r. IfErr r IsWrittenInTime) }
         ensures pending { IfPending result
-            (DrainMissed (bus_calls B.state B.submitted B.refused B.turned B.turn_of B.taken) false
-            0 (not_begun (writing bus.old self.old)) (writing bus.new self.new)) }
+            (WritePending (bus_calls B.state B.submitted B.refused B.turned B.turn_of B.taken)
+            (writing bus.old self.old) (writing bus.new self.new)) }
         ensures tells { TellsOn (B.state bus.old) (B.state bus.new) self.old self.new
             (poll_written_calls src.now result) }
-        ensures key { self.new.endpoint.key ≡ self.old.endpoint.key }
+        ensures settings { KeepsWriter self.old self.new }
         ensures stands { Stands (B.state bus.new) self.new.endpoint }
         ensures others { KeepsOthers (B.state bus.old) (B.state bus.new) self.old.endpoint.key }
     {
@@ -161,19 +162,15 @@ impl<T: BulkOrInterrupt> EndpointWrite<T> {
     fn flush_within<B: Bus>(&mut self, bus: &mut B, timeout: u64) -> Result<(), Fail<WriteFault>>
         requires stands { Stands (B.state bus.old) self.old.endpoint }
         ensures ok { OnOk result
-            (DrainedAll (bus_calls B.state B.submitted B.refused B.turned B.turn_of B.taken) true
-            timeout (sent (bus_calls B.state B.submitted B.refused B.turned B.turn_of B.taken)
-            self.old.buffer (not_begun (writing bus.old self.old))) (writing bus.new self.new)) }
+            (Flushed (bus_calls B.state B.submitted B.refused B.turned B.turn_of B.taken)
+            timeout (writing bus.old self.old) (writing bus.new self.new)) }
         ensures failed { IfErr result
-            (λ e. FailsBy e
-            (DrainFault (bus_calls B.state B.submitted B.refused B.turned B.turn_of B.taken)
-            true timeout
-            (sent (bus_calls B.state B.submitted B.refused B.turned B.turn_of B.taken)
-            self.old.buffer (not_begun (writing bus.old self.old))) (writing bus.new self.new))
-            (writing bus.new self.new ≡ not_begun (writing bus.old self.old))) }
+            (IsFlushError (bus_calls B.state B.submitted B.refused B.turned B.turn_of B.taken)
+            timeout (writing bus.old self.old) (writing bus.new self.new)) }
         ensures tells { TellsOn (B.state bus.old) (B.state bus.new) self.old self.new
             (flushed_calls result) }
         ensures key { self.new.endpoint.key ≡ self.old.endpoint.key }
+        ensures settings { KeepsWriter self.old self.new }
         ensures stands { Stands (B.state bus.new) self.new.endpoint }
         ensures others { KeepsOthers (B.state bus.old) (B.state bus.new) self.old.endpoint.key }
     {
@@ -196,20 +193,14 @@ impl<T: BulkOrInterrupt> EndpointWrite<T> {
     pub fn flush<B: Bus>(&mut self, bus: &mut B) -> Result<(), Fail<WriteFault>>
         requires stands { Stands (B.state bus.old) self.old.endpoint }
         ensures ok { OnOk result
-            (DrainedAll (bus_calls B.state B.submitted B.refused B.turned B.turn_of B.taken) true
-            self.old.timeout
-            (sent (bus_calls B.state B.submitted B.refused B.turned B.turn_of B.taken)
-            self.old.buffer (not_begun (writing bus.old self.old))) (writing bus.new self.new)) }
+            (Flushed (bus_calls B.state B.submitted B.refused B.turned B.turn_of B.taken)
+            self.old.timeout (writing bus.old self.old) (writing bus.new self.new)) }
         ensures failed { IfErr result
-            (λ e. FailsBy e
-            (DrainFault (bus_calls B.state B.submitted B.refused B.turned B.turn_of B.taken)
-            true self.old.timeout
-            (sent (bus_calls B.state B.submitted B.refused B.turned B.turn_of B.taken)
-            self.old.buffer (not_begun (writing bus.old self.old))) (writing bus.new self.new))
-            (writing bus.new self.new ≡ not_begun (writing bus.old self.old))) }
+            (IsFlushError (bus_calls B.state B.submitted B.refused B.turned B.turn_of B.taken)
+            self.old.timeout (writing bus.old self.old) (writing bus.new self.new)) }
         ensures tells { TellsOn (B.state bus.old) (B.state bus.new) self.old self.new
             (flushed_calls result) }
-        ensures key { self.new.endpoint.key ≡ self.old.endpoint.key }
+        ensures settings { KeepsWriter self.old self.new }
         ensures stands { Stands (B.state bus.new) self.new.endpoint }
         ensures others { KeepsOthers (B.state bus.old) (B.state bus.new) self.old.endpoint.key }
     {
@@ -222,24 +213,19 @@ impl<T: BulkOrInterrupt> EndpointWrite<T> {
         requires stands { Stands (B.state bus.old) self.old.endpoint }
         ensures ok { IfReady result
             (λ r. OnOk r
-            (DrainedAll (bus_calls B.state B.submitted B.refused B.turned B.turn_of B.taken)
-            true 0 (sent (bus_calls B.state B.submitted B.refused B.turned B.turn_of B.taken)
-            self.old.buffer (not_begun (writing bus.old self.old)))
-            (writing bus.new self.new))) }
+            (Flushed (bus_calls B.state B.submitted B.refused B.turned B.turn_of B.taken)
+            0 (writing bus.old self.old) (writing bus.new self.new))) }
         ensures failed { IfReady result
-            (λ r. IfErr r (λ e. FailsBy e
-            (DrainFault (bus_calls B.state B.submitted B.refused B.turned B.turn_of B.taken)
-            true 0 (sent (bus_calls B.state B.submitted B.refused B.turned B.turn_of B.taken)
-            self.old.buffer (not_begun (writing bus.old self.old))) (writing bus.new self.new))
-            (writing bus.new self.new ≡ not_begun (writing bus.old self.old)))) }
+            (λ r. IfErr r
+            (IsFlushError (bus_calls B.state B.submitted B.refused B.turned B.turn_of B.taken)
+            0 (writing bus.old self.old) (writing bus.new self.new))) }
         ensures in_time { IfReady result (λ r. IfErr r IsWrittenInTime) }
         ensures pending { IfPending result
-            (DrainMissed (bus_calls B.state B.submitted B.refused B.turned B.turn_of B.taken) true 0
-            (sent (bus_calls B.state B.submitted B.refused B.turned B.turn_of B.taken)
-            self.old.buffer (not_begun (writing bus.old self.old))) (writing bus.new self.new)) }
+            (FlushPending (bus_calls B.state B.submitted B.refused B.turned B.turn_of B.taken)
+            (writing bus.old self.old) (writing bus.new self.new)) }
         ensures tells { TellsOn (B.state bus.old) (B.state bus.new) self.old self.new
             (poll_flushed_calls result) }
-        ensures key { self.new.endpoint.key ≡ self.old.endpoint.key }
+        ensures settings { KeepsWriter self.old self.new }
         ensures stands { Stands (B.state bus.new) self.new.endpoint }
         ensures others { KeepsOthers (B.state bus.old) (B.state bus.new) self.old.endpoint.key }
     {
@@ -261,21 +247,13 @@ impl<T: BulkOrInterrupt> EndpointWrite<T> {
             + end_need self.old.endpoint.maximum self.old.buffer ≤ 64 }
         requires stands { Stands (B.state bus.old) self.old.endpoint }
         ensures ok { OnOk result
-            (DrainedAll (bus_calls B.state B.submitted B.refused B.turned B.turn_of B.taken) true
-            self.old.timeout
-            (sent_end (bus_calls B.state B.submitted B.refused B.turned B.turn_of B.taken)
-            self.old.buffer (not_begun (writing bus.old self.old))) (writing bus.new self.new)) }
+            (FlushedEnd (bus_calls B.state B.submitted B.refused B.turned B.turn_of B.taken)
+            self.old.timeout (writing bus.old self.old) (writing bus.new self.new)) }
         ensures failed { IfErr result
-            (λ e. FailsBy e
-            (DrainFault (bus_calls B.state B.submitted B.refused B.turned B.turn_of B.taken)
-            true self.old.timeout
-            (sent_end (bus_calls B.state B.submitted B.refused B.turned B.turn_of B.taken)
-            self.old.buffer (not_begun (writing bus.old self.old))) (writing bus.new self.new))
-            (EndShort (bus_calls B.state B.submitted B.refused B.turned B.turn_of B.taken)
-            self.old.buffer (not_begun (writing bus.old self.old))
-            (writing bus.new self.new))) }
+            (IsFlushEndError (bus_calls B.state B.submitted B.refused B.turned B.turn_of B.taken)
+            self.old.timeout (writing bus.old self.old) (writing bus.new self.new)) }
         ensures tells { TellsEnd (B.state bus.old) (B.state bus.new) self.old self.new result }
-        ensures key { self.new.endpoint.key ≡ self.old.endpoint.key }
+        ensures settings { KeepsWriter self.old self.new }
         ensures stands { Stands (B.state bus.new) self.new.endpoint }
         ensures others { KeepsOthers (B.state bus.old) (B.state bus.new) self.old.endpoint.key }
     {
@@ -289,8 +267,9 @@ impl<T: BulkOrInterrupt> EndpointWrite<T> {
         }
     }
 
-    /// `flush_end`, which is pending where the front is not there. The polls up to one that is ready
-    /// submit one end in all, unless another writing, submitting or flushing call comes between.
+    /// `flush_end`, which is pending where the front is not there. The polls up to one that is
+    /// ready submit one end in all, unless another writing, submitting or flushing call comes
+    /// between.
     pub fn poll_flush_end<B: Bus>(&mut self, bus: &mut B) -> Poll<Result<(), Fail<WriteFault>>>
         requires few { self.old.begun ≡ false → length self.old.endpoint.pending
             + end_need self.old.endpoint.maximum self.old.buffer ≤ 64 }
@@ -300,19 +279,16 @@ impl<T: BulkOrInterrupt> EndpointWrite<T> {
             (PolledEnd (bus_calls B.state B.submitted B.refused B.turned B.turn_of B.taken)
             (writing bus.old self.old) (writing bus.new self.new))) }
         ensures failed { IfReady result
-            (λ r. IfErr r (λ e. FailsBy e
-            (PolledEndFailed (bus_calls B.state B.submitted B.refused B.turned B.turn_of B.taken)
-            (writing bus.old self.old) (writing bus.new self.new))
-            (PolledEndShort (bus_calls B.state B.submitted B.refused B.turned B.turn_of B.taken)
-            (writing bus.old self.old) (writing bus.new self.new)))) }
+            (λ r. IfErr r
+            (IsPollEndError (bus_calls B.state B.submitted B.refused B.turned B.turn_of B.taken)
+            (writing bus.old self.old) (writing bus.new self.new))) }
         ensures in_time { IfReady result (λ r. IfErr r IsWrittenInTime) }
         ensures pending { IfPending result
-            (DrainMissed (bus_calls B.state B.submitted B.refused B.turned B.turn_of B.taken) true 0
-            (begun_end (bus_calls B.state B.submitted B.refused B.turned B.turn_of B.taken)
-            (writing bus.old self.old)) (writing bus.new self.new)) }
+            (EndPending (bus_calls B.state B.submitted B.refused B.turned B.turn_of B.taken)
+            (writing bus.old self.old) (writing bus.new self.new)) }
         ensures tells { TellsPolledEnd (B.state bus.old) (B.state bus.new) self.old self.new
             result }
-        ensures key { self.new.endpoint.key ≡ self.old.endpoint.key }
+        ensures settings { KeepsWriter self.old self.new }
         ensures stands { Stands (B.state bus.new) self.new.endpoint }
         ensures others { KeepsOthers (B.state bus.old) (B.state bus.new) self.old.endpoint.key }
     {

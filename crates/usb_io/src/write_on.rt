@@ -1,0 +1,244 @@
+//! A writer on its bus, which std's trait writes to.
+
+ghost use Rattle.std.specs.Prelude.{◌≡◌, true};
+ghost use Rattle.usb_io.specs.Held.{IsHeld, IsHeld-prop};
+ghost use Rattle.std.specs.IoError.{error_kind};
+ghost use Rattle.usb_io.specs.StdErrors.{std_write_kind};
+
+use crate::fault::WriteFault;
+use crate::read_on::transfer_error;
+use crate::writer::EndpointWrite;
+use std::io::{self, ErrorKind, Write};
+use usb_bus::Bus;
+use usb_desc::Fail;
+use usb_xfer::{Bulk, BulkOrInterrupt, Interrupt};
+
+/// A writer and the bus that it writes by.
+#[derive(Drop)]
+pub struct WriteOn<'a, T: BulkOrInterrupt, B: Bus> {
+    /// The writer that is written to.
+    pub writer: &'a mut EndpointWrite<T>,
+    /// The bus that it writes by.
+    pub bus: &'a mut B,
+    ghost key_is_open: { (B.state bus.now).keys writer.now.endpoint.key ≡ true },
+    ghost held: { IsHeld (B.state bus.now) writer.now.endpoint } by { IsHeld-prop (B.state bus.now) writer.now.endpoint },
+}
+
+impl<'a, T: BulkOrInterrupt, B: Bus> WriteOn<'a, T, B> {
+    ghost use Rattle.std.specs.Prelude.{◌≡◌, IfOk, IfErr, OnOk};
+    ghost use Rattle.std.specs.Io.{WritesAtMost};
+    ghost use Rattle.usb_io.specs.Reads.{bus_calls};
+    ghost use Rattle.usb_io.specs.Writers.{writing, KeepsWriter};
+    ghost use Rattle.usb_io.specs.WriteAnswers.{Wrote, IsWriteError, Flushed, IsFlushError};
+    ghost use Rattle.usb_io.specs.Carried.{written_calls, flushed_calls, TellsOn};
+    ghost use Rattle.usb_io.specs.StdErrors.{IsStdWriteError, IsStdFlushError, TellsStdFlush};
+
+    /// Accepts bytes, as many as fit.
+    fn write_some(&mut self, src: &[u8]) -> Result<usize, Fail<WriteFault>>
+        ensures same_writer { self.new.writer.ghost_name ≡ self.old.writer.ghost_name }
+        ensures same_bus { self.new.bus.ghost_name ≡ self.old.bus.ghost_name }
+        ensures wrote { IfOk result
+            (Wrote (bus_calls B.state B.submitted B.refused B.turned B.turn_of B.taken)
+            self.old.writer.now.timeout src.now (writing self.old.bus.now self.old.writer.now)
+            (writing self.new.bus.now self.new.writer.now)) }
+        ensures failed { IfErr result
+            (IsWriteError (bus_calls B.state B.submitted B.refused B.turned B.turn_of B.taken)
+            self.old.writer.now.timeout (writing self.old.bus.now self.old.writer.now)
+            (writing self.new.bus.now self.new.writer.now)) }
+        ensures tells { TellsOn (B.state self.old.bus.now) (B.state self.new.bus.now)
+            self.old.writer.now self.new.writer.now (written_calls src.now result) }
+        ensures settings { KeepsWriter self.old.writer.now self.new.writer.now }
+    {
+        self.writer.write(&mut *self.bus, src)
+    }
+
+    /// The same, with an error of std's.
+    fn write_std(&mut self, src: &[u8]) -> io::Result<usize>
+        ensures bound { WritesAtMost result src.now }
+        ensures same_writer { self.new.writer.ghost_name ≡ self.old.writer.ghost_name }
+        ensures same_bus { self.new.bus.ghost_name ≡ self.old.bus.ghost_name }
+        ensures wrote { IfOk result
+            (Wrote (bus_calls B.state B.submitted B.refused B.turned B.turn_of B.taken)
+            self.old.writer.now.timeout src.now (writing self.old.bus.now self.old.writer.now)
+            (writing self.new.bus.now self.new.writer.now)) }
+        ensures failed { IfErr result
+            (IsStdWriteError (bus_calls B.state B.submitted B.refused B.turned B.turn_of B.taken)
+            self.old.writer.now.timeout (writing self.old.bus.now self.old.writer.now)
+            (writing self.new.bus.now self.new.writer.now)) }
+        ensures tells { TellsOn (B.state self.old.bus.now) (B.state self.new.bus.now)
+            self.old.writer.now self.new.writer.now (written_calls src.now result) }
+        ensures settings { KeepsWriter self.old.writer.now self.new.writer.now }
+    {
+        match self.write_some(src) {
+            Ok(n) => Ok(n),
+            Err(fail) => Err(std_error(fail)),
+        }
+    }
+
+    /// Submits what stands, and takes all that is pending.
+    fn flush_some(&mut self) -> Result<(), Fail<WriteFault>>
+        ensures same_writer { self.new.writer.ghost_name ≡ self.old.writer.ghost_name }
+        ensures same_bus { self.new.bus.ghost_name ≡ self.old.bus.ghost_name }
+        ensures flushed { OnOk result
+            (Flushed (bus_calls B.state B.submitted B.refused B.turned B.turn_of B.taken)
+            self.old.writer.now.timeout (writing self.old.bus.now self.old.writer.now)
+            (writing self.new.bus.now self.new.writer.now)) }
+        ensures failed { IfErr result
+            (IsFlushError (bus_calls B.state B.submitted B.refused B.turned B.turn_of B.taken)
+            self.old.writer.now.timeout (writing self.old.bus.now self.old.writer.now)
+            (writing self.new.bus.now self.new.writer.now)) }
+        ensures tells { TellsOn (B.state self.old.bus.now) (B.state self.new.bus.now)
+            self.old.writer.now self.new.writer.now (flushed_calls result) }
+        ensures settings { KeepsWriter self.old.writer.now self.new.writer.now }
+    {
+        self.writer.flush(&mut *self.bus)
+    }
+
+    /// The same, with an error of std's.
+    fn flush_std(&mut self) -> io::Result<()>
+        ensures same_writer { self.new.writer.ghost_name ≡ self.old.writer.ghost_name }
+        ensures same_bus { self.new.bus.ghost_name ≡ self.old.bus.ghost_name }
+        ensures flushed { OnOk result
+            (Flushed (bus_calls B.state B.submitted B.refused B.turned B.turn_of B.taken)
+            self.old.writer.now.timeout (writing self.old.bus.now self.old.writer.now)
+            (writing self.new.bus.now self.new.writer.now)) }
+        ensures failed { IfErr result
+            (IsStdFlushError (bus_calls B.state B.submitted B.refused B.turned B.turn_of B.taken)
+            self.old.writer.now.timeout (writing self.old.bus.now self.old.writer.now)
+            (writing self.new.bus.now self.new.writer.now)) }
+        ensures tells { TellsStdFlush (B.state self.old.bus.now) (B.state self.new.bus.now)
+            self.old.writer.now self.new.writer.now result }
+        ensures settings { KeepsWriter self.old.writer.now self.new.writer.now }
+    {
+        match self.flush_some() {
+            Ok(()) => Ok(()),
+            Err(fail) => Err(std_error(fail)),
+        }
+    }
+}
+
+/// The error of std's for a write that failed.
+fn std_error(fail: Fail<WriteFault>) -> io::Error
+    ensures kind { error_kind result ≡ std_write_kind fail }
+{
+    match fail {
+        Fail::Cause(WriteFault::Transfer(error)) => transfer_error(error),
+        Fail::Cause(WriteFault::TimedOut) => io::Error::new(ErrorKind::TimedOut, "write timeout"),
+        Fail::Memory => io::Error::new(ErrorKind::OutOfMemory, "out of memory"),
+    }
+}
+
+impl<'a, B: Bus> Write for WriteOn<'a, Bulk, B> {
+    ghost use Rattle.std.specs.Prelude.{◌≡◌, IfOk, IfErr, OnOk, None};
+    ghost use Rattle.std.specs.Io.{WritesAtMost};
+    ghost use Rattle.std.specs.Io.KnownBytes.{WriteAppends, Keeps};
+    ghost use Rattle.usb_io.specs.Reads.{bus_calls};
+    ghost use Rattle.usb_io.specs.Writers.{writing, KeepsWriter};
+    ghost use Rattle.usb_io.specs.WriteAnswers.{Wrote, Flushed};
+    ghost use Rattle.usb_io.specs.Carried.{written_calls, TellsOn};
+    ghost use Rattle.usb_io.specs.StdErrors.{IsStdWriteError, IsStdFlushError, TellsStdFlush};
+
+    fn write(&mut self, buf: &[u8]) -> io::Result<usize>
+        ensures bound { WritesAtMost result buf.now }
+        ensures bytes { WriteAppends None None result buf.now }
+        ensures same_writer { self.new.writer.ghost_name ≡ self.old.writer.ghost_name }
+        ensures same_bus { self.new.bus.ghost_name ≡ self.old.bus.ghost_name }
+        ensures wrote { IfOk result
+            (Wrote (bus_calls B.state B.submitted B.refused B.turned B.turn_of B.taken)
+            self.old.writer.now.timeout buf.now (writing self.old.bus.now self.old.writer.now)
+            (writing self.new.bus.now self.new.writer.now)) }
+        ensures failed { IfErr result
+            (IsStdWriteError (bus_calls B.state B.submitted B.refused B.turned B.turn_of B.taken)
+            self.old.writer.now.timeout (writing self.old.bus.now self.old.writer.now)
+            (writing self.new.bus.now self.new.writer.now)) }
+        ensures tells { TellsOn (B.state self.old.bus.now) (B.state self.new.bus.now)
+            self.old.writer.now self.new.writer.now (written_calls buf.now result) }
+        ensures settings { KeepsWriter self.old.writer.now self.new.writer.now }
+    {
+        self.write_std(buf)
+    }
+
+    fn flush(&mut self) -> io::Result<()>
+        ensures bytes { Keeps None None }
+        ensures same_writer { self.new.writer.ghost_name ≡ self.old.writer.ghost_name }
+        ensures same_bus { self.new.bus.ghost_name ≡ self.old.bus.ghost_name }
+        ensures flushed { OnOk result
+            (Flushed (bus_calls B.state B.submitted B.refused B.turned B.turn_of B.taken)
+            self.old.writer.now.timeout (writing self.old.bus.now self.old.writer.now)
+            (writing self.new.bus.now self.new.writer.now)) }
+        ensures failed { IfErr result
+            (IsStdFlushError (bus_calls B.state B.submitted B.refused B.turned B.turn_of B.taken)
+            self.old.writer.now.timeout (writing self.old.bus.now self.old.writer.now)
+            (writing self.new.bus.now self.new.writer.now)) }
+        ensures tells { TellsStdFlush (B.state self.old.bus.now) (B.state self.new.bus.now)
+            self.old.writer.now self.new.writer.now result }
+        ensures settings { KeepsWriter self.old.writer.now self.new.writer.now }
+    {
+        self.flush_std()
+    }
+}
+
+impl<'a, B: Bus> Write for WriteOn<'a, Interrupt, B> {
+    ghost use Rattle.std.specs.Prelude.{◌≡◌, IfOk, IfErr, OnOk, None};
+    ghost use Rattle.std.specs.Io.{WritesAtMost};
+    ghost use Rattle.std.specs.Io.KnownBytes.{WriteAppends, Keeps};
+    ghost use Rattle.usb_io.specs.Reads.{bus_calls};
+    ghost use Rattle.usb_io.specs.Writers.{writing, KeepsWriter};
+    ghost use Rattle.usb_io.specs.WriteAnswers.{Wrote, Flushed};
+    ghost use Rattle.usb_io.specs.Carried.{written_calls, TellsOn};
+    ghost use Rattle.usb_io.specs.StdErrors.{IsStdWriteError, IsStdFlushError, TellsStdFlush};
+
+    fn write(&mut self, buf: &[u8]) -> io::Result<usize>
+        ensures bound { WritesAtMost result buf.now }
+        ensures bytes { WriteAppends None None result buf.now }
+        ensures same_writer { self.new.writer.ghost_name ≡ self.old.writer.ghost_name }
+        ensures same_bus { self.new.bus.ghost_name ≡ self.old.bus.ghost_name }
+        ensures wrote { IfOk result
+            (Wrote (bus_calls B.state B.submitted B.refused B.turned B.turn_of B.taken)
+            self.old.writer.now.timeout buf.now (writing self.old.bus.now self.old.writer.now)
+            (writing self.new.bus.now self.new.writer.now)) }
+        ensures failed { IfErr result
+            (IsStdWriteError (bus_calls B.state B.submitted B.refused B.turned B.turn_of B.taken)
+            self.old.writer.now.timeout (writing self.old.bus.now self.old.writer.now)
+            (writing self.new.bus.now self.new.writer.now)) }
+        ensures tells { TellsOn (B.state self.old.bus.now) (B.state self.new.bus.now)
+            self.old.writer.now self.new.writer.now (written_calls buf.now result) }
+        ensures settings { KeepsWriter self.old.writer.now self.new.writer.now }
+    {
+        self.write_std(buf)
+    }
+
+    fn flush(&mut self) -> io::Result<()>
+        ensures bytes { Keeps None None }
+        ensures same_writer { self.new.writer.ghost_name ≡ self.old.writer.ghost_name }
+        ensures same_bus { self.new.bus.ghost_name ≡ self.old.bus.ghost_name }
+        ensures flushed { OnOk result
+            (Flushed (bus_calls B.state B.submitted B.refused B.turned B.turn_of B.taken)
+            self.old.writer.now.timeout (writing self.old.bus.now self.old.writer.now)
+            (writing self.new.bus.now self.new.writer.now)) }
+        ensures failed { IfErr result
+            (IsStdFlushError (bus_calls B.state B.submitted B.refused B.turned B.turn_of B.taken)
+            self.old.writer.now.timeout (writing self.old.bus.now self.old.writer.now)
+            (writing self.new.bus.now self.new.writer.now)) }
+        ensures tells { TellsStdFlush (B.state self.old.bus.now) (B.state self.new.bus.now)
+            self.old.writer.now self.new.writer.now result }
+        ensures settings { KeepsWriter self.old.writer.now self.new.writer.now }
+    {
+        self.flush_std()
+    }
+}
+
+impl<T: BulkOrInterrupt> EndpointWrite<T> {
+    ghost use Rattle.usb_endpoint.specs.Handles.{Stands};
+
+    /// The writer on this bus, for std's trait.
+    pub fn on<'a, B: Bus>(&'a mut self, bus: &'a mut B) -> WriteOn<'a, T, B>
+        requires stands { Stands (B.state bus.old) self.old.endpoint }
+        ensures writer { (result.writer.ghost_name ≡ self.entry.ghost_name)
+            × (result.writer.now ≡ self.old) }
+        ensures bus { (result.bus.ghost_name ≡ bus.entry.ghost_name)
+            × (result.bus.now ≡ bus.old) }
+    {
+        WriteOn { writer: self, bus }
+    }
+}
