@@ -10,7 +10,7 @@ const TREE: (&str, &str) = (
 );
 
 /// What follows the tree, and what is written for it.
-const CALLS: [(&str, &str, &str); 10] = [
+const CALLS: [(&str, &str, &str); 11] = [
     (
         "listings, probing, selectors and buses",
         "list\nprobe /sys/devices/pci0/usb1/1-6\nprobe /nowhere\nmatch /sys/devices/pci0/usb1/1-6 vidpid aaaa bbbb\nmatch /sys/devices/pci0/usb1/1-6 class ff\nmatch /sys/devices/pci0/usb1/1-6 class 03\nbuses\n",
@@ -50,6 +50,11 @@ const CALLS: [(&str, &str, &str); 10] = [
         "a version with an empty part",
         "attr /sys/devices/pci0/usb1/1-6 version =2..0\nprobe /sys/devices/pci0/usb1/1-6\n",
         "sysfs /sys/devices/pci0/usb1/1-6/version parse 322e2e30\n",
+    ),
+    (
+        "a device whose folder has its nine numbers alone",
+        "attr /d busnum =2\nattr /d devnum =9\nattr /d idVendor =1234\nattr /d idProduct =00ff\nattr /d bcdDevice =0213\nattr /d version =1.10\nattr /d bDeviceClass =e0\nattr /d bDeviceSubClass =01\nattr /d bDeviceProtocol =02\nprobe /d\n",
+        "info 2 9 - 1234 00ff 0213 0110 e0 01 02 none none none none\n",
     ),
     (
         "a device that is opened by its folder",
