@@ -43,3 +43,4 @@ pub mod OwnerLawWaits
 pub mod OwnerLawClaims
 pub mod OwnerLaw
 pub mod HeldDevices
+pub mod HeldLaw

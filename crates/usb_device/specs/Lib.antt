@@ -30,3 +30,4 @@ pub mod WaitLaws
 pub mod EndLaws
 pub mod OwnerLaws
 pub mod DeviceLaws
+pub mod HeldLaws

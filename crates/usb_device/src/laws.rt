@@ -1,6 +1,7 @@
 //! Laws of waits, of ends and of claims at a host. Each is the contract of a function that does
 //! nothing.
 
+ghost use Rattle.usb_device.specs.HeldLaws.{DevicesStayHeld};
 ghost use Rattle.usb_device.specs.EndLaws.{EndsStay, DroppedWhereReaped};
 ghost use Rattle.usb_device.specs.OwnerLaws.{ClaimsStayOwned};
 ghost use Rattle.usb_device.specs.WaitLaws.{WaitIsBySteps, BlockingIsBySteps, TurnGoesOn, WaitGoesOn, BlockingGoesOn, RestGoesOn, RestLeavesNone, LineUsesPlaces};
@@ -45,4 +46,11 @@ pub fn what_is_reaped_is_dropped()
 /// a handle of its own.
 pub fn claims_are_owned()
     ensures { ClaimsStayOwned }
+{}
+
+/// Of open devices nothing is kept that has gone: each that is there is held, by an open handle of
+/// it or of an interface that was claimed on it. One with an open handle stays, with at least its
+/// handles, over every call but the close of a handle of its own.
+pub fn devices_are_held()
+    ensures { DevicesStayHeld }
 {}

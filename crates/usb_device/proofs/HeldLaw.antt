@@ -1,0 +1,336 @@
+-- The open devices of a host over all calls.
+use Rattle.std.proofs.Common.{ℕ, zero, suc, ◌≡◌, ◌≢◌, ◌≤◌, ◌<◌, ◌+◌, ◌-◌, arith, Bool, true, false, cond, List, [], ◌∷◌, length, set, slice_get, Option, Some, None, refl, ap, sym, ◌∙◌, Result, Ok, Err, inl, inr}
+use Rattle.std.specs.Prelude.{is_some, nat_lt}
+use Rattle.std.proofs.lemmas.Bool.{cond_both, cases_eq}
+use Rattle.usb_simulated.specs.declared.step.KernelStep.{KernelStep}
+use Rattle.usb_kernel.specs.declared.submission.Done.{Done}
+use Rattle.usb_kernel.specs.Completions.{completion, waiting, lowest, reapable}
+use Rattle.usb_kernel.specs.Steps.{after_step, step_done, after_reap}
+use Rattle.usb_kernel.specs.Tickets.{tickets}
+use Rattle.usb_error.specs.ErrorState.{ErrorState}
+use Rattle.usb_registry.specs.History.{value_at}
+use Rattle.usb_registry.proofs.ValueLemmas.{value-push}
+use Rattle.usb_ledger.specs.Entries.{ClaimedInterface, HostTicket, HeldBy, Abandoned, Ended}
+use Rattle.usb_ledger.specs.declared.ends.TicketEnd.{TicketEnd}
+use Rattle.usb_ledger.specs.declared.ends.TicketEnd.TheVariants.{Taken, Dropped}
+use Rattle.usb_ledger.specs.declared.opened.OpenDevice.{OpenDevice}
+use Rattle.usb_ledger.specs.Devices.{device_changed, handle_more, handle_less}
+use Rattle.usb_ledger.specs.Owners.{has_living}
+use Rattle.usb_device.specs.HostState.{HostState}
+use Rattle.usb_device.specs.HostFrames.{ClaimsGoOn}
+use Rattle.usb_device.specs.TicketEnds.{ended_as, host_ended, host_taken, given_up, host_abandoned, came}
+use Rattle.usb_device.specs.HostTurns.{with_past, host_stepped, host_reaped, host_turned, host_rest}
+use Rattle.usb_device.specs.HostCalls.{host_submitted, host_refused, host_discarded, host_left, host_idled}
+use Rattle.usb_device.specs.HostWaits.{is_found, reap_and, host_waited}
+use Rattle.usb_device.specs.HostBlocking.{or_then, host_blocked}
+use Rattle.usb_device.specs.HostAwaits.{sought_reaps, sought_steps, host_awaited}
+use Rattle.usb_device.specs.Finishes.{discarded_below, reaped_below, finished}
+use Rattle.usb_device.specs.HandleStates.{InterfaceState, StandsDevice, StandsInterface}
+use Rattle.usb_device.specs.Handles.{device_cloned, device_closed, handle_added, handle_cloned, handle_closed}
+use Rattle.usb_device.specs.Opens.{open_tried, opened_by, host_opened}
+use Rattle.usb_device.specs.InterfaceClaims.{host_claimed}
+use Rattle.usb_device.specs.EndpointOpens.{host_asked}
+use Rattle.usb_device.specs.OnDevices.{host_detached, detached_on, host_attached, attached_on, host_configured, configured_on, configured_unless, set_configuration_errno, host_speed_asked, speed_asked_on, host_reset, reset_on}
+use Rattle.usb_device.specs.OnInterfaces.{alt_setting_errno, setting_unless, alt_setting_asked, alt_setting_on, alt_setting_set}
+use Rattle.usb_device.specs.DeviceLaws.{DevicesAreHeld}
+use Rattle.usb_device.specs.HeldLaws.{KeepsDevice, KeepsDevices, KeepsOtherDevices, KeepsHeld, DevicesStayHeld}
+use Rattle.usb_device.proofs.HostFrames.{ended_as-is, ended_as-goes, came-is, came-goes}
+use Rattle.usb_device.proofs.ClaimFrames.{goes-same, goes-refl, goes-trans}
+use Rattle.usb_device.proofs.CallFrames.{keeps-submitted, keeps-refused, line-left, interfaces-left}
+use Rattle.usb_device.proofs.WaitFrames.{went-rest, went-turned, went-waited, went-blocked}
+use Rattle.usb_device.proofs.HostKeeps.{KeepsOpen}
+use Rattle.usb_device.proofs.InterfaceFrames.{opened-is, asked-is, asked-counts}
+use Rattle.usb_device.proofs.DeviceLemmas.{KeepsCounts, KeepsOpened, counts_of, counts-same, counts-set, counted-new, changed-at, changed-other, held-handle_more}
+use Rattle.usb_device.proofs.HeldDevices.{held-goes, held-written, held-start, held-opened, held-device_cloned, held-device_closed, held-claimed, held-handle_cloned, held-handle_closed, opened-claimed, opened-handle_closed}
+
+-- what a host does by itself, and most calls: no open device changes, and claimed interfaces go on
+record LeavesDevices (old new : HostState) : Type 0 where
+  pub devices : new.devices ≡ old.devices
+  pub interfaces : ClaimsGoOn old.interfaces new.interfaces
+
+leaves-refl : (h : HostState) → LeavesDevices h h
+leaves-refl h = record { devices = refl; interfaces = goes-refl h.interfaces }
+
+leaves-trans : (a b c : HostState) → LeavesDevices a b → LeavesDevices b c → LeavesDevices a c
+leaves-trans a b c first second = record { devices = second.devices ∙ first.devices; interfaces = goes-trans a.interfaces b.interfaces c.interfaces first.interfaces second.interfaces }
+
+leaves-open : (old new : HostState) → KeepsOpen old new → LeavesDevices old new
+leaves-open old new keeps = record { devices = keeps.line.devices; interfaces = keeps.interfaces }
+
+-- devices stay that keep their counts
+kept-counts : (old new : List (Option OpenDevice)) → KeepsCounts old new → KeepsDevices old new
+kept-counts old new keeps key o at some = let c = counted-new old new key o keeps at in record { device = c.device; at = c.at; more = omega (arith, c.handles) }
+
+kept-opened : (old new : List (Option OpenDevice)) → KeepsOpened old new → KeepsDevices old new
+kept-opened old new keeps key o at some = let c = keeps.stays key o at some in record { device = c.device; at = c.at; more = omega (arith, c.handles) }
+
+counts-held : (old new : HostState) → KeepsCounts old.devices new.devices → ClaimsGoOn old.interfaces new.interfaces → KeepsHeld old new
+counts-held old new keeps goes = record { held = held-goes old new keeps goes; devices = kept-counts old.devices new.devices keeps }
+
+leaves-held : (old new : HostState) → LeavesDevices old new → KeepsHeld old new
+leaves-held old new leaves = counts-held old new (counts-same old.devices new.devices leaves.devices) leaves.interfaces
+
+same-held : (old new : HostState) → new.devices ≡ old.devices → new.interfaces ≡ old.interfaces → KeepsHeld old new
+same-held old new devices interfaces = leaves-held old new (record { devices = devices; interfaces = goes-same old.interfaces new.interfaces interfaces })
+
+-- steps, reaps and ends of tickets
+came-leaves : (h : HostState) (o : Option Done) → LeavesDevices h (came h o)
+came-leaves h o = record { devices = ap (λ (g : HostState). g.devices) (came-is h o); interfaces = came-goes h o }
+
+stepped-leaves : (h : HostState) (s : KernelStep) → LeavesDevices h (host_stepped h s)
+unfolding host_stepped
+stepped-leaves h s = let came_ = came-leaves (record h { kernel = after_step h.kernel s }) (step_done h.kernel.past s) in record { devices = came_.devices; interfaces = came_.interfaces }
+
+reaped-leaves : (h : HostState) (t : ℕ) → LeavesDevices h (host_reaped h t)
+unfolding host_reaped
+reaped-leaves h t = let came_ = came-leaves (with_past h (after_reap h.kernel.past t)) (reapable h.kernel.past t) in record { devices = came_.devices; interfaces = came_.interfaces }
+
+discarded-leaves : (h : HostState) (t : ℕ) → LeavesDevices h (host_discarded h t)
+unfolding host_discarded
+discarded-leaves h t = record { devices = refl; interfaces = goes-refl h.interfaces }
+
+ended_as-leaves : (h : HostState) (t : ℕ) (end : TicketEnd) (o : Option HostTicket) → LeavesDevices h (ended_as h t end o)
+ended_as-leaves h t end o = record { devices = ap (λ (g : HostState). g.devices) (ended_as-is h t end o); interfaces = ended_as-goes h t end o }
+
+ended-leaves : (h : HostState) (t : ℕ) (end : TicketEnd) → LeavesDevices h (host_ended h t end)
+unfolding host_ended
+ended-leaves h t end = ended_as-leaves h t end (slice_get h.tickets t)
+
+taken-leaves : (h : HostState) (t : ℕ) → LeavesDevices h (host_taken h t)
+unfolding host_taken
+taken-leaves h t = ended-leaves h t Taken
+
+given_up-leaves : (h : HostState) (t : ℕ) (o : Option HostTicket) → LeavesDevices h (given_up h t o)
+given_up-leaves h t None = leaves-refl h
+given_up-leaves h t (Some (HeldBy hold)) = record { devices = refl; interfaces = goes-refl h.interfaces }
+given_up-leaves h t (Some (Abandoned key)) = leaves-refl h
+given_up-leaves h t (Some (Ended end)) = leaves-refl h
+
+abandoned-leaves : (h : HostState) (t : ℕ) → LeavesDevices h (host_abandoned h t)
+unfolding host_abandoned
+abandoned-leaves h t =
+    let given = given_up h t (slice_get h.tickets t) in
+    cond_both (is_some (completion h.kernel.past t)) (host_ended h t Dropped) given (LeavesDevices h) (λ yes_. ended-leaves h t Dropped) (λ no_. given_up-leaves h t (slice_get h.tickets t))
+
+left-leaves : (h : HostState) (key : ℕ) → LeavesDevices h (host_left h key)
+left-leaves h key = record { devices = (line-left h key).devices; interfaces = interfaces-left h key }
+
+idled-leaves : (h : HostState) (until : ℕ) → LeavesDevices h (host_idled h until)
+idled-leaves h until = record { devices = refl; interfaces = goes-refl h.interfaces }
+
+turned-leaves : (h : HostState) → LeavesDevices h (host_turned h)
+turned-leaves h = let went = (went-turned h).line in record { devices = went.devices; interfaces = went.interfaces }
+
+rest-leaves : (h : HostState) → LeavesDevices h (host_rest h)
+rest-leaves h = let went = (went-rest h).line in record { devices = went.devices; interfaces = went.interfaces }
+
+waited-leaves : (h : HostState) (t timeout : ℕ) → LeavesDevices h (host_waited h t timeout).1
+waited-leaves h t timeout = let went = (went-waited h t timeout).line in record { devices = went.devices; interfaces = went.interfaces }
+
+blocked-leaves : (h : HostState) (t timeout : ℕ) → LeavesDevices h (host_blocked h t timeout)
+blocked-leaves h t timeout = let went = (went-blocked h t timeout).line in record { devices = went.devices; interfaces = went.interfaces }
+
+-- a wait with no timeout of its own
+found-or : (h : HostState) (found : Bool) (p : Bool × HostState) → LeavesDevices h p.1 → LeavesDevices h (cond found (true, h) p).1
+found-or h found p leaves = cond_both found (true, h) p (λ (q : Bool × HostState). LeavesDevices h q.1) (λ yes_. leaves-refl h) (λ no_. leaves)
+
+reaped-further : (h : HostState) (o : Option ℕ) (further : HostState → Bool × HostState) → ((g : HostState) → LeavesDevices g (further g).1) → LeavesDevices h (reap_and o h further).1
+reaped-further h None further each = leaves-refl h
+reaped-further h (Some u) further each = let next = host_reaped h u in leaves-trans h next (further next).1 (reaped-leaves h u) (each next)
+
+sought_reaps-leaves : (n : ℕ) (h : HostState) (t : ℕ) → LeavesDevices h (sought_reaps n h t).1
+sought_reaps-leaves zero h t = leaves-refl h
+sought_reaps-leaves (suc n) h t =
+    let further = λ (g : HostState). sought_reaps n g t in
+    found-or h (is_found h t) (reap_and (lowest h.kernel.past) h further) (reaped-further h (lowest h.kernel.past) further (λ g. sought_reaps-leaves n g t))
+
+sought_steps-leaves : (steps : List KernelStep) (h : HostState) (t : ℕ) → LeavesDevices h (sought_steps steps h t).1
+sought_steps-leaves [] h t = sought_reaps-leaves (length (waiting h.kernel.past)) h t
+sought_steps-leaves (s ∷ ss) h t =
+    let before = record h { steps = ss } in
+    let next = host_stepped before s in
+    let stepped = stepped-leaves before s in
+    let more = sought_steps-leaves ss next t in
+    found-or h (is_found h t) (sought_steps ss next t) (leaves-trans h next (sought_steps ss next t).1 (record { devices = stepped.devices; interfaces = stepped.interfaces }) more)
+
+awaited-leaves : (h : HostState) (t deadline : ℕ) → LeavesDevices h (host_awaited h t deadline)
+unfolding host_awaited
+awaited-leaves h t deadline =
+    let p = sought_steps h.steps h t in
+    let idled = host_idled p.1 deadline in
+    let after = (sought_steps p.1.steps idled t).1 in
+    let first = sought_steps-leaves h.steps h t in
+    cond_both p.0 p.1 after (LeavesDevices h) (λ yes_. first)
+    (λ no_. leaves-trans h p.1 after first (leaves-trans p.1 idled after (idled-leaves p.1 deadline) (sought_steps-leaves p.1.steps idled t)))
+
+-- the end
+discarded_below-leaves : (h : HostState) (k : ℕ) → LeavesDevices h (discarded_below h k)
+discarded_below-leaves h zero = leaves-refl h
+discarded_below-leaves h (suc k) = let before = discarded_below h k in leaves-trans h before (host_discarded before k) (discarded_below-leaves h k) (discarded-leaves before k)
+
+reaped_below-leaves : (h : HostState) (k : ℕ) → LeavesDevices h (reaped_below h k)
+reaped_below-leaves h zero = leaves-refl h
+reaped_below-leaves h (suc k) = let before = reaped_below h k in leaves-trans h before (host_reaped before k) (reaped_below-leaves h k) (reaped-leaves before k)
+
+finished-leaves : (h : HostState) → LeavesDevices h (finished h)
+unfolding finished
+finished-leaves h =
+    let count = length (tickets h.kernel.past) in
+    let before = discarded_below h count in
+    leaves-trans h before (reaped_below before count) (discarded_below-leaves h count) (reaped_below-leaves before count)
+
+-- a device is opened, and handles of it are cloned and closed
+opened_by-kept : (devices : List (Option OpenDevice)) (h : HostState) (r : Result OpenDevice ErrorState) → h.devices ≡ devices → KeepsDevices devices (opened_by h r).devices
+opened_by-kept devices h (Err error) is key o at some = record { device = o; at = ap (λ ds. value_at ds key) is ∙ at; more = omega arith }
+opened_by-kept devices h (Ok new) is key o at some = record { device = o; at = value-push h.devices (Some new) key o (ap (λ ds. value_at ds key) is ∙ at); more = omega arith }
+
+opened-kept : (h : HostState) (bus address : ℕ) → KeepsDevices h.devices (host_opened h bus address).devices
+unfolding host_opened
+opened-kept h bus address = let step = open_tried bus address h.kernel in opened_by-kept h.devices (record h { kernel = step.kernel }) step.answer refl
+
+cloned-kept : (h : HostState) (key : ℕ) → StandsDevice h key → KeepsDevices h.devices (device_cloned h key).devices
+cloned-kept h key stands k o at some =
+    elim (cases_eq key k) [
+      | inl same ↦
+          let here : value_at h.devices key ≡ Some o = ap (value_at h.devices) same ∙ at in
+          let changed = changed-at h.devices key handle_more o here in
+          let after : value_at (device_changed h.devices key handle_more) key ≡ Some (handle_more o) = changed ∙ ap (λ (b : Bool). cond b (Some (handle_more o)) None) (held-handle_more o) in
+          record { device = handle_more o; at = ap (value_at (device_changed h.devices key handle_more)) (sym same) ∙ after; more = omega arith }
+      | inr apart ↦ record { device = o; at = changed-other h.devices key k handle_more apart ∙ at; more = omega arith }
+    ]
+
+closed-kept : (h : HostState) (key : ℕ) → KeepsOtherDevices h.devices (device_closed h key).devices key
+closed-kept h key k o apart at some = record { device = o; at = changed-other h.devices key k handle_less apart ∙ at; more = omega arith }
+
+-- claims and handles of interfaces
+added-devices : (h : HostState) (i : ℕ) (o : Option ClaimedInterface) → (handle_added h i o).devices ≡ h.devices
+added-devices h i None = refl
+added-devices h i (Some c) = refl
+
+cloned_handle-held : (h : HostState) (f : InterfaceState) → StandsInterface h f → KeepsHeld h (handle_cloned h f.key)
+unfolding handle_cloned
+cloned_handle-held h f stands =
+    record {
+      held = held-handle_cloned h f.key stands.claim stands.at stands.open_handle;
+      devices = kept-counts h.devices (handle_added h f.key (value_at h.interfaces f.key)).devices (counts-same h.devices _ (added-devices h f.key (value_at h.interfaces f.key)));
+    }
+
+closed_handle-held : (h : HostState) (f : InterfaceState) → StandsInterface h f → KeepsHeld h (handle_closed h f.key)
+closed_handle-held h f stands =
+    record {
+      held = λ own. held-handle_closed h f.key stands.claim stands.at stands.open_handle own;
+      devices = kept-opened h.devices (handle_closed h f.key).devices (opened-handle_closed h f.key);
+    }
+
+unless-opened : (c : ClaimedInterface) (setting : ℕ) (errno : Option ℕ) → (setting_unless c setting errno).opened ≡ c.opened
+unless-opened c setting None = refl
+unless-opened c setting (Some e) = refl
+
+unless-handles : (c : ClaimedInterface) (setting : ℕ) (errno : Option ℕ) → nat_lt 0 (setting_unless c setting errno).handles ≡ nat_lt 0 c.handles
+unless-handles c setting None = refl
+unless-handles c setting (Some e) = refl
+
+setting-asked : (h : HostState) (i setting : ℕ) (c : ClaimedInterface) → value_at h.interfaces i ≡ Some c → KeepsHeld h (alt_setting_asked h i setting c)
+setting-asked h i setting c at =
+    let errno = alt_setting_errno h c setting in
+    let same = counts-same h.devices h.devices refl in
+    record {
+      held = held-written h (alt_setting_asked h i setting c) i c (setting_unless c setting errno) same at refl (unless-opened c setting errno) (unless-handles c setting errno);
+      devices = kept-counts h.devices h.devices same;
+    }
+
+setting-held : (h : HostState) (i setting : ℕ) (o : Option ClaimedInterface) → value_at h.interfaces i ≡ o → KeepsHeld h (alt_setting_on h i setting o)
+setting-held h i setting None at = leaves-held h h (leaves-refl h)
+setting-held h i setting (Some c) at = cond_both (has_living h.tickets h.endpoints i) h (alt_setting_asked h i setting c) (KeepsHeld h) (λ yes_. leaves-held h h (leaves-refl h)) (λ no_. setting-asked h i setting c at)
+
+set-held : (h : HostState) (i setting : ℕ) → KeepsHeld h (alt_setting_set h i setting)
+unfolding alt_setting_set
+set-held h i setting = setting-held h i setting (value_at h.interfaces i) refl
+
+-- calls on open devices
+asked-held : (h : HostState) (key : ℕ) → KeepsHeld h (host_asked h key)
+asked-held h key = counts-held h (host_asked h key) (asked-counts h key) (goes-same h.interfaces (host_asked h key).interfaces (ap (λ (g : HostState). g.interfaces) (asked-is h key)))
+
+configured-kept : (o : OpenDevice) (value : ℕ) (errno : Option ℕ) → counts_of (configured_unless o value errno) ≡ counts_of o
+configured-kept o value None = refl
+configured-kept o value (Some errno) = refl
+
+configured_on-held : (h : HostState) (key value : ℕ) (o : Option OpenDevice) → value_at h.devices key ≡ o → KeepsHeld h (configured_on h key value o)
+configured_on-held h key value None at = leaves-held h h (leaves-refl h)
+configured_on-held h key value (Some o) at =
+    let errno = set_configuration_errno h o value in
+    counts-held h (configured_on h key value (Some o)) (counts-set h.devices key o (configured_unless o value errno) at (configured-kept o value errno)) (goes-refl h.interfaces)
+
+configured-held : (h : HostState) (key value : ℕ) → KeepsHeld h (host_configured h key value)
+unfolding host_configured
+configured-held h key value = configured_on-held h key value (value_at h.devices key) refl
+
+detached_on-held : (h : HostState) (number : ℕ) (o : Option OpenDevice) → KeepsHeld h (detached_on h number o)
+detached_on-held h number None = leaves-held h h (leaves-refl h)
+detached_on-held h number (Some o) = same-held h (detached_on h number (Some o)) refl refl
+
+detached-held : (h : HostState) (key number : ℕ) → KeepsHeld h (host_detached h key number)
+unfolding host_detached
+detached-held h key number = detached_on-held h number (value_at h.devices key)
+
+attached_on-held : (h : HostState) (number : ℕ) (o : Option OpenDevice) → KeepsHeld h (attached_on h number o)
+attached_on-held h number None = leaves-held h h (leaves-refl h)
+attached_on-held h number (Some o) = same-held h (attached_on h number (Some o)) refl refl
+
+attached-held : (h : HostState) (key number : ℕ) → KeepsHeld h (host_attached h key number)
+unfolding host_attached
+attached-held h key number = attached_on-held h number (value_at h.devices key)
+
+speed_on-held : (h : HostState) (o : Option OpenDevice) → KeepsHeld h (speed_asked_on h o)
+speed_on-held h None = leaves-held h h (leaves-refl h)
+speed_on-held h (Some o) = same-held h (speed_asked_on h (Some o)) refl refl
+
+speed-held : (h : HostState) (key : ℕ) → KeepsHeld h (host_speed_asked h key)
+unfolding host_speed_asked
+speed-held h key = speed_on-held h (value_at h.devices key)
+
+reset_on-held : (h : HostState) (o : Option OpenDevice) → KeepsHeld h (reset_on h o)
+reset_on-held h None = leaves-held h h (leaves-refl h)
+reset_on-held h (Some o) = same-held h (reset_on h (Some o)) refl refl
+
+reset-held : (h : HostState) (key : ℕ) → KeepsHeld h (host_reset h key)
+unfolding host_reset
+reset-held h key = reset_on-held h (value_at h.devices key)
+
+pub devices_stay_held : DevicesStayHeld
+devices_stay_held =
+    record {
+      start = held-start;
+      step = λ h s. leaves-held h (host_stepped h s) (stepped-leaves h s);
+      reap = λ h t. leaves-held h (host_reaped h t) (reaped-leaves h t);
+      rest = λ h. leaves-held h (host_rest h) (rest-leaves h);
+      turn = λ h. leaves-held h (host_turned h) (turned-leaves h);
+      idle = λ h until. leaves-held h (host_idled h until) (idled-leaves h until);
+      wait = λ h t timeout. leaves-held h (host_waited h t timeout).1 (waited-leaves h t timeout);
+      block = λ h t timeout. leaves-held h (host_blocked h t timeout) (blocked-leaves h t timeout);
+      await_ticket = λ h t deadline. leaves-held h (host_awaited h t deadline) (awaited-leaves h t deadline);
+      submit = λ h to t. leaves-held h (host_submitted h to t) (leaves-open h (host_submitted h to t) (keeps-submitted h to t));
+      refuse = λ h to t errno. leaves-held h (host_refused h to t errno) (leaves-open h (host_refused h to t errno) (keeps-refused h to t errno));
+      discard = λ h t. leaves-held h (host_discarded h t) (discarded-leaves h t);
+      end_ticket = λ h t end. leaves-held h (host_ended h t end) (ended-leaves h t end);
+      take = λ h t. leaves-held h (host_taken h t) (taken-leaves h t);
+      abandon = λ h t. leaves-held h (host_abandoned h t) (abandoned-leaves h t);
+      leave = λ h key. leaves-held h (host_left h key) (left-leaves h key);
+      open_device = λ h bus address. record { held = held-opened h bus address; devices = opened-kept h bus address };
+      clone_device = λ h key stands. record { held = held-device_cloned h key stands; devices = cloned-kept h key stands };
+      close_device = held-device_closed;
+      close_other_devices = closed-kept;
+      claim = λ h device number reattach. record { held = held-claimed h device number reattach; devices = kept-opened h.devices (host_claimed h device number reattach).devices (opened-claimed h device number reattach) };
+      clone_handle = cloned_handle-held;
+      close_handle = closed_handle-held;
+      set_alt_setting = set-held;
+      ask = asked-held;
+      open_endpoint = λ h interface address. same-held h _ refl refl;
+      set_configuration = configured-held;
+      reset = reset-held;
+      detach = detached-held;
+      attach = attached-held;
+      ask_speed = speed-held;
+      clear_halt = λ h device endpoint. same-held h _ refl refl;
+      finish = λ h. leaves-held h (finished h) (finished-leaves h);
+    }
