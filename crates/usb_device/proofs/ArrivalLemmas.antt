@@ -23,7 +23,7 @@ use Rattle.usb_ledger.specs.Entries.{Ended}
 use Rattle.usb_device.specs.HostState.{HostState}
 use Rattle.usb_device.specs.HostFacts.{TicketsAgree, Fits, host_made}
 use Rattle.usb_ledger.specs.LedgerState.{LedgerState, host_ticket, slot_with, abandoned_key, ended_with, left_with}
-use Rattle.usb_device.specs.Releases.{without_ended, settled}
+use Rattle.usb_device.specs.Releases.{without_ended, endpoint_left, settled}
 use Rattle.usb_device.specs.TicketEnds.{came, host_ended}
 use Rattle.usb_ledger.proofs.ListLemmas.{slice_get-set}
 use Rattle.usb_ledger.proofs.LedgerLemmas.{ticket-at, tickets-same}
@@ -75,7 +75,7 @@ module _ (k : KernelState) (devices : List (Option OpenDevice)) (l : LedgerState
 
   pub came-slot : (s : TicketState) (l' : LedgerState) (ended : Option EndedClaim) (k' : KernelState) → slice_get l.slots done.ticket ≡ Some s → l' ≡ left_with (record l { slots = set l.slots done.ticket (slot_with done s) }) (abandoned_key s) → ended ≡ ended_with (record l { slots = set l.slots done.ticket (slot_with done s) }) (abandoned_key s) → k' ≡ without_ended k ended
       → host_made k' devices l' steps ≡ came (host_made k devices l steps) (Some done)
-  unfolding settled
+  unfolding settled endpoint_left
   came-slot (slot.HeldBy key transfer) l' ended k' at is claim kernel =
       let same = tickets-same l.slots done.ticket (slot.HeldBy key transfer) (slot_with done (slot.HeldBy key transfer)) at refl in
       rw (released-as k k' ended kernel, claim, is, same) (sym (came-held key (slot.HeldBy key transfer) at refl))

@@ -37,7 +37,7 @@ use Rattle.usb_device.specs.HostState.{HostState}
 use Rattle.usb_device.specs.HostBus.{bus_of, owner_at, held_as, key_at, turns_left}
 use Rattle.usb_device.specs.HostBusFacts.{owner_at-set, bus_of-ended, bus_of-settled, without_owner-none}
 use Rattle.usb_device.specs.HostCalls.{host_submitted, host_refused, host_left, host_discarded, submitted_with, refused_with}
-use Rattle.usb_device.specs.Releases.{settled}
+use Rattle.usb_device.specs.Releases.{endpoint_left, settled}
 use Rattle.usb_device.proofs.HostCallLemmas.{open-at}
 use Rattle.usb_device.specs.HostTurns.{host_turned, host_turn, turned_of, reaped_of, turn_for, host_stepped, host_reaped}
 use Rattle.usb_device.specs.TicketEnds.{host_abandoned, given_up, reclaimed_if, came}
@@ -131,7 +131,7 @@ unfolding host_turn
 time-up h is = up-none h.kernel.past h.steps is
 
 -- an endpoint that is left
-key-set : (endpoints : List HostEndpoint) (k j : ℕ) (e : HostEndpoint) → e.is_open ≡ false → key_at (set endpoints k e) j ≡ without_key (key_at endpoints) k j
+key-set : (endpoints : List (Option HostEndpoint)) (k j : ℕ) (e : HostEndpoint) → e.is_open ≡ false → key_at (set endpoints k (Some e)) j ≡ without_key (key_at endpoints) k j
 key-set [] k j e is = elim (k == j) as (λ v. ◌≡◌ {A = Bool} false (cond v false false)) [ true ↦ refl | false ↦ refl ]
 key-set (x ∷ xs) zero zero e is = is
 key-set (x ∷ xs) zero (suc j) e is = rw (eqb-zero-suc j) refl
@@ -143,8 +143,8 @@ unfolding host_left
 state-left old new k open_ is =
     let w = open-at old.endpoints k open_ in
     let next : HostEndpoint = record w.e { is_open = false } in
-    let made : new ≡ settled (record old { endpoints = set old.endpoints k next }) k = is ∙ rw w.at refl in
-    ap bus_of made ∙ bus_of-settled (record old { endpoints = set old.endpoints k next }) k
+    let made : new ≡ settled (record old { endpoints = set old.endpoints k (Some next) }) k = is ∙ rw w.at refl in
+    ap bus_of made ∙ bus_of-settled (record old { endpoints = set old.endpoints k (Some next) }) k
     ∙ ap (λ (f : ℕ → Bool). record (bus_of old) { keys = f }) (fun_ext (λ j. key-set old.endpoints k j next refl))
 
 -- a ticket that is given up

@@ -10,6 +10,7 @@ use Rattle.usb_kernel.proofs.Completions.{completion-discard}
 use Rattle.usb_kernel.proofs.Places.{slice_get-set_other}
 use Rattle.usb_endpoint.specs.Closes.{all_discarded, all_abandoned}
 use Rattle.usb_endpoint.specs.Handles.{AreHeld, IsApart}
+use Rattle.usb_registry.specs.History.{value_at}
 use Rattle.usb_ledger.specs.declared.ends.TicketEnd.{TicketEnd}
 use Rattle.usb_ledger.specs.declared.ends.TicketEnd.TheVariants.{Dropped}
 use Rattle.usb_device.specs.EndLaws.{DroppedWhereReaped}
@@ -18,7 +19,7 @@ use Rattle.usb_device.specs.HostState.{HostState}
 use Rattle.usb_ledger.specs.EndedTickets.{end_at, ended_at}
 use Rattle.usb_device.specs.HostBus.{owner_at, held_as}
 use Rattle.usb_device.specs.HostCalls.{host_discarded, host_left, closed_if}
-use Rattle.usb_device.specs.Releases.{settled}
+use Rattle.usb_device.specs.Releases.{endpoint_left, settled}
 use Rattle.usb_device.specs.TicketEnds.{ended_as, host_ended, given_up, host_abandoned}
 
 -- discards leave the tickets, and what is reaped
@@ -34,14 +35,14 @@ discards-completion h (t ∷ ts) u = completion-discard (all_discarded host_disc
 
 -- the end of one ticket leaves the journal and the others
 pub ended-past : (h : HostState) (t : ℕ) (end : TicketEnd) (o : Option HostTicket) → (ended_as h t end o).kernel.past ≡ h.kernel.past
-unfolding settled
+unfolding settled endpoint_left
 ended-past h t end None = refl
 ended-past h t end (Some (HeldBy hold)) = refl
 ended-past h t end (Some (Abandoned key)) = refl
 ended-past h t end (Some (Ended before)) = refl
 
 pub ended-others : (h : HostState) (t u : ℕ) (end : TicketEnd) (o : Option HostTicket) → u ≢ t → slice_get (ended_as h t end o).tickets u ≡ slice_get h.tickets u
-unfolding settled
+unfolding settled endpoint_left
 ended-others h t u end None apart = refl
 ended-others h t u end (Some (HeldBy hold)) apart = slice_get-set_other h.tickets t u (Ended end) apart
 ended-others h t u end (Some (Abandoned key)) apart = slice_get-set_other h.tickets t u (Ended end) apart
@@ -86,7 +87,7 @@ abbrev dropped_if : Bool → Option TicketEnd
 dropped_if reaped = cond reaped (Some Dropped) None
 
 abandoned-end : (h : HostState) (t : ℕ) (hold : Hold) → slice_get h.tickets t ≡ Some (HeldBy hold) → end_at (host_abandoned h t).tickets t ≡ dropped_if (is_some (completion h.kernel.past t))
-unfolding host_abandoned host_ended settled
+unfolding host_abandoned host_ended settled endpoint_left
 abandoned-end h t hold at =
     rw at (elim (is_some (completion h.kernel.past t)) as (λ b. end_at (cond b (ended_as h t Dropped (Some (HeldBy hold))) (given_up h t (Some (HeldBy hold)))).tickets t ≡ dropped_if b) [
       | true ↦ ap (option_and_then ended_at) (by_set h.tickets t (HeldBy hold) (Ended Dropped) at)
@@ -125,7 +126,7 @@ abandons-end g (u ∷ us) key (suc i) t held at =
 
 -- the endpoint leaves the tickets
 pub left-tickets : (h : HostState) (key : ℕ) (o : Option HostEndpoint) → (closed_if h key o).tickets ≡ h.tickets
-unfolding settled
+unfolding settled endpoint_left
 left-tickets h key None = refl
 left-tickets h key (Some e) = refl
 
@@ -134,6 +135,6 @@ unfolding host_left
 dropped_where_reaped h e i t stands at =
     let before = all_discarded host_discarded h e.pending in
     let after = all_abandoned host_abandoned before e.pending in
-    ap (λ (ts : List HostTicket). end_at ts t) (left-tickets after e.key (slice_get after.endpoints e.key))
+    ap (λ (ts : List HostTicket). end_at ts t) (left-tickets after e.key (value_at after.endpoints e.key))
     ∙ abandons-end before e.pending e.key i t (subst (λ (ts : List HostTicket). AreHeld (owner_at ts) e.key e.pending) (sym (discards-tickets h e.pending)) stands.held) at
     ∙ ap (λ (o : Option Done). dropped_if (is_some o)) (discards-completion h e.pending t)

@@ -24,7 +24,7 @@ use Rattle.usb_registry.specs.History.{value_at}
 use Rattle.usb_ledger.specs.declared.opened.OpenDevice.{OpenDevice}
 use Rattle.usb_ledger.specs.Entries.{HostTicket, HostEndpoint, ClaimedInterface, fresh_interface, HeldBy, Abandoned, Ended}
 use Rattle.usb_device.specs.HostState.{HostState}
-use Rattle.usb_device.specs.Releases.{settled, owner_gone}
+use Rattle.usb_device.specs.Releases.{endpoint_left, settled, owner_gone}
 use Rattle.usb_device.specs.TicketEnds.{ended_as, host_ended, host_taken, given_up, host_abandoned, reclaimed_if, came}
 use Rattle.usb_device.specs.HostTurns.{with_past, host_stepped, host_reaped, all_stepped, host_rest}
 use Rattle.usb_device.specs.HostCalls.{host_submitted, host_refused, host_discarded, closed_if, host_left}
@@ -55,7 +55,7 @@ count-trans a b c first second = record { count = second.count ∙ first.count; 
 
 -- tickets that end
 ended_as-count : (h : HostState) (t : ℕ) (end : TicketEnd) (o : Option HostTicket) → KeepsCount h (ended_as h t end o)
-unfolding settled
+unfolding settled endpoint_left
 ended_as-count h t end None = count-same h
 ended_as-count h t end (Some (HeldBy hold)) = record { count = length-set h.tickets t (Ended end); past = refl }
 ended_as-count h t end (Some (Abandoned key)) = record { count = length-set h.tickets t (Ended end); past = refl }
@@ -180,13 +180,13 @@ all_abandoned-count h (t ∷ ts) =
     count-trans h (host_abandoned h t) (all_abandoned host_abandoned (host_abandoned h t) ts) (abandoned-count h t) (all_abandoned-count (host_abandoned h t) ts)
 
 closed_if-count : (h : HostState) (k : ℕ) (o : Option HostEndpoint) → KeepsCount h (closed_if h k o)
-unfolding settled
+unfolding settled endpoint_left
 closed_if-count h k None = count-same h
 closed_if-count h k (Some e) = record { count = refl; past = refl }
 
 left-count : (h : HostState) (k : ℕ) → KeepsCount h (host_left h k)
 unfolding host_left
-left-count h k = closed_if-count h k (slice_get h.endpoints k)
+left-count h k = closed_if-count h k (value_at h.endpoints k)
 
 pub closed-count : (h : HostState) (e : EndpointState) → KeepsCount h (after_close host_discarded host_abandoned host_left h e)
 closed-count h e =

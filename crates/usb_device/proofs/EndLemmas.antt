@@ -22,7 +22,7 @@ use Rattle.usb_ledger.specs.Entries.{HostTicket, HostEndpoint, ClaimedInterface,
 use Rattle.usb_device.specs.HostState.{HostState}
 use Rattle.usb_ledger.specs.EndedTickets.{end_at, ended_at}
 use Rattle.usb_device.specs.EndLaws.{KeepsEnds, EndsStay}
-use Rattle.usb_device.specs.Releases.{settled, owner_gone}
+use Rattle.usb_device.specs.Releases.{endpoint_left, settled, owner_gone}
 use Rattle.usb_device.specs.TicketEnds.{ended_as, host_ended, host_taken, given_up, host_abandoned, reclaimed_if, came}
 use Rattle.usb_device.specs.HostTurns.{host_stepped, host_reaped, reaped_of, turned_of, host_turned, all_stepped, host_rest}
 use Rattle.usb_device.specs.HostCalls.{submitted_with, host_submitted, refused_with, host_refused, host_discarded, closed_if, host_left}
@@ -59,7 +59,7 @@ ends-push tickets x t end at = ap (option_and_then ended_at) (slice_get-append_l
 
 -- tickets that end
 ended_as-ends : (h : HostState) (u : ℕ) (end : TicketEnd) (o : Option HostTicket) → slice_get h.tickets u ≡ o → KeepsEnds h (ended_as h u end o)
-unfolding settled
+unfolding settled endpoint_left
 ended_as-ends h u end None here = same h
 ended_as-ends h u end (Some (HeldBy hold)) here = ends-set h.tickets u (HeldBy hold) (Ended end) here refl
 ended_as-ends h u end (Some (Abandoned key)) here = ends-set h.tickets u (Abandoned key) (Ended end) here refl
@@ -148,13 +148,13 @@ unfolding host_discarded
 discarded-ends h t u end at = at
 
 closed-by : (h : HostState) (k : ℕ) (o : Option HostEndpoint) → KeepsEnds h (closed_if h k o)
-unfolding settled
+unfolding settled endpoint_left
 closed-by h k None = same h
 closed-by h k (Some e) = λ t end at. at
 
 left-ends : (h : HostState) (k : ℕ) → KeepsEnds h (host_left h k)
 unfolding host_left
-left-ends h k = closed-by h k (slice_get h.endpoints k)
+left-ends h k = closed-by h k (value_at h.endpoints k)
 
 -- calls of devices and interfaces
 opened-by-ends : (h : HostState) (r : Result OpenDevice ErrorState) → KeepsEnds h (opened_by h r)

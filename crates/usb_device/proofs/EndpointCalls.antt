@@ -32,14 +32,14 @@ went-all_discarded h (t ∷ ts) =
 
 keeps-discarded : (h : HostState) (t : ℕ) → KeepsOpen h (host_discarded h t)
 unfolding host_discarded
-keeps-discarded h t = record { line = record { steps = refl; spare = refl; devices = refl }; interfaces = goes-refl h.interfaces; endpoints = refl }
+keeps-discarded h t = record { line = record { steps = refl; spare = refl; devices = refl }; interfaces = goes-refl h.interfaces; endpoints = goes-refl h.endpoints }
 
 keeps-trans : (a b c : HostState) → KeepsOpen a b → KeepsOpen b c → KeepsOpen a c
 keeps-trans a b c first second =
     record {
       line = record { steps = second.line.steps ∙ first.line.steps; spare = second.line.spare ∙ first.line.spare; devices = second.line.devices ∙ first.line.devices };
       interfaces = goes-trans a.interfaces b.interfaces c.interfaces first.interfaces second.interfaces;
-      endpoints = second.endpoints ∙ first.endpoints;
+      endpoints = goes-trans a.endpoints b.endpoints c.endpoints first.endpoints second.endpoints;
     }
 
 pub keeps-all_discarded : (h : HostState) (ts : List ℕ) → KeepsOpen h (all_discarded host_discarded h ts)

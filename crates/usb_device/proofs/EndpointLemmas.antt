@@ -81,11 +81,11 @@ unfolding host_tries
 tried-some h i c address kind direction maximum ok = size-some (endpoint_in c address (value_at h.devices c.opened)) address kind direction (is_in_use h i address) maximum ok
 
 -- an endpoint that was opened stands, and the others stand as before
-key-new : (endpoints : List HostEndpoint) (e : HostEndpoint) → e.is_open ≡ true → key_at (endpoints ++ e ∷ []) (length endpoints) ≡ true
+key-new : (endpoints : List (Option HostEndpoint)) (e : HostEndpoint) → e.is_open ≡ true → key_at (endpoints ++ Some e ∷ []) (length endpoints) ≡ true
 key-new [] e open_ = open_
 key-new (x ∷ xs) e open_ = key-new xs e open_
 
-key-kept : (endpoints : List HostEndpoint) (e : HostEndpoint) (k : ℕ) → key_at endpoints k ≡ true → key_at (endpoints ++ e ∷ []) k ≡ true
+key-kept : (endpoints : List (Option HostEndpoint)) (e : HostEndpoint) (k : ℕ) → key_at endpoints k ≡ true → key_at (endpoints ++ Some e ∷ []) k ≡ true
 key-kept [] e k open_ = absurd (cc)
 key-kept (x ∷ xs) e zero open_ = open_
 key-kept (x ∷ xs) e (suc k) open_ = key-kept xs e k open_
@@ -96,20 +96,20 @@ asked-endpoints h key = ap (λ (x : HostState). x.endpoints) (asked-is h key)
 pub endpoint-stands : (h new : HostState) (device i address : ℕ) (n : EndpointState) → new ≡ with_endpoint (host_asked h device) i address → n.key ≡ length h.endpoints → n.pending ≡ [] → Stands (bus_of new) n
 endpoint-stands h new device i address n is key none =
     let e : HostEndpoint = record { interface = Some i; address = address; is_open = true } in
-    let endpoints : new.endpoints ≡ h.endpoints ++ e ∷ [] = ap (λ (x : HostState). x.endpoints) is ∙ ap (λ (es : List HostEndpoint). es ++ e ∷ []) (asked-endpoints h device) in
+    let endpoints : new.endpoints ≡ h.endpoints ++ Some e ∷ [] = ap (λ (x : HostState). x.endpoints) is ∙ ap (λ (es : List (Option HostEndpoint)). es ++ Some e ∷ []) (asked-endpoints h device) in
     record {
-      key_is_open = ap (key_at new.endpoints) key ∙ ap (λ (es : List HostEndpoint). key_at es (length h.endpoints)) endpoints ∙ key-new h.endpoints e refl;
+      key_is_open = ap (key_at new.endpoints) key ∙ ap (λ (es : List (Option HostEndpoint)). key_at es (length h.endpoints)) endpoints ∙ key-new h.endpoints e refl;
       held = rw none tt;
     }
 
 pub endpoint-others : (h new : HostState) (device i address key : ℕ) → new ≡ with_endpoint (host_asked h device) i address → KeepsOthers (bus_of h) (bus_of new) key
 endpoint-others h new device i address key is =
     let e : HostEndpoint = record { interface = Some i; address = address; is_open = true } in
-    let endpoints : new.endpoints ≡ h.endpoints ++ e ∷ [] = ap (λ (x : HostState). x.endpoints) is ∙ ap (λ (es : List HostEndpoint). es ++ e ∷ []) (asked-endpoints h device) in
+    let endpoints : new.endpoints ≡ h.endpoints ++ Some e ∷ [] = ap (λ (x : HostState). x.endpoints) is ∙ ap (λ (es : List (Option HostEndpoint)). es ++ Some e ∷ []) (asked-endpoints h device) in
     let tickets : new.tickets ≡ h.tickets = ap (λ (x : HostState). x.tickets) is ∙ ap (λ (x : HostState). x.tickets) (asked-is h device) in
     record {
       tickets = λ t k other held. ap (λ (ts : List HostTicket). owner_at ts t) tickets ∙ held;
-      keys = λ k other open_. ap (λ (es : List HostEndpoint). key_at es k) endpoints ∙ key-kept h.endpoints e k open_;
+      keys = λ k other open_. ap (λ (es : List (Option HostEndpoint)). key_at es k) endpoints ∙ key-kept h.endpoints e k open_;
     }
 
 -- and so does the interface

@@ -23,11 +23,12 @@ use Rattle.usb_ledger.specs.EndedTickets.{end_at}
 use Rattle.usb_device.specs.HostBus.{owner_at}
 use Rattle.usb_device.specs.HostTurns.{host_reaped}
 use Rattle.usb_device.specs.HostCalls.{host_discarded}
-use Rattle.usb_device.specs.Releases.{settled}
+use Rattle.usb_device.specs.Releases.{endpoint_left, settled}
 use Rattle.usb_device.specs.TicketEnds.{came, reclaimed_if, host_ended}
 use Rattle.usb_device.specs.Finishes.{discarded_below, reaped_below, finished, HasCompletions}
 use Rattle.usb_device.proofs.BusLemmas.{bus_of-reaped}
-use Rattle.usb_ledger.proofs.LedgerLemmas.{some-at, ticket-at}
+use Rattle.usb_ledger.proofs.LedgerLemmas.{ticket-at}
+use Rattle.usb_device.proofs.Places.{some-at}
 use Rattle.std.proofs.Common.{map}
 use Rattle.std.proofs.lemmas.List.{length-map}
 use Rattle.usb_kernel.specs.Value.{KernelState}
@@ -126,7 +127,7 @@ discarded-waits h n k w = record { count = w.count; free = w.free; given_up = λ
 
 came-waits : (g : HostState) (n : ℕ) (was : ℕ → Option Done) (o : Option Done) → length g.tickets ≡ n → ((t key : ℕ) → slice_get g.tickets t ≡ Some (Abandoned key) → was t ≡ None) → ((t : ℕ) → completion g.kernel.past t ≡ completed o was t)
     → (length (came g o).tickets ≡ n) × ((t key : ℕ) → slice_get (came g o).tickets t ≡ Some (Abandoned key) → completion (came g o).kernel.past t ≡ None)
-unfolding came host_ended settled
+unfolding came host_ended settled endpoint_left
 came-waits g n was None count given new = (count, λ t key at. new t ∙ given t key at)
 came-waits g n was (Some done) count given new = by (slice_get g.tickets done.ticket) refl
   where

@@ -26,7 +26,7 @@ use Rattle.usb_registry.specs.History.{value_at}
 use Rattle.usb_ledger.specs.declared.opened.OpenDevice.{OpenDevice}
 use Rattle.usb_ledger.specs.Entries.{HostTicket, HostEndpoint, ClaimedInterface, fresh_interface, Hold, HeldBy, Abandoned, Ended}
 use Rattle.usb_device.specs.HostState.{HostState}
-use Rattle.usb_device.specs.Releases.{settled, owner_gone}
+use Rattle.usb_device.specs.Releases.{endpoint_left, settled, owner_gone}
 use Rattle.usb_device.specs.TicketEnds.{host_ended, host_taken, host_abandoned, reclaimed_if, came}
 use Rattle.usb_device.specs.HostTurns.{host_stepped, host_reaped, all_stepped, host_rest}
 use Rattle.usb_device.specs.HostCalls.{host_submitted, host_refused, host_discarded, closed_if, host_left}
@@ -104,7 +104,7 @@ reclaims ts u key t at =
     ]
 
 reclaimed-follows : (h : HostState) (u t : ℕ) (o : Option HostTicket) → slice_get h.tickets u ≡ o → Follows (slice_get h.tickets t) (slice_get (reclaimed_if h u o).tickets t)
-unfolding host_ended settled
+unfolding host_ended settled endpoint_left
 reclaimed-follows h u t None at = follows-same (slice_get h.tickets t)
 reclaimed-follows h u t (Some (HeldBy hold)) at = follows-same (slice_get h.tickets t)
 reclaimed-follows h u t (Some (Abandoned key)) at = rw at (reclaims h.tickets u key t at)
@@ -207,13 +207,13 @@ on-finished h =
 
 -- endpoints, devices and interfaces
 closed_if-on : (h : HostState) (k : ℕ) (o : Option HostEndpoint) → KeepsTickets h (closed_if h k o)
-unfolding settled
+unfolding settled endpoint_left
 closed_if-on h k None = on-same h
 closed_if-on h k (Some e) = on-kept h (closed_if h k (Some e)) refl refl
 
 pub on-left : (h : HostState) (k : ℕ) → KeepsTickets h (host_left h k)
 unfolding host_left
-on-left h k = closed_if-on h k (slice_get h.endpoints k)
+on-left h k = closed_if-on h k (value_at h.endpoints k)
 
 handle_gone-on : (h : HostState) (i : ℕ) (o : Option ClaimedInterface) → KeepsTickets h (handle_gone h i o)
 unfolding owner_gone
@@ -300,7 +300,7 @@ unfolding host_taken host_ended
 taken-others h t u apart = ended-others h t u Taken (slice_get h.tickets t) apart
 
 pub taken-here : (h : HostState) (t : ℕ) (hold : Hold) → slice_get h.tickets t ≡ Some (HeldBy hold) → slice_get (host_taken h t).tickets t ≡ Some (Ended Taken)
-unfolding host_taken host_ended settled
+unfolding host_taken host_ended settled endpoint_left
 taken-here h t hold at = rw at (by_set h.tickets t (HeldBy hold) (Ended Taken) at)
 
 -- a ticket is given up: it is dropped where it is reaped
@@ -309,7 +309,7 @@ pub data GivenUp (past : List Event) (t : ℕ) (o : Option HostTicket) : Type 0 
   waits : (key : ℕ) → is_some (completion past t) ≡ false → o ≡ Some (Abandoned key) → GivenUp past t o
 
 pub abandoned-here : (h : HostState) (t : ℕ) (hold : Hold) → slice_get h.tickets t ≡ Some (HeldBy hold) → GivenUp h.kernel.past t (slice_get (host_abandoned h t).tickets t)
-unfolding host_abandoned host_ended settled
+unfolding host_abandoned host_ended settled endpoint_left
 abandoned-here h t hold at =
     elim (cases_Bool (is_some (completion h.kernel.past t))) [
       | inl reaped ↦ rw (reaped, at) (dropped reaped (by_set h.tickets t (HeldBy hold) (Ended Dropped) at))

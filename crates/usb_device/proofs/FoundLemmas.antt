@@ -20,7 +20,7 @@ use Rattle.usb_device.specs.HostTurns.{host_stepped, host_reaped}
 use Rattle.usb_device.specs.HostCalls.{host_discarded}
 use Rattle.usb_device.specs.HostWaits.{is_found, is_late, wait_reaps, wait_steps, host_waited}
 use Rattle.usb_device.specs.HostBlocking.{or_then, waited_by_seconds, host_blocked}
-use Rattle.usb_ledger.proofs.LedgerLemmas.{some-at}
+use Rattle.usb_device.proofs.Places.{some-at}
 use Rattle.usb_device.proofs.FinishLemmas.{some-of, completion-some}
 use Rattle.usb_device.proofs.HostFrames.{uses-stepped}
 use Rattle.usb_device.proofs.WaitFrames.{went-steps}

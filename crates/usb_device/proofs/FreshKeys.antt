@@ -1,5 +1,5 @@
 -- The keys of what is opened last.
-use Rattle.std.proofs.Common.{ℕ, zero, suc, arith, ◌≡◌, ◌<◌, true, false, List, [], ◌∷◌, length}
+use Rattle.std.proofs.Common.{ℕ, zero, suc, arith, ◌≡◌, ◌<◌, true, false, List, [], ◌∷◌, length, Option}
 use Rattle.usb_registry.proofs.ValueLemmas.{value-within}
 use Rattle.usb_endpoint.specs.EndpointState.{EndpointState}
 use Rattle.usb_endpoint.specs.Handles.{Stands}
@@ -13,7 +13,7 @@ pub stands-within : (h : HostState) (f : InterfaceState) → StandsInterface h f
 stands-within h f stands = value-within h.interfaces f.key stands.claim stands.at
 
 -- an endpoint that is open has a key below the next one
-pub key-within : (es : List HostEndpoint) (k : ℕ) → key_at es k ≡ true → k < length es
+pub key-within : (es : List (Option HostEndpoint)) (k : ℕ) → key_at es k ≡ true → k < length es
 key-within [] k is = let no_ : false ≡ true = is in absurd (cc)
 key-within (e ∷ es) zero is = omega arith
 key-within (e ∷ es) (suc k) is = let below : k < length es = key-within es k is in omega (arith, below)

@@ -19,6 +19,7 @@ use Rattle.usb_bus.specs.Completions.{completion_of, transfer_completion}
 use Rattle.usb_bus.specs.Holds.{held_of}
 use Rattle.usb_bus.specs.Holds.{transfer_with}
 use Rattle.usb_bus.specs.Turns.{reap_turn}
+use Rattle.usb_registry.specs.History.{value_at}
 use Rattle.usb_ledger.specs.declared.ends.TicketEnd.{TicketEnd}
 use Rattle.usb_ledger.specs.declared.ends.TicketEnd.TheVariants.{Dropped}
 use Rattle.usb_ledger.specs.declared.opened.OpenDevice.{OpenDevice}
@@ -32,7 +33,7 @@ use Rattle.usb_device.specs.HostFacts.{TicketsAgree, host_made}
 use Rattle.usb_device.specs.HostCalls.{host_left}
 use Rattle.usb_ledger.specs.LedgerState.{LedgerState, host_ticket, slot_data, is_complete, ended_with, left_with}
 use Rattle.usb_ledger.specs.Releases.{claim_of}
-use Rattle.usb_device.specs.Releases.{without_ended, settled}
+use Rattle.usb_device.specs.Releases.{without_ended, endpoint_left, settled}
 use Rattle.usb_device.specs.HostTurns.{host_turned, host_turn, turned_of, reaped_of, turn_for, host_stepped, host_rest, all_stepped}
 use Rattle.usb_device.specs.TicketEnds.{host_ended, host_abandoned, reclaimed_if, came}
 use Rattle.usb_ledger.proofs.ListLemmas.{slice_get-set}
@@ -105,7 +106,7 @@ module _ (k : KernelState) (devices : List (Option OpenDevice)) (l : LedgerState
 
   pub ended-slot : (end : TicketEnd) (l' : LedgerState) (ended : Option EndedClaim) (k' : KernelState) → l' ≡ left_with (record l { slots = set l.slots t (slot.Ended end) }) (Some w.key) → ended ≡ ended_with (record l { slots = set l.slots t (slot.Ended end) }) (Some w.key) → k' ≡ without_ended k ended
       → host_made k' devices l' steps ≡ host_ended (host_made k devices l steps) t end
-  unfolding settled
+  unfolding settled endpoint_left
   ended-slot end l' ended k' is claim kernel = rw (ended-made end, released-as k k' ended kernel, claim, is, map-set host_ticket l.slots t (slot.Ended end)) refl
 
   -- it is given up
@@ -132,20 +133,21 @@ none-not None is = refl
 none-not (Some done) is = absurd (cc)
 
 -- the endpoint of an open key
-pub record OpenEndpoint (endpoints : List HostEndpoint) (k : ℕ) : Type 0 where
+pub record OpenEndpoint (endpoints : List (Option HostEndpoint)) (k : ℕ) : Type 0 where
   pub e : HostEndpoint
-  pub at : slice_get endpoints k ≡ Some e
+  pub at : value_at endpoints k ≡ Some e
   pub is_open : e.is_open ≡ true
 
-pub open-at : (endpoints : List HostEndpoint) (k : ℕ) → key_at endpoints k ≡ true → OpenEndpoint endpoints k
+pub open-at : (endpoints : List (Option HostEndpoint)) (k : ℕ) → key_at endpoints k ≡ true → OpenEndpoint endpoints k
 open-at [] k open_ = absurd (cc)
-open-at (e ∷ es) zero open_ = record { e = e; at = refl; is_open = open_ }
+open-at (None ∷ es) zero open_ = absurd (cc)
+open-at (Some e ∷ es) zero open_ = record { e = e; at = refl; is_open = open_ }
 open-at (e ∷ es) (suc k) open_ = let w = open-at es k open_ in record { e = w.e; at = w.at; is_open = w.is_open }
 
 -- it is left
 pub left-made : (k : KernelState) (devices : List (Option OpenDevice)) (l : LedgerState) (steps : List KernelStep) (key : ℕ) (w : OpenEndpoint l.endpoints key) (l' : LedgerState) (ended : Option EndedClaim) (k' : KernelState)
-    → l' ≡ left_with (record l { endpoints = set l.endpoints key (record w.e { is_open = false }) }) (Some key) → ended ≡ claim_of l.interfaces (map host_ticket l.slots) (set l.endpoints key (record w.e { is_open = false })) key → k' ≡ without_ended k ended → host_made k' devices l' steps ≡ host_left (host_made k devices l steps) key
-unfolding host_left settled
+    → l' ≡ left_with (record l { endpoints = set l.endpoints key (Some (record w.e { is_open = false })) }) (Some key) → ended ≡ claim_of l.interfaces (map host_ticket l.slots) (set l.endpoints key (Some (record w.e { is_open = false }))) key → k' ≡ without_ended k ended → host_made k' devices l' steps ≡ host_left (host_made k devices l steps) key
+unfolding host_left settled endpoint_left
 left-made k devices l steps key w l' ended k' is claim kernel = rw (w.at, released-as k k' ended kernel, claim, is) refl
 
 pub dropped : (h : HostState) (t : ℕ) → is_some (completion h.kernel.past t) ≡ true → host_abandoned h t ≡ host_ended h t Dropped
@@ -171,14 +173,14 @@ turn-none h o nil is = ap (turn_for h.kernel.past) nil ∙ ap reap_turn is
 
 -- a step leaves the steps that are left
 reclaimed-steps : (h : HostState) (t : ℕ) (o : Option HostTicket) (ss : List KernelStep) → slice_get h.tickets t ≡ o → record (reclaimed_if h t o) { steps = ss } ≡ reclaimed_if (record h { steps = ss }) t o
-unfolding host_ended settled
+unfolding host_ended settled endpoint_left
 reclaimed-steps h t None ss at = refl
 reclaimed-steps h t (Some (HeldBy hold)) ss at = refl
 reclaimed-steps h t (Some (Abandoned key)) ss at = rw at refl
 reclaimed-steps h t (Some (Ended end)) ss at = refl
 
 reclaimed-same : (h : HostState) (t : ℕ) (o : Option HostTicket) → slice_get h.tickets t ≡ o → (reclaimed_if h t o).steps ≡ h.steps
-unfolding host_ended settled
+unfolding host_ended settled endpoint_left
 reclaimed-same h t None at = refl
 reclaimed-same h t (Some (HeldBy hold)) at = refl
 reclaimed-same h t (Some (Abandoned key)) at = rw at refl

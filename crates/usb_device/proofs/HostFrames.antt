@@ -22,54 +22,71 @@ use Rattle.usb_ledger.specs.declared.ends.TicketEnd.{TicketEnd}
 use Rattle.usb_ledger.specs.declared.ends.TicketEnd.TheVariants.{Reclaimed}
 use Rattle.usb_ledger.specs.Entries.{HostTicket, Hold, HeldBy, Abandoned, Ended}
 use Rattle.usb_device.specs.HostState.{HostState}
-use Rattle.usb_device.specs.Releases.{settled}
+use Rattle.usb_device.specs.Releases.{endpoint_left, settled}
 use Rattle.usb_device.specs.TicketEnds.{ended_as, host_ended, reclaimed_if, came}
 use Rattle.usb_bus.specs.declared.route.Turn.TheVariants.{TimeUp}
 use Rattle.usb_device.specs.HostTurns.{with_past, host_stepped, host_reaped, all_stepped, turn_for, reaped_of, turned_of, host_turn, host_turned}
 use Rattle.usb_device.specs.HostCalls.{host_discarded, host_idled}
 use Rattle.usb_device.specs.HostBus.{held_as, owner_at, key_at, bus_of}
-use Rattle.usb_device.specs.HostFrames.{ClaimsGoOn}
+use Rattle.usb_device.specs.HostFrames.{ClaimsGoOn, EndpointsGoOn}
+use Rattle.usb_device.specs.HostBusFacts.{key-left}
 use Rattle.usb_device.proofs.HostKeeps.{UsesPlaces}
-use Rattle.usb_device.proofs.ClaimFrames.{goes-same, goes-trans, goes-of}
+use Rattle.usb_device.proofs.ClaimFrames.{goes-same, goes-refl, goes-trans, goes-of, goes-left}
 
--- the end of a ticket changes tickets, claimed interfaces, devices of the kernel and what is armed there
-pub ended_as-is : (h : HostState) (t : ℕ) (end : TicketEnd) (o : Option HostTicket) → ended_as h t end o ≡ record h { kernel = record h.kernel { devices = (ended_as h t end o).kernel.devices; armed = (ended_as h t end o).kernel.armed }; interfaces = (ended_as h t end o).interfaces; tickets = (ended_as h t end o).tickets }
-unfolding settled
+-- the end of a ticket changes tickets, claimed interfaces, endpoints, devices of the kernel and what is armed there
+pub ended_as-is : (h : HostState) (t : ℕ) (end : TicketEnd) (o : Option HostTicket) → ended_as h t end o ≡ record h { kernel = record h.kernel { devices = (ended_as h t end o).kernel.devices; armed = (ended_as h t end o).kernel.armed }; interfaces = (ended_as h t end o).interfaces; endpoints = (ended_as h t end o).endpoints; tickets = (ended_as h t end o).tickets }
+unfolding settled endpoint_left
 ended_as-is h t end None = refl
 ended_as-is h t end (Some (HeldBy hold)) = refl
 ended_as-is h t end (Some (Abandoned key)) = refl
 ended_as-is h t end (Some (Ended before)) = refl
 
-reclaimed_if-is : (h : HostState) (t : ℕ) (o : Option HostTicket) → reclaimed_if h t o ≡ record h { kernel = record h.kernel { devices = (reclaimed_if h t o).kernel.devices; armed = (reclaimed_if h t o).kernel.armed }; interfaces = (reclaimed_if h t o).interfaces; tickets = (reclaimed_if h t o).tickets }
+reclaimed_if-is : (h : HostState) (t : ℕ) (o : Option HostTicket) → reclaimed_if h t o ≡ record h { kernel = record h.kernel { devices = (reclaimed_if h t o).kernel.devices; armed = (reclaimed_if h t o).kernel.armed }; interfaces = (reclaimed_if h t o).interfaces; endpoints = (reclaimed_if h t o).endpoints; tickets = (reclaimed_if h t o).tickets }
 unfolding host_ended
 reclaimed_if-is h t None = refl
 reclaimed_if-is h t (Some (HeldBy hold)) = refl
 reclaimed_if-is h t (Some (Abandoned key)) = ended_as-is h t Reclaimed (slice_get h.tickets t)
 reclaimed_if-is h t (Some (Ended end)) = refl
 
-pub came-is : (h : HostState) (o : Option Done) → came h o ≡ record h { kernel = record h.kernel { devices = (came h o).kernel.devices; armed = (came h o).kernel.armed }; interfaces = (came h o).interfaces; tickets = (came h o).tickets }
+pub came-is : (h : HostState) (o : Option Done) → came h o ≡ record h { kernel = record h.kernel { devices = (came h o).kernel.devices; armed = (came h o).kernel.armed }; interfaces = (came h o).interfaces; endpoints = (came h o).endpoints; tickets = (came h o).tickets }
 unfolding came
 came-is h None = refl
 came-is h (Some done) = reclaimed_if-is h done.ticket (slice_get h.tickets done.ticket)
 
--- claimed interfaces go on
-pub ended_as-goes : (h : HostState) (t : ℕ) (end : TicketEnd) (o : Option HostTicket) → ClaimsGoOn h.interfaces (ended_as h t end o).interfaces
-unfolding settled
-ended_as-goes h t end None = goes-same h.interfaces h.interfaces refl
-ended_as-goes h t end (Some (HeldBy hold)) = goes-of h.interfaces (set h.tickets t (Ended end)) h.endpoints hold.key
-ended_as-goes h t end (Some (Abandoned key)) = goes-of h.interfaces (set h.tickets t (Ended end)) h.endpoints key
-ended_as-goes h t end (Some (Ended before)) = goes-same h.interfaces h.interfaces refl
+-- claimed interfaces and endpoints go on, and the same keys are open
+pub record OpenGoesOn (old new : HostState) : Type 0 where
+  pub interfaces : ClaimsGoOn old.interfaces new.interfaces
+  pub endpoints : EndpointsGoOn old.endpoints new.endpoints
+  pub keys : (j : ℕ) → key_at new.endpoints j ≡ key_at old.endpoints j
 
-reclaimed_if-goes : (h : HostState) (t : ℕ) (o : Option HostTicket) → ClaimsGoOn h.interfaces (reclaimed_if h t o).interfaces
+open-stays : (h : HostState) → OpenGoesOn h h
+open-stays h = record { interfaces = goes-refl h.interfaces; endpoints = goes-refl h.endpoints; keys = λ j. refl }
+
+open-settled : (h : HostState) (tickets : List HostTicket) (k : ℕ) → OpenGoesOn h (settled (record h { tickets = tickets }) k)
+unfolding settled endpoint_left
+open-settled h tickets k =
+    record {
+      interfaces = goes-of h.interfaces tickets h.endpoints k;
+      endpoints = goes-left tickets h.endpoints k;
+      keys = λ j. key-left tickets h.endpoints k j;
+    }
+
+pub ended_as-goes : (h : HostState) (t : ℕ) (end : TicketEnd) (o : Option HostTicket) → OpenGoesOn h (ended_as h t end o)
+ended_as-goes h t end None = open-stays h
+ended_as-goes h t end (Some (HeldBy hold)) = open-settled h (set h.tickets t (Ended end)) hold.key
+ended_as-goes h t end (Some (Abandoned key)) = open-settled h (set h.tickets t (Ended end)) key
+ended_as-goes h t end (Some (Ended before)) = open-stays h
+
+reclaimed_if-goes : (h : HostState) (t : ℕ) (o : Option HostTicket) → OpenGoesOn h (reclaimed_if h t o)
 unfolding host_ended
-reclaimed_if-goes h t None = goes-same h.interfaces h.interfaces refl
-reclaimed_if-goes h t (Some (HeldBy hold)) = goes-same h.interfaces h.interfaces refl
+reclaimed_if-goes h t None = open-stays h
+reclaimed_if-goes h t (Some (HeldBy hold)) = open-stays h
 reclaimed_if-goes h t (Some (Abandoned key)) = ended_as-goes h t Reclaimed (slice_get h.tickets t)
-reclaimed_if-goes h t (Some (Ended end)) = goes-same h.interfaces h.interfaces refl
+reclaimed_if-goes h t (Some (Ended end)) = open-stays h
 
-pub came-goes : (h : HostState) (o : Option Done) → ClaimsGoOn h.interfaces (came h o).interfaces
+pub came-goes : (h : HostState) (o : Option Done) → OpenGoesOn h (came h o)
 unfolding came
-came-goes h None = goes-same h.interfaces h.interfaces refl
+came-goes h None = open-stays h
 came-goes h (Some done) = reclaimed_if-goes h done.ticket (slice_get h.tickets done.ticket)
 
 -- owners after a write of a ticket
@@ -89,7 +106,7 @@ owner-set_other (x ∷ xs) (suc t) (suc u) new ne = owner-set_other xs t u new (
 
 -- a ticket that was given up is nobody's, and stays so when it is reclaimed
 reclaimed-owner : (h : HostState) (t : ℕ) (o : Option HostTicket) (u : ℕ) → slice_get h.tickets t ≡ o → owner_at (reclaimed_if h t o).tickets u ≡ owner_at h.tickets u
-unfolding host_ended settled
+unfolding host_ended settled endpoint_left
 reclaimed-owner h t None u at = refl
 reclaimed-owner h t (Some (HeldBy hold)) u at = refl
 reclaimed-owner h t (Some (Abandoned key)) u at = ap (λ (o : Option HostTicket). owner_at (ended_as h t Reclaimed o).tickets u) at ∙ owner-set h.tickets t u (Abandoned key) (Ended Reclaimed) at refl
@@ -110,13 +127,13 @@ uses-came n old new o uses =
       steps = ap (λ (h : HostState). h.steps) is ∙ uses.steps;
       spare = ap (λ (h : HostState). h.kernel.spare) is ∙ uses.spare;
       devices = ap (λ (h : HostState). h.devices) is ∙ uses.devices;
-      interfaces = goes-trans old.interfaces new.interfaces (came new o).interfaces uses.interfaces (came-goes new o);
-      endpoints = ap (λ (h : HostState). h.endpoints) is ∙ uses.endpoints;
+      interfaces = goes-trans old.interfaces new.interfaces (came new o).interfaces uses.interfaces (came-goes new o).interfaces;
+      endpoints = goes-trans old.endpoints new.endpoints (came new o).endpoints uses.endpoints (came-goes new o).endpoints;
       later = record {
         past = record { more = uses.later.past.more; is = ap (λ (h : HostState). h.kernel.past) is ∙ uses.later.past.is };
         clock = omega (arith, clock, before);
         owner = fun_ext (came-owner new o) ∙ uses.later.owner;
-        keys = ap (λ (h : HostState). key_at h.endpoints) is ∙ uses.later.keys;
+        keys = fun_ext (came-goes new o).keys ∙ uses.later.keys;
       };
     }
 
@@ -131,7 +148,7 @@ uses-none h =
       spare = omega arith;
       devices = refl;
       interfaces = goes-same h.interfaces h.interfaces refl;
-      endpoints = refl;
+      endpoints = goes-refl h.endpoints;
       later = record { past = goes-on h.kernel.past h.kernel.past (extends-same h.kernel.past); clock = omega arith; owner = refl; keys = refl };
     }
 
@@ -155,7 +172,7 @@ uses-stepped h s =
       spare = refl;
       devices = refl;
       interfaces = goes-same h.interfaces h.interfaces refl;
-      endpoints = refl;
+      endpoints = goes-refl h.endpoints;
       later = record {
         past = goes-on h.kernel.past (stepped h.kernel.devices h.kernel.clock h.kernel.past s) (extends-step h.kernel.devices h.kernel.clock h.kernel.past s);
         clock = clock-later h.kernel.clock s;
@@ -171,7 +188,7 @@ with_past-uses h past on =
       spare = omega arith;
       devices = refl;
       interfaces = goes-same h.interfaces h.interfaces refl;
-      endpoints = refl;
+      endpoints = goes-refl h.endpoints;
       later = record { past = goes-on h.kernel.past past on; clock = omega arith; owner = refl; keys = refl };
     }
 
@@ -192,7 +209,7 @@ uses-idled h until =
       spare = omega arith;
       devices = refl;
       interfaces = goes-same h.interfaces h.interfaces refl;
-      endpoints = refl;
+      endpoints = goes-refl h.endpoints;
       later =
           record {
             past = goes-on h.kernel.past (timer_turned (max h.kernel.clock until) h.kernel.past) (extends-turned (max h.kernel.clock until) h.kernel.past);
@@ -220,7 +237,7 @@ uses-all h (s ∷ ss) =
       spare = omega (arith, one.spare, rest.spare);
       devices = rest.devices ∙ one.devices;
       interfaces = goes-trans h.interfaces (host_stepped h s).interfaces (all_stepped (host_stepped h s) ss).interfaces one.interfaces rest.interfaces;
-      endpoints = rest.endpoints ∙ one.endpoints;
+      endpoints = goes-trans h.endpoints (host_stepped h s).endpoints (all_stepped (host_stepped h s) ss).endpoints one.endpoints rest.endpoints;
       later = later-trans (bus_of h) (bus_of (host_stepped h s)) (bus_of (all_stepped (host_stepped h s) ss)) one.later rest.later;
     }
 

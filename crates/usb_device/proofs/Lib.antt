@@ -1,3 +1,4 @@
+pub mod Places
 pub mod DeviceLemmas
 pub mod KernelFrames
 pub mod ArrivalLemmas

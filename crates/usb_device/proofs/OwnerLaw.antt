@@ -6,7 +6,7 @@ use Rattle.usb_kernel.specs.Value.{KernelState}
 use Rattle.usb_device.specs.HostState.{host_of}
 use Rattle.usb_device.specs.OwnerLaws.{ClaimsAreOwned, ClaimsStayOwned}
 use Rattle.usb_device.proofs.OwnerLawTurns.{stepped-owned, reaped-owned, rest-owned, turned-owned, discarded-owned, ended-owned, taken-owned, abandoned-owned, finished-owned}
-use Rattle.usb_device.proofs.OwnerLawCalls.{submitted-owned, refused-owned, left-owned, idled-owned, halt-owned, opened-owned, asked-owned, configured-owned, reset-owned, detached-owned, attached-owned, speed-owned, setting-owned, cloned-owned, closed-owned, closed-others, endpoint-owned}
+use Rattle.usb_device.proofs.OwnerLawCalls.{submitted-owned, refused-owned, left-owned, idled-owned, halt-owned, opened-owned, asked-owned, configured-owned, reset-owned, detached-owned, attached-owned, speed-owned, setting-owned, cloned-owned, closed-owned, closed-alive, closed-others, endpoint-owned}
 use Rattle.usb_device.proofs.OwnerLawKernel.{fresh-claimed}
 use Rattle.usb_device.proofs.OwnerLawWaits.{waited-owned, blocked-owned, awaited-owned}
 use Rattle.usb_device.proofs.OwnerLawClaims.{claimed-owned}
@@ -25,6 +25,7 @@ claims_stay_owned =
       fresh = fresh-claimed;
       start = start-owned;
       tidy = λ k i c at. absurd (none-some c at);
+      none_dead = λ k i e at. absurd (none-some e at);
       step = stepped-owned;
       reap = reaped-owned;
       rest = rest-owned;
@@ -45,6 +46,7 @@ claims_stay_owned =
       clone_handle = cloned-owned;
       close_handle = closed-owned;
       close_others = closed-others;
+      close_alive = closed-alive;
       set_alt_setting = setting-owned;
       ask = asked-owned;
       open_endpoint = endpoint-owned;

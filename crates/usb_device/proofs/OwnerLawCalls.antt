@@ -15,7 +15,7 @@ use Rattle.usb_simulated.specs.Calls.{same, set_configuration_rules, with_config
 use Rattle.usb_kernel.specs.Calls.{called, after_reset}
 use Rattle.usb_kernel.specs.Submits.{kernel_submitted, kernel_refused}
 use Rattle.usb_kernel.proofs.Places.{slice_get-append_seam}
-use Rattle.usb_registry.proofs.ValueLemmas.{value-set_same, value-set_other}
+use Rattle.usb_registry.proofs.ValueLemmas.{value-set_same, value-set_other, value-push_cases}
 use Rattle.usb_bus.specs.declared.route.Route.{Route}
 use Rattle.usb_bus.specs.Routes.{submission_of}
 use Rattle.usb_registry.specs.History.{value_at}
@@ -24,8 +24,8 @@ use Rattle.usb_ledger.specs.declared.opened.OpenDevice.{OpenDevice}
 use Rattle.usb_ledger.specs.Entries.{ClaimedInterface, HostTicket, HostEndpoint, HeldBy}
 use Rattle.usb_device.specs.HostState.{HostState}
 use Rattle.usb_device.specs.HostBus.{key_at}
-use Rattle.usb_ledger.specs.Owners.{is_ticket_of, lives, is_of, lives_on, has_living, is_owned_among}
-use Rattle.usb_device.specs.OwnerLaws.{KeepsOwned, KeepsClaimed, KeepsClaims, KeepsOthers, KeepsHandles, IsOwned}
+use Rattle.usb_ledger.specs.Owners.{is_ticket_of, if_there, lives, is_of, lives_on, has_living, is_owned_among}
+use Rattle.usb_device.specs.OwnerLaws.{KeepsOwned, KeepsClaimed, KeepsClaims, KeepsOthers, KeepsHandles, EndpointsLive, IsOwned}
 use Rattle.usb_device.proofs.ClaimFrames.{handles-own, goes-ended}
 use Rattle.usb_device.specs.Releases.{owner_gone}
 use Rattle.usb_device.specs.HostCalls.{with_held, submitted_with, host_submitted, refused_with, host_refused, closed_if, host_left, host_idled, host_halt_cleared}
@@ -40,18 +40,18 @@ use Rattle.usb_device.proofs.OwnerLawLists.{any-at, any-push, any-push_at, or_tr
 use Rattle.usb_device.proofs.OwnerLawKernel.{called-claimed, reset-claimed}
 use Rattle.usb_device.proofs.OwnerLawKept.{claim_as, claim_at, at-claim, at-none, claims-kept, stays, claimed-refl}
 use Rattle.usb_device.proofs.OwnerLawLosses.{OwnerLeft, owned-settled}
-use Rattle.usb_device.proofs.OwnerLawTickets.{claim-living, endpoint-settled, closed-left}
+use Rattle.usb_device.proofs.OwnerLawTickets.{claim-living, endpoint-settled, closed-left, closed-live}
 use Rattle.usb_device.proofs.OwnerLawTurns.{kernel-owned, claim-tickets}
 
 -- a new ticket of an open endpoint
-open-at : (endpoints : List HostEndpoint) (k : ℕ) (e : HostEndpoint) → slice_get endpoints k ≡ Some e → key_at endpoints k ≡ true → e.is_open ≡ true
+open-at : (endpoints : List (Option HostEndpoint)) (k : ℕ) (e : HostEndpoint) → value_at endpoints k ≡ Some e → key_at endpoints k ≡ true → e.is_open ≡ true
 open-at endpoints k e at is_open = sym (ap (λ (o : Option HostEndpoint). option_map_or (λ (e : HostEndpoint). e.is_open) o false) at) ∙ is_open
 
 module _ (h : HostState) (to : Route) (t : TransferData) (is_open : key_at h.endpoints to.key ≡ true) where
   abbrev held : HostTicket
   held = HeldBy (record { key = to.key; endpoint = t.endpoint; kind = t.kind })
 
-  lives-held : (m : ℕ) (e : HostEndpoint) → slice_get h.endpoints m ≡ Some e → lives (h.tickets ++ held ∷ []) (0 + m, e) ≡ lives h.tickets (0 + m, e)
+  lives-held : (m : ℕ) (e : HostEndpoint) → value_at h.endpoints m ≡ Some e → lives (h.tickets ++ held ∷ []) (0 + m, e) ≡ lives h.tickets (0 + m, e)
   lives-held m e at =
       elim (cases_eq to.key m) [
         | inl here ↦ let opened : e.is_open ≡ true = open-at h.endpoints m e at (ap (key_at h.endpoints) (sym here) ∙ is_open) in rw opened refl
@@ -59,7 +59,7 @@ module _ (h : HostState) (to : Route) (t : TransferData) (is_open : key_at h.end
       ]
 
   held-owned : (k : KernelState) → ((d n : ℕ) → is_claimed k.devices d n ≡ is_claimed h.kernel.devices d n) → KeepsClaims h (with_held h to t k)
-  held-owned k claims = claims-kept h (with_held h to t k) (claimed-refl h.interfaces) claims (claim-tickets h (h.tickets ++ held ∷ []) lives-held)
+  held-owned k claims = claims-kept h (with_held h to t k) (claimed-refl h.interfaces) claims (claim-tickets h (h.tickets ++ held ∷ []) lives-held) (λ live m e here. let z : 0 + m ≡ m = omega arith in (rw z at (lives-held m e here)) ∙ live m e here)
 
   submitted-by : (o : Option BufferState) → KeepsClaims h (submitted_with h to t o)
   submitted-by None = stays h
@@ -78,16 +78,16 @@ module _ (h : HostState) (to : Route) (t : TransferData) (is_open : key_at h.end
   refused-owned errno = refused-by errno (buffer_held t.held)
 
 -- the handle of an open endpoint is closed
-left-by : (h : HostState) (k : ℕ) (o : Option HostEndpoint) → slice_get h.endpoints k ≡ o → key_at h.endpoints k ≡ true → KeepsClaims h (closed_if h k o)
+left-by : (h : HostState) (k : ℕ) (o : Option HostEndpoint) → value_at h.endpoints k ≡ o → key_at h.endpoints k ≡ true → KeepsClaims h (closed_if h k o)
 left-by h k None at is_open = stays h
-left-by h k (Some e) at is_open = endpoint-settled h h.tickets (set h.endpoints k (record e { is_open = false })) k (closed-left h k e at (open-at h.endpoints k e at is_open))
+left-by h k (Some e) at is_open = endpoint-settled h h.tickets (set h.endpoints k (Some (record e { is_open = false }))) k (closed-left h k e at (open-at h.endpoints k e at is_open)) (closed-live h k e at (open-at h.endpoints k e at is_open))
 
 pub left-owned : (h : HostState) (k : ℕ) → key_at h.endpoints k ≡ true → KeepsClaims h (host_left h k)
 unfolding host_left
-left-owned h k is_open = left-by h k (slice_get h.endpoints k) refl is_open
+left-owned h k is_open = left-by h k (value_at h.endpoints k) refl is_open
 
 pub idled-owned : (h : HostState) (until : ℕ) → KeepsClaims h (host_idled h until)
-idled-owned h until = claims-kept h (host_idled h until) (claimed-refl h.interfaces) (λ d n. refl) (λ i. refl)
+idled-owned h until = claims-kept h (host_idled h until) (claimed-refl h.interfaces) (λ d n. refl) (λ i. refl) (λ live. live)
 
 pub halt-owned : (h : HostState) (device endpoint : ℕ) → KeepsClaims h (host_halt_cleared h device endpoint)
 halt-owned h device endpoint =
@@ -98,11 +98,11 @@ halt-owned h device endpoint =
 pub opened-owned : (h : HostState) (bus address : ℕ) → KeepsClaims h (host_opened h bus address)
 opened-owned h bus address =
     let next : HostState = record h { kernel = armed_as h.kernel (open_tried bus address h.kernel).kernel; devices = (host_opened h bus address).devices } in
-    subst (λ (g : HostState). KeepsClaims h g) (sym (opened-is h bus address)) (claims-kept h next (claimed-refl h.interfaces) (λ d n. refl) (λ i. refl))
+    subst (λ (g : HostState). KeepsClaims h g) (sym (opened-is h bus address)) (claims-kept h next (claimed-refl h.interfaces) (λ d n. refl) (λ i. refl) (λ live. live))
 
 asked-by : (h : HostState) (key : ℕ) (o : Option OpenDevice) → KeepsClaims h (asked_on h key o)
 asked-by h key None = stays h
-asked-by h key (Some o) = claims-kept h (asked_on h key (Some o)) (claimed-refl h.interfaces) (λ d n. called-claimed h.kernel o.device call.GetConfig no_rules same (λ x. refl) d n (λ here x. refl)) (λ i. refl)
+asked-by h key (Some o) = claims-kept h (asked_on h key (Some o)) (claimed-refl h.interfaces) (λ d n. called-claimed h.kernel o.device call.GetConfig no_rules same (λ x. refl) d n (λ here x. refl)) (λ i. refl) (λ live. live)
 
 pub asked-owned : (h : HostState) (key : ℕ) → KeepsClaims h (host_asked h key)
 unfolding host_asked
@@ -110,7 +110,7 @@ asked-owned h key = asked-by h key (value_at h.devices key)
 
 configured-by : (h : HostState) (key value : ℕ) (o : Option OpenDevice) → KeepsClaims h (configured_on h key value o)
 configured-by h key value None = stays h
-configured-by h key value (Some o) = claims-kept h (configured_on h key value (Some o)) (claimed-refl h.interfaces) (λ d n. called-claimed h.kernel o.device call.SetConfig (set_configuration_rules value) (with_configuration value) (λ x. refl) d n (λ here x. refl)) (λ i. refl)
+configured-by h key value (Some o) = claims-kept h (configured_on h key value (Some o)) (claimed-refl h.interfaces) (λ d n. called-claimed h.kernel o.device call.SetConfig (set_configuration_rules value) (with_configuration value) (λ x. refl) d n (λ here x. refl)) (λ i. refl) (λ live. live)
 
 pub configured-owned : (h : HostState) (key value : ℕ) → KeepsClaims h (host_configured h key value)
 unfolding host_configured
@@ -214,7 +214,7 @@ setting-claimed h i setting c at (Some errno) = written-claimed h i c c at refl 
 
 asked-setting : (h : HostState) (i setting : ℕ) (c : ClaimedInterface) → value_at h.interfaces i ≡ Some c → KeepsClaims h (alt_setting_asked h i setting c)
 asked-setting h i setting c at =
-    claims-kept h (alt_setting_asked h i setting c) (setting-claimed h i setting c at (alt_setting_errno h c setting)) (λ d n. called-claimed h.kernel c.device call.Alt (set_interface_rules c.number setting) same (λ x. refl) d n (λ here x. refl)) (setting-claim h i setting c at (alt_setting_errno h c setting))
+    claims-kept h (alt_setting_asked h i setting c) (setting-claimed h i setting c at (alt_setting_errno h c setting)) (λ d n. called-claimed h.kernel c.device call.Alt (set_interface_rules c.number setting) same (λ x. refl) d n (λ here x. refl)) (setting-claim h i setting c at (alt_setting_errno h c setting)) (λ live. live)
 
 setting-unless : (h : HostState) (i setting : ℕ) (c : ClaimedInterface) → value_at h.interfaces i ≡ Some c → (living : Bool) → KeepsClaims h (cond living h (alt_setting_asked h i setting c))
 setting-unless h i setting c at true = stays h
@@ -237,7 +237,7 @@ module _ (h : HostState) (handle : InterfaceState) (stands : StandsInterface h h
   more-owned = handles-own h.tickets h.endpoints handle.key (record claim { handles = claim.handles + 1 }) (omega arith) ∙ sym (handles-own h.tickets h.endpoints handle.key claim stands.open_handle)
 
   added-owned : KeepsClaims h (handle_added h handle.key (Some claim))
-  added-owned = claims-kept h (handle_added h handle.key (Some claim)) (written-claimed h handle.key claim (record claim { handles = claim.handles + 1 }) stands.at refl refl (omega arith)) (λ d n. refl) (written-claim h handle.key claim (record claim { handles = claim.handles + 1 }) stands.at refl refl more-owned)
+  added-owned = claims-kept h (handle_added h handle.key (Some claim)) (written-claimed h handle.key claim (record claim { handles = claim.handles + 1 }) stands.at refl refl (omega arith)) (λ d n. refl) (written-claim h handle.key claim (record claim { handles = claim.handles + 1 }) stands.at refl refl more-owned) (λ live. live)
 
   pub cloned-owned : KeepsClaims h (handle_cloned h handle.key)
   unfolding handle_cloned
@@ -261,6 +261,14 @@ module _ (h : HostState) (handle : InterfaceState) (stands : StandsInterface h h
   unfolding handle_closed
   closed-owned = subst (λ (o : Option ClaimedInterface). KeepsOwned h (handle_gone h handle.key o)) (sym stands.at) gone-owned
 
+  gone-alive : EndpointsLive h → EndpointsLive (handle_gone h handle.key (Some claim))
+  unfolding owner_gone
+  gone-alive live = live
+
+  pub closed-alive : EndpointsLive h → EndpointsLive (handle_closed h handle.key)
+  unfolding handle_closed
+  closed-alive = subst (λ (o : Option ClaimedInterface). EndpointsLive h → EndpointsLive (handle_gone h handle.key o)) (sym stands.at) gone-alive
+
   gone-others : KeepsOthers h.interfaces (handle_gone h handle.key (Some claim)).interfaces handle.key
   unfolding owner_gone
   gone-others i c apart at some =
@@ -281,7 +289,7 @@ module _ (h : HostState) (i address : ℕ) (owned : IsOwned h i) where
   opened = with_endpoint h i address
 
   opened-living : has_living h.tickets opened.endpoints i ≡ true
-  opened-living = any-at (lives_on h.tickets i) 0 opened.endpoints (length h.endpoints) fresh (slice_get-append_seam h.endpoints fresh) (rw (eq-eqb i i refl) refl)
+  opened-living = any-at (if_there (lives_on h.tickets i)) 0 opened.endpoints (length h.endpoints) (Some fresh) (slice_get-append_seam h.endpoints (Some fresh)) (rw (eq-eqb i i refl) refl)
 
   opened-among : (c : ClaimedInterface) → is_owned_among h.tickets opened.endpoints i c ≡ true
   unfolding is_owned_among
@@ -294,9 +302,10 @@ module _ (h : HostState) (i address : ℕ) (owned : IsOwned h i) where
   opened-other : (j : ℕ) → j ≢ i → claim_at opened j ≡ claim_at h j
   opened-other j apart =
       let other : is_of j fresh.interface ≡ false = ne_eqb i j (λ z. apart (sym z)) in
-      claim-living h h.tickets opened.endpoints j (any-push_at (lives_on h.tickets j) 0 h.endpoints fresh (rw other refl))
+      claim-living h h.tickets opened.endpoints j (any-push_at (if_there (lives_on h.tickets j)) 0 h.endpoints (Some fresh) (rw other refl))
 
   pub endpoint-owned : KeepsClaims h (with_endpoint h i address)
   endpoint-owned =
       claims-kept h opened (claimed-refl h.interfaces) (λ d n. refl)
       (λ j. elim (cases_eq j i) [ inl here ↦ rw here (opened-here (value_at h.interfaces i) refl) | inr apart ↦ opened-other j apart ])
+      (λ live k e at. elim (value-push_cases h.endpoints fresh e k at) [ inl w ↦ rw w.1 refl | inr w ↦ live k e w.1 ])

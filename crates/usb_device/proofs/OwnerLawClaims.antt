@@ -122,6 +122,7 @@ module _ (h : HostState) (key number : ℕ) (reattach : Bool) (o : OpenDevice) w
           ended = still-ended;
         };
         claimed = next-claimed;
+        alive = λ live. live;
       }
   claimed-with (Some errno) refused =
       kernel-owned h asked.kernel (λ d n. ap (λ (ds : List DeviceState). is_claimed ds d n) (refused-claimed h.kernel o number reattach errno refused))

@@ -9,7 +9,7 @@ use Rattle.usb_ledger.specs.Entries.{ClaimedInterface}
 use Rattle.usb_device.specs.HostState.{HostState}
 use Rattle.usb_ledger.specs.Owners.{is_owned_among}
 use Rattle.usb_device.specs.HostFrames.{ClaimsGoOn}
-use Rattle.usb_device.specs.OwnerLaws.{is_owned_claim, IsOwned, HasEnded, KeepsOwned, KeepsHandles, KeepsClaimed, KeepsClaims}
+use Rattle.usb_device.specs.OwnerLaws.{is_owned_claim, IsOwned, HasEnded, KeepsOwned, KeepsHandles, KeepsClaimed, KeepsClaims, EndpointsLive}
 use Rattle.usb_device.proofs.OwnerLawTells.{owns, tells-from, tells-to, tells-same}
 
 -- the claim of a key: its device, its number, and whether it has an owner
@@ -89,23 +89,24 @@ claimed-trans a b c first second =
     }
 
 -- a host where no claim and no owner has changed
-pub claims-kept : (h g : HostState) → KeepsClaimed h.interfaces g.interfaces → ((d n : ℕ) → is_claimed g.kernel.devices d n ≡ is_claimed h.kernel.devices d n) → ((i : ℕ) → claim_at g i ≡ claim_at h i) → KeepsClaims h g
-claims-kept h g keeps claims same =
+pub owned-kept : (h g : HostState) → KeepsClaimed h.interfaces g.interfaces → ((d n : ℕ) → is_claimed g.kernel.devices d n ≡ is_claimed h.kernel.devices d n) → ((i : ℕ) → claim_at g i ≡ claim_at h i) → KeepsOwned h g
+owned-kept h g keeps claims same =
     record {
-      kept = record {
-        owned = λ own. tells-to g (tells-same (is_claimed h.kernel.devices) (is_claimed g.kernel.devices) (owns h) (owns g) claims (λ d n i. same-owns h g i (same i) d n) (tells-from h own));
-        tidy = λ own i. same-owned h g i (same i) (own i);
-        ended = λ i e. same-ended h g i keeps.given (same i) e;
-      };
-      claimed = keeps;
+      owned = λ own. tells-to g (tells-same (is_claimed h.kernel.devices) (is_claimed g.kernel.devices) (owns h) (owns g) claims (λ d n i. same-owns h g i (same i) d n) (tells-from h own));
+      tidy = λ own i. same-owned h g i (same i) (own i);
+      ended = λ i e. same-ended h g i keeps.given (same i) e;
     }
 
+pub claims-kept : (h g : HostState) → KeepsClaimed h.interfaces g.interfaces → ((d n : ℕ) → is_claimed g.kernel.devices d n ≡ is_claimed h.kernel.devices d n) → ((i : ℕ) → claim_at g i ≡ claim_at h i) → (EndpointsLive h → EndpointsLive g) → KeepsClaims h g
+claims-kept h g keeps claims same alive = record { kept = owned-kept h g keeps claims same; claimed = keeps; alive = alive }
+
 pub stays : (h : HostState) → KeepsClaims h h
-stays h = record { kept = record { owned = λ own. own; tidy = λ own. own; ended = λ i e. e }; claimed = claimed-refl h.interfaces }
+stays h = record { kept = record { owned = λ own. own; tidy = λ own. own; ended = λ i e. e }; claimed = claimed-refl h.interfaces; alive = λ live. live }
 
 pub follow : (first second third : HostState) → KeepsClaims first second → KeepsClaims second third → KeepsClaims first third
 follow first second third a b =
     record {
       kept = record { owned = λ own. b.kept.owned (a.kept.owned own); tidy = λ own. b.kept.tidy (a.kept.tidy own); ended = λ i e. b.kept.ended i (a.kept.ended i e) };
       claimed = claimed-trans first.interfaces second.interfaces third.interfaces a.claimed b.claimed;
+      alive = λ live. b.alive (a.alive live);
     }

@@ -1,5 +1,5 @@
 -- Tests of the elements of a list with their places.
-use Rattle.std.proofs.Common.{ℕ, zero, suc, arith, ◌≡◌, ◌+◌, Bool, true, false, List, [], ◌∷◌, ◌++◌, length, set, slice_get, Option, Some, inl, inr, refl, sym, ◌∙◌, ap}
+use Rattle.std.proofs.Common.{ℕ, zero, suc, arith, ◌≡◌, ◌+◌, Bool, true, false, List, [], ◌∷◌, ◌++◌, length, set, slice_get, Option, Some, None, inl, inr, refl, sym, ◌∙◌, ap}
 use Rattle.std.specs.Prelude.{◌||◌}
 use Rattle.std.specs.List.{list_any, enumerate_from}
 use Rattle.std.proofs.lemmas.Bool.{cases_Bool}
@@ -90,3 +90,16 @@ any-push_at p m [] y no_ =
 any-push_at p m (x ∷ xs) y no_ =
     let e : m + length (x ∷ xs) ≡ (m + 1) + length xs = omega arith in
     rw (any-push_at p (m + 1) xs y (rw e at no_)) refl
+
+-- an element that does not pass goes
+pub any-taken : {X : Type 0} (p : ℕ × Option X → Bool) (m : ℕ) (xs : List (Option X)) (k : ℕ) → ((o : Option X) → slice_get xs k ≡ Some o → p (m + k, o) ≡ false) → p (m + k, None) ≡ false → list_any p (enumerate_from m (set xs k None)) ≡ list_any p (enumerate_from m xs)
+any-taken p m [] k dead none = refl
+any-taken p m (z ∷ zs) zero dead none =
+    let e : m + 0 ≡ m = omega arith in
+    let gone : p (m, None) ≡ false = rw e at none in
+    let was : p (m, z) ≡ false = rw e at (dead z refl) in
+    let here : p (m, None) ≡ p (m, z) = gone ∙ sym was in
+    rw here refl
+any-taken p m (z ∷ zs) (suc k) dead none =
+    let e : m + suc k ≡ (m + 1) + k = omega arith in
+    rw (any-taken p (m + 1) zs k (λ o at. rw e at (dead o at)) (rw e at none)) refl

@@ -1,5 +1,5 @@
 -- The owners of interfaces over steps, reaps and turns.
-use Rattle.std.proofs.Common.{ℕ, zero, suc, ◌≡◌, ◌+◌, Bool, true, false, cond, List, [], ◌∷◌, length, set, slice_get, Option, Some, None, refl, ap}
+use Rattle.std.proofs.Common.{ℕ, zero, suc, ◌≡◌, ◌+◌, Bool, true, false, cond, List, [], ◌∷◌, length, set, slice_get, Option, Some, None, refl, ap, ◌∙◌}
 use Rattle.std.specs.Prelude.{is_some, ◌&&◌, ◌||◌}
 use Rattle.usb_simulated.specs.declared.step.KernelStep.{KernelStep}
 use Rattle.usb_kernel.specs.declared.submission.Done.{Done}
@@ -8,6 +8,7 @@ use Rattle.usb_kernel.specs.Value.{KernelState}
 use Rattle.usb_kernel.specs.Tickets.{tickets}
 use Rattle.usb_kernel.specs.Completions.{completion, lowest, reapable}
 use Rattle.usb_kernel.specs.Steps.{after_step, step_done, after_reap}
+use Rattle.usb_registry.specs.History.{value_at}
 use Rattle.usb_ledger.specs.declared.ends.TicketEnd.{TicketEnd}
 use Rattle.usb_ledger.specs.declared.ends.TicketEnd.TheVariants.{Taken, Dropped, Reclaimed}
 use Rattle.usb_ledger.specs.Entries.{HostTicket, HostEndpoint, Hold, HeldBy, Abandoned, Ended}
@@ -18,29 +19,29 @@ use Rattle.usb_device.specs.TicketEnds.{with_ticket, ended_as, host_ended, host_
 use Rattle.usb_device.specs.HostTurns.{with_past, host_stepped, host_reaped, reaped_of, turned_of, host_turned, all_stepped, host_rest}
 use Rattle.usb_device.specs.HostCalls.{host_discarded}
 use Rattle.usb_device.specs.Finishes.{discarded_below, reaped_below, finished}
-use Rattle.usb_device.proofs.OwnerLawLists.{any-alike, any-put}
+use Rattle.usb_device.proofs.OwnerLawLists.{any-put}
 use Rattle.usb_device.proofs.OwnerLawKernel.{stepped-claimed}
 use Rattle.usb_device.proofs.OwnerLawKept.{claim_at, claims-kept, stays, follow, claimed-refl}
-use Rattle.usb_device.proofs.OwnerLawTickets.{with_lists, claim-living, claims-living, endpoint-settled, ticket-left}
+use Rattle.usb_device.proofs.OwnerLawTickets.{with_lists, claim-living, claims-living, living-alike, endpoint-settled, ticket-left, ended-others}
 
 -- another kernel at which the same interfaces are claimed
 pub kernel-owned : (h : HostState) (k : KernelState) → ((d n : ℕ) → is_claimed k.devices d n ≡ is_claimed h.kernel.devices d n) → KeepsClaims h (record h { kernel = k })
-kernel-owned h k claims = claims-kept h (record h { kernel = k }) (claimed-refl h.interfaces) claims (λ i. refl)
+kernel-owned h k claims = claims-kept h (record h { kernel = k }) (claimed-refl h.interfaces) claims (λ i. refl) (λ live. live)
 
 pub steps-owned : (h : HostState) (steps : List KernelStep) → KeepsClaims h (record h { steps = steps })
-steps-owned h steps = claims-kept h (record h { steps = steps }) (claimed-refl h.interfaces) (λ d n. refl) (λ i. refl)
+steps-owned h steps = claims-kept h (record h { steps = steps }) (claimed-refl h.interfaces) (λ d n. refl) (λ i. refl) (λ live. live)
 
 -- other tickets with which the same endpoints live
-pub claim-tickets : (h : HostState) (tickets : List HostTicket) → ((m : ℕ) (e : HostEndpoint) → slice_get h.endpoints m ≡ Some e → lives tickets (0 + m, e) ≡ lives h.tickets (0 + m, e)) → (j : ℕ) → claim_at (with_lists h tickets h.endpoints) j ≡ claim_at h j
+pub claim-tickets : (h : HostState) (tickets : List HostTicket) → ((m : ℕ) (e : HostEndpoint) → value_at h.endpoints m ≡ Some e → lives tickets (0 + m, e) ≡ lives h.tickets (0 + m, e)) → (j : ℕ) → claim_at (with_lists h tickets h.endpoints) j ≡ claim_at h j
 claim-tickets h tickets alive j =
     claim-living h tickets h.endpoints j
-    (any-alike (lives_on tickets j) (lives_on h.tickets j) 0 h.endpoints (λ m e at. ap (λ b. is_of j e.interface && b) (alive m e at)))
+    (living-alike (lives_on tickets j) (lives_on h.tickets j) h.endpoints (λ m e at. ap (λ b. is_of j e.interface && b) (alive m e at)))
 
 -- tickets that end
 ended_as-owned : (h : HostState) (t : ℕ) (end : TicketEnd) (o : Option HostTicket) → slice_get h.tickets t ≡ o → KeepsClaims h (ended_as h t end o)
 ended_as-owned h t end None at = stays h
-ended_as-owned h t end (Some (HeldBy hold)) at = endpoint-settled h (set h.tickets t (Ended end)) h.endpoints hold.key (ticket-left h t hold.key (HeldBy hold) end at (λ j. refl))
-ended_as-owned h t end (Some (Abandoned key)) at = endpoint-settled h (set h.tickets t (Ended end)) h.endpoints key (ticket-left h t key (Abandoned key) end at (λ j. refl))
+ended_as-owned h t end (Some (HeldBy hold)) at = endpoint-settled h (set h.tickets t (Ended end)) h.endpoints hold.key (ticket-left h t hold.key (HeldBy hold) end at (λ j. refl)) (ended-others h t hold.key (HeldBy hold) end at (λ j. refl))
+ended_as-owned h t end (Some (Abandoned key)) at = endpoint-settled h (set h.tickets t (Ended end)) h.endpoints key (ticket-left h t key (Abandoned key) end at (λ j. refl)) (ended-others h t key (Abandoned key) end at (λ j. refl))
 ended_as-owned h t end (Some (Ended before)) at = stays h
 
 pub ended-owned : (h : HostState) (t : ℕ) (end : TicketEnd) → KeepsClaims h (host_ended h t end)
@@ -55,7 +56,8 @@ taken-owned h t = ended-owned h t Taken
 given-owned : (h : HostState) (t : ℕ) (hold : Hold) → slice_get h.tickets t ≡ Some (HeldBy hold) → KeepsClaims h (with_ticket h t (Abandoned hold.key))
 given-owned h t hold at =
     let next = set h.tickets t (Abandoned hold.key) in
-    claims-living h next h.endpoints (claim-tickets h next (λ m e here. ap (λ b. e.is_open || b) (any-put (is_ticket_of (0 + m)) h.tickets t (HeldBy hold) (Abandoned hold.key) at refl)))
+    let same : (m : ℕ) (e : HostEndpoint) → lives next (m, e) ≡ lives h.tickets (m, e) = λ m e. ap (λ b. e.is_open || b) (any-put (is_ticket_of m) h.tickets t (HeldBy hold) (Abandoned hold.key) at refl) in
+    claims-living h next h.endpoints (claim-tickets h next (λ m e here. same (0 + m) e)) (λ live m e here. same m e ∙ live m e here)
 
 given_up-owned : (h : HostState) (t : ℕ) (o : Option HostTicket) → slice_get h.tickets t ≡ o → KeepsClaims h (given_up h t o)
 given_up-owned h t None at = stays h
@@ -121,7 +123,7 @@ rest-owned h =
 -- the end
 pub discarded-owned : (h : HostState) (t : ℕ) → KeepsClaims h (host_discarded h t)
 unfolding host_discarded
-discarded-owned h t = claims-kept h (host_discarded h t) (claimed-refl h.interfaces) (λ d n. refl) (λ i. refl)
+discarded-owned h t = claims-kept h (host_discarded h t) (claimed-refl h.interfaces) (λ d n. refl) (λ i. refl) (λ live. live)
 
 discarded_below-owned : (h : HostState) (n : ℕ) → KeepsClaims h (discarded_below h n)
 discarded_below-owned h zero = stays h

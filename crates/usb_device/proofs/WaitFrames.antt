@@ -22,7 +22,7 @@ line-trans a b c first second =
       spare = omega (arith, first.spare, second.spare, length-append first.front second.front);
       devices = second.devices ∙ first.devices;
       interfaces = goes-trans a.interfaces b.interfaces c.interfaces first.interfaces second.interfaces;
-      endpoints = second.endpoints ∙ first.endpoints;
+      endpoints = goes-trans a.endpoints b.endpoints c.endpoints first.endpoints second.endpoints;
     }
 
 -- a call that keeps what is open leaves the line

@@ -19,8 +19,8 @@ use Rattle.usb_ledger.specs.Entries.{HostTicket, HeldBy, Abandoned, Ended, fresh
 use Rattle.usb_device.specs.HostState.{HostState, host_of}
 use Rattle.usb_ledger.specs.Owners.{is_used_among, is_owned_among}
 use Rattle.usb_device.specs.Owners.{is_in_use}
-use Rattle.usb_ledger.specs.Releases.{claim_ended, claim_of}
-use Rattle.usb_device.specs.Releases.{settled, owner_gone}
+use Rattle.usb_ledger.specs.Releases.{claim_ended, claim_of, endpoints_left}
+use Rattle.usb_device.specs.Releases.{endpoint_left, settled, owner_gone}
 use Rattle.usb_device.specs.TicketEnds.{host_ended, host_taken, host_abandoned, came}
 use Rattle.usb_device.specs.HostTurns.{host_reaped}
 use Rattle.usb_device.specs.HostCalls.{host_discarded, host_left}
@@ -62,7 +62,7 @@ open_endpoint =
       kernel = record { past = past; devices = device ∷ []; clock = 0; armed = []; spare = 0 };
       devices = [];
       interfaces = Some (fresh_interface 0 0 1 false) ∷ [];
-      endpoints = record { interface = Some 0; address = 129; is_open = true } ∷ [];
+      endpoints = Some (record { interface = Some 0; address = 129; is_open = true }) ∷ [];
       tickets = held ∷ held ∷ held ∷ [];
       steps = [];
     }
@@ -84,57 +84,66 @@ is_claimed h = claimed_of (slice_get h.kernel.devices 0)
 
 -- the reaped ticket is dropped, the others are given up, and the bit stays in use
 pub closed_tickets : closed.tickets ≡ Ended Dropped ∷ Abandoned 0 ∷ Abandoned 0 ∷ []
-unfolding is_used_among is_owned_among claim_ended claim_of settled owner_gone host_ended host_taken host_abandoned came host_reaped host_discarded host_left handle_closed completion
+unfolding is_used_among is_owned_among claim_ended claim_of settled endpoint_left endpoints_left owner_gone host_ended host_taken host_abandoned came host_reaped host_discarded host_left handle_closed completion
 closed_tickets = refl
 
 pub closed_use : is_in_use closed 0 129 ≡ true
-unfolding is_used_among is_owned_among claim_ended claim_of settled owner_gone host_ended host_taken host_abandoned came host_reaped host_discarded host_left handle_closed completion
+unfolding is_used_among is_owned_among claim_ended claim_of settled endpoint_left endpoints_left owner_gone host_ended host_taken host_abandoned came host_reaped host_discarded host_left handle_closed completion
 closed_use = refl
 
 -- other bits are not: not that of OUT endpoint 1, and not those of another interface
 pub closed_other : is_in_use closed 0 1 || is_in_use closed 1 129 ≡ false
-unfolding is_used_among is_owned_among claim_ended claim_of settled owner_gone host_ended host_taken host_abandoned came host_reaped host_discarded host_left handle_closed completion
+unfolding is_used_among is_owned_among claim_ended claim_of settled endpoint_left endpoints_left owner_gone host_ended host_taken host_abandoned came host_reaped host_discarded host_left handle_closed completion
 closed_other = refl
 
 -- it stays so when one of the two is reaped
 pub one_reaped : is_in_use (host_reaped closed 2) 0 129 ≡ true
-unfolding is_used_among is_owned_among claim_ended claim_of settled owner_gone host_ended host_taken host_abandoned came host_reaped host_discarded host_left handle_closed completion
+unfolding is_used_among is_owned_among claim_ended claim_of settled endpoint_left endpoints_left owner_gone host_ended host_taken host_abandoned came host_reaped host_discarded host_left handle_closed completion
 one_reaped = refl
 
 -- with the other one it is free, and the interface is claimed while its handle is open
 pub both_reaped : is_in_use (host_reaped (host_reaped closed 2) 1) 0 129 ≡ false
-unfolding is_used_among is_owned_among claim_ended claim_of settled owner_gone host_ended host_taken host_abandoned came host_reaped host_discarded host_left handle_closed completion
+unfolding is_used_among is_owned_among claim_ended claim_of settled endpoint_left endpoints_left owner_gone host_ended host_taken host_abandoned came host_reaped host_discarded host_left handle_closed completion
 both_reaped = refl
 
 pub both_claimed : is_claimed (host_reaped (host_reaped closed 2) 1) ≡ true
-unfolding is_used_among is_owned_among claim_ended claim_of settled owner_gone host_ended host_taken host_abandoned came host_reaped host_discarded host_left handle_closed completion
+unfolding is_used_among is_owned_among claim_ended claim_of settled endpoint_left endpoints_left owner_gone host_ended host_taken host_abandoned came host_reaped host_discarded host_left handle_closed completion
 both_claimed = refl
 
 pub handle_last : is_claimed (handle_closed (host_reaped (host_reaped closed 2) 1) 0) ≡ false
-unfolding is_used_among is_owned_among claim_ended claim_of settled owner_gone host_ended host_taken host_abandoned came host_reaped host_discarded host_left handle_closed completion
+unfolding is_used_among is_owned_among claim_ended claim_of settled endpoint_left endpoints_left owner_gone host_ended host_taken host_abandoned came host_reaped host_discarded host_left handle_closed completion
 handle_last = refl
 
 -- where the handle is closed first, the claim ends with the last ticket
 pub ticket_first : is_claimed (host_reaped (handle_closed closed 0) 2) ≡ true
-unfolding is_used_among is_owned_among claim_ended claim_of settled owner_gone host_ended host_taken host_abandoned came host_reaped host_discarded host_left handle_closed completion
+unfolding is_used_among is_owned_among claim_ended claim_of settled endpoint_left endpoints_left owner_gone host_ended host_taken host_abandoned came host_reaped host_discarded host_left handle_closed completion
 ticket_first = refl
 
 pub ticket_last : is_claimed (host_reaped (host_reaped (handle_closed closed 0) 2) 1) ≡ false
-unfolding is_used_among is_owned_among claim_ended claim_of settled owner_gone host_ended host_taken host_abandoned came host_reaped host_discarded host_left handle_closed completion
+unfolding is_used_among is_owned_among claim_ended claim_of settled endpoint_left endpoints_left owner_gone host_ended host_taken host_abandoned came host_reaped host_discarded host_left handle_closed completion
 ticket_last = refl
 
 pub last_ends : (host_reaped (host_reaped (handle_closed closed 0) 2) 1).tickets ≡ Ended Dropped ∷ Ended Reclaimed ∷ Ended Reclaimed ∷ []
-unfolding is_used_among is_owned_among claim_ended claim_of settled owner_gone host_ended host_taken host_abandoned came host_reaped host_discarded host_left handle_closed completion
+unfolding is_used_among is_owned_among claim_ended claim_of settled endpoint_left endpoints_left owner_gone host_ended host_taken host_abandoned came host_reaped host_discarded host_left handle_closed completion
 last_ends = refl
 
 -- and its entry goes then
 pub entry_first : (host_reaped (handle_closed closed 0) 2).interfaces ≡ Some (record (fresh_interface 0 0 1 false) { handles = 0 }) ∷ []
-unfolding is_used_among is_owned_among claim_ended claim_of settled owner_gone host_ended host_taken host_abandoned came host_reaped host_discarded host_left handle_closed completion
+unfolding is_used_among is_owned_among claim_ended claim_of settled endpoint_left endpoints_left owner_gone host_ended host_taken host_abandoned came host_reaped host_discarded host_left handle_closed completion
 entry_first = refl
 
 pub entry_last : (host_reaped (host_reaped (handle_closed closed 0) 2) 1).interfaces ≡ None ∷ []
-unfolding is_used_among is_owned_among claim_ended claim_of settled owner_gone host_ended host_taken host_abandoned came host_reaped host_discarded host_left handle_closed completion
+unfolding is_used_among is_owned_among claim_ended claim_of settled endpoint_left endpoints_left owner_gone host_ended host_taken host_abandoned came host_reaped host_discarded host_left handle_closed completion
 entry_last = refl
+
+-- what is kept of the endpoint goes with the last of its tickets
+pub endpoint_first : (host_reaped closed 2).endpoints ≡ Some (record { interface = Some 0; address = 129; is_open = false }) ∷ []
+unfolding is_used_among is_owned_among claim_ended claim_of settled endpoint_left endpoints_left owner_gone host_ended host_taken host_abandoned came host_reaped host_discarded host_left handle_closed completion
+endpoint_first = refl
+
+pub endpoint_last : (host_reaped (host_reaped closed 2) 1).endpoints ≡ None ∷ []
+unfolding is_used_among is_owned_among claim_ended claim_of settled endpoint_left endpoints_left owner_gone host_ended host_taken host_abandoned came host_reaped host_discarded host_left handle_closed completion
+endpoint_last = refl
 
 -- a device with one configuration, of value 1, which has the interface 1
 abbrev bytes : List ℕ

@@ -27,7 +27,7 @@ with_steps steps =
       kernel = record { past = submitted ∷ []; devices = []; clock = 0; armed = []; spare = 9 };
       devices = [];
       interfaces = [];
-      endpoints = record { interface = Some 0; address = 129; is_open = true } ∷ [];
+      endpoints = Some (record { interface = Some 0; address = 129; is_open = true }) ∷ [];
       tickets = HeldBy (record { key = 0; endpoint = 129; kind = Bulk }) ∷ [];
       steps = steps;
     }

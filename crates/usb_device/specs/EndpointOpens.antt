@@ -75,7 +75,8 @@ abbrev pub with_endpoint : HostState → ℕ → ℕ → HostState
 with_endpoint h i address =
     record h {
       endpoints =
-          h.endpoints ++ record { interface = Some i; address = address; is_open = true } ∷ [];
+          h.endpoints
+          ++ Some (record { interface = Some i; address = address; is_open = true }) ∷ [];
     }
 
 -- the route of its transfers

@@ -6,6 +6,7 @@ use Rattle.usb_kernel.specs.Completions.{waiting}
 use Rattle.usb_bus.specs.BusState.{BusState}
 use Rattle.usb_bus.specs.Completions.{transfer_completion}
 use Rattle.usb_bus.specs.Holds.{value_for}
+use Rattle.usb_registry.specs.History.{value_at}
 use Rattle.usb_ledger.specs.Entries.{Hold, HostTicket, HostEndpoint, HeldBy, Abandoned, Ended}
 use Rattle.usb_device.specs.HostState.{HostState}
 
@@ -23,8 +24,8 @@ abbrev pub owner_at : List HostTicket → ℕ → Option ℕ
 owner_at tickets t = option_map (λ hold. hold.key) (hold_at tickets t)
 
 -- whether the endpoint of a key is open
-abbrev pub key_at : List HostEndpoint → ℕ → Bool
-key_at endpoints k = option_map_or (λ (e : HostEndpoint). e.is_open) (slice_get endpoints k) false
+abbrev pub key_at : List (Option HostEndpoint) → ℕ → Bool
+key_at endpoints k = option_map_or (λ (e : HostEndpoint). e.is_open) (value_at endpoints k) false
 
 -- the steps that are left, and then the tickets that are finished and not reaped, as one number
 abbrev pub turns_left : HostState → ℕ

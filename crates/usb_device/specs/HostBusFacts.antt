@@ -1,17 +1,21 @@
 -- The owners of tickets when one of them ends.
-use Rattle.std.specs.Prelude.{ℕ, zero, suc, ◌≡◌, ◌==◌, true, false, List, [], ◌∷◌, set, Option, Some, None, slice_get, option_and_then, refl}
-use Rattle.std.specs.Option.{option_map}
+use Rattle.std.specs.Prelude.{ℕ, zero, suc, ◌≡◌, ◌==◌, ◌||◌, Bool, true, false, List, [], ◌∷◌, set, Option, Some, None, slice_get, option_and_then, refl}
+use Rattle.std.specs.Option.{option_map, option_map_or}
+use Rattle.std.specs.List.{list_any}
+use Rattle.usb_registry.specs.History.{value_at}
 use Rattle.std.proofs.Common.{cond, ap, sym, ◌∙◌, inl, inr}
 use Rattle.std.proofs.Math.Path.{fun_ext}
 use Rattle.std.proofs.Math.Dec.{eqb-suc-zero, eqb-zero-suc, eqb-suc-suc}
-use Rattle.std.proofs.lemmas.Bool.{cases_eq, eq-eqb, ne_eqb}
+use Rattle.std.proofs.lemmas.Bool.{cases_Bool, cases_eq, eq-eqb, ne_eqb}
 use Rattle.usb_bus.specs.BusState.{without_owner}
 use Rattle.usb_ledger.specs.declared.ends.TicketEnd.{TicketEnd}
 use Rattle.usb_ledger.specs.declared.ends.TicketEnd.TheVariants.{Taken}
-use Rattle.usb_ledger.specs.Entries.{HostTicket, Hold, HeldBy, Abandoned, Ended}
+use Rattle.usb_ledger.specs.Entries.{HostTicket, HostEndpoint, Hold, HeldBy, Abandoned, Ended}
 use Rattle.usb_device.specs.HostState.{HostState}
-use Rattle.usb_device.specs.HostBus.{bus_of, owner_at, held_as}
-use Rattle.usb_device.specs.Releases.{settled}
+use Rattle.usb_device.specs.HostBus.{bus_of, owner_at, held_as, key_at}
+use Rattle.usb_ledger.specs.Owners.{if_there, lives, is_ticket_of}
+use Rattle.usb_ledger.specs.Releases.{endpoints_left}
+use Rattle.usb_device.specs.Releases.{endpoint_left, settled}
 use Rattle.usb_device.specs.TicketEnds.{host_ended, ended_as, host_taken, with_ticket}
 
 -- a ticket that nobody holds any more, at its place
@@ -45,9 +49,46 @@ owner-none : (tickets : List HostTicket) (t : ℕ) (o : Option HostTicket) → s
 owner-none tickets t o at none =
     ap (option_map (λ (hold : Hold). hold.key)) (ap (option_and_then held_as) at ∙ none)
 
+-- an endpoint that is not open may go
+key-taken : (endpoints : List (Option HostEndpoint)) (k j : ℕ) → key_at endpoints k ≡ false →
+    key_at (set endpoints k None) j ≡ key_at endpoints j
+key-taken [] k j closed = refl
+key-taken (e ∷ es) zero zero closed = sym closed
+key-taken (e ∷ es) zero (suc j) closed = refl
+key-taken (e ∷ es) (suc k) zero closed = refl
+key-taken (e ∷ es) (suc k) (suc j) closed = key-taken es k j closed
+
+or-false : (a b : Bool) → (a || b) ≡ false → a ≡ false
+or-false true b is = absurd (cc)
+or-false false b is = refl
+
+-- one that lives no more is not open
+key-dead : (tickets : List HostTicket) (endpoints : List (Option HostEndpoint)) (k : ℕ)
+    (o : Option HostEndpoint) → value_at endpoints k ≡ o →
+    if_there (lives tickets) (k, o) ≡ false → key_at endpoints k ≡ false
+key-dead tickets endpoints k None at dead =
+    ap (λ (o : Option HostEndpoint). option_map_or (λ (e : HostEndpoint). e.is_open) o false) at
+key-dead tickets endpoints k (Some e) at dead =
+    ap (λ (o : Option HostEndpoint). option_map_or (λ (e : HostEndpoint). e.is_open) o false) at
+    ∙ or-false e.is_open (list_any (is_ticket_of k) tickets) dead
+
+pub key-left : (tickets : List HostTicket) (endpoints : List (Option HostEndpoint)) (k j : ℕ) →
+    key_at (endpoints_left tickets endpoints k) j ≡ key_at endpoints j
+unfolding endpoints_left
+key-left tickets endpoints k j =
+    elim (cases_Bool (if_there (lives tickets) (k, value_at endpoints k))) [
+      | inl alive ↦ rw alive refl
+      | inr dead ↦
+          rw dead
+          (key-taken endpoints k j
+          (key-dead tickets endpoints k (value_at endpoints k) refl dead))
+    ]
+
 pub bus_of-settled : (h : HostState) (k : ℕ) → bus_of (settled h k) ≡ bus_of h
-unfolding settled
-bus_of-settled h k = refl
+unfolding settled endpoint_left
+bus_of-settled h k =
+    ap (λ (f : ℕ → Bool). record (bus_of h) { keys = f })
+    (fun_ext (λ j. key-left h.tickets h.endpoints k j))
 
 bus_of-ticket : (h : HostState) (t : ℕ) (x : HostTicket) → held_as x ≡ None →
     bus_of (with_ticket h t x) ≡ record (bus_of h) { owner = without_owner (owner_at h.tickets) t }

@@ -1,6 +1,6 @@
 -- What the calls of endpoints make of a host. A `TransferData` is a transfer: its endpoint's address and type,
 -- and what it holds (usb_xfer/src/transfer.rt).
-use Rattle.std.specs.Prelude.{ℕ, set, false, [], ◌∷◌, ◌++◌, max, Option, Some, None, Result, slice_get}
+use Rattle.std.specs.Prelude.{ℕ, set, false, [], ◌∷◌, ◌++◌, max, Option, Some, None, Result}
 use Rattle.usb_xfer.specs.BufferState.{BufferState}
 use Rattle.usb_xfer.specs.declared.transfer.TransferData.{TransferData}
 use Rattle.usb_xfer.specs.Transfers.{buffer_held}
@@ -14,6 +14,7 @@ use Rattle.usb_kernel.specs.Timers.{timer_turned}
 use Rattle.usb_kernel.specs.Steps.{after_discard}
 use Rattle.usb_bus.specs.declared.route.Route.{Route}
 use Rattle.usb_bus.specs.Routes.{submission_of}
+use Rattle.usb_registry.specs.History.{value_at}
 use Rattle.usb_ledger.specs.Entries.{HostEndpoint, HeldBy}
 use Rattle.usb_device.specs.HostState.{HostState}
 use Rattle.usb_device.specs.Releases.{settled}
@@ -55,11 +56,11 @@ host_discarded h t = with_past h (after_discard h.kernel.past t)
 abbrev pub closed_if : HostState → ℕ → Option HostEndpoint → HostState
 closed_if h k None = h
 closed_if h k (Some e) =
-    settled (record h { endpoints = set h.endpoints k (record e { is_open = false }) }) k
+    settled (record h { endpoints = set h.endpoints k (Some (record e { is_open = false })) }) k
 
 -- the same, with the endpoint looked up by its key
 unfoldable pub host_left : HostState → ℕ → HostState
-host_left h k = closed_if h k (slice_get h.endpoints k)
+host_left h k = closed_if h k (value_at h.endpoints k)
 
 -- the clock was raised, and the timer had its turn
 abbrev pub host_idled : HostState → ℕ → HostState

@@ -11,9 +11,9 @@ use Rattle.usb_kernel.specs.Value.{KernelState}
 use Rattle.usb_bus.specs.declared.route.Route.{Route}
 use Rattle.usb_registry.specs.History.{value_at}
 use Rattle.usb_ledger.specs.declared.ends.TicketEnd.{TicketEnd}
-use Rattle.usb_ledger.specs.Entries.{ClaimedInterface}
+use Rattle.usb_ledger.specs.Entries.{ClaimedInterface, HostEndpoint}
 use Rattle.usb_device.specs.HostState.{HostState, host_of}
-use Rattle.usb_ledger.specs.Owners.{is_owned_among}
+use Rattle.usb_ledger.specs.Owners.{lives, is_owned_among}
 use Rattle.usb_device.specs.HostBus.{key_at}
 use Rattle.usb_device.specs.HostTurns.{host_stepped, host_reaped, host_turned, host_rest}
 use Rattle.usb_device.specs.HostCalls.{host_submitted, host_refused, host_discarded, host_left, host_idled, host_halt_cleared}
@@ -59,6 +59,11 @@ IsOwned h i =
 abbrev pub InterfacesAreOwned : HostState → Type 0
 InterfacesAreOwned h = (i : ℕ) → IsOwned h i
 
+-- and each endpoint that is there lives
+abbrev pub EndpointsLive : HostState → Type 0
+EndpointsLive h =
+    (k : ℕ) (e : HostEndpoint) → value_at h.endpoints k ≡ Some e → lives h.tickets (k, e) ≡ true
+
 -- the claim of this key has ended: the key was given, and its entry is gone
 pub record HasEnded (h : HostState) (i : ℕ) : Type 0 where
   pub given : i < length h.interfaces
@@ -93,6 +98,7 @@ KeepsOthers old new key =
 pub record KeepsClaims (old new : HostState) : Type 0 where
   pub kept : KeepsOwned old new
   pub claimed : KeepsClaimed old.interfaces new.interfaces
+  pub alive : EndpointsLive old → EndpointsLive new
 
 -- so it is at the start, where no interface is claimed, and so it stays over each call. A handle
 -- that is cloned or closed stands, an endpoint is opened on an interface with an owner, and an
@@ -103,6 +109,7 @@ pub record ClaimsStayOwned : Type 0 where
   pub start : (k : KernelState) → ((d n : ℕ) → is_claimed k.devices d n ≡ false) →
       ClaimsAreOwned (host_of k)
   pub tidy : (k : KernelState) → InterfacesAreOwned (host_of k)
+  pub none_dead : (k : KernelState) → EndpointsLive (host_of k)
   pub step : (h : HostState) (s : KernelStep) → KeepsClaims h (host_stepped h s)
   pub reap : (h : HostState) (t : ℕ) → KeepsClaims h (host_reaped h t)
   pub rest : (h : HostState) → KeepsClaims h (host_rest h)
@@ -130,6 +137,8 @@ pub record ClaimsStayOwned : Type 0 where
       KeepsOwned h (handle_closed h handle.key)
   pub close_others : (h : HostState) (handle : InterfaceState) → StandsInterface h handle →
       KeepsOthers h.interfaces (handle_closed h handle.key).interfaces handle.key
+  pub close_alive : (h : HostState) (handle : InterfaceState) → StandsInterface h handle →
+      EndpointsLive h → EndpointsLive (handle_closed h handle.key)
   pub set_alt_setting : (h : HostState) (interface setting : ℕ) →
       KeepsClaims h (alt_setting_set h interface setting)
   pub ask : (h : HostState) (device : ℕ) → KeepsClaims h (host_asked h device)

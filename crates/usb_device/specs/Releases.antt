@@ -8,7 +8,7 @@ use Rattle.usb_kernel.specs.Calls.{called}
 use Rattle.usb_kernel.specs.Value.{KernelState}
 use Rattle.usb_ledger.specs.declared.owners.EndedClaim.{EndedClaim}
 use Rattle.usb_device.specs.HostState.{HostState}
-use Rattle.usb_ledger.specs.Releases.{claim_ended, interface_at, claim_of, without_claim}
+use Rattle.usb_ledger.specs.Releases.{claim_ended, interface_at, claim_of, without_claim, endpoints_left}
 
 -- the kernel when a claim ends: the interface is released
 abbrev pub released : KernelState → EndedClaim → KernelState
@@ -43,8 +43,12 @@ with_ended h i ended =
 unfoldable pub owner_gone : HostState → ℕ → HostState
 owner_gone h i = with_ended h (Some i) (claim_ended h.interfaces h.tickets h.endpoints i)
 
--- the endpoint of a key may have been the last owner of its interface: the claim ends if nothing
--- owns it
+-- the endpoint of a key may live no more: what the host keeps of it goes then
+unfoldable pub endpoint_left : HostState → ℕ → HostState
+endpoint_left h k = record h { endpoints = endpoints_left h.tickets h.endpoints k }
+
+-- and it may have been the last owner of its interface: the claim ends if nothing owns it
 unfoldable pub settled : HostState → ℕ → HostState
 settled h k =
-    with_ended h (interface_at h.endpoints k) (claim_of h.interfaces h.tickets h.endpoints k)
+    endpoint_left
+    (with_ended h (interface_at h.endpoints k) (claim_of h.interfaces h.tickets h.endpoints k)) k

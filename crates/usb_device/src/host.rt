@@ -146,6 +146,14 @@ impl Host {
         self.ledger.claim_capacity()
     }
 
+    /// How many endpoints are kept: those that are open, and those that were closed and have a ticket
+    /// without an end.
+    pub fn endpoint_count(&self) -> usize
+        ensures live { result ≡ live_count self.now.endpoints }
+    {
+        self.ledger.endpoint_count()
+    }
+
     /// The kernel.
     pub fn kernel(&self) -> &Kernel
         ensures kernel { result.now ≡ self.now.kernel }

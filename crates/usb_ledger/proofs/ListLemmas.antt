@@ -1,11 +1,12 @@
 -- Places and counts of lists.
-use Rattle.std.proofs.Common.{ℕ, zero, suc, arith, ◌≡◌, ◌≢◌, ◌<◌, ◌+◌, Bool, true, false, cond, List, [], ◌∷◌, ◌++◌, length, map, set, get_or, slice_get, Some, ◌⊎◌, inl, inr, refl, sym, ◌∙◌, ap}
+use Rattle.std.proofs.Common.{ℕ, zero, suc, arith, ◌≡◌, ◌≢◌, ◌<◌, ◌+◌, Bool, true, false, cond, List, [], ◌∷◌, ◌++◌, length, map, set, get_or, slice_get, Option, Some, ◌⊎◌, inl, inr, refl, sym, ◌∙◌, ap}
 use Rattle.std.specs.Prelude.{nat_lt}
 use Rattle.std.specs.List.{count_by, list_any, enumerate_from}
 use Rattle.std.proofs.lemmas.Bool.{cases_Bool}
-use Rattle.std.proofs.lemmas.Option.{none-some, same_Some, slice_get-get_or}
+use Rattle.std.proofs.lemmas.Option.{none-some, same_Some, slice_get-get_or, get_or_from_slice_get}
 use Rattle.std.proofs.lemmas.List.Sums.{sum_by-set, sum_by-cons, sum_by-append}
 use Rattle.std.proofs.lemmas.Grind.{common_steps}
+use Rattle.usb_registry.specs.History.{value_at}
 use Rattle.usb_ledger.specs.OwnerRows.{one_if}
 
 -- an element after a write
@@ -26,6 +27,15 @@ slice_get-push (z ∷ zs) y x (suc t) at = elim (slice_get-push zs y x t at) [ i
 -- the element that an index reads
 pub place : {X : Type 0} (xs : List X) (i : ℕ) (x : X) → i < length xs → x ≡ get_or xs i x → slice_get xs i ≡ Some x
 place xs i x within at = slice_get-get_or xs i x within ∙ ap Some (sym at)
+
+-- the same of what is there
+pub slice-value : {X : Type 0} (xs : List (Option X)) (i : ℕ) (x : X) → value_at xs i ≡ Some x → slice_get xs i ≡ Some (Some x)
+slice-value [] i x at = absurd (none-some x at)
+slice-value (y ∷ ys) zero x at = ap Some at
+slice-value (y ∷ ys) (suc i) x at = slice-value ys i x at
+
+pub read-value : {X : Type 0} (xs : List (Option X)) (i : ℕ) (x : X) → value_at xs i ≡ Some x → Some x ≡ get_or xs i (Some x)
+read-value xs i x at = sym (get_or_from_slice_get xs i (Some x) (Some x) (slice-value xs i x at))
 
 -- how a count changes with one element
 pub count-set : {X : Type 0} (p : X → Bool) (xs : List X) (i : ℕ) (x y : X) → i < length xs → x ≡ get_or xs i x → count_by p (set xs i y) + one_if (p x) ≡ count_by p xs + one_if (p y)

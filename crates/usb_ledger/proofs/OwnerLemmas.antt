@@ -17,143 +17,179 @@ use Rattle.std.proofs.lemmas.List.Sums.{sum_by-cons}
 use Rattle.std.proofs.lemmas.Grind.{common_steps}
 use Rattle.usb_desc.specs.BitSet.{bit_of, members}
 use Rattle.usb_registry.specs.History.{value_at}
-use Rattle.usb_registry.proofs.ValueLemmas.{some-of, is-some, value-put, value-taken, value-push_cases, value-past, value-push, value-map, value-set_other, set-value_same, set-set, there-put}
+use Rattle.usb_registry.proofs.ValueLemmas.{value-within, value-set_same, some-of, is-some, value-put, value-taken, value-push_cases, value-past, value-push, value-map, value-set_other, set-value_same, set-set, there-put}
 use Rattle.usb_ledger.specs.declared.owners.Claim.{Claim}
 use Rattle.usb_ledger.specs.declared.owners.EndpointRow.{EndpointRow}
 use Rattle.usb_ledger.specs.declared.owners.EndedClaim.{EndedClaim}
 use Rattle.usb_ledger.specs.Entries.{ClaimedInterface}
 use Rattle.usb_ledger.specs.Releases.{without_claim}
-use Rattle.usb_ledger.specs.OwnerRows.{CountsOf, AreOwned, row_interface, is_alive, is_alive_on, is_alive_with, uses_row, one_if, claim_state, has_owners, claim_if, with_row, is_counted, row_gone, claim_gone}
-use Rattle.usb_ledger.proofs.ListLemmas.{slice_get-set, slice_get-push, place, count-set, count-same, count-less, count-push, count-some, any-count}
+use Rattle.usb_ledger.specs.OwnerRows.{CountsOf, AreOwned, row_interface, is_alive, is_alive_on, is_alive_with, uses_row, one_if, IsSmall, AreAlive, rows_left, claim_state, has_owners, claim_if, with_row, is_counted, row_gone, claim_gone}
+use Rattle.usb_ledger.proofs.ListLemmas.{slice-value, read-value, count-set, count-same, count-less, count-push, count-some, any-count}
 
 -- a row with the same interface and address, that lives or not like the other
 pub record Like (e next : EndpointRow) : Type 0 where
   pub interface : row_interface next ≡ row_interface e
   pub address : next.address ≡ e.address
 
-same_alive : (i : ℕ) (e next : EndpointRow) → Like e next → is_alive e ≡ true → is_alive next ≡ true → is_alive_on i next ≡ is_alive_on i e
+same_alive : (i : ℕ) (e next : EndpointRow) → Like e next → is_alive e ≡ true → is_alive next ≡ true → is_alive_on i (Some next) ≡ is_alive_on i (Some e)
 same_alive i e next like was is = rw (was, is, like.interface) refl
 
-same_with : (i bit : ℕ) (e next : EndpointRow) → Like e next → is_alive e ≡ true → is_alive next ≡ true → is_alive_with i bit next ≡ is_alive_with i bit e
+same_with : (i bit : ℕ) (e next : EndpointRow) → Like e next → is_alive e ≡ true → is_alive next ≡ true → is_alive_with i bit (Some next) ≡ is_alive_with i bit (Some e)
 same_with i bit e next like was is = rw (was, is, like.interface, like.address) refl
 
-dead_on : (i : ℕ) (e : EndpointRow) → is_alive e ≡ false → is_alive_on i e ≡ false
+dead_on : (i : ℕ) (e : EndpointRow) → is_alive e ≡ false → is_alive_on i (Some e) ≡ false
 dead_on i e is = rw is (elim (is_of i (row_interface e)) as (λ v. v && false ≡ false) [ true ↦ refl | false ↦ refl ])
 
-dead_with : (i bit : ℕ) (e : EndpointRow) → is_alive e ≡ false → is_alive_with i bit e ≡ false
+dead_with : (i bit : ℕ) (e : EndpointRow) → is_alive e ≡ false → is_alive_with i bit (Some e) ≡ false
 dead_with i bit e is = rw (dead_on i e is) refl
 
-apart_on : (i j : ℕ) (e : EndpointRow) → row_interface e ≡ Some j → i ≢ j → is_alive_on i e ≡ false
+apart_on : (i j : ℕ) (e : EndpointRow) → row_interface e ≡ Some j → i ≢ j → is_alive_on i (Some e) ≡ false
 apart_on i j e on apart = rw (on, ne_eqb j i (λ z. apart (sym z))) refl
 
-apart_with : (i bit j : ℕ) (e : EndpointRow) → row_interface e ≡ Some j → i ≢ j → is_alive_with i bit e ≡ false
+apart_with : (i bit j : ℕ) (e : EndpointRow) → row_interface e ≡ Some j → i ≢ j → is_alive_with i bit (Some e) ≡ false
 apart_with i bit j e on apart = rw (apart_on i j e on apart) refl
 
-none_on : (i : ℕ) (e : EndpointRow) → row_interface e ≡ None → is_alive_on i e ≡ false
+none_on : (i : ℕ) (e : EndpointRow) → row_interface e ≡ None → is_alive_on i (Some e) ≡ false
 none_on i e on = rw on refl
 
-none_with : (i bit : ℕ) (e : EndpointRow) → row_interface e ≡ None → is_alive_with i bit e ≡ false
+none_with : (i bit : ℕ) (e : EndpointRow) → row_interface e ≡ None → is_alive_with i bit (Some e) ≡ false
 none_with i bit e on = rw on refl
 
-alive_on : (j : ℕ) (e : EndpointRow) → row_interface e ≡ Some j → is_alive e ≡ true → is_alive_on j e ≡ true
+alive_on : (j : ℕ) (e : EndpointRow) → row_interface e ≡ Some j → is_alive e ≡ true → is_alive_on j (Some e) ≡ true
 alive_on j e on was = rw (on, was, eq-eqb j j refl) refl
 
-alive_with : (bit j : ℕ) (e : EndpointRow) → row_interface e ≡ Some j → is_alive e ≡ true → is_alive_with j bit e ≡ (bit_of e.address == bit)
+alive_with : (bit j : ℕ) (e : EndpointRow) → row_interface e ≡ Some j → is_alive e ≡ true → is_alive_with j bit (Some e) ≡ (bit_of e.address == bit)
 alive_with bit j e on was = rw (alive_on j e on was) refl
 
-all-place : (P : EndpointRow → Type 0) (rows : List EndpointRow) (k : ℕ) (e : EndpointRow) → All P rows → k < length rows → e ≡ get_or rows k e → P e
+all-place : (P : Option EndpointRow → Type 0) (rows : List (Option EndpointRow)) (k : ℕ) (e : Option EndpointRow) → All P rows → k < length rows → e ≡ get_or rows k e → P e
 all-place P rows k e all within at = rw at (All-get_or P rows k e within all)
 
-module _ (claims : List (Option Claim)) (rows : List EndpointRow) (k : ℕ) (e next : EndpointRow) (counts : CountsOf claims rows) (within : k < length rows) (at : e ≡ get_or rows k e) (was : is_alive e ≡ true) (like : Like e next) where
+module _ (claims : List (Option Claim)) (rows : List (Option EndpointRow)) (k : ℕ) (e next : EndpointRow) (counts : CountsOf claims rows) (there : value_at rows k ≡ Some e) (was : is_alive e ≡ true) (like : Like e next) where
+  within : k < length rows
+  within = value-within rows k e there
+
+  at : Some e ≡ get_or rows k (Some e)
+  at = read-value rows k e there
+
   small-next : next.address < 256
-  small-next = rw like.address (all-place (λ (e : EndpointRow). e.address < 256) rows k e counts.small within at)
+  small-next = rw like.address (all-place IsSmall rows k (Some e) counts.small within at)
 
   -- its interface is there
   pub placed-e : (j : ℕ) → row_interface e ≡ Some j → IsSome (value_at claims j)
-  placed-e j on = counts.placed k j e (place rows k e within at) was on
+  placed-e j on = counts.placed k j e there was on
 
-  placed-next : (m i : ℕ) (f : EndpointRow) → slice_get (set rows k next) m ≡ Some f → is_alive f ≡ true → row_interface f ≡ Some i → IsSome (value_at claims i)
+  placed-next : (m i : ℕ) (f : EndpointRow) → value_at (set rows k (Some next)) m ≡ Some f → is_alive f ≡ true → row_interface f ≡ Some i → IsSome (value_at claims i)
   placed-next m i f there alive on =
-      elim (slice_get-set rows k m next f there) [
+      elim (value-put rows k m next f there) [
         | inl w ↦ placed-e i (sym like.interface ∙ ap row_interface (sym w.1) ∙ on)
         | inr w ↦ counts.placed m i f w.1 alive on
       ]
 
   -- an endpoint lives on
-  pub CountsOf-kept : is_alive next ≡ true → CountsOf claims (set rows k next)
+  pub CountsOf-kept : is_alive next ≡ true → CountsOf claims (set rows k (Some next))
   CountsOf-kept is =
       record {
-        living = λ i c here. counts.living i c here ∙ sym (count-same (is_alive_on i) rows k e next within at (same_alive i e next like was is));
-        used = λ i c bit here. count-same (is_alive_with i bit) rows k e next within at (same_with i bit e next like was is) ∙ counts.used i c bit here;
+        living = λ i c here. counts.living i c here ∙ sym (count-same (is_alive_on i) rows k (Some e) (Some next) within at (same_alive i e next like was is));
+        used = λ i c bit here. count-same (is_alive_with i bit) rows k (Some e) (Some next) within at (same_with i bit e next like was is) ∙ counts.used i c bit here;
         placed = placed-next;
-        small = All-set (λ (e : EndpointRow). e.address < 256) rows k next small-next counts.small;
+        small = All-set IsSmall rows k (Some next) small-next counts.small;
       }
 
   -- a control endpoint lives no more
-  pub CountsOf-dropped : row_interface e ≡ None → CountsOf claims (set rows k next)
+  pub CountsOf-dropped : row_interface e ≡ None → CountsOf claims (set rows k (Some next))
   CountsOf-dropped on =
       record {
-        living = λ i c here. counts.living i c here ∙ sym (count-same (is_alive_on i) rows k e next within at (none_on i next (like.interface ∙ on) ∙ sym (none_on i e on)));
-        used = λ i c bit here. count-same (is_alive_with i bit) rows k e next within at (none_with i bit next (like.interface ∙ on) ∙ sym (none_with i bit e on)) ∙ counts.used i c bit here;
+        living = λ i c here. counts.living i c here ∙ sym (count-same (is_alive_on i) rows k (Some e) (Some next) within at (none_on i next (like.interface ∙ on) ∙ sym (none_on i e on)));
+        used = λ i c bit here. count-same (is_alive_with i bit) rows k (Some e) (Some next) within at (none_with i bit next (like.interface ∙ on) ∙ sym (none_with i bit e on)) ∙ counts.used i c bit here;
         placed = placed-next;
-        small = All-set (λ (e : EndpointRow). e.address < 256) rows k next small-next counts.small;
+        small = All-set IsSmall rows k (Some next) small-next counts.small;
       }
 
   pub some-living : (j : ℕ) → row_interface e ≡ Some j → (claim : Claim) → value_at claims j ≡ Some claim → is_alive next ≡ false → 0 < claim.living
   some-living j on claim here is =
       let counted = counts.living j claim here in
-      let fewer = count-less (is_alive_on j) rows k e next within at (alive_on j e on was) (dead_on j next is) in
+      let fewer = count-less (is_alive_on j) rows k (Some e) (Some next) within at (alive_on j e on was) (dead_on j next is) in
       omega (arith, counted, fewer)
 
   module _ (j : ℕ) (on : row_interface e ≡ Some j) (claim lost : Claim) (here : value_at claims j ≡ Some claim) (living : lost.living ≡ claim.living - 1) (bits_are : members lost.bits ≡ bits.remove (members claim.bits) (bit_of e.address)) (is : is_alive next ≡ false) where
-    pub lost-living : lost.living ≡ count_by (is_alive_on j) (set rows k next)
+    pub lost-living : lost.living ≡ count_by (is_alive_on j) (set rows k (Some next))
     lost-living =
         let counted = counts.living j claim here in
-        let fewer = count-less (is_alive_on j) rows k e next within at (alive_on j e on was) (dead_on j next is) in
+        let fewer = count-less (is_alive_on j) rows k (Some e) (Some next) within at (alive_on j e on was) (dead_on j next is) in
         omega (arith, living, counted, fewer)
 
     removed : (bit : ℕ) → bits.contains (members lost.bits) bit ≡ (not (bit == bit_of e.address) && bits.contains (members claim.bits) bit)
     removed bit = rw bits_are (bits.contains-remove nat_cmp_total (members claim.bits) (bit_of e.address) bit ∙ ap (λ b. not b && bits.contains (members claim.bits) bit) (unsigned_tied bit (bit_of e.address)))
 
-    lost-used : (bit : ℕ) → count_by (is_alive_with j bit) (set rows k next) ≡ one_if (bits.contains (members lost.bits) bit)
+    lost-used : (bit : ℕ) → count_by (is_alive_with j bit) (set rows k (Some next)) ≡ one_if (bits.contains (members lost.bits) bit)
     lost-used bit =
         let counted = counts.used j claim bit here in
-        let change = count-set (is_alive_with j bit) rows k e next within at in
-        let none : one_if (is_alive_with j bit next) ≡ 0 = ap one_if (dead_with j bit next is) in
+        let change = count-set (is_alive_with j bit) rows k (Some e) (Some next) within at in
+        let none : one_if (is_alive_with j bit (Some next)) ≡ 0 = ap one_if (dead_with j bit next is) in
         elim (cases_eq bit (bit_of e.address)) [
           | inl same ↦
-              let old : one_if (is_alive_with j bit e) ≡ 1 = ap one_if (alive_with bit j e on was ∙ eq-eqb (bit_of e.address) bit (sym same)) in
+              let old : one_if (is_alive_with j bit (Some e)) ≡ 1 = ap one_if (alive_with bit j e on was ∙ eq-eqb (bit_of e.address) bit (sym same)) in
               let gone : bits.contains (members lost.bits) bit ≡ false = removed bit ∙ rw (eq-eqb bit (bit_of e.address) same) refl in
               rw gone (elim (cases_Bool (bits.contains (members claim.bits) bit)) [
                 | inl yes_ ↦ let one : one_if (bits.contains (members claim.bits) bit) ≡ 1 = ap one_if yes_ in omega (arith, counted, change, none, old, one)
                 | inr no_ ↦ let zero_ : one_if (bits.contains (members claim.bits) bit) ≡ 0 = ap one_if no_ in absurd (omega (arith, counted, change, none, old, zero_))
               ])
           | inr apart ↦
-              let old : one_if (is_alive_with j bit e) ≡ 0 = ap one_if (alive_with bit j e on was ∙ ne_eqb (bit_of e.address) bit (λ z. apart (sym z))) in
+              let old : one_if (is_alive_with j bit (Some e)) ≡ 0 = ap one_if (alive_with bit j e on was ∙ ne_eqb (bit_of e.address) bit (λ z. apart (sym z))) in
               let gone : bits.contains (members lost.bits) bit ≡ bits.contains (members claim.bits) bit = removed bit ∙ rw (ne_eqb bit (bit_of e.address) apart) refl in
               rw gone (omega (arith, counted, change, none, old))
         ]
 
     -- an endpoint lives no more
-    pub CountsOf-gone : CountsOf (set claims j (Some lost)) (set rows k next)
+    pub CountsOf-gone : CountsOf (set claims j (Some lost)) (set rows k (Some next))
     CountsOf-gone =
         record {
           living = λ i c there.
               elim (value-put claims j i lost c there) [
                 | inl w ↦ rw (w.0, w.1) lost-living
-                | inr w ↦ counts.living i c w.1 ∙ sym (count-same (is_alive_on i) rows k e next within at (apart_on i j next (like.interface ∙ on) w.0 ∙ sym (apart_on i j e on w.0)))
+                | inr w ↦ counts.living i c w.1 ∙ sym (count-same (is_alive_on i) rows k (Some e) (Some next) within at (apart_on i j next (like.interface ∙ on) w.0 ∙ sym (apart_on i j e on w.0)))
               ];
           used = λ i c bit there.
               elim (value-put claims j i lost c there) [
                 | inl w ↦ rw (w.0, w.1) (lost-used bit)
-                | inr w ↦ count-same (is_alive_with i bit) rows k e next within at (apart_with i bit j next (like.interface ∙ on) w.0 ∙ sym (apart_with i bit j e on w.0)) ∙ counts.used i c bit w.1
+                | inr w ↦ count-same (is_alive_with i bit) rows k (Some e) (Some next) within at (apart_with i bit j next (like.interface ∙ on) w.0 ∙ sym (apart_with i bit j e on w.0)) ∙ counts.used i c bit w.1
               ];
           placed = λ m i f there alive on. there-put claims j i lost (placed-next m i f there alive on);
-          small = All-set (λ (e : EndpointRow). e.address < 256) rows k next small-next counts.small;
+          small = All-set IsSmall rows k (Some next) small-next counts.small;
         }
 
+-- a row that lives no more goes
+pub CountsOf-taken : (claims : List (Option Claim)) (rows : List (Option EndpointRow)) (k : ℕ) (e : EndpointRow) → CountsOf claims rows → value_at rows k ≡ Some e → is_alive e ≡ false → CountsOf claims (set rows k None)
+CountsOf-taken claims rows k e counts there is =
+    let within = value-within rows k e there in
+    let at = read-value rows k e there in
+    record {
+      living = λ i c here. counts.living i c here ∙ sym (count-same (is_alive_on i) rows k (Some e) None within at (sym (dead_on i e is)));
+      used = λ i c bit here. count-same (is_alive_with i bit) rows k (Some e) None within at (sym (dead_with i bit e is)) ∙ counts.used i c bit here;
+      placed = λ m i f at alive on. counts.placed m i f (value-taken rows k m f at).1 alive on;
+      small = All-set IsSmall rows k None tt counts.small;
+    }
+
+pub alive-put : (rows : List (Option EndpointRow)) (k : ℕ) (next : EndpointRow) → AreAlive rows → is_alive next ≡ true → AreAlive (set rows k (Some next))
+alive-put rows k next alive is m f at = elim (value-put rows k m next f at) [ inl w ↦ ap is_alive w.1 ∙ is | inr w ↦ alive m f w.1 ]
+
+pub alive-taken : (rows : List (Option EndpointRow)) (k : ℕ) → AreAlive rows → AreAlive (set rows k None)
+alive-taken rows k alive m f at = alive m f (value-taken rows k m f at).1
+
+pub alive-push : (rows : List (Option EndpointRow)) (e : EndpointRow) → AreAlive rows → is_alive e ≡ true → AreAlive (rows ++ Some e ∷ [])
+alive-push rows e alive is m f at = elim (value-push_cases rows e f m at) [ inl w ↦ ap is_alive w.1 ∙ is | inr w ↦ alive m f w.1 ]
+
+-- a row that was written stays or goes
+pub rows_left-alive : (rows : List (Option EndpointRow)) (k : ℕ) (e : EndpointRow) → value_at rows k ≡ Some e → is_alive e ≡ true → rows_left rows k ≡ rows
+unfolding rows_left
+rows_left-alive rows k e at is = rw (at, is) refl
+
+pub rows_left-dead : (rows : List (Option EndpointRow)) (k : ℕ) (e : EndpointRow) → value_at rows k ≡ Some e → is_alive e ≡ false → rows_left rows k ≡ set rows k None
+unfolding rows_left
+rows_left-dead rows k e at is = rw (at, is) refl
+
 -- the row of a key, written
-pub with_row-at : (rows : List EndpointRow) (k : ℕ) (e : EndpointRow) (o : Bool) (n : ℕ) → slice_get rows k ≡ Some e → with_row rows k o n ≡ set rows k (record e { is_open = o; tickets = n })
+pub with_row-at : (rows : List (Option EndpointRow)) (k : ℕ) (e : EndpointRow) (o : Bool) (n : ℕ) → value_at rows k ≡ Some e → with_row rows k o n ≡ set rows k (Some (record e { is_open = o; tickets = n }))
 unfolding with_row
 with_row-at rows k e o n at = rw at refl
 
@@ -161,12 +197,12 @@ abbrev ended : ClaimedInterface → EndedClaim
 ended c = record { device = c.device; number = c.number; reattach = c.reattach }
 
 -- an interface of an endpoint that lives has an owner
-is_counted-alive : (rows : List EndpointRow) (k : ℕ) (e : EndpointRow) (j : ℕ) (c : ClaimedInterface) → slice_get rows k ≡ Some e → row_interface e ≡ Some j → is_alive e ≡ true → is_counted rows j c ≡ true
+is_counted-alive : (rows : List (Option EndpointRow)) (k : ℕ) (e : EndpointRow) (j : ℕ) (c : ClaimedInterface) → value_at rows k ≡ Some e → row_interface e ≡ Some j → is_alive e ≡ true → is_counted rows j c ≡ true
 is_counted-alive rows k e j c at on is =
-    let some : 0 < count_by (is_alive_on j) rows = count-some (is_alive_on j) rows k e at (alive_on j e on is) in
+    let some : 0 < count_by (is_alive_on j) rows = count-some (is_alive_on j) rows k (Some e) (slice-value rows k e at) (alive_on j e on is) in
     rw (lt-ltb 0 (count_by (is_alive_on j) rows) some) (elim (nat_lt 0 c.handles) as (λ b. b || true ≡ true) [ true ↦ refl | false ↦ refl ])
 
-pub row_gone-alive : (interfaces : List (Option ClaimedInterface)) (rows : List EndpointRow) (k : ℕ) (e : EndpointRow) → slice_get rows k ≡ Some e → is_alive e ≡ true → row_gone interfaces rows k ≡ None
+pub row_gone-alive : (interfaces : List (Option ClaimedInterface)) (rows : List (Option EndpointRow)) (k : ℕ) (e : EndpointRow) → value_at rows k ≡ Some e → is_alive e ≡ true → row_gone interfaces rows k ≡ None
 unfolding row_gone claim_gone
 row_gone-alive interfaces rows k e at is = rw at (by (row_interface e) refl)
   where
@@ -179,15 +215,15 @@ row_gone-alive interfaces rows k e at is = rw at (by (row_interface e) refl)
     by (Some j) on = of j on (value_at interfaces j)
 
 -- the claim of an interface that counts right
-pub claim_gone-at : (interfaces : List (Option ClaimedInterface)) (rows : List EndpointRow) (i : ℕ) (c : Claim) → value_at interfaces i ≡ Some (claim_state c) → c.living ≡ count_by (is_alive_on i) rows → claim_gone interfaces rows i ≡ claim_if c
+pub claim_gone-at : (interfaces : List (Option ClaimedInterface)) (rows : List (Option EndpointRow)) (i : ℕ) (c : Claim) → value_at interfaces i ≡ Some (claim_state c) → c.living ≡ count_by (is_alive_on i) rows → claim_gone interfaces rows i ≡ claim_if c
 unfolding claim_gone
 claim_gone-at interfaces rows i c at living = rw (at, living) refl
 
-pub row_gone-control : (interfaces : List (Option ClaimedInterface)) (rows : List EndpointRow) (k : ℕ) (e : EndpointRow) → slice_get rows k ≡ Some e → row_interface e ≡ None → row_gone interfaces rows k ≡ None
+pub row_gone-control : (interfaces : List (Option ClaimedInterface)) (rows : List (Option EndpointRow)) (k : ℕ) (e : EndpointRow) → value_at rows k ≡ Some e → row_interface e ≡ None → row_gone interfaces rows k ≡ None
 unfolding row_gone
 row_gone-control interfaces rows k e at on = rw (at, on) refl
 
-pub row_gone-dead : (interfaces : List (Option ClaimedInterface)) (rows : List EndpointRow) (k : ℕ) (e : EndpointRow) (j : ℕ) (c : Claim) → slice_get rows k ≡ Some e → row_interface e ≡ Some j → value_at interfaces j ≡ Some (claim_state c) → c.living ≡ count_by (is_alive_on j) rows
+pub row_gone-dead : (interfaces : List (Option ClaimedInterface)) (rows : List (Option EndpointRow)) (k : ℕ) (e : EndpointRow) (j : ℕ) (c : Claim) → value_at rows k ≡ Some e → row_interface e ≡ Some j → value_at interfaces j ≡ Some (claim_state c) → c.living ≡ count_by (is_alive_on j) rows
     → row_gone interfaces rows k ≡ claim_if c
 unfolding row_gone
 row_gone-dead interfaces rows k e j c at on there living = rw (at, on) (claim_gone-at interfaces rows j c there living)
@@ -216,7 +252,7 @@ states-without claims None (Some r) = refl
 states-without claims (Some i) (Some r) = map-set (option_map claim_state) claims i None
 
 -- a handle of an interface comes or goes
-pub CountsOf-handle : (claims : List (Option Claim)) (rows : List EndpointRow) (i : ℕ) (claim next : Claim) → CountsOf claims rows → value_at claims i ≡ Some claim → next.living ≡ claim.living → next.bits ≡ claim.bits → CountsOf (set claims i (Some next)) rows
+pub CountsOf-handle : (claims : List (Option Claim)) (rows : List (Option EndpointRow)) (i : ℕ) (claim next : Claim) → CountsOf claims rows → value_at claims i ≡ Some claim → next.living ≡ claim.living → next.bits ≡ claim.bits → CountsOf (set claims i (Some next)) rows
 CountsOf-handle claims rows i claim next counts here living bits_are =
     record {
       living = λ j c there. elim (value-put claims i j next c there) [ inl w ↦ rw (w.0, w.1) (living ∙ counts.living i claim here) | inr w ↦ counts.living j c w.1 ];
@@ -230,7 +266,7 @@ CountsOf-handle claims rows i claim next counts here living bits_are =
     }
 
 -- an interface that no endpoint lives on goes
-CountsOf-without : (claims : List (Option Claim)) (rows : List EndpointRow) (i : ℕ) (claim : Claim) → CountsOf claims rows → value_at claims i ≡ Some claim → claim.living ≡ 0 → CountsOf (set claims i None) rows
+CountsOf-without : (claims : List (Option Claim)) (rows : List (Option EndpointRow)) (i : ℕ) (claim : Claim) → CountsOf claims rows → value_at claims i ≡ Some claim → claim.living ≡ 0 → CountsOf (set claims i None) rows
 CountsOf-without claims rows i claim counts here none =
     record {
       living = λ j c there. counts.living j c (value-taken claims i j c there).1;
@@ -238,7 +274,7 @@ CountsOf-without claims rows i claim counts here none =
       placed = λ m j e there alive on.
           elim (cases_eq i j) [
             | inl same ↦
-                let some = count-some (is_alive_on i) rows m e there (alive_on i e (on ∙ ap Some (sym same)) alive) in
+                let some = count-some (is_alive_on i) rows m (Some e) (slice-value rows m e there) (alive_on i e (on ∙ ap Some (sym same)) alive) in
                 absurd (omega (arith, some, none, counts.living i claim here))
             | inr apart ↦ subst IsSome (sym (value-set_other claims i j None apart)) (counts.placed m j e there alive on)
           ];
@@ -259,7 +295,7 @@ ended-some c owned = rw owned refl
 pub ended-none : (c : Claim) → has_owners c ≡ false → claim_if c ≡ Some (record { device = c.device; number = c.number; reattach = c.reattach })
 ended-none c free = rw free refl
 
-pub CountsOf-ended : (claims : List (Option Claim)) (rows : List EndpointRow) (i : ℕ) (c : Claim) → CountsOf claims rows → value_at claims i ≡ Some c → CountsOf (without_claim claims (Some i) (claim_if c)) rows
+pub CountsOf-ended : (claims : List (Option Claim)) (rows : List (Option EndpointRow)) (i : ℕ) (c : Claim) → CountsOf claims rows → value_at claims i ≡ Some c → CountsOf (without_claim claims (Some i) (claim_if c)) rows
 CountsOf-ended claims rows i c counts here =
     elim (cases_Bool (has_owners c)) [
       | inl owned ↦ rw (ended-some c owned) counts
@@ -288,8 +324,8 @@ count-none p (x ∷ xs) none =
     omega (arith, here, IH, sum_by-cons (λ y. cond (p y) 1 0) x xs)
 
 -- an interface that is new has no endpoint
-no-row : (claims : List (Option Claim)) (rows : List EndpointRow) → CountsOf claims rows → (k : ℕ) (e : EndpointRow) → slice_get rows k ≡ Some e → is_alive_on (length claims) e ≡ false
-no-row claims rows counts k e there = elim (cases_Bool (is_alive_on (length claims) e)) [
+no-row : (claims : List (Option Claim)) (rows : List (Option EndpointRow)) → CountsOf claims rows → (k : ℕ) (e : EndpointRow) → value_at rows k ≡ Some e → is_alive_on (length claims) (Some e) ≡ false
+no-row claims rows counts k e there = elim (cases_Bool (is_alive_on (length claims) (Some e))) [
   | inl yes_ ↦ absurd (by (row_interface e) refl (is_alive e) refl yes_)
   | inr no_ ↦ no_
 ]
@@ -305,13 +341,21 @@ no-row claims rows counts k e there = elim (cases_Bool (is_alive_on (length clai
           | inr apart ↦ absurd (let no_ : is_of (length claims) (Some j) ≡ false = ne_eqb j (length claims) apart in let both = rw no_ at yes_ in cc)
         ]
 
-no-rows : (claims : List (Option Claim)) (rows : List EndpointRow) → CountsOf claims rows → All (λ (e : EndpointRow). is_alive_on (length claims) e ≡ false) rows
-no-rows claims rows counts = λ k d l. no-row claims rows counts k (get_or rows k d) (slice_get-get_or rows k d l)
+no-place : (claims : List (Option Claim)) (rows : List (Option EndpointRow)) → CountsOf claims rows → (k : ℕ) (o : Option EndpointRow) → slice_get rows k ≡ Some o → is_alive_on (length claims) o ≡ false
+no-place claims rows counts k None at = refl
+no-place claims rows counts k (Some e) at = no-row claims rows counts k e (ap (option_and_then (λ (o : Option EndpointRow). o)) at)
 
-no-bits : (claims : List (Option Claim)) (rows : List EndpointRow) (bit : ℕ) → CountsOf claims rows → All (λ (e : EndpointRow). is_alive_with (length claims) bit e ≡ false) rows
-no-bits claims rows bit counts = λ k d l. rw (no-rows claims rows counts k d l) refl
+no-rows : (claims : List (Option Claim)) (rows : List (Option EndpointRow)) → CountsOf claims rows → All (λ o. is_alive_on (length claims) o ≡ false) rows
+no-rows claims rows counts = λ k d l. no-place claims rows counts k (get_or rows k d) (slice_get-get_or rows k d l)
 
-pub CountsOf-claim : (claims : List (Option Claim)) (rows : List EndpointRow) (fresh : Claim) → CountsOf claims rows → fresh.living ≡ 0 → members fresh.bits ≡ bits.empty → CountsOf (claims ++ Some fresh ∷ []) rows
+no-bit : (i bit : ℕ) (o : Option EndpointRow) → is_alive_on i o ≡ false → is_alive_with i bit o ≡ false
+no-bit i bit None none = refl
+no-bit i bit (Some e) none = rw none refl
+
+no-bits : (claims : List (Option Claim)) (rows : List (Option EndpointRow)) (bit : ℕ) → CountsOf claims rows → All (λ o. is_alive_with (length claims) bit o ≡ false) rows
+no-bits claims rows bit counts = λ k d l. no-bit (length claims) bit (get_or rows k d) (no-rows claims rows counts k d l)
+
+pub CountsOf-claim : (claims : List (Option Claim)) (rows : List (Option EndpointRow)) (fresh : Claim) → CountsOf claims rows → fresh.living ≡ 0 → members fresh.bits ≡ bits.empty → CountsOf (claims ++ Some fresh ∷ []) rows
 CountsOf-claim claims rows fresh counts living bits_are =
     record {
       living = λ j c there. elim (value-push_cases claims fresh c j there) [ inl w ↦ rw (w.0, w.1) (living ∙ sym (count-none (is_alive_on (length claims)) rows (no-rows claims rows counts))) | inr w ↦ counts.living j c w.1 ];
@@ -326,72 +370,72 @@ CountsOf-claim claims rows fresh counts living bits_are =
       small = counts.small;
     }
 
-All-one : (P : EndpointRow → Type 0) (x : EndpointRow) → P x → All P (x ∷ [])
+All-one : (P : Option EndpointRow → Type 0) (x : Option EndpointRow) → P x → All P (x ∷ [])
 All-one P x p zero d inside = p
 All-one P x p (suc k) d inside = absurd (omega arith)
 
 -- the rows with a new one
-module _ (claims : List (Option Claim)) (rows : List EndpointRow) (e : EndpointRow) (counts : CountsOf claims rows) where
-  placed-more : ((i : ℕ) → row_interface e ≡ Some i → IsSome (value_at claims i)) → (m i : ℕ) (f : EndpointRow) → slice_get (rows ++ e ∷ []) m ≡ Some f → is_alive f ≡ true → row_interface f ≡ Some i → IsSome (value_at claims i)
+module _ (claims : List (Option Claim)) (rows : List (Option EndpointRow)) (e : EndpointRow) (counts : CountsOf claims rows) where
+  placed-more : ((i : ℕ) → row_interface e ≡ Some i → IsSome (value_at claims i)) → (m i : ℕ) (f : EndpointRow) → value_at (rows ++ Some e ∷ []) m ≡ Some f → is_alive f ≡ true → row_interface f ≡ Some i → IsSome (value_at claims i)
   placed-more there m i f at alive on =
-      elim (slice_get-push rows e f m at) [
+      elim (value-push_cases rows e f m at) [
         | inl w ↦ there i (ap row_interface (sym w.1) ∙ on)
-        | inr w ↦ counts.placed m i f w alive on
+        | inr w ↦ counts.placed m i f w.1 alive on
       ]
 
 -- a control endpoint is opened
-pub CountsOf-control : (claims : List (Option Claim)) (rows : List EndpointRow) (e : EndpointRow) → CountsOf claims rows → row_interface e ≡ None → e.address < 256 → CountsOf claims (rows ++ e ∷ [])
+pub CountsOf-control : (claims : List (Option Claim)) (rows : List (Option EndpointRow)) (e : EndpointRow) → CountsOf claims rows → row_interface e ≡ None → e.address < 256 → CountsOf claims (rows ++ Some e ∷ [])
 CountsOf-control claims rows e counts on small =
     record {
-      living = λ i c here. let new : one_if (is_alive_on i e) ≡ 0 = ap one_if (none_on i e on) in omega (arith, counts.living i c here, new, count-push (is_alive_on i) rows e);
-      used = λ i c bit here. let new : one_if (is_alive_with i bit e) ≡ 0 = ap one_if (none_with i bit e on) in omega (arith, new, count-push (is_alive_with i bit) rows e) ∙ counts.used i c bit here;
+      living = λ i c here. let new : one_if (is_alive_on i (Some e)) ≡ 0 = ap one_if (none_on i e on) in omega (arith, counts.living i c here, new, count-push (is_alive_on i) rows (Some e));
+      used = λ i c bit here. let new : one_if (is_alive_with i bit (Some e)) ≡ 0 = ap one_if (none_with i bit e on) in omega (arith, new, count-push (is_alive_with i bit) rows (Some e)) ∙ counts.used i c bit here;
       placed = placed-more claims rows e counts (λ i is. absurd (none-some i (sym on ∙ is)));
-      small = All-append (λ (x : EndpointRow). x.address < 256) rows (e ∷ []) counts.small (All-one (λ (x : EndpointRow). x.address < 256) e small);
+      small = All-append IsSmall rows (Some e ∷ []) counts.small (All-one IsSmall (Some e) small);
     }
 
 -- an endpoint is opened, whose bit is free
-module _ (claims : List (Option Claim)) (rows : List EndpointRow) (e : EndpointRow) (j : ℕ) (on : row_interface e ≡ Some j) (claim gained : Claim) (counts : CountsOf claims rows) (at : value_at claims j ≡ Some claim) (alive : is_alive e ≡ true) (small : e.address < 256)
+module _ (claims : List (Option Claim)) (rows : List (Option EndpointRow)) (e : EndpointRow) (j : ℕ) (on : row_interface e ≡ Some j) (claim gained : Claim) (counts : CountsOf claims rows) (at : value_at claims j ≡ Some claim) (alive : is_alive e ≡ true) (small : e.address < 256)
     (living : gained.living ≡ claim.living + 1) (bits_are : members gained.bits ≡ bits.insert (members claim.bits) (bit_of e.address)) (unused : count_by (is_alive_with j (bit_of e.address)) rows ≡ 0) where
   inserted : (bit : ℕ) → bits.contains (members gained.bits) bit ≡ ((bit == bit_of e.address) || bits.contains (members claim.bits) bit)
   inserted bit = rw bits_are (bits.contains-insert nat_cmp_total (members claim.bits) (bit_of e.address) bit ∙ ap (λ b. b || bits.contains (members claim.bits) bit) (unsigned_tied bit (bit_of e.address)))
 
-  gained-used : (bit : ℕ) → count_by (is_alive_with j bit) (rows ++ e ∷ []) ≡ one_if (bits.contains (members gained.bits) bit)
+  gained-used : (bit : ℕ) → count_by (is_alive_with j bit) (rows ++ Some e ∷ []) ≡ one_if (bits.contains (members gained.bits) bit)
   gained-used bit =
       let counted = counts.used j claim bit at in
-      let more = count-push (is_alive_with j bit) rows e in
+      let more = count-push (is_alive_with j bit) rows (Some e) in
       elim (cases_eq bit (bit_of e.address)) [
         | inl same ↦
-            let new : one_if (is_alive_with j bit e) ≡ 1 = ap one_if (alive_with bit j e on alive ∙ eq-eqb (bit_of e.address) bit (sym same)) in
+            let new : one_if (is_alive_with j bit (Some e)) ≡ 1 = ap one_if (alive_with bit j e on alive ∙ eq-eqb (bit_of e.address) bit (sym same)) in
             let has : bits.contains (members gained.bits) bit ≡ true = inserted bit ∙ rw (eq-eqb bit (bit_of e.address) same) refl in
             let none : count_by (is_alive_with j bit) rows ≡ 0 = rw same unused in
             rw has (omega (arith, more, new, none))
         | inr apart ↦
-            let new : one_if (is_alive_with j bit e) ≡ 0 = ap one_if (alive_with bit j e on alive ∙ ne_eqb (bit_of e.address) bit (λ z. apart (sym z))) in
+            let new : one_if (is_alive_with j bit (Some e)) ≡ 0 = ap one_if (alive_with bit j e on alive ∙ ne_eqb (bit_of e.address) bit (λ z. apart (sym z))) in
             let has : bits.contains (members gained.bits) bit ≡ bits.contains (members claim.bits) bit = inserted bit ∙ rw (ne_eqb bit (bit_of e.address) apart) refl in
             rw has (omega (arith, more, new, counted))
       ]
 
-  gained-living : gained.living ≡ count_by (is_alive_on j) (rows ++ e ∷ [])
+  gained-living : gained.living ≡ count_by (is_alive_on j) (rows ++ Some e ∷ [])
   gained-living =
       let counted = counts.living j claim at in
-      let new : one_if (is_alive_on j e) ≡ 1 = ap one_if (alive_on j e on alive) in
-      omega (arith, living, counted, new, count-push (is_alive_on j) rows e)
+      let new : one_if (is_alive_on j (Some e)) ≡ 1 = ap one_if (alive_on j e on alive) in
+      omega (arith, living, counted, new, count-push (is_alive_on j) rows (Some e))
 
-  other-living : (i : ℕ) → i ≢ j → count_by (is_alive_on i) (rows ++ e ∷ []) ≡ count_by (is_alive_on i) rows
+  other-living : (i : ℕ) → i ≢ j → count_by (is_alive_on i) (rows ++ Some e ∷ []) ≡ count_by (is_alive_on i) rows
   other-living i apart =
-      let new : one_if (is_alive_on i e) ≡ 0 = ap one_if (apart_on i j e on apart) in omega (arith, new, count-push (is_alive_on i) rows e)
+      let new : one_if (is_alive_on i (Some e)) ≡ 0 = ap one_if (apart_on i j e on apart) in omega (arith, new, count-push (is_alive_on i) rows (Some e))
 
-  other-used : (i bit : ℕ) → i ≢ j → count_by (is_alive_with i bit) (rows ++ e ∷ []) ≡ count_by (is_alive_with i bit) rows
+  other-used : (i bit : ℕ) → i ≢ j → count_by (is_alive_with i bit) (rows ++ Some e ∷ []) ≡ count_by (is_alive_with i bit) rows
   other-used i bit apart =
-      let new : one_if (is_alive_with i bit e) ≡ 0 = ap one_if (apart_with i bit j e on apart) in omega (arith, new, count-push (is_alive_with i bit) rows e)
+      let new : one_if (is_alive_with i bit (Some e)) ≡ 0 = ap one_if (apart_with i bit j e on apart) in omega (arith, new, count-push (is_alive_with i bit) rows (Some e))
 
-  pub CountsOf-row : CountsOf (set claims j (Some gained)) (rows ++ e ∷ [])
+  pub CountsOf-row : CountsOf (set claims j (Some gained)) (rows ++ Some e ∷ [])
   CountsOf-row =
       record {
         living = λ i c there. elim (value-put claims j i gained c there) [ inl w ↦ rw (w.0, w.1) gained-living | inr w ↦ counts.living i c w.1 ∙ sym (other-living i w.0) ];
         used = λ i c bit there. elim (value-put claims j i gained c there) [ inl w ↦ rw (w.0, w.1) (gained-used bit) | inr w ↦ other-used i bit w.0 ∙ counts.used i c bit w.1 ];
         placed = λ m i f there lives on_. there-put claims j i gained (placed-more claims rows e counts (λ i is. is-some _ claim (ap (value_at claims) (same_Some i j (sym is ∙ on)) ∙ at)) m i f there lives on_);
-        small = All-append (λ (x : EndpointRow). x.address < 256) rows (e ∷ []) counts.small (All-one (λ (x : EndpointRow). x.address < 256) e small);
+        small = All-append IsSmall rows (Some e ∷ []) counts.small (All-one IsSmall (Some e) small);
       }
 
 one_if-positive : (b : Bool) → nat_lt 0 (one_if b) ≡ b
@@ -399,7 +443,7 @@ one_if-positive true = refl
 one_if-positive false = refl
 
 -- whether a bit is in use
-pub bit-used : (claims : List (Option Claim)) (rows : List EndpointRow) (i bit : ℕ) (claim : Claim) → CountsOf claims rows → value_at claims i ≡ Some claim → bits.contains (members claim.bits) bit ≡ nat_lt 0 (count_by (is_alive_with i bit) rows)
+pub bit-used : (claims : List (Option Claim)) (rows : List (Option EndpointRow)) (i bit : ℕ) (claim : Claim) → CountsOf claims rows → value_at claims i ≡ Some claim → bits.contains (members claim.bits) bit ≡ nat_lt 0 (count_by (is_alive_with i bit) rows)
 bit-used claims rows i bit claim counts at = rw (counts.used i claim bit at) (sym (one_if-positive (bits.contains (members claim.bits) bit)))
 
 -- of addresses the bits tell which share one
@@ -421,16 +465,20 @@ bit_of-shares a b small_a small_b =
           ]
     ]
 
-any-same : (p q : EndpointRow → Bool) (rows : List EndpointRow) → All (λ e. p e ≡ q e) rows → list_any p rows ≡ list_any q rows
+any-same : (p q : Option EndpointRow → Bool) (rows : List (Option EndpointRow)) → All (λ e. p e ≡ q e) rows → list_any p rows ≡ list_any q rows
 any-same p q [] same = refl
 any-same p q (e ∷ es) same = rw (same 0 e (omega arith), any-same p q es (λ k d l. same (suc k) d (omega arith))) refl
 
-pub rows-used : (rows : List EndpointRow) (i address : ℕ) → All (λ (e : EndpointRow). e.address < 256) rows → address < 256 → list_any (uses_row i address) rows ≡ nat_lt 0 (count_by (is_alive_with i (bit_of address)) rows)
+bit-same : (i address : ℕ) (o : Option EndpointRow) → IsSmall o → address < 256 → uses_row i address o ≡ is_alive_with i (bit_of address) o
+bit-same i address None small fits = refl
+bit-same i address (Some e) small fits = ap (λ b. is_alive_on i (Some e) && b) (bit_of-shares e.address address small fits)
+
+pub rows-used : (rows : List (Option EndpointRow)) (i address : ℕ) → All IsSmall rows → address < 256 → list_any (uses_row i address) rows ≡ nat_lt 0 (count_by (is_alive_with i (bit_of address)) rows)
 rows-used rows i address small fits =
-    any-same (uses_row i address) (is_alive_with i (bit_of address)) rows (λ k d l. ap (λ b. is_alive_on i (get_or rows k d) && b) (bit_of-shares (get_or rows k d).address address (small k d l) fits))
+    any-same (uses_row i address) (is_alive_with i (bit_of address)) rows (λ k d l. bit-same i address (get_or rows k d) (small k d l) fits)
     ∙ any-count (is_alive_with i (bit_of address)) rows
 
-pub rows-unused : (rows : List EndpointRow) (i address : ℕ) → All (λ (e : EndpointRow). e.address < 256) rows → address < 256 → list_any (uses_row i address) rows ≡ false → count_by (is_alive_with i (bit_of address)) rows ≡ 0
+pub rows-unused : (rows : List (Option EndpointRow)) (i address : ℕ) → All IsSmall rows → address < 256 → list_any (uses_row i address) rows ≡ false → count_by (is_alive_with i (bit_of address)) rows ≡ 0
 rows-unused rows i address small fits none = positive-none _ (sym (rows-used rows i address small fits) ∙ none)
 
 -- an interface with an open handle, or with an endpoint that lives, has an owner

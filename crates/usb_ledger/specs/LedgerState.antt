@@ -1,7 +1,9 @@
 -- The claimed interfaces, their endpoints, and the tickets of these, with the data of their
 -- transfers.
-use Rattle.std.specs.Prelude.{ℕ, Bool, true, false, ◌≡◌, ◌<◌, List, length, map, Option, Some, None, is_some, slice_get}
-use Rattle.std.specs.List.{All, count_by}
+use Rattle.std.specs.Prelude.{ℕ, Bool, true, false, ◌≡◌, List, map, Option, Some, None, is_some}
+use Rattle.std.specs.Option.{option_map_or}
+use Rattle.std.specs.List.{count_by}
+use Rattle.usb_registry.specs.History.{value_at}
 use Rattle.usb_xfer.specs.declared.transfer.TransferData.{TransferData}
 use Rattle.usb_xfer.specs.declared.transfer.Held.TheVariants.{Complete}
 use Rattle.usb_xfer.specs.Transfers.{completion_held}
@@ -14,7 +16,7 @@ use Rattle.usb_ledger.specs.declared.owners.EndedClaim.{EndedClaim}
 use Rattle.usb_ledger.specs.declared.owners.EndpointRow.{EndpointRow}
 use Rattle.usb_ledger.specs.Entries.{HostTicket, HostEndpoint, ClaimedInterface, HeldBy, Abandoned, Ended}
 use Rattle.usb_ledger.specs.Owners.{is_ticket_of}
-use Rattle.usb_ledger.specs.Releases.{claim_of, interface_at, without_claim}
+use Rattle.usb_ledger.specs.Releases.{claim_of, interface_at, without_claim, endpoints_left}
 
 -- what became of the ticket of a slot
 abbrev pub host_ticket : TicketState → HostTicket
@@ -27,7 +29,7 @@ host_ticket (slot.Ended end) = Ended end
 -- memory for at once
 pub record LedgerState : Type 0 where
   pub interfaces : List (Option ClaimedInterface)
-  pub endpoints : List HostEndpoint
+  pub endpoints : List (Option HostEndpoint)
   pub slots : List TicketState
   pub room : ℕ
   pub claim_capacity : ℕ
@@ -72,13 +74,14 @@ abbrev pub ended_with : LedgerState → Option ℕ → Option EndedClaim
 ended_with l None = None
 ended_with l (Some key) = claim_of l.interfaces (tickets_in l) l.endpoints key
 
--- the ledger without the entry of that claim
+-- the ledger without the entry of that claim, and without that of the endpoint if it lives no more
 abbrev pub left_with : LedgerState → Option ℕ → LedgerState
 left_with l None = l
 left_with l (Some key) =
     record l {
       interfaces = without_claim l.interfaces (interface_at l.endpoints key)
           (claim_of l.interfaces (tickets_in l) l.endpoints key);
+      endpoints = endpoints_left (tickets_in l) l.endpoints key;
     }
 
 -- the key of the endpoint that gave a ticket up
@@ -98,14 +101,10 @@ is_complete (slot.HeldBy key transfer) = is_some (completion_held transfer.held)
 is_complete (slot.Abandoned key) = false
 is_complete (slot.Ended end) = false
 
--- a ticket that has no end is one of an endpoint
-abbrev pub HasKeyBelow : ℕ → HostTicket → Type 0
-HasKeyBelow n (HeldBy hold) = hold.key < n
-HasKeyBelow n (Abandoned key) = key < n
-HasKeyBelow n (Ended end) = Unit {0}
+-- how many tickets without an end the row of a key counts
+abbrev pub tickets_at : List (Option EndpointRow) → ℕ → ℕ
+tickets_at rows k = option_map_or (λ (e : EndpointRow). e.tickets) (value_at rows k) 0
 
--- the rows count the tickets without an end
-pub record Tied (rows : List EndpointRow) (tickets : List HostTicket) : Type 0 where
-  pub counts : (k : ℕ) (e : EndpointRow) → slice_get rows k ≡ Some e →
-      e.tickets ≡ count_by (is_ticket_of k) tickets
-  pub keys : All (HasKeyBelow (length rows)) tickets
+-- the rows count the tickets without an end, of which each is one of a row that is there
+abbrev pub Tied : List (Option EndpointRow) → List HostTicket → Type 0
+Tied rows tickets = (k : ℕ) → tickets_at rows k ≡ count_by (is_ticket_of k) tickets

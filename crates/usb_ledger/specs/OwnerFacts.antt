@@ -1,7 +1,8 @@
 -- What is true of all owners.
 use Rattle.usb_ledger.specs.declared.owners.Owners.TheInside.{Inside}
-use Rattle.usb_ledger.specs.OwnerRows.{CountsOf, AreOwned}
+use Rattle.usb_ledger.specs.OwnerRows.{CountsOf, AreOwned, AreAlive}
 
 pub record AreCounted (o : Inside) : Type 0 where
-  pub counts : CountsOf o.claims.values o.rows.items
+  pub counts : CountsOf o.claims.values o.rows
   pub owned : AreOwned o.claims.values
+  pub alive : AreAlive o.rows

@@ -38,6 +38,7 @@ pub struct Ledger {
 
 impl Model for Ledger {
     ghost use Rattle.std.specs.Prelude.{map, ◌-◌, vec_len, vec_capacity};
+    ghost use Rattle.std.specs.Option.{option_map};
     ghost use Rattle.usb_ledger.specs.OwnerRows.{endpoint_of};
     ghost use Rattle.usb_ledger.specs.EndedTickets.{end_at};
     ghost use Rattle.usb_ledger.specs.LedgerState.{LedgerState};
@@ -46,7 +47,7 @@ impl Model for Ledger {
 
     ghost view = { λ l. record {
       interfaces = l.owners.interfaces;
-      endpoints = map endpoint_of l.owners.rows;
+      endpoints = map (option_map endpoint_of) l.owners.rows;
       slots = l.slots.items;
       room = vec_capacity l.slots - vec_len l.slots;
       claim_capacity = l.owners.claim_capacity;
@@ -146,8 +147,8 @@ impl Ledger {
     /// An endpoint that is open holds the next ticket.
     pub fn hold(&mut self, key: usize, transfer: TransferData)
         requires room { 1 ≤ self.old.room }
-        requires key { key < length self.old.endpoints }
-        requires open { ForSome (slice_get self.old.endpoints key) (λ e. e.is_open ≡ true) }
+        requires there { IsSome (value_at self.old.endpoints key) }
+        requires open { ForSome (value_at self.old.endpoints key) (λ e. e.is_open ≡ true) }
         ensures slots { self.new ≡ record self.old {
           slots = self.old.slots ++ TicketState.HeldBy key transfer ∷ [];
           room = self.old.room - 1;
@@ -160,15 +161,14 @@ impl Ledger {
 
     /// The handle of an endpoint is closed.
     pub fn leave(&mut self, key: usize) -> Option<EndedClaim>
-        requires key { key < length self.old.endpoints }
-        requires open { ForSome (slice_get self.old.endpoints key) (λ e. e.is_open ≡ true) }
-        ensures endpoints { ForSome (slice_get self.old.endpoints key) (λ e.
+        requires there { IsSome (value_at self.old.endpoints key) }
+        ensures endpoints { ForSome (value_at self.old.endpoints key) (λ e.
             self.new ≡ left_with (record self.old {
-              endpoints = set self.old.endpoints key (record e { is_open = false });
+              endpoints = set self.old.endpoints key (Some (record e { is_open = false }));
             }) (Some key)) }
-        ensures claim { ForSome (slice_get self.old.endpoints key) (λ e.
+        ensures claim { ForSome (value_at self.old.endpoints key) (λ e.
             result ≡ claim_of self.old.interfaces (tickets_in self.old)
-            (set self.old.endpoints key (record e { is_open = false })) key) }
+            (set self.old.endpoints key (Some (record e { is_open = false }))) key) }
     {
         self.owners.close_endpoint(key)
     }
@@ -308,6 +308,13 @@ impl Ledger {
         self.owners.claim_capacity()
     }
 
+    /// How many endpoints are kept.
+    pub fn endpoint_count(&self) -> usize
+        ensures live { result ≡ live_count self.now.endpoints }
+    {
+        self.owners.endpoint_count()
+    }
+
     /// One more endpoint of an interface is open. Its bit must not be in use.
     pub fn open_endpoint(&mut self, interface: Key, address: u8) -> Result<usize, NoMemory>
         requires there { IsSome (value_at self.old.interfaces interface.serial) }
@@ -315,11 +322,11 @@ impl Ledger {
             interface.serial address ≡ false }
         ensures key { IfOk result (λ key. key ≡ length self.old.endpoints) }
         ensures endpoints { OnOk result (self.new ≡ record self.old {
-          endpoints = self.old.endpoints ++ record {
+          endpoints = self.old.endpoints ++ Some (record {
             interface = Some interface.serial;
             address = address;
             is_open = true;
-          } ∷ [];
+          }) ∷ [];
         }) }
         ensures err { OnErr result (self.new ≡ self.old) }
     {
@@ -330,11 +337,11 @@ impl Ledger {
     pub fn open_control(&mut self, address: u8) -> Result<usize, NoMemory>
         ensures key { IfOk result (λ key. key ≡ length self.old.endpoints) }
         ensures endpoints { OnOk result (self.new ≡ record self.old {
-          endpoints = self.old.endpoints ++ record {
+          endpoints = self.old.endpoints ++ Some (record {
             interface = None;
             address = address;
             is_open = true;
-          } ∷ [];
+          }) ∷ [];
         }) }
         ensures err { OnErr result (self.new ≡ self.old) }
     {

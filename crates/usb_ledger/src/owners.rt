@@ -9,12 +9,12 @@ ghost use Rattle.usb_desc.specs.BitSet.{bit_of, members};
 ghost use Rattle.usb_registry.specs.History.{value_at, live_count};
 ghost use Rattle.usb_ledger.specs.Entries.{fresh_interface};
 ghost use Rattle.usb_ledger.specs.Releases.{without_claim};
-ghost use Rattle.usb_ledger.specs.OwnerRows.{OwnersState, claim_state, claim_if, is_alive, is_alive_on, is_counted, uses_row, interface_of_row, with_row, row_gone, claim_gone};
+ghost use Rattle.usb_ledger.specs.OwnerRows.{OwnersState, claim_state, claim_if, is_alive, is_alive_on, is_counted, uses_row, interface_of_row, with_row, rows_left, row_gone, claim_gone};
 
 use std::alloc::Global;
 use std::marker::Model;
 use usb_desc::{EndpointBitSet, NoMemory};
-use usb_registry::{Key, Registry};
+use usb_registry::{Key, Registry, SerialMap};
 
 /// A claim that ends: the device's number at the kernel, the interface's number, and whether its
 /// driver is to be attached again.
@@ -42,7 +42,7 @@ pub struct Claim {
 
 /// An endpoint: the key of its interface (a control endpoint has none), its address, whether its
 /// handle is open, and how many of its tickets have no end.
-#[derive(Drop)]
+#[derive(Clone, Copy)]
 pub(crate) struct EndpointRow {
     pub interface: Option<Key>,
     pub address: u8,
@@ -50,12 +50,12 @@ pub(crate) struct EndpointRow {
     pub tickets: usize,
 }
 
-/// The claimed interfaces and their endpoints, each by its key. An interface that has no owner any
-/// more goes, and its memory with it.
+/// The claimed interfaces and their endpoints, each by its key. An endpoint that lives no more goes,
+/// and then an interface that has no owner any more, and their memory with them.
 #[derive(Drop)]
 pub(crate) struct Owners {
     claims: Registry<Claim>,
-    rows: Vec<EndpointRow>,
+    rows: SerialMap<EndpointRow>,
 }
 
 impl Model for Owners {
@@ -67,7 +67,7 @@ impl Model for Owners {
 
     ghost view = { λ o. record {
       interfaces = map (option_map claim_state) o.claims.values;
-      rows = o.rows.items;
+      rows = o.rows;
       claim_capacity = o.claims.capacity;
     } };
 
@@ -150,32 +150,41 @@ fn end_claim(claims: &mut Registry<Claim>, interface: Key) -> Option<EndedClaim>
 }
 
 impl Owners {
-    /// An endpoint that lives is open or not, and has this many tickets without an end. The claim
-    /// of its interface ends where it was the last owner and lives no more.
+    /// The row of an endpoint.
+    fn row(&self, key: usize) -> EndpointRow
+        requires there { IsSome (value_at self.now.rows key) }
+        ensures row { value_at self.now.rows key ≡ Some result }
+    {
+        *self.rows.get(key).unwrap()
+    }
+
+    /// An endpoint is open or not, and has this many tickets without an end. Where it lives
+    /// no more it goes, and the claim of its interface ends if it was the last owner.
     fn change(&mut self, key: usize, is_open: bool, tickets: usize) -> Option<EndedClaim>
-        requires key { key < length self.old.rows }
-        requires alive { ForSome (slice_get self.old.rows key) (λ e. is_alive e ≡ true) }
+        requires there { IsSome (value_at self.old.rows key) }
         ensures rows { self.new ≡ record self.old {
           interfaces = without_claim self.old.interfaces (interface_of_row self.old.rows key)
               result;
-          rows = with_row self.old.rows key is_open tickets;
+          rows = rows_left (with_row self.old.rows key is_open tickets) key;
         } }
-        ensures gone { result ≡ row_gone self.old.interfaces self.new.rows key }
+        ensures gone { result ≡
+            row_gone self.old.interfaces (with_row self.old.rows key is_open tickets) key }
     {
-        let row = &mut self.rows[key];
+        let mut row = self.row(key);
         row.is_open = is_open;
         row.tickets = tickets;
         if row.is_alive() {
+            self.rows.replace(key, row);
             return None;
         }
-        let address = row.address;
+        let _ = self.rows.remove(key);
         let Some(interface) = row.interface else {
             return None;
         };
         let Some(claim) = self.claims.get_mut(interface) else {
             return None;
         };
-        claim.lose(address);
+        claim.lose(row.address);
         end_claim(&mut self.claims, interface)
     }
 
@@ -189,56 +198,53 @@ impl Owners {
     {
         Owners {
             claims: Registry::new(alloc),
-            rows: Vec::new(alloc),
+            rows: SerialMap::new(alloc),
         }
     }
 
     /// A ticket comes to an endpoint that is open.
     pub fn add_ticket(&mut self, key: usize)
-        requires key { key < length self.old.rows }
-        requires open { ForSome (slice_get self.old.rows key) (λ e. e.is_open ≡ true) }
-        requires small { ForSome (slice_get self.old.rows key) (λ e. e.tickets + 1 < 2 ^ 64) }
-        ensures rows { ForSome (slice_get self.old.rows key) (λ e.
+        requires there { IsSome (value_at self.old.rows key) }
+        requires open { ForSome (value_at self.old.rows key) (λ e. e.is_open ≡ true) }
+        requires small { ForSome (value_at self.old.rows key) (λ e. e.tickets + 1 < 2 ^ 64) }
+        ensures rows { ForSome (value_at self.old.rows key) (λ e.
             self.new ≡ record self.old { rows = with_row self.old.rows key true (e.tickets + 1) }) }
     {
-        let row = &self.rows[key];
-        let tickets = row.tickets + 1;
-        let _ = self.change(key, true, tickets);
+        let row = self.row(key);
+        let _ = self.change(key, true, row.tickets + 1);
     }
 
     /// A ticket of an endpoint has its end.
     pub fn end_ticket(&mut self, key: usize) -> Option<EndedClaim>
-        requires key { key < length self.old.rows }
-        requires some { ForSome (slice_get self.old.rows key) (λ e. 0 < e.tickets) }
-        ensures rows { ForSome (slice_get self.old.rows key) (λ e.
+        requires there { IsSome (value_at self.old.rows key) }
+        requires some { ForSome (value_at self.old.rows key) (λ e. 0 < e.tickets) }
+        ensures rows { ForSome (value_at self.old.rows key) (λ e.
             self.new ≡ record self.old {
               interfaces = without_claim self.old.interfaces (interface_of_row self.old.rows key)
                   result;
-              rows = with_row self.old.rows key e.is_open (e.tickets - 1);
+              rows = rows_left (with_row self.old.rows key e.is_open (e.tickets - 1)) key;
             }) }
-        ensures gone { result ≡ row_gone self.old.interfaces self.new.rows key }
+        ensures gone { ForSome (value_at self.old.rows key) (λ e. result ≡ row_gone
+            self.old.interfaces (with_row self.old.rows key e.is_open (e.tickets - 1)) key) }
     {
-        let row = &self.rows[key];
-        let is_open = row.is_open;
-        let tickets = row.tickets - 1;
-        self.change(key, is_open, tickets)
+        let row = self.row(key);
+        self.change(key, row.is_open, row.tickets - 1)
     }
 
     /// The handle of an endpoint is closed.
     pub fn close_endpoint(&mut self, key: usize) -> Option<EndedClaim>
-        requires key { key < length self.old.rows }
-        requires open { ForSome (slice_get self.old.rows key) (λ e. e.is_open ≡ true) }
-        ensures rows { ForSome (slice_get self.old.rows key) (λ e.
+        requires there { IsSome (value_at self.old.rows key) }
+        ensures rows { ForSome (value_at self.old.rows key) (λ e.
             self.new ≡ record self.old {
               interfaces = without_claim self.old.interfaces (interface_of_row self.old.rows key)
                   result;
-              rows = with_row self.old.rows key false e.tickets;
+              rows = rows_left (with_row self.old.rows key false e.tickets) key;
             }) }
-        ensures gone { result ≡ row_gone self.old.interfaces self.new.rows key }
+        ensures gone { ForSome (value_at self.old.rows key) (λ e. result ≡ row_gone
+            self.old.interfaces (with_row self.old.rows key false e.tickets) key) }
     {
-        let row = &self.rows[key];
-        let tickets = row.tickets;
-        self.change(key, false, tickets)
+        let row = self.row(key);
+        self.change(key, false, row.tickets)
     }
 
     /// A handle of an interface is closed. The claim ends where it was the last owner.
@@ -386,31 +392,37 @@ impl Owners {
         self.claims.capacity()
     }
 
+    /// How many endpoints are kept.
+    pub fn endpoint_count(&self) -> usize
+        ensures live { result ≡ live_count self.now.rows }
+    {
+        self.rows.len()
+    }
+
     /// One more endpoint of an interface is open. Its bit must not be in use.
     pub fn open_endpoint(&mut self, interface: Key, address: u8) -> Result<usize, NoMemory>
         requires there { IsSome (value_at self.old.interfaces interface.serial) }
         requires unused { list_any (uses_row interface.serial address) self.old.rows ≡ false }
         ensures key { IfOk result (λ key. key ≡ length self.old.rows) }
         ensures rows { OnOk result (self.new ≡ record self.old {
-          rows = self.old.rows ++ record {
+          rows = self.old.rows ++ Some (record {
             interface = Some interface;
             address = address;
             is_open = true;
             tickets = 0;
-          } ∷ [];
+          }) ∷ [];
         }) }
         ensures err { OnErr result (self.new ≡ self.old) }
     {
-        let key = self.rows.len();
         let row = EndpointRow {
             interface: Some(interface),
             address,
             is_open: true,
             tickets: 0,
         };
-        if self.rows.push(row).is_err() {
+        let Ok(key) = self.rows.insert(row) else {
             return Err(NoMemory);
-        }
+        };
         let Some(claim) = self.claims.get_mut(interface) else {
             unreachable!();
         };
@@ -422,25 +434,24 @@ impl Owners {
     pub fn open_control(&mut self, address: u8) -> Result<usize, NoMemory>
         ensures key { IfOk result (λ key. key ≡ length self.old.rows) }
         ensures rows { OnOk result (self.new ≡ record self.old {
-          rows = self.old.rows ++ record {
+          rows = self.old.rows ++ Some (record {
             interface = None;
             address = address;
             is_open = true;
             tickets = 0;
-          } ∷ [];
+          }) ∷ [];
         }) }
         ensures err { OnErr result (self.new ≡ self.old) }
     {
-        let key = self.rows.len();
         let row = EndpointRow {
             interface: None,
             address,
             is_open: true,
             tickets: 0,
         };
-        if self.rows.push(row).is_err() {
+        let Ok(key) = self.rows.insert(row) else {
             return Err(NoMemory);
-        }
+        };
         Ok(key)
     }
 }

@@ -2,7 +2,7 @@ use Rattle.std.proofs.Common.{ap, sym, set, ◌∙◌}
 use Rattle.usb_kernel.specs.Value.{KernelState}
 use Rattle.usb_device.specs.HostFacts.{host_made}
 use Rattle.usb_ledger.specs.LedgerState.{LedgerState, slot_with, abandoned_key}
-use Rattle.usb_ledger.proofs.LedgerLemmas.{some-at}
+use Rattle.usb_device.proofs.Places.{some-at}
 use Rattle.usb_device.proofs.ArrivalLemmas.{TicketsAgree-none, TicketsAgree-some, came-slot, left-slots, came-none}
 use Rattle.usb_device.proofs.host.complete.Goals as goal
 

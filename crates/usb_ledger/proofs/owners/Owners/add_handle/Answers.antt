@@ -17,8 +17,9 @@ invariant_of-self-then-claim c =
     let claim = c.in-Some.claim.now in
     let here : value_at claims key ≡ Some claim = sym c.in-Some.ensures.value in
     record {
-      counts = CountsOf-handle claims c.self.inside.rows.items key claim claim c.self.invariant.counts here refl refl;
+      counts = CountsOf-handle claims c.self.inside.rows key claim claim c.self.invariant.counts here refl refl;
       owned = owned-put claims key claim c.self.invariant.owned (c.self.invariant.owned key claim here);
+      alive = c.self.invariant.alive;
     }
 
 pub returns-then-claim-clause-err : goal.returns-then-claim-clause-err
@@ -48,8 +49,9 @@ invariant_of-self-2 c =
     let here : value_at claims key ≡ Some claim = sym c.in-Some.ensures.value in
     let next : Claim = record claim { handles = claim.handles + 1 } in
     record {
-      counts = CountsOf-handle claims c.self.inside.rows.items key claim next c.self.invariant.counts here refl refl;
+      counts = CountsOf-handle claims c.self.inside.rows key claim next c.self.invariant.counts here refl refl;
       owned = owned-put claims key next c.self.invariant.owned (handle-owns next (omega arith));
+      alive = c.self.invariant.alive;
     }
 
 pub returns-clause-interfaces : goal.returns-clause-interfaces

@@ -37,10 +37,11 @@ invariant_of-self-2 c =
     let put : value_at (set claims key (Some next)) key ≡ Some next = value-set_same claims key claim (Some next) here in
     let ended : c.end_claim.result ≡ claim_if next = c.end_claim.ensures.ended ∙ ap (option_and_then claim_if) put in
     let left : c.end_claim.new.claims.values ≡ without_claim (set claims key (Some next)) (Some key) (claim_if next) = ap (λ (r : RegistryState Claim). r.values) c.end_claim.ensures.gone ∙ ap (without_claim (set claims key (Some next)) (Some key)) ended in
-    let counts = CountsOf-handle claims c.self.inside.rows.items key claim next c.self.invariant.counts here refl refl in
+    let counts = CountsOf-handle claims c.self.inside.rows key claim next c.self.invariant.counts here refl refl in
     record {
-      counts = rw left (CountsOf-ended (set claims key (Some next)) c.self.inside.rows.items key next counts put);
+      counts = rw left (CountsOf-ended (set claims key (Some next)) c.self.inside.rows key next counts put);
       owned = rw left (owned-ended claims key next c.self.invariant.owned);
+      alive = c.self.invariant.alive;
     }
 
 pub returns-clause-interfaces : goal.returns-clause-interfaces
@@ -67,6 +68,6 @@ returns-clause-gone c x there =
     let next : Claim = record claim { handles = claim.handles - 1 } in
     let put : value_at (set claims key (Some next)) key ≡ Some next = value-set_same claims key claim (Some next) here in
     let ended : c.end_claim.result ≡ claim_if next = c.end_claim.ensures.ended ∙ ap (option_and_then claim_if) put in
-    let rows : c.self.inside.rows.items ≡ c.args.self.now.rows = ap (λ (s : OwnersState). s.rows) c.self.view_is in
+    let rows : c.self.inside.rows ≡ c.args.self.now.rows = ap (λ (s : OwnersState). s.rows) c.self.view_is in
     let after : value_at (set c.args.self.now.interfaces key (Some (claim_state next))) key ≡ Some (claim_state next) = value-set_same c.args.self.now.interfaces key (claim_state claim) (Some (claim_state next)) state in
     rw (← same) (ended ∙ sym (claim_gone-at (set c.args.self.now.interfaces key (Some (claim_state next))) c.args.self.now.rows key next after (rw (← rows) (c.self.invariant.counts.living key claim here))))

@@ -12,8 +12,8 @@ pub returns-in-Some : goal.returns-in-Some
 returns-in-Some c =
     let claims = c.self.inside.claims.values in
     let key = c.args.interface.serial in
-    let used = bit-used claims c.self.inside.rows.items key (bit_of c.args.address) c.in-Some.claim.now c.self.invariant.counts (sym c.in-Some.ensures.value) in
-    let by_rows = rows-used c.self.inside.rows.items key c.args.address c.self.invariant.counts.small (omega (arith, c.ranges.address.fits)) in
+    let used = bit-used claims c.self.inside.rows key (bit_of c.args.address) c.in-Some.claim.now c.self.invariant.counts (sym c.in-Some.ensures.value) in
+    let by_rows = rows-used c.self.inside.rows key c.args.address c.self.invariant.counts.small (omega (arith, c.ranges.address.fits)) in
     record { used = c.is_set.ensures.member ∙ used ∙ sym by_rows ∙ ap (λ (s : OwnersState). list_any (uses_row key c.args.address) s.rows) c.self.view_is }
 
 pub returns-in-None : goal.returns-in-None

@@ -21,6 +21,7 @@ invariant_of-self c =
     let claims = c.self.inside.claims.values in
     let pushed : c.insert_reserved.new.self.values ≡ claims ++ Some _ ∷ [] = ap (λ (r : RegistryState Claim). r.values) c.insert_reserved.ensures.inserted in
     record {
-      counts = rw pushed (CountsOf-claim claims c.self.inside.rows.items _ c.self.invariant.counts refl c.new.ensures.empty);
+      counts = rw pushed (CountsOf-claim claims c.self.inside.rows _ c.self.invariant.counts refl c.new.ensures.empty);
       owned = rw pushed (owned-push claims _ c.self.invariant.owned refl);
+      alive = c.self.invariant.alive;
     }

@@ -20,8 +20,9 @@ invariant_of-self c =
           let here : value_at claims key ≡ Some claim = sym w.in-Some.ensures.value in
           let next : Claim = record claim { setting = c.args.setting } in
           rw w.self-inside-is (record {
-            counts = CountsOf-handle claims c.self.inside.rows.items key claim next c.self.invariant.counts here refl refl;
+            counts = CountsOf-handle claims c.self.inside.rows key claim next c.self.invariant.counts here refl refl;
             owned = owned-put claims key next c.self.invariant.owned (c.self.invariant.owned key claim here);
+            alive = c.self.invariant.alive;
           })
       | in_default w ↦ rw w.self-inside-is c.self.invariant
     ]

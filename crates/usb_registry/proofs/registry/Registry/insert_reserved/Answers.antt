@@ -1,6 +1,8 @@
 use Rattle.std.proofs.Common.{◌+◌, ◌++◌, ◌∷◌, [], Some, arith, sym, refl, ap, length, ◌∙◌}
+use Rattle.usb_registry.specs.Entries.{find_serial}
 use Rattle.usb_registry.specs.History.{RegistryState}
-use Rattle.usb_registry.proofs.EntryLemmas.{state, length-history, has-room, sound-inserted, history-inserted}
+use Rattle.usb_registry.proofs.EntryLemmas.{state, has-room, sound-inserted, history-inserted}
+use Rattle.usb_registry.proofs.SerialLemmas.{length-below}
 use Rattle.usb_registry.proofs.registry.Registry.insert_reserved.Goals as goal
 
 pub insert_reserved-place-requires : goal.insert_reserved-place-requires
@@ -9,7 +11,7 @@ insert_reserved-place-requires g c =
 
 pub overflow_add-self : goal.overflow_add-self
 overflow_add-self g c =
-    let number = length-history c.self.inside.entries.slots c.self.inside.next in
+    let number = length-below (find_serial c.self.inside.entries.slots) c.self.inside.next in
     let same = ap (λ (r : RegistryState _). length r.values) c.self.view_is in
     omega (arith, number, same, c.requires.serials)
 
@@ -19,7 +21,7 @@ invariant_of-self g c =
     sound-inserted c.self.inside.entries c.insert_reserved-place.new.self c.insert_reserved-place.result c.self.inside.next (c.self.inside.next + 1) _ c.self.invariant new.updates new.was_vacant refl (omega arith)
 
 pub returns-clause-serial : goal.returns-clause-serial
-returns-clause-serial g c = sym (length-history c.self.inside.entries.slots c.self.inside.next) ∙ ap (λ (r : RegistryState _). length r.values) c.self.view_is
+returns-clause-serial g c = sym (length-below (find_serial c.self.inside.entries.slots) c.self.inside.next) ∙ ap (λ (r : RegistryState _). length r.values) c.self.view_is
 
 pub returns-clause-inserted : goal.returns-clause-inserted
 returns-clause-inserted g c =

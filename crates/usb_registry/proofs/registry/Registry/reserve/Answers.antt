@@ -1,5 +1,7 @@
 use Rattle.std.proofs.Common.{arith}
-use Rattle.usb_registry.proofs.EntryLemmas.{length-history, room-after, on-ok}
+use Rattle.usb_registry.specs.Entries.{find_serial}
+use Rattle.usb_registry.proofs.EntryLemmas.{room-after, on-ok}
+use Rattle.usb_registry.proofs.SerialLemmas.{length-below}
 use Rattle.usb_registry.proofs.registry.Registry.reserve.Goals as goal
 
 pub returns-clause-room : goal.returns-clause-room
@@ -9,4 +11,4 @@ returns-clause-room g c =
 pub returns-clause-serials : goal.returns-clause-serials
 returns-clause-serials g c =
     on-ok c.reserve.result _ _ c.reserve.ensures.room (λ room.
-    omega (arith, length-history c.reserve.new.self.slots c.self.inside.next, c.if-self.false, c.self.ranges))
+    omega (arith, length-below (find_serial c.reserve.new.self.slots) c.self.inside.next, c.if-self.false, c.self.ranges))
