@@ -32,7 +32,7 @@ use Rattle.usb_device.proofs.TryLemmas.{open-counts}
 count-cons : {X : Type 0} (p : X → Bool) (x : X) (xs : List X) → count_by p (x ∷ xs) ≡ one_if (p x) + count_by p xs
 count-cons p x xs = sum_by-cons (λ x. cond (p x) 1 0) x xs
 
-count-none : {X : Type 0} (p : X → Bool) (xs : List X) → ((n : ℕ) (x : X) → slice_get xs n ≡ Some x → p x ≡ false) → count_by p xs ≡ 0
+pub count-none : {X : Type 0} (p : X → Bool) (xs : List X) → ((n : ℕ) (x : X) → slice_get xs n ≡ Some x → p x ≡ false) → count_by p xs ≡ 0
 count-none p [] none = refl
 count-none p (x ∷ xs) none =
     let here : one_if (p x) ≡ 0 = ap one_if (none 0 x refl) in

@@ -75,7 +75,7 @@ same-held old new devices interfaces = leaves-held old new (record { devices = d
 
 -- steps, reaps and ends of tickets
 came-leaves : (h : HostState) (o : Option Done) → LeavesDevices h (came h o)
-came-leaves h o = record { devices = ap (λ (g : HostState). g.devices) (came-is h o); interfaces = came-goes h o }
+came-leaves h o = record { devices = ap (λ (g : HostState). g.devices) (came-is h o); interfaces = (came-goes h o).interfaces }
 
 stepped-leaves : (h : HostState) (s : KernelStep) → LeavesDevices h (host_stepped h s)
 unfolding host_stepped
@@ -90,7 +90,7 @@ unfolding host_discarded
 discarded-leaves h t = record { devices = refl; interfaces = goes-refl h.interfaces }
 
 ended_as-leaves : (h : HostState) (t : ℕ) (end : TicketEnd) (o : Option HostTicket) → LeavesDevices h (ended_as h t end o)
-ended_as-leaves h t end o = record { devices = ap (λ (g : HostState). g.devices) (ended_as-is h t end o); interfaces = ended_as-goes h t end o }
+ended_as-leaves h t end o = record { devices = ap (λ (g : HostState). g.devices) (ended_as-is h t end o); interfaces = (ended_as-goes h t end o).interfaces }
 
 ended-leaves : (h : HostState) (t : ℕ) (end : TicketEnd) → LeavesDevices h (host_ended h t end)
 unfolding host_ended

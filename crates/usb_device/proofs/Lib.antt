@@ -45,3 +45,4 @@ pub mod OwnerLawClaims
 pub mod OwnerLaw
 pub mod HeldDevices
 pub mod HeldLaw
+pub mod ClosedLaw

@@ -31,3 +31,4 @@ pub mod EndLaws
 pub mod OwnerLaws
 pub mod DeviceLaws
 pub mod HeldLaws
+pub mod ClosedLaws

@@ -2,6 +2,7 @@
 //! nothing.
 
 ghost use Rattle.usb_device.specs.HeldLaws.{DevicesStayHeld};
+ghost use Rattle.usb_device.specs.ClosedLaws.{ClosedIsEmpty};
 ghost use Rattle.usb_device.specs.EndLaws.{EndsStay, DroppedWhereReaped};
 ghost use Rattle.usb_device.specs.OwnerLaws.{ClaimsStayOwned};
 ghost use Rattle.usb_device.specs.WaitLaws.{WaitIsBySteps, BlockingIsBySteps, TurnGoesOn, WaitGoesOn, BlockingGoesOn, RestGoesOn, RestLeavesNone, LineUsesPlaces};
@@ -53,4 +54,10 @@ pub fn claims_are_owned()
 /// handles, over every call but the close of a handle of its own.
 pub fn devices_are_held()
     ensures { DevicesStayHeld }
+{}
+
+/// Where no handle is open and each ticket has its end, nothing is kept: no open device, no claimed
+/// interface and no endpoint.
+pub fn nothing_is_kept_once_all_is_closed()
+    ensures { ClosedIsEmpty }
 {}
