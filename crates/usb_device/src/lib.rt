@@ -20,7 +20,8 @@ pub use device::{Device, Interface};
 pub use future::TransferFuture;
 pub use host::Host;
 pub use laws::{
-    blocking_is_by_steps, claims_are_owned, lines_go_on, tickets_end_once, wait_is_by_steps,
+    blocking_is_by_steps, claims_are_owned, devices_are_held, lines_go_on,
+    nothing_is_kept_once_all_is_closed, tickets_end_once, wait_is_by_steps,
     what_is_reaped_is_dropped,
 };
 pub use settings::AltSettingsOf;
