@@ -4,6 +4,7 @@ pub mod Controllers
 pub mod Devices
 pub mod Hotplug
 pub mod Listing
+pub mod NumberParts
 pub mod Probing
 pub mod Selectors
 pub mod StringDescriptors

@@ -2,9 +2,11 @@
 
 ghost use Rattle.std.specs.Prelude.{◌≡◌, IfOk, codes};
 ghost use Rattle.std.specs.List.{filter_map};
-ghost use Rattle.std.specs.Option.{option_map, option_copied};
+ghost use Rattle.std.specs.Option.{option_map, option_copied, option_and_then};
+ghost use Rattle.std.specs.Path.{path_parent};
 ghost use Rattle.usb_error.specs.Outcomes.{Tried, result_map};
 ghost use Rattle.usb_enum.specs.Buses.{buses, bus_of, driver_of, bus_under};
+ghost use Rattle.usb_enum.specs.Controllers.{controller_of};
 
 use crate::controller::UsbControllerType;
 use crate::device::DeviceInfo;
@@ -121,19 +123,41 @@ fn find_buses(
 fn bus_of(alloc: Global, tree: &AttrTree, hub: DeviceInfo) -> Result<Option<BusInfo>, NoMemory>
     ensures bus { IfOk result (λ b. b ≡ bus_of tree.now hub) }
 {
-    let driver = match Path::new(hub.sysfs_path()).parent() {
-        None => return Ok(None),
-        Some(parent) => driver_of(alloc, tree, parent.as_str())?,
-    };
+    match driver_above(alloc, tree, hub.sysfs_path())? {
+        Some(driver) => Ok(Some(bus_by(hub, driver))),
+        None => Ok(None),
+    }
+}
+
+/// The bus of a root hub whose controller has this driver.
+fn bus_by(hub: DeviceInfo, driver: Option<Text>) -> BusInfo
+    ensures bus { result
+        ≡ record { hub = hub; driver = driver; controller = option_and_then controller_of driver } }
+{
     let controller = match &driver {
         Some(name) => UsbControllerType::from_str(name.as_str()),
         None => None,
     };
-    Ok(Some(BusInfo {
+    BusInfo {
         hub,
         driver,
         controller,
-    }))
+    }
+}
+
+/// The driver of the folder above this one. The outer option says whether there is such a folder.
+fn driver_above(
+    alloc: Global,
+    tree: &AttrTree,
+    folder: &str,
+) -> Result<Option<Option<Text>>, NoMemory>
+    ensures driver { IfOk result
+        (λ d. d ≡ option_map (driver_of tree.now) (path_parent folder.now)) }
+{
+    match Path::new(folder).parent() {
+        Some(parent) => Ok(Some(driver_of(alloc, tree, parent.as_str())?)),
+        None => Ok(None),
+    }
 }
 
 /// The name of a folder's driver: the file name of the target of its link.

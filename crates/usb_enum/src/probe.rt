@@ -1,9 +1,13 @@
 //! Probing the folder of a device.
 
-ghost use Rattle.std.specs.Prelude.{◌≡◌, ◌==◌, IfOk};
+ghost use Rattle.std.specs.Prelude.{◌≡◌, ◌==◌, IfOk, codes};
 ghost use Rattle.std.specs.List.{list_any, filter_map};
 ghost use Rattle.usb_error.specs.Outcomes.{Tried};
+ghost use Rattle.usb_sysfs.specs.Attributes.{string};
+ghost use Rattle.usb_sysfs.specs.Ports.{ports};
+ghost use Rattle.usb_sysfs.specs.Speeds.{speed};
 ghost use Rattle.usb_sysfs.specs.Tree.{children_of};
+ghost use Rattle.usb_enum.specs.Devices.{bus_id_of};
 ghost use Rattle.usb_enum.specs.Probing.{probe, device_of, interface, interface_in, interfaces};
 
 use crate::device::{DeviceInfo, bus_id};
@@ -12,8 +16,25 @@ use crate::numbers::{Numbers, read_numbers};
 use std::alloc::Global;
 use usb_desc::{Fail, NoMemory};
 use usb_sysfs::{
-    AttrTree, SysfsError, SysfsPath, path_in, read_hex, read_ports, read_speed, read_string,
+    AttrTree, Speed, SysfsError, SysfsPath, Text, path_in, read_hex, read_ports, read_speed,
+    read_string,
 };
+
+/// How a device is connected.
+#[derive(Drop)]
+struct Connection {
+    bus_id: Text,
+    port_chain: Vec<u8>,
+    speed: Option<Speed>,
+}
+
+/// The strings that a device's attributes tell.
+#[derive(Drop)]
+struct Strings {
+    manufacturer: Option<Text>,
+    product: Option<Text>,
+    serial: Option<Text>,
+}
 
 /// What the attributes of a folder tell of a device. The first of the numbers that fails is the
 /// error; what else is missing or unreadable is absent.
@@ -40,23 +61,56 @@ fn probe_rest(
     ensures device { IfOk result (λ d. d ≡ device_of tree.now path numbers) }
 {
     let folder = path.as_str();
-    let bus_id = bus_id(alloc, numbers.busnum)?;
-    let port_chain = read_ports(alloc, tree, folder)?;
-    let speed = read_speed(alloc, tree, folder)?;
-    let manufacturer = read_string(alloc, tree, folder, "manufacturer")?;
-    let product = read_string(alloc, tree, folder, "product")?;
-    let serial = read_string(alloc, tree, folder, "serial")?;
+    let connection = read_connection(alloc, tree, folder, numbers.busnum)?;
+    let strings = read_strings(alloc, tree, folder)?;
     let interfaces = probe_interfaces(alloc, tree, folder)?;
     Ok(DeviceInfo {
         path,
         numbers,
+        bus_id: connection.bus_id,
+        port_chain: connection.port_chain,
+        speed: connection.speed,
+        manufacturer: strings.manufacturer,
+        product: strings.product,
+        serial: strings.serial,
+        interfaces,
+    })
+}
+
+fn read_connection(
+    alloc: Global,
+    tree: &AttrTree,
+    folder: &str,
+    busnum: u8,
+) -> Result<Connection, NoMemory>
+    ensures bus_id { IfOk result (λ c. c.bus_id ≡ bus_id_of busnum) }
+    ensures ports { IfOk result (λ c. c.port_chain.items ≡ ports tree.now folder.now) }
+    ensures speed { IfOk result (λ c. c.speed ≡ speed tree.now folder.now) }
+{
+    let bus_id = bus_id(alloc, busnum)?;
+    let port_chain = read_ports(alloc, tree, folder)?;
+    let speed = read_speed(alloc, tree, folder)?;
+    Ok(Connection {
         bus_id,
         port_chain,
         speed,
+    })
+}
+
+fn read_strings(alloc: Global, tree: &AttrTree, folder: &str) -> Result<Strings, NoMemory>
+    ensures manufacturer { IfOk result
+        (λ s. s.manufacturer ≡ string tree.now folder.now (codes "manufacturer")) }
+    ensures product { IfOk result
+        (λ s. s.product ≡ string tree.now folder.now (codes "product")) }
+    ensures serial { IfOk result (λ s. s.serial ≡ string tree.now folder.now (codes "serial")) }
+{
+    let manufacturer = read_string(alloc, tree, folder, "manufacturer")?;
+    let product = read_string(alloc, tree, folder, "product")?;
+    let serial = read_string(alloc, tree, folder, "serial")?;
+    Ok(Strings {
         manufacturer,
         product,
         serial,
-        interfaces,
     })
 }
 

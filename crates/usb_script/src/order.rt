@@ -1,6 +1,6 @@
 //! The rules that look back at the lines before.
 
-ghost use Rattle.std.specs.Prelude.{◌≡◌, ◌==◌, ◌&&◌, ◌++◌, ◌∷◌, [], OnOk, OnErr, IfErr};
+ghost use Rattle.std.specs.Prelude.{◌≡◌, ◌<◌, ◌==◌, ◌&&◌, ◌++◌, ◌∷◌, [], vec_len, vec_capacity, OnOk, OnErr, IfErr};
 ghost use Rattle.std.specs.List.{list_any};
 ghost use Rattle.usb_words.specs.declared.line_error.LineError.TheVariants.{Memory};
 ghost use Rattle.usb_script.specs.declared.reading.Reading.TheVariants.{Read};
@@ -41,6 +41,18 @@ fn add_taken(taken: &mut Vec<Taken>, item: &Item) -> Result<(), LineError>
         })?;
     }
     Ok(())
+}
+
+/// Makes room for the item, and adds what it takes.
+fn prepare(items: &mut Vec<Item>, taken: &mut Vec<Taken>, item: &Item) -> Result<(), LineError>
+    ensures items { items.new.items ≡ items.old.items }
+    ensures room { OnOk result (vec_len items.new < vec_capacity items.new) }
+    ensures ok { OnOk result (taken.new.items ≡ taken.old.items ++ taken_of (item.now ∷ [])) }
+    ensures err { OnErr result (taken.new.items ≡ taken.old.items) }
+    ensures only { IfErr result (λ e. e ≡ Memory) }
+{
+    items.reserve(1)?;
+    add_taken(taken, item)
 }
 
 fn is_name_in(taken: &[Taken], name: Name) -> bool
@@ -137,12 +149,13 @@ impl ItemsBefore {
         ensures value { Gives (λ _. self.new) result (with_reading self.old (Read item)) }
         ensures more { OnOk result (self.new ≡ self.old ++ item ∷ []) }
     {
-        if !self.may_follow(&item) {
-            return Err(LineError::Malformed);
-        }
+        let prepared = if self.may_follow(&item) {
+            prepare(&mut self.items, &mut self.taken, &item)
+        } else {
+            Err(LineError::Malformed)
+        };
+        prepared?;
         let is_setup = item.is_setup();
-        self.items.reserve(1)?;
-        add_taken(&mut self.taken, &item)?;
         self.items.push_reserved(item);
         self.are_setup = self.are_setup && is_setup;
         Ok(())
