@@ -7,7 +7,7 @@ ghost use Rattle.usb_device.specs.HandleStates.{StandsInterface};
 ghost use Rattle.usb_device.specs.HostBus.{bus_of};
 
 use crate::cases::{Case, expect};
-use crate::hosts::{claim, go_on, message_of, open, submit_three};
+use crate::hosts::{claim, go_on, message_of, open, submit, submit_three};
 use std::alloc::Global;
 use std::process::Abort;
 use usb_device::{Bulk, Device, Error, Fail, Host, In, Interface, TicketEnd};
@@ -32,6 +32,25 @@ fn claims_after(alloc: Global, host: &mut Host, times: u8) -> Result<usize, Fail
     Ok(host.interface_capacity())
 }
 
+/// How many endpoints are kept once this often one was opened, was closed with a transfer pending,
+/// and that was reaped.
+fn endpoints_after(
+    alloc: Global,
+    host: &mut Host,
+    times: u32,
+) -> Result<usize, Fail<Error>> {
+    for _ in 0..times {
+        let mut endpoint = open(alloc, host)?;
+        let submitted = submit(host, &mut endpoint);
+        endpoint.close(host);
+        if submitted.is_err() {
+            return Err(Fail::Memory);
+        }
+        go_on(host);
+    }
+    Ok(host.endpoint_count())
+}
+
 /// Whether two rooms are there and the same.
 fn is_same(once: Result<usize, Fail<Error>>, often: Result<usize, Fail<Error>>) -> bool {
     match (once, often) {
@@ -45,6 +64,8 @@ pub fn expect_room(rt: &impl Abort, alloc: Global, host: &mut Host) {
     let often = room_after(alloc, host, 200);
     assert!(rt; is_same(once, often));
     let once = claims_after(alloc, host, 1);
+    let kept = endpoints_after(alloc, host, 100_000);
+    assert!(rt; matches!(kept, Ok(0)));
     let often = claims_after(alloc, host, 200);
     assert!(rt; is_same(once, often));
 }

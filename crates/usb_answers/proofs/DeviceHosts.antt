@@ -47,7 +47,7 @@ aside-same h = record { handles = handles-same h; past = refl; spare = refl }
 pub stands-handles : (old new : HostState) → KeepsHandles old new → (e : EndpointState) → Stands (bus_of old) e → Stands (bus_of new) e
 stands-handles old new keeps e stands =
     record {
-      key_is_open = ap (λ (es : List HostEndpoint). key_at es e.key) keeps.endpoints ∙ stands.key_is_open;
+      key_is_open = ap (λ (es : List (Option HostEndpoint)). key_at es e.key) keeps.endpoints ∙ stands.key_is_open;
       held = subst (λ (ts : List HostTicket). AreHeld (owner_at ts) e.key e.pending) (sym keeps.tickets) stands.held;
     }
 

@@ -140,7 +140,7 @@ endpoint-of state now after e i address maximum kind direction f c y r at there 
     let free_there : is_free state.endpoints e ≡ true = sym (is_free-map kept state.endpoints e) ∙ free in
     rw (at, there, free_there)
     (open-as state (host_asked state.host c.opened) now after e address maximum kind (record { handle = f; claimed = c }) y (host_tries (host_asked state.host c.opened) f.key c address kind direction) r free tried
-    (fresh ∙ ap (λ (l : List HostEndpoint). fresh_endpoint c address kind maximum (length l)) (asked-endpoints state.host c.opened)) is put)
+    (fresh ∙ ap (λ (l : List (Option HostEndpoint)). fresh_endpoint c address kind maximum (length l)) (asked-endpoints state.host c.opened)) is put)
 
 pub endpoint-gives : (s : SessionState) (state : State) (now : HostState) (after : List (Option EndpointState)) (e i address maximum : ℕ) (kind : TransferType) (direction : Direction) (f : InterfaceState) (c : ClaimedInterface) (y : EndpointState) → Represents s state → EndpointGives state e i address kind direction maximum f c y now after s
 endpoint-gives s state now after e i address maximum kind direction f c y r =

@@ -21,7 +21,7 @@ use Rattle.usb_answers.proofs.Queue.{call-host}
 pub line-halt : (h : HostState) (device endpoint : ℕ) → LineGoesOn h (host_halt_cleared h device endpoint)
 unfolding called
 line-halt h device endpoint =
-    line-keeps h (host_halt_cleared h device endpoint) (record { line = record { steps = refl; spare = refl; devices = refl }; interfaces = goes-refl h.interfaces; endpoints = refl })
+    line-keeps h (host_halt_cleared h device endpoint) (record { line = record { steps = refl; spare = refl; devices = refl }; interfaces = goes-refl h.interfaces; endpoints = goes-refl h.endpoints })
 
 -- what is printed of it
 abbrev pub halt_line : HostState → EndpointState → List ℕ

@@ -13,6 +13,7 @@ use Rattle.usb_kernel.specs.Completions.{completion}
 use Rattle.usb_kernel.proofs.Extends.{extends-trans}
 use Rattle.usb_endpoint.specs.EndpointState.{EndpointState}
 use Rattle.usb_endpoint.specs.Closes.{all_discarded, all_abandoned, after_close}
+use Rattle.usb_registry.specs.History.{value_at}
 use Rattle.usb_ledger.specs.declared.ends.TicketEnd.TheVariants.{Taken, Dropped, Reclaimed}
 use Rattle.usb_ledger.specs.Entries.{HostTicket, Hold, HeldBy, Abandoned, Ended}
 use Rattle.usb_device.specs.HostState.{HostState}
@@ -260,7 +261,7 @@ left-past h e =
 
 at-left : (h : HostState) (e : EndpointState) (u : ℕ) → slice_get (left_by h e).tickets u ≡ slice_get (given_up_by h e).tickets u
 unfolding host_left
-at-left h e u = ap (λ (l : List HostTicket). slice_get l u) (left-tickets (given_up_by h e) e.key (slice_get (given_up_by h e).endpoints e.key))
+at-left h e u = ap (λ (l : List HostTicket). slice_get l u) (left-tickets (given_up_by h e) e.key (value_at (given_up_by h e).endpoints e.key))
 
 at-discards : (h : HostState) (e : EndpointState) (u : ℕ) → slice_get (discarded_by h e).tickets u ≡ slice_get h.tickets u
 at-discards h e u = ap (λ (l : List HostTicket). slice_get l u) (discards-tickets h e.pending)

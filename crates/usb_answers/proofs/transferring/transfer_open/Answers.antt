@@ -1,6 +1,9 @@
 use Rattle.std.proofs.Common.{ap, sym, ◌∙◌, subst}
 use Rattle.usb_endpoint.specs.EndpointState.{EndpointState}
 use Rattle.usb_endpoint.specs.AnyEndpoints.{state_of}
+use Rattle.usb_device.specs.HostFrames.{LineGoesOn}
+use Rattle.usb_device.proofs.CallFrames.{keeps-open}
+use Rattle.usb_device.proofs.WaitFrames.{line-keeps}
 use Rattle.usb_answers.specs.Transfers.{transfer_on}
 use Rattle.usb_answers.specs.OpenCalls.{CallAnswers}
 use Rattle.usb_answers.proofs.WaitCode.{transfer-barred, transfer-made, transfer-line}
@@ -26,3 +29,12 @@ returns-in-Ok-clause-answered c =
     subst (λ n. CallAnswers c.args.host.now c.transfer_blocking-tried.new.bus x y c.args.line.now c.write_waited.new.out c.write_waited.result (λ state e h. transfer_on state c.args.direction e c.args.buffer n h)) c.nanoseconds.ensures.value
     (transfer-made c.blocking_is_by_steps.ensures c.args.host.now c.transfer_blocking-tried.new.bus x y c.args.line.now c.write_waited.new.out c.write_waited.result c.args.direction c.args.buffer c.nanoseconds.result c.in-Ok.completion
     (sym c.bars_transfer.ensures.barred ∙ c.if-bars_transfer.false) c.transfer_blocking-tried.ensures.rest c.in-Ok.ensures.transferred c.write_waited.ensures.text)
+
+-- short of memory it leaves the host as it was
+pub returns-clause-keeps : goal.returns-clause-keeps
+returns-clause-keeps c = record {
+  line = subst (LineGoesOn c.args.host.now) (sym c.in-Err.ensures.err) (line-keeps c.args.host.now c.args.host.now (keeps-open c.args.host.now));
+  stands = c.transfer_blocking-tried.ensures.stands;
+  others = c.transfer_blocking-tried.ensures.others;
+  key = ap (λ (h : EndpointState). h.key) c.transfer_blocking-tried.ensures.rest;
+}
