@@ -34,11 +34,7 @@ fn claims_after(alloc: Global, host: &mut Host, times: u8) -> Result<usize, Fail
 
 /// How many endpoints are kept once this often one was opened, was closed with a transfer pending,
 /// and that was reaped.
-fn endpoints_after(
-    alloc: Global,
-    host: &mut Host,
-    times: u32,
-) -> Result<usize, Fail<Error>> {
+fn endpoints_after(alloc: Global, host: &mut Host, times: u32) -> Result<usize, Fail<Error>> {
     for _ in 0..times {
         let mut endpoint = open(alloc, host)?;
         let submitted = submit(host, &mut endpoint);
@@ -60,14 +56,12 @@ fn is_same(once: Result<usize, Fail<Error>>, often: Result<usize, Fail<Error>>) 
 }
 
 pub fn expect_room(rt: &impl Abort, alloc: Global, host: &mut Host) {
-    let once = room_after(alloc, host, 1);
-    let often = room_after(alloc, host, 200);
-    assert!(rt; is_same(once, often));
-    let once = claims_after(alloc, host, 1);
+    let devices = room_after(alloc, host, 1);
+    let claims = claims_after(alloc, host, 1);
     let kept = endpoints_after(alloc, host, 100_000);
     assert!(rt; matches!(kept, Ok(0)));
-    let often = claims_after(alloc, host, 200);
-    assert!(rt; is_same(once, often));
+    assert!(rt; is_same(devices, room_after(alloc, host, 200)));
+    assert!(rt; is_same(claims, claims_after(alloc, host, 200)));
 }
 
 #[test]
