@@ -1,11 +1,9 @@
 //! What devices are looked for by.
 
-ghost use Rattle.std.specs.Prelude.{◌≡◌, ◌≤◌, length, take, drop, IfOk, OnOk};
-ghost use Rattle.usb_words.specs.Fields.{texts, one, two, three};
+ghost use Rattle.std.specs.Prelude.{◌≡◌, ◌≤◌, length, take, drop, IfOk};
+ghost use Rattle.usb_words.specs.Fields.{texts};
 ghost use Rattle.usb_words.specs.Outcome.{Gives};
 ghost use Rattle.usb_words.specs.Selectors.{serial_of, named_criterion, selector_of};
-ghost use Rattle.usb_words.specs.Words.{hex_byte_of, hex_word_of};
-ghost use Rattle.usb_words.specs.declared.selector.Criterion.TheVariants.{Vendor, Product, Class, Subclass, Protocol, Serial};
 
 use crate::fields::{one_word, three_words, two_words};
 use crate::line_error::LineError;
@@ -86,63 +84,6 @@ fn front<'w, 'a>(words: &'w [&'a [u8]], count: usize) -> &'w [&'a [u8]]
     &words[..count]
 }
 
-/// `vid`, with these words.
-fn by_vendor(words: &[&[u8]]) -> Result<Criterion, LineError>
-    ensures value { Gives (λ c. c) result (one Vendor hex_word_of (texts words.now)) }
-    ensures count { OnOk result (length words.now ≡ 1) }
-{
-    let vendor = one_word(words)?;
-    Ok(Criterion::Vendor(hex_word(vendor)?))
-}
-
-/// `vidpid`, with these words.
-fn by_product(words: &[&[u8]]) -> Result<Criterion, LineError>
-    ensures value { Gives (λ c. c) result
-        (two Product hex_word_of hex_word_of (texts words.now)) }
-    ensures count { OnOk result (length words.now ≡ 2) }
-{
-    let (vendor, product) = two_words(words)?;
-    Ok(Criterion::Product(hex_word(vendor)?, hex_word(product)?))
-}
-
-/// `class`, with these words.
-fn by_class(words: &[&[u8]]) -> Result<Criterion, LineError>
-    ensures value { Gives (λ c. c) result (one Class hex_byte_of (texts words.now)) }
-    ensures count { OnOk result (length words.now ≡ 1) }
-{
-    let class = one_word(words)?;
-    Ok(Criterion::Class(hex_byte(class)?))
-}
-
-/// `classsub`, with these words.
-fn by_subclass(words: &[&[u8]]) -> Result<Criterion, LineError>
-    ensures value { Gives (λ c. c) result
-        (two Subclass hex_byte_of hex_byte_of (texts words.now)) }
-    ensures count { OnOk result (length words.now ≡ 2) }
-{
-    let (class, subclass) = two_words(words)?;
-    Ok(Criterion::Subclass(hex_byte(class)?, hex_byte(subclass)?))
-}
-
-/// `classsubproto`, with these words.
-fn by_protocol(words: &[&[u8]]) -> Result<Criterion, LineError>
-    ensures value { Gives (λ c. c) result
-        (three Protocol hex_byte_of hex_byte_of hex_byte_of (texts words.now)) }
-    ensures count { OnOk result (length words.now ≡ 3) }
-{
-    let (class, subclass, protocol) = three_words(words)?;
-    Ok(Criterion::Protocol(hex_byte(class)?, hex_byte(subclass)?, hex_byte(protocol)?))
-}
-
-/// `serial`, with these words.
-fn by_serial(alloc: Global, words: &[&[u8]]) -> Result<Criterion, LineError>
-    ensures value { Gives (λ c. c) result (one Serial serial_of (texts words.now)) }
-    ensures count { OnOk result (length words.now ≡ 1) }
-{
-    let number = one_word(words)?;
-    Ok(Criterion::Serial(serial(alloc, number)?))
-}
-
 /// The call with this name, and how many words stand behind it.
 #[tactic(auto, unfolding(crate::specs::Selectors::named_criterion))]
 fn named_criterion(
@@ -155,17 +96,31 @@ fn named_criterion(
     ensures within { IfOk result (λ x. x.1 ≤ length words.now) }
 {
     if reads(name, b"vid") {
-        Ok((by_vendor(front(words, 1))?, 1))
+        let vendor = one_word(front(words, 1))?;
+        Ok((Criterion::Vendor(hex_word(vendor)?), 1))
     } else if reads(name, b"vidpid") {
-        Ok((by_product(front(words, 2))?, 2))
+        let (vendor, product) = two_words(front(words, 2))?;
+        Ok((Criterion::Product(hex_word(vendor)?, hex_word(product)?), 2))
     } else if reads(name, b"class") {
-        Ok((by_class(front(words, 1))?, 1))
+        let class = one_word(front(words, 1))?;
+        Ok((Criterion::Class(hex_byte(class)?), 1))
     } else if reads(name, b"classsub") {
-        Ok((by_subclass(front(words, 2))?, 2))
+        let (class, subclass) = two_words(front(words, 2))?;
+        Ok((
+            Criterion::Subclass(hex_byte(class)?, hex_byte(subclass)?),
+            2,
+        ))
     } else if reads(name, b"classsubproto") {
-        Ok((by_protocol(front(words, 3))?, 3))
+        let (class, subclass, protocol) = three_words(front(words, 3))?;
+        let criterion = Criterion::Protocol(
+            hex_byte(class)?,
+            hex_byte(subclass)?,
+            hex_byte(protocol)?,
+        );
+        Ok((criterion, 3))
     } else if reads(name, b"serial") {
-        Ok((by_serial(alloc, front(words, 1))?, 1))
+        let number = one_word(front(words, 1))?;
+        Ok((Criterion::Serial(serial(alloc, number)?), 1))
     } else {
         Err(LineError::Malformed)
     }
