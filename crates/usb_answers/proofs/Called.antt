@@ -1,5 +1,5 @@
 -- Calls on one endpoint of a session: what they keep.
-use Rattle.std.proofs.Common.{◌≡◌, ◌≢◌, ℕ, ◌<◌, ◌≤◌, arith, List, [], length, map, Option, Some, None, refl, ap, sym, ◌∙◌, subst, inl, inr, ◌⊎◌}
+use Rattle.std.proofs.Common.{◌≡◌, ◌≢◌, ℕ, ◌<◌, ◌≤◌, arith, List, [], length, map, Option, Some, None, false, refl, ap, sym, ◌∙◌, subst, inl, inr, ◌⊎◌}
 use Rattle.std.specs.Option.{option_map}
 use Rattle.std.proofs.lemmas.Bool.{cases_eq}
 use Rattle.std.proofs.lemmas.Option.{none-some, same_Some}
@@ -9,7 +9,7 @@ use Rattle.usb_endpoint.specs.EndpointState.{EndpointState}
 use Rattle.usb_endpoint.specs.Handles.{Stands, KeepsOthers}
 use Rattle.usb_endpoint.proofs.Frames.{Stands-other}
 use Rattle.usb_device.specs.HostState.{HostState}
-use Rattle.usb_device.specs.HostBus.{bus_of}
+use Rattle.usb_device.specs.HostBus.{bus_of, key_at}
 use Rattle.usb_device.specs.HostFrames.{ClaimsGoOn}
 use Rattle.usb_device.proofs.DeviceLemmas.{KeepsCounts, counts-stands, counts-there, opened-counts}
 use Rattle.usb_device.proofs.HeldDevices.{held-goes}
@@ -21,6 +21,7 @@ use Rattle.usb_answers.specs.Relation.{Represents, session_of}
 use Rattle.usb_answers.proofs.Answering.{named_kept}
 use Rattle.usb_answers.proofs.CountedNames.{counted-goes}
 use Rattle.usb_answers.proofs.CountedDevices.{devices-kept}
+use Rattle.usb_answers.proofs.NamedKeys.{OpensNone, named-goes, named-put, named-closed}
 use Rattle.usb_answers.proofs.NameLemmas.{named-map, named-set, named-set_other, named-freed, named-freed_other, freed-free, length-freed, length-set_name, map-freed, map-set, map-change_named, put-changed, named-change_same, named-change_other}
 
 -- what is kept between lines
@@ -66,8 +67,8 @@ differ-put s after e x y sound was put key c d g h isg ish apart =
     ]
 
 -- an endpoint was called and put back
-pub sound-put : (s : SessionState) (now : HostState) (after : List (Option EndpointState)) (e : ℕ) (x y : EndpointState) → IsSound s → named s.endpoints e ≡ Some x → after ≡ set_name (freed s.endpoints e) e y → KeepsSession s.host now → Stands (bus_of now) y → y.key ≡ x.key → KeepsOthers (bus_of s.host) (bus_of now) x.key → IsSound (record s { host = now; endpoints = after })
-sound-put s now after e x y sound was put keeps stands key others =
+pub sound-put : (s : SessionState) (now : HostState) (after : List (Option EndpointState)) (e : ℕ) (x y : EndpointState) → IsSound s → named s.endpoints e ≡ Some x → after ≡ set_name (freed s.endpoints e) e y → KeepsSession s.host now → Stands (bus_of now) y → y.key ≡ x.key → KeepsOthers (bus_of s.host) (bus_of now) x.key → OpensNone s.host.endpoints now.endpoints → IsSound (record s { host = now; endpoints = after })
+sound-put s now after e x y sound was put keeps stands key others none =
     record {
       idle = keeps.idle;
       device_names = sound.device_names;
@@ -80,11 +81,12 @@ sound-put s now after e x y sound was put keeps stands key others =
       interfaces_counted = counted-goes s.host.interfaces now.interfaces s.interfaces keeps.interfaces sound.interfaces_counted;
       endpoints_stand = stands-put s now after e x y sound was put stands others;
       endpoints_differ = differ-put s after e x y sound was put key;
+      endpoints_named = named-put s.host.endpoints now.endpoints s.endpoints after e x y none was put key sound.endpoints_named;
     }
 
 -- an endpoint was closed
-pub sound-freed : (s : SessionState) (now : HostState) (after : List (Option EndpointState)) (e : ℕ) (x : EndpointState) → IsSound s → named s.endpoints e ≡ Some x → after ≡ freed s.endpoints e → KeepsSession s.host now → KeepsOthers (bus_of s.host) (bus_of now) x.key → IsSound (record s { host = now; endpoints = after })
-sound-freed s now after e x sound was rest keeps others =
+pub sound-freed : (s : SessionState) (now : HostState) (after : List (Option EndpointState)) (e : ℕ) (x : EndpointState) → IsSound s → named s.endpoints e ≡ Some x → after ≡ freed s.endpoints e → KeepsSession s.host now → KeepsOthers (bus_of s.host) (bus_of now) x.key → OpensNone s.host.endpoints now.endpoints → key_at now.endpoints x.key ≡ false → IsSound (record s { host = now; endpoints = after })
+sound-freed s now after e x sound was rest keeps others none closed =
     record {
       idle = keeps.idle;
       device_names = sound.device_names;
@@ -97,11 +99,12 @@ sound-freed s now after e x sound was rest keeps others =
       interfaces_counted = counted-goes s.host.interfaces now.interfaces s.interfaces keeps.interfaces sound.interfaces_counted;
       endpoints_stand = λ d h is. let there = names-freed s.endpoints after e d h rest is in Stands-other (bus_of s.host) (bus_of now) x.key h others (sound.endpoints_differ d e h x there.1 was there.0) (sound.endpoints_stand d h there.1);
       endpoints_differ = λ c d g h isg ish apart. sound.endpoints_differ c d g h (names-freed s.endpoints after e c g rest isg).1 (names-freed s.endpoints after e d h rest ish).1 apart;
+      endpoints_named = named-closed s.host.endpoints now.endpoints s.endpoints after e x none closed was rest sound.endpoints_named;
     }
 
 -- a host that went on by itself
-pub sound-host : (s : SessionState) (now : HostState) → IsSound s → KeepsSession s.host now → ((h : EndpointState) → Stands (bus_of s.host) h → Stands (bus_of now) h) → IsSound (record s { host = now })
-sound-host s now sound keeps stands =
+pub sound-host : (s : SessionState) (now : HostState) → IsSound s → KeepsSession s.host now → ((h : EndpointState) → Stands (bus_of s.host) h → Stands (bus_of now) h) → OpensNone s.host.endpoints now.endpoints → IsSound (record s { host = now })
+sound-host s now sound keeps stands none =
     record {
       idle = keeps.idle;
       device_names = sound.device_names;
@@ -114,6 +117,7 @@ sound-host s now sound keeps stands =
       interfaces_counted = counted-goes s.host.interfaces now.interfaces s.interfaces keeps.interfaces sound.interfaces_counted;
       endpoints_stand = λ e h is. stands h (sound.endpoints_stand e h is);
       endpoints_differ = sound.endpoints_differ;
+      endpoints_named = named-goes s.host.endpoints now.endpoints s.endpoints none sound.endpoints_named;
     }
 
 -- the endpoint of a state under a name at which the session has one

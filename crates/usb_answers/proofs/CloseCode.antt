@@ -1,7 +1,9 @@
 -- An endpoint is taken out of its name and closed.
-use Rattle.std.proofs.Common.{◌≡◌, ℕ, arith, List, [], ◌∷◌, ◌++◌, ◌+◌, length, length-append, map, Option, Some, None, true, false, Result, Ok, Err, String, string_bytes, ap, sym, ◌∙◌, subst}
-use Rattle.std.specs.Prelude.{is_some, OnOk}
+use Rattle.std.proofs.Common.{◌≡◌, ℕ, arith, List, [], ◌∷◌, ◌++◌, ◌+◌, length, length-append, map, Option, Some, None, Bool, true, false, Result, Ok, Err, String, string_bytes, refl, ap, sym, ◌∙◌, subst}
+use Rattle.std.specs.Prelude.{is_some, OnOk, ◌==◌}
 use Rattle.std.specs.declared.alloc.Global.{Global}
+use Rattle.std.proofs.lemmas.Bool.{cond_both, eq-eqb}
+use Rattle.usb_bus.specs.BusState.{BusState, without_key}
 use Rattle.std.specs.Option.{option_map}
 use Rattle.usb_device.proofs.ClaimFrames.{goes-trans}
 use Rattle.usb_device.proofs.DeviceLemmas.{counts-same}
@@ -11,11 +13,11 @@ use Rattle.usb_endpoint.specs.EndpointState.{EndpointState}
 use Rattle.usb_endpoint.specs.Handles.{KeepsOthers}
 use Rattle.usb_endpoint.specs.Closes.{all_discarded, all_abandoned, after_close}
 use Rattle.usb_device.specs.HostState.{HostState}
-use Rattle.usb_device.specs.HostBus.{bus_of}
+use Rattle.usb_device.specs.HostBus.{bus_of, key_at}
 use Rattle.usb_device.specs.HostFrames.{LineGoesOn}
 use Rattle.usb_device.specs.HostCalls.{host_discarded, host_left}
 use Rattle.usb_device.specs.TicketEnds.{host_abandoned}
-use Rattle.usb_device.proofs.CallFrames.{keeps-open, keeps-abandoned, line-left, interfaces-left}
+use Rattle.usb_device.proofs.CallFrames.{keeps-open, keeps-abandoned, line-left, interfaces-left, bus-left}
 use Rattle.usb_device.proofs.WaitFrames.{line-keeps, line-trans}
 use Rattle.usb_lines.specs.Calls.{condition_line, ok_line}
 use Rattle.usb_answers.specs.declared.session.Session.TheInside.{Inside}
@@ -29,6 +31,7 @@ use Rattle.usb_answers.specs.Relation.{Represents}
 use Rattle.usb_answers.specs.Answered.{Answered, Answers}
 use Rattle.usb_answers.proofs.Answering.{named_kept, none_kept, host_is, told-answered}
 use Rattle.usb_answers.proofs.Called.{KeepsSession, open_at, sound-freed, represents-freed, taken-map, freed-map}
+use Rattle.usb_answers.proofs.NamedKeys.{OpensNone, none-goes}
 use Rattle.usb_answers.proofs.SubmitCode.{line-all_discarded}
 use Rattle.usb_answers.proofs.TakenOut.{made_with, named-made, none_made, keeps-line}
 
@@ -55,10 +58,27 @@ keeps-closed h e idle =
       interfaces = goes-trans h.interfaces (before_left h e).interfaces (host_left (before_left h e) e.key).interfaces before.interfaces (interfaces-left (before_left h e) e.key);
     }
 
+-- its key is open no more, and no other is that was not
+left-key : (h : HostState) (key k : ℕ) → key_at (host_left h key).endpoints k ≡ without_key (key_at h.endpoints) key k
+left-key h key k = ap (λ (b : BusState). b.keys k) (bus-left h key)
+
+without-open : (keys : ℕ → Bool) (key k : ℕ) → without_key keys key k ≡ true → keys k ≡ true
+without-open keys key k open_ = cond_both (key == k) false (keys k) (λ b. b ≡ true → keys k ≡ true) (λ same no_. absurd (cc)) (λ other is. is) open_
+
+none-closed : (h : HostState) (e : EndpointState) → OpensNone h.endpoints (after_close host_discarded host_abandoned host_left h e).endpoints
+none-closed h e k open_ =
+    let before = before_left h e in
+    none-goes h.endpoints before.endpoints (line-before_left h e).endpoints k (without-open (key_at before.endpoints) e.key k (sym (left-key before e.key k) ∙ open_))
+
+key-closed : (h : HostState) (e : EndpointState) → key_at (after_close host_discarded host_abandoned host_left h e).endpoints e.key ≡ false
+key-closed h e = left-key (before_left h e) e.key e.key ∙ rw (eq-eqb e.key e.key refl) refl
+
 pub closed-sound : (i : Inside) (now : HostState) (mid : List (Option AnyEndpoint)) (n : ℕ) (x : AnyEndpoint) → IsSound (made_of i) → named i.endpoints.items n ≡ Some x → mid ≡ freed i.endpoints.items n → now ≡ after_close host_discarded host_abandoned host_left i.host (state_of x) → KeepsOthers (bus_of i.host) (bus_of now) (state_of x).key → IsSound (made_with i now mid)
 closed-sound i now mid n x sound was rest bus others =
     sound-freed (made_of i) now (map (option_map state_of) mid) n (state_of x) sound (taken-map i.endpoints.items n x was) (freed-map i.endpoints.items mid n rest)
     (subst (KeepsSession i.host) (sym bus) (keeps-closed i.host (state_of x) sound.idle)) others
+    (subst (λ (g : HostState). OpensNone i.host.endpoints g.endpoints) (sym bus) (none-closed i.host (state_of x)))
+    (ap (λ (g : HostState). key_at g.endpoints (state_of x).key) bus ∙ key-closed i.host (state_of x))
 
 pub closed-spare : (h now : HostState) (e : EndpointState) → h.steps ≡ [] → now ≡ after_close host_discarded host_abandoned host_left h e → now.kernel.spare ≡ h.kernel.spare
 closed-spare h now e idle bus =

@@ -17,6 +17,7 @@ use Rattle.usb_answers.specs.SessionState.{SessionState, IsSound}
 use Rattle.usb_answers.specs.Relation.{Represents}
 use Rattle.usb_answers.proofs.Answering.{Gives, barred-gives, host_is}
 use Rattle.usb_answers.proofs.Called.{sound-host, represents-host}
+use Rattle.usb_answers.proofs.NamedKeys.{none-same}
 use Rattle.usb_answers.proofs.Devices.{device-none, device-some}
 use Rattle.usb_answers.proofs.DeviceHosts.{KeepsHandles, KeepsAside, stands-handles}
 
@@ -24,7 +25,8 @@ use Rattle.usb_answers.proofs.DeviceHosts.{KeepsHandles, KeepsAside, stands-hand
 pub sound-handles : (s : SessionState) (now next : HostState) → IsSound s → now ≡ next → KeepsHandles s.host next → IsSound (record s { host = now })
 sound-handles s now next sound is keeps =
     subst (λ (h : HostState). IsSound (record s { host = h })) (sym is)
-    (sound-host s next sound (record { idle = keeps.steps ∙ sound.idle; devices = keeps.devices; interfaces = goes-same s.host.interfaces next.interfaces keeps.interfaces }) (stands-handles s.host next keeps))
+    (sound-host s next sound (record { idle = keeps.steps ∙ sound.idle; devices = keeps.devices; interfaces = goes-same s.host.interfaces next.interfaces keeps.interfaces }) (stands-handles s.host next keeps)
+    (none-same s.host.endpoints next.endpoints keeps.endpoints))
 
 -- a call that leaves this host, and tells this line
 abbrev pub on_device : State → ℕ → (HostState → ℕ → HostState) → (HostState → OpenDevice → List ℕ) → Answer

@@ -30,6 +30,7 @@ use Rattle.usb_answers.proofs.NameLemmas.{length-set_name, names-set}
 use Rattle.usb_answers.proofs.CountedDevices.{devices-opened}
 use Rattle.usb_answers.proofs.SoundDevices.{sound-device}
 use Rattle.usb_answers.proofs.Called.{KeepsSession, sound-host, represents-host}
+use Rattle.usb_answers.proofs.NamedKeys.{none-bus}
 use Rattle.usb_answers.proofs.Answering.{Gives, barred-gives}
 
 -- a session whose host was refused a device
@@ -45,7 +46,7 @@ opened-keeps h now bus address error idle is refused =
 pub open-left : (s : SessionState) (now : HostState) (bus address : ℕ) (error : ErrorState) → IsSound s → open_key s.host bus address ≡ Err error → now ≡ host_opened s.host bus address → IsSound (record s { host = now })
 open-left s now bus address error sound refused is =
     let bus_is = ap bus_of (is ∙ opened-is s.host bus address) in
-    sound-host s now sound (opened-keeps s.host now bus address error sound.idle is refused) (λ h stands. subst (λ (b : BusState). Stands b h) (sym bus_is) stands)
+    sound-host s now sound (opened-keeps s.host now bus address error sound.idle is refused) (λ h stands. subst (λ (b : BusState). Stands b h) (sym bus_is) stands) (none-bus s.host now bus_is)
 
 -- and one in which the device is open
 open-stands : (h : HostState) (now : List (Option OpenDevice)) (key d : ℕ) → OpensOne h now key → StandsDevice h d → value_at now d ≡ value_at h.devices d

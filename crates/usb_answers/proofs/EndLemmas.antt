@@ -13,7 +13,18 @@ use Rattle.usb_device.specs.DeviceLaws.{holds_at}
 use Rattle.std.specs.Prelude.{option_and_then}
 use Rattle.usb_ledger.specs.Entries.{ClaimedInterface}
 use Rattle.usb_ledger.specs.declared.opened.OpenDevice.{OpenDevice}
+use Rattle.usb_ledger.specs.Kept.{EachIsOwned, EachLives}
+use Rattle.usb_device.specs.HostFrames.{LineGoesOn}
+use Rattle.usb_device.specs.HostCalls.{host_discarded}
+use Rattle.usb_device.specs.HostTurns.{host_reaped}
+use Rattle.usb_device.specs.ClosedLaws.{IsEmpty}
+use Rattle.usb_device.proofs.CallFrames.{keeps-open}
+use Rattle.usb_device.proofs.ClosedLaw.{closed_is_empty}
+use Rattle.usb_device.proofs.DeviceLemmas.{counts-same}
+use Rattle.usb_device.proofs.HeldDevices.{held-goes}
 use Rattle.usb_device.proofs.HostFrames.{uses-discarded, uses-reaped}
+use Rattle.usb_device.proofs.WaitFrames.{line-trans, line-keeps, went-uses}
+use Rattle.usb_answers.proofs.NamedKeys.{named-none}
 use Rattle.usb_registry.specs.History.{value_at}
 use Rattle.usb_kernel.specs.Tickets.{tickets}
 use Rattle.std.specs.List.{count_by}
@@ -189,20 +200,41 @@ none-left s sound closed none key = by (value_at s.host.devices key) refl
         let gone : is_held o ≡ false = rw (handles, interfaces) refl in
         absurd (cc)
 
--- the end leaves the open devices
-discarded-devices : (h : HostState) (n : ℕ) → (discarded_below h n).devices ≡ h.devices
-discarded-devices h zero = refl
-discarded-devices h (suc n) = (uses-discarded (discarded_below h n) n).devices ∙ discarded-devices h n
+-- the end opens nothing, and leaves the open devices
+discarded-line : (h : HostState) (n : ℕ) → LineGoesOn h (discarded_below h n)
+discarded-line h zero = line-keeps h h (keeps-open h)
+discarded-line h (suc n) =
+    let before = discarded_below h n in
+    line-trans h before (host_discarded before n) (discarded-line h n) (went-uses before (host_discarded before n) (uses-discarded before n)).line
 
-reaped-devices : (h : HostState) (n : ℕ) → (reaped_below h n).devices ≡ h.devices
-reaped-devices h zero = refl
-reaped-devices h (suc n) = (uses-reaped (reaped_below h n) n).devices ∙ reaped-devices h n
+reaped-line : (h : HostState) (n : ℕ) → LineGoesOn h (reaped_below h n)
+reaped-line h zero = line-keeps h h (keeps-open h)
+reaped-line h (suc n) =
+    let before = reaped_below h n in
+    line-trans h before (host_reaped before n) (reaped-line h n) (went-uses before (host_reaped before n) (uses-reaped before n)).line
 
-pub finished-devices : (h : HostState) → (finished h).devices ≡ h.devices
+finished-line : (h : HostState) → LineGoesOn h (finished h)
 unfolding finished
-finished-devices h =
-    let n = length (tickets h.kernel.past) in reaped-devices (discarded_below h n) n ∙ discarded-devices h n
+finished-line h =
+    let n = length (tickets h.kernel.past) in
+    let discarded = discarded_below h n in
+    line-trans h discarded (reaped_below discarded n) (discarded-line h n) (reaped-line discarded n)
 
 pub end-none : (s : SessionState) (before now : HostState) → before ≡ s.host → now ≡ finished before → IsSound s → ((d : ℕ) → named s.devices d ≡ None) → ((i : ℕ) → named s.interfaces i ≡ None) → (d : ℕ) → value_at now.devices d ≡ None
 end-none s before now same done sound closed none d =
-    ap (λ (h : HostState). value_at h.devices d) done ∙ ap (λ ds. value_at ds d) (finished-devices before) ∙ ap (λ (h : HostState). value_at h.devices d) same ∙ none-left s sound closed none d
+    ap (λ (h : HostState). value_at h.devices d) done ∙ ap (λ ds. value_at ds d) (finished-line before).devices ∙ ap (λ (h : HostState). value_at h.devices d) same ∙ none-left s sound closed none d
+
+-- once all is closed and each ticket has its end, nothing is kept
+pub end-empty : (s : SessionState) (before now : HostState) → before ≡ s.host → now ≡ finished before → IsSound s → ((d : ℕ) → named s.devices d ≡ None) → ((i : ℕ) → named s.interfaces i ≡ None) → ((e : ℕ) → named s.endpoints e ≡ None)
+    → EachIsOwned now.tickets now.endpoints now.interfaces → EachLives now.tickets now.endpoints → HasEnds now.tickets → IsEmpty now
+end-empty s before now same done sound devices interfaces endpoints owned alive ends =
+    let line : LineGoesOn s.host now = subst (LineGoesOn s.host) (sym (done ∙ ap finished same)) (finished-line s.host) in
+    closed_is_empty now (held-goes s.host now (counts-same s.host.devices now.devices line.devices) line.interfaces sound.devices_held) owned alive
+    (record {
+      devices = λ k o at.
+          sym (sound.devices_counted k o (ap (λ ds. value_at ds k) (sym line.devices) ∙ at))
+          ∙ count-no_device k s.devices (λ n j open_ same. none-some j (sym (devices n) ∙ open_));
+      interfaces = λ k c at. no-handles s sound interfaces k c (line.interfaces.was k c at);
+      endpoints = λ k e at. named-none s.host.endpoints s.endpoints endpoints sound.endpoints_named k e (line.endpoints.was k e at);
+      tickets = ends;
+    })

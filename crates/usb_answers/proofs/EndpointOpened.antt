@@ -1,5 +1,5 @@
 -- Endpoints of claimed interfaces are opened.
-use Rattle.std.proofs.Common.{◌≡◌, ◌≢◌, ℕ, ◌<◌, ◌≤◌, arith, List, [], length, map, Option, Some, None, Result, Ok, Err, true, false, refl, ap, sym, ◌∙◌, subst, slice_get, inl, inr}
+use Rattle.std.proofs.Common.{◌≡◌, ◌≢◌, ℕ, ◌<◌, ◌≤◌, arith, List, [], ◌∷◌, ◌++◌, length, map, Option, Some, None, Result, Ok, Err, true, false, refl, ap, sym, ◌∙◌, subst, slice_get, inl, inr}
 use Rattle.std.specs.Option.{option_map}
 use Rattle.usb_registry.specs.History.{value_at}
 use Rattle.usb_desc.specs.declared.types.Direction.{Direction}
@@ -32,6 +32,7 @@ use Rattle.usb_answers.proofs.CountedNames.{counted-goes}
 use Rattle.usb_answers.proofs.NameLemmas.{length-set_name, map-set, is_free-map, names-set}
 use Rattle.usb_answers.proofs.Called.{KeepsSession, sound-host, represents-host}
 use Rattle.usb_answers.proofs.Answering.{Gives, barred-gives, free_kept}
+use Rattle.usb_answers.proofs.NamedKeys.{none-bus, named-opened}
 
 -- a look at the active configuration
 asked-keeps : (h now : HostState) (key : ℕ) → h.steps ≡ [] → now ≡ host_asked h key → KeepsSession h now
@@ -49,6 +50,7 @@ asked-bus h now key is = ap bus_of (is ∙ asked-is h key)
 pub asked-sound : (s : SessionState) (now : HostState) (key : ℕ) → IsSound s → now ≡ host_asked s.host key → IsSound (record s { host = now })
 asked-sound s now key sound is =
     sound-host s now sound (asked-keeps s.host now key sound.idle is) (λ h stands. subst (λ (b : BusState). Stands b h) (sym (asked-bus s.host now key is)) stands)
+    (none-bus s.host now (asked-bus s.host now key is))
 
 pub asked-spare : (h now : HostState) (key : ℕ) → now ≡ host_asked h key → now.kernel.spare ≡ h.kernel.spare
 asked-spare h now key is = ap (λ (g : HostState). g.kernel.spare) (is ∙ asked-is h key)
@@ -62,6 +64,12 @@ opened-keeps h now key i address idle is =
       devices = subst (λ (g : HostState). KeepsCounts h.devices g.devices) (sym is) asked.devices;
       interfaces = subst (λ (g : HostState). ClaimsGoOn h.interfaces g.interfaces) (sym is) asked.interfaces;
     }
+
+-- which is the last
+opened-endpoints : (h now : HostState) (key i address : ℕ) → now ≡ with_endpoint (host_asked h key) i address → now.endpoints ≡ h.endpoints ++ Some (record { interface = Some i; address = address; is_open = true }) ∷ []
+opened-endpoints h now key i address is =
+    let e : HostEndpoint = record { interface = Some i; address = address; is_open = true } in
+    ap (λ (g : HostState). g.endpoints) is ∙ ap (λ (es : List (Option HostEndpoint)). es ++ Some e ∷ []) (ap (λ (g : HostState). g.endpoints) (asked-is h key))
 
 pub opened-spare : (h now : HostState) (key i address : ℕ) → now ≡ with_endpoint (host_asked h key) i address → now.kernel.spare ≡ h.kernel.spare
 opened-spare h now key i address is = ap (λ (g : HostState). g.kernel.spare) is ∙ asked-spare h (host_asked h key) key refl
@@ -98,6 +106,9 @@ endpoint-sound s now after e i address y c sound is key stands others free put =
           | inr therek ↦ sound.endpoints_differ j k g h therej.1 therek.1 apart
         ]
       ];
+      endpoints_named =
+          named-opened s.host.endpoints now.endpoints s.endpoints after e (record { interface = Some i; address = address; is_open = true }) y
+          (opened-endpoints s.host now c.opened i address is) key free put sound.endpoints_named;
     }
 
 -- the state in which it is open

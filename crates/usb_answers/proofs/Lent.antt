@@ -30,6 +30,7 @@ use Rattle.usb_answers.specs.OpenCalls.{CallKeeps, CallAnswers, with_called}
 use Rattle.usb_answers.proofs.Answering.{told-answered, answered-none, answered-some, none_kept, host_is}
 use Rattle.usb_device.proofs.ClaimFrames.{goes-trans}
 use Rattle.usb_answers.proofs.Called.{KeepsSession, represents-host, sound-host, sound-put, taken-map, open_at}
+use Rattle.usb_answers.proofs.NamedKeys.{OpensNone, none-goes, none-then}
 use Rattle.usb_answers.proofs.TakenOut.{made_with, PutBack, named-made, none_made, made-put, made-called}
 
 abbrev lent_host : HostState → List KernelStep → HostState
@@ -60,13 +61,18 @@ others-lent host now steps key others =
       keys = λ k apart is. ap (λ (f : ℕ → Bool). f k) later.keys ∙ others.keys k apart is;
     }
 
+none-lent : (host now : HostState) (steps : List KernelStep) → LineGoesOn (lent_host host steps) now → OpensNone host.endpoints (host_rest now).endpoints
+none-lent host now steps line =
+    none-then host.endpoints now.endpoints (host_rest now).endpoints (none-goes host.endpoints now.endpoints line.endpoints)
+    (none-goes now.endpoints (host_rest now).endpoints (went-rest now).line.endpoints)
+
 -- an endpoint was called between
 pub sound-lent : (i : Inside) (steps : List KernelStep) (at now last : HostState) (after : List (Option AnyEndpoint)) (e : ℕ) (x y : AnyEndpoint) → IsSound (made_of i) → at ≡ record i.host { steps = steps } → PutBack i.endpoints.items after e x y → CallKeeps at now (state_of x) (state_of y) → last ≡ host_rest now → IsSound (made_with i last after)
 sound-lent i steps at now last after e x y sound is back keeps rest =
     let k = subst (λ (h : HostState). CallKeeps h now (state_of x) (state_of y)) is keeps in
     subst (λ (h : HostState). IsSound (made_with i h after)) (sym rest)
     (sound-put (made_of i) (host_rest now) (map (option_map state_of) after) e (state_of x) (state_of y) sound (taken-map i.endpoints.items e x back.was) (made-put i after e x y back)
-    (keeps-lent i.host now steps k.line) (stands-rested now (state_of y) k.stands) k.key (others-lent i.host now steps (state_of x).key k.others))
+    (keeps-lent i.host now steps k.line) (stands-rested now (state_of y) k.stands) k.key (others-lent i.host now steps (state_of x).key k.others) (none-lent i.host now steps k.line))
 
 -- its answer, and then the rest of the steps
 rested-answered : (s : SessionState) (now : HostState) (before after : List ℕ) (a : Answer) → s.host ≡ now → Answered s before after a → Answered (record s { host = host_rest now }) before after (then_rested a)
@@ -101,7 +107,8 @@ sound-stepped i steps at last mid sound is rest none =
     subst (λ l. IsSound (made_with i last l)) (sym none)
     (subst (λ (h : HostState). IsSound (made_with i h i.endpoints.items)) (sym (rest ∙ ap host_rest is))
     (sound-host (made_of i) (host_rest (lent_host i.host steps)) sound (keeps-lent i.host (lent_host i.host steps) steps (line-keeps (lent_host i.host steps) (lent_host i.host steps) (keeps-open (lent_host i.host steps))))
-    (λ h stands. stands-rested (lent_host i.host steps) h (stands-lent i.host (lent_host i.host steps) steps h refl stands))))
+    (λ h stands. stands-rested (lent_host i.host steps) h (stands-lent i.host (lent_host i.host steps) steps h refl stands))
+    (none-lent i.host (lent_host i.host steps) steps (line-keeps (lent_host i.host steps) (lent_host i.host steps) (keeps-open (lent_host i.host steps))))))
 
 pub steps-represent : (i : Inside) (S : SessionState) (steps : List KernelStep) (at last : HostState) → made_of i ≡ S → at ≡ record i.host { steps = steps } → last ≡ host_rest at → (state : State) → Represents S state → Represents (made_with i last i.endpoints.items) (stepped_all state steps)
 unfolding stepped_all

@@ -23,6 +23,7 @@ pub mod InterfaceHandles
 pub mod Interfaces
 pub mod Lent
 pub mod NameLemmas
+pub mod NamedKeys
 pub mod OrderLemmas
 pub mod PlaceLemmas
 pub mod PollCode

@@ -1,5 +1,5 @@
 -- A session at its beginning.
-use Rattle.std.proofs.Common.{◌≡◌, ℕ, ◌≤◌, arith, List, [], length, map, replicate, Option, Some, None, refl, ap, sym, ◌∙◌, subst, slice_get}
+use Rattle.std.proofs.Common.{◌≡◌, ℕ, ◌≤◌, arith, List, [], length, map, replicate, Option, Some, None, true, false, refl, ap, sym, ◌∙◌, subst, slice_get}
 use Rattle.std.specs.Prelude.{max}
 use Rattle.std.specs.Option.{option_map}
 use Rattle.std.proofs.lemmas.List.{length-replicate}
@@ -15,8 +15,9 @@ use Rattle.usb_setup.specs.Packets.{packets_of}
 use Rattle.usb_endpoint.specs.declared.any_endpoint.AnyEndpoint.{AnyEndpoint}
 use Rattle.usb_endpoint.specs.EndpointState.{EndpointState}
 use Rattle.usb_endpoint.specs.AnyEndpoints.{state_of}
-use Rattle.usb_ledger.specs.Entries.{ClaimedInterface}
+use Rattle.usb_ledger.specs.Entries.{ClaimedInterface, HostEndpoint}
 use Rattle.usb_device.specs.HostState.{HostState, host_of}
+use Rattle.usb_device.specs.HostBus.{key_at}
 use Rattle.usb_device.specs.HandleStates.{InterfaceState}
 use Rattle.usb_script.specs.declared.item.Item.{Item}
 use Rattle.usb_script.specs.ItemKinds.{place_count}
@@ -47,8 +48,8 @@ nobody {X} n e x is = none-some x (sym (named-replicate n e) ∙ is)
 abbrev pub empty_session : Tree → List UdevPacket → HostState → SessionState
 empty_session t p host = record { host = host; devices = replicate 64 None; interfaces = replicate 64 None; endpoints = replicate 64 None; tree = t; packets = p }
 
-empty-sound : (t : Tree) (p : List UdevPacket) (host : HostState) → host.steps ≡ [] → host.interfaces ≡ [] → host.devices ≡ [] → IsSound (empty_session t p host)
-empty-sound t p host idle none nothing =
+empty-sound : (t : Tree) (p : List UdevPacket) (host : HostState) → host.steps ≡ [] → host.interfaces ≡ [] → host.devices ≡ [] → host.endpoints ≡ [] → IsSound (empty_session t p host)
+empty-sound t p host idle none nothing closed =
     record {
       idle = idle;
       device_names = length-replicate {A = Option ℕ} 64 None;
@@ -65,6 +66,7 @@ empty-sound t p host idle none nothing =
       interfaces_counted = λ key c at. absurd (none-some c (sym (ap (λ (l : List (Option ClaimedInterface)). value_at l key) none) ∙ at));
       endpoints_stand = λ e h is. absurd (nobody 64 e h is);
       endpoints_differ = λ d e g h isg ish apart. absurd (nobody 64 d g isg);
+      endpoints_named = λ key open_. let no_ : false ≡ true = sym (ap (λ (es : List (Option HostEndpoint)). key_at es key) closed) ∙ open_ in absurd (cc);
     }
 
 made-empty : (t : Tree) (p : List UdevPacket) (host : HostState) (ds : List (Option ℕ)) (is : List (Option InterfaceState)) (es : List (Option AnyEndpoint)) → ds ≡ replicate 64 None → is ≡ replicate 64 None → es ≡ replicate 64 None → session_made t p host ds is es ≡ empty_session t p host
@@ -84,9 +86,13 @@ start-devices : (items : List Item) → (start items).host.devices ≡ []
 unfolding start
 start-devices items = refl
 
+start-endpoints : (items : List Item) → (start items).host.endpoints ≡ []
+unfolding start
+start-endpoints items = refl
+
 pub sound-start : (items : List Item) (t : Tree) (p : List UdevPacket) (host : HostState) (ds : List (Option ℕ)) (is : List (Option InterfaceState)) (es : List (Option AnyEndpoint)) → host ≡ (start items).host → ds ≡ replicate 64 None → is ≡ replicate 64 None → es ≡ replicate 64 None → IsSound (session_made t p host ds is es)
 sound-start items t p host ds is es start_ d i e =
-    subst IsSound (sym (made-empty t p host ds is es d i e)) (empty-sound t p host (ap (λ (h : HostState). h.steps) start_ ∙ start-steps items) (ap (λ (h : HostState). h.interfaces) start_ ∙ start-interfaces items) (ap (λ (h : HostState). h.devices) start_ ∙ start-devices items))
+    subst IsSound (sym (made-empty t p host ds is es d i e)) (empty-sound t p host (ap (λ (h : HostState). h.steps) start_ ∙ start-steps items) (ap (λ (h : HostState). h.interfaces) start_ ∙ start-interfaces items) (ap (λ (h : HostState). h.devices) start_ ∙ start-devices items) (ap (λ (h : HostState). h.endpoints) start_ ∙ start-endpoints items))
 
 empty-start : (items : List Item) → empty_session (tree_of items) (packets_of items) (start items).host ≡ session_of (start items)
 unfolding start

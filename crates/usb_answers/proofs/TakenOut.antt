@@ -24,6 +24,7 @@ use Rattle.usb_answers.specs.OpenCalls.{CallKeeps, CallAnswers, with_called}
 use Rattle.usb_answers.proofs.Answering.{told-answered, answered-none, answered-some, none_kept}
 use Rattle.usb_answers.proofs.NameLemmas.{named-map, freed-none, freed-free, put-changed}
 use Rattle.usb_answers.proofs.Called.{KeepsSession, open_at, sound-put, taken-map, put-map}
+use Rattle.usb_answers.proofs.NamedKeys.{none-goes}
 
 -- a session with another host and other endpoints
 abbrev pub made_with : Inside → HostState → List (Option AnyEndpoint) → SessionState
@@ -64,6 +65,7 @@ made-put i after e x y back = put-map i.endpoints.items (freed i.endpoints.items
 pub sound-called : (i : Inside) (now : HostState) (after : List (Option AnyEndpoint)) (e : ℕ) (x y : AnyEndpoint) → IsSound (made_of i) → PutBack i.endpoints.items after e x y → CallKeeps i.host now (state_of x) (state_of y) → IsSound (made_with i now after)
 sound-called i now after e x y sound back keeps =
     sound-put (made_of i) now (map (option_map state_of) after) e (state_of x) (state_of y) sound (taken-map i.endpoints.items e x back.was) (made-put i after e x y back) (keeps-line i.host now sound.idle keeps.line) keeps.stands keeps.key keeps.others
+    (none-goes i.host.endpoints now.endpoints keeps.line.endpoints)
 
 pub made-called : (i : Inside) (S : SessionState) (now : HostState) (after : List (Option AnyEndpoint)) (e : ℕ) (x y : AnyEndpoint) → made_of i ≡ S → PutBack i.endpoints.items after e x y → with_called S e now (state_of y) ≡ made_with i now after
 made-called i S now after e x y view back =

@@ -108,6 +108,7 @@ sound-packets s after sound =
       interfaces_counted = sound.interfaces_counted;
       endpoints_stand = sound.endpoints_stand;
       endpoints_differ = sound.endpoints_differ;
+      endpoints_named = sound.endpoints_named;
     }
 
 -- the device of a folder is opened as one is at its bus and its address

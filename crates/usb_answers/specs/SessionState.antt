@@ -1,15 +1,15 @@
 -- What a session is to its users.
-use Rattle.std.specs.Prelude.{ℕ, ◌≡◌, ◌≢◌, ◌<◌, ◌==◌, Bool, false, List, [], Option, Some, None, length}
+use Rattle.std.specs.Prelude.{ℕ, ◌≡◌, ◌≢◌, ◌<◌, ◌==◌, Bool, true, false, List, [], Option, Some, None, length}
 use Rattle.std.specs.List.{count_by}
 use Rattle.usb_registry.specs.History.{value_at}
 use Rattle.usb_sysfs.specs.Tree.{Tree}
 use Rattle.usb_enum.specs.declared.hotplug.UdevPacket.{UdevPacket}
 use Rattle.usb_endpoint.specs.EndpointState.{EndpointState}
 use Rattle.usb_endpoint.specs.Handles.{Stands}
-use Rattle.usb_ledger.specs.Entries.{ClaimedInterface}
+use Rattle.usb_ledger.specs.Entries.{ClaimedInterface, HostEndpoint}
 use Rattle.usb_ledger.specs.declared.opened.OpenDevice.{OpenDevice}
 use Rattle.usb_device.specs.HostState.{HostState}
-use Rattle.usb_device.specs.HostBus.{bus_of}
+use Rattle.usb_device.specs.HostBus.{bus_of, key_at}
 use Rattle.usb_device.specs.HandleStates.{InterfaceState, StandsDevice, StandsInterface}
 use Rattle.usb_device.specs.DeviceLaws.{DevicesAreHeld}
 use Rattle.usb_answers.specs.Names.{named}
@@ -34,8 +34,20 @@ abbrev pub is_device_of : ℕ → Option ℕ → Bool
 is_device_of key None = false
 is_device_of key (Some k) = k == key
 
+-- the endpoint of a key is open under a name
+pub record IsNamed (endpoints : List (Option EndpointState)) (key : ℕ) : Type 0 where
+  pub name : ℕ
+  pub endpoint : EndpointState
+  pub at : named endpoints name ≡ Some endpoint
+  pub key_is : endpoint.key ≡ key
+
+-- each endpoint that is open at the host is so
+abbrev pub EndpointsAreNamed : List (Option HostEndpoint) → List (Option EndpointState) → Type 0
+EndpointsAreNamed opened endpoints = (key : ℕ) → key_at opened key ≡ true → IsNamed endpoints key
+
 -- between calls no step is left; there are 64 names of each kind; what is open under a name stands in the host; a device and an interface have as many open handles as there
--- are names of them; each device that the host keeps is held; and no endpoint is open under two names
+-- are names of them; each device that the host keeps is held; no endpoint is open under two names; and each that is open at the host
+-- is open under one
 pub record IsSound (s : SessionState) : Type 0 where
   pub idle : s.host.steps ≡ []
   pub device_names : length s.devices ≡ 64
@@ -48,3 +60,4 @@ pub record IsSound (s : SessionState) : Type 0 where
   pub interfaces_counted : (key : ℕ) (c : ClaimedInterface) → value_at s.host.interfaces key ≡ Some c → count_by (is_handle_of key) s.interfaces ≡ c.handles
   pub endpoints_stand : (e : ℕ) (h : EndpointState) → named s.endpoints e ≡ Some h → Stands (bus_of s.host) h
   pub endpoints_differ : (d e : ℕ) (g h : EndpointState) → named s.endpoints d ≡ Some g → named s.endpoints e ≡ Some h → d ≢ e → g.key ≢ h.key
+  pub endpoints_named : EndpointsAreNamed s.host.endpoints s.endpoints

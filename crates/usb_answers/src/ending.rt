@@ -52,13 +52,17 @@ impl Session {
 
     /// Closes what is open, endpoints by number, then interfaces and then devices by number; and gives the host, at which all
     /// tickets are discarded and then reaped, by number. Then each ticket has its completion and its end, and the host keeps
-    /// no open device.
+    /// no open device, no claimed interface and no endpoint.
     pub fn end(self) -> Host
         ensures host { (state : State) → Represents self state → result ≡ ended state }
         ensures ended { (state : State) → Represents self state → Accounted state →
             HasEnds result.tickets }
         ensures reaped { HasCompletions result.kernel.past }
         ensures none_open { (d : ℕ) → value_at result.devices d ≡ None }
+        ensures none_claimed { (state : State) → Represents self state → Accounted state →
+            (i : ℕ) → value_at result.interfaces i ≡ None }
+        ensures none_left { (state : State) → Represents self state → Accounted state →
+            (k : ℕ) → value_at result.endpoints k ≡ None }
     {
         let mut session = self;
         session.close_endpoints();
@@ -76,6 +80,7 @@ impl Session {
         drop_names(interfaces);
         drop_names(devices);
         host.finish();
+        host.nothing_is_kept_that_has_gone();
         host
     }
 }

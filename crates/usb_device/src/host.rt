@@ -27,6 +27,7 @@ ghost use Rattle.usb_device.specs.HostFacts.{TicketsAgree, host_made};
 ghost use Rattle.usb_device.specs.HostLaws.{held-owned, value-held};
 ghost use Rattle.usb_device.specs.HostTurns.{host_stepped, host_reaped, host_turned, host_turn, host_rest};
 ghost use Rattle.usb_ledger.specs.LedgerState.{ticket_key, host_ticket};
+ghost use Rattle.usb_ledger.specs.Kept.{EachIsOwned, EachLives};
 ghost use Rattle.usb_device.specs.Releases.{without_ended};
 ghost use Rattle.usb_device.specs.TicketEnds.{host_ended, host_taken, host_abandoned, came};
 
@@ -152,6 +153,15 @@ impl Host {
         ensures live { result ≡ live_count self.now.endpoints }
     {
         self.ledger.endpoint_count()
+    }
+
+    /// Nothing is kept that has gone: each claimed interface has an owner, and each endpoint lives.
+    /// That is so of all hosts, and the call does nothing.
+    pub fn nothing_is_kept_that_has_gone(&self)
+        ensures owned { EachIsOwned self.now.tickets self.now.endpoints self.now.interfaces }
+        ensures alive { EachLives self.now.tickets self.now.endpoints }
+    {
+        self.ledger.nothing_is_kept_that_has_gone();
     }
 
     /// The kernel.

@@ -3,3 +3,4 @@ pub mod ListLemmas
 pub mod OwnerLemmas
 pub mod LedgerLemmas
 pub mod OwnedRows
+pub mod KeptLemmas

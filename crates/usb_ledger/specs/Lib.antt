@@ -7,3 +7,4 @@ pub mod OwnerFacts
 pub mod LedgerState
 pub mod LedgerFacts
 pub mod Devices
+pub mod Kept

@@ -8,6 +8,7 @@ ghost use Rattle.usb_ledger.specs.Owners.{is_used_among, has_living, is_owned_am
 ghost use Rattle.usb_ledger.specs.Releases.{claim_of, claim_ended, without_claim, interface_at};
 ghost use Rattle.usb_ledger.specs.EndedTickets.{end_at};
 ghost use Rattle.usb_ledger.specs.Entries.{fresh_interface};
+ghost use Rattle.usb_ledger.specs.Kept.{EachIsOwned, EachLives};
 ghost use Rattle.usb_ledger.specs.LedgerState.{host_ticket, tickets_in, ticket_key, slot_data, slot_with, slot_without, ended_with, left_with, abandoned_key};
 
 use crate::ends::TicketEnd;
@@ -306,6 +307,15 @@ impl Ledger {
         ensures holds_all { live_count self.now.interfaces ≤ result }
     {
         self.owners.claim_capacity()
+    }
+
+    /// Nothing is kept that has gone: each interface has an owner, and each endpoint lives. That is
+    /// so of all ledgers, and the call does nothing.
+    pub fn nothing_is_kept_that_has_gone(&self)
+        ensures owned { EachIsOwned (tickets_in self.now) self.now.endpoints self.now.interfaces }
+        ensures alive { EachLives (tickets_in self.now) self.now.endpoints }
+    {
+        self.owners.nothing_is_kept_that_has_gone();
     }
 
     /// How many endpoints are kept.

@@ -1,15 +1,15 @@
 //! Who owns the claimed interfaces, and which of their endpoints are in use, kept as counts and
 //! bits.
 
-ghost use Rattle.std.specs.Prelude.{◌≡◌, ◌+◌, ◌-◌, ◌^◌, ◌<◌, ◌≤◌, ◌++◌, ◌∷◌, [], length, set, true, false, IfSome, IsSome, nat_lt, slice_get, option_and_then, Some, None, OnOk, OnErr, IfOk};
+ghost use Rattle.std.specs.Prelude.{ℕ, ◌≡◌, ◌+◌, ◌-◌, ◌^◌, ◌<◌, ◌≤◌, ◌++◌, ◌∷◌, [], length, set, true, false, IfSome, IsSome, nat_lt, slice_get, option_and_then, Some, None, OnOk, OnErr, IfOk};
 ghost use Rattle.std.specs.Option.{ForSome};
 ghost use Rattle.std.specs.List.{list_any, count_by};
 ghost use Rattle.std.specs.FinSet as bits;
 ghost use Rattle.usb_desc.specs.BitSet.{bit_of, members};
 ghost use Rattle.usb_registry.specs.History.{value_at, live_count};
-ghost use Rattle.usb_ledger.specs.Entries.{fresh_interface};
+ghost use Rattle.usb_ledger.specs.Entries.{ClaimedInterface, fresh_interface};
 ghost use Rattle.usb_ledger.specs.Releases.{without_claim};
-ghost use Rattle.usb_ledger.specs.OwnerRows.{OwnersState, claim_state, claim_if, is_alive, is_alive_on, is_counted, uses_row, interface_of_row, with_row, rows_left, row_gone, claim_gone};
+ghost use Rattle.usb_ledger.specs.OwnerRows.{OwnersState, AreAlive, claim_state, claim_if, is_alive, is_alive_on, is_counted, uses_row, interface_of_row, with_row, rows_left, row_gone, claim_gone};
 
 use std::alloc::Global;
 use std::marker::Model;
@@ -390,6 +390,16 @@ impl Owners {
         ensures holds_all { live_count self.now.interfaces ≤ result }
     {
         self.claims.capacity()
+    }
+
+    /// Nothing is kept that has gone: each interface has an owner, and each endpoint lives. That is
+    /// so of all owners, and the call does nothing.
+    pub fn nothing_is_kept_that_has_gone(&self)
+        ensures owned { (i : ℕ) (c : ClaimedInterface) →
+            value_at self.now.interfaces i ≡ Some c → is_counted self.now.rows i c ≡ true }
+        ensures alive { AreAlive self.now.rows }
+    {
+        let _ = &self.rows;
     }
 
     /// How many endpoints are kept.

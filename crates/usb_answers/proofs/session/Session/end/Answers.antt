@@ -1,12 +1,16 @@
-use Rattle.std.proofs.Common.{◌≡◌, ◌∙◌, ap, sym, map, refl}
+use Rattle.std.proofs.Common.{◌≡◌, ◌∙◌, ℕ, None, ap, sym, map, refl}
 use Rattle.std.specs.Option.{option_map}
 use Rattle.usb_endpoint.specs.AnyEndpoints.{state_of}
-use Rattle.usb_device.specs.Finishes.{finished}
+use Rattle.usb_device.specs.Finishes.{HasEnds}
+use Rattle.usb_device.specs.ClosedLaws.{IsEmpty}
 use Rattle.usb_answers.specs.Names.{named}
-use Rattle.usb_answers.specs.Ends.{endpoints_closed, interfaces_closed}
+use Rattle.usb_answers.specs.State.{State}
+use Rattle.usb_answers.specs.Ends.{endpoints_closed, interfaces_closed, devices_closed}
+use Rattle.usb_answers.specs.Relation.{Represents}
+use Rattle.usb_answers.specs.Accounts.{Accounted}
 use Rattle.usb_answers.specs.SessionState.{SessionState}
 use Rattle.usb_answers.specs.SessionFacts.{made_of}
-use Rattle.usb_answers.proofs.EndLemmas.{none-all, none-endpoints, end-host, end-ended, end-none}
+use Rattle.usb_answers.proofs.EndLemmas.{none-all, none-endpoints, end-host, end-ended, end-none, end-empty}
 use Rattle.usb_answers.proofs.session.Session.end.Goals as goal
 
 pub drop_names-requires : goal.drop_names-requires
@@ -32,25 +36,32 @@ drop_names-requires-3 c = record {
 }
 
 pub returns : goal.returns
-returns c = record {
-  host =
-      λ state r. end-host c.close_devices.new.self c.session.inside.host c.finish.new.self state
-      (sym (ap (λ (v : SessionState). v.host) c.session.view_is))
-      c.finish.ensures.finished
-      (c.close_devices.ensures.stands (interfaces_closed (endpoints_closed state 64) 64) (c.close_interfaces.ensures.stands (endpoints_closed state 64) (c.close_endpoints.ensures.stands state r)));
-  ended =
-      λ state r a. end-ended c.close_devices.new.self c.session.inside.host c.finish.new.self state
-      (ap (λ (v : SessionState). v.host) c.session.view_is)
-      (λ n. sym (ap (λ (v : SessionState). named v.endpoints n) c.session.view_is) ∙
-      none-all (map (option_map state_of) c.session.inside.endpoints.items) c.session.invariant.endpoint_names
-      (λ n below. ap (λ (v : SessionState). named v.endpoints n) c.session.view_is ∙ ap (λ l. named l n) (c.close_devices.ensures.endpoints ∙ c.close_interfaces.ensures.endpoints) ∙ c.close_endpoints.ensures.none n below) n)
-      (c.close_devices.ensures.stands (interfaces_closed (endpoints_closed state 64) 64) (c.close_interfaces.ensures.stands (endpoints_closed state 64) (c.close_endpoints.ensures.stands state r)))
-      a c.finish.ensures.ended;
-  reaped = c.finish.ensures.reaped;
-  none_open =
-      end-none (made_of c.session.inside) c.session.inside.host c.finish.new.self refl c.finish.ensures.finished c.session.invariant
-      (none-all c.session.inside.devices.items c.session.invariant.device_names
-      (λ n below. ap (λ (v : SessionState). named v.devices n) c.session.view_is ∙ c.close_devices.ensures.none n below))
-      (none-all c.session.inside.interfaces.items c.session.invariant.interface_names
-      (λ n below. ap (λ (v : SessionState). named v.interfaces n) c.session.view_is ∙ ap (λ l. named l n) c.close_devices.ensures.interfaces ∙ c.close_interfaces.ensures.none n below));
-}
+returns c =
+    let s = made_of c.session.inside in
+    let before = c.session.inside.host in
+    let now = c.finish.new.self in
+    let no_devices : (d : ℕ) → named s.devices d ≡ None =
+    none-all s.devices c.session.invariant.device_names
+    (λ n below. ap (λ (v : SessionState). named v.devices n) c.session.view_is ∙ c.close_devices.ensures.none n below) in
+    let no_interfaces : (i : ℕ) → named s.interfaces i ≡ None =
+    none-all s.interfaces c.session.invariant.interface_names
+    (λ n below. ap (λ (v : SessionState). named v.interfaces n) c.session.view_is ∙ ap (λ l. named l n) c.close_devices.ensures.interfaces ∙ c.close_interfaces.ensures.none n below) in
+    let no_endpoints : (e : ℕ) → named s.endpoints e ≡ None =
+    none-all s.endpoints c.session.invariant.endpoint_names
+    (λ n below. ap (λ (v : SessionState). named v.endpoints n) c.session.view_is ∙ ap (λ l. named l n) (c.close_devices.ensures.endpoints ∙ c.close_interfaces.ensures.endpoints) ∙ c.close_endpoints.ensures.none n below) in
+    let stands : (state : State) → Represents c.args.self state → Represents c.close_devices.new.self (devices_closed (interfaces_closed (endpoints_closed state 64) 64) 64) =
+    λ state r. c.close_devices.ensures.stands (interfaces_closed (endpoints_closed state 64) 64) (c.close_interfaces.ensures.stands (endpoints_closed state 64) (c.close_endpoints.ensures.stands state r)) in
+    let ends : (state : State) → Represents c.args.self state → Accounted state → HasEnds now.tickets =
+    λ state r a. end-ended c.close_devices.new.self before now state (ap (λ (v : SessionState). v.host) c.session.view_is)
+    (λ n. sym (ap (λ (v : SessionState). named v.endpoints n) c.session.view_is) ∙ no_endpoints n)
+    (stands state r) a c.finish.ensures.ended in
+    let empty : (state : State) → Represents c.args.self state → Accounted state → IsEmpty now =
+    λ state r a. end-empty s before now refl c.finish.ensures.finished c.session.invariant no_devices no_interfaces no_endpoints c.nothing_is_kept_that_has_gone.ensures.owned c.nothing_is_kept_that_has_gone.ensures.alive (ends state r a) in
+    record {
+      host = λ state r. end-host c.close_devices.new.self before now state (sym (ap (λ (v : SessionState). v.host) c.session.view_is)) c.finish.ensures.finished (stands state r);
+      ended = ends;
+      reaped = c.finish.ensures.reaped;
+      none_open = end-none s before now refl c.finish.ensures.finished c.session.invariant no_devices no_interfaces;
+      none_claimed = λ state r a. (empty state r a).interfaces;
+      none_left = λ state r a. (empty state r a).endpoints;
+    }
