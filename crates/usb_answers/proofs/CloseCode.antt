@@ -5,20 +5,20 @@ use Rattle.std.specs.declared.alloc.Global.{Global}
 use Rattle.std.proofs.lemmas.Bool.{cond_both, eq-eqb}
 use Rattle.usb_bus.specs.BusState.{BusState, without_key}
 use Rattle.std.specs.Option.{option_map}
-use Rattle.usb_device.proofs.ClaimFrames.{goes-trans}
-use Rattle.usb_device.proofs.DeviceLemmas.{counts-same}
+use Rattle.usb_host.proofs.ClaimFrames.{goes-trans}
+use Rattle.usb_ledger.proofs.DeviceLemmas.{counts-same}
 use Rattle.usb_endpoint.specs.declared.any_endpoint.AnyEndpoint.{AnyEndpoint}
 use Rattle.usb_endpoint.specs.AnyEndpoints.{state_of}
 use Rattle.usb_endpoint.specs.EndpointState.{EndpointState}
 use Rattle.usb_endpoint.specs.Handles.{KeepsOthers}
 use Rattle.usb_endpoint.specs.Closes.{all_discarded, all_abandoned, after_close}
-use Rattle.usb_device.specs.HostState.{HostState}
-use Rattle.usb_device.specs.HostBus.{bus_of, key_at}
-use Rattle.usb_device.specs.HostFrames.{LineGoesOn}
-use Rattle.usb_device.specs.HostCalls.{host_discarded, host_left}
-use Rattle.usb_device.specs.TicketEnds.{host_abandoned}
-use Rattle.usb_device.proofs.CallFrames.{keeps-open, keeps-abandoned, line-left, interfaces-left, bus-left}
-use Rattle.usb_device.proofs.WaitFrames.{line-keeps, line-trans}
+use Rattle.usb_host.specs.HostState.{HostState}
+use Rattle.usb_host.specs.HostBus.{bus_of, key_at}
+use Rattle.usb_host.specs.HostFrames.{LineGoesOn}
+use Rattle.usb_host.specs.HostCalls.{host_discarded, host_left}
+use Rattle.usb_host.specs.TicketEnds.{host_abandoned}
+use Rattle.usb_host.proofs.CallFrames.{keeps-open, keeps-abandoned, line-left, interfaces-left, bus-left}
+use Rattle.usb_host.proofs.WaitFrames.{line-keeps, line-trans}
 use Rattle.usb_lines.specs.Calls.{condition_line, ok_line}
 use Rattle.usb_answers.specs.declared.session.Session.TheInside.{Inside}
 use Rattle.usb_answers.specs.Names.{named, freed}

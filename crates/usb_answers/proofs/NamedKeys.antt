@@ -8,9 +8,9 @@ use Rattle.usb_registry.proofs.ValueLemmas.{value-pushed}
 use Rattle.usb_bus.specs.BusState.{BusState}
 use Rattle.usb_endpoint.specs.EndpointState.{EndpointState}
 use Rattle.usb_ledger.specs.Entries.{HostEndpoint}
-use Rattle.usb_device.specs.HostState.{HostState}
-use Rattle.usb_device.specs.HostBus.{bus_of, key_at}
-use Rattle.usb_device.specs.HostFrames.{EndpointsGoOn}
+use Rattle.usb_host.specs.HostState.{HostState}
+use Rattle.usb_host.specs.HostBus.{bus_of, key_at}
+use Rattle.usb_host.specs.HostFrames.{EndpointsGoOn}
 use Rattle.usb_answers.specs.Names.{named, is_free, freed, set_name}
 use Rattle.usb_answers.specs.SessionState.{IsNamed, EndpointsAreNamed}
 use Rattle.usb_answers.proofs.NameLemmas.{free_place, named_of, named-set, named-set_other, named-freed_other, freed-free}

@@ -1,11 +1,11 @@
 -- Control transfers at a host.
 use Rattle.std.specs.Prelude.{ℕ, ◌≡◌, true, false, Some}
-use Rattle.usb_device.specs.HostState.{HostState}
-use Rattle.usb_device.specs.HostBus.{owner_at, key_at}
-use Rattle.usb_device.specs.HostCalls.{host_left}
-use Rattle.usb_device.specs.HostWaits.{is_found}
-use Rattle.usb_device.specs.HostAwaits.{deadline_of, host_awaited}
-use Rattle.usb_device.specs.TicketEnds.{host_taken, host_abandoned}
+use Rattle.usb_host.specs.HostState.{HostState}
+use Rattle.usb_host.specs.HostBus.{owner_at, key_at}
+use Rattle.usb_host.specs.HostCalls.{host_left}
+use Rattle.usb_host.specs.HostWaits.{is_found}
+use Rattle.usb_host.specs.HostAwaits.{deadline_of, host_awaited}
+use Rattle.usb_host.specs.TicketEnds.{host_taken, host_abandoned}
 
 -- a future: the key of its control endpoint, the ticket that this holds, and the ticket's deadline
 pub record FutureState : Type 0 where

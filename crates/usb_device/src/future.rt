@@ -2,11 +2,11 @@
 
 ghost use Rattle.std.specs.Prelude.{◌≡◌, ◌≢◌, ℕ, true, Some, None, IfSome, IfNone};
 ghost use Rattle.usb_bus.specs.Completions.{transfer_completion};
-ghost use Rattle.usb_device.specs.HostState.{HostState};
-ghost use Rattle.usb_device.specs.HostBus.{owner_at, key_at, bus_of};
-ghost use Rattle.usb_device.specs.HostCalls.{host_left};
-ghost use Rattle.usb_device.specs.HostWaits.{is_found};
-ghost use Rattle.usb_device.specs.TicketEnds.{host_taken, host_abandoned};
+ghost use Rattle.usb_host.specs.HostState.{HostState};
+ghost use Rattle.usb_host.specs.HostBus.{owner_at, key_at, bus_of};
+ghost use Rattle.usb_host.specs.HostCalls.{host_left};
+ghost use Rattle.usb_host.specs.HostWaits.{is_found};
+ghost use Rattle.usb_host.specs.TicketEnds.{host_taken, host_abandoned};
 ghost use Rattle.usb_device.specs.Futures.{FutureState, StandsFuture, future_taken, future_closed, future_awaited};
 
 use crate::host::Host;

@@ -1,5 +1,5 @@
 use Rattle.std.proofs.Common.{◌∙◌, ap, sym, ℕ, Option, Some}
-use Rattle.usb_device.specs.HostBus.{owner_at}
+use Rattle.usb_host.specs.HostBus.{owner_at}
 use Rattle.usb_device.specs.Futures.{FutureState}
 use Rattle.usb_device.proofs.future.TransferFuture.wait.Goals as goal
 
