@@ -1,5 +1,5 @@
 -- The open devices of a host over all calls.
-use Rattle.std.proofs.Common.{ℕ, zero, suc, ◌≡◌, ◌≢◌, ◌≤◌, ◌<◌, ◌+◌, ◌-◌, arith, Bool, true, false, cond, List, [], ◌∷◌, length, set, slice_get, Option, Some, None, refl, ap, sym, ◌∙◌, Result, Ok, Err, inl, inr}
+use Rattle.std.proofs.Common.{ℕ, zero, suc, ◌≡◌, arith, Bool, true, cond, List, [], ◌∷◌, length, slice_get, Option, Some, None, refl, ap, sym, ◌∙◌, Result, Ok, Err, inl, inr}
 use Rattle.std.specs.Prelude.{is_some, nat_lt}
 use Rattle.std.proofs.lemmas.Bool.{cond_both, cases_eq}
 use Rattle.usb_simulated.specs.declared.step.KernelStep.{KernelStep}
@@ -22,7 +22,7 @@ use Rattle.usb_host.specs.TicketEnds.{ended_as, host_ended, host_taken, given_up
 use Rattle.usb_host.specs.HostTurns.{with_past, host_stepped, host_reaped, host_turned, host_rest}
 use Rattle.usb_host.specs.HostCalls.{host_submitted, host_refused, host_discarded, host_left, host_idled}
 use Rattle.usb_host.specs.HostWaits.{is_found, reap_and, host_waited}
-use Rattle.usb_host.specs.HostBlocking.{or_then, host_blocked}
+use Rattle.usb_host.specs.HostBlocking.{host_blocked}
 use Rattle.usb_host.specs.HostAwaits.{sought_reaps, sought_steps, host_awaited}
 use Rattle.usb_host.specs.Finishes.{discarded_below, reaped_below, finished}
 use Rattle.usb_device.specs.HandleStates.{InterfaceState, StandsDevice, StandsInterface}
@@ -32,14 +32,13 @@ use Rattle.usb_host.specs.InterfaceClaims.{host_claimed}
 use Rattle.usb_host.specs.EndpointOpens.{host_asked}
 use Rattle.usb_host.specs.OnDevices.{host_detached, detached_on, host_attached, attached_on, host_configured, configured_on, configured_unless, set_configuration_errno, host_speed_asked, speed_asked_on, host_reset, reset_on}
 use Rattle.usb_host.specs.OnInterfaces.{alt_setting_errno, setting_unless, alt_setting_asked, alt_setting_on, alt_setting_set}
-use Rattle.usb_device.specs.DeviceLaws.{DevicesAreHeld}
-use Rattle.usb_device.specs.HeldLaws.{KeepsDevice, KeepsDevices, KeepsOtherDevices, KeepsHeld, DevicesStayHeld}
+use Rattle.usb_device.specs.HeldLaws.{KeepsDevices, KeepsOtherDevices, KeepsHeld, DevicesStayHeld}
 use Rattle.usb_host.proofs.HostFrames.{ended_as-is, ended_as-goes, came-is, came-goes}
 use Rattle.usb_host.proofs.ClaimFrames.{goes-same, goes-refl, goes-trans}
 use Rattle.usb_host.proofs.CallFrames.{keeps-submitted, keeps-refused, line-left, interfaces-left}
 use Rattle.usb_host.proofs.WaitFrames.{went-rest, went-turned, went-waited, went-blocked}
 use Rattle.usb_host.proofs.HostKeeps.{KeepsOpen}
-use Rattle.usb_host.proofs.InterfaceFrames.{opened-is, asked-is, asked-counts}
+use Rattle.usb_host.proofs.InterfaceFrames.{asked-is, asked-counts}
 use Rattle.usb_ledger.proofs.DeviceLemmas.{KeepsCounts, KeepsOpened, counts_of, counts-same, counts-set, counted-new, changed-at, changed-other, held-handle_more}
 use Rattle.usb_device.proofs.HeldDevices.{held-goes, held-written, held-start, held-opened, held-device_cloned, held-device_closed, held-claimed, held-handle_cloned, held-handle_closed, opened-claimed, opened-handle_closed}
 

@@ -1,8 +1,8 @@
 -- The owners of interfaces over the calls of endpoints, devices and interfaces.
-use Rattle.std.proofs.Common.{ℕ, arith, ◌≡◌, ◌≢◌, ◌+◌, ◌-◌, ◌<◌, ◌≤◌, length-set, Bool, true, false, cond, List, [], ◌∷◌, ◌++◌, length, set, slice_get, Option, Some, None, inl, inr, refl, sym, ◌∙◌, ap, subst}
+use Rattle.std.proofs.Common.{ℕ, arith, ◌≡◌, ◌≢◌, ◌+◌, ◌-◌, ◌≤◌, length-set, Bool, true, false, cond, List, [], ◌∷◌, ◌++◌, length, set, Option, Some, None, inl, inr, refl, sym, ◌∙◌, ap, subst}
 use Rattle.std.specs.Prelude.{◌||◌, nat_lt}
 use Rattle.std.specs.Option.{option_map, option_map_or}
-use Rattle.std.proofs.lemmas.Bool.{cases_eq, eq-eqb, ne_eqb, lt-ltb}
+use Rattle.std.proofs.lemmas.Bool.{cases_eq, eq-eqb, ne_eqb}
 use Rattle.std.proofs.lemmas.Option.{same_Some}
 use Rattle.usb_xfer.specs.BufferState.{BufferState}
 use Rattle.usb_xfer.specs.declared.transfer.TransferData.{TransferData}
@@ -25,7 +25,7 @@ use Rattle.usb_ledger.specs.Entries.{ClaimedInterface, HostTicket, HostEndpoint,
 use Rattle.usb_host.specs.HostState.{HostState}
 use Rattle.usb_host.specs.HostBus.{key_at}
 use Rattle.usb_ledger.specs.Owners.{is_ticket_of, if_there, lives, is_of, lives_on, has_living, is_owned_among}
-use Rattle.usb_device.specs.OwnerLaws.{KeepsOwned, KeepsClaimed, KeepsClaims, KeepsOthers, KeepsHandles, EndpointsLive, IsOwned}
+use Rattle.usb_device.specs.OwnerLaws.{KeepsOwned, KeepsClaimed, KeepsClaims, KeepsOthers, EndpointsLive, IsOwned}
 use Rattle.usb_host.proofs.ClaimFrames.{handles-own, goes-ended}
 use Rattle.usb_host.specs.Releases.{owner_gone}
 use Rattle.usb_host.specs.HostCalls.{with_held, submitted_with, host_submitted, refused_with, host_refused, closed_if, host_left, host_idled, host_halt_cleared}

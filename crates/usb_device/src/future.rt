@@ -9,9 +9,8 @@ ghost use Rattle.usb_host.specs.HostWaits.{is_found};
 ghost use Rattle.usb_host.specs.TicketEnds.{host_taken, host_abandoned};
 ghost use Rattle.usb_device.specs.Futures.{FutureState, StandsFuture, future_taken, future_closed, future_awaited};
 
-use crate::host::Host;
 use std::marker::Model;
-use usb_ledger::TicketEnd;
+use usb_host::Host;
 use usb_xfer::{Completion, Pending, TransferData};
 
 /// A control transfer on its way (USB 2.0, section 9.3). `wait` or `close` spends it.
@@ -27,22 +26,6 @@ impl Model for TransferFuture {
     ghost Value = { FutureState };
 
     ghost view = { λ f. record { key = f.key; ticket = f.pending; deadline = f.deadline } };
-}
-
-impl Host {
-    /// Takes the completion of a control transfer, and closes its endpoint.
-    fn take_control(&mut self, key: usize, ticket: u64) -> Completion
-        requires held { owner_at self.old.tickets ticket ≡ Some key }
-        requires key { key_at self.old.endpoints key ≡ true }
-        requires found { is_found self.old ticket ≡ true }
-        ensures host { self.new ≡ host_left (host_taken self.old ticket) key }
-        ensures completion { transfer_completion self.old.kernel.past ticket ≡ Some result }
-    {
-        let ended = self.end_ticket(ticket, TicketEnd::Taken);
-        let mut transfer = ended.unwrap();
-        self.leave_endpoint(key);
-        transfer.take_completion()
-    }
 }
 
 impl TransferFuture {

@@ -1,0 +1,14 @@
+//! The host below its handles: a kernel, the devices that are open on it, their claimed interfaces,
+//! and the endpoints that stand on these. Its calls name each by its key.
+#![tactic(auto)]
+
+mod awaiting;
+mod claiming;
+mod configuring;
+mod endpoints;
+mod host;
+mod opening;
+mod settings;
+
+pub use host::Host;
+pub use settings::AltSettingsOf;
