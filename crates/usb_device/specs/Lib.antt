@@ -24,7 +24,10 @@ pub mod HostLaws
 pub mod HostWaits
 pub mod HostBlocking
 pub mod HostAwaits
+pub mod Controls
 pub mod Futures
+pub mod ControlCalls
+pub mod DescriptorCalls
 pub mod HostFrames
 pub mod WaitLaws
 pub mod EndLaws

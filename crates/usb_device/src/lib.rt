@@ -8,6 +8,9 @@
 mod awaiting;
 mod claiming;
 mod configuring;
+mod control;
+mod controls;
+mod descriptors;
 mod device;
 mod endpoints;
 mod future;
@@ -17,7 +20,7 @@ mod opening;
 mod settings;
 
 pub use device::{Device, Interface};
-pub use future::TransferFuture;
+pub use future::{OnHost, TransferFuture};
 pub use host::Host;
 pub use laws::{
     blocking_is_by_steps, claims_are_owned, devices_are_held, lines_go_on,
@@ -27,14 +30,15 @@ pub use laws::{
 pub use settings::AltSettingsOf;
 pub use usb_bus::{Bus, Route, Turn};
 pub use usb_desc::{
-    ConfigurationDescriptor, Configurations, DeviceDescriptor, Fail, InterfaceDescriptor, NoMemory,
+    ConfigurationDescriptor, Configurations, ControlIn, ControlOut, ControlType, DeviceDescriptor,
+    Fail, InterfaceDescriptor, Languages, NoMemory, Recipient,
 };
 pub use usb_endpoint::{AnyEndpoint, Endpoint, NextComplete};
-pub use usb_error::{ActiveConfigurationError, Error, ErrorKind};
+pub use usb_error::{ActiveConfigurationError, Error, ErrorKind, GetDescriptorError};
 pub use usb_kernel::{Kernel, KernelStep};
 pub use usb_ledger::{OpenDevice, TicketEnd};
 pub use usb_sysfs::Speed;
 pub use usb_xfer::{
-    Buffer, Bulk, BulkOrInterrupt, Completion, EndpointDirection, EndpointType, In, Interrupt, Out,
-    TransferError,
+    Buffer, Bulk, BulkOrInterrupt, Completion, EndpointDirection, EndpointType, In, Interrupt,
+    MaybeFuture, Out, TransferError,
 };
