@@ -17,6 +17,7 @@ pub mod HostFrames
 pub mod WaitFrames
 pub mod HostWaitLemmas
 pub mod AwaitLemmas
+pub mod ControlLemmas
 pub mod HostBlockingLemmas
 pub mod CallFrames
 pub mod InterfaceFrames
@@ -25,6 +26,7 @@ pub mod HandleFrames
 pub mod FollowLemmas
 pub mod FoundLemmas
 pub mod FreshKeys
+pub mod FutureFrames
 pub mod EndLemmas
 pub mod FinishLemmas
 pub mod CloseLemmas

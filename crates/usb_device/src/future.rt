@@ -184,6 +184,8 @@ impl<'a> MaybeFuture for OnHost<'a> {
         ≡ Some (result_map (λ bytes. bytes.items) r) };
 
     fn wait(self) -> Result<Vec<u8>, TransferError>
+        requires unanswered { IsSome self.future.ticket }
+        requires stands { StandsFuture self.host.now self.future }
         ensures gives { future_answer (future_awaited self.entry.host.now self.entry.future)
             self.entry.future ≡ Some (result_map (λ bytes. bytes.items) result) }
         ensures host { self.exit.1.0.now
