@@ -1,5 +1,5 @@
 -- Control transfers that start at a host, and waits for them.
-use Rattle.std.proofs.Common.{ℕ, zero, suc, arith, ◌≡◌, ◌<◌, ◌+◌, Bool, true, false, cond, List, [], ◌∷◌, ◌++◌, length, slice_get, is_some, Option, Some, None, refl, sym, ap, ◌∙◌, subst, length-append}
+use Rattle.std.proofs.Common.{ℕ, zero, suc, arith, ◌≡◌, Bool, true, false, cond, List, [], ◌∷◌, ◌++◌, length, is_some, Option, Some, None, refl, ap, ◌∙◌}
 use Rattle.std.specs.Prelude.{nat_le, option_and_then}
 use Rattle.std.specs.Option.{option_map, option_map_or}
 use Rattle.std.proofs.lemmas.List.{map-append}
@@ -26,7 +26,7 @@ use Rattle.usb_ledger.specs.Entries.{Hold, HostTicket, HeldBy, HostEndpoint, con
 use Rattle.usb_ledger.specs.LedgerState.{LedgerState}
 use Rattle.usb_registry.proofs.ValueLemmas.{value-last}
 use Rattle.usb_device.specs.HostState.{HostState}
-use Rattle.usb_device.specs.HostBus.{bus_of, hold_at, held_as, owner_at, key_at}
+use Rattle.usb_device.specs.HostBus.{bus_of, held_as, owner_at, key_at}
 use Rattle.usb_device.specs.HostCalls.{host_idled}
 use Rattle.usb_device.specs.HostFacts.{host_made}
 use Rattle.usb_device.specs.HostFrames.{HostGoesOn}
@@ -34,7 +34,6 @@ use Rattle.usb_device.specs.HostTurns.{host_stepped}
 use Rattle.usb_device.specs.HostWaits.{is_found, reap_and}
 use Rattle.usb_device.specs.HostAwaits.{deadline_of, sought_reaps, sought_steps, host_awaited}
 use Rattle.usb_device.specs.Controls.{host_started}
-use Rattle.usb_device.proofs.ClaimFrames.{goes-refl}
 use Rattle.usb_device.proofs.HostKeeps.{KeepsLine}
 use Rattle.usb_device.proofs.HostFrames.{uses-stepped, uses-idled}
 use Rattle.usb_device.proofs.EndpointLemmas.{key-kept}

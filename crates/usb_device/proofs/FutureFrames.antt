@@ -1,5 +1,5 @@
 -- Futures, and handles of all kinds over the calls of futures.
-use Rattle.std.proofs.Common.{ℕ, ◌≡◌, ◌≢◌, Bool, true, false, List, length, is_some, Option, Some, None, inl, inr, refl, sym, ap, ◌∙◌, subst}
+use Rattle.std.proofs.Common.{ℕ, suc, arith, ◌≡◌, ◌≢◌, ◌<◌, Bool, true, false, List, length, is_some, Option, Some, None, inl, inr, refl, sym, ap, ◌∙◌, subst}
 use Rattle.std.specs.Prelude.{IfSome, IfNone, option_and_then, slice_get}
 use Rattle.usb_desc.specs.declared.types.Direction.{Direction}
 use Rattle.std.specs.Option.{ForSome, option_map}
@@ -10,11 +10,10 @@ use Rattle.usb_kernel.specs.declared.submission.Done.{Done}
 use Rattle.usb_kernel.specs.Extends.{Extends}
 use Rattle.usb_kernel.specs.Tickets.{Ticket, tickets}
 use Rattle.usb_kernel.specs.Completions.{completion}
-use Rattle.usb_kernel.proofs.Extends.{extends-same, extends-trans, ticket-stays, completion-stays}
+use Rattle.usb_kernel.proofs.Extends.{extends-same, ticket-stays, completion-stays}
 use Rattle.usb_bus.specs.BusState.{BusState, without_owner, without_key}
 use Rattle.usb_bus.specs.Completions.{completion_of, transfer_completion}
 use Rattle.usb_endpoint.specs.Handles.{KeepsOthers}
-use Rattle.usb_ledger.specs.declared.opened.OpenDevice.{OpenDevice}
 use Rattle.usb_registry.proofs.SerialLemmas.{cases_Option}
 use Rattle.usb_device.specs.declared.controls.ControlRequest.{ControlRequest}
 use Rattle.usb_device.specs.HostState.{HostState}
@@ -22,7 +21,7 @@ use Rattle.usb_device.specs.HostBus.{bus_of, owner_at, key_at}
 use Rattle.usb_device.specs.HostCalls.{host_left}
 use Rattle.usb_device.specs.HostFrames.{ClaimsGoOn, HostGoesOn}
 use Rattle.usb_device.specs.HostWaits.{is_found}
-use Rattle.usb_device.specs.HostAwaits.{deadline_of, host_awaited}
+use Rattle.usb_device.specs.HostAwaits.{deadline_of}
 use Rattle.usb_device.specs.HandleStates.{InterfaceState, StandsDevice, StandsInterface}
 use Rattle.usb_device.specs.TicketEnds.{host_taken, host_abandoned}
 use Rattle.usb_device.specs.Controls.{control_submission, host_started, request_started, deadline_after}
@@ -33,6 +32,7 @@ use Rattle.usb_device.proofs.HostKeeps.{KeepsLine}
 use Rattle.usb_device.proofs.CallFrames.{bus-taken, bus-abandoned, bus-left, keeps-taken, keeps-abandoned, line-left, interfaces-left}
 use Rattle.usb_device.proofs.DeviceLemmas.{there-same, opened-same, kept-stands}
 use Rattle.usb_device.proofs.InterfaceFrames.{StandsInterface-same}
+use Rattle.usb_device.proofs.FreshKeys.{key-within}
 use Rattle.usb_device.proofs.WaitFrames.{went-nowhere}
 use Rattle.usb_device.proofs.ControlLemmas.{started-key, started-held, started-due, started-line, started-interfaces, started-past, started-others, went-awaited}
 
@@ -194,28 +194,39 @@ deadline-stays : (old new : List Event) (t d : ℕ) (o : Option Ticket) → Exte
 deadline-stays old new t d None goes at due = absurd (none-some d due)
 deadline-stays old new t d (Some s) goes at due = ap (option_and_then (λ (s : Ticket). s.deadline)) (ticket-stays old new t s goes at) ∙ due
 
-pub future-stays : (h g : HostState) (f : FutureState) (key : ℕ) → f.key ≢ key → KeepsOthers (bus_of h) (bus_of g) key → Extends h.kernel.past g.kernel.past → StandsFuture h f → StandsFuture g f
-future-stays h g f key other keeps goes stands =
+future-kept : (h g : HostState) (f : FutureState) → (key_at h.endpoints f.key ≡ true → key_at g.endpoints f.key ≡ true) → ((t : ℕ) → owner_at h.tickets t ≡ Some f.key → owner_at g.tickets t ≡ Some f.key) → Extends h.kernel.past g.kernel.past
+    → StandsFuture h f → StandsFuture g f
+future-kept h g f keys owner goes stands =
     record {
       on_its_way = λ t is.
           let way = stands.on_its_way t is in
           record {
-            key_is_open = keeps.keys f.key other way.key_is_open;
-            held = keeps.tickets t f.key other way.held;
+            key_is_open = keys way.key_is_open;
+            held = owner t way.held;
             due = λ none. deadline-stays h.kernel.past g.kernel.past t f.deadline (slice_get (tickets h.kernel.past) t) goes refl (way.due (found-none h g t goes none));
           };
     }
 
--- and while the host goes on by itself
+pub future-stays : (h g : HostState) (f : FutureState) (key : ℕ) → f.key ≢ key → KeepsOthers (bus_of h) (bus_of g) key → Extends h.kernel.past g.kernel.past → StandsFuture h f → StandsFuture g f
+future-stays h g f key other keeps goes stands = future-kept h g f (λ open_. keeps.keys f.key other open_) (λ t held. keeps.tickets t f.key other held) goes stands
+
+-- while the host goes on by itself
 pub future-went : (h g : HostState) (f : FutureState) → HostGoesOn h g → StandsFuture h f → StandsFuture g f
 future-went h g f went stands =
-    record {
-      on_its_way = λ t is.
-          let way = stands.on_its_way t is in
-          let goes : Extends h.kernel.past g.kernel.past = record { more = went.later.past.more; is = went.later.past.is } in
-          record {
-            key_is_open = ap (λ (keys : ℕ → Bool). keys f.key) went.later.keys ∙ way.key_is_open;
-            held = ap (λ (owner : ℕ → Option ℕ). owner t) went.later.owner ∙ way.held;
-            due = λ none. deadline-stays h.kernel.past g.kernel.past t f.deadline (slice_get (tickets h.kernel.past) t) goes refl (way.due (found-none h g t goes none));
-          };
-    }
+    future-kept h g f (λ open_. ap (λ (keys : ℕ → Bool). keys f.key) went.later.keys ∙ open_) (λ t held. ap (λ (owner : ℕ → Option ℕ). owner t) went.later.owner ∙ held)
+    (record { more = went.later.past.more; is = went.later.past.is }) stands
+
+-- where the bus stays
+pub future-same : (h g : HostState) (f : FutureState) → bus_of g ≡ bus_of h → StandsFuture h f → StandsFuture g f
+future-same h g f same stands =
+    future-kept h g f (λ open_. ap (λ (b : BusState). b.keys f.key) same ∙ open_) (λ t held. ap (λ (b : BusState). b.owner t) same ∙ held)
+    (subst (Extends h.kernel.past) (sym (ap (λ (b : BusState). b.past) same)) (extends-same h.kernel.past)) stands
+
+-- and over the start of another, whose key comes after
+pub future-within : (h : HostState) (f : FutureState) (t : ℕ) → IsOnItsWay h f t → f.key < length h.endpoints
+future-within h f t way = key-within h.endpoints f.key way.key_is_open
+
+pub future-started : (h : HostState) (device : ℕ) (request : ControlRequest) (timeout : ℕ) (f : FutureState) → StandsFuture h f → StandsFuture (request_started h device request timeout) f
+future-started h device request timeout f stands =
+    let g = request_started h device request timeout in
+    future-stays h g f (suc f.key) (λ same. absurd (omega (arith, same))) (others-started h device request timeout (suc f.key)) (stays-started h device request timeout).past stands

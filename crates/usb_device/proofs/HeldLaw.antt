@@ -1,5 +1,5 @@
 -- The open devices of a host over all calls.
-use Rattle.std.proofs.Common.{ℕ, zero, suc, ◌≡◌, ◌≢◌, ◌≤◌, ◌<◌, ◌+◌, ◌-◌, arith, Bool, true, false, cond, List, [], ◌∷◌, length, set, slice_get, Option, Some, None, refl, ap, sym, ◌∙◌, Result, Ok, Err, inl, inr}
+use Rattle.std.proofs.Common.{ℕ, zero, suc, ◌≡◌, arith, Bool, true, cond, List, [], ◌∷◌, length, slice_get, Option, Some, None, refl, ap, sym, ◌∙◌, Result, Ok, Err, inl, inr}
 use Rattle.std.specs.Prelude.{is_some, nat_lt}
 use Rattle.std.proofs.lemmas.Bool.{cond_both, cases_eq}
 use Rattle.usb_simulated.specs.declared.step.KernelStep.{KernelStep}
@@ -22,8 +22,9 @@ use Rattle.usb_device.specs.TicketEnds.{ended_as, host_ended, host_taken, given_
 use Rattle.usb_device.specs.HostTurns.{with_past, host_stepped, host_reaped, host_turned, host_rest}
 use Rattle.usb_device.specs.HostCalls.{host_submitted, host_refused, host_discarded, host_left, host_idled}
 use Rattle.usb_device.specs.HostWaits.{is_found, reap_and, host_waited}
-use Rattle.usb_device.specs.HostBlocking.{or_then, host_blocked}
+use Rattle.usb_device.specs.HostBlocking.{host_blocked}
 use Rattle.usb_device.specs.HostAwaits.{sought_reaps, sought_steps, host_awaited}
+use Rattle.usb_device.specs.Controls.{host_started}
 use Rattle.usb_device.specs.Finishes.{discarded_below, reaped_below, finished}
 use Rattle.usb_device.specs.HandleStates.{InterfaceState, StandsDevice, StandsInterface}
 use Rattle.usb_device.specs.Handles.{device_cloned, device_closed, handle_added, handle_cloned, handle_closed}
@@ -32,14 +33,14 @@ use Rattle.usb_device.specs.InterfaceClaims.{host_claimed}
 use Rattle.usb_device.specs.EndpointOpens.{host_asked}
 use Rattle.usb_device.specs.OnDevices.{host_detached, detached_on, host_attached, attached_on, host_configured, configured_on, configured_unless, set_configuration_errno, host_speed_asked, speed_asked_on, host_reset, reset_on}
 use Rattle.usb_device.specs.OnInterfaces.{alt_setting_errno, setting_unless, alt_setting_asked, alt_setting_on, alt_setting_set}
-use Rattle.usb_device.specs.DeviceLaws.{DevicesAreHeld}
-use Rattle.usb_device.specs.HeldLaws.{KeepsDevice, KeepsDevices, KeepsOtherDevices, KeepsHeld, DevicesStayHeld}
+use Rattle.usb_device.specs.HeldLaws.{KeepsDevices, KeepsOtherDevices, KeepsHeld, DevicesStayHeld}
 use Rattle.usb_device.proofs.HostFrames.{ended_as-is, ended_as-goes, came-is, came-goes}
 use Rattle.usb_device.proofs.ClaimFrames.{goes-same, goes-refl, goes-trans}
 use Rattle.usb_device.proofs.CallFrames.{keeps-submitted, keeps-refused, line-left, interfaces-left}
 use Rattle.usb_device.proofs.WaitFrames.{went-rest, went-turned, went-waited, went-blocked}
 use Rattle.usb_device.proofs.HostKeeps.{KeepsOpen}
-use Rattle.usb_device.proofs.InterfaceFrames.{opened-is, asked-is, asked-counts}
+use Rattle.usb_device.proofs.ControlLemmas.{started-line, started-interfaces}
+use Rattle.usb_device.proofs.InterfaceFrames.{asked-is, asked-counts}
 use Rattle.usb_device.proofs.DeviceLemmas.{KeepsCounts, KeepsOpened, counts_of, counts-same, counts-set, counted-new, changed-at, changed-other, held-handle_more}
 use Rattle.usb_device.proofs.HeldDevices.{held-goes, held-written, held-start, held-opened, held-device_cloned, held-device_closed, held-claimed, held-handle_cloned, held-handle_closed, opened-claimed, opened-handle_closed}
 
@@ -311,6 +312,7 @@ devices_stay_held =
       await_ticket = λ h t deadline. leaves-held h (host_awaited h t deadline) (awaited-leaves h t deadline);
       submit = λ h to t. leaves-held h (host_submitted h to t) (leaves-open h (host_submitted h to t) (keeps-submitted h to t));
       refuse = λ h to t errno. leaves-held h (host_refused h to t errno) (leaves-open h (host_refused h to t errno) (keeps-refused h to t errno));
+      start_control = λ h s. same-held h (host_started h s) (started-line h s).devices (started-interfaces h s);
       discard = λ h t. leaves-held h (host_discarded h t) (discarded-leaves h t);
       end_ticket = λ h t end. leaves-held h (host_ended h t end) (ended-leaves h t end);
       take = λ h t. leaves-held h (host_taken h t) (taken-leaves h t);

@@ -1,5 +1,5 @@
 -- How a control transfer starts at a host (USB 2.0, section 9.3).
-use Rattle.std.specs.Prelude.{ℕ, ◌+◌, ◌-◌, ◌*◌, ◌^◌, min, List, [], ◌∷◌, ◌++◌, length, true, Some, None}
+use Rattle.std.specs.Prelude.{ℕ, ◌+◌, ◌-◌, ◌^◌, min, [], ◌∷◌, ◌++◌, length, Some}
 use Rattle.usb_desc.specs.declared.types.Direction.{Direction}
 use Rattle.usb_desc.specs.declared.types.Direction.TheVariants.{Out, In}
 use Rattle.usb_desc.specs.declared.types.TransferType.TheVariants.{Control}

@@ -4,7 +4,6 @@ ghost use Rattle.std.specs.Prelude.{◌≡◌, ◌<◌, ◌^◌, [], length, IfO
 ghost use Rattle.std.specs.Option.{ForSome};
 ghost use Rattle.usb_registry.specs.History.{value_at};
 ghost use Rattle.usb_error.specs.Outcomes.{result_map};
-ghost use Rattle.usb_device.specs.HostState.{HostState};
 ghost use Rattle.usb_device.specs.HandleStates.{StandsDevice, StandsInterface};
 ghost use Rattle.usb_device.specs.CallErrors.{Leaves};
 ghost use Rattle.usb_device.specs.Controls.{request_in, request_out, request_started};
@@ -57,9 +56,9 @@ fn finish(
 }
 
 impl Device {
-    /// Starts a control transfer on the device's endpoint 0 whose data come from the device (USB 2.0, section 9.3). It
-    /// is discarded once `timeout` nanoseconds are over, of which those of a day count at most.
-    /// An `Err` is want of memory, and then nothing has changed.
+    /// Starts a control transfer on the device's endpoint 0 whose data come from the device (USB
+    /// 2.0, section 9.3). It is discarded once `timeout` nanoseconds are over, of which those of a
+    /// day count at most. An `Err` is want of memory, and then nothing has changed.
     pub fn start_control_in(
         &self,
         host: &mut Host,
@@ -79,8 +78,8 @@ impl Device {
         start(host, device, request, timeout)
     }
 
-    /// Starts a control transfer on the device's endpoint 0 that sends data, of which there are at most 65535 bytes, as
-    /// `start_control_in`.
+    /// Starts a control transfer on the device's endpoint 0 that sends data, of which there are at
+    /// most 65535 bytes, as `start_control_in`.
     pub fn start_control_out(
         &self,
         host: &mut Host,
@@ -103,8 +102,8 @@ impl Device {
         start(host, device, request, timeout)
     }
 
-    /// A control transfer on the device's endpoint 0 whose data come from the device, started and awaited. Where memory is
-    /// wanting nothing has changed.
+    /// A control transfer on the device's endpoint 0 whose data come from the device, started and
+    /// awaited. Where memory is wanting nothing has changed.
     ///
     /// # Errors
     ///
@@ -131,8 +130,8 @@ impl Device {
         finish(host, device, request, timeout)
     }
 
-    /// A control transfer on the device's endpoint 0 that sends data, of which there are at most 65535 bytes, started and
-    /// awaited. Where memory is wanting nothing has changed.
+    /// A control transfer on the device's endpoint 0 that sends data, of which there are at most
+    /// 65535 bytes, started and awaited. Where memory is wanting nothing has changed.
     ///
     /// # Errors
     ///
@@ -165,9 +164,10 @@ impl Device {
 }
 
 impl Interface {
-    /// Starts a control transfer on the endpoint 0 of the interface's device whose data come from the device (USB 2.0, section 9.3). It
-    /// is discarded once `timeout` nanoseconds are over, of which those of a day count at most.
-    /// An `Err` is want of memory, and then nothing has changed.
+    /// Starts a control transfer on the endpoint 0 of the interface's device whose data come from
+    /// the device (USB 2.0, section 9.3). It is discarded once `timeout` nanoseconds are over, of
+    /// which those of a day count at most. An `Err` is want of memory, and then nothing has
+    /// changed.
     pub fn start_control_in(
         &self,
         host: &mut Host,
@@ -187,8 +187,8 @@ impl Interface {
         start(host, device, request, timeout)
     }
 
-    /// Starts a control transfer on the endpoint 0 of the interface's device that sends data, of which there are at most 65535 bytes, as
-    /// `start_control_in`.
+    /// Starts a control transfer on the endpoint 0 of the interface's device that sends data, of
+    /// which there are at most 65535 bytes, as `start_control_in`.
     pub fn start_control_out(
         &self,
         host: &mut Host,
@@ -211,8 +211,8 @@ impl Interface {
         start(host, device, request, timeout)
     }
 
-    /// A control transfer on the endpoint 0 of the interface's device whose data come from the device, started and awaited. Where memory is
-    /// wanting nothing has changed.
+    /// A control transfer on the endpoint 0 of the interface's device whose data come from the
+    /// device, started and awaited. Where memory is wanting nothing has changed.
     ///
     /// # Errors
     ///
@@ -239,8 +239,9 @@ impl Interface {
         finish(host, device, request, timeout)
     }
 
-    /// A control transfer on the endpoint 0 of the interface's device that sends data, of which there are at most 65535 bytes, started and
-    /// awaited. Where memory is wanting nothing has changed.
+    /// A control transfer on the endpoint 0 of the interface's device that sends data, of which
+    /// there are at most 65535 bytes, started and awaited. Where memory is wanting nothing has
+    /// changed.
     ///
     /// # Errors
     ///

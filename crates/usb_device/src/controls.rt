@@ -6,12 +6,10 @@ ghost use Rattle.usb_desc.specs.declared.types.TransferType.{TransferType};
 ghost use Rattle.usb_kernel.specs.Tickets.{tickets};
 ghost use Rattle.usb_registry.specs.History.{value_at};
 ghost use Rattle.usb_bus.specs.Completions.{transfer_completion};
-ghost use Rattle.usb_device.specs.HostState.{HostState};
 ghost use Rattle.usb_device.specs.HostBus.{owner_at, key_at};
 ghost use Rattle.usb_device.specs.HostCalls.{host_left};
-ghost use Rattle.usb_device.specs.HostWaits.{is_found};
 ghost use Rattle.usb_device.specs.TicketEnds.{host_taken};
-ghost use Rattle.usb_device.specs.Controls.{request_in, request_out, control_address, deadline_after, control_submission, request_started};
+ghost use Rattle.usb_device.specs.Controls.{request_in, request_out, control_address, deadline_after, request_started};
 
 use crate::host::{Host, ticket_from};
 use std::alloc::Global;
@@ -20,8 +18,8 @@ use usb_kernel::Submission;
 use usb_registry::Key;
 use usb_xfer::{Buffer, Completion, Pending, TransferData, take_completed_from_option};
 
-/// A request on the control endpoint 0: where its data go, its setup packet, and the buffer that its
-/// data come to or stand in.
+/// A request on the control endpoint 0: where its data go, its setup packet, and the buffer that
+/// its data come to or stand in.
 #[derive(Drop)]
 pub struct ControlRequest {
     pub direction: Direction,

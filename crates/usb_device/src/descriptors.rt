@@ -1,11 +1,10 @@
 //! Descriptors that are asked of a device: USB 2.0, section 9.4.3.
 
-ghost use Rattle.std.specs.Prelude.{◌≡◌, string_bytes};
+ghost use Rattle.std.specs.Prelude.{string_bytes};
 ghost use Rattle.std.specs.Option.{ForSome};
 ghost use Rattle.std.specs.Int.NonZero.{non_zero_u8_get};
 ghost use Rattle.usb_registry.specs.History.{value_at};
 ghost use Rattle.usb_error.specs.Outcomes.{result_map};
-ghost use Rattle.usb_device.specs.HostState.{HostState};
 ghost use Rattle.usb_device.specs.HandleStates.{StandsDevice};
 ghost use Rattle.usb_device.specs.CallErrors.{Leaves};
 ghost use Rattle.usb_device.specs.ControlCalls.{Answers};
@@ -27,8 +26,8 @@ const GET_DESCRIPTOR: u8 = 0x06;
 const STRING_TYPE: u8 = 3;
 
 impl Device {
-    /// Asks the device for a descriptor by its type and index, and for a string by its language too,
-    /// which is 0 for any other. At most 4096 bytes come. Where memory is wanting nothing has
+    /// Asks the device for a descriptor by its type and index, and for a string by its language
+    /// too, which is 0 for any other. At most 4096 bytes come. Where memory is wanting nothing has
     /// changed.
     ///
     /// # Errors
@@ -100,7 +99,8 @@ impl Device {
     }
 
     /// The text of a string descriptor in a language (USB 2.0, section 9.6.7). Memory is taken for
-    /// the transfer, where nothing has changed if it is wanting, and for the text once that is over.
+    /// the transfer, where nothing has changed if it is wanting, and for the text once that is
+    /// over.
     ///
     /// # Errors
     ///

@@ -5,7 +5,7 @@ ghost use Rattle.usb_device.specs.HeldLaws.{DevicesStayHeld};
 ghost use Rattle.usb_device.specs.ClosedLaws.{ClosedIsEmpty};
 ghost use Rattle.usb_device.specs.EndLaws.{EndsStay, DroppedWhereReaped};
 ghost use Rattle.usb_device.specs.OwnerLaws.{ClaimsStayOwned};
-ghost use Rattle.usb_device.specs.WaitLaws.{WaitIsBySteps, BlockingIsBySteps, TurnGoesOn, WaitGoesOn, BlockingGoesOn, RestGoesOn, RestLeavesNone, LineUsesPlaces};
+ghost use Rattle.usb_device.specs.WaitLaws.{WaitIsBySteps, BlockingIsBySteps, TurnGoesOn, WaitGoesOn, BlockingGoesOn, AwaitGoesOn, RestGoesOn, RestLeavesNone, LineUsesPlaces};
 
 /// A wait for a ticket goes by the steps of the line that are left, and then by reaps.
 pub fn wait_is_by_steps()
@@ -24,6 +24,7 @@ pub fn lines_go_on()
     ensures turn { TurnGoesOn }
     ensures wait { WaitGoesOn }
     ensures blocking { BlockingGoesOn }
+    ensures await_ticket { AwaitGoesOn }
     ensures rest { RestGoesOn }
     ensures none_left { RestLeavesNone }
     ensures places { LineUsesPlaces }

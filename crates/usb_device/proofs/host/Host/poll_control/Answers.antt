@@ -1,5 +1,4 @@
 use Rattle.std.proofs.Common.{ap, ◌∙◌}
-use Rattle.usb_xfer.specs.Slots.{TookOption}
 use Rattle.usb_bus.specs.BusState.{BusState}
 use Rattle.usb_device.specs.HostBus.{bus_of}
 use Rattle.usb_device.proofs.CallFrames.{bus-taken}

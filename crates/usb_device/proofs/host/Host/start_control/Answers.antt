@@ -1,4 +1,4 @@
-use Rattle.std.proofs.Common.{ℕ, ◌≡◌, ◌-◌, ◌++◌, ◌∷◌, [], length, ap, refl, sym, ◌∙◌, arith, Option, Some}
+use Rattle.std.proofs.Common.{ℕ, ◌≡◌, ◌-◌, ◌++◌, ◌∷◌, [], length, ap, sym, ◌∙◌, arith, Option, Some}
 use Rattle.std.proofs.lemmas.Option.{same_Some}
 use Rattle.usb_desc.specs.declared.types.TransferType.TheVariants.{Control}
 use Rattle.usb_xfer.specs.declared.transfer.TransferData.{TransferData}
@@ -13,7 +13,7 @@ use Rattle.usb_ledger.specs.declared.slot.TicketState.TheVariants as slot
 use Rattle.usb_ledger.specs.Entries.{HostEndpoint, control_endpoint}
 use Rattle.usb_ledger.specs.LedgerState.{LedgerState}
 use Rattle.usb_device.specs.HostState.{HostState}
-use Rattle.usb_device.specs.Controls.{host_started, control_address, control_submission}
+use Rattle.usb_device.specs.Controls.{host_started, control_submission}
 use Rattle.usb_device.proofs.EnterLemmas.{TicketsAgree-enter}
 use Rattle.usb_device.proofs.ControlLemmas.{whole-once, started-made}
 use Rattle.usb_device.proofs.host.Host.start_control.Goals as goal
