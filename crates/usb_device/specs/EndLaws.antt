@@ -18,6 +18,7 @@ use Rattle.usb_device.specs.HostCalls.{host_submitted, host_refused, host_discar
 use Rattle.usb_device.specs.TicketEnds.{host_taken, host_abandoned}
 use Rattle.usb_device.specs.HostAwaits.{host_awaited}
 use Rattle.usb_device.specs.Controls.{host_started}
+use Rattle.usb_device.specs.Futures.{FutureState, StandsFuture, future_closed}
 use Rattle.usb_device.specs.Finishes.{finished}
 use Rattle.usb_device.specs.Handles.{handle_cloned, handle_closed}
 use Rattle.usb_device.specs.Opens.{host_opened}
@@ -73,4 +74,11 @@ DroppedWhereReaped =
     (h : HostState) (e : EndpointState) (i t : ℕ) → Stands (bus_of h) e →
     slice_get e.pending i ≡ Some t →
     end_at (after_close host_discarded host_abandoned host_left h e).tickets t ≡
+    (if is_some (completion h.kernel.past t) then Some Dropped else None)
+
+-- and so is that of a future that is closed
+abbrev pub FutureDroppedWhereReaped : Type 0
+FutureDroppedWhereReaped =
+    (h : HostState) (f : FutureState) (t : ℕ) → StandsFuture h f → f.ticket ≡ Some t →
+    end_at (future_closed h f).tickets t ≡
     (if is_some (completion h.kernel.past t) then Some Dropped else None)
