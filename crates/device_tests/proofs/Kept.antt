@@ -9,31 +9,31 @@ use Rattle.usb_endpoint.specs.Handles.{Stands, KeepsOthers}
 use Rattle.usb_endpoint.proofs.Frames.{Stands-other}
 use Rattle.usb_device.proofs.FreshKeys.{endpoint-within}
 use Rattle.usb_ledger.specs.Entries.{ClaimedInterface}
-use Rattle.usb_device.specs.HostBus.{bus_of}
-use Rattle.usb_device.specs.HostTurns.{host_rest, host_turned}
-use Rattle.usb_device.proofs.CalledHosts.{reset-spare}
+use Rattle.usb_host.specs.HostBus.{bus_of}
+use Rattle.usb_host.specs.HostTurns.{host_rest, host_turned}
+use Rattle.usb_host.proofs.CalledHosts.{reset-spare}
 use Rattle.usb_simulated.specs.declared.step.KernelStep.{KernelStep}
 use Rattle.std.proofs.Common.{length-append}
 use Rattle.usb_device.specs.HandleStates.{InterfaceState, StandsDevice, StandsInterface}
 use Rattle.usb_ledger.specs.Owners.{has_living}
-use Rattle.usb_device.specs.Releases.{owner_gone}
-use Rattle.usb_device.specs.Handles.{handle_added, handle_cloned, handle_gone, handle_closed}
+use Rattle.usb_host.specs.Releases.{owner_gone}
+use Rattle.usb_host.specs.Handles.{handle_added, handle_cloned, handle_gone, handle_closed}
 use Rattle.usb_simulated.specs.declared.step.KernelCall.TheVariants as call
 use Rattle.usb_simulated.specs.Calls.{same, set_interface_rules}
 use Rattle.usb_kernel.specs.Calls.{called}
 use Rattle.usb_kernel.proofs.Answered.{called-is}
 use Rattle.usb_endpoint.specs.Closes.{after_close}
-use Rattle.usb_device.specs.HostCalls.{host_discarded, host_left, host_halt_cleared}
-use Rattle.usb_device.specs.TicketEnds.{host_abandoned}
-use Rattle.usb_device.specs.HostFrames.{ClaimsGoOn}
-use Rattle.usb_device.proofs.ClaimFrames.{goes-same, goes-ended}
-use Rattle.usb_device.proofs.EndpointCalls.{line-closed, interfaces-closed}
-use Rattle.usb_device.specs.OnInterfaces.{alt_setting_errno, setting_unless, alt_setting_asked, alt_setting_on, alt_setting_set}
+use Rattle.usb_host.specs.HostCalls.{host_discarded, host_left, host_halt_cleared}
+use Rattle.usb_host.specs.TicketEnds.{host_abandoned}
+use Rattle.usb_host.specs.HostFrames.{ClaimsGoOn}
+use Rattle.usb_host.proofs.ClaimFrames.{goes-same, goes-ended}
+use Rattle.usb_host.proofs.EndpointCalls.{line-closed, interfaces-closed}
+use Rattle.usb_host.specs.OnInterfaces.{alt_setting_errno, setting_unless, alt_setting_asked, alt_setting_on, alt_setting_set}
 use Rattle.usb_ledger.specs.declared.opened.OpenDevice.{OpenDevice}
-use Rattle.usb_device.specs.HostState.{HostState}
-use Rattle.usb_device.specs.Opens.{host_opened}
-use Rattle.usb_device.specs.EndpointOpens.{host_asked}
-use Rattle.usb_device.specs.OnDevices.{host_detached, detached_on, host_attached, attached_on, host_configured, configured_on, host_speed_asked, speed_asked_on, host_reset, reset_on}
+use Rattle.usb_host.specs.HostState.{HostState}
+use Rattle.usb_host.specs.Opens.{host_opened}
+use Rattle.usb_host.specs.EndpointOpens.{host_asked}
+use Rattle.usb_host.specs.OnDevices.{host_detached, detached_on, host_attached, attached_on, host_configured, configured_on, host_speed_asked, speed_asked_on, host_reset, reset_on}
 use Rattle.std.specs.Prelude.{IsSome, IfOk, nat_lt, ◌||◌}
 use Rattle.std.proofs.Common.{lt-ltb, ◌≢◌, inl, inr, Result, Ok, Err}
 use Rattle.std.proofs.lemmas.Bool.{cases_eq}
@@ -42,19 +42,22 @@ use Rattle.usb_desc.specs.declared.error.Fail.{Fail}
 use Rattle.usb_error.specs.ErrorState.{ErrorState}
 use Rattle.usb_registry.specs.History.{value_at}
 use Rattle.usb_registry.proofs.ValueLemmas.{some-of, is-some, value-push, value-within, value-set_same}
-use Rattle.usb_device.specs.Opens.{open_tried, open_key, opened_by}
-use Rattle.usb_device.specs.InterfaceClaims.{ClaimsInterface, claimed_key, claim_tried, host_claimed}
-use Rattle.usb_device.specs.OnDevices.{configured_unless, set_configuration_errno}
-use Rattle.usb_device.specs.Handles.{device_cloned, device_closed}
+use Rattle.usb_host.specs.Opens.{open_tried, open_key, opened_by}
+use Rattle.usb_device.specs.HandleCalls.{ClaimsInterface}
+use Rattle.usb_host.specs.InterfaceClaims.{claimed_key, claim_tried, host_claimed}
+use Rattle.usb_host.specs.OnDevices.{configured_unless, set_configuration_errno}
+use Rattle.usb_host.specs.Handles.{device_cloned, device_closed}
 use Rattle.usb_ledger.specs.Devices.{is_held, device_changed, handle_more, handle_less, interface_more, interface_less}
-use Rattle.usb_device.specs.EndpointOpens.{with_endpoint}
-use Rattle.usb_device.specs.CallErrors.{Leaves}
-use Rattle.usb_device.proofs.Left.{left}
-use Rattle.usb_device.proofs.OpeningLemmas.{claimed-at}
+use Rattle.usb_host.specs.EndpointOpens.{with_endpoint}
+use Rattle.usb_host.specs.CallErrors.{Leaves}
+use Rattle.usb_host.proofs.Left.{left}
+use Rattle.usb_host.proofs.OpeningLemmas.{claimed-at}
 use Rattle.usb_device.proofs.HeldDevices.{opens-one, opened-handle_closed}
-use Rattle.usb_device.proofs.DeviceLemmas.{KeepsCounts, Counted, counts_of, counts-same, counts-set, counts-stands, counts-there, counted-new, there-same, kept-stands, changed-at, changed-other, handle-held, held-handle_more, held-interface_more}
-use Rattle.usb_device.proofs.InterfaceFrames.{opened-is, opened-there, asked-is, asked-counts, StandsInterface-same}
-use Rattle.usb_device.proofs.WaitFrames.{went-rest, went-turned}
+use Rattle.usb_ledger.proofs.DeviceLemmas.{KeepsCounts, Counted, counts_of, counts-same, counts-set, counts-there, counted-new, there-same, changed-at, changed-other, handle-held, held-handle_more, held-interface_more}
+use Rattle.usb_device.proofs.DeviceLemmas.{counts-stands, kept-stands}
+use Rattle.usb_host.proofs.InterfaceFrames.{opened-is, opened-there, asked-is, asked-counts}
+use Rattle.usb_device.proofs.StandLemmas.{StandsInterface-same}
+use Rattle.usb_host.proofs.WaitFrames.{went-rest, went-turned}
 
 -- an interface is claimed, and then the handle of its device closed
 claim_then : (h new : HostState) (key number : ℕ) (reattach : Bool) (o : OpenDevice) (f : InterfaceState) (next : ℕ) → value_at h.devices key ≡ Some o → claimed_key next (claim_tried h o number reattach) ≡ Ok f.key → new ≡ host_claimed h key number reattach → StandsInterface new f → StandsInterface (device_closed new key) f

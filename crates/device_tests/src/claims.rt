@@ -4,7 +4,7 @@
 ghost use Rattle.usb_endpoint.specs.EndpointState.{EndpointState};
 ghost use Rattle.usb_endpoint.specs.Handles.{Stands};
 ghost use Rattle.usb_device.specs.HandleStates.{StandsInterface};
-ghost use Rattle.usb_device.specs.HostBus.{bus_of};
+ghost use Rattle.usb_host.specs.HostBus.{bus_of};
 
 use crate::cases::{Case, expect};
 use crate::hosts::{claim, go_on, message_of, open, submit, submit_three};

@@ -6,7 +6,7 @@ ghost use Rattle.usb_kernel.specs.Steps.{HasErrno};
 ghost use Rattle.usb_endpoint.specs.EndpointState.{EndpointState};
 ghost use Rattle.usb_endpoint.specs.Handles.{Stands};
 ghost use Rattle.usb_device.specs.HandleStates.{InterfaceState, StandsInterface};
-ghost use Rattle.usb_device.specs.HostBus.{bus_of};
+ghost use Rattle.usb_host.specs.HostBus.{bus_of};
 
 use futures::task::Poll;
 use std::alloc::Global;

@@ -3,7 +3,7 @@
 ghost use Rattle.std.specs.Prelude.{◌≡◌};
 ghost use Rattle.usb_endpoint.specs.Handles.{Stands, KeepsOthers};
 ghost use Rattle.usb_device.specs.HandleStates.{StandsInterface};
-ghost use Rattle.usb_device.specs.HostBus.{bus_of};
+ghost use Rattle.usb_host.specs.HostBus.{bus_of};
 
 use crate::cases::{Case, expect};
 use crate::hosts::{claim, go_on, length_of, poll, submit};

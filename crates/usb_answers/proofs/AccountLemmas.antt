@@ -8,11 +8,11 @@ use Rattle.std.proofs.lemmas.List.Elements.{Contains-append_left, Contains-push}
 use Rattle.std.proofs.lemmas.Option.{none-some, same_Some, slice_get_past}
 use Rattle.usb_xfer.specs.BufferState.{BufferState}
 use Rattle.usb_ledger.specs.Entries.{HostTicket, HeldBy, Abandoned, Ended}
-use Rattle.usb_device.specs.HostState.{HostState}
-use Rattle.usb_device.specs.HostBus.{held_as, owner_at}
-use Rattle.usb_device.proofs.CountLemmas.{KeepsCount, taken-count, closed-count, entered-count}
-use Rattle.usb_device.proofs.FollowLemmas.{Follows, KeepsTickets}
-use Rattle.usb_device.proofs.HeldLemmas.{HoldsNoMore, taken-held, Contains-behind, closed-held, entered-held}
+use Rattle.usb_host.specs.HostState.{HostState}
+use Rattle.usb_host.specs.HostBus.{held_as, owner_at}
+use Rattle.usb_host.proofs.CountLemmas.{KeepsCount, taken-count, closed-count, entered-count}
+use Rattle.usb_host.proofs.FollowLemmas.{Follows, KeepsTickets}
+use Rattle.usb_host.proofs.HeldLemmas.{HoldsNoMore, taken-held, Contains-behind, closed-held, entered-held}
 use Rattle.usb_answers.specs.Names.{named, is_free, change_named, freed, set_name}
 use Rattle.usb_answers.specs.State.{State, Endpoint, kept, pending, tickets_of}
 use Rattle.usb_answers.specs.Answer.{Answer}

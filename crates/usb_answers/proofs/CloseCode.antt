@@ -3,20 +3,20 @@ use Rattle.std.proofs.Common.{◌≡◌, ℕ, arith, List, [], ◌∷◌, ◌++�
 use Rattle.std.specs.Prelude.{is_some, OnOk}
 use Rattle.std.specs.declared.alloc.Global.{Global}
 use Rattle.std.specs.Option.{option_map}
-use Rattle.usb_device.proofs.ClaimFrames.{goes-trans}
-use Rattle.usb_device.proofs.DeviceLemmas.{counts-same}
+use Rattle.usb_host.proofs.ClaimFrames.{goes-trans}
+use Rattle.usb_ledger.proofs.DeviceLemmas.{counts-same}
 use Rattle.usb_endpoint.specs.declared.any_endpoint.AnyEndpoint.{AnyEndpoint}
 use Rattle.usb_endpoint.specs.AnyEndpoints.{state_of}
 use Rattle.usb_endpoint.specs.EndpointState.{EndpointState}
 use Rattle.usb_endpoint.specs.Handles.{KeepsOthers}
 use Rattle.usb_endpoint.specs.Closes.{all_discarded, all_abandoned, after_close}
-use Rattle.usb_device.specs.HostState.{HostState}
-use Rattle.usb_device.specs.HostBus.{bus_of}
-use Rattle.usb_device.specs.HostFrames.{LineGoesOn}
-use Rattle.usb_device.specs.HostCalls.{host_discarded, host_left}
-use Rattle.usb_device.specs.TicketEnds.{host_abandoned}
-use Rattle.usb_device.proofs.CallFrames.{keeps-open, keeps-abandoned, line-left, interfaces-left}
-use Rattle.usb_device.proofs.WaitFrames.{line-keeps, line-trans}
+use Rattle.usb_host.specs.HostState.{HostState}
+use Rattle.usb_host.specs.HostBus.{bus_of}
+use Rattle.usb_host.specs.HostFrames.{LineGoesOn}
+use Rattle.usb_host.specs.HostCalls.{host_discarded, host_left}
+use Rattle.usb_host.specs.TicketEnds.{host_abandoned}
+use Rattle.usb_host.proofs.CallFrames.{keeps-open, keeps-abandoned, line-left, interfaces-left}
+use Rattle.usb_host.proofs.WaitFrames.{line-keeps, line-trans}
 use Rattle.usb_lines.specs.Calls.{condition_line, ok_line}
 use Rattle.usb_answers.specs.declared.session.Session.TheInside.{Inside}
 use Rattle.usb_answers.specs.Names.{named, freed}

@@ -9,10 +9,10 @@ use Rattle.usb_registry.proofs.ValueLemmas.{value-within, value-last, value-push
 use Rattle.usb_ledger.specs.OwnerRows.{one_if}
 use Rattle.usb_ledger.proofs.ListLemmas.{count-some}
 use Rattle.usb_ledger.specs.declared.opened.OpenDevice.{OpenDevice}
-use Rattle.usb_device.specs.HostState.{HostState}
+use Rattle.usb_host.specs.HostState.{HostState}
 use Rattle.usb_device.specs.HandleStates.{StandsDevice}
 use Rattle.usb_ledger.specs.Devices.{if_held, device_changed}
-use Rattle.usb_device.proofs.DeviceLemmas.{KeepsOpened, changed-at, changed-other, handle-held, is-changed}
+use Rattle.usb_ledger.proofs.DeviceLemmas.{KeepsOpened, changed-at, changed-other, handle-held, is-changed}
 use Rattle.usb_device.proofs.HeldDevices.{OpensOne}
 use Rattle.usb_answers.specs.Names.{named, is_free, freed, nothing, set_name, something}
 use Rattle.usb_answers.specs.SessionState.{is_device_of}

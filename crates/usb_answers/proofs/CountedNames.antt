@@ -11,7 +11,7 @@ use Rattle.usb_device.specs.HandleStates.{InterfaceState}
 use Rattle.usb_registry.specs.History.{value_at}
 use Rattle.usb_registry.proofs.ValueLemmas.{value-within, value-put, value-push_cases}
 use Rattle.usb_ledger.proofs.ListLemmas.{count-some}
-use Rattle.usb_device.specs.HostFrames.{ClaimsGoOn}
+use Rattle.usb_host.specs.HostFrames.{ClaimsGoOn}
 use Rattle.usb_answers.specs.Names.{named, is_free, change_at, freed, nothing, set_name, something}
 use Rattle.usb_answers.specs.SessionState.{is_handle_of}
 use Rattle.usb_answers.proofs.NameLemmas.{free_place, place_of, named_of}

@@ -5,10 +5,10 @@ use Rattle.usb_registry.proofs.ValueLemmas.{value-set_same}
 use Rattle.usb_kernel.proofs.Places.{slice_get-set_same}
 use Rattle.usb_lines.specs.Calls.{condition_line}
 use Rattle.usb_ledger.specs.declared.opened.OpenDevice.{OpenDevice}
-use Rattle.usb_device.specs.HostState.{HostState}
-use Rattle.usb_device.specs.EndpointOpens.{as_asked, host_asked}
-use Rattle.usb_device.proofs.ClaimFrames.{goes-same}
-use Rattle.usb_device.proofs.EndpointLemmas.{asked-at}
+use Rattle.usb_host.specs.HostState.{HostState}
+use Rattle.usb_host.specs.EndpointOpens.{as_asked, host_asked}
+use Rattle.usb_host.proofs.ClaimFrames.{goes-same}
+use Rattle.usb_host.proofs.EndpointLemmas.{asked-at}
 use Rattle.usb_answers.specs.Names.{named}
 use Rattle.usb_answers.specs.State.{State, with_host}
 use Rattle.usb_answers.specs.OpenAt.{device_at}

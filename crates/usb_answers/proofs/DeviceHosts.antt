@@ -1,8 +1,8 @@
 -- What calls on open devices leave of the host, and what is printed of them.
 use Rattle.std.proofs.Common.{◌≡◌, ◌∙◌, ◌≤◌, ◌+◌, ℕ, arith, length, length-set, List, Option, Some, None, refl, ap, sym, subst, slice_get, set}
 use Rattle.usb_registry.specs.History.{value_at}
-use Rattle.usb_device.proofs.DeviceLemmas.{KeepsCounts, counts_of, counts-set}
-use Rattle.usb_device.specs.EndpointOpens.{as_asked}
+use Rattle.usb_ledger.proofs.DeviceLemmas.{KeepsCounts, counts_of, counts-set}
+use Rattle.usb_host.specs.EndpointOpens.{as_asked}
 use Rattle.usb_kernel.specs.Tickets.{tickets}
 use Rattle.usb_simulated.specs.declared.step.KernelCall.TheVariants as call
 use Rattle.usb_kernel.specs.Value.{KernelState}
@@ -14,14 +14,14 @@ use Rattle.usb_endpoint.specs.EndpointState.{EndpointState}
 use Rattle.usb_endpoint.specs.Handles.{Stands, AreHeld}
 use Rattle.usb_ledger.specs.declared.opened.OpenDevice.{OpenDevice}
 use Rattle.usb_ledger.specs.Entries.{HostTicket, HostEndpoint}
-use Rattle.usb_device.specs.HostState.{HostState}
-use Rattle.usb_device.specs.HostBus.{bus_of, owner_at, key_at}
-use Rattle.usb_device.specs.HostCalls.{host_halt_cleared}
-use Rattle.usb_device.specs.EndpointOpens.{asked_on, host_asked}
-use Rattle.usb_device.specs.OnDevices.{detached_on, host_detached, attached_on, host_attached, reset_on, host_reset, set_configuration_errno, configured_unless, configured_on, host_configured, speed_asked_on, host_speed_asked}
-use Rattle.usb_device.proofs.CalledHosts.{reset-spare}
-use Rattle.usb_device.proofs.CountLemmas.{KeepsCount}
-use Rattle.usb_device.proofs.FollowLemmas.{KeepsTickets, on-same}
+use Rattle.usb_host.specs.HostState.{HostState}
+use Rattle.usb_host.specs.HostBus.{bus_of, owner_at, key_at}
+use Rattle.usb_host.specs.HostCalls.{host_halt_cleared}
+use Rattle.usb_host.specs.EndpointOpens.{asked_on, host_asked}
+use Rattle.usb_host.specs.OnDevices.{detached_on, host_detached, attached_on, host_attached, reset_on, host_reset, set_configuration_errno, configured_unless, configured_on, host_configured, speed_asked_on, host_speed_asked}
+use Rattle.usb_host.proofs.CalledHosts.{reset-spare}
+use Rattle.usb_host.proofs.CountLemmas.{KeepsCount}
+use Rattle.usb_host.proofs.FollowLemmas.{KeepsTickets, on-same}
 
 -- what handles stand on is as it was, but for what an open device keeps of its configuration
 pub record KeepsHandles (old new : HostState) : Type 0 where

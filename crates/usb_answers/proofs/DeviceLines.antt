@@ -11,18 +11,18 @@ use Rattle.usb_lines.specs.Settings.{configuration_line, no_configuration_line, 
 use Rattle.usb_kernel.specs.Calls.{called}
 use Rattle.usb_device.specs.HandleStates.{InterfaceState}
 use Rattle.usb_ledger.specs.Entries.{ClaimedInterface}
-use Rattle.usb_device.specs.HostState.{HostState}
-use Rattle.usb_device.specs.Opens.{host_opened, open_key}
-use Rattle.usb_device.specs.InterfaceClaims.{claim_tried, claimed_key, host_claimed}
+use Rattle.usb_host.specs.HostState.{HostState}
+use Rattle.usb_host.specs.Opens.{host_opened, open_key}
+use Rattle.usb_host.specs.InterfaceClaims.{claim_tried, claimed_key, host_claimed}
 use Rattle.usb_ledger.specs.Owners.{has_living}
-use Rattle.usb_device.specs.Owners.{is_shared}
-use Rattle.usb_device.specs.Handles.{handle_added, handle_cloned}
-use Rattle.usb_device.specs.EndpointOpens.{as_asked, host_asked}
-use Rattle.usb_device.specs.OnDevices.{active_of, host_speed_asked, set_configuration_tried, host_configured, reset_tried, detach_tried, host_detached, attach_tried, host_attached}
-use Rattle.usb_device.specs.OnInterfaces.{alt_setting_tried, alt_setting_asked, alt_setting_on, alt_setting_set, current_setting}
-use Rattle.usb_device.proofs.InterfaceFrames.{opened-is}
-use Rattle.usb_device.proofs.CountLemmas.{claimed-count, handle_closed-count}
-use Rattle.usb_device.proofs.FollowLemmas.{on-claimed, on-handle_closed}
+use Rattle.usb_host.specs.Owners.{is_shared}
+use Rattle.usb_host.specs.Handles.{handle_added, handle_cloned}
+use Rattle.usb_host.specs.EndpointOpens.{as_asked, host_asked}
+use Rattle.usb_host.specs.OnDevices.{active_of, host_speed_asked, set_configuration_tried, host_configured, reset_tried, detach_tried, host_detached, attach_tried, host_attached}
+use Rattle.usb_host.specs.OnInterfaces.{alt_setting_tried, alt_setting_asked, alt_setting_on, alt_setting_set, current_setting}
+use Rattle.usb_host.proofs.InterfaceFrames.{opened-is}
+use Rattle.usb_host.proofs.CountLemmas.{claimed-count, handle_closed-count}
+use Rattle.usb_host.proofs.FollowLemmas.{on-claimed, on-handle_closed}
 use Rattle.usb_answers.specs.Names.{named}
 use Rattle.usb_answers.specs.State.{State, with_host}
 use Rattle.usb_answers.specs.OpenAt.{device_at, interface_at}

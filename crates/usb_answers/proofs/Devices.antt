@@ -8,15 +8,15 @@ use Rattle.usb_lines.specs.Calls.{ok_line, condition_line, error_line}
 use Rattle.usb_bus.specs.BusState.{BusState}
 use Rattle.usb_endpoint.specs.Handles.{Stands}
 use Rattle.usb_ledger.specs.declared.opened.OpenDevice.{OpenDevice}
-use Rattle.usb_device.specs.HostState.{HostState}
-use Rattle.usb_device.specs.HostBus.{bus_of}
+use Rattle.usb_host.specs.HostState.{HostState}
+use Rattle.usb_host.specs.HostBus.{bus_of}
 use Rattle.usb_device.specs.HandleStates.{StandsDevice}
-use Rattle.usb_device.specs.CallErrors.{Leaves}
-use Rattle.usb_device.specs.Opens.{host_opened, open_key}
-use Rattle.usb_device.proofs.Left.{left}
-use Rattle.usb_device.proofs.InterfaceFrames.{opened-is}
-use Rattle.usb_device.proofs.DeviceLemmas.{counts-same}
-use Rattle.usb_device.proofs.ClaimFrames.{goes-same}
+use Rattle.usb_host.specs.CallErrors.{Leaves}
+use Rattle.usb_host.specs.Opens.{host_opened, open_key}
+use Rattle.usb_host.proofs.Left.{left}
+use Rattle.usb_host.proofs.InterfaceFrames.{opened-is}
+use Rattle.usb_ledger.proofs.DeviceLemmas.{counts-same}
+use Rattle.usb_host.proofs.ClaimFrames.{goes-same}
 use Rattle.usb_device.proofs.HeldDevices.{OpensOne, opens-one, opens-none, held-opened}
 use Rattle.usb_answers.specs.Names.{named, is_free, set_name}
 use Rattle.usb_answers.specs.State.{State, with_host}

@@ -9,9 +9,9 @@ use Rattle.usb_error.specs.ErrorState.{ErrorState}
 use Rattle.usb_simulated.specs.declared.step.KernelStep.{KernelStep}
 use Rattle.usb_kernel.specs.Tickets.{tickets}
 use Rattle.usb_bus.specs.Completions.{transfer_completion}
-use Rattle.usb_device.specs.HostState.{HostState}
-use Rattle.usb_device.proofs.CountLemmas.{KeepsCount, count-trans, rest-count}
-use Rattle.usb_device.proofs.FollowLemmas.{KeepsTickets, on-then, on-kept, on-rest}
+use Rattle.usb_host.specs.HostState.{HostState}
+use Rattle.usb_host.proofs.CountLemmas.{KeepsCount, count-trans, rest-count}
+use Rattle.usb_host.proofs.FollowLemmas.{KeepsTickets, on-then, on-kept, on-rest}
 use Rattle.usb_lines.specs.Calls.{ok_line, condition_line, error_line, result_line}
 use Rattle.usb_lines.specs.Completions.{done_line}
 use Rattle.usb_answers.specs.Names.{named, is_free, set_name}

@@ -5,19 +5,19 @@ use Rattle.std.proofs.lemmas.Bool.{cases_eq, cases_lt}
 use Rattle.std.proofs.lemmas.Option.{none-some}
 use Rattle.usb_endpoint.specs.declared.any_endpoint.AnyEndpoint.{AnyEndpoint}
 use Rattle.usb_endpoint.specs.AnyEndpoints.{state_of}
-use Rattle.usb_device.specs.HostState.{HostState}
-use Rattle.usb_device.specs.HostBus.{owner_at}
-use Rattle.usb_device.specs.Handles.{device_closed, handle_closed}
+use Rattle.usb_host.specs.HostState.{HostState}
+use Rattle.usb_host.specs.HostBus.{owner_at}
+use Rattle.usb_host.specs.Handles.{device_closed, handle_closed}
 use Rattle.usb_ledger.specs.Devices.{is_held}
 use Rattle.usb_device.specs.DeviceLaws.{holds_at}
 use Rattle.std.specs.Prelude.{option_and_then}
 use Rattle.usb_ledger.specs.Entries.{ClaimedInterface}
 use Rattle.usb_ledger.specs.declared.opened.OpenDevice.{OpenDevice}
-use Rattle.usb_device.proofs.HostFrames.{uses-discarded, uses-reaped}
+use Rattle.usb_host.proofs.HostFrames.{uses-discarded, uses-reaped}
 use Rattle.usb_registry.specs.History.{value_at}
 use Rattle.usb_kernel.specs.Tickets.{tickets}
 use Rattle.std.specs.List.{count_by}
-use Rattle.usb_device.specs.Finishes.{discarded_below, reaped_below, finished, HasEnds}
+use Rattle.usb_host.specs.Finishes.{discarded_below, reaped_below, finished, HasEnds}
 use Rattle.usb_device.specs.HandleStates.{InterfaceState}
 use Rattle.usb_answers.specs.Names.{named, freed}
 use Rattle.usb_answers.specs.State.{State, kept}

@@ -16,14 +16,14 @@ use Rattle.usb_kernel.specs.Info.{unreaped}
 use Rattle.usb_kernel.proofs.Places.{slice_get-append_seam}
 use Rattle.usb_bus.specs.Completions.{transfer_completion}
 use Rattle.usb_endpoint.specs.EndpointState.{EndpointState}
-use Rattle.usb_device.specs.HostState.{HostState}
-use Rattle.usb_device.specs.HostCalls.{host_halt_result, host_halt_cleared}
-use Rattle.usb_device.specs.HostWaits.{host_waited}
-use Rattle.usb_device.specs.HostBlocking.{host_blocked}
-use Rattle.usb_device.specs.EndpointOpens.{host_asked, host_tries, with_endpoint}
-use Rattle.usb_device.proofs.CountLemmas.{asked-count, entered-count, waited-count, blocked-count, all_discarded-count}
-use Rattle.usb_device.proofs.FollowLemmas.{on-asked, on-waited, on-blocked, on-all_discarded}
-use Rattle.usb_device.proofs.FoundLemmas.{blocked-found}
+use Rattle.usb_host.specs.HostState.{HostState}
+use Rattle.usb_host.specs.HostCalls.{host_halt_result, host_halt_cleared}
+use Rattle.usb_host.specs.HostWaits.{host_waited}
+use Rattle.usb_host.specs.HostBlocking.{host_blocked}
+use Rattle.usb_host.specs.EndpointOpens.{host_asked, host_tries, with_endpoint}
+use Rattle.usb_host.proofs.CountLemmas.{asked-count, entered-count, waited-count, blocked-count, all_discarded-count}
+use Rattle.usb_host.proofs.FollowLemmas.{on-asked, on-waited, on-blocked, on-all_discarded}
+use Rattle.usb_host.proofs.FoundLemmas.{blocked-found}
 use Rattle.usb_lines.specs.Calls.{ok_line}
 use Rattle.usb_lines.specs.Completions.{done_line, polled_line, waited_line}
 use Rattle.usb_answers.specs.Names.{named, is_free, change_named}

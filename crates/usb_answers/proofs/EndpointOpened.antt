@@ -11,11 +11,12 @@ use Rattle.usb_endpoint.specs.EndpointState.{EndpointState}
 use Rattle.usb_endpoint.specs.Handles.{Stands, KeepsOthers}
 use Rattle.usb_endpoint.proofs.Frames.{Stands-other}
 use Rattle.usb_ledger.specs.Entries.{HostEndpoint, ClaimedInterface}
-use Rattle.usb_device.specs.HostState.{HostState}
-use Rattle.usb_device.specs.HostBus.{bus_of}
+use Rattle.usb_host.specs.HostState.{HostState}
+use Rattle.usb_host.specs.HostBus.{bus_of}
 use Rattle.usb_device.specs.HandleStates.{InterfaceState}
-use Rattle.usb_device.specs.EndpointOpens.{host_asked, host_tries, with_endpoint, fresh_endpoint}
-use Rattle.usb_device.proofs.InterfaceFrames.{StandsInterface-same, asked-is, asked-counts}
+use Rattle.usb_host.specs.EndpointOpens.{host_asked, host_tries, with_endpoint, fresh_endpoint}
+use Rattle.usb_device.proofs.StandLemmas.{StandsInterface-same}
+use Rattle.usb_host.proofs.InterfaceFrames.{asked-is, asked-counts}
 use Rattle.usb_device.proofs.FreshKeys.{endpoint-within}
 use Rattle.usb_answers.specs.Names.{named, is_free, set_name}
 use Rattle.usb_answers.specs.State.{State, Endpoint, kept, with_host}
@@ -23,9 +24,10 @@ use Rattle.usb_answers.specs.OpenAt.{InterfaceAt}
 use Rattle.usb_answers.specs.Endpoints.{new_endpoint, endpoint_as, endpoint_answer}
 use Rattle.usb_answers.specs.SessionState.{SessionState, IsSound}
 use Rattle.usb_answers.specs.Relation.{Represents, session_of}
-use Rattle.usb_device.proofs.DeviceLemmas.{KeepsCounts, counts-stands, counts-there, opened-counts}
-use Rattle.usb_device.specs.HostFrames.{ClaimsGoOn}
-use Rattle.usb_device.proofs.ClaimFrames.{goes-same}
+use Rattle.usb_ledger.proofs.DeviceLemmas.{KeepsCounts, counts-there, opened-counts}
+use Rattle.usb_device.proofs.DeviceLemmas.{counts-stands}
+use Rattle.usb_host.specs.HostFrames.{ClaimsGoOn}
+use Rattle.usb_host.proofs.ClaimFrames.{goes-same}
 use Rattle.usb_device.proofs.HeldDevices.{held-goes}
 use Rattle.usb_answers.proofs.CountedDevices.{devices-kept}
 use Rattle.usb_answers.proofs.CountedNames.{counted-goes}

@@ -10,7 +10,7 @@ use Rattle.usb_kernel.specs.Completions.{done_of, completion_if, completion}
 use Rattle.usb_kernel.specs.Info.{info_of, info_for, info_if}
 use Rattle.usb_ledger.specs.declared.ends.TicketEnd.{TicketEnd}
 use Rattle.usb_ledger.specs.Entries.{HostTicket, HeldBy, Abandoned, Ended}
-use Rattle.usb_device.specs.HostState.{HostState}
+use Rattle.usb_host.specs.HostState.{HostState}
 use Rattle.usb_ledger.specs.EndedTickets.{ended_at, end_at}
 use Rattle.usb_lines.specs.Tickets.{ticket_line}
 use Rattle.usb_answers.specs.EndWords.{word_of}

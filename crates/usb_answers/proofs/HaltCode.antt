@@ -6,12 +6,12 @@ use Rattle.usb_error.specs.Errors.{clear_halt_error}
 use Rattle.usb_kernel.specs.Calls.{called}
 use Rattle.usb_endpoint.specs.CallErrors.{or_error}
 use Rattle.usb_endpoint.specs.EndpointState.{EndpointState}
-use Rattle.usb_device.specs.HostState.{HostState}
-use Rattle.usb_device.specs.HostFrames.{LineGoesOn}
-use Rattle.usb_device.specs.HostCalls.{host_halt_result, host_halt_cleared}
-use Rattle.usb_device.proofs.WaitFrames.{line-keeps}
+use Rattle.usb_host.specs.HostState.{HostState}
+use Rattle.usb_host.specs.HostFrames.{LineGoesOn}
+use Rattle.usb_host.specs.HostCalls.{host_halt_result, host_halt_cleared}
+use Rattle.usb_host.proofs.WaitFrames.{line-keeps}
 use Rattle.usb_lines.specs.Calls.{result_line}
-use Rattle.usb_device.proofs.ClaimFrames.{goes-refl}
+use Rattle.usb_host.proofs.ClaimFrames.{goes-refl}
 use Rattle.usb_answers.specs.State.{State, with_host}
 use Rattle.usb_answers.specs.Answer.{Answer, told}
 use Rattle.usb_answers.specs.Halts.{halt_cleared}

@@ -11,24 +11,24 @@ use Rattle.usb_kernel.proofs.Places.{slice_get-set_same, slice_get-set_other}
 use Rattle.usb_error.specs.ErrorState.{ErrorState}
 use Rattle.usb_ledger.specs.declared.opened.OpenDevice.{OpenDevice}
 use Rattle.usb_ledger.specs.Entries.{ClaimedInterface, fresh_interface}
-use Rattle.usb_device.specs.HostState.{HostState}
-use Rattle.usb_device.specs.HostBus.{bus_of}
+use Rattle.usb_host.specs.HostState.{HostState}
+use Rattle.usb_host.specs.HostBus.{bus_of}
 use Rattle.usb_device.specs.HandleStates.{InterfaceState, StandsInterface}
-use Rattle.usb_device.specs.Releases.{owner_gone}
+use Rattle.usb_host.specs.Releases.{owner_gone}
 use Rattle.usb_ledger.specs.Owners.{has_living}
-use Rattle.usb_device.specs.Handles.{handle_added, handle_cloned, handle_gone, handle_closed}
-use Rattle.usb_device.specs.InterfaceClaims.{claim_tried, kernel_claimed, claimed_by, claimed_on, host_claimed, claimed_key}
-use Rattle.usb_device.specs.OnInterfaces.{setting_unless, alt_setting_asked, alt_setting_set}
+use Rattle.usb_host.specs.Handles.{handle_added, handle_cloned, handle_gone, handle_closed}
+use Rattle.usb_host.specs.InterfaceClaims.{claim_tried, kernel_claimed, claimed_by, claimed_on, host_claimed, claimed_key}
+use Rattle.usb_host.specs.OnInterfaces.{setting_unless, alt_setting_asked, alt_setting_set}
 use Rattle.usb_registry.proofs.ValueLemmas.{value-set_same, value-set_other}
-use Rattle.usb_device.specs.HostFrames.{ClaimsGoOn}
-use Rattle.usb_device.proofs.ClaimFrames.{goes-same, goes-ended}
-use Rattle.usb_device.proofs.HostKeeps.{KeepsSteps}
-use Rattle.usb_device.proofs.DeviceLemmas.{KeepsOpened, opened-same}
+use Rattle.usb_host.specs.HostFrames.{ClaimsGoOn}
+use Rattle.usb_host.proofs.ClaimFrames.{goes-same, goes-ended}
+use Rattle.usb_host.proofs.HostKeeps.{KeepsSteps}
+use Rattle.usb_ledger.proofs.DeviceLemmas.{KeepsOpened, opened-same}
 use Rattle.usb_device.proofs.HeldDevices.{opened-claimed, opened-handle_closed}
 use Rattle.usb_device.specs.DeviceLaws.{DevicesAreHeld}
 use Rattle.usb_answers.proofs.SoundDevices.{stands-held}
-use Rattle.usb_device.proofs.InterfaceFrames.{bus-claimed, line-claimed, bus-handle_closed, line-handle_closed}
-use Rattle.usb_device.proofs.CalledHosts.{setting-in_use, setting-asked}
+use Rattle.usb_host.proofs.InterfaceFrames.{bus-claimed, line-claimed, bus-handle_closed, line-handle_closed}
+use Rattle.usb_host.proofs.CalledHosts.{setting-in_use, setting-asked}
 
 -- beside its interfaces a host is as it was to a session, and each open device has as many handles
 pub record KeepsBeside (old new : HostState) : Type 0 where

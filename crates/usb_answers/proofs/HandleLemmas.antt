@@ -14,13 +14,13 @@ use Rattle.usb_script.specs.declared.item.Item.{Item}
 use Rattle.usb_script.specs.declared.item.Item.TheVariants.{CloseEndpoint}
 use Rattle.usb_ledger.specs.declared.ends.TicketEnd.{TicketEnd}
 use Rattle.usb_ledger.specs.Entries.{HostTicket, HeldBy, Abandoned, Ended}
-use Rattle.usb_device.specs.HostState.{HostState}
+use Rattle.usb_host.specs.HostState.{HostState}
 use Rattle.usb_ledger.specs.EndedTickets.{ended_at}
-use Rattle.usb_device.specs.Finishes.{discarded_below, reaped_below, finished, HasEnds}
-use Rattle.usb_device.specs.HostCalls.{host_discarded}
-use Rattle.usb_device.specs.HostTurns.{host_reaped}
-use Rattle.usb_device.proofs.CountLemmas.{KeepsCount, count-same, count-trans, discarded-count, reaped-count}
-use Rattle.usb_device.proofs.FollowLemmas.{on-finished}
+use Rattle.usb_host.specs.Finishes.{discarded_below, reaped_below, finished, HasEnds}
+use Rattle.usb_host.specs.HostCalls.{host_discarded}
+use Rattle.usb_host.specs.HostTurns.{host_reaped}
+use Rattle.usb_host.proofs.CountLemmas.{KeepsCount, count-same, count-trans, discarded-count, reaped-count}
+use Rattle.usb_host.proofs.FollowLemmas.{on-finished}
 use Rattle.usb_answers.specs.Names.{named, freed}
 use Rattle.usb_answers.specs.State.{State, Endpoint, tickets_of, with_host}
 use Rattle.usb_answers.specs.Closes.{closed_at, closed}

@@ -2,7 +2,8 @@
 use Rattle.std.proofs.Common.{None, set, ◌≡◌, ℕ, ◌<◌, Bool, true, List, length, Option, Some, Result, Ok, Err, refl, ap, sym, ◌∙◌, subst, slice_get, inl, inr}
 use Rattle.usb_registry.specs.History.{value_at}
 use Rattle.usb_device.specs.DeviceLaws.{DevicesAreHeld}
-use Rattle.usb_device.proofs.DeviceLemmas.{counts-same, kept-stands}
+use Rattle.usb_ledger.proofs.DeviceLemmas.{counts-same}
+use Rattle.usb_device.proofs.DeviceLemmas.{kept-stands}
 use Rattle.usb_device.proofs.HeldDevices.{held-handle_closed, held-handle_cloned, held-claimed, held-written}
 use Rattle.usb_answers.proofs.CountedDevices.{devices-kept}
 use Rattle.usb_bus.specs.BusState.{BusState}
@@ -10,15 +11,15 @@ use Rattle.usb_error.specs.ErrorState.{ErrorState}
 use Rattle.usb_endpoint.specs.Handles.{Stands}
 use Rattle.usb_ledger.specs.declared.opened.OpenDevice.{OpenDevice}
 use Rattle.usb_ledger.specs.Entries.{ClaimedInterface, fresh_interface}
-use Rattle.usb_device.specs.HostState.{HostState}
+use Rattle.usb_host.specs.HostState.{HostState}
 use Rattle.usb_device.specs.HandleStates.{InterfaceState, StandsInterface}
-use Rattle.usb_device.specs.Handles.{handle_cloned, handle_closed}
+use Rattle.usb_host.specs.Handles.{handle_cloned, handle_closed}
 use Rattle.usb_ledger.specs.Owners.{has_living}
-use Rattle.usb_device.specs.InterfaceClaims.{claim_tried, host_claimed, claimed_key}
-use Rattle.usb_device.specs.OnInterfaces.{alt_setting_errno, setting_unless, alt_setting_set}
-use Rattle.usb_device.proofs.InterfaceFrames.{StandsInterface-claimed}
+use Rattle.usb_host.specs.InterfaceClaims.{claim_tried, host_claimed, claimed_key}
+use Rattle.usb_host.specs.OnInterfaces.{alt_setting_errno, setting_unless, alt_setting_set}
+use Rattle.usb_device.proofs.StandLemmas.{StandsInterface-claimed}
 use Rattle.usb_device.proofs.FreshKeys.{stands-within}
-use Rattle.usb_device.proofs.CalledHosts.{setting-in_use, setting-asked}
+use Rattle.usb_host.proofs.CalledHosts.{setting-in_use, setting-asked}
 use Rattle.std.proofs.lemmas.Bool.{cases_Bool}
 use Rattle.usb_answers.specs.Names.{named, is_free, freed, set_name}
 use Rattle.usb_answers.specs.State.{State}

@@ -7,11 +7,11 @@ use Rattle.usb_error.specs.ErrorState.{ErrorState}
 use Rattle.usb_error.specs.Errors.{interface_in_use_error}
 use Rattle.usb_lines.specs.Calls.{ok_line, condition_line, error_line}
 use Rattle.usb_ledger.specs.Entries.{ClaimedInterface}
-use Rattle.usb_device.specs.HostState.{HostState}
+use Rattle.usb_host.specs.HostState.{HostState}
 use Rattle.usb_device.specs.HandleStates.{InterfaceState}
-use Rattle.usb_device.specs.Handles as handles
-use Rattle.usb_device.specs.Handles.{handle_cloned, handle_closed}
-use Rattle.usb_device.specs.Owners.{is_shared}
+use Rattle.usb_host.specs.Handles as handles
+use Rattle.usb_host.specs.Handles.{handle_cloned, handle_closed}
+use Rattle.usb_host.specs.Owners.{is_shared}
 use Rattle.usb_answers.specs.Names.{named, is_free, freed, set_name}
 use Rattle.usb_answers.specs.State.{State}
 use Rattle.usb_answers.specs.OpenAt.{interface_at}

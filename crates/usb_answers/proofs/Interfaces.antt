@@ -5,12 +5,12 @@ use Rattle.usb_desc.specs.declared.error.Fail.{Fail}
 use Rattle.usb_error.specs.ErrorState.{ErrorState}
 use Rattle.usb_lines.specs.Calls.{ok_line, condition_line, error_line}
 use Rattle.usb_ledger.specs.declared.opened.OpenDevice.{OpenDevice}
-use Rattle.usb_device.specs.HostState.{HostState}
+use Rattle.usb_host.specs.HostState.{HostState}
 use Rattle.usb_device.specs.HandleStates.{InterfaceState}
-use Rattle.usb_device.specs.CallErrors.{Leaves}
-use Rattle.usb_device.specs.InterfaceClaims.{claim_tried, host_claimed, claimed_key}
-use Rattle.usb_device.proofs.Left.{left}
-use Rattle.usb_device.proofs.InterfaceFrames.{line-claimed}
+use Rattle.usb_host.specs.CallErrors.{Leaves}
+use Rattle.usb_host.specs.InterfaceClaims.{claim_tried, host_claimed, claimed_key}
+use Rattle.usb_host.proofs.Left.{left}
+use Rattle.usb_host.proofs.InterfaceFrames.{line-claimed}
 use Rattle.usb_answers.specs.Names.{named, is_free, set_name}
 use Rattle.usb_answers.specs.State.{State, with_host}
 use Rattle.usb_answers.specs.Claims.{claim_answer, claimed_as}

@@ -3,19 +3,19 @@ use Rattle.std.proofs.Common.{◌≡◌, ℕ, ◌≤◌, ◌+◌, List, ◌++◌
 use Rattle.std.specs.Prelude.{OnOk}
 use Rattle.std.specs.Option.{option_map}
 use Rattle.std.specs.declared.alloc.Global.{Global}
-use Rattle.usb_device.proofs.DeviceLemmas.{counts-same}
+use Rattle.usb_ledger.proofs.DeviceLemmas.{counts-same}
 use Rattle.usb_simulated.specs.declared.step.KernelStep.{KernelStep}
 use Rattle.usb_endpoint.specs.declared.any_endpoint.AnyEndpoint.{AnyEndpoint}
 use Rattle.usb_endpoint.specs.AnyEndpoints.{state_of}
 use Rattle.usb_endpoint.specs.EndpointState.{EndpointState}
 use Rattle.usb_endpoint.specs.Handles.{Stands, KeepsOthers}
 use Rattle.usb_endpoint.proofs.Frames.{Stands-later}
-use Rattle.usb_device.specs.HostState.{HostState}
-use Rattle.usb_device.specs.HostBus.{bus_of}
-use Rattle.usb_device.specs.HostFrames.{LineGoesOn}
-use Rattle.usb_device.specs.HostTurns.{host_rest}
-use Rattle.usb_device.proofs.CallFrames.{keeps-open}
-use Rattle.usb_device.proofs.WaitFrames.{went-rest, rest-steps, rest-spare, line-keeps}
+use Rattle.usb_host.specs.HostState.{HostState}
+use Rattle.usb_host.specs.HostBus.{bus_of}
+use Rattle.usb_host.specs.HostFrames.{LineGoesOn}
+use Rattle.usb_host.specs.HostTurns.{host_rest}
+use Rattle.usb_host.proofs.CallFrames.{keeps-open}
+use Rattle.usb_host.proofs.WaitFrames.{went-rest, rest-steps, rest-spare, line-keeps}
 use Rattle.usb_lines.specs.Calls.{condition_line}
 use Rattle.usb_answers.specs.declared.session.Session.TheInside.{Inside}
 use Rattle.usb_answers.specs.Names.{named}
@@ -28,7 +28,7 @@ use Rattle.usb_answers.specs.Relation.{Represents}
 use Rattle.usb_answers.specs.Answered.{Answered, Answers}
 use Rattle.usb_answers.specs.OpenCalls.{CallKeeps, CallAnswers, with_called}
 use Rattle.usb_answers.proofs.Answering.{told-answered, answered-none, answered-some, none_kept, host_is}
-use Rattle.usb_device.proofs.ClaimFrames.{goes-trans}
+use Rattle.usb_host.proofs.ClaimFrames.{goes-trans}
 use Rattle.usb_answers.proofs.Called.{KeepsSession, represents-host, sound-host, sound-put, taken-map, open_at}
 use Rattle.usb_answers.proofs.TakenOut.{made_with, PutBack, named-made, none_made, made-put, made-called}
 

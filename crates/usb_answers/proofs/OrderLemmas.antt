@@ -16,13 +16,13 @@ use Rattle.usb_endpoint.specs.Closes.{all_discarded, all_abandoned, after_close}
 use Rattle.usb_registry.specs.History.{value_at}
 use Rattle.usb_ledger.specs.declared.ends.TicketEnd.TheVariants.{Taken, Dropped, Reclaimed}
 use Rattle.usb_ledger.specs.Entries.{HostTicket, Hold, HeldBy, Abandoned, Ended}
-use Rattle.usb_device.specs.HostState.{HostState}
+use Rattle.usb_host.specs.HostState.{HostState}
 use Rattle.usb_ledger.specs.EndedTickets.{end_at, ended_at}
-use Rattle.usb_device.specs.Finishes.{HasEnds}
-use Rattle.usb_device.specs.TicketEnds.{host_taken, host_abandoned}
-use Rattle.usb_device.specs.HostCalls.{host_discarded, host_left}
-use Rattle.usb_device.proofs.CloseLemmas.{discards-tickets, discards-completion, abandoned-past, abandoned-others, left-tickets}
-use Rattle.usb_device.proofs.FollowLemmas.{Follows, KeepsTickets, on-all_discarded, on-left, taken-past, taken-others, taken-here, GivenUp, dropped, waits, abandoned-here}
+use Rattle.usb_host.specs.Finishes.{HasEnds}
+use Rattle.usb_host.specs.TicketEnds.{host_taken, host_abandoned}
+use Rattle.usb_host.specs.HostCalls.{host_discarded, host_left}
+use Rattle.usb_host.proofs.CloseLemmas.{discards-tickets, discards-completion, abandoned-past, abandoned-others, left-tickets}
+use Rattle.usb_host.proofs.FollowLemmas.{Follows, KeepsTickets, on-all_discarded, on-left, taken-past, taken-others, taken-here, GivenUp, dropped, waits, abandoned-here}
 use Rattle.usb_answers.specs.State.{Endpoint, pending, kept}
 use Rattle.usb_answers.specs.Polls.{one_taken}
 use Rattle.usb_answers.specs.Served.{end_given_up}

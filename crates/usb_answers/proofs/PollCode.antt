@@ -6,9 +6,9 @@ use Rattle.usb_xfer.specs.declared.transfer.Completion.{Completion}
 use Rattle.usb_bus.specs.Completions.{transfer_completion}
 use Rattle.usb_endpoint.specs.EndpointState.{EndpointState}
 use Rattle.usb_endpoint.specs.Handles.{TookNext, LeftNext}
-use Rattle.usb_device.specs.HostState.{HostState}
-use Rattle.usb_device.specs.HostBus.{bus_of}
-use Rattle.usb_device.specs.TicketEnds.{host_taken}
+use Rattle.usb_host.specs.HostState.{HostState}
+use Rattle.usb_host.specs.HostBus.{bus_of}
+use Rattle.usb_host.specs.TicketEnds.{host_taken}
 use Rattle.usb_lines.specs.Calls.{condition_line}
 use Rattle.usb_lines.specs.Completions.{polled_line, count_line}
 use Rattle.usb_answers.specs.Names.{named}

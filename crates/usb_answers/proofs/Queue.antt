@@ -8,12 +8,12 @@ use Rattle.usb_xfer.specs.declared.transfer.Completion.{Completion}
 use Rattle.usb_bus.specs.Completions.{transfer_completion}
 use Rattle.usb_endpoint.specs.EndpointState.{EndpointState}
 use Rattle.usb_endpoint.specs.Handles.{TookNext}
-use Rattle.usb_device.specs.HostState.{HostState}
-use Rattle.usb_device.specs.HostBus.{bus_of}
-use Rattle.usb_device.specs.HostFrames.{LineGoesOn}
-use Rattle.usb_device.specs.TicketEnds.{host_taken}
-use Rattle.usb_device.proofs.CallFrames.{keeps-taken}
-use Rattle.usb_device.proofs.WaitFrames.{line-keeps}
+use Rattle.usb_host.specs.HostState.{HostState}
+use Rattle.usb_host.specs.HostBus.{bus_of}
+use Rattle.usb_host.specs.HostFrames.{LineGoesOn}
+use Rattle.usb_host.specs.TicketEnds.{host_taken}
+use Rattle.usb_host.proofs.CallFrames.{keeps-taken}
+use Rattle.usb_host.proofs.WaitFrames.{line-keeps}
 use Rattle.usb_answers.specs.Names.{named, change_named}
 use Rattle.usb_answers.specs.State.{State, Endpoint, kept, with_host}
 use Rattle.usb_answers.specs.Answer.{Answer, told}

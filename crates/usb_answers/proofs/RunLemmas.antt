@@ -16,7 +16,7 @@ use Rattle.usb_endpoint.specs.declared.any_endpoint.AnyEndpoint.{AnyEndpoint}
 use Rattle.usb_endpoint.specs.EndpointState.{EndpointState}
 use Rattle.usb_endpoint.specs.AnyEndpoints.{state_of}
 use Rattle.usb_ledger.specs.Entries.{ClaimedInterface}
-use Rattle.usb_device.specs.HostState.{HostState, host_of}
+use Rattle.usb_host.specs.HostState.{HostState, host_of}
 use Rattle.usb_device.specs.HandleStates.{InterfaceState}
 use Rattle.usb_script.specs.declared.item.Item.{Item}
 use Rattle.usb_script.specs.ItemKinds.{place_count}

@@ -5,11 +5,11 @@ use Rattle.usb_error.specs.ErrorState.{ErrorState}
 use Rattle.usb_lines.specs.Calls.{condition_line, result_line}
 use Rattle.usb_lines.specs.Settings.{alt_setting_line, interface_line}
 use Rattle.usb_ledger.specs.Entries.{ClaimedInterface}
-use Rattle.usb_device.specs.HostState.{HostState}
+use Rattle.usb_host.specs.HostState.{HostState}
 use Rattle.usb_device.specs.HandleStates.{InterfaceState}
-use Rattle.usb_device.specs.EndpointOpens.{host_asked}
-use Rattle.usb_device.specs.OnInterfaces.{alt_setting_tried, alt_setting_set, current_setting}
-use Rattle.usb_device.proofs.InterfaceFrames.{asked-is}
+use Rattle.usb_host.specs.EndpointOpens.{host_asked}
+use Rattle.usb_host.specs.OnInterfaces.{alt_setting_tried, alt_setting_set, current_setting}
+use Rattle.usb_host.proofs.InterfaceFrames.{asked-is}
 use Rattle.usb_answers.specs.Names.{named}
 use Rattle.usb_answers.specs.State.{State, with_host}
 use Rattle.usb_answers.specs.Settings.{set_alt_setting_answer, get_alt_setting_answer, interface_descriptor_answer}

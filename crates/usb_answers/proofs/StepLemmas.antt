@@ -9,11 +9,11 @@ use Rattle.std.proofs.lemmas.List.Elements.{All-append, All-nil, All-cons}
 use Rattle.usb_xfer.specs.BufferState.{BufferState}
 use Rattle.usb_kernel.specs.Tickets.{tickets}
 use Rattle.usb_endpoint.specs.Submits.{entered}
-use Rattle.usb_device.specs.HostState.{HostState}
-use Rattle.usb_device.specs.HostCalls.{host_submitted, host_refused}
-use Rattle.usb_device.specs.TicketEnds.{host_taken}
-use Rattle.usb_device.proofs.CountLemmas.{KeepsCount, taken-count, closed-count, entered-count}
-use Rattle.usb_device.proofs.FollowLemmas.{on-same, adds-entered, taken-others}
+use Rattle.usb_host.specs.HostState.{HostState}
+use Rattle.usb_host.specs.HostCalls.{host_submitted, host_refused}
+use Rattle.usb_host.specs.TicketEnds.{host_taken}
+use Rattle.usb_host.proofs.CountLemmas.{KeepsCount, taken-count, closed-count, entered-count}
+use Rattle.usb_host.proofs.FollowLemmas.{on-same, adds-entered, taken-others}
 use Rattle.usb_script.specs.declared.item.Item.{Item}
 use Rattle.usb_answers.specs.Names.{named, is_free, change_named, freed, set_name, nothing, something}
 use Rattle.usb_answers.specs.State.{State, Endpoint, kept, pending, tickets_of}

@@ -9,13 +9,13 @@ use Rattle.usb_kernel.specs.Tickets.{tickets}
 use Rattle.usb_endpoint.specs.EndpointState.{EndpointState, route_of}
 use Rattle.usb_endpoint.specs.Submits.{entered, handed_over, transfer_by, is_valid}
 use Rattle.usb_endpoint.specs.Closes.{all_discarded}
-use Rattle.usb_device.specs.HostState.{HostState}
-use Rattle.usb_device.specs.HostFrames.{LineGoesOn}
-use Rattle.usb_device.proofs.HostKeeps.{KeepsOpen}
-use Rattle.usb_device.specs.HostCalls.{host_submitted, host_refused, host_discarded}
-use Rattle.usb_device.proofs.HostFrames.{uses-discarded}
-use Rattle.usb_device.proofs.CallFrames.{keeps-open, keeps-submitted, keeps-refused}
-use Rattle.usb_device.proofs.WaitFrames.{line-keeps, line-trans}
+use Rattle.usb_host.specs.HostState.{HostState}
+use Rattle.usb_host.specs.HostFrames.{LineGoesOn}
+use Rattle.usb_host.proofs.HostKeeps.{KeepsOpen}
+use Rattle.usb_host.specs.HostCalls.{host_submitted, host_refused, host_discarded}
+use Rattle.usb_host.proofs.HostFrames.{uses-discarded}
+use Rattle.usb_host.proofs.CallFrames.{keeps-open, keeps-submitted, keeps-refused}
+use Rattle.usb_host.proofs.WaitFrames.{line-keeps, line-trans}
 use Rattle.usb_lines.specs.Calls.{condition_line, ok_line}
 use Rattle.usb_answers.specs.Names.{change_named}
 use Rattle.usb_answers.specs.State.{State, Endpoint, kept, with_host}

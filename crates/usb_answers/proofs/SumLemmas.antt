@@ -6,9 +6,9 @@ use Rattle.std.proofs.lemmas.List.Sums.{count_by_more_yes, count_by_more_no, sum
 use Rattle.usb_ledger.specs.declared.ends.TicketEnd.{TicketEnd}
 use Rattle.usb_ledger.specs.declared.ends.TicketEnd.TheVariants.{Taken, Dropped, Reclaimed}
 use Rattle.usb_ledger.specs.Entries.{HostTicket, HeldBy, Abandoned, Ended}
-use Rattle.usb_device.specs.HostState.{HostState}
+use Rattle.usb_host.specs.HostState.{HostState}
 use Rattle.usb_ledger.specs.EndedTickets.{ended_at}
-use Rattle.usb_device.specs.Finishes.{HasEnds}
+use Rattle.usb_host.specs.Finishes.{HasEnds}
 use Rattle.usb_answers.specs.Sums.{has_end, ticket_has, counts_of, OneEndEach}
 
 -- the ticket of a number, as it is read

@@ -8,7 +8,7 @@ use Rattle.usb_xfer.specs.BufferState.{BufferState}
 use Rattle.usb_xfer.specs.declared.transfer.Completion.{Completion}
 use Rattle.usb_kernel.specs.Extends.{Extends}
 use Rattle.usb_bus.specs.Completions.{transfer_completion}
-use Rattle.usb_device.proofs.FollowLemmas.{taken-past}
+use Rattle.usb_host.proofs.FollowLemmas.{taken-past}
 use Rattle.usb_lines.specs.Completions.{done_line}
 use Rattle.usb_script.specs.declared.item.Item.{Item}
 use Rattle.usb_answers.specs.Names.{named, is_free, set_name}

@@ -18,9 +18,9 @@ use Rattle.usb_listings.specs.Buses.{buses_line}
 use Rattle.usb_listings.specs.Devices.{info_line}
 use Rattle.usb_listings.specs.Events.{connected_line, disconnected_line, hotplug_line}
 use Rattle.usb_listings.specs.Listings.{devices_line}
-use Rattle.usb_device.specs.HostState.{HostState}
-use Rattle.usb_device.specs.Opens.{host_opened, open_key}
-use Rattle.usb_device.proofs.InterfaceFrames.{opened-is}
+use Rattle.usb_host.specs.HostState.{HostState}
+use Rattle.usb_host.specs.Opens.{host_opened, open_key}
+use Rattle.usb_host.proofs.InterfaceFrames.{opened-is}
 use Rattle.usb_answers.specs.State.{State, with_host}
 use Rattle.usb_answers.specs.Listings.{listed, list_answer, listed_buses, buses_answer}
 use Rattle.usb_answers.specs.Probes.{probed, probe_answer, looked_for, match_answer}

@@ -14,17 +14,17 @@ use Rattle.usb_endpoint.specs.Submits.{entered}
 use Rattle.usb_endpoint.specs.Waits as waits
 use Rattle.usb_endpoint.specs.Waits.{WaitedNext, WaitedInVain}
 use Rattle.usb_endpoint.specs.Blocking.{Transferred}
-use Rattle.usb_device.specs.HostState.{HostState}
-use Rattle.usb_device.specs.HostBus.{bus_of}
-use Rattle.usb_device.specs.HostFrames.{LineGoesOn}
-use Rattle.usb_device.specs.HostCalls.{host_submitted, host_refused, host_discarded}
-use Rattle.usb_device.specs.HostTurns.{host_turned, host_turn}
-use Rattle.usb_device.specs.HostWaits.{host_waited}
-use Rattle.usb_device.specs.HostBlocking.{host_blocked}
-use Rattle.usb_device.specs.TicketEnds.{host_taken}
+use Rattle.usb_host.specs.HostState.{HostState}
+use Rattle.usb_host.specs.HostBus.{bus_of}
+use Rattle.usb_host.specs.HostFrames.{LineGoesOn}
+use Rattle.usb_host.specs.HostCalls.{host_submitted, host_refused, host_discarded}
+use Rattle.usb_host.specs.HostTurns.{host_turned, host_turn}
+use Rattle.usb_host.specs.HostWaits.{host_waited}
+use Rattle.usb_host.specs.HostBlocking.{host_blocked}
+use Rattle.usb_host.specs.TicketEnds.{host_taken}
 use Rattle.usb_device.specs.WaitLaws.{WaitIsBySteps, BlockingIsBySteps}
-use Rattle.usb_device.proofs.CallFrames.{keeps-taken}
-use Rattle.usb_device.proofs.WaitFrames.{line-keeps, line-trans, went-waited, went-blocked}
+use Rattle.usb_host.proofs.CallFrames.{keeps-taken}
+use Rattle.usb_host.proofs.WaitFrames.{line-keeps, line-trans, went-waited, went-blocked}
 use Rattle.usb_lines.specs.Calls.{condition_line}
 use Rattle.usb_lines.specs.Completions.{waited_line}
 use Rattle.usb_answers.specs.Names.{change_named}

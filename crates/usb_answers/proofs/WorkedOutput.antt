@@ -17,22 +17,22 @@ use Rattle.usb_bus.specs.Completions.{transfer_completion}
 use Rattle.usb_endpoint.specs.EndpointState.{EndpointState}
 use Rattle.usb_ledger.specs.Owners.{is_used_among, is_owned_among}
 use Rattle.usb_ledger.specs.Releases.{claim_ended, claim_of, endpoints_left}
-use Rattle.usb_device.specs.Releases.{endpoint_left, owner_gone, settled}
+use Rattle.usb_host.specs.Releases.{endpoint_left, owner_gone, settled}
 use Rattle.usb_ledger.specs.Devices.{device_changed}
 use Rattle.usb_kernel.specs.Calls.{called, after_reset}
-use Rattle.usb_device.specs.Opens.{descriptors_tried, open_tried, host_opened, open_key}
-use Rattle.usb_device.specs.InterfaceClaims.{host_claimed}
-use Rattle.usb_device.specs.EndpointOpens.{host_asked, endpoint_of_setting, host_tries}
-use Rattle.usb_device.specs.HostCalls.{host_submitted, host_refused, host_discarded, host_left}
-use Rattle.usb_device.specs.TicketEnds.{host_ended, host_taken, host_abandoned, came}
-use Rattle.usb_device.specs.HostTurns.{host_stepped, host_reaped}
-use Rattle.usb_device.specs.HostWaits.{host_waited}
-use Rattle.usb_device.specs.HostBlocking.{host_blocked}
-use Rattle.usb_device.specs.Handles.{handle_cloned, handle_closed}
-use Rattle.usb_device.specs.OnDevices.{host_detached, host_attached, host_reset, host_configured, host_speed_asked}
-use Rattle.usb_device.specs.OnInterfaces.{alt_setting_set}
-use Rattle.usb_device.specs.Speeds.{speed_of_code}
-use Rattle.usb_device.specs.Finishes.{finished}
+use Rattle.usb_host.specs.Opens.{descriptors_tried, open_tried, host_opened, open_key}
+use Rattle.usb_host.specs.InterfaceClaims.{host_claimed}
+use Rattle.usb_host.specs.EndpointOpens.{host_asked, endpoint_of_setting, host_tries}
+use Rattle.usb_host.specs.HostCalls.{host_submitted, host_refused, host_discarded, host_left}
+use Rattle.usb_host.specs.TicketEnds.{host_ended, host_taken, host_abandoned, came}
+use Rattle.usb_host.specs.HostTurns.{host_stepped, host_reaped}
+use Rattle.usb_host.specs.HostWaits.{host_waited}
+use Rattle.usb_host.specs.HostBlocking.{host_blocked}
+use Rattle.usb_host.specs.Handles.{handle_cloned, handle_closed}
+use Rattle.usb_host.specs.OnDevices.{host_detached, host_attached, host_reset, host_configured, host_speed_asked}
+use Rattle.usb_host.specs.OnInterfaces.{alt_setting_set}
+use Rattle.usb_host.specs.Speeds.{speed_of_code}
+use Rattle.usb_host.specs.Finishes.{finished}
 use Rattle.usb_lines.specs.Words.{hex_word, class_code}
 use Rattle.usb_lines.specs.Calls.{error_line}
 use Rattle.usb_lines.specs.Completions.{done_line, count_line, now_line}

@@ -3,7 +3,7 @@ use Rattle.std.specs.Prelude.{ℕ, ◌≡◌, ◌≤◌, List, Option, Some, len
 use Rattle.std.specs.List.{Contains}
 use Rattle.usb_kernel.specs.Tickets.{tickets}
 use Rattle.usb_script.specs.declared.item.Item.{Item}
-use Rattle.usb_device.specs.HostBus.{owner_at}
+use Rattle.usb_host.specs.HostBus.{owner_at}
 use Rattle.usb_answers.specs.Names.{named}
 use Rattle.usb_answers.specs.State.{State, Endpoint, pending}
 use Rattle.usb_answers.specs.Answers.{answer}

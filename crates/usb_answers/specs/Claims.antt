@@ -1,7 +1,7 @@
 -- `claim` and `detachclaim`: an interface of an open device is claimed, as it is, or (`reattach`) with its kernel driver detached, which is attached again when the claim ends. They are barred where the device is not open, or the interface's name is in use.
 use Rattle.std.specs.Prelude.{ℕ, Bool, length, Result, Ok, Err, if◌then◌else◌}
 use Rattle.usb_error.specs.ErrorState.{ErrorState}
-use Rattle.usb_device.specs.InterfaceClaims.{claim_tried, claimed_key, host_claimed}
+use Rattle.usb_host.specs.InterfaceClaims.{claim_tried, claimed_key, host_claimed}
 use Rattle.usb_answers.specs.Names.{is_free, set_name}
 use Rattle.usb_answers.specs.State.{State, with_host}
 use Rattle.usb_answers.specs.OpenAt.{DeviceAt, device_at}

@@ -1,11 +1,11 @@
 -- `cancel`, `close` and `release`. The pending transfers of an endpoint are discarded, from the last to the first; and at its close then given up, and the endpoint is left. A handle of a device or of an interface is closed; a release is refused where the interface has another owner. All are barred where nothing is open under the name.
 use Rattle.std.specs.Prelude.{ℕ, Option, Some, None, if◌then◌else◌}
 use Rattle.usb_endpoint.specs.Closes.{all_discarded, after_close}
-use Rattle.usb_device.specs.HostCalls.{host_discarded, host_left}
-use Rattle.usb_device.specs.TicketEnds.{host_abandoned}
+use Rattle.usb_host.specs.HostCalls.{host_discarded, host_left}
+use Rattle.usb_host.specs.TicketEnds.{host_abandoned}
 use Rattle.usb_device.specs.HandleStates.{InterfaceState}
-use Rattle.usb_device.specs.Handles.{device_closed, handle_closed}
-use Rattle.usb_device.specs.Owners.{is_shared}
+use Rattle.usb_host.specs.Handles.{device_closed, handle_closed}
+use Rattle.usb_host.specs.Owners.{is_shared}
 use Rattle.usb_error.specs.Errors.{interface_in_use_error}
 use Rattle.usb_answers.specs.Names.{named, freed}
 use Rattle.usb_answers.specs.State.{State, Endpoint, kept, pending, with_host}

@@ -3,8 +3,8 @@
 use Rattle.std.specs.Prelude.{ℕ, List, Result, Ok, Err}
 use Rattle.usb_desc.specs.Fields.{configuration_value}
 use Rattle.usb_error.specs.declared.active.ActiveConfigurationError.{ActiveConfigurationError}
-use Rattle.usb_device.specs.EndpointOpens.{as_asked, host_asked}
-use Rattle.usb_device.specs.OnDevices.{active_of, speed_tried, host_speed_asked, set_configuration_tried, host_configured, reset_tried, host_reset}
+use Rattle.usb_host.specs.EndpointOpens.{as_asked, host_asked}
+use Rattle.usb_host.specs.OnDevices.{active_of, speed_tried, host_speed_asked, set_configuration_tried, host_configured, reset_tried, host_reset}
 use Rattle.usb_lines.specs.Calls.{result_line}
 use Rattle.usb_lines.specs.Settings.{configuration_line, no_configuration_line, speed_line}
 use Rattle.usb_answers.specs.State.{State, with_host}

@@ -1,6 +1,6 @@
 -- `detach` and `attach`: the kernel driver of an interface of an open device. They are barred where the device is not open.
 use Rattle.std.specs.Prelude.{ℕ}
-use Rattle.usb_device.specs.OnDevices.{detach_tried, host_detached, attach_tried, host_attached}
+use Rattle.usb_host.specs.OnDevices.{detach_tried, host_detached, attach_tried, host_attached}
 use Rattle.usb_lines.specs.Calls.{result_line}
 use Rattle.usb_answers.specs.State.{State, with_host}
 use Rattle.usb_answers.specs.OpenAt.{device_at}

@@ -1,8 +1,8 @@
 -- The end of a session: what is open is closed, endpoints by number, then interfaces by number and then devices by number;
 -- then the tickets are discarded by number, and reaped by number.
 use Rattle.std.specs.Prelude.{ℕ, zero, suc, Option, Some, None}
-use Rattle.usb_device.specs.HostState.{HostState}
-use Rattle.usb_device.specs.Finishes.{finished}
+use Rattle.usb_host.specs.HostState.{HostState}
+use Rattle.usb_host.specs.Finishes.{finished}
 use Rattle.usb_device.specs.HandleStates.{InterfaceState}
 use Rattle.usb_answers.specs.Names.{named}
 use Rattle.usb_answers.specs.State.{State}

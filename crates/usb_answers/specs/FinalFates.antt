@@ -4,9 +4,9 @@ use Rattle.usb_kernel.specs.declared.submission.TicketInfo.{TicketInfo}
 use Rattle.usb_kernel.specs.Tickets.{tickets}
 use Rattle.usb_kernel.specs.Info.{info_of}
 use Rattle.usb_ledger.specs.declared.ends.TicketEnd.{TicketEnd}
-use Rattle.usb_device.specs.HostState.{HostState}
+use Rattle.usb_host.specs.HostState.{HostState}
 use Rattle.usb_ledger.specs.EndedTickets.{end_at}
-use Rattle.usb_device.specs.Finishes.{HasEnds, HasCompletions}
+use Rattle.usb_host.specs.Finishes.{HasEnds, HasCompletions}
 use Rattle.usb_lines.specs.Tickets.{ticket_line}
 use Rattle.usb_script.specs.declared.item.Item.{Item}
 use Rattle.usb_answers.specs.Fates.{end_word, fate_line, fate_lines, fate_lines_from}

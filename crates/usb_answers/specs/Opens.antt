@@ -1,7 +1,7 @@
 -- `open` and `openpath`: a device is opened at its bus and address, or at those that its folder tells. They are barred where the name is in use.
 use Rattle.std.specs.Prelude.{ℕ, List, Result, Ok, Err, if◌then◌else◌}
 use Rattle.usb_error.specs.ErrorState.{ErrorState}
-use Rattle.usb_device.specs.Opens.{host_opened, open_key}
+use Rattle.usb_host.specs.Opens.{host_opened, open_key}
 use Rattle.usb_sysfs.specs.declared.sysfs.SysfsError.{SysfsError}
 use Rattle.usb_enum.specs.Devices.{DeviceFacts}
 use Rattle.usb_enum.specs.Probing.{probe}

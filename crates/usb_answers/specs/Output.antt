@@ -8,7 +8,7 @@ use Rattle.usb_script.specs.declared.item.Item.TheVariants.{Device, Driver}
 use Rattle.usb_script.specs.ItemKinds.{place_count}
 use Rattle.usb_setup.specs.Packets.{packets_of}
 use Rattle.usb_setup.specs.Trees.{tree_of}
-use Rattle.usb_device.specs.HostState.{HostState, host_of}
+use Rattle.usb_host.specs.HostState.{HostState, host_of}
 use Rattle.usb_answers.specs.State.{State}
 use Rattle.usb_answers.specs.Answers.{answer}
 use Rattle.usb_answers.specs.Ends.{ended}

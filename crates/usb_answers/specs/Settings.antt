@@ -1,8 +1,8 @@
 -- `alt`, `getalt` and `ifdesc`: the alternate setting of a claimed interface. They are barred where the interface is not open.
 use Rattle.std.specs.Prelude.{ℕ}
-use Rattle.usb_device.specs.HostState.{HostState}
-use Rattle.usb_device.specs.EndpointOpens.{host_asked}
-use Rattle.usb_device.specs.OnInterfaces.{alt_setting_tried, alt_setting_set, current_setting}
+use Rattle.usb_host.specs.HostState.{HostState}
+use Rattle.usb_host.specs.EndpointOpens.{host_asked}
+use Rattle.usb_host.specs.OnInterfaces.{alt_setting_tried, alt_setting_set, current_setting}
 use Rattle.usb_lines.specs.Calls.{result_line}
 use Rattle.usb_lines.specs.Settings.{alt_setting_line, interface_line}
 use Rattle.usb_answers.specs.State.{State, with_host}

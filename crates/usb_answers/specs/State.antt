@@ -5,7 +5,7 @@ use Rattle.usb_kernel.specs.Tickets.{tickets}
 use Rattle.usb_sysfs.specs.Tree.{Tree}
 use Rattle.usb_enum.specs.declared.hotplug.UdevPacket.{UdevPacket}
 use Rattle.usb_endpoint.specs.EndpointState.{EndpointState}
-use Rattle.usb_device.specs.HostState.{HostState}
+use Rattle.usb_host.specs.HostState.{HostState}
 use Rattle.usb_device.specs.HandleStates.{InterfaceState}
 
 -- an open endpoint: where its submissions go, its tickets in the order of submission, and how many of them were taken

@@ -2,7 +2,7 @@
 -- are applied right after it.
 use Rattle.std.specs.Prelude.{List}
 use Rattle.usb_simulated.specs.declared.step.KernelStep.{KernelStep}
-use Rattle.usb_device.specs.HostTurns.{host_rest}
+use Rattle.usb_host.specs.HostTurns.{host_rest}
 use Rattle.usb_answers.specs.State.{State, with_host}
 use Rattle.usb_answers.specs.Answer.{Answer, told, silent}
 

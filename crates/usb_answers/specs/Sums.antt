@@ -7,8 +7,8 @@ use Rattle.usb_script.specs.ItemKinds.{is_call}
 use Rattle.usb_ledger.specs.declared.ends.TicketEnd.{TicketEnd}
 use Rattle.usb_ledger.specs.declared.ends.TicketEnd.TheVariants.{Taken, Dropped, Reclaimed}
 use Rattle.usb_ledger.specs.Entries.{HostTicket, HeldBy, Abandoned, Ended}
-use Rattle.usb_device.specs.HostState.{HostState}
-use Rattle.usb_device.specs.Finishes.{HasEnds}
+use Rattle.usb_host.specs.HostState.{HostState}
+use Rattle.usb_host.specs.Finishes.{HasEnds}
 use Rattle.usb_answers.specs.declared.summary.Summary.{Summary}
 use Rattle.usb_answers.specs.Output.{final_host}
 

@@ -8,10 +8,10 @@ use Rattle.usb_kernel.specs.Info.{unreaped}
 use Rattle.usb_bus.specs.Completions.{transfer_completion}
 use Rattle.usb_endpoint.specs.EndpointState.{EndpointState}
 use Rattle.usb_endpoint.specs.Submits.{entered}
-use Rattle.usb_device.specs.HostState.{HostState}
-use Rattle.usb_device.specs.HostCalls.{host_submitted, host_refused}
-use Rattle.usb_device.specs.HostBlocking.{host_blocked}
-use Rattle.usb_device.specs.TicketEnds.{host_taken}
+use Rattle.usb_host.specs.HostState.{HostState}
+use Rattle.usb_host.specs.HostCalls.{host_submitted, host_refused}
+use Rattle.usb_host.specs.HostBlocking.{host_blocked}
+use Rattle.usb_host.specs.TicketEnds.{host_taken}
 use Rattle.usb_lines.specs.Completions.{waited_line}
 use Rattle.usb_answers.specs.Names.{named, change_named}
 use Rattle.usb_answers.specs.State.{State, Endpoint, kept, tickets_of}

@@ -2,8 +2,8 @@
 use Rattle.std.specs.Prelude.{ℕ, Bool, List, Option, Some, None, slice_get, if◌then◌else◌}
 use Rattle.usb_simulated.specs.declared.step.KernelStep.{KernelStep}
 use Rattle.usb_bus.specs.Completions.{transfer_completion}
-use Rattle.usb_device.specs.HostState.{HostState}
-use Rattle.usb_device.specs.HostWaits.{host_waited}
+use Rattle.usb_host.specs.HostState.{HostState}
+use Rattle.usb_host.specs.HostWaits.{host_waited}
 use Rattle.usb_lines.specs.Completions.{waited_line}
 use Rattle.usb_answers.specs.Names.{named}
 use Rattle.usb_answers.specs.State.{State, with_host}

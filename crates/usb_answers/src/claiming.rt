@@ -2,7 +2,7 @@
 
 ghost use Rattle.std.specs.Prelude.{◌≡◌, OnOk, IfOk, string_bytes};
 ghost use Rattle.usb_device.specs.HandleStates.{StandsDevice, StandsInterface};
-ghost use Rattle.usb_device.specs.InterfaceClaims.{ClaimsInterface};
+ghost use Rattle.usb_device.specs.HandleCalls.{ClaimsInterface};
 ghost use Rattle.usb_answers.specs.State.{State};
 ghost use Rattle.usb_answers.specs.Answered.{Answers};
 ghost use Rattle.usb_answers.specs.Claims.{claim_answer};

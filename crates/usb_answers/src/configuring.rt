@@ -4,7 +4,7 @@ ghost use Rattle.std.specs.Prelude.{◌≡◌, ◌≤◌, ◌+◌, ◌++◌, OnO
 ghost use Rattle.std.specs.Option.{ForSome};
 ghost use Rattle.usb_registry.specs.History.{value_at};
 ghost use Rattle.usb_device.specs.HandleStates.{StandsDevice};
-ghost use Rattle.usb_device.specs.OnDevices.{active_of};
+ghost use Rattle.usb_host.specs.OnDevices.{active_of};
 ghost use Rattle.usb_answers.specs.State.{State};
 ghost use Rattle.usb_answers.specs.Answered.{Answers};
 ghost use Rattle.usb_answers.specs.Configurations.{active_line, active_answer, speed_answer, set_configuration_answer, reset_answer};

@@ -1,7 +1,7 @@
 //! The end of a session.
 
 ghost use Rattle.std.specs.Prelude.{◌≡◌, ◌<◌, ℕ, Some, None};
-ghost use Rattle.usb_device.specs.Finishes.{HasEnds, HasCompletions};
+ghost use Rattle.usb_host.specs.Finishes.{HasEnds, HasCompletions};
 ghost use Rattle.usb_registry.specs.History.{value_at};
 ghost use Rattle.usb_answers.specs.State.{State};
 ghost use Rattle.usb_answers.specs.Names.{named, freed};

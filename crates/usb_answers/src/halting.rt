@@ -3,7 +3,7 @@
 ghost use Rattle.std.specs.Prelude.{◌≡◌};
 ghost use Rattle.usb_endpoint.specs.Handles.{Stands};
 ghost use Rattle.usb_endpoint.specs.AnyEndpoints.{state_of};
-ghost use Rattle.usb_device.specs.HostBus.{bus_of};
+ghost use Rattle.usb_host.specs.HostBus.{bus_of};
 ghost use Rattle.usb_answers.specs.State.{State};
 ghost use Rattle.usb_answers.specs.Halts.{halt_cleared, clear_halt_answer};
 ghost use Rattle.usb_answers.specs.Answered.{Answers};

@@ -3,7 +3,7 @@
 ghost use Rattle.std.specs.Prelude.{◌≡◌, slice_get};
 ghost use Rattle.usb_endpoint.specs.Handles.{Stands};
 ghost use Rattle.usb_endpoint.specs.AnyEndpoints.{state_of};
-ghost use Rattle.usb_device.specs.HostBus.{bus_of};
+ghost use Rattle.usb_host.specs.HostBus.{bus_of};
 ghost use Rattle.usb_answers.specs.Pending.{pending_answer};
 ghost use Rattle.usb_answers.specs.Polls.{polled, poll_answer};
 ghost use Rattle.usb_answers.specs.Answered.{Answers};

@@ -4,7 +4,7 @@ ghost use Rattle.std.specs.Prelude.{◌≡◌};
 ghost use Rattle.usb_desc.specs.declared.types.Direction.{Direction};
 ghost use Rattle.usb_endpoint.specs.Handles.{Stands};
 ghost use Rattle.usb_endpoint.specs.AnyEndpoints.{state_of};
-ghost use Rattle.usb_device.specs.HostBus.{bus_of};
+ghost use Rattle.usb_host.specs.HostBus.{bus_of};
 ghost use Rattle.usb_answers.specs.Buffers.{in_buffer, out_buffer};
 ghost use Rattle.usb_answers.specs.Submits.{has_direction, bars_submission, submit_on, submit_answer};
 ghost use Rattle.usb_answers.specs.Answered.{Answers};

@@ -2,7 +2,7 @@
 
 ghost use Rattle.std.specs.Prelude.{◌≡◌};
 ghost use Rattle.std.specs.List.{count_by};
-ghost use Rattle.usb_device.specs.Finishes.{HasEnds};
+ghost use Rattle.usb_host.specs.Finishes.{HasEnds};
 ghost use Rattle.usb_answers.specs.Sums.{counts_of, has_end, is_same_end, ticket_has};
 
 use usb_device::{Host, TicketEnd};

@@ -20,14 +20,14 @@ use Rattle.usb_ledger.specs.declared.owners.EndedClaim.{EndedClaim}
 use Rattle.usb_ledger.specs.declared.slot.TicketState.{TicketState}
 use Rattle.usb_ledger.specs.declared.slot.TicketState.TheVariants as slot
 use Rattle.usb_ledger.specs.Entries.{Ended}
-use Rattle.usb_device.specs.HostState.{HostState}
-use Rattle.usb_device.specs.HostFacts.{TicketsAgree, Fits, host_made}
+use Rattle.usb_host.specs.HostState.{HostState}
+use Rattle.usb_host.specs.HostFacts.{TicketsAgree, Fits, host_made}
 use Rattle.usb_ledger.specs.LedgerState.{LedgerState, host_ticket, slot_with, abandoned_key, ended_with, left_with}
-use Rattle.usb_device.specs.Releases.{without_ended, endpoint_left, settled}
-use Rattle.usb_device.specs.TicketEnds.{came, host_ended}
+use Rattle.usb_host.specs.Releases.{without_ended, endpoint_left, settled}
+use Rattle.usb_host.specs.TicketEnds.{came, host_ended}
 use Rattle.usb_ledger.proofs.ListLemmas.{slice_get-set}
 use Rattle.usb_ledger.proofs.LedgerLemmas.{ticket-at, tickets-same}
-use Rattle.usb_device.proofs.KernelFrames.{released-as}
+use Rattle.usb_host.proofs.KernelFrames.{released-as}
 
 pub Fits-same : (past next : List Event) (t : ℕ) (s : TicketState) → completion next t ≡ completion past t → Fits past t s → Fits next t s
 unfolding transfer_completion

@@ -19,21 +19,21 @@ use Rattle.std.specs.Option.{option_map}
 use Rattle.usb_bus.specs.Completions.{transfer_completion, completion_of}
 use Rattle.usb_endpoint.specs.Waits.{time_is_up}
 use Rattle.usb_ledger.specs.Entries.{Hold}
-use Rattle.usb_device.specs.HostState.{HostState}
-use Rattle.usb_device.specs.HostTurns.{host_stepped, host_reaped, host_turned, host_turn}
-use Rattle.usb_device.specs.HostCalls.{host_idled}
-use Rattle.usb_device.specs.HostWaits.{is_found}
-use Rattle.usb_device.specs.HostBlocking.{or_then}
-use Rattle.usb_device.specs.HostAwaits.{deadline_of, sought_reaps, sought_steps, host_awaited, host_turned_until}
+use Rattle.usb_host.specs.HostState.{HostState}
+use Rattle.usb_host.specs.HostTurns.{host_stepped, host_reaped, host_turned, host_turn}
+use Rattle.usb_host.specs.HostCalls.{host_idled}
+use Rattle.usb_host.specs.HostWaits.{is_found}
+use Rattle.usb_host.specs.HostBlocking.{or_then}
+use Rattle.usb_host.specs.HostAwaits.{deadline_of, sought_reaps, sought_steps, host_awaited, host_turned_until}
 use Rattle.usb_bus.specs.BusState.{BusState}
 use Rattle.usb_kernel.specs.Steps.{stepped}
-use Rattle.usb_device.specs.HostBus.{hold_at}
-use Rattle.usb_device.specs.HostFrames.{HostGoesOn}
+use Rattle.usb_host.specs.HostBus.{hold_at}
+use Rattle.usb_host.specs.HostFrames.{HostGoesOn}
 use Rattle.usb_kernel.proofs.Waiting.{waiting-few}
-use Rattle.usb_device.proofs.BusLemmas.{bus_of-stepped}
-use Rattle.usb_device.proofs.WaitFrames.{went-turned, went-uses, went-trans}
-use Rattle.usb_device.proofs.HostFrames.{uses-reaped, uses-stepped, uses-idled}
-use Rattle.usb_device.proofs.HostWaitLemmas.{reaped-past, turn-nil, turned-nil, turn-step, turned-step}
+use Rattle.usb_host.proofs.BusLemmas.{bus_of-stepped}
+use Rattle.usb_host.proofs.WaitFrames.{went-turned, went-uses, went-trans}
+use Rattle.usb_host.proofs.HostFrames.{uses-reaped, uses-stepped, uses-idled}
+use Rattle.usb_host.proofs.HostWaitLemmas.{reaped-past, turn-nil, turned-nil, turn-step, turned-step}
 
 module _ (t : ℕ) where
   reaps-found : (m : ℕ) (h : HostState) → is_found h t ≡ true → sought_reaps m h t ≡ (true, h)

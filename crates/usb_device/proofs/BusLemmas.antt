@@ -33,14 +33,14 @@ use Rattle.usb_bus.specs.Turns.{Falls}
 use Rattle.usb_bus.specs.Turns.{reap_turn}
 use Rattle.usb_ledger.specs.declared.ends.TicketEnd.TheVariants.{Dropped, Reclaimed}
 use Rattle.usb_ledger.specs.Entries.{HostTicket, HostEndpoint, Hold, HeldBy, Abandoned, Ended}
-use Rattle.usb_device.specs.HostState.{HostState}
-use Rattle.usb_device.specs.HostBus.{bus_of, owner_at, held_as, key_at, turns_left}
-use Rattle.usb_device.specs.HostBusFacts.{owner_at-set, bus_of-ended, bus_of-settled, without_owner-none}
-use Rattle.usb_device.specs.HostCalls.{host_submitted, host_refused, host_left, host_discarded, submitted_with, refused_with}
-use Rattle.usb_device.specs.Releases.{endpoint_left, settled}
-use Rattle.usb_device.proofs.HostCallLemmas.{open-at}
-use Rattle.usb_device.specs.HostTurns.{host_turned, host_turn, turned_of, reaped_of, turn_for, host_stepped, host_reaped}
-use Rattle.usb_device.specs.TicketEnds.{host_abandoned, given_up, reclaimed_if, came}
+use Rattle.usb_host.specs.HostState.{HostState}
+use Rattle.usb_host.specs.HostBus.{bus_of, owner_at, held_as, key_at, turns_left}
+use Rattle.usb_host.specs.HostBusFacts.{owner_at-set, bus_of-ended, bus_of-settled, without_owner-none}
+use Rattle.usb_host.specs.HostCalls.{host_submitted, host_refused, host_left, host_discarded, submitted_with, refused_with}
+use Rattle.usb_host.specs.Releases.{endpoint_left, settled}
+use Rattle.usb_host.proofs.HostCallLemmas.{open-at}
+use Rattle.usb_host.specs.HostTurns.{host_turned, host_turn, turned_of, reaped_of, turn_for, host_stepped, host_reaped}
+use Rattle.usb_host.specs.TicketEnds.{host_abandoned, given_up, reclaimed_if, came}
 
 -- what comes to a host leaves the bus
 owner-abandoned : (tickets : List HostTicket) (t key : ℕ) → slice_get tickets t ≡ Some (Abandoned key) → owner_at tickets t ≡ None

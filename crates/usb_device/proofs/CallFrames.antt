@@ -14,18 +14,18 @@ use Rattle.usb_endpoint.proofs.HandleLemmas.{without_owner-other}
 use Rattle.usb_ledger.specs.declared.ends.TicketEnd.{TicketEnd}
 use Rattle.usb_ledger.specs.declared.ends.TicketEnd.TheVariants.{Taken, Dropped}
 use Rattle.usb_ledger.specs.Entries.{HostTicket, HostEndpoint, Hold, HeldBy, Abandoned, Ended}
-use Rattle.usb_device.specs.HostState.{HostState}
-use Rattle.usb_device.specs.Releases.{endpoint_left, settled}
-use Rattle.usb_device.specs.TicketEnds.{ended_as, host_ended, host_taken, given_up, host_abandoned}
-use Rattle.usb_device.specs.HostCalls.{submitted_with, host_submitted, refused_with, host_refused, closed_if, host_left}
-use Rattle.usb_device.specs.HostBus.{held_as, owner_at, key_at, bus_of}
-use Rattle.usb_device.proofs.HostKeeps.{KeepsLine, KeepsOpen}
-use Rattle.usb_device.proofs.HostFrames.{ended_as-is, ended_as-goes, owner-set_other}
-use Rattle.usb_device.specs.HostBusFacts.{key-left}
+use Rattle.usb_host.specs.HostState.{HostState}
+use Rattle.usb_host.specs.Releases.{endpoint_left, settled}
+use Rattle.usb_host.specs.TicketEnds.{ended_as, host_ended, host_taken, given_up, host_abandoned}
+use Rattle.usb_host.specs.HostCalls.{submitted_with, host_submitted, refused_with, host_refused, closed_if, host_left}
+use Rattle.usb_host.specs.HostBus.{held_as, owner_at, key_at, bus_of}
+use Rattle.usb_host.proofs.HostKeeps.{KeepsLine, KeepsOpen}
+use Rattle.usb_host.proofs.HostFrames.{ended_as-is, ended_as-goes, owner-set_other}
+use Rattle.usb_host.specs.HostBusFacts.{key-left}
 use Rattle.usb_registry.specs.History.{value_at}
 use Rattle.usb_registry.proofs.ValueLemmas.{value-set_other}
-use Rattle.usb_device.proofs.ClaimFrames.{goes-refl, goes-of}
-use Rattle.usb_device.specs.HostFrames.{ClaimsGoOn}
+use Rattle.usb_host.proofs.ClaimFrames.{goes-refl, goes-of}
+use Rattle.usb_host.specs.HostFrames.{ClaimsGoOn}
 
 -- nothing that handles stand on has changed
 pub keeps-open : (h : HostState) → KeepsOpen h h

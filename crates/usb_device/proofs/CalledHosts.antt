@@ -16,19 +16,19 @@ use Rattle.usb_kernel.specs.Steps.{after_step}
 use Rattle.usb_kernel.proofs.CallsKept.{reset-unplug, refused-reset}
 use Rattle.usb_registry.specs.History.{value_at}
 use Rattle.usb_registry.proofs.ValueLemmas.{set-value_same}
-use Rattle.usb_device.specs.declared.host.Host.TheInside.{Inside}
+use Rattle.usb_host.specs.declared.host.Host.TheInside.{Inside}
 use Rattle.usb_ledger.specs.declared.opened.OpenDevice.{OpenDevice}
 use Rattle.usb_ledger.specs.declared.slot.TicketState.{TicketState}
 use Rattle.usb_ledger.specs.Entries.{ClaimedInterface}
-use Rattle.usb_device.specs.HostState.{HostState}
-use Rattle.usb_device.specs.HostFacts.{IsMatched, TicketsAgree, host_made}
+use Rattle.usb_host.specs.HostState.{HostState}
+use Rattle.usb_host.specs.HostFacts.{IsMatched, TicketsAgree, host_made}
 use Rattle.usb_ledger.specs.LedgerState.{LedgerState}
 use Rattle.usb_desc.specs.declared.error.NoMemory.{NoMemory}
-use Rattle.usb_device.specs.Handles.{handle_added, handle_cloned}
+use Rattle.usb_host.specs.Handles.{handle_added, handle_cloned}
 use Rattle.usb_ledger.specs.Owners.{has_living}
-use Rattle.usb_device.specs.OnDevices.{detached_on, host_detached, attached_on, host_attached, reset_on, host_reset, set_configuration_errno, configured_unless, configured_on, host_configured, speed_asked_on, host_speed_asked}
-use Rattle.usb_device.specs.OnInterfaces.{alt_setting_errno, setting_unless, alt_setting_asked, alt_setting_set}
-use Rattle.usb_device.proofs.ArrivalLemmas.{TicketsAgree-none, CompletesOnly-step}
+use Rattle.usb_host.specs.OnDevices.{detached_on, host_detached, attached_on, host_attached, reset_on, host_reset, set_configuration_errno, configured_unless, configured_on, host_configured, speed_asked_on, host_speed_asked}
+use Rattle.usb_host.specs.OnInterfaces.{alt_setting_errno, setting_unless, alt_setting_asked, alt_setting_set}
+use Rattle.usb_host.proofs.ArrivalLemmas.{TicketsAgree-none, CompletesOnly-step}
 
 -- a host is matched where its journal, its places, its slots and its steps are
 pub matched-next : (h next : Inside) → IsMatched h → next.kernel.past ≡ h.kernel.past → next.kernel.spare ≡ h.kernel.spare → next.ledger.slots ≡ h.ledger.slots → next.steps ≡ h.steps → IsMatched next

@@ -9,7 +9,7 @@ use Rattle.usb_ledger.specs.declared.owners.EndedClaim.{EndedClaim}
 use Rattle.usb_ledger.specs.Entries.{ClaimedInterface, HostTicket, HostEndpoint}
 use Rattle.usb_ledger.specs.Owners.{if_there, lives, has_living, is_owned_among}
 use Rattle.usb_ledger.specs.Releases.{claim_ended, interface_at, claim_of, without_key, without_claim, endpoints_left}
-use Rattle.usb_device.specs.HostFrames.{EntriesGoOn, ClaimsGoOn, EndpointsGoOn}
+use Rattle.usb_host.specs.HostFrames.{EntriesGoOn, ClaimsGoOn, EndpointsGoOn}
 
 module _ {T : Type 0} {IsOpen : T → Type 0} where
   pub goes-same : (old new : List (Option T)) → new ≡ old → EntriesGoOn IsOpen old new

@@ -16,12 +16,12 @@ use Rattle.usb_ledger.specs.declared.ends.TicketEnd.TheVariants.{Dropped}
 use Rattle.usb_device.specs.EndLaws.{DroppedWhereReaped, FutureDroppedWhereReaped}
 use Rattle.usb_device.specs.Futures.{closed_by}
 use Rattle.usb_ledger.specs.Entries.{HostTicket, HostEndpoint, Hold, HeldBy, Abandoned, Ended}
-use Rattle.usb_device.specs.HostState.{HostState}
+use Rattle.usb_host.specs.HostState.{HostState}
 use Rattle.usb_ledger.specs.EndedTickets.{end_at, ended_at}
-use Rattle.usb_device.specs.HostBus.{owner_at, held_as}
-use Rattle.usb_device.specs.HostCalls.{host_discarded, host_left, closed_if}
-use Rattle.usb_device.specs.Releases.{endpoint_left, settled}
-use Rattle.usb_device.specs.TicketEnds.{ended_as, host_ended, given_up, host_abandoned}
+use Rattle.usb_host.specs.HostBus.{owner_at, held_as}
+use Rattle.usb_host.specs.HostCalls.{host_discarded, host_left, closed_if}
+use Rattle.usb_host.specs.Releases.{endpoint_left, settled}
+use Rattle.usb_host.specs.TicketEnds.{ended_as, host_ended, given_up, host_abandoned}
 
 -- discards leave the tickets, and what is reaped
 pub discards-tickets : (h : HostState) (ts : List ℕ) → (all_discarded host_discarded h ts).tickets ≡ h.tickets

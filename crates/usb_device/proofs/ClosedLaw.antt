@@ -7,8 +7,8 @@ use Rattle.usb_ledger.specs.Entries.{HostTicket, HostEndpoint, ClaimedInterface,
 use Rattle.usb_ledger.specs.declared.opened.OpenDevice.{OpenDevice}
 use Rattle.usb_ledger.specs.Owners.{is_ticket_of, lives, lives_on, if_there, has_living, is_owned_among}
 use Rattle.usb_ledger.specs.Devices.{is_held}
-use Rattle.usb_device.specs.HostState.{HostState}
-use Rattle.usb_device.specs.Finishes.{HasEnds}
+use Rattle.usb_host.specs.HostState.{HostState}
+use Rattle.usb_host.specs.Finishes.{HasEnds}
 use Rattle.usb_device.specs.DeviceLaws.{holds_at, DevicesAreHeld}
 use Rattle.usb_device.specs.OwnerLaws.{InterfacesAreOwned, EndpointsLive}
 use Rattle.usb_device.specs.ClosedLaws.{IsClosed, IsEmpty, ClosedIsEmpty}

@@ -25,19 +25,19 @@ use Rattle.usb_ledger.specs.declared.slot.TicketState.TheVariants as slot
 use Rattle.usb_ledger.specs.Entries.{Hold, HostTicket, HeldBy, HostEndpoint, control_endpoint}
 use Rattle.usb_ledger.specs.LedgerState.{LedgerState}
 use Rattle.usb_registry.proofs.ValueLemmas.{value-last}
-use Rattle.usb_device.specs.HostState.{HostState}
-use Rattle.usb_device.specs.HostBus.{bus_of, held_as, owner_at, key_at}
-use Rattle.usb_device.specs.HostCalls.{host_idled}
-use Rattle.usb_device.specs.HostFacts.{host_made}
-use Rattle.usb_device.specs.HostFrames.{HostGoesOn}
-use Rattle.usb_device.specs.HostTurns.{host_stepped}
-use Rattle.usb_device.specs.HostWaits.{is_found, reap_and}
-use Rattle.usb_device.specs.HostAwaits.{deadline_of, sought_reaps, sought_steps, host_awaited}
-use Rattle.usb_device.specs.Controls.{host_started}
-use Rattle.usb_device.proofs.HostKeeps.{KeepsLine}
-use Rattle.usb_device.proofs.HostFrames.{uses-stepped, uses-idled}
-use Rattle.usb_device.proofs.EndpointLemmas.{key-kept}
-use Rattle.usb_device.proofs.WaitFrames.{went-nowhere, went-trans, went-uses, went-stepped, went-reap_and, went-or_then}
+use Rattle.usb_host.specs.HostState.{HostState}
+use Rattle.usb_host.specs.HostBus.{bus_of, held_as, owner_at, key_at}
+use Rattle.usb_host.specs.HostCalls.{host_idled}
+use Rattle.usb_host.specs.HostFacts.{host_made}
+use Rattle.usb_host.specs.HostFrames.{HostGoesOn}
+use Rattle.usb_host.specs.HostTurns.{host_stepped}
+use Rattle.usb_host.specs.HostWaits.{is_found, reap_and}
+use Rattle.usb_host.specs.HostAwaits.{deadline_of, sought_reaps, sought_steps, host_awaited}
+use Rattle.usb_host.specs.Controls.{host_started}
+use Rattle.usb_host.proofs.HostKeeps.{KeepsLine}
+use Rattle.usb_host.proofs.HostFrames.{uses-stepped, uses-idled}
+use Rattle.usb_host.proofs.EndpointLemmas.{key-kept}
+use Rattle.usb_host.proofs.WaitFrames.{went-nowhere, went-trans, went-uses, went-stepped, went-reap_and, went-or_then}
 
 -- what is asked for is the maximum, once
 pub whole-once : (s : Submission) → s.maximum ≡ s.buffer.requested → IsWhole s

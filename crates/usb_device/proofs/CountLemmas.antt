@@ -23,19 +23,19 @@ use Rattle.usb_ledger.specs.declared.ends.TicketEnd.TheVariants.{Taken, Dropped,
 use Rattle.usb_registry.specs.History.{value_at}
 use Rattle.usb_ledger.specs.declared.opened.OpenDevice.{OpenDevice}
 use Rattle.usb_ledger.specs.Entries.{HostTicket, HostEndpoint, ClaimedInterface, fresh_interface, HeldBy, Abandoned, Ended}
-use Rattle.usb_device.specs.HostState.{HostState}
-use Rattle.usb_device.specs.Releases.{endpoint_left, settled, owner_gone}
-use Rattle.usb_device.specs.TicketEnds.{ended_as, host_ended, host_taken, given_up, host_abandoned, reclaimed_if, came}
-use Rattle.usb_device.specs.HostTurns.{with_past, host_stepped, host_reaped, all_stepped, host_rest}
-use Rattle.usb_device.specs.HostCalls.{host_submitted, host_refused, host_discarded, closed_if, host_left}
-use Rattle.usb_device.specs.HostWaits.{is_found, is_late, reap_and, wait_reaps, wait_steps, host_waited}
-use Rattle.usb_device.specs.HostBlocking.{or_then, waited_by_seconds, host_blocked}
-use Rattle.usb_device.specs.Handles.{handle_gone, handle_closed}
+use Rattle.usb_host.specs.HostState.{HostState}
+use Rattle.usb_host.specs.Releases.{endpoint_left, settled, owner_gone}
+use Rattle.usb_host.specs.TicketEnds.{ended_as, host_ended, host_taken, given_up, host_abandoned, reclaimed_if, came}
+use Rattle.usb_host.specs.HostTurns.{with_past, host_stepped, host_reaped, all_stepped, host_rest}
+use Rattle.usb_host.specs.HostCalls.{host_submitted, host_refused, host_discarded, closed_if, host_left}
+use Rattle.usb_host.specs.HostWaits.{is_found, is_late, reap_and, wait_reaps, wait_steps, host_waited}
+use Rattle.usb_host.specs.HostBlocking.{or_then, waited_by_seconds, host_blocked}
+use Rattle.usb_host.specs.Handles.{handle_gone, handle_closed}
 use Rattle.usb_error.specs.ErrorState.{ErrorState}
 use Rattle.usb_kernel.specs.Calls.{called}
-use Rattle.usb_device.specs.InterfaceClaims.{claim_tried, kernel_claimed, claimed_by, claimed_on, host_claimed}
-use Rattle.usb_device.specs.EndpointOpens.{asked_on, host_asked}
-use Rattle.usb_device.proofs.KernelFrames.{kernel_claimed-is}
+use Rattle.usb_host.specs.InterfaceClaims.{claim_tried, kernel_claimed, claimed_by, claimed_on, host_claimed}
+use Rattle.usb_host.specs.EndpointOpens.{asked_on, host_asked}
+use Rattle.usb_host.proofs.KernelFrames.{kernel_claimed-is}
 
 -- no ticket was added
 pub record KeepsCount (old new : HostState) : Type 0 where

@@ -1,6 +1,6 @@
 -- Handles of open devices stand where these keep their counts.
 use Rattle.std.proofs.Common.{ℕ, ◌<◌, arith}
-use Rattle.usb_device.specs.HostState.{HostState}
+use Rattle.usb_host.specs.HostState.{HostState}
 use Rattle.usb_device.specs.HandleStates.{StandsDevice}
 pub use Rattle.usb_ledger.proofs.DeviceLemmas.{changed-none, changed-some, changed-held, changed-gone, held-handle_more, held-interface_more, changed-removed, changed-at, changed-other, changed-there, counts-same, counts-set, Counted, counted-new, counted-old, counts-there, there-same, there-push, HasHandles, KeepsOpened, opened-counts, opened-same, handle-held, is-changed, opened-changed, counts_of, KeepsCounts, KeepsThere}
 

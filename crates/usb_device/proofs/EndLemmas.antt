@@ -20,24 +20,24 @@ use Rattle.usb_ledger.specs.declared.ends.TicketEnd.TheVariants.{Taken, Dropped,
 use Rattle.usb_registry.specs.History.{value_at}
 use Rattle.usb_ledger.specs.declared.opened.OpenDevice.{OpenDevice}
 use Rattle.usb_ledger.specs.Entries.{HostTicket, HostEndpoint, ClaimedInterface, fresh_interface, HeldBy, Abandoned, Ended}
-use Rattle.usb_device.specs.HostState.{HostState}
+use Rattle.usb_host.specs.HostState.{HostState}
 use Rattle.usb_ledger.specs.EndedTickets.{end_at, ended_at}
 use Rattle.usb_device.specs.EndLaws.{KeepsEnds, EndsStay}
-use Rattle.usb_device.specs.Releases.{endpoint_left, settled, owner_gone}
-use Rattle.usb_device.specs.TicketEnds.{ended_as, host_ended, host_taken, given_up, host_abandoned, reclaimed_if, came}
-use Rattle.usb_device.specs.HostTurns.{host_stepped, host_reaped, reaped_of, turned_of, host_turned, all_stepped, host_rest}
-use Rattle.usb_device.specs.HostWaits.{is_found, reap_and}
-use Rattle.usb_device.specs.HostAwaits.{sought_reaps, sought_steps, host_awaited}
-use Rattle.usb_device.specs.Controls.{host_started}
-use Rattle.usb_device.specs.HostCalls.{host_idled, submitted_with, host_submitted, refused_with, host_refused, host_discarded, closed_if, host_left}
-use Rattle.usb_device.specs.Finishes.{discarded_below, reaped_below, finished}
-use Rattle.usb_device.specs.Handles.{handle_added, handle_cloned, handle_gone, handle_closed}
+use Rattle.usb_host.specs.Releases.{endpoint_left, settled, owner_gone}
+use Rattle.usb_host.specs.TicketEnds.{ended_as, host_ended, host_taken, given_up, host_abandoned, reclaimed_if, came}
+use Rattle.usb_host.specs.HostTurns.{host_stepped, host_reaped, reaped_of, turned_of, host_turned, all_stepped, host_rest}
+use Rattle.usb_host.specs.HostWaits.{is_found, reap_and}
+use Rattle.usb_host.specs.HostAwaits.{sought_reaps, sought_steps, host_awaited}
+use Rattle.usb_host.specs.Controls.{host_started}
+use Rattle.usb_host.specs.HostCalls.{host_idled, submitted_with, host_submitted, refused_with, host_refused, host_discarded, closed_if, host_left}
+use Rattle.usb_host.specs.Finishes.{discarded_below, reaped_below, finished}
+use Rattle.usb_host.specs.Handles.{handle_added, handle_cloned, handle_gone, handle_closed}
 use Rattle.usb_ledger.specs.Owners.{has_living}
-use Rattle.usb_device.specs.OnDevices.{detached_on, host_detached, attached_on, host_attached, reset_on, host_reset, configured_on, host_configured, speed_asked_on, host_speed_asked}
-use Rattle.usb_device.specs.OnInterfaces.{alt_setting_asked, alt_setting_on, alt_setting_set}
-use Rattle.usb_device.specs.Opens.{open_tried, opened_by, host_opened}
-use Rattle.usb_device.specs.InterfaceClaims.{claim_tried, kernel_claimed, claimed_by, claimed_on, host_claimed}
-use Rattle.usb_device.specs.EndpointOpens.{asked_on, host_asked}
+use Rattle.usb_host.specs.OnDevices.{detached_on, host_detached, attached_on, host_attached, reset_on, host_reset, configured_on, host_configured, speed_asked_on, host_speed_asked}
+use Rattle.usb_host.specs.OnInterfaces.{alt_setting_asked, alt_setting_on, alt_setting_set}
+use Rattle.usb_host.specs.Opens.{open_tried, opened_by, host_opened}
+use Rattle.usb_host.specs.InterfaceClaims.{claim_tried, kernel_claimed, claimed_by, claimed_on, host_claimed}
+use Rattle.usb_host.specs.EndpointOpens.{asked_on, host_asked}
 
 same : (h : HostState) → KeepsEnds h h
 same h t end at = at

@@ -4,16 +4,16 @@ use Rattle.usb_xfer.specs.BufferState.{BufferState}
 use Rattle.usb_endpoint.specs.EndpointState.{EndpointState, route_of}
 use Rattle.usb_endpoint.specs.Submits.{is_valid, transfer_by, entered}
 use Rattle.usb_endpoint.specs.Closes.{all_discarded, all_abandoned, after_close}
-use Rattle.usb_device.specs.HostState.{HostState}
-use Rattle.usb_device.specs.TicketEnds.{host_abandoned}
-use Rattle.usb_device.specs.HostCalls.{host_submitted, host_refused, host_discarded, host_left}
-use Rattle.usb_device.specs.HostFrames.{HostGoesOn}
-use Rattle.usb_device.proofs.HostKeeps.{KeepsLine, KeepsOpen}
-use Rattle.usb_device.specs.HostFrames.{ClaimsGoOn}
-use Rattle.usb_device.proofs.ClaimFrames.{goes-refl, goes-trans}
-use Rattle.usb_device.proofs.CallFrames.{keeps-open, keeps-submitted, keeps-refused, keeps-abandoned, line-left, interfaces-left}
-use Rattle.usb_device.proofs.HostFrames.{uses-discarded}
-use Rattle.usb_device.proofs.WaitFrames.{went-uses, went-nowhere, went-trans}
+use Rattle.usb_host.specs.HostState.{HostState}
+use Rattle.usb_host.specs.TicketEnds.{host_abandoned}
+use Rattle.usb_host.specs.HostCalls.{host_submitted, host_refused, host_discarded, host_left}
+use Rattle.usb_host.specs.HostFrames.{HostGoesOn}
+use Rattle.usb_host.proofs.HostKeeps.{KeepsLine, KeepsOpen}
+use Rattle.usb_host.specs.HostFrames.{ClaimsGoOn}
+use Rattle.usb_host.proofs.ClaimFrames.{goes-refl, goes-trans}
+use Rattle.usb_host.proofs.CallFrames.{keeps-open, keeps-submitted, keeps-refused, keeps-abandoned, line-left, interfaces-left}
+use Rattle.usb_host.proofs.HostFrames.{uses-discarded}
+use Rattle.usb_host.proofs.WaitFrames.{went-uses, went-nowhere, went-trans}
 
 -- a submission keeps what is open, valid or not
 pub keeps-entered : (h : HostState) (e : EndpointState) (b : BufferState) → KeepsOpen h (entered host_submitted host_refused h e b)

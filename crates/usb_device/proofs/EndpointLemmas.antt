@@ -10,22 +10,22 @@ use Rattle.usb_desc.specs.Fields.{direction_of_address, transfer_type, max_packe
 use Rattle.usb_registry.specs.History.{value_at}
 use Rattle.usb_ledger.specs.declared.opened.OpenDevice.{OpenDevice}
 use Rattle.usb_ledger.specs.Entries.{ClaimedInterface}
-use Rattle.usb_device.specs.HostState.{HostState}
+use Rattle.usb_host.specs.HostState.{HostState}
 use Rattle.usb_ledger.specs.Entries.{HostEndpoint, HostTicket}
-use Rattle.usb_device.specs.HostBus.{bus_of, key_at, owner_at}
+use Rattle.usb_host.specs.HostBus.{bus_of, key_at, owner_at}
 use Rattle.usb_device.specs.HandleStates.{InterfaceState, StandsInterface}
-use Rattle.usb_device.specs.EndpointOpens.{with_endpoint}
+use Rattle.usb_host.specs.EndpointOpens.{with_endpoint}
 use Rattle.usb_endpoint.specs.EndpointState.{EndpointState}
 use Rattle.usb_endpoint.specs.Handles.{Stands, KeepsOthers}
-use Rattle.usb_device.specs.Owners.{is_in_use}
-use Rattle.usb_device.specs.EndpointRefusals.{endpoint_tried, same_direction, is_type}
+use Rattle.usb_host.specs.Owners.{is_in_use}
+use Rattle.usb_host.specs.EndpointRefusals.{endpoint_tried, same_direction, is_type}
 use Rattle.usb_simulated.specs.declared.step.KernelCall.TheVariants as call
 use Rattle.usb_simulated.specs.Claims.{no_rules}
 use Rattle.usb_simulated.specs.Calls.{same}
 use Rattle.usb_kernel.specs.Calls.{called}
-use Rattle.usb_device.proofs.InterfaceFrames.{asked-is, asked-counts}
-use Rattle.usb_device.proofs.DeviceLemmas.{counts-there}
-use Rattle.usb_device.specs.EndpointOpens.{active_value, host_asked, asked_on, endpoint_in, endpoint_of_setting, host_tries}
+use Rattle.usb_host.proofs.InterfaceFrames.{asked-is, asked-counts}
+use Rattle.usb_ledger.proofs.DeviceLemmas.{counts-there}
+use Rattle.usb_host.specs.EndpointOpens.{active_value, host_asked, asked_on, endpoint_in, endpoint_of_setting, host_tries}
 
 pub asked-at : (h : HostState) (key : ℕ) (o : OpenDevice) → value_at h.devices key ≡ Some o → host_asked h key ≡ record h { kernel = called h.kernel o.device call.GetConfig no_rules same; devices = set h.devices key (Some (record o { configuration = active_value h.kernel o })) }
 unfolding host_asked

@@ -23,11 +23,11 @@ use Rattle.usb_bus.specs.Holds.{held_at_once}
 use Rattle.usb_ledger.specs.declared.opened.OpenDevice.{OpenDevice}
 use Rattle.usb_ledger.specs.declared.slot.TicketState.{TicketState}
 use Rattle.usb_ledger.specs.declared.slot.TicketState.TheVariants as slot
-use Rattle.usb_device.specs.HostCalls.{host_submitted, host_refused}
-use Rattle.usb_device.specs.HostFacts.{TicketsAgree, host_made}
+use Rattle.usb_host.specs.HostCalls.{host_submitted, host_refused}
+use Rattle.usb_host.specs.HostFacts.{TicketsAgree, host_made}
 use Rattle.usb_ledger.specs.LedgerState.{LedgerState}
 use Rattle.usb_ledger.proofs.ListLemmas.{slice_get-push}
-use Rattle.usb_device.proofs.ArrivalLemmas.{Fits-same}
+use Rattle.usb_host.proofs.ArrivalLemmas.{Fits-same}
 
 entered-count : (past : List Event) (n : ℕ) (s : Submission) (refusal : Option ℕ) → length (tickets (submit_or_refuse n s refusal ∷ past)) ≡ length (tickets past) + 1
 entered-count past n s None = length-append (tickets past) _

@@ -18,17 +18,17 @@ use Rattle.usb_kernel.proofs.Places.{slice_get-set_same, slice_get-set_other}
 use Rattle.usb_bus.specs.BusState.{BusState}
 use Rattle.usb_ledger.specs.declared.ends.TicketEnd.TheVariants.{Reclaimed}
 use Rattle.usb_ledger.specs.Entries.{HostTicket, Hold, HeldBy, Abandoned, Ended}
-use Rattle.usb_device.specs.HostState.{HostState}
+use Rattle.usb_host.specs.HostState.{HostState}
 use Rattle.usb_ledger.specs.EndedTickets.{end_at}
-use Rattle.usb_device.specs.HostBus.{owner_at}
-use Rattle.usb_device.specs.HostTurns.{host_reaped}
-use Rattle.usb_device.specs.HostCalls.{host_discarded}
-use Rattle.usb_device.specs.Releases.{endpoint_left, settled}
-use Rattle.usb_device.specs.TicketEnds.{came, reclaimed_if, host_ended}
-use Rattle.usb_device.specs.Finishes.{discarded_below, reaped_below, finished, HasCompletions}
-use Rattle.usb_device.proofs.BusLemmas.{bus_of-reaped}
+use Rattle.usb_host.specs.HostBus.{owner_at}
+use Rattle.usb_host.specs.HostTurns.{host_reaped}
+use Rattle.usb_host.specs.HostCalls.{host_discarded}
+use Rattle.usb_host.specs.Releases.{endpoint_left, settled}
+use Rattle.usb_host.specs.TicketEnds.{came, reclaimed_if, host_ended}
+use Rattle.usb_host.specs.Finishes.{discarded_below, reaped_below, finished, HasCompletions}
+use Rattle.usb_host.proofs.BusLemmas.{bus_of-reaped}
 use Rattle.usb_ledger.proofs.LedgerLemmas.{ticket-at}
-use Rattle.usb_device.proofs.Places.{some-at}
+use Rattle.usb_host.proofs.Places.{some-at}
 use Rattle.std.proofs.Common.{map}
 use Rattle.std.proofs.lemmas.List.{length-map}
 use Rattle.usb_kernel.specs.Value.{KernelState}
@@ -36,7 +36,7 @@ use Rattle.usb_simulated.specs.declared.step.KernelStep.{KernelStep}
 use Rattle.usb_ledger.specs.declared.opened.OpenDevice.{OpenDevice}
 use Rattle.usb_ledger.specs.declared.slot.TicketState.{TicketState}
 use Rattle.usb_ledger.specs.declared.slot.TicketState.TheVariants as slot
-use Rattle.usb_device.specs.HostFacts.{TicketsAgree, Fits, host_made}
+use Rattle.usb_host.specs.HostFacts.{TicketsAgree, Fits, host_made}
 use Rattle.usb_ledger.specs.LedgerState.{LedgerState, host_ticket}
 
 pub some-of : {X : Type 0} (o : Option X) → IsSome o → (x : X) × (o ≡ Some x)

@@ -15,17 +15,17 @@ use Rattle.usb_kernel.proofs.Completions.{tickets-discard}
 use Rattle.usb_kernel.proofs.Extends.{ticket-stays, status-stays}
 use Rattle.usb_kernel.proofs.Waiting.{finished-reapable, lowest-some, discard-finishes}
 use Rattle.usb_bus.specs.Completions.{completion_of, transfer_completion}
-use Rattle.usb_device.specs.HostState.{HostState}
-use Rattle.usb_device.specs.HostTurns.{host_stepped, host_reaped}
-use Rattle.usb_device.specs.HostCalls.{host_discarded}
-use Rattle.usb_device.specs.HostWaits.{is_found, is_late, wait_reaps, wait_steps, host_waited}
-use Rattle.usb_device.specs.HostBlocking.{or_then, waited_by_seconds, host_blocked}
-use Rattle.usb_device.proofs.Places.{some-at}
-use Rattle.usb_device.proofs.FinishLemmas.{some-of, completion-some}
-use Rattle.usb_device.proofs.HostFrames.{uses-stepped}
-use Rattle.usb_device.proofs.WaitFrames.{went-steps}
-use Rattle.usb_device.proofs.HostWaitLemmas.{reaped-clock, reaped-fewer, reaps-found, reaps-late, reaps-up, reaps-more, steps-found, steps-late, steps-more}
-use Rattle.usb_device.proofs.FollowLemmas.{on-reaped, on-waited}
+use Rattle.usb_host.specs.HostState.{HostState}
+use Rattle.usb_host.specs.HostTurns.{host_stepped, host_reaped}
+use Rattle.usb_host.specs.HostCalls.{host_discarded}
+use Rattle.usb_host.specs.HostWaits.{is_found, is_late, wait_reaps, wait_steps, host_waited}
+use Rattle.usb_host.specs.HostBlocking.{or_then, waited_by_seconds, host_blocked}
+use Rattle.usb_host.proofs.Places.{some-at}
+use Rattle.usb_host.proofs.FinishLemmas.{some-of, completion-some}
+use Rattle.usb_host.proofs.HostFrames.{uses-stepped}
+use Rattle.usb_host.proofs.WaitFrames.{went-steps}
+use Rattle.usb_host.proofs.HostWaitLemmas.{reaped-clock, reaped-fewer, reaps-found, reaps-late, reaps-up, reaps-more, steps-found, steps-late, steps-more}
+use Rattle.usb_host.proofs.FollowLemmas.{on-reaped, on-waited}
 
 -- a ticket that is finished, and so are those of journals that go on
 record Finished (past : List Event) (t : ℕ) : Type 0 where

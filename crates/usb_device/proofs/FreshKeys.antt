@@ -4,8 +4,8 @@ use Rattle.usb_registry.proofs.ValueLemmas.{value-within}
 use Rattle.usb_endpoint.specs.EndpointState.{EndpointState}
 use Rattle.usb_endpoint.specs.Handles.{Stands}
 use Rattle.usb_ledger.specs.Entries.{HostEndpoint}
-use Rattle.usb_device.specs.HostState.{HostState}
-use Rattle.usb_device.specs.HostBus.{key_at, bus_of}
+use Rattle.usb_host.specs.HostState.{HostState}
+use Rattle.usb_host.specs.HostBus.{key_at, bus_of}
 use Rattle.usb_device.specs.HandleStates.{InterfaceState, StandsInterface}
 
 -- a handle that stands has a key below the next one

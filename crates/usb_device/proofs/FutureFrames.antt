@@ -16,25 +16,26 @@ use Rattle.usb_bus.specs.Completions.{completion_of, transfer_completion}
 use Rattle.usb_endpoint.specs.Handles.{KeepsOthers}
 use Rattle.usb_registry.proofs.SerialLemmas.{cases_Option}
 use Rattle.usb_device.specs.declared.controls.ControlRequest.{ControlRequest}
-use Rattle.usb_device.specs.HostState.{HostState}
-use Rattle.usb_device.specs.HostBus.{bus_of, owner_at, key_at}
-use Rattle.usb_device.specs.HostCalls.{host_left}
-use Rattle.usb_device.specs.HostFrames.{ClaimsGoOn, HostGoesOn}
-use Rattle.usb_device.specs.HostWaits.{is_found}
-use Rattle.usb_device.specs.HostAwaits.{deadline_of}
+use Rattle.usb_host.specs.HostState.{HostState}
+use Rattle.usb_host.specs.HostBus.{bus_of, owner_at, key_at}
+use Rattle.usb_host.specs.HostCalls.{host_left}
+use Rattle.usb_host.specs.HostFrames.{ClaimsGoOn, HostGoesOn}
+use Rattle.usb_host.specs.HostWaits.{is_found}
+use Rattle.usb_host.specs.HostAwaits.{deadline_of}
 use Rattle.usb_device.specs.HandleStates.{InterfaceState, StandsDevice, StandsInterface}
-use Rattle.usb_device.specs.TicketEnds.{host_taken, host_abandoned}
-use Rattle.usb_device.specs.Controls.{control_submission, host_started, request_started, deadline_after}
+use Rattle.usb_host.specs.TicketEnds.{host_taken, host_abandoned}
+use Rattle.usb_host.specs.Controls.{control_submission, host_started, request_started, deadline_after}
 use Rattle.usb_device.specs.Futures.{FutureState, IsOnItsWay, StandsFuture, fresh_future, future_taken, taken_by, future_closed, closed_by, future_awaited, awaited_by}
 use Rattle.usb_device.specs.ControlCalls.{request_awaited, controlled}
-use Rattle.usb_device.proofs.ClaimFrames.{goes-refl, goes-same, goes-trans}
-use Rattle.usb_device.proofs.HostKeeps.{KeepsLine}
-use Rattle.usb_device.proofs.CallFrames.{bus-taken, bus-abandoned, bus-left, keeps-taken, keeps-abandoned, line-left, interfaces-left}
-use Rattle.usb_device.proofs.DeviceLemmas.{there-same, opened-same, kept-stands}
-use Rattle.usb_device.proofs.InterfaceFrames.{StandsInterface-same}
+use Rattle.usb_host.proofs.ClaimFrames.{goes-refl, goes-same, goes-trans}
+use Rattle.usb_host.proofs.HostKeeps.{KeepsLine}
+use Rattle.usb_host.proofs.CallFrames.{bus-taken, bus-abandoned, bus-left, keeps-taken, keeps-abandoned, line-left, interfaces-left}
+use Rattle.usb_ledger.proofs.DeviceLemmas.{there-same, opened-same}
+use Rattle.usb_device.proofs.DeviceLemmas.{kept-stands}
+use Rattle.usb_device.proofs.StandLemmas.{StandsInterface-same}
 use Rattle.usb_device.proofs.FreshKeys.{key-within}
-use Rattle.usb_device.proofs.WaitFrames.{went-nowhere}
-use Rattle.usb_device.proofs.ControlLemmas.{started-key, started-held, started-due, started-line, started-interfaces, started-past, started-others, went-awaited}
+use Rattle.usb_host.proofs.WaitFrames.{went-nowhere}
+use Rattle.usb_host.proofs.ControlLemmas.{started-key, started-held, started-due, started-line, started-interfaces, started-past, started-others, went-awaited}
 
 -- what a call of a future leaves as it was: the line, the open devices, the claimed interfaces with
 -- an open handle, and the journal, which goes on

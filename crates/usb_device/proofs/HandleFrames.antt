@@ -6,23 +6,24 @@ use Rattle.usb_endpoint.specs.EndpointState.{EndpointState}
 use Rattle.usb_endpoint.specs.Submits.{entered}
 use Rattle.usb_endpoint.specs.Closes.{after_close}
 use Rattle.usb_ledger.specs.declared.opened.OpenDevice.{OpenDevice}
-use Rattle.usb_device.specs.HostState.{HostState}
-use Rattle.usb_device.specs.HostBus.{bus_of}
-use Rattle.usb_device.specs.HostTurns.{host_turned}
-use Rattle.usb_device.specs.HostCalls.{host_submitted, host_refused, host_discarded, host_left}
-use Rattle.usb_device.specs.TicketEnds.{host_abandoned}
+use Rattle.usb_host.specs.HostState.{HostState}
+use Rattle.usb_host.specs.HostBus.{bus_of}
+use Rattle.usb_host.specs.HostTurns.{host_turned}
+use Rattle.usb_host.specs.HostCalls.{host_submitted, host_refused, host_discarded, host_left}
+use Rattle.usb_host.specs.TicketEnds.{host_abandoned}
 use Rattle.usb_device.specs.HandleStates.{InterfaceState, StandsInterface}
 use Rattle.usb_desc.specs.declared.error.Fail.{Fail}
 use Rattle.usb_error.specs.ErrorState.{ErrorState}
-use Rattle.usb_device.specs.CallErrors.{Leaves}
-use Rattle.usb_device.specs.HostFrames.{ClaimsGoOn}
-use Rattle.usb_device.proofs.Left.{left}
-use Rattle.usb_device.specs.Opens.{host_opened}
-use Rattle.usb_device.specs.InterfaceClaims.{host_claimed}
-use Rattle.usb_device.proofs.DeviceLemmas.{there-same}
-use Rattle.usb_device.proofs.WaitFrames.{went-turned}
-use Rattle.usb_device.proofs.EndpointCalls.{keeps-entered, interfaces-closed, line-closed}
-use Rattle.usb_device.proofs.InterfaceFrames.{opened-is, StandsInterface-same, bus-claimed}
+use Rattle.usb_host.specs.CallErrors.{Leaves}
+use Rattle.usb_host.specs.HostFrames.{ClaimsGoOn}
+use Rattle.usb_host.proofs.Left.{left}
+use Rattle.usb_host.specs.Opens.{host_opened}
+use Rattle.usb_host.specs.InterfaceClaims.{host_claimed}
+use Rattle.usb_ledger.proofs.DeviceLemmas.{there-same}
+use Rattle.usb_host.proofs.WaitFrames.{went-turned}
+use Rattle.usb_host.proofs.EndpointCalls.{keeps-entered, interfaces-closed, line-closed}
+use Rattle.usb_host.proofs.InterfaceFrames.{opened-is, bus-claimed}
+use Rattle.usb_device.proofs.StandLemmas.{StandsInterface-same}
 
 -- a handle stands while claimed interfaces go on and the devices stay
 stands-stays : (h g : HostState) (i : InterfaceState) → ClaimsGoOn h.interfaces g.interfaces → g.devices ≡ h.devices → StandsInterface h i → StandsInterface g i

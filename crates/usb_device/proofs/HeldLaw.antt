@@ -16,32 +16,32 @@ use Rattle.usb_ledger.specs.declared.ends.TicketEnd.TheVariants.{Taken, Dropped}
 use Rattle.usb_ledger.specs.declared.opened.OpenDevice.{OpenDevice}
 use Rattle.usb_ledger.specs.Devices.{device_changed, handle_more, handle_less}
 use Rattle.usb_ledger.specs.Owners.{has_living}
-use Rattle.usb_device.specs.HostState.{HostState}
-use Rattle.usb_device.specs.HostFrames.{ClaimsGoOn}
-use Rattle.usb_device.specs.TicketEnds.{ended_as, host_ended, host_taken, given_up, host_abandoned, came}
-use Rattle.usb_device.specs.HostTurns.{with_past, host_stepped, host_reaped, host_turned, host_rest}
-use Rattle.usb_device.specs.HostCalls.{host_submitted, host_refused, host_discarded, host_left, host_idled}
-use Rattle.usb_device.specs.HostWaits.{is_found, reap_and, host_waited}
-use Rattle.usb_device.specs.HostBlocking.{host_blocked}
-use Rattle.usb_device.specs.HostAwaits.{sought_reaps, sought_steps, host_awaited}
-use Rattle.usb_device.specs.Controls.{host_started}
-use Rattle.usb_device.specs.Finishes.{discarded_below, reaped_below, finished}
+use Rattle.usb_host.specs.HostState.{HostState}
+use Rattle.usb_host.specs.HostFrames.{ClaimsGoOn}
+use Rattle.usb_host.specs.TicketEnds.{ended_as, host_ended, host_taken, given_up, host_abandoned, came}
+use Rattle.usb_host.specs.HostTurns.{with_past, host_stepped, host_reaped, host_turned, host_rest}
+use Rattle.usb_host.specs.HostCalls.{host_submitted, host_refused, host_discarded, host_left, host_idled}
+use Rattle.usb_host.specs.HostWaits.{is_found, reap_and, host_waited}
+use Rattle.usb_host.specs.HostBlocking.{host_blocked}
+use Rattle.usb_host.specs.HostAwaits.{sought_reaps, sought_steps, host_awaited}
+use Rattle.usb_host.specs.Controls.{host_started}
+use Rattle.usb_host.specs.Finishes.{discarded_below, reaped_below, finished}
 use Rattle.usb_device.specs.HandleStates.{InterfaceState, StandsDevice, StandsInterface}
-use Rattle.usb_device.specs.Handles.{device_cloned, device_closed, handle_added, handle_cloned, handle_closed}
-use Rattle.usb_device.specs.Opens.{open_tried, opened_by, host_opened}
-use Rattle.usb_device.specs.InterfaceClaims.{host_claimed}
-use Rattle.usb_device.specs.EndpointOpens.{host_asked}
-use Rattle.usb_device.specs.OnDevices.{host_detached, detached_on, host_attached, attached_on, host_configured, configured_on, configured_unless, set_configuration_errno, host_speed_asked, speed_asked_on, host_reset, reset_on}
-use Rattle.usb_device.specs.OnInterfaces.{alt_setting_errno, setting_unless, alt_setting_asked, alt_setting_on, alt_setting_set}
+use Rattle.usb_host.specs.Handles.{device_cloned, device_closed, handle_added, handle_cloned, handle_closed}
+use Rattle.usb_host.specs.Opens.{open_tried, opened_by, host_opened}
+use Rattle.usb_host.specs.InterfaceClaims.{host_claimed}
+use Rattle.usb_host.specs.EndpointOpens.{host_asked}
+use Rattle.usb_host.specs.OnDevices.{host_detached, detached_on, host_attached, attached_on, host_configured, configured_on, configured_unless, set_configuration_errno, host_speed_asked, speed_asked_on, host_reset, reset_on}
+use Rattle.usb_host.specs.OnInterfaces.{alt_setting_errno, setting_unless, alt_setting_asked, alt_setting_on, alt_setting_set}
 use Rattle.usb_device.specs.HeldLaws.{KeepsDevices, KeepsOtherDevices, KeepsHeld, DevicesStayHeld}
-use Rattle.usb_device.proofs.HostFrames.{ended_as-is, ended_as-goes, came-is, came-goes}
-use Rattle.usb_device.proofs.ClaimFrames.{goes-same, goes-refl, goes-trans}
-use Rattle.usb_device.proofs.CallFrames.{keeps-submitted, keeps-refused, line-left, interfaces-left}
-use Rattle.usb_device.proofs.WaitFrames.{went-rest, went-turned, went-waited, went-blocked}
-use Rattle.usb_device.proofs.HostKeeps.{KeepsOpen}
-use Rattle.usb_device.proofs.ControlLemmas.{started-line, started-interfaces}
-use Rattle.usb_device.proofs.InterfaceFrames.{asked-is, asked-counts}
-use Rattle.usb_device.proofs.DeviceLemmas.{KeepsCounts, KeepsOpened, counts_of, counts-same, counts-set, counted-new, changed-at, changed-other, held-handle_more}
+use Rattle.usb_host.proofs.HostFrames.{ended_as-is, ended_as-goes, came-is, came-goes}
+use Rattle.usb_host.proofs.ClaimFrames.{goes-same, goes-refl, goes-trans}
+use Rattle.usb_host.proofs.CallFrames.{keeps-submitted, keeps-refused, line-left, interfaces-left}
+use Rattle.usb_host.proofs.WaitFrames.{went-rest, went-turned, went-waited, went-blocked}
+use Rattle.usb_host.proofs.HostKeeps.{KeepsOpen}
+use Rattle.usb_host.proofs.ControlLemmas.{started-line, started-interfaces}
+use Rattle.usb_host.proofs.InterfaceFrames.{asked-is, asked-counts}
+use Rattle.usb_ledger.proofs.DeviceLemmas.{KeepsCounts, KeepsOpened, counts_of, counts-same, counts-set, counted-new, changed-at, changed-other, held-handle_more}
 use Rattle.usb_device.proofs.HeldDevices.{held-goes, held-written, held-start, held-opened, held-device_cloned, held-device_closed, held-claimed, held-handle_cloned, held-handle_closed, opened-claimed, opened-handle_closed}
 
 -- what a host does by itself, and most calls: no open device changes, and claimed interfaces go on

@@ -11,13 +11,13 @@ use Rattle.usb_endpoint.specs.Submits.{is_valid, transfer_by, entered}
 use Rattle.usb_endpoint.specs.Closes.{all_discarded, all_abandoned, after_close}
 use Rattle.usb_endpoint.proofs.HandleLemmas.{without_owner-other}
 use Rattle.usb_ledger.specs.Entries.{HostTicket, Hold, HeldBy}
-use Rattle.usb_device.specs.HostState.{HostState}
-use Rattle.usb_device.specs.HostBus.{owner_at, bus_of}
-use Rattle.usb_device.specs.TicketEnds.{host_taken, host_abandoned}
-use Rattle.usb_device.specs.HostCalls.{host_submitted, host_refused, host_discarded, host_left}
-use Rattle.usb_device.specs.HostFrames.{HostGoesOn}
-use Rattle.usb_device.proofs.CallFrames.{bus-taken, bus-abandoned, bus-left}
-use Rattle.usb_device.proofs.EndpointCalls.{went-all_discarded}
+use Rattle.usb_host.specs.HostState.{HostState}
+use Rattle.usb_host.specs.HostBus.{owner_at, bus_of}
+use Rattle.usb_host.specs.TicketEnds.{host_taken, host_abandoned}
+use Rattle.usb_host.specs.HostCalls.{host_submitted, host_refused, host_discarded, host_left}
+use Rattle.usb_host.specs.HostFrames.{HostGoesOn}
+use Rattle.usb_host.proofs.CallFrames.{bus-taken, bus-abandoned, bus-left}
+use Rattle.usb_host.proofs.EndpointCalls.{went-all_discarded}
 
 -- whoever holds a ticket held it before
 abbrev pub HoldsNoMore : HostState → HostState → Type 0

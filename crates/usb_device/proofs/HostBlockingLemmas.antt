@@ -7,17 +7,17 @@ use Rattle.usb_simulated.specs.declared.step.KernelStep.{KernelStep}
 use Rattle.usb_kernel.specs.Completions.{waiting, lowest}
 use Rattle.usb_endpoint.specs.Waits.{waited}
 use Rattle.usb_endpoint.specs.Blocking.{or_else, waited_on}
-use Rattle.usb_device.specs.HostState.{HostState}
-use Rattle.usb_device.specs.HostBus.{bus_of}
-use Rattle.usb_device.specs.HostTurns.{host_stepped, host_reaped, host_turned, host_turn}
-use Rattle.usb_device.specs.HostCalls.{host_discarded}
-use Rattle.usb_device.specs.HostWaits.{is_found, is_late, wait_reaps, wait_steps, host_waited}
-use Rattle.usb_device.specs.HostBlocking.{or_then, waited_by_seconds, host_blocked}
-use Rattle.usb_device.specs.HostFrames.{HostGoesOn}
+use Rattle.usb_host.specs.HostState.{HostState}
+use Rattle.usb_host.specs.HostBus.{bus_of}
+use Rattle.usb_host.specs.HostTurns.{host_stepped, host_reaped, host_turned, host_turn}
+use Rattle.usb_host.specs.HostCalls.{host_discarded}
+use Rattle.usb_host.specs.HostWaits.{is_found, is_late, wait_reaps, wait_steps, host_waited}
+use Rattle.usb_host.specs.HostBlocking.{or_then, waited_by_seconds, host_blocked}
+use Rattle.usb_host.specs.HostFrames.{HostGoesOn}
 use Rattle.usb_device.specs.WaitLaws.{BlockingIsBySteps}
-use Rattle.usb_device.proofs.HostFrames.{uses-reaped, uses-stepped, uses-discarded}
-use Rattle.usb_device.proofs.WaitFrames.{went-steps}
-use Rattle.usb_device.proofs.HostWaitLemmas.{reaped-clock, reaped-fewer, reaps-found, reaps-up, reaps-more, steps-found, steps-more, wait-by_steps}
+use Rattle.usb_host.proofs.HostFrames.{uses-reaped, uses-stepped, uses-discarded}
+use Rattle.usb_host.proofs.WaitFrames.{went-steps}
+use Rattle.usb_host.proofs.HostWaitLemmas.{reaped-clock, reaped-fewer, reaps-found, reaps-up, reaps-more, steps-found, steps-more, by_steps}
 
 -- no step is left, and no ticket is finished and not reaped, and this ticket has not come
 record IsOver (t : ℕ) (h : HostState) : Type 0 where

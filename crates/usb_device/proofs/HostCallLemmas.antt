@@ -27,18 +27,18 @@ use Rattle.usb_ledger.specs.declared.owners.EndedClaim.{EndedClaim}
 use Rattle.usb_ledger.specs.declared.slot.TicketState.{TicketState}
 use Rattle.usb_ledger.specs.declared.slot.TicketState.TheVariants as slot
 use Rattle.usb_ledger.specs.Entries.{HostTicket, HostEndpoint, Hold, HeldBy, Abandoned, Ended}
-use Rattle.usb_device.specs.HostState.{HostState}
-use Rattle.usb_device.specs.HostBus.{hold_at, held_as, host_value, key_at}
-use Rattle.usb_device.specs.HostFacts.{TicketsAgree, host_made}
-use Rattle.usb_device.specs.HostCalls.{host_left}
+use Rattle.usb_host.specs.HostState.{HostState}
+use Rattle.usb_host.specs.HostBus.{hold_at, held_as, host_value, key_at}
+use Rattle.usb_host.specs.HostFacts.{TicketsAgree, host_made}
+use Rattle.usb_host.specs.HostCalls.{host_left}
 use Rattle.usb_ledger.specs.LedgerState.{LedgerState, host_ticket, slot_data, is_complete, ended_with, left_with}
 use Rattle.usb_ledger.specs.Releases.{claim_of}
-use Rattle.usb_device.specs.Releases.{without_ended, endpoint_left, settled}
-use Rattle.usb_device.specs.HostTurns.{host_turned, host_turn, turned_of, reaped_of, turn_for, host_stepped, host_rest, all_stepped}
-use Rattle.usb_device.specs.TicketEnds.{host_ended, host_abandoned, reclaimed_if, came}
+use Rattle.usb_host.specs.Releases.{without_ended, endpoint_left, settled}
+use Rattle.usb_host.specs.HostTurns.{host_turned, host_turn, turned_of, reaped_of, turn_for, host_stepped, host_rest, all_stepped}
+use Rattle.usb_host.specs.TicketEnds.{host_ended, host_abandoned, reclaimed_if, came}
 use Rattle.usb_ledger.proofs.ListLemmas.{slice_get-set}
 use Rattle.usb_ledger.proofs.LedgerLemmas.{ticket-at}
-use Rattle.usb_device.proofs.KernelFrames.{released-as}
+use Rattle.usb_host.proofs.KernelFrames.{released-as}
 
 -- the slot of a ticket that an endpoint holds
 pub record HeldSlot (slots : List TicketState) (t : ℕ) : Type 0 where

@@ -21,17 +21,17 @@ use Rattle.usb_bus.specs.Turns.{reap_turn}
 use Rattle.usb_ledger.specs.declared.ends.TicketEnd.{TicketEnd}
 use Rattle.usb_ledger.specs.declared.ends.TicketEnd.TheVariants.{Reclaimed}
 use Rattle.usb_ledger.specs.Entries.{HostTicket, Hold, HeldBy, Abandoned, Ended}
-use Rattle.usb_device.specs.HostState.{HostState}
-use Rattle.usb_device.specs.Releases.{endpoint_left, settled}
-use Rattle.usb_device.specs.TicketEnds.{ended_as, host_ended, reclaimed_if, came}
+use Rattle.usb_host.specs.HostState.{HostState}
+use Rattle.usb_host.specs.Releases.{endpoint_left, settled}
+use Rattle.usb_host.specs.TicketEnds.{ended_as, host_ended, reclaimed_if, came}
 use Rattle.usb_bus.specs.declared.route.Turn.TheVariants.{TimeUp}
-use Rattle.usb_device.specs.HostTurns.{with_past, host_stepped, host_reaped, all_stepped, turn_for, reaped_of, turned_of, host_turn, host_turned}
-use Rattle.usb_device.specs.HostCalls.{host_discarded, host_idled}
-use Rattle.usb_device.specs.HostBus.{held_as, owner_at, key_at, bus_of}
-use Rattle.usb_device.specs.HostFrames.{ClaimsGoOn, EndpointsGoOn}
-use Rattle.usb_device.specs.HostBusFacts.{key-left}
-use Rattle.usb_device.proofs.HostKeeps.{UsesPlaces}
-use Rattle.usb_device.proofs.ClaimFrames.{goes-same, goes-refl, goes-trans, goes-of, goes-left}
+use Rattle.usb_host.specs.HostTurns.{with_past, host_stepped, host_reaped, all_stepped, turn_for, reaped_of, turned_of, host_turn, host_turned}
+use Rattle.usb_host.specs.HostCalls.{host_discarded, host_idled}
+use Rattle.usb_host.specs.HostBus.{held_as, owner_at, key_at, bus_of}
+use Rattle.usb_host.specs.HostFrames.{ClaimsGoOn, EndpointsGoOn}
+use Rattle.usb_host.specs.HostBusFacts.{key-left}
+use Rattle.usb_host.proofs.HostKeeps.{UsesPlaces}
+use Rattle.usb_host.proofs.ClaimFrames.{goes-same, goes-refl, goes-trans, goes-of, goes-left}
 
 -- the end of a ticket changes tickets, claimed interfaces, endpoints, devices of the kernel and what is armed there
 pub ended_as-is : (h : HostState) (t : ℕ) (end : TicketEnd) (o : Option HostTicket) → ended_as h t end o ≡ record h { kernel = record h.kernel { devices = (ended_as h t end o).kernel.devices; armed = (ended_as h t end o).kernel.armed }; interfaces = (ended_as h t end o).interfaces; endpoints = (ended_as h t end o).endpoints; tickets = (ended_as h t end o).tickets }

@@ -1,9 +1,9 @@
 -- What a host keeps over its steps and over the calls of handles.
 use Rattle.std.specs.Prelude.{ℕ, ◌≡◌, ◌-◌}
 use Rattle.usb_bus.specs.Later.{IsLater}
-use Rattle.usb_device.specs.HostState.{HostState}
-use Rattle.usb_device.specs.HostBus.{bus_of}
-use Rattle.usb_device.specs.HostFrames.{ClaimsGoOn, EndpointsGoOn}
+use Rattle.usb_host.specs.HostState.{HostState}
+use Rattle.usb_host.specs.HostBus.{bus_of}
+use Rattle.usb_host.specs.HostFrames.{ClaimsGoOn, EndpointsGoOn}
 
 -- so many places of the kernel were used, each by a step, and what handles stand on is as it was
 pub record UsesPlaces (places : ℕ) (old new : HostState) : Type 0 where

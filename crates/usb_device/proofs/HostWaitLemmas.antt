@@ -11,12 +11,12 @@ use Rattle.usb_kernel.proofs.Waiting.{lowest-reapable, waiting-one_less}
 use Rattle.usb_endpoint.specs.Waits.{waited, time_is_up}
 use Rattle.usb_endpoint.proofs.WaitLemmas.{waited-eq_found, waited-eq_late, waited-eq_up, waited-eq_more}
 use Rattle.usb_bus.specs.Turns.{reap_turn}
-use Rattle.usb_device.specs.HostState.{HostState}
-use Rattle.usb_device.specs.HostBus.{bus_of}
-use Rattle.usb_device.specs.HostTurns.{with_past, turned_of, turn_for, reaped_of, host_stepped, host_reaped, host_turned, host_turn}
-use Rattle.usb_device.specs.HostWaits.{is_found, is_late, wait_reaps, wait_steps}
+use Rattle.usb_host.specs.HostState.{HostState}
+use Rattle.usb_host.specs.HostBus.{bus_of}
+use Rattle.usb_host.specs.HostTurns.{with_past, turned_of, turn_for, reaped_of, host_stepped, host_reaped, host_turned, host_turn}
+use Rattle.usb_host.specs.HostWaits.{is_found, is_late, wait_reaps, wait_steps}
 use Rattle.usb_device.specs.WaitLaws.{WaitIsBySteps}
-use Rattle.usb_device.proofs.HostFrames.{came-is, uses-reaped, uses-stepped}
+use Rattle.usb_host.proofs.HostFrames.{came-is, uses-reaped, uses-stepped}
 
 -- the journal after a reap, and the clock
 pub reaped-past : (h : HostState) (u : ℕ) → (host_reaped h u).kernel.past ≡ after_reap h.kernel.past u

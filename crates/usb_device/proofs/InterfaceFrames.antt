@@ -4,27 +4,27 @@ use Rattle.std.proofs.lemmas.Option.{none-some}
 use Rattle.usb_registry.specs.History.{value_at}
 use Rattle.usb_ledger.specs.declared.opened.OpenDevice.{OpenDevice}
 use Rattle.usb_ledger.specs.Entries.{ClaimedInterface}
-use Rattle.usb_device.specs.HostState.{HostState}
-use Rattle.usb_device.specs.HostBus.{bus_of}
-use Rattle.usb_device.specs.Releases.{owner_gone}
-use Rattle.usb_device.specs.Handles.{handle_gone, handle_closed}
+use Rattle.usb_host.specs.HostState.{HostState}
+use Rattle.usb_host.specs.HostBus.{bus_of}
+use Rattle.usb_host.specs.Releases.{owner_gone}
+use Rattle.usb_host.specs.Handles.{handle_gone, handle_closed}
 use Rattle.usb_simulated.specs.declared.step.KernelCall.TheVariants as call
 use Rattle.usb_simulated.specs.Claims.{no_rules}
 use Rattle.usb_kernel.specs.Value.{KernelState}
 use Rattle.usb_kernel.proofs.Answered.{asks-is}
-use Rattle.usb_device.specs.InterfaceClaims.{claim_tried, kernel_claimed, claimed_by, claimed_on, host_claimed}
+use Rattle.usb_host.specs.InterfaceClaims.{claim_tried, kernel_claimed, claimed_by, claimed_on, host_claimed}
 use Rattle.usb_ledger.specs.Entries.{fresh_interface}
-use Rattle.usb_device.specs.EndpointOpens.{asked_on, host_asked}
+use Rattle.usb_host.specs.EndpointOpens.{asked_on, host_asked}
 use Rattle.usb_device.specs.HandleStates.{InterfaceState, StandsInterface}
 use Rattle.usb_error.specs.ErrorState.{ErrorState}
-use Rattle.usb_device.specs.Opens.{open_tried, opened_by, host_opened}
+use Rattle.usb_host.specs.Opens.{open_tried, opened_by, host_opened}
 use Rattle.usb_ledger.specs.Devices.{device_changed, interface_more}
-use Rattle.usb_device.proofs.DeviceLemmas.{KeepsThere, KeepsCounts, counts-same, counts-set, changed-there, held-interface_more, there-push}
+use Rattle.usb_ledger.proofs.DeviceLemmas.{KeepsThere, KeepsCounts, counts-same, counts-set, changed-there, held-interface_more, there-push}
 use Rattle.usb_registry.proofs.ValueLemmas.{value-push}
-use Rattle.usb_device.specs.HostFrames.{ClaimsGoOn}
-use Rattle.usb_device.proofs.HostKeeps.{KeepsSteps}
-use Rattle.usb_device.proofs.KernelFrames.{kernel_claimed-is}
-use Rattle.usb_device.proofs.TryLemmas.{open-arms}
+use Rattle.usb_host.specs.HostFrames.{ClaimsGoOn}
+use Rattle.usb_host.proofs.HostKeeps.{KeepsSteps}
+use Rattle.usb_host.proofs.KernelFrames.{kernel_claimed-is}
+use Rattle.usb_host.proofs.TryLemmas.{open-arms}
 
 -- a handle stands while claimed interfaces go on
 pub StandsInterface-same : (h g : HostState) (f : InterfaceState) → ClaimsGoOn h.interfaces g.interfaces → KeepsThere h.devices g.devices → StandsInterface h f → StandsInterface g f

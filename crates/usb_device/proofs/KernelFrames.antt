@@ -8,8 +8,8 @@ use Rattle.usb_kernel.specs.Value.{KernelState}
 use Rattle.usb_kernel.proofs.Answered.{called-is}
 use Rattle.usb_ledger.specs.declared.opened.OpenDevice.{OpenDevice}
 use Rattle.usb_ledger.specs.declared.owners.EndedClaim.{EndedClaim}
-use Rattle.usb_device.specs.Releases.{released, without_ended}
-use Rattle.usb_device.specs.InterfaceClaims.{kernel_claimed}
+use Rattle.usb_host.specs.Releases.{released, without_ended}
+use Rattle.usb_host.specs.InterfaceClaims.{kernel_claimed}
 
 -- its devices, and what is armed, are those of another
 abbrev pub changed_as : KernelState → KernelState → KernelState

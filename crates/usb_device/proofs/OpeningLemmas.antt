@@ -12,30 +12,30 @@ use Rattle.usb_registry.proofs.ValueLemmas.{is-some, value-last}
 use Rattle.std.specs.Prelude.{IsSome}
 use Rattle.std.proofs.lemmas.Bool.{cases_eq}
 use Rattle.usb_ledger.specs.declared.opened.OpenDevice.{OpenDevice}
-use Rattle.usb_device.specs.HostState.{HostState}
-use Rattle.usb_device.specs.Opens.{descriptors_tried, open_tried, open_key, with_key, host_opened, with_opened, opened_by}
+use Rattle.usb_host.specs.HostState.{HostState}
+use Rattle.usb_host.specs.Opens.{descriptors_tried, open_tried, open_key, with_key, host_opened, with_opened, opened_by}
 use Rattle.usb_error.specs.Outcomes.{Tried, result_map}
 use Rattle.std.specs.Prelude.{◌-◌, map}
 use Rattle.usb_simulated.specs.declared.step.KernelStep.{KernelStep}
 use Rattle.usb_kernel.specs.Value.{KernelState}
 use Rattle.usb_ledger.specs.declared.owners.EndedClaim.{EndedClaim}
 use Rattle.usb_ledger.specs.Entries.{ClaimedInterface, fresh_interface}
-use Rattle.usb_device.specs.HostFacts.{host_made}
-use Rattle.usb_device.specs.Handles.{devices_left, handle_closed}
+use Rattle.usb_host.specs.HostFacts.{host_made}
+use Rattle.usb_host.specs.Handles.{devices_left, handle_closed}
 use Rattle.usb_ledger.specs.Devices.{device_changed, interface_more}
 use Rattle.usb_device.specs.HandleStates.{StandsDevice, StandsInterface}
 use Rattle.usb_kernel.proofs.Places.{slice_get-append_seam}
 use Rattle.std.proofs.Common.{length-append}
-use Rattle.usb_device.specs.InterfaceClaims.{claimed_key, host_claimed, kernel_claimed, claimed_by, claimed_on, claim_tried}
-use Rattle.usb_device.specs.CallErrors.{Leaves}
-use Rattle.usb_device.proofs.Left.{left}
-use Rattle.usb_device.proofs.TryLemmas.{open-uses_none, open-arms, open-counts}
-use Rattle.usb_device.proofs.DeviceLemmas.{changed-at, changed-other, held-interface_more}
-use Rattle.usb_device.proofs.InterfaceFrames.{claimed-there}
-use Rattle.usb_device.proofs.KernelFrames.{released-as}
+use Rattle.usb_host.specs.InterfaceClaims.{claimed_key, host_claimed, kernel_claimed, claimed_by, claimed_on, claim_tried}
+use Rattle.usb_host.specs.CallErrors.{Leaves}
+use Rattle.usb_host.proofs.Left.{left}
+use Rattle.usb_host.proofs.TryLemmas.{open-uses_none, open-arms, open-counts}
+use Rattle.usb_ledger.proofs.DeviceLemmas.{changed-at, changed-other, held-interface_more}
+use Rattle.usb_host.proofs.InterfaceFrames.{claimed-there}
+use Rattle.usb_host.proofs.KernelFrames.{released-as}
 use Rattle.usb_ledger.specs.LedgerState.{LedgerState, host_ticket}
 use Rattle.usb_ledger.specs.Releases.{claim_ended, without_claim}
-use Rattle.usb_device.specs.Releases.{without_ended, owner_gone}
+use Rattle.usb_host.specs.Releases.{without_ended, owner_gone}
 
 -- a device is opened: the key, and the host
 pub opened-key : (h : HostState) (bus address : ℕ) (o : OpenDevice) (r : Result Key (Fail ErrorState)) → (open_tried bus address h.kernel).answer ≡ Ok o → IfOk r (λ key. key.serial ≡ length h.devices) → IfErr r (λ error. error ≡ Memory) → Tried (result_map (λ (key : Key). key.serial) r) (open_key h bus address)

@@ -21,25 +21,25 @@ use Rattle.usb_registry.proofs.ValueLemmas.{value-set_same, value-set_other, val
 use Rattle.usb_bus.specs.declared.route.Route.{Route}
 use Rattle.usb_bus.specs.Routes.{submission_of}
 use Rattle.usb_registry.specs.History.{value_at}
-use Rattle.usb_device.specs.Handles.{devices_left}
+use Rattle.usb_host.specs.Handles.{devices_left}
 use Rattle.usb_ledger.specs.declared.opened.OpenDevice.{OpenDevice}
 use Rattle.usb_ledger.specs.Entries.{ClaimedInterface, HostTicket, HostEndpoint, HeldBy, control_endpoint}
-use Rattle.usb_device.specs.HostState.{HostState}
-use Rattle.usb_device.specs.HostBus.{key_at}
+use Rattle.usb_host.specs.HostState.{HostState}
+use Rattle.usb_host.specs.HostBus.{key_at}
 use Rattle.usb_ledger.specs.Owners.{is_ticket_of, if_there, lives, is_of, lives_on, has_living, is_owned_among}
 use Rattle.usb_device.specs.OwnerLaws.{KeepsOwned, KeepsClaimed, KeepsClaims, KeepsOthers, EndpointsLive, IsOwned}
-use Rattle.usb_device.proofs.ClaimFrames.{handles-own, goes-ended}
-use Rattle.usb_device.specs.Releases.{owner_gone}
-use Rattle.usb_device.specs.HostCalls.{with_held, submitted_with, host_submitted, refused_with, host_refused, closed_if, host_left, host_idled, host_halt_cleared}
+use Rattle.usb_host.proofs.ClaimFrames.{handles-own, goes-ended}
+use Rattle.usb_host.specs.Releases.{owner_gone}
+use Rattle.usb_host.specs.HostCalls.{with_held, submitted_with, host_submitted, refused_with, host_refused, closed_if, host_left, host_idled, host_halt_cleared}
 use Rattle.usb_device.specs.HandleStates.{InterfaceState, StandsInterface}
-use Rattle.usb_device.specs.Handles.{handle_added, handle_cloned, handle_gone, handle_closed}
-use Rattle.usb_device.specs.Opens.{open_tried, host_opened}
-use Rattle.usb_device.specs.EndpointOpens.{asked_on, host_asked, with_endpoint}
-use Rattle.usb_device.specs.OnDevices.{detached_on, host_detached, attached_on, host_attached, reset_on, host_reset, configured_on, host_configured, speed_asked_on, host_speed_asked}
-use Rattle.usb_device.specs.OnInterfaces.{alt_setting_errno, setting_unless, alt_setting_asked, alt_setting_on, alt_setting_set}
-use Rattle.usb_device.proofs.InterfaceFrames.{armed_as, opened-is}
-use Rattle.usb_device.specs.Controls.{host_started}
-use Rattle.usb_device.proofs.EndpointLemmas.{key-new}
+use Rattle.usb_host.specs.Handles.{handle_added, handle_cloned, handle_gone, handle_closed}
+use Rattle.usb_host.specs.Opens.{open_tried, host_opened}
+use Rattle.usb_host.specs.EndpointOpens.{asked_on, host_asked, with_endpoint}
+use Rattle.usb_host.specs.OnDevices.{detached_on, host_detached, attached_on, host_attached, reset_on, host_reset, configured_on, host_configured, speed_asked_on, host_speed_asked}
+use Rattle.usb_host.specs.OnInterfaces.{alt_setting_errno, setting_unless, alt_setting_asked, alt_setting_on, alt_setting_set}
+use Rattle.usb_host.proofs.InterfaceFrames.{armed_as, opened-is}
+use Rattle.usb_host.specs.Controls.{host_started}
+use Rattle.usb_host.proofs.EndpointLemmas.{key-new}
 use Rattle.usb_device.proofs.OwnerLawLists.{any-at, any-push, any-push_at, or_true}
 use Rattle.usb_device.proofs.OwnerLawKernel.{called-claimed, reset-claimed}
 use Rattle.usb_device.proofs.OwnerLawKept.{claim_as, claim_at, at-claim, at-none, claims-kept, stays, claimed-refl, follow}

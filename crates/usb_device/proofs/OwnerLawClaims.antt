@@ -21,10 +21,10 @@ use Rattle.usb_registry.specs.History.{value_at}
 use Rattle.usb_ledger.specs.Devices.{device_changed, interface_more}
 use Rattle.usb_ledger.specs.declared.opened.OpenDevice.{OpenDevice}
 use Rattle.usb_ledger.specs.Entries.{ClaimedInterface, fresh_interface}
-use Rattle.usb_device.specs.HostState.{HostState}
+use Rattle.usb_host.specs.HostState.{HostState}
 use Rattle.usb_ledger.specs.Owners.{is_owned_among}
 use Rattle.usb_device.specs.OwnerLaws.{is_owned_claim, InterfacesAreOwned, HasEnded, KeepsClaimed, KeepsHandles, KeepsClaims}
-use Rattle.usb_device.specs.InterfaceClaims.{claim_errno, kernel_claimed, claimed_by, claimed_on, host_claimed}
+use Rattle.usb_host.specs.InterfaceClaims.{claim_errno, kernel_claimed, claimed_by, claimed_on, host_claimed}
 use Rattle.usb_device.proofs.OwnerLawKernel.{called-claimed}
 use Rattle.usb_device.proofs.OwnerLawTells.{owns, at-owns, tells-from, tells-to, named, unnamed, Gains, tells-gain}
 use Rattle.usb_device.proofs.OwnerLawKept.{claim_as, claim_at, same-owns, same-owned, same-ended, stays}

@@ -6,9 +6,9 @@ use Rattle.std.proofs.lemmas.Option.{none-some, same_Some}
 use Rattle.usb_registry.specs.History.{value_at}
 use Rattle.usb_kernel.specs.ClaimLaws.{is_claimed}
 use Rattle.usb_ledger.specs.Entries.{ClaimedInterface}
-use Rattle.usb_device.specs.HostState.{HostState}
+use Rattle.usb_host.specs.HostState.{HostState}
 use Rattle.usb_ledger.specs.Owners.{is_owned_among}
-use Rattle.usb_device.specs.HostFrames.{ClaimsGoOn}
+use Rattle.usb_host.specs.HostFrames.{ClaimsGoOn}
 use Rattle.usb_device.specs.OwnerLaws.{is_owned_claim, IsOwned, HasEnded, KeepsOwned, KeepsHandles, KeepsClaimed, KeepsClaims, EndpointsLive}
 use Rattle.usb_device.proofs.OwnerLawTells.{owns, tells-from, tells-to, tells-same}
 

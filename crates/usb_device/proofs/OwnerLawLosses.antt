@@ -15,10 +15,10 @@ use Rattle.usb_kernel.specs.Value.{KernelState}
 use Rattle.usb_kernel.proofs.ClaimLemmas.{release-ends}
 use Rattle.usb_ledger.specs.declared.owners.EndedClaim.{EndedClaim}
 use Rattle.usb_ledger.specs.Entries.{ClaimedInterface}
-use Rattle.usb_device.specs.HostState.{HostState}
+use Rattle.usb_host.specs.HostState.{HostState}
 use Rattle.usb_ledger.specs.Owners.{is_owned_among}
 use Rattle.usb_ledger.specs.Releases.{claim_ended}
-use Rattle.usb_device.specs.Releases.{released, without_ended, with_ended}
+use Rattle.usb_host.specs.Releases.{released, without_ended, with_ended}
 use Rattle.usb_device.specs.OwnerLaws.{is_owned_claim, InterfacesAreOwned, HasEnded, KeepsOwned}
 use Rattle.usb_device.proofs.OwnerLawKernel.{called-claimed, release-claimed}
 use Rattle.usb_device.proofs.OwnerLawTells.{owns, at-owns, tells-from, tells-to, named, unnamed, tells-same, Loses, tells-loss}

@@ -12,13 +12,13 @@ use Rattle.usb_registry.specs.History.{value_at}
 use Rattle.usb_ledger.specs.declared.ends.TicketEnd.{TicketEnd}
 use Rattle.usb_ledger.specs.declared.ends.TicketEnd.TheVariants.{Taken, Dropped, Reclaimed}
 use Rattle.usb_ledger.specs.Entries.{HostTicket, HostEndpoint, Hold, HeldBy, Abandoned, Ended}
-use Rattle.usb_device.specs.HostState.{HostState}
+use Rattle.usb_host.specs.HostState.{HostState}
 use Rattle.usb_ledger.specs.Owners.{is_ticket_of, lives, is_of, lives_on}
 use Rattle.usb_device.specs.OwnerLaws.{KeepsClaims}
-use Rattle.usb_device.specs.TicketEnds.{with_ticket, ended_as, host_ended, host_taken, given_up, host_abandoned, reclaimed_if, came}
-use Rattle.usb_device.specs.HostTurns.{with_past, host_stepped, host_reaped, reaped_of, turned_of, host_turned, all_stepped, host_rest}
-use Rattle.usb_device.specs.HostCalls.{host_discarded}
-use Rattle.usb_device.specs.Finishes.{discarded_below, reaped_below, finished}
+use Rattle.usb_host.specs.TicketEnds.{with_ticket, ended_as, host_ended, host_taken, given_up, host_abandoned, reclaimed_if, came}
+use Rattle.usb_host.specs.HostTurns.{with_past, host_stepped, host_reaped, reaped_of, turned_of, host_turned, all_stepped, host_rest}
+use Rattle.usb_host.specs.HostCalls.{host_discarded}
+use Rattle.usb_host.specs.Finishes.{discarded_below, reaped_below, finished}
 use Rattle.usb_device.proofs.OwnerLawLists.{any-put}
 use Rattle.usb_device.proofs.OwnerLawKernel.{stepped-claimed}
 use Rattle.usb_device.proofs.OwnerLawKept.{claim_at, claims-kept, stays, follow, claimed-refl}

@@ -3,13 +3,13 @@ use Rattle.std.proofs.Common.{ℕ, zero, suc, Bool, true, false, cond, List, [],
 use Rattle.std.proofs.lemmas.Bool.{cond_both}
 use Rattle.usb_simulated.specs.declared.step.KernelStep.{KernelStep}
 use Rattle.usb_kernel.specs.Completions.{waiting, lowest}
-use Rattle.usb_device.specs.HostState.{HostState}
+use Rattle.usb_host.specs.HostState.{HostState}
 use Rattle.usb_device.specs.OwnerLaws.{KeepsClaims}
-use Rattle.usb_device.specs.HostTurns.{host_stepped, host_reaped}
-use Rattle.usb_device.specs.HostCalls.{host_discarded, host_idled}
-use Rattle.usb_device.specs.HostWaits.{is_found, is_late, reap_and, wait_reaps, wait_steps, host_waited}
-use Rattle.usb_device.specs.HostBlocking.{or_then, waited_by_seconds, host_blocked}
-use Rattle.usb_device.specs.HostAwaits.{sought_reaps, sought_steps, host_awaited}
+use Rattle.usb_host.specs.HostTurns.{host_stepped, host_reaped}
+use Rattle.usb_host.specs.HostCalls.{host_discarded, host_idled}
+use Rattle.usb_host.specs.HostWaits.{is_found, is_late, reap_and, wait_reaps, wait_steps, host_waited}
+use Rattle.usb_host.specs.HostBlocking.{or_then, waited_by_seconds, host_blocked}
+use Rattle.usb_host.specs.HostAwaits.{sought_reaps, sought_steps, host_awaited}
 use Rattle.usb_device.proofs.OwnerLawKept.{stays, follow}
 use Rattle.usb_device.proofs.OwnerLawTurns.{steps-owned, stepped-owned, reaped-owned, discarded-owned}
 use Rattle.usb_device.proofs.OwnerLawCalls.{idled-owned}

@@ -11,8 +11,8 @@ use Rattle.usb_error.specs.ErrorState.{ErrorState}
 use Rattle.usb_error.specs.Errors.{open_error, read_descriptors_error, configuration_error, invalid_device_descriptor_error}
 use Rattle.usb_ledger.specs.declared.opened.OpenDevice.{OpenDevice}
 use Rattle.usb_endpoint.specs.CallErrors.{or_error}
-use Rattle.usb_device.specs.Tries.{Attempt, ◌>>=◌, going_on, present, giving}
-use Rattle.usb_device.specs.Opens.{device_tried, descriptors_tried, configuration_tried, open_tried}
+use Rattle.usb_host.specs.Tries.{Attempt, ◌>>=◌, going_on, present, giving}
+use Rattle.usb_host.specs.Opens.{device_tried, descriptors_tried, configuration_tried, open_tried}
 
 -- a step that leaves the kernel as it was where it answers, and one that only changes what is armed
 abbrev UsesNone : {A : Type 0} → (KernelState → Attempt A) → Type 0

@@ -3,16 +3,16 @@ use Rattle.std.proofs.Common.{ℕ, zero, suc, arith, ◌≡◌, ◌≤◌, ◌+�
 use Rattle.std.specs.Prelude.{if◌then◌else◌}
 use Rattle.usb_simulated.specs.declared.step.KernelStep.{KernelStep}
 use Rattle.usb_kernel.specs.Completions.{waiting, lowest}
-use Rattle.usb_device.specs.HostState.{HostState}
-use Rattle.usb_device.specs.HostBus.{bus_of}
-use Rattle.usb_device.specs.HostTurns.{host_stepped, host_reaped, reaped_of, turned_of, host_turned, host_rest}
-use Rattle.usb_device.specs.HostCalls.{host_discarded}
-use Rattle.usb_device.specs.HostWaits.{is_found, is_late, reap_and, wait_reaps, wait_steps, host_waited}
-use Rattle.usb_device.specs.HostBlocking.{or_then, waited_by_seconds, host_blocked}
-use Rattle.usb_device.specs.HostFrames.{LineGoesOn, HostGoesOn}
-use Rattle.usb_device.proofs.HostKeeps.{UsesPlaces, KeepsOpen}
-use Rattle.usb_device.proofs.ClaimFrames.{goes-trans}
-use Rattle.usb_device.proofs.HostFrames.{uses-none, uses-stepped, uses-reaped, uses-discarded, uses-all, later-trans}
+use Rattle.usb_host.specs.HostState.{HostState}
+use Rattle.usb_host.specs.HostBus.{bus_of}
+use Rattle.usb_host.specs.HostTurns.{host_stepped, host_reaped, reaped_of, turned_of, host_turned, host_rest}
+use Rattle.usb_host.specs.HostCalls.{host_discarded}
+use Rattle.usb_host.specs.HostWaits.{is_found, is_late, reap_and, wait_reaps, wait_steps, host_waited}
+use Rattle.usb_host.specs.HostBlocking.{or_then, waited_by_seconds, host_blocked}
+use Rattle.usb_host.specs.HostFrames.{LineGoesOn, HostGoesOn}
+use Rattle.usb_host.proofs.HostKeeps.{UsesPlaces, KeepsOpen}
+use Rattle.usb_host.proofs.ClaimFrames.{goes-trans}
+use Rattle.usb_host.proofs.HostFrames.{uses-none, uses-stepped, uses-reaped, uses-discarded, uses-all, later-trans}
 
 pub line-trans : (a b c : HostState) → LineGoesOn a b → LineGoesOn b c → LineGoesOn a c
 line-trans a b c first second =

@@ -16,17 +16,17 @@ use Rattle.usb_simulated.specs.Interfaces.{contains, set_of}
 use Rattle.usb_kernel.specs.Calls.{called}
 use Rattle.usb_ledger.specs.declared.ends.TicketEnd.TheVariants.{Dropped, Reclaimed}
 use Rattle.usb_ledger.specs.Entries.{HostTicket, HeldBy, Abandoned, Ended, fresh_interface}
-use Rattle.usb_device.specs.HostState.{HostState, host_of}
+use Rattle.usb_host.specs.HostState.{HostState, host_of}
 use Rattle.usb_ledger.specs.Owners.{is_used_among, is_owned_among}
-use Rattle.usb_device.specs.Owners.{is_in_use}
+use Rattle.usb_host.specs.Owners.{is_in_use}
 use Rattle.usb_ledger.specs.Releases.{claim_ended, claim_of, endpoints_left}
-use Rattle.usb_device.specs.Releases.{endpoint_left, settled, owner_gone}
-use Rattle.usb_device.specs.TicketEnds.{host_ended, host_taken, host_abandoned, came}
-use Rattle.usb_device.specs.HostTurns.{host_reaped}
-use Rattle.usb_device.specs.HostCalls.{host_discarded, host_left}
-use Rattle.usb_device.specs.Handles.{handle_closed}
-use Rattle.usb_device.specs.Opens.{descriptors_tried, open_tried, host_opened}
-use Rattle.usb_device.specs.InterfaceClaims.{host_claimed}
+use Rattle.usb_host.specs.Releases.{endpoint_left, settled, owner_gone}
+use Rattle.usb_host.specs.TicketEnds.{host_ended, host_taken, host_abandoned, came}
+use Rattle.usb_host.specs.HostTurns.{host_reaped}
+use Rattle.usb_host.specs.HostCalls.{host_discarded, host_left}
+use Rattle.usb_host.specs.Handles.{handle_closed}
+use Rattle.usb_host.specs.Opens.{descriptors_tried, open_tried, host_opened}
+use Rattle.usb_host.specs.InterfaceClaims.{host_claimed}
 
 -- a transfer of 8 bytes on endpoint 81 of device 0, in packets of at most 4
 abbrev submit : ℕ → List Event → List Event

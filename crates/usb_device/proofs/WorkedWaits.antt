@@ -9,12 +9,12 @@ use Rattle.usb_simulated.specs.declared.step.KernelStep.TheVariants as step
 use Rattle.usb_kernel.specs.Completions.{completion}
 use Rattle.usb_bus.specs.Completions.{transfer_completion}
 use Rattle.usb_ledger.specs.Entries.{HeldBy}
-use Rattle.usb_device.specs.HostState.{HostState}
-use Rattle.usb_device.specs.TicketEnds.{came}
-use Rattle.usb_device.specs.HostTurns.{host_stepped, host_reaped}
-use Rattle.usb_device.specs.HostCalls.{host_discarded}
-use Rattle.usb_device.specs.HostWaits.{host_waited}
-use Rattle.usb_device.specs.HostBlocking.{host_blocked}
+use Rattle.usb_host.specs.HostState.{HostState}
+use Rattle.usb_host.specs.TicketEnds.{came}
+use Rattle.usb_host.specs.HostTurns.{host_stepped, host_reaped}
+use Rattle.usb_host.specs.HostCalls.{host_discarded}
+use Rattle.usb_host.specs.HostWaits.{host_waited}
+use Rattle.usb_host.specs.HostBlocking.{host_blocked}
 
 -- ticket 0 is a transfer of 8 bytes on endpoint 81 of device 0, in packets of at most 4
 abbrev submitted : Event

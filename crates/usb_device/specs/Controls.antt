@@ -10,7 +10,7 @@ use Rattle.usb_kernel.specs.declared.submission.Submission.{Submission}
 use Rattle.usb_kernel.specs.Submits.{kernel_submitted}
 use Rattle.usb_ledger.specs.Entries.{HeldBy, control_endpoint}
 use Rattle.usb_device.specs.declared.controls.ControlRequest.{ControlRequest}
-use Rattle.usb_device.specs.HostState.{HostState}
+use Rattle.usb_host.specs.HostState.{HostState}
 
 -- a request for data: the buffer is empty, and has room for what is asked for
 abbrev pub request_in : ControlIn → ControlRequest

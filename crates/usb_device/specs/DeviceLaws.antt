@@ -5,7 +5,7 @@ use Rattle.usb_registry.specs.History.{value_at}
 use Rattle.usb_ledger.specs.Entries.{ClaimedInterface}
 use Rattle.usb_ledger.specs.declared.opened.OpenDevice.{OpenDevice}
 use Rattle.usb_ledger.specs.Devices.{is_held}
-use Rattle.usb_device.specs.HostState.{HostState}
+use Rattle.usb_host.specs.HostState.{HostState}
 
 -- whether a claimed interface holds the open device of a key: it was claimed on it, and has an open handle
 abbrev pub holds : ℕ → ClaimedInterface → Bool

@@ -10,22 +10,22 @@ use Rattle.usb_endpoint.specs.Handles.{Stands}
 use Rattle.usb_endpoint.specs.Closes.{after_close}
 use Rattle.usb_ledger.specs.declared.ends.TicketEnd.{TicketEnd}
 use Rattle.usb_ledger.specs.declared.ends.TicketEnd.TheVariants.{Dropped}
-use Rattle.usb_device.specs.HostState.{HostState}
+use Rattle.usb_host.specs.HostState.{HostState}
 use Rattle.usb_ledger.specs.EndedTickets.{end_at}
-use Rattle.usb_device.specs.HostBus.{bus_of}
-use Rattle.usb_device.specs.HostTurns.{host_stepped, host_turned, host_rest}
-use Rattle.usb_device.specs.HostCalls.{host_submitted, host_refused, host_discarded, host_left, host_idled, host_halt_cleared}
-use Rattle.usb_device.specs.TicketEnds.{host_taken, host_abandoned}
-use Rattle.usb_device.specs.HostAwaits.{host_awaited}
-use Rattle.usb_device.specs.Controls.{host_started}
+use Rattle.usb_host.specs.HostBus.{bus_of}
+use Rattle.usb_host.specs.HostTurns.{host_stepped, host_turned, host_rest}
+use Rattle.usb_host.specs.HostCalls.{host_submitted, host_refused, host_discarded, host_left, host_idled, host_halt_cleared}
+use Rattle.usb_host.specs.TicketEnds.{host_taken, host_abandoned}
+use Rattle.usb_host.specs.HostAwaits.{host_awaited}
+use Rattle.usb_host.specs.Controls.{host_started}
 use Rattle.usb_device.specs.Futures.{FutureState, StandsFuture, future_closed}
-use Rattle.usb_device.specs.Finishes.{finished}
-use Rattle.usb_device.specs.Handles.{handle_cloned, handle_closed}
-use Rattle.usb_device.specs.Opens.{host_opened}
-use Rattle.usb_device.specs.InterfaceClaims.{host_claimed}
-use Rattle.usb_device.specs.EndpointOpens.{host_asked, with_endpoint}
-use Rattle.usb_device.specs.OnDevices.{host_detached, host_attached, host_reset, host_configured, host_speed_asked}
-use Rattle.usb_device.specs.OnInterfaces.{alt_setting_set}
+use Rattle.usb_host.specs.Finishes.{finished}
+use Rattle.usb_host.specs.Handles.{handle_cloned, handle_closed}
+use Rattle.usb_host.specs.Opens.{host_opened}
+use Rattle.usb_host.specs.InterfaceClaims.{host_claimed}
+use Rattle.usb_host.specs.EndpointOpens.{host_asked, with_endpoint}
+use Rattle.usb_host.specs.OnDevices.{host_detached, host_attached, host_reset, host_configured, host_speed_asked}
+use Rattle.usb_host.specs.OnInterfaces.{alt_setting_set}
 
 -- a ticket that has an end keeps it
 abbrev pub KeepsEnds : HostState → HostState → Type 0

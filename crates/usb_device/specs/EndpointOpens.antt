@@ -17,9 +17,9 @@ use Rattle.usb_endpoint.specs.EndpointState.{EndpointState}
 use Rattle.usb_registry.specs.History.{value_at}
 use Rattle.usb_ledger.specs.declared.opened.OpenDevice.{OpenDevice}
 use Rattle.usb_ledger.specs.Entries.{ClaimedInterface}
-use Rattle.usb_device.specs.HostState.{HostState}
-use Rattle.usb_device.specs.Owners.{is_in_use}
-use Rattle.usb_device.specs.EndpointRefusals.{endpoint_tried}
+use Rattle.usb_host.specs.HostState.{HostState}
+use Rattle.usb_host.specs.Owners.{is_in_use}
+use Rattle.usb_host.specs.EndpointRefusals.{endpoint_tried}
 use Rattle.usb_error.specs.Outcomes.{Tried, result_map}
 
 -- the value of the active configuration: the kernel's, or the one that the open device keeps where

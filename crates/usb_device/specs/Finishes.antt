@@ -4,10 +4,10 @@ use Rattle.usb_kernel.specs.declared.event.Event.{Event}
 use Rattle.usb_kernel.specs.Tickets.{tickets}
 use Rattle.usb_kernel.specs.Completions.{completion}
 use Rattle.usb_ledger.specs.Entries.{HostTicket}
-use Rattle.usb_device.specs.HostState.{HostState}
+use Rattle.usb_host.specs.HostState.{HostState}
 use Rattle.usb_ledger.specs.EndedTickets.{end_at}
-use Rattle.usb_device.specs.HostTurns.{host_reaped}
-use Rattle.usb_device.specs.HostCalls.{host_discarded}
+use Rattle.usb_host.specs.HostTurns.{host_reaped}
+use Rattle.usb_host.specs.HostCalls.{host_discarded}
 
 -- the tickets below k are discarded, by number
 abbrev pub discarded_below : HostState → ℕ → HostState

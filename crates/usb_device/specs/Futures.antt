@@ -8,13 +8,13 @@ use Rattle.usb_xfer.specs.declared.transfer.Completion.{Completion}
 use Rattle.usb_kernel.specs.Tickets.{tickets}
 use Rattle.usb_bus.specs.Completions.{transfer_completion}
 use Rattle.usb_device.specs.declared.controls.ControlRequest.{ControlRequest}
-use Rattle.usb_device.specs.HostState.{HostState}
-use Rattle.usb_device.specs.HostBus.{owner_at, key_at}
-use Rattle.usb_device.specs.HostCalls.{host_left}
-use Rattle.usb_device.specs.HostWaits.{is_found}
-use Rattle.usb_device.specs.HostAwaits.{deadline_of, host_awaited}
-use Rattle.usb_device.specs.TicketEnds.{host_taken, host_abandoned}
-use Rattle.usb_device.specs.Controls.{deadline_after}
+use Rattle.usb_host.specs.HostState.{HostState}
+use Rattle.usb_host.specs.HostBus.{owner_at, key_at}
+use Rattle.usb_host.specs.HostCalls.{host_left}
+use Rattle.usb_host.specs.HostWaits.{is_found}
+use Rattle.usb_host.specs.HostAwaits.{deadline_of, host_awaited}
+use Rattle.usb_host.specs.TicketEnds.{host_taken, host_abandoned}
+use Rattle.usb_host.specs.Controls.{deadline_after}
 
 -- a future: the key of its control endpoint, the ticket that this holds, or nothing once a poll has
 -- taken it, the ticket's deadline, and where the data go

@@ -6,10 +6,10 @@ use Rattle.usb_registry.specs.History.{value_at}
 use Rattle.usb_ledger.specs.Entries.{ClaimedInterface}
 use Rattle.usb_ledger.specs.declared.opened.OpenDevice.{OpenDevice}
 use Rattle.usb_ledger.specs.Devices.{device_changed, handle_more, handle_less, interface_less}
-use Rattle.usb_device.specs.HostState.{HostState}
+use Rattle.usb_host.specs.HostState.{HostState}
 use Rattle.usb_device.specs.HandleStates.{InterfaceState}
-use Rattle.usb_device.specs.Owners.{is_shared}
-use Rattle.usb_device.specs.Releases.{owner_gone}
+use Rattle.usb_host.specs.Owners.{is_shared}
+use Rattle.usb_host.specs.Releases.{owner_gone}
 
 -- one more handle of an open device is open
 abbrev pub device_cloned : HostState → ℕ → HostState

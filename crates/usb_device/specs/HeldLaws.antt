@@ -8,22 +8,22 @@ use Rattle.usb_bus.specs.declared.route.Route.{Route}
 use Rattle.usb_registry.specs.History.{value_at}
 use Rattle.usb_ledger.specs.declared.ends.TicketEnd.{TicketEnd}
 use Rattle.usb_ledger.specs.declared.opened.OpenDevice.{OpenDevice}
-use Rattle.usb_device.specs.HostState.{HostState, host_of}
-use Rattle.usb_device.specs.HostTurns.{host_stepped, host_reaped, host_turned, host_rest}
-use Rattle.usb_device.specs.HostCalls.{host_submitted, host_refused, host_discarded, host_left, host_idled, host_halt_cleared}
-use Rattle.usb_device.specs.HostWaits.{host_waited}
-use Rattle.usb_device.specs.HostBlocking.{host_blocked}
-use Rattle.usb_device.specs.HostAwaits.{host_awaited}
-use Rattle.usb_device.specs.Controls.{host_started}
-use Rattle.usb_device.specs.TicketEnds.{host_ended, host_taken, host_abandoned}
-use Rattle.usb_device.specs.Finishes.{finished}
+use Rattle.usb_host.specs.HostState.{HostState, host_of}
+use Rattle.usb_host.specs.HostTurns.{host_stepped, host_reaped, host_turned, host_rest}
+use Rattle.usb_host.specs.HostCalls.{host_submitted, host_refused, host_discarded, host_left, host_idled, host_halt_cleared}
+use Rattle.usb_host.specs.HostWaits.{host_waited}
+use Rattle.usb_host.specs.HostBlocking.{host_blocked}
+use Rattle.usb_host.specs.HostAwaits.{host_awaited}
+use Rattle.usb_host.specs.Controls.{host_started}
+use Rattle.usb_host.specs.TicketEnds.{host_ended, host_taken, host_abandoned}
+use Rattle.usb_host.specs.Finishes.{finished}
 use Rattle.usb_device.specs.HandleStates.{InterfaceState, StandsDevice, StandsInterface}
-use Rattle.usb_device.specs.Handles.{device_cloned, device_closed, handle_cloned, handle_closed}
-use Rattle.usb_device.specs.Opens.{host_opened}
-use Rattle.usb_device.specs.InterfaceClaims.{host_claimed}
-use Rattle.usb_device.specs.EndpointOpens.{host_asked, with_endpoint}
-use Rattle.usb_device.specs.OnDevices.{host_detached, host_attached, host_reset, host_configured, host_speed_asked}
-use Rattle.usb_device.specs.OnInterfaces.{alt_setting_set}
+use Rattle.usb_host.specs.Handles.{device_cloned, device_closed, handle_cloned, handle_closed}
+use Rattle.usb_host.specs.Opens.{host_opened}
+use Rattle.usb_host.specs.InterfaceClaims.{host_claimed}
+use Rattle.usb_host.specs.EndpointOpens.{host_asked, with_endpoint}
+use Rattle.usb_host.specs.OnDevices.{host_detached, host_attached, host_reset, host_configured, host_speed_asked}
+use Rattle.usb_host.specs.OnInterfaces.{alt_setting_set}
 use Rattle.usb_device.specs.DeviceLaws.{DevicesAreHeld}
 
 -- an open device with an open handle stays, with at least its handles

@@ -4,12 +4,12 @@ use Rattle.usb_kernel.specs.declared.event.Event.{Event}
 use Rattle.usb_simulated.specs.declared.step.KernelStep.{KernelStep}
 use Rattle.usb_kernel.specs.Tickets.{Ticket, tickets}
 use Rattle.usb_kernel.specs.Completions.{waiting, lowest}
-use Rattle.usb_device.specs.HostState.{HostState}
+use Rattle.usb_host.specs.HostState.{HostState}
 use Rattle.usb_endpoint.specs.Waits.{time_is_up}
-use Rattle.usb_device.specs.HostTurns.{host_stepped, host_turned, host_turn}
-use Rattle.usb_device.specs.HostCalls.{host_idled}
-use Rattle.usb_device.specs.HostWaits.{is_found, reap_and}
-use Rattle.usb_device.specs.HostBlocking.{or_then}
+use Rattle.usb_host.specs.HostTurns.{host_stepped, host_turned, host_turn}
+use Rattle.usb_host.specs.HostCalls.{host_idled}
+use Rattle.usb_host.specs.HostWaits.{is_found, reap_and}
+use Rattle.usb_host.specs.HostBlocking.{or_then}
 
 -- the deadline of a ticket
 abbrev pub deadline_of : List Event → ℕ → Option ℕ

@@ -1,8 +1,8 @@
 -- How a blocking transfer goes at a host.
 use Rattle.std.specs.Prelude.{ℕ, Bool, length, if◌then◌else◌, zero, suc}
-use Rattle.usb_device.specs.HostState.{HostState}
-use Rattle.usb_device.specs.HostCalls.{host_discarded}
-use Rattle.usb_device.specs.HostWaits.{host_waited}
+use Rattle.usb_host.specs.HostState.{HostState}
+use Rattle.usb_host.specs.HostCalls.{host_discarded}
+use Rattle.usb_host.specs.HostWaits.{host_waited}
 
 -- the host where the ticket was found (p, of a wait), and else what comes next
 abbrev pub or_then : Bool × HostState → (HostState → HostState) → HostState

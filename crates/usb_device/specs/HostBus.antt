@@ -8,7 +8,7 @@ use Rattle.usb_bus.specs.Completions.{transfer_completion}
 use Rattle.usb_bus.specs.Holds.{value_for}
 use Rattle.usb_registry.specs.History.{value_at}
 use Rattle.usb_ledger.specs.Entries.{Hold, HostTicket, HostEndpoint, HeldBy, Abandoned, Ended}
-use Rattle.usb_device.specs.HostState.{HostState}
+use Rattle.usb_host.specs.HostState.{HostState}
 
 -- what the endpoint that holds a ticket has of it
 abbrev pub held_as : HostTicket → Option Hold

@@ -11,12 +11,12 @@ use Rattle.usb_bus.specs.BusState.{without_owner}
 use Rattle.usb_ledger.specs.declared.ends.TicketEnd.{TicketEnd}
 use Rattle.usb_ledger.specs.declared.ends.TicketEnd.TheVariants.{Taken}
 use Rattle.usb_ledger.specs.Entries.{HostTicket, HostEndpoint, Hold, HeldBy, Abandoned, Ended}
-use Rattle.usb_device.specs.HostState.{HostState}
-use Rattle.usb_device.specs.HostBus.{bus_of, owner_at, held_as, key_at}
+use Rattle.usb_host.specs.HostState.{HostState}
+use Rattle.usb_host.specs.HostBus.{bus_of, owner_at, held_as, key_at}
 use Rattle.usb_ledger.specs.Owners.{if_there, lives, is_ticket_of}
 use Rattle.usb_ledger.specs.Releases.{endpoints_left}
-use Rattle.usb_device.specs.Releases.{endpoint_left, settled}
-use Rattle.usb_device.specs.TicketEnds.{host_ended, ended_as, host_taken, with_ticket}
+use Rattle.usb_host.specs.Releases.{endpoint_left, settled}
+use Rattle.usb_host.specs.TicketEnds.{host_ended, ended_as, host_taken, with_ticket}
 
 -- a ticket that nobody holds any more, at its place
 owner-set : (tickets : List HostTicket) (t u : ℕ) (x : HostTicket) → held_as x ≡ None →

@@ -16,9 +16,9 @@ use Rattle.usb_bus.specs.declared.route.Route.{Route}
 use Rattle.usb_bus.specs.Routes.{submission_of}
 use Rattle.usb_registry.specs.History.{value_at}
 use Rattle.usb_ledger.specs.Entries.{HostEndpoint, HeldBy}
-use Rattle.usb_device.specs.HostState.{HostState}
-use Rattle.usb_device.specs.Releases.{settled}
-use Rattle.usb_device.specs.HostTurns.{with_past}
+use Rattle.usb_host.specs.HostState.{HostState}
+use Rattle.usb_host.specs.Releases.{settled}
+use Rattle.usb_host.specs.HostTurns.{with_past}
 
 -- the endpoint of a route holds the next ticket
 abbrev pub with_held : HostState → Route → TransferData → KernelState → HostState

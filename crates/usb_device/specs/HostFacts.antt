@@ -13,8 +13,8 @@ use Rattle.usb_bus.specs.Holds.{held_of}
 use Rattle.usb_ledger.specs.declared.opened.OpenDevice.{OpenDevice}
 use Rattle.usb_ledger.specs.declared.slot.TicketState.{TicketState}
 use Rattle.usb_ledger.specs.declared.slot.TicketState.TheVariants as slot
-use Rattle.usb_device.specs.declared.host.Host.TheInside.{Inside}
-use Rattle.usb_device.specs.HostState.{HostState}
+use Rattle.usb_host.specs.declared.host.Host.TheInside.{Inside}
+use Rattle.usb_host.specs.HostState.{HostState}
 use Rattle.usb_ledger.specs.LedgerState.{LedgerState, host_ticket}
 
 -- a host by its parts

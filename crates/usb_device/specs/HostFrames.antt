@@ -4,8 +4,8 @@ use Rattle.usb_registry.specs.History.{value_at}
 use Rattle.usb_simulated.specs.declared.step.KernelStep.{KernelStep}
 use Rattle.usb_bus.specs.Later.{IsLater}
 use Rattle.usb_ledger.specs.Entries.{ClaimedInterface, HostEndpoint}
-use Rattle.usb_device.specs.HostState.{HostState}
-use Rattle.usb_device.specs.HostBus.{bus_of}
+use Rattle.usb_host.specs.HostState.{HostState}
+use Rattle.usb_host.specs.HostBus.{bus_of}
 
 -- entries may go, and none comes: each that is open is as it was
 pub record EntriesGoOn {T : Type 0} (IsOpen : T → Type 0) (old new : List (Option T)) : Type 0 where

@@ -8,8 +8,8 @@ use Rattle.usb_bus.specs.Completions.{transfer_completion}
 use Rattle.usb_bus.specs.Values.{HoldsCompletion}
 use Rattle.usb_bus.specs.Holds.{transfer_with}
 use Rattle.usb_ledger.specs.Entries.{Hold}
-use Rattle.usb_device.specs.HostState.{HostState}
-use Rattle.usb_device.specs.HostBus.{owner_at, hold_at, host_value}
+use Rattle.usb_host.specs.HostState.{HostState}
+use Rattle.usb_host.specs.HostBus.{owner_at, hold_at, host_value}
 
 -- a ticket is held exactly where it has an owner
 pub held-owned : (h : HostState) (t : ℕ) →

@@ -7,8 +7,8 @@ use Rattle.usb_kernel.specs.Steps.{after_step, after_reap, step_done}
 use Rattle.usb_bus.specs.declared.route.Turn.{Turn}
 use Rattle.usb_bus.specs.declared.route.Turn.TheVariants.{Stepped}
 use Rattle.usb_bus.specs.Turns.{reap_turn}
-use Rattle.usb_device.specs.HostState.{HostState}
-use Rattle.usb_device.specs.TicketEnds.{came}
+use Rattle.usb_host.specs.HostState.{HostState}
+use Rattle.usb_host.specs.TicketEnds.{came}
 
 -- a host whose kernel has another journal
 abbrev pub with_past : HostState → List Event → HostState

@@ -3,8 +3,8 @@ use Rattle.std.specs.Prelude.{ℕ, ◌-◌, Bool, true, false, List, [], ◌∷�
 use Rattle.usb_simulated.specs.declared.step.KernelStep.{KernelStep}
 use Rattle.usb_kernel.specs.Completions.{waiting, lowest}
 use Rattle.usb_bus.specs.Completions.{transfer_completion}
-use Rattle.usb_device.specs.HostState.{HostState}
-use Rattle.usb_device.specs.HostTurns.{host_stepped, host_reaped}
+use Rattle.usb_host.specs.HostState.{HostState}
+use Rattle.usb_host.specs.HostTurns.{host_stepped, host_reaped}
 
 -- whether a ticket is reaped, and so found by a wait for it
 abbrev pub is_found : HostState → ℕ → Bool

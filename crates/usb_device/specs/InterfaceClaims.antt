@@ -13,11 +13,11 @@ use Rattle.usb_endpoint.specs.CallErrors.{or_error}
 use Rattle.usb_registry.specs.History.{value_at}
 use Rattle.usb_ledger.specs.declared.opened.OpenDevice.{OpenDevice}
 use Rattle.usb_ledger.specs.Entries.{ClaimedInterface, fresh_interface}
-use Rattle.usb_device.specs.HostState.{HostState}
+use Rattle.usb_host.specs.HostState.{HostState}
 use Rattle.usb_ledger.specs.Devices.{device_changed, interface_more}
 use Rattle.usb_device.specs.HandleStates.{InterfaceState}
 use Rattle.usb_error.specs.Outcomes.{Tried, result_map}
-use Rattle.usb_device.specs.CallErrors.{Leaves}
+use Rattle.usb_host.specs.CallErrors.{Leaves}
 
 -- the errno of the claim at the kernel
 abbrev pub claim_errno : KernelState → OpenDevice → ℕ → Bool → Option ℕ

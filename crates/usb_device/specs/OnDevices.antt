@@ -13,8 +13,8 @@ use Rattle.usb_error.specs.declared.active.ActiveConfigurationError.{ActiveConfi
 use Rattle.usb_endpoint.specs.CallErrors.{or_error, or_missing}
 use Rattle.usb_registry.specs.History.{value_at}
 use Rattle.usb_ledger.specs.declared.opened.OpenDevice.{OpenDevice}
-use Rattle.usb_device.specs.HostState.{HostState}
-use Rattle.usb_device.specs.Speeds.{speed_of_code}
+use Rattle.usb_host.specs.HostState.{HostState}
+use Rattle.usb_host.specs.Speeds.{speed_of_code}
 
 -- `detach_kernel_driver`: the driver of an interface is bound no more
 abbrev pub detach_tried : HostState → OpenDevice → ℕ → Result (Unit {0}) ErrorState

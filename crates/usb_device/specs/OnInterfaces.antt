@@ -14,9 +14,9 @@ use Rattle.usb_endpoint.specs.CallErrors.{or_error}
 use Rattle.usb_registry.specs.History.{value_at}
 use Rattle.usb_ledger.specs.declared.opened.OpenDevice.{OpenDevice}
 use Rattle.usb_ledger.specs.Entries.{ClaimedInterface}
-use Rattle.usb_device.specs.HostState.{HostState}
+use Rattle.usb_host.specs.HostState.{HostState}
 use Rattle.usb_ledger.specs.Owners.{has_living}
-use Rattle.usb_device.specs.EndpointOpens.{setting_in}
+use Rattle.usb_host.specs.EndpointOpens.{setting_in}
 
 -- `set_alt_setting`: refused while an endpoint of the interface lives, before the kernel is asked;
 -- a setting that the kernel does not refuse is the current one

@@ -9,8 +9,8 @@ use Rattle.usb_kernel.specs.Value.{KernelState}
 use Rattle.usb_error.specs.ErrorState.{ErrorState}
 use Rattle.usb_error.specs.Errors.{open_error, read_descriptors_error, configuration_error, invalid_device_descriptor_error}
 use Rattle.usb_ledger.specs.declared.opened.OpenDevice.{OpenDevice}
-use Rattle.usb_device.specs.HostState.{HostState}
-use Rattle.usb_device.specs.Tries.{Attempt, ◌>>=◌, asking, present, giving}
+use Rattle.usb_host.specs.HostState.{HostState}
+use Rattle.usb_host.specs.Tries.{Attempt, ◌>>=◌, asking, present, giving}
 
 -- the kernel opens the first plugged device at an address of a bus
 abbrev pub device_tried : ℕ → ℕ → KernelState → Attempt ℕ

@@ -7,7 +7,7 @@ use Rattle.usb_simulated.specs.Calls.{attach_rules, with_driver}
 use Rattle.usb_kernel.specs.Calls.{called}
 use Rattle.usb_kernel.specs.Value.{KernelState}
 use Rattle.usb_ledger.specs.declared.owners.EndedClaim.{EndedClaim}
-use Rattle.usb_device.specs.HostState.{HostState}
+use Rattle.usb_host.specs.HostState.{HostState}
 use Rattle.usb_ledger.specs.Releases.{claim_ended, interface_at, claim_of, without_claim, endpoints_left}
 
 -- the kernel when a claim ends: the interface is released

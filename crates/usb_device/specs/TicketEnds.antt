@@ -5,8 +5,8 @@ use Rattle.usb_kernel.specs.Completions.{completion}
 use Rattle.usb_ledger.specs.declared.ends.TicketEnd.{TicketEnd}
 use Rattle.usb_ledger.specs.declared.ends.TicketEnd.TheVariants.{Taken, Dropped, Reclaimed}
 use Rattle.usb_ledger.specs.Entries.{HostTicket, HeldBy, Abandoned, Ended}
-use Rattle.usb_device.specs.HostState.{HostState}
-use Rattle.usb_device.specs.Releases.{settled}
+use Rattle.usb_host.specs.HostState.{HostState}
+use Rattle.usb_host.specs.Releases.{settled}
 
 -- this became of ticket t
 abbrev pub with_ticket : HostState → ℕ → HostTicket → HostState

@@ -2,14 +2,14 @@
 use Rattle.std.specs.Prelude.{ℕ, ◌≡◌, ◌≤◌, ◌+◌, Bool, List, [], length, Some}
 use Rattle.usb_endpoint.specs.Waits.{waited}
 use Rattle.usb_endpoint.specs.Blocking.{blocked}
-use Rattle.usb_device.specs.HostState.{HostState}
-use Rattle.usb_device.specs.HostBus.{bus_of}
-use Rattle.usb_device.specs.HostTurns.{host_turned, host_turn, host_rest}
-use Rattle.usb_device.specs.HostCalls.{host_discarded}
-use Rattle.usb_device.specs.HostWaits.{wait_steps, host_waited}
-use Rattle.usb_device.specs.HostBlocking.{host_blocked}
-use Rattle.usb_device.specs.HostAwaits.{host_awaited}
-use Rattle.usb_device.specs.HostFrames.{LineGoesOn, HostGoesOn}
+use Rattle.usb_host.specs.HostState.{HostState}
+use Rattle.usb_host.specs.HostBus.{bus_of}
+use Rattle.usb_host.specs.HostTurns.{host_turned, host_turn, host_rest}
+use Rattle.usb_host.specs.HostCalls.{host_discarded}
+use Rattle.usb_host.specs.HostWaits.{wait_steps, host_waited}
+use Rattle.usb_host.specs.HostBlocking.{host_blocked}
+use Rattle.usb_host.specs.HostAwaits.{host_awaited}
+use Rattle.usb_host.specs.HostFrames.{LineGoesOn, HostGoesOn}
 
 -- a wait at a host that has an answer goes by the steps that are left
 abbrev pub WaitIsBySteps : Type 0

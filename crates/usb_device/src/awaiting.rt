@@ -1,10 +1,10 @@
 //! The wait for a control transfer.
 
 ghost use Rattle.std.specs.Prelude.{◌≡◌, Some, true, false, IsSome};
-ghost use Rattle.usb_device.specs.HostAwaits.{deadline_of, host_awaited, host_turned_until};
-ghost use Rattle.usb_device.specs.HostBus.{hold_at};
-ghost use Rattle.usb_device.specs.HostFrames.{HostGoesOn};
-ghost use Rattle.usb_device.specs.HostWaits.{is_found};
+ghost use Rattle.usb_host.specs.HostAwaits.{deadline_of, host_awaited, host_turned_until};
+ghost use Rattle.usb_host.specs.HostBus.{hold_at};
+ghost use Rattle.usb_host.specs.HostFrames.{HostGoesOn};
+ghost use Rattle.usb_host.specs.HostWaits.{is_found};
 
 use crate::host::Host;
 use usb_bus::Turn;

@@ -3,11 +3,11 @@
 ghost use Rattle.std.specs.Prelude.{◌≡◌, ◌-◌, ◌^◌, ◌<◌, length, IsSome, OnOk, OnErr};
 ghost use Rattle.std.specs.Option.{ForSome};
 ghost use Rattle.usb_simulated.specs.Claims.{ok_unless};
-ghost use Rattle.usb_device.specs.HostState.{HostState};
-ghost use Rattle.usb_device.specs.Handles.{handle_cloned, handle_closed};
-ghost use Rattle.usb_device.specs.InterfaceClaims.{claim_errno, kernel_claimed, claim_tried, claimed_key, host_claimed};
-ghost use Rattle.usb_device.specs.Owners.{is_shared};
-ghost use Rattle.usb_device.specs.CallErrors.{Leaves};
+ghost use Rattle.usb_host.specs.HostState.{HostState};
+ghost use Rattle.usb_host.specs.Handles.{handle_cloned, handle_closed};
+ghost use Rattle.usb_host.specs.InterfaceClaims.{claim_errno, kernel_claimed, claim_tried, claimed_key, host_claimed};
+ghost use Rattle.usb_host.specs.Owners.{is_shared};
+ghost use Rattle.usb_host.specs.CallErrors.{Leaves};
 ghost use Rattle.usb_error.specs.Outcomes.{Tried, result_map};
 ghost use Rattle.usb_registry.specs.History.{value_at};
 ghost use Rattle.usb_registry.specs.declared.registry.Key.{Key};

@@ -3,9 +3,9 @@
 ghost use Rattle.std.specs.Prelude.{◌≡◌, ◌+◌, ◌<◌, length, slice_get, Ok, Err, IfOk, IfErr, IsSome};
 ghost use Rattle.std.specs.Option.{ForSome};
 ghost use Rattle.usb_registry.specs.History.{value_at};
-ghost use Rattle.usb_device.specs.HostState.{HostState};
-ghost use Rattle.usb_device.specs.OnDevices.{detach_tried, host_detached, attach_tried, host_attached, reset_tried, host_reset, set_configuration_tried, host_configured, speed_tried, host_speed_asked, active_of};
-ghost use Rattle.usb_device.specs.Speeds.{speed_of_code};
+ghost use Rattle.usb_host.specs.HostState.{HostState};
+ghost use Rattle.usb_host.specs.OnDevices.{detach_tried, host_detached, attach_tried, host_attached, reset_tried, host_reset, set_configuration_tried, host_configured, speed_tried, host_speed_asked, active_of};
+ghost use Rattle.usb_host.specs.Speeds.{speed_of_code};
 
 use crate::host::Host;
 use usb_desc::{ConfigurationDescriptor, find_configuration};

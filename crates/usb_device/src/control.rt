@@ -5,8 +5,8 @@ ghost use Rattle.std.specs.Option.{ForSome};
 ghost use Rattle.usb_registry.specs.History.{value_at};
 ghost use Rattle.usb_error.specs.Outcomes.{result_map};
 ghost use Rattle.usb_device.specs.HandleStates.{StandsDevice, StandsInterface};
-ghost use Rattle.usb_device.specs.CallErrors.{Leaves};
-ghost use Rattle.usb_device.specs.Controls.{request_in, request_out, request_started};
+ghost use Rattle.usb_host.specs.CallErrors.{Leaves};
+ghost use Rattle.usb_host.specs.Controls.{request_in, request_out, request_started};
 ghost use Rattle.usb_device.specs.Futures.{StandsFuture, fresh_future};
 ghost use Rattle.usb_device.specs.ControlCalls.{controlled, control_answered, Answers};
 

@@ -6,10 +6,10 @@ ghost use Rattle.usb_desc.specs.declared.types.TransferType.{TransferType};
 ghost use Rattle.usb_kernel.specs.Tickets.{tickets};
 ghost use Rattle.usb_registry.specs.History.{value_at};
 ghost use Rattle.usb_bus.specs.Completions.{transfer_completion};
-ghost use Rattle.usb_device.specs.HostBus.{owner_at, key_at};
-ghost use Rattle.usb_device.specs.HostCalls.{host_left};
-ghost use Rattle.usb_device.specs.TicketEnds.{host_taken};
-ghost use Rattle.usb_device.specs.Controls.{request_in, request_out, control_address, deadline_after, request_started};
+ghost use Rattle.usb_host.specs.HostBus.{owner_at, key_at};
+ghost use Rattle.usb_host.specs.HostCalls.{host_left};
+ghost use Rattle.usb_host.specs.TicketEnds.{host_taken};
+ghost use Rattle.usb_host.specs.Controls.{request_in, request_out, control_address, deadline_after, request_started};
 
 use crate::host::{Host, ticket_from};
 use std::alloc::Global;

@@ -6,7 +6,7 @@ ghost use Rattle.std.specs.Int.NonZero.{non_zero_u8_get};
 ghost use Rattle.usb_registry.specs.History.{value_at};
 ghost use Rattle.usb_error.specs.Outcomes.{result_map};
 ghost use Rattle.usb_device.specs.HandleStates.{StandsDevice};
-ghost use Rattle.usb_device.specs.CallErrors.{Leaves};
+ghost use Rattle.usb_host.specs.CallErrors.{Leaves};
 ghost use Rattle.usb_device.specs.ControlCalls.{Answers};
 ghost use Rattle.usb_device.specs.DescriptorCalls.{descriptor_request, descriptor_asked, descriptor_answered, text_answered, languages_answered, LeavesEither};
 

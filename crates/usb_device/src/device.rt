@@ -4,17 +4,18 @@ ghost use Rattle.std.specs.Prelude.{◌≡◌, IsOk, ◌+◌, ◌-◌, ◌^◌, 
 ghost use Rattle.std.specs.Option.{ForSome, option_copied};
 ghost use Rattle.usb_desc.specs.Configurations as spec;
 ghost use Rattle.usb_desc.specs.Fields.{direction_of_address};
-ghost use Rattle.usb_device.specs.HostState.{HostState};
+ghost use Rattle.usb_host.specs.HostState.{HostState};
 ghost use Rattle.usb_device.specs.HandleStates.{StandsDevice, StandsInterface};
 ghost use Rattle.usb_endpoint.specs.Handles.{Stands, KeepsOthers};
-ghost use Rattle.usb_device.specs.HostBus.{bus_of};
-ghost use Rattle.usb_device.specs.EndpointOpens.{OpensEndpoint, host_asked};
-ghost use Rattle.usb_device.specs.Handles.{device_cloned, device_closed, handle_cloned, handle_closed, ReleasesInterface};
-ghost use Rattle.usb_device.specs.OnDevices.{detach_tried, host_detached, attach_tried, host_attached, reset_tried, host_reset, set_configuration_tried, host_configured, speed_tried, host_speed_asked, active_of};
-ghost use Rattle.usb_device.specs.OnInterfaces.{alt_setting_tried, alt_setting_set, current_setting, all_settings};
-ghost use Rattle.usb_device.specs.InterfaceClaims.{ClaimsInterface};
-ghost use Rattle.usb_device.specs.Opens.{host_opened, open_key};
-ghost use Rattle.usb_device.specs.CallErrors.{Leaves};
+ghost use Rattle.usb_host.specs.HostBus.{bus_of};
+ghost use Rattle.usb_host.specs.EndpointOpens.{OpensEndpoint, host_asked};
+ghost use Rattle.usb_host.specs.Handles.{device_cloned, device_closed, handle_cloned, handle_closed};
+ghost use Rattle.usb_device.specs.HandleCalls.{ReleasesInterface};
+ghost use Rattle.usb_host.specs.OnDevices.{detach_tried, host_detached, attach_tried, host_attached, reset_tried, host_reset, set_configuration_tried, host_configured, speed_tried, host_speed_asked, active_of};
+ghost use Rattle.usb_host.specs.OnInterfaces.{alt_setting_tried, alt_setting_set, current_setting, all_settings};
+ghost use Rattle.usb_device.specs.HandleCalls.{ClaimsInterface};
+ghost use Rattle.usb_host.specs.Opens.{host_opened, open_key};
+ghost use Rattle.usb_host.specs.CallErrors.{Leaves};
 ghost use Rattle.usb_error.specs.Outcomes.{Tried};
 ghost use Rattle.usb_registry.specs.History.{value_at};
 

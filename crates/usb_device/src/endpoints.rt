@@ -9,10 +9,10 @@ ghost use Rattle.usb_simulated.specs.Calls.{same};
 ghost use Rattle.usb_kernel.specs.Calls.{called};
 ghost use Rattle.usb_ledger.specs.Entries.{ClaimedInterface};
 ghost use Rattle.usb_registry.specs.History.{value_at};
-ghost use Rattle.usb_device.specs.HostState.{HostState};
+ghost use Rattle.usb_host.specs.HostState.{HostState};
 ghost use Rattle.usb_ledger.specs.OwnerRows.{claim_state};
-ghost use Rattle.usb_device.specs.EndpointRefusals.{endpoint_tried};
-ghost use Rattle.usb_device.specs.EndpointOpens.{active_value, host_asked, endpoint_of_setting, host_tries, with_endpoint, endpoint_route, maximum_tried};
+ghost use Rattle.usb_host.specs.EndpointRefusals.{endpoint_tried};
+ghost use Rattle.usb_host.specs.EndpointOpens.{active_value, host_asked, endpoint_of_setting, host_tries, with_endpoint, endpoint_route, maximum_tried};
 ghost use Rattle.usb_error.specs.Outcomes.{Tried};
 
 use crate::host::Host;

@@ -16,19 +16,19 @@ ghost use Rattle.usb_bus.specs.Routes.{GoesBy, AsksWhole};
 ghost use Rattle.usb_bus.specs.Holds.{held_at_once};
 ghost use Rattle.usb_bus.specs.Completions.{CompletesOnly};
 ghost use Rattle.usb_ledger.specs.declared.opened.OpenDevice.{OpenDevice};
-ghost use Rattle.usb_device.specs.HostState.{HostState, host_of};
+ghost use Rattle.usb_host.specs.HostState.{HostState, host_of};
 ghost use Rattle.usb_ledger.specs.EndedTickets.{end_at};
-ghost use Rattle.usb_device.specs.HostBus.{bus_of, hold_at, owner_at, key_at, host_value};
-ghost use Rattle.usb_device.specs.HostBusFacts.{bus_of-taken};
-ghost use Rattle.usb_device.specs.HeldTransfers.{host_transfer};
-ghost use Rattle.usb_device.specs.HostCalls.{host_submitted, host_refused, host_discarded, host_left, host_idled, host_halt_result, host_halt_cleared};
-ghost use Rattle.usb_device.specs.Finishes.{finished, HasEnds, HasCompletions};
-ghost use Rattle.usb_device.specs.HostFacts.{TicketsAgree, host_made};
-ghost use Rattle.usb_device.specs.HostLaws.{held-owned, value-held};
-ghost use Rattle.usb_device.specs.HostTurns.{host_stepped, host_reaped, host_turned, host_turn, host_rest};
+ghost use Rattle.usb_host.specs.HostBus.{bus_of, hold_at, owner_at, key_at, host_value};
+ghost use Rattle.usb_host.specs.HostBusFacts.{bus_of-taken};
+ghost use Rattle.usb_host.specs.HeldTransfers.{host_transfer};
+ghost use Rattle.usb_host.specs.HostCalls.{host_submitted, host_refused, host_discarded, host_left, host_idled, host_halt_result, host_halt_cleared};
+ghost use Rattle.usb_host.specs.Finishes.{finished, HasEnds, HasCompletions};
+ghost use Rattle.usb_host.specs.HostFacts.{TicketsAgree, host_made};
+ghost use Rattle.usb_host.specs.HostLaws.{held-owned, value-held};
+ghost use Rattle.usb_host.specs.HostTurns.{host_stepped, host_reaped, host_turned, host_turn, host_rest};
 ghost use Rattle.usb_ledger.specs.LedgerState.{ticket_key, host_ticket};
-ghost use Rattle.usb_device.specs.Releases.{without_ended};
-ghost use Rattle.usb_device.specs.TicketEnds.{host_ended, host_taken, host_abandoned, came};
+ghost use Rattle.usb_host.specs.Releases.{without_ended};
+ghost use Rattle.usb_host.specs.TicketEnds.{host_ended, host_taken, host_abandoned, came};
 
 use std::alloc::Global;
 use std::collections::VecDeque;
@@ -48,8 +48,8 @@ pub struct Host {
 }
 
 impl Model for Host {
-    ghost use Rattle.usb_device.specs.HostState.{HostState};
-    ghost use Rattle.usb_device.specs.HostFacts.{host_made, IsMatched};
+    ghost use Rattle.usb_host.specs.HostState.{HostState};
+    ghost use Rattle.usb_host.specs.HostFacts.{host_made, IsMatched};
 
     ghost Value = { HostState };
 

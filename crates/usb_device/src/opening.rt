@@ -3,10 +3,10 @@
 ghost use Rattle.std.specs.Prelude.{◌≡◌, ◌-◌, ◌^◌, length, IsSome, OnOk, OnErr, IfOk, IfErr};
 ghost use Rattle.std.specs.Option.{ForSome};
 ghost use Rattle.usb_desc.specs.Configurations as spec;
-ghost use Rattle.usb_device.specs.HostState.{HostState};
-ghost use Rattle.usb_device.specs.Handles.{device_cloned, device_closed};
-ghost use Rattle.usb_device.specs.Opens.{descriptors_tried, open_tried, open_key, host_opened, with_opened};
-ghost use Rattle.usb_device.specs.CallErrors.{Leaves};
+ghost use Rattle.usb_host.specs.HostState.{HostState};
+ghost use Rattle.usb_host.specs.Handles.{device_cloned, device_closed};
+ghost use Rattle.usb_host.specs.Opens.{descriptors_tried, open_tried, open_key, host_opened, with_opened};
+ghost use Rattle.usb_host.specs.CallErrors.{Leaves};
 ghost use Rattle.usb_error.specs.Outcomes.{Tried, result_map};
 ghost use Rattle.usb_registry.specs.History.{value_at};
 ghost use Rattle.usb_registry.specs.declared.registry.Key.{Key};

@@ -5,9 +5,9 @@ ghost use Rattle.std.specs.Iterator.{YieldsFirst, item_count};
 ghost use Rattle.std.specs.Option.{ForSome};
 ghost use Rattle.usb_ledger.specs.Entries.{ClaimedInterface};
 ghost use Rattle.usb_registry.specs.History.{value_at};
-ghost use Rattle.usb_device.specs.HostState.{HostState};
-ghost use Rattle.usb_device.specs.EndpointOpens.{setting_in};
-ghost use Rattle.usb_device.specs.OnInterfaces.{alt_setting_tried, alt_setting_set, current_setting, settings_in, all_settings};
+ghost use Rattle.usb_host.specs.HostState.{HostState};
+ghost use Rattle.usb_host.specs.EndpointOpens.{setting_in};
+ghost use Rattle.usb_host.specs.OnInterfaces.{alt_setting_tried, alt_setting_set, current_setting, settings_in, all_settings};
 
 use crate::host::Host;
 use std::marker::Model;

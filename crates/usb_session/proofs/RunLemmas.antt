@@ -6,8 +6,8 @@ use Rattle.std.proofs.lemmas.List.{append-nil}
 use Rattle.std.proofs.lemmas.List.Sums.{sum_by-cons}
 use Rattle.usb_script.specs.declared.item.Item.{Item}
 use Rattle.usb_script.specs.ItemKinds.{is_call}
-use Rattle.usb_device.specs.HostState.{HostState}
-use Rattle.usb_device.specs.Finishes.{HasEnds}
+use Rattle.usb_host.specs.HostState.{HostState}
+use Rattle.usb_host.specs.Finishes.{HasEnds}
 use Rattle.usb_answers.specs.SessionState.{SessionState}
 use Rattle.usb_answers.specs.declared.summary.Summary.{Summary}
 use Rattle.usb_kernel.specs.Tickets.{tickets}

@@ -7,7 +7,7 @@ use Rattle.usb_script.specs.declared.error.SessionError.{SessionError}
 use Rattle.usb_script.specs.declared.error.SessionError.TheVariants.{Malformed, TooLong, ReadFault, WriteFault, Memory}
 use Rattle.usb_script.specs.Parse.{script_of}
 use Rattle.usb_session.specs.Causes.{Rose, ReadWhole, WrotePrefix, TookTooMany}
-use Rattle.usb_device.specs.Finishes.{HasEnds, HasCompletions}
+use Rattle.usb_host.specs.Finishes.{HasEnds, HasCompletions}
 use Rattle.usb_answers.specs.Output.{output, final_host}
 use Rattle.usb_answers.specs.Sums.{sum_of}
 use Rattle.usb_answers.specs.Served.{IsCounted, EndpointsAreServed}

@@ -6,7 +6,7 @@ ghost use Rattle.std.specs.Io.KnownBytes.{Appends};
 ghost use Rattle.usb_script.specs.declared.item.Item.{Item};
 ghost use Rattle.usb_script.specs.ItemKinds.{is_call, place_count};
 ghost use Rattle.usb_script.specs.ScriptFacts.{IsBounded};
-ghost use Rattle.usb_device.specs.Finishes.{HasEnds, HasCompletions};
+ghost use Rattle.usb_host.specs.Finishes.{HasEnds, HasCompletions};
 ghost use Rattle.usb_answers.specs.Fates.{fate_lines};
 ghost use Rattle.usb_answers.specs.Output.{output, start, final_host};
 ghost use Rattle.usb_answers.specs.Sums.{sum_of};

@@ -1,8 +1,8 @@
 use Rattle.std.proofs.Common.{sym, ◌∙◌, ap, subst}
 use Rattle.usb_bus.specs.BusState.{BusState}
 use Rattle.usb_endpoint.specs.Handles.{Stands}
-use Rattle.usb_device.specs.HostBus.{bus_of}
-use Rattle.usb_device.proofs.InterfaceFrames.{bus-handle_closed}
+use Rattle.usb_host.specs.HostBus.{bus_of}
+use Rattle.usb_host.proofs.InterfaceFrames.{bus-handle_closed}
 use Rattle.device_tests.proofs.claims.claim_refusal.Goals as goal
 
 pub returns-in-Ok : goal.returns-in-Ok

@@ -1,6 +1,6 @@
 use Rattle.device_tests.proofs.Kept.{claimed_closed}
 use Rattle.std.proofs.Common.{◌∙◌, ap, false}
-use Rattle.usb_device.specs.HostBus.{bus_of}
+use Rattle.usb_host.specs.HostBus.{bus_of}
 use Rattle.usb_device.proofs.HandleFrames.{bus-open, bus-claim}
 use Rattle.device_tests.proofs.hosts.claim.Goals as goal
 

@@ -2,8 +2,8 @@ use Rattle.std.proofs.Common.{sym, ◌∙◌, ap, subst}
 use Rattle.std.specs.Prelude.{IfOk}
 use Rattle.usb_bus.specs.BusState.{BusState}
 use Rattle.usb_endpoint.specs.Handles.{Stands}
-use Rattle.usb_device.specs.HostBus.{bus_of}
-use Rattle.usb_device.proofs.InterfaceFrames.{bus-handle_closed}
+use Rattle.usb_host.specs.HostBus.{bus_of}
+use Rattle.usb_host.proofs.InterfaceFrames.{bus-handle_closed}
 use Rattle.device_tests.proofs.hosts.open.Goals as goal
 
 pub returns : goal.returns

@@ -2,8 +2,8 @@ use Rattle.std.proofs.Common.{◌∙◌, ap, sym, subst}
 use Rattle.usb_bus.specs.BusState.{BusState}
 use Rattle.usb_endpoint.specs.EndpointState.{EndpointState}
 use Rattle.usb_endpoint.specs.Handles.{Stands}
-use Rattle.usb_device.specs.HostBus.{bus_of}
-use Rattle.usb_device.proofs.InterfaceFrames.{asked-is, bus-handle_closed}
+use Rattle.usb_host.specs.HostBus.{bus_of}
+use Rattle.usb_host.proofs.InterfaceFrames.{asked-is, bus-handle_closed}
 use Rattle.device_tests.proofs.Kept.{other_stands}
 use Rattle.device_tests.proofs.transfers.close_other.Goals as goal
 

@@ -2,8 +2,8 @@ use Rattle.device_tests.proofs.Kept.{claimed_closed}
 use Rattle.std.proofs.Common.{false, sym, ◌∙◌, ap, subst}
 use Rattle.usb_bus.specs.BusState.{BusState}
 use Rattle.usb_endpoint.specs.Handles.{Stands}
-use Rattle.usb_device.specs.HostBus.{bus_of}
-use Rattle.usb_device.proofs.InterfaceFrames.{bus-handle_closed}
+use Rattle.usb_host.specs.HostBus.{bus_of}
+use Rattle.usb_host.proofs.InterfaceFrames.{bus-handle_closed}
 use Rattle.device_tests.proofs.transfers.read_packet.Goals as goal
 
 pub submit-requires-clause-stands : goal.submit-requires-clause-stands

@@ -1,7 +1,7 @@
 use Rattle.std.proofs.Common.{ap, sym, subst}
 use Rattle.usb_endpoint.specs.EndpointState.{EndpointState}
 use Rattle.usb_endpoint.specs.AnyEndpoints.{state_of}
-use Rattle.usb_device.specs.HostFrames.{LineGoesOn}
+use Rattle.usb_host.specs.HostFrames.{LineGoesOn}
 use Rattle.usb_answers.proofs.HaltCode.{line-halt, halt-made}
 use Rattle.usb_answers.proofs.halting.clear_open.Goals as goal
 

@@ -1,9 +1,9 @@
 use Rattle.std.proofs.Common.{ap, sym, ◌∙◌, subst}
 use Rattle.usb_endpoint.specs.EndpointState.{EndpointState}
 use Rattle.usb_endpoint.specs.AnyEndpoints.{state_of}
-use Rattle.usb_device.specs.HostFrames.{LineGoesOn}
-use Rattle.usb_device.proofs.CallFrames.{keeps-open}
-use Rattle.usb_device.proofs.WaitFrames.{line-keeps}
+use Rattle.usb_host.specs.HostFrames.{LineGoesOn}
+use Rattle.usb_host.proofs.CallFrames.{keeps-open}
+use Rattle.usb_host.proofs.WaitFrames.{line-keeps}
 use Rattle.usb_answers.specs.Transfers.{transfer_on}
 use Rattle.usb_answers.specs.OpenCalls.{CallAnswers}
 use Rattle.usb_answers.proofs.WaitCode.{transfer-barred, transfer-made, transfer-line}

@@ -1,10 +1,10 @@
 use Rattle.std.proofs.Common.{ap, sym, set, ◌∙◌}
 use Rattle.usb_kernel.specs.Value.{KernelState}
-use Rattle.usb_device.specs.HostFacts.{host_made}
+use Rattle.usb_host.specs.HostFacts.{host_made}
 use Rattle.usb_ledger.specs.LedgerState.{LedgerState, slot_with, abandoned_key}
-use Rattle.usb_device.proofs.Places.{some-at}
-use Rattle.usb_device.proofs.ArrivalLemmas.{TicketsAgree-none, TicketsAgree-some, came-slot, left-slots, came-none}
-use Rattle.usb_device.proofs.host.complete.Goals as goal
+use Rattle.usb_host.proofs.Places.{some-at}
+use Rattle.usb_host.proofs.ArrivalLemmas.{TicketsAgree-none, TicketsAgree-some, came-slot, left-slots, came-none}
+use Rattle.usb_host.proofs.host.complete.Goals as goal
 
 pub returns-in_default-clause-host : goal.returns-in_default-clause-host
 returns-in_default-clause-host c = λ devices steps. rw c.in_default.is (sym (came-none (host_made c.args.kernel.now devices c.args.ledger.now steps)))

@@ -3,8 +3,8 @@ use Rattle.usb_simulated.specs.declared.step.KernelCall.TheVariants as call
 use Rattle.usb_simulated.specs.Calls.{attach_rules, with_driver}
 use Rattle.usb_kernel.specs.Value.{KernelState}
 use Rattle.usb_kernel.proofs.Answered.{called-is}
-use Rattle.usb_device.proofs.KernelFrames.{changed_as}
-use Rattle.usb_device.proofs.host.release.Goals as goal
+use Rattle.usb_host.proofs.KernelFrames.{changed_as}
+use Rattle.usb_host.proofs.host.release.Goals as goal
 
 pub returns-then-claim-clause-rest : goal.returns-then-claim-clause-rest
 returns-then-claim-clause-rest c =

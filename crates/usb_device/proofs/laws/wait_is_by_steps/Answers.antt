@@ -1,4 +1,4 @@
-use Rattle.usb_device.proofs.HostWaitLemmas.{wait-by_steps}
+use Rattle.usb_device.proofs.HostBlockingLemmas.{wait-by_steps}
 use Rattle.usb_device.proofs.laws.wait_is_by_steps.Goals as goal
 
 pub returns : goal.returns

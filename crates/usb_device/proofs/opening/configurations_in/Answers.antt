@@ -1,7 +1,7 @@
 use Rattle.std.proofs.Common.{◌∙◌, ap, sym, arith}
 use Rattle.std.proofs.lemmas.List.{drop_all}
 use Rattle.usb_desc.specs.Configurations.{configurations, concatenated}
-use Rattle.usb_device.proofs.opening.configurations_in.Goals as goal
+use Rattle.usb_host.proofs.opening.configurations_in.Goals as goal
 
 pub returns-then-bytes-lt18 : goal.returns-then-bytes-lt18
 unfolding configurations

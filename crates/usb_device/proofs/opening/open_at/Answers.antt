@@ -1,6 +1,6 @@
 use Rattle.std.proofs.Common.{sym}
-use Rattle.usb_device.proofs.OpeningLemmas.{read-refused}
-use Rattle.usb_device.proofs.opening.open_at.Goals as goal
+use Rattle.usb_host.proofs.OpeningLemmas.{read-refused}
+use Rattle.usb_host.proofs.opening.open_at.Goals as goal
 
 pub returns-in-Err-read_descriptors-clause-kernel : goal.returns-in-Err-read_descriptors-clause-kernel
 returns-in-Err-read_descriptors-clause-kernel c =

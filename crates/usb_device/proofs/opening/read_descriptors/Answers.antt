@@ -3,7 +3,7 @@ use Rattle.usb_simulated.specs.declared.devices.DeviceState.{DeviceState}
 use Rattle.usb_simulated.specs.declared.step.KernelCall.TheVariants as call
 use Rattle.usb_simulated.specs.Claims.{no_rules}
 use Rattle.usb_kernel.proofs.Answered.{asked-uses_none}
-use Rattle.usb_device.proofs.opening.read_descriptors.Goals as goal
+use Rattle.usb_host.proofs.opening.read_descriptors.Goals as goal
 
 pub returns-in-Err-from_slice-clause-kernel : goal.returns-in-Err-from_slice-clause-kernel
 returns-in-Err-from_slice-clause-kernel c =

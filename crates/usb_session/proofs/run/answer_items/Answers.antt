@@ -1,7 +1,7 @@
 use Rattle.std.proofs.Common.{arith, subst}
 use Rattle.std.proofs.lemmas.Result.{err_from_is_err_and}
-use Rattle.usb_device.specs.HostState.{HostState}
-use Rattle.usb_device.specs.Finishes.{HasEnds, HasCompletions}
+use Rattle.usb_host.specs.HostState.{HostState}
+use Rattle.usb_host.specs.Finishes.{HasEnds, HasCompletions}
 use Rattle.usb_answers.specs.Output.{output}
 use Rattle.usb_answers.proofs.HandleLemmas.{served-handles, final-counted, fates-of_scripts}
 use Rattle.usb_session.proofs.RunLemmas.{running-none, answered-end, answered-cut, answered-sum, host-final, host-ended}

@@ -1,9 +1,9 @@
 use Rattle.std.proofs.Common.{◌∙◌, ap}
 use Rattle.std.specs.Option.{option_copied}
 use Rattle.usb_ledger.specs.declared.opened.OpenDevice.{OpenDevice}
-use Rattle.usb_device.specs.HostState.{HostState}
-use Rattle.usb_device.specs.EndpointOpens.{as_asked, host_asked}
-use Rattle.usb_device.specs.OnDevices.{active_of}
+use Rattle.usb_host.specs.HostState.{HostState}
+use Rattle.usb_host.specs.EndpointOpens.{as_asked, host_asked}
+use Rattle.usb_host.specs.OnDevices.{active_of}
 use Rattle.usb_answers.specs.Configurations.{active_line, active_answer}
 use Rattle.usb_answers.specs.SessionState.{SessionState}
 use Rattle.usb_answers.specs.SessionFacts.{made_of}

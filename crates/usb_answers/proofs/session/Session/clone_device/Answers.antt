@@ -1,5 +1,5 @@
 use Rattle.std.proofs.Common.{◌≡◌, ◌∙◌, ap}
-use Rattle.usb_device.specs.HostState.{HostState}
+use Rattle.usb_host.specs.HostState.{HostState}
 use Rattle.usb_answers.specs.SessionState.{SessionState}
 use Rattle.std.specs.Option.{option_copied}
 use Rattle.usb_answers.specs.Names.{set_name}

@@ -1,6 +1,6 @@
 use Rattle.std.proofs.Common.{◌≡◌, ◌∙◌, ap}
 use Rattle.std.specs.Option.{option_copied}
-use Rattle.usb_device.specs.Handles.{handle_cloned}
+use Rattle.usb_host.specs.Handles.{handle_cloned}
 use Rattle.usb_answers.specs.Names.{set_name}
 use Rattle.usb_answers.specs.SessionState.{SessionState}
 use Rattle.usb_answers.specs.SessionFacts.{made_of}

@@ -1,5 +1,5 @@
 use Rattle.std.proofs.Common.{◌∙◌, ap, sym}
-use Rattle.usb_device.specs.Handles.{handle_closed}
+use Rattle.usb_host.specs.Handles.{handle_closed}
 use Rattle.usb_answers.specs.SessionState.{SessionState}
 use Rattle.usb_answers.specs.SessionFacts.{made_of}
 use Rattle.usb_answers.proofs.HandleHosts.{closed-keeps, spare-beside}

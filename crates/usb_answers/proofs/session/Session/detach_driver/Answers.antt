@@ -1,8 +1,8 @@
 use Rattle.std.proofs.Common.{◌∙◌, ap}
 use Rattle.std.specs.Option.{option_copied}
 use Rattle.usb_ledger.specs.declared.opened.OpenDevice.{OpenDevice}
-use Rattle.usb_device.specs.HostState.{HostState}
-use Rattle.usb_device.specs.OnDevices.{host_detached, detach_tried}
+use Rattle.usb_host.specs.HostState.{HostState}
+use Rattle.usb_host.specs.OnDevices.{host_detached, detach_tried}
 use Rattle.usb_lines.specs.Calls.{result_line}
 use Rattle.usb_answers.specs.Drivers.{detach_answer}
 use Rattle.usb_answers.specs.SessionState.{SessionState}

@@ -1,7 +1,7 @@
 use Rattle.std.proofs.Common.{◌≡◌, ◌∙◌, ap, sym, map, refl}
 use Rattle.std.specs.Option.{option_map}
 use Rattle.usb_endpoint.specs.AnyEndpoints.{state_of}
-use Rattle.usb_device.specs.Finishes.{finished}
+use Rattle.usb_host.specs.Finishes.{finished}
 use Rattle.usb_answers.specs.Names.{named}
 use Rattle.usb_answers.specs.Ends.{endpoints_closed, interfaces_closed}
 use Rattle.usb_answers.specs.SessionState.{SessionState}

@@ -1,6 +1,6 @@
 use Rattle.std.proofs.Common.{◌≡◌, ◌∙◌, ap, sym, Some, None}
-use Rattle.usb_device.specs.Handles.{handle_closed}
-use Rattle.usb_device.specs.Owners.{is_shared}
+use Rattle.usb_host.specs.Handles.{handle_closed}
+use Rattle.usb_host.specs.Owners.{is_shared}
 use Rattle.usb_answers.specs.Names.{named, freed}
 use Rattle.usb_answers.specs.SessionState.{SessionState}
 use Rattle.usb_answers.specs.SessionFacts.{made_of}

@@ -1,6 +1,6 @@
 use Rattle.std.proofs.Common.{◌∙◌, ap}
 use Rattle.std.specs.Option.{option_copied}
-use Rattle.usb_device.specs.OnInterfaces.{alt_setting_set}
+use Rattle.usb_host.specs.OnInterfaces.{alt_setting_set}
 use Rattle.usb_answers.specs.SessionState.{SessionState}
 use Rattle.usb_answers.specs.SessionFacts.{made_of}
 use Rattle.usb_answers.proofs.NameLemmas.{found_at}

@@ -1,9 +1,9 @@
 use Rattle.std.proofs.Common.{ap, sym, subst}
-use Rattle.usb_device.specs.HostState.{HostState}
+use Rattle.usb_host.specs.HostState.{HostState}
 use Rattle.usb_device.specs.HandleStates.{StandsDevice}
-use Rattle.usb_device.specs.EndpointOpens.{host_asked}
+use Rattle.usb_host.specs.EndpointOpens.{host_asked}
 use Rattle.usb_device.proofs.DeviceLemmas.{counts-stands}
-use Rattle.usb_device.proofs.InterfaceFrames.{asked-counts}
+use Rattle.usb_host.proofs.InterfaceFrames.{asked-counts}
 use Rattle.usb_device.proofs.device.Device.ask_configuration.Goals as goal
 
 pub returns-clause-stands : goal.returns-clause-stands

@@ -1,5 +1,5 @@
 use Rattle.std.proofs.Common.{ℕ, refl, true, Ok, Err}
-use Rattle.usb_device.proofs.OpeningLemmas.{claimed-stands, claimed-device}
+use Rattle.usb_device.proofs.StandLemmas.{claimed-stands, claimed-device}
 use Rattle.usb_device.proofs.device.Device.detach_and_claim_interface.Goals as goal
 
 pub returns-in-Ok-clause-claims : goal.returns-in-Ok-clause-claims

@@ -1,4 +1,4 @@
-use Rattle.usb_device.proofs.OpeningLemmas.{opened-stands}
+use Rattle.usb_device.proofs.StandLemmas.{opened-stands}
 use Rattle.usb_device.proofs.device.Device.open_at.Goals as goal
 
 pub returns-in-Ok-clause-stands : goal.returns-in-Ok-clause-stands

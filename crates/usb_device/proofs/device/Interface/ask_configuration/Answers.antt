@@ -1,7 +1,7 @@
 use Rattle.std.proofs.Common.{◌≡◌, ◌∙◌, ap, Some, slice_get}
 use Rattle.usb_registry.specs.History.{value_at}
 use Rattle.usb_device.specs.HandleStates.{InterfaceState}
-use Rattle.usb_device.proofs.EndpointLemmas.{asked-interface}
+use Rattle.usb_device.proofs.StandLemmas.{asked-interface}
 use Rattle.usb_device.proofs.device.Interface.ask_configuration.Goals as goal
 
 pub returns-clause-stands : goal.returns-clause-stands

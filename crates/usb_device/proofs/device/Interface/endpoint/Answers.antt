@@ -3,8 +3,9 @@ use Rattle.usb_registry.specs.History.{value_at}
 use Rattle.usb_bus.specs.declared.route.Route.{Route}
 use Rattle.usb_endpoint.specs.EndpointState.{EndpointState}
 use Rattle.usb_device.specs.HandleStates.{InterfaceState}
-use Rattle.usb_device.specs.EndpointOpens.{host_asked, with_endpoint}
-use Rattle.usb_device.proofs.EndpointLemmas.{endpoint-stands, endpoint-others, endpoint-interface, asked-interface}
+use Rattle.usb_host.specs.EndpointOpens.{host_asked, with_endpoint}
+use Rattle.usb_host.proofs.EndpointLemmas.{endpoint-stands, endpoint-others}
+use Rattle.usb_device.proofs.StandLemmas.{endpoint-interface, asked-interface}
 use Rattle.usb_device.proofs.device.Interface.endpoint.Goals as goal
 
 pub returns-in-Ok-clause-opens : goal.returns-in-Ok-clause-opens

@@ -1,8 +1,8 @@
 use Rattle.std.proofs.Common.{ap, sym, ◌∙◌, subst}
 use Rattle.usb_bus.specs.BusState.{BusState}
-use Rattle.usb_device.specs.HostBus.{bus_of}
+use Rattle.usb_host.specs.HostBus.{bus_of}
 use Rattle.usb_device.specs.Futures.{StandsFuture}
-use Rattle.usb_device.proofs.CallFrames.{bus-abandoned}
+use Rattle.usb_host.proofs.CallFrames.{bus-abandoned}
 use Rattle.usb_device.proofs.future.TransferFuture.close.Goals as goal
 
 pub leave_endpoint-requires : goal.leave_endpoint-requires

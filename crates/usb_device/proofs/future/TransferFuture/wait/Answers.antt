@@ -1,5 +1,5 @@
 use Rattle.std.proofs.Common.{ℕ, Bool, Option, ap, sym, ◌∙◌, subst}
-use Rattle.usb_device.specs.HostBus.{owner_at}
+use Rattle.usb_host.specs.HostBus.{owner_at}
 use Rattle.usb_device.specs.Futures.{StandsFuture}
 use Rattle.usb_device.proofs.future.TransferFuture.wait.Goals as goal
 

@@ -2,12 +2,12 @@ use Rattle.std.proofs.Common.{◌≡◌, false, ap, sym, refl, ◌∙◌}
 use Rattle.std.specs.Prelude.{is_some}
 use Rattle.usb_kernel.specs.Completions.{completion}
 use Rattle.usb_ledger.specs.declared.slot.TicketState.TheVariants as slot
-use Rattle.usb_device.specs.HostState.{HostState}
+use Rattle.usb_host.specs.HostState.{HostState}
 use Rattle.usb_ledger.specs.LedgerState.{LedgerState}
-use Rattle.usb_device.specs.TicketEnds.{host_abandoned}
-use Rattle.usb_device.proofs.HostCallLemmas.{HeldSlot, held-slot, held-within, abandoned-slot, TicketsAgree-abandon, none-not, dropped}
+use Rattle.usb_host.specs.TicketEnds.{host_abandoned}
+use Rattle.usb_host.proofs.HostCallLemmas.{HeldSlot, held-slot, held-within, abandoned-slot, TicketsAgree-abandon, none-not, dropped}
 use Rattle.std.proofs.lemmas.Option.{same_Some}
-use Rattle.usb_device.proofs.host.Host.abandon_ticket.Goals as goal
+use Rattle.usb_host.proofs.host.Host.abandon_ticket.Goals as goal
 
 pub returns-then-has_come : goal.returns-then-has_come
 returns-then-has_come c =

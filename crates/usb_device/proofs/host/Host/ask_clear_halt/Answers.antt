@@ -3,7 +3,7 @@ use Rattle.usb_simulated.specs.declared.step.KernelCall.TheVariants as call
 use Rattle.usb_simulated.specs.Claims.{no_rules}
 use Rattle.usb_kernel.specs.Value.{KernelState}
 use Rattle.usb_kernel.proofs.Answered.{asks-is}
-use Rattle.usb_device.proofs.host.Host.ask_clear_halt.Goals as goal
+use Rattle.usb_host.proofs.host.Host.ask_clear_halt.Goals as goal
 
 pub invariant_of-self : goal.invariant_of-self
 invariant_of-self c =

@@ -8,11 +8,11 @@ use Rattle.usb_kernel.specs.Value.{KernelState}
 use Rattle.usb_kernel.proofs.Answered.{asks-is}
 use Rattle.usb_registry.specs.History.{value_at}
 use Rattle.usb_ledger.specs.declared.opened.OpenDevice.{OpenDevice}
-use Rattle.usb_device.specs.HostFacts.{host_made}
-use Rattle.usb_device.specs.EndpointOpens.{host_asked, active_value}
+use Rattle.usb_host.specs.HostFacts.{host_made}
+use Rattle.usb_host.specs.EndpointOpens.{host_asked, active_value}
 use Rattle.usb_ledger.proofs.ListLemmas.{place}
-use Rattle.usb_device.proofs.EndpointLemmas.{asked-at}
-use Rattle.usb_device.proofs.host.Host.ask_configuration.Goals as goal
+use Rattle.usb_host.proofs.EndpointLemmas.{asked-at}
+use Rattle.usb_host.proofs.host.Host.ask_configuration.Goals as goal
 
 pub returns : goal.returns
 returns c =

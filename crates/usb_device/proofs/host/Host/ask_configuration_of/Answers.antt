@@ -1,8 +1,8 @@
 use Rattle.std.proofs.Common.{◌≡◌, ◌∙◌, Some, ap, slice_get}
 use Rattle.usb_registry.specs.History.{value_at}
-use Rattle.usb_device.specs.HostState.{HostState}
+use Rattle.usb_host.specs.HostState.{HostState}
 use Rattle.usb_registry.proofs.ValueLemmas.{some-of}
-use Rattle.usb_device.proofs.host.Host.ask_configuration_of.Goals as goal
+use Rattle.usb_host.proofs.host.Host.ask_configuration_of.Goals as goal
 
 pub ask_configuration-requires : goal.ask_configuration-requires
 ask_configuration-requires c =

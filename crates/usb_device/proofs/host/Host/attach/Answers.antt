@@ -3,11 +3,11 @@ use Rattle.usb_simulated.specs.declared.step.KernelCall.TheVariants as call
 use Rattle.usb_simulated.specs.Calls.{attach_rules, with_driver}
 use Rattle.usb_kernel.specs.Calls.{called}
 use Rattle.usb_kernel.specs.Value.{KernelState}
-use Rattle.usb_device.specs.HostState.{HostState}
+use Rattle.usb_host.specs.HostState.{HostState}
 use Rattle.usb_registry.specs.History.{value_at}
 use Rattle.usb_registry.proofs.ValueLemmas.{some-of}
-use Rattle.usb_device.proofs.CalledHosts.{matched-next, called-past, called-spare, kernel-put, attached-at}
-use Rattle.usb_device.proofs.host.Host.attach.Goals as goal
+use Rattle.usb_host.proofs.CalledHosts.{matched-next, called-past, called-spare, kernel-put, attached-at}
+use Rattle.usb_host.proofs.host.Host.attach.Goals as goal
 
 pub invariant_of-self : goal.invariant_of-self
 invariant_of-self c =

@@ -1,8 +1,8 @@
 use Rattle.std.proofs.Common.{◌≡◌, false, sym, ◌∙◌}
-use Rattle.usb_device.specs.HostWaits.{is_found}
-use Rattle.usb_device.proofs.WaitFrames.{went-trans}
-use Rattle.usb_device.proofs.AwaitLemmas.{until-keeps, found-completion, held-went, awaited-found}
-use Rattle.usb_device.proofs.host.Host.await_ticket.Goals as goal
+use Rattle.usb_host.specs.HostWaits.{is_found}
+use Rattle.usb_host.proofs.WaitFrames.{went-trans}
+use Rattle.usb_host.proofs.AwaitLemmas.{until-keeps, found-completion, held-went, awaited-found}
+use Rattle.usb_host.proofs.host.Host.await_ticket.Goals as goal
 
 pub turns-preserved : goal.turns-preserved
 turns-preserved c =

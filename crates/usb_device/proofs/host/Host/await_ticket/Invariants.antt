@@ -1,10 +1,10 @@
 use Rattle.std.proofs.Common.{◌≡◌, Some, false, IsSome}
-use Rattle.usb_device.specs.HostAwaits.{deadline_of, host_awaited}
-use Rattle.usb_device.specs.HostBus.{hold_at}
-use Rattle.usb_device.specs.HostFrames.{HostGoesOn}
-use Rattle.usb_device.specs.HostWaits.{is_found}
-use Rattle.usb_device.proofs.AwaitLemmas.{left_until}
-use Rattle.usb_device.proofs.host.Host.await_ticket.Given as goal
+use Rattle.usb_host.specs.HostAwaits.{deadline_of, host_awaited}
+use Rattle.usb_host.specs.HostBus.{hold_at}
+use Rattle.usb_host.specs.HostFrames.{HostGoesOn}
+use Rattle.usb_host.specs.HostWaits.{is_found}
+use Rattle.usb_host.proofs.AwaitLemmas.{left_until}
+use Rattle.usb_host.proofs.host.Host.await_ticket.Given as goal
 
 abbrev pub invariant-turns : goal.invariant-turns
 invariant-turns l = record {

@@ -4,17 +4,17 @@ use Rattle.usb_kernel.specs.Value.{KernelState}
 use Rattle.usb_registry.specs.History.{value_at}
 use Rattle.usb_ledger.specs.declared.opened.OpenDevice.{OpenDevice}
 use Rattle.usb_ledger.specs.Entries.{fresh_interface}
-use Rattle.usb_device.specs.HostState.{HostState}
+use Rattle.usb_host.specs.HostState.{HostState}
 use Rattle.usb_ledger.specs.Devices.{device_changed, interface_more}
-use Rattle.usb_device.specs.HostFacts.{host_made}
-use Rattle.usb_device.specs.InterfaceClaims.{claim_tried, claimed_key, kernel_claimed}
+use Rattle.usb_host.specs.HostFacts.{host_made}
+use Rattle.usb_host.specs.InterfaceClaims.{claim_tried, claimed_key, kernel_claimed}
 use Rattle.usb_ledger.specs.LedgerState.{LedgerState}
 use Rattle.usb_endpoint.specs.CallErrors.{or_error}
 use Rattle.usb_error.specs.Errors.{claim_error}
 use Rattle.usb_ledger.proofs.ListLemmas.{place}
-use Rattle.usb_device.proofs.OpeningLemmas.{claimed-refused, claimed-at}
-use Rattle.usb_device.proofs.KernelFrames.{kernel_claimed-is}
-use Rattle.usb_device.proofs.host.Host.claim.Goals as goal
+use Rattle.usb_host.proofs.OpeningLemmas.{claimed-refused, claimed-at}
+use Rattle.usb_host.proofs.KernelFrames.{kernel_claimed-is}
+use Rattle.usb_host.proofs.host.Host.claim.Goals as goal
 
 pub returns-in-Err-clause-tried : goal.returns-in-Err-clause-tried
 returns-in-Err-clause-tried c = λ x here.

@@ -3,8 +3,8 @@ use Rattle.std.proofs.Common.{◌≡◌, ap, refl}
 use Rattle.usb_ledger.specs.LedgerState.{LedgerState}
 use Rattle.usb_registry.proofs.ValueLemmas.{some-of}
 use Rattle.usb_ledger.proofs.LedgerLemmas.{either}
-use Rattle.usb_device.proofs.CalledHosts.{matched-next, cloned-made}
-use Rattle.usb_device.proofs.host.Host.clone_handle.Goals as goal
+use Rattle.usb_host.proofs.CalledHosts.{matched-next, cloned-made}
+use Rattle.usb_host.proofs.host.Host.clone_handle.Goals as goal
 
 pub invariant_of-self : goal.invariant_of-self
 invariant_of-self c =

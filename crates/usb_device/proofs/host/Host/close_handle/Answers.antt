@@ -3,11 +3,11 @@ use Rattle.usb_registry.specs.History.{value_at}
 use Rattle.usb_ledger.specs.Entries.{ClaimedInterface}
 use Rattle.usb_ledger.specs.OwnerRows.{claim_state}
 use Rattle.usb_kernel.specs.Value.{KernelState}
-use Rattle.usb_device.specs.Handles.{handle_closed}
+use Rattle.usb_host.specs.Handles.{handle_closed}
 use Rattle.usb_ledger.specs.LedgerState.{LedgerState}
 use Rattle.usb_registry.proofs.ValueLemmas.{some-of}
-use Rattle.usb_device.proofs.OpeningLemmas.{closed-made}
-use Rattle.usb_device.proofs.host.Host.close_handle.Goals as goal
+use Rattle.usb_host.proofs.OpeningLemmas.{closed-made}
+use Rattle.usb_host.proofs.host.Host.close_handle.Goals as goal
 
 pub invariant_of-self : goal.invariant_of-self
 invariant_of-self c =

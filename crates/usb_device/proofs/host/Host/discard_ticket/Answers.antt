@@ -1,9 +1,9 @@
 use Rattle.std.proofs.Common.{◌≡◌, ap, refl, ◌∙◌, arith}
 use Rattle.usb_kernel.specs.Value.{KernelState}
 use Rattle.usb_kernel.specs.Steps.{after_discard}
-use Rattle.usb_device.specs.HostCalls.{host_discarded}
-use Rattle.usb_device.proofs.ArrivalLemmas.{CompletesOnly-discard, TicketsAgree-none, TicketsAgree-at}
-use Rattle.usb_device.proofs.host.Host.discard_ticket.Goals as goal
+use Rattle.usb_host.specs.HostCalls.{host_discarded}
+use Rattle.usb_host.proofs.ArrivalLemmas.{CompletesOnly-discard, TicketsAgree-none, TicketsAgree-at}
+use Rattle.usb_host.proofs.host.Host.discard_ticket.Goals as goal
 
 pub invariant_of-self : goal.invariant_of-self
 invariant_of-self c =

@@ -8,12 +8,12 @@ use Rattle.usb_bus.specs.Completions.{transfer_completion}
 use Rattle.usb_ledger.specs.LedgerState.{LedgerState, slot_data}
 use Rattle.usb_ledger.specs.declared.opened.OpenDevice.{OpenDevice}
 use Rattle.usb_ledger.specs.declared.slot.TicketState.TheVariants as slot
-use Rattle.usb_device.specs.HostBus.{host_value}
-use Rattle.usb_device.specs.HeldTransfers.{transfer_held, host_transfer}
-use Rattle.usb_device.specs.HostFacts.{host_made, TicketsAgree}
-use Rattle.usb_device.specs.TicketEnds.{host_ended}
-use Rattle.usb_device.proofs.HostCallLemmas.{HeldSlot, held-slot, hold-of, value-slot, ended-slot, TicketsAgree-end}
-use Rattle.usb_device.proofs.host.Host.end_ticket.Goals as goal
+use Rattle.usb_host.specs.HostBus.{host_value}
+use Rattle.usb_host.specs.HeldTransfers.{transfer_held, host_transfer}
+use Rattle.usb_host.specs.HostFacts.{host_made, TicketsAgree}
+use Rattle.usb_host.specs.TicketEnds.{host_ended}
+use Rattle.usb_host.proofs.HostCallLemmas.{HeldSlot, held-slot, hold-of, value-slot, ended-slot, TicketsAgree-end}
+use Rattle.usb_host.proofs.host.Host.end_ticket.Goals as goal
 
 pub invariant_of-self : goal.invariant_of-self
 invariant_of-self c =

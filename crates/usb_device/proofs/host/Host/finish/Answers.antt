@@ -1,12 +1,12 @@
 use Rattle.std.proofs.Common.{◌≡◌, ◌∙◌, ap, sym, subst, length, arith}
 use Rattle.usb_kernel.specs.Tickets.{tickets}
 use Rattle.std.proofs.Common.{ℕ, None}
-use Rattle.usb_device.specs.HostState.{HostState}
-use Rattle.usb_device.specs.HostBus.{owner_at}
-use Rattle.usb_device.specs.HostFacts.{host_made}
-use Rattle.usb_device.proofs.FinishLemmas.{Waits, matched-waits, finished-ended, finished-reaped}
-use Rattle.usb_device.specs.Finishes.{finished, discarded_below, reaped_below, HasCompletions}
-use Rattle.usb_device.proofs.host.Host.finish.Goals as goal
+use Rattle.usb_host.specs.HostState.{HostState}
+use Rattle.usb_host.specs.HostBus.{owner_at}
+use Rattle.usb_host.specs.HostFacts.{host_made}
+use Rattle.usb_host.proofs.FinishLemmas.{Waits, matched-waits, finished-ended, finished-reaped}
+use Rattle.usb_host.specs.Finishes.{finished, discarded_below, reaped_below, HasCompletions}
+use Rattle.usb_host.proofs.host.Host.finish.Goals as goal
 
 pub returns-clause-finished : goal.returns-clause-finished
 unfolding finished

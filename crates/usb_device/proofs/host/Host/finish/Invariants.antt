@@ -1,6 +1,6 @@
 use Rattle.std.proofs.Common.{◌≡◌}
-use Rattle.usb_device.specs.Finishes.{discarded_below, reaped_below}
-use Rattle.usb_device.proofs.host.Host.finish.Given as goal
+use Rattle.usb_host.specs.Finishes.{discarded_below, reaped_below}
+use Rattle.usb_host.proofs.host.Host.finish.Given as goal
 
 abbrev pub invariant-loop-ticket : goal.invariant-loop-ticket
 invariant-loop-ticket l = l.self ≡ discarded_below l.initial.self l.ticket

@@ -2,12 +2,12 @@ use Rattle.std.proofs.Common.{◌≡◌, ap, sym, ◌∙◌}
 use Rattle.std.specs.Prelude.{is_some}
 use Rattle.usb_kernel.specs.Completions.{completion}
 use Rattle.usb_ledger.specs.declared.slot.TicketState.TheVariants as slot
-use Rattle.usb_device.specs.HostState.{HostState}
-use Rattle.usb_device.specs.HostBus.{host_value}
+use Rattle.usb_host.specs.HostState.{HostState}
+use Rattle.usb_host.specs.HostBus.{host_value}
 use Rattle.usb_ledger.specs.LedgerState.{is_complete}
-use Rattle.usb_device.proofs.HostCallLemmas.{HeldSlot, held-slot, come-reaped, come-value}
+use Rattle.usb_host.proofs.HostCallLemmas.{HeldSlot, held-slot, come-reaped, come-value}
 use Rattle.std.proofs.lemmas.Option.{same_Some}
-use Rattle.usb_device.proofs.host.Host.has_come.Goals as goal
+use Rattle.usb_host.proofs.host.Host.has_come.Goals as goal
 
 pub returns-clause-come : goal.returns-clause-come
 returns-clause-come c =

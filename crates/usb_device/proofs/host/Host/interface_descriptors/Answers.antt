@@ -3,8 +3,8 @@ use Rattle.std.proofs.Common.{◌≡◌, ◌∙◌, ap, sym, subst, Some, slice_
 use Rattle.usb_registry.specs.History.{value_at}
 use Rattle.usb_ledger.specs.Entries.{ClaimedInterface}
 use Rattle.usb_ledger.specs.OwnerRows.{claim_state}
-use Rattle.usb_device.specs.HostState.{HostState}
-use Rattle.usb_device.proofs.host.Host.interface_descriptors.Goals as goal
+use Rattle.usb_host.specs.HostState.{HostState}
+use Rattle.usb_host.proofs.host.Host.interface_descriptors.Goals as goal
 
 pub get-requires : goal.get-requires
 get-requires c =

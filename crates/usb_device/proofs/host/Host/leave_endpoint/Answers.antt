@@ -1,9 +1,9 @@
 use Rattle.std.proofs.Common.{ap, ◌∙◌, arith}
 use Rattle.usb_kernel.specs.Value.{KernelState}
-use Rattle.usb_device.specs.HostCalls.{host_left}
+use Rattle.usb_host.specs.HostCalls.{host_left}
 use Rattle.usb_ledger.specs.LedgerState.{LedgerState}
-use Rattle.usb_device.proofs.HostCallLemmas.{OpenEndpoint, open-at, left-made}
-use Rattle.usb_device.proofs.host.Host.leave_endpoint.Goals as goal
+use Rattle.usb_host.proofs.HostCallLemmas.{OpenEndpoint, open-at, left-made}
+use Rattle.usb_host.proofs.host.Host.leave_endpoint.Goals as goal
 
 pub invariant_of-self : goal.invariant_of-self
 invariant_of-self c =

@@ -1,10 +1,10 @@
 use Rattle.std.proofs.Common.{arith, ◌≡◌, Ok, Err, ap, ◌∙◌}
 use Rattle.usb_kernel.specs.Value.{KernelState}
-use Rattle.usb_device.specs.HostState.{HostState}
-use Rattle.usb_device.specs.HostFacts.{host_made}
-use Rattle.usb_device.specs.Opens.{open_tried}
-use Rattle.usb_device.proofs.OpeningLemmas.{opened-key, opened-leaves, open-refused, refused-leaves, left-arms}
-use Rattle.usb_device.proofs.host.Host.open_device.Goals as goal
+use Rattle.usb_host.specs.HostState.{HostState}
+use Rattle.usb_host.specs.HostFacts.{host_made}
+use Rattle.usb_host.specs.Opens.{open_tried}
+use Rattle.usb_host.proofs.OpeningLemmas.{opened-key, opened-leaves, open-refused, refused-leaves, left-arms}
+use Rattle.usb_host.proofs.host.Host.open_device.Goals as goal
 
 pub returns-in-Ok-clause-tried : goal.returns-in-Ok-clause-tried
 returns-in-Ok-clause-tried c =

@@ -1,17 +1,17 @@
 use Rattle.std.specs.Prelude.{IsSome}
 use Rattle.usb_registry.specs.History.{value_at}
-use Rattle.usb_device.proofs.DeviceLemmas.{KeepsThere, counts-there}
+use Rattle.usb_ledger.proofs.DeviceLemmas.{KeepsThere, counts-there}
 use Rattle.std.proofs.Common.{subst, ◌≡◌, ◌<◌, ◌∙◌, ℕ, ap, sym, length, Option, Some, List}
 use Rattle.std.specs.Option.{ForSome}
 use Rattle.std.proofs.lemmas.Option.{same_Some}
 use Rattle.usb_ledger.specs.Entries.{ClaimedInterface}
-use Rattle.usb_device.specs.HostState.{HostState}
-use Rattle.usb_device.specs.Owners.{is_in_use}
-use Rattle.usb_device.specs.EndpointOpens.{host_asked, host_tries, endpoint_route}
+use Rattle.usb_host.specs.HostState.{HostState}
+use Rattle.usb_host.specs.Owners.{is_in_use}
+use Rattle.usb_host.specs.EndpointOpens.{host_asked, host_tries, endpoint_route}
 use Rattle.usb_registry.proofs.ValueLemmas.{some-of}
-use Rattle.usb_device.proofs.InterfaceFrames.{asked-is, asked-counts}
-use Rattle.usb_device.proofs.EndpointLemmas.{tried-unused, tried-some}
-use Rattle.usb_device.proofs.host.Host.open_endpoint.Goals as goal
+use Rattle.usb_host.proofs.InterfaceFrames.{asked-is, asked-counts}
+use Rattle.usb_host.proofs.EndpointLemmas.{tried-unused, tried-some}
+use Rattle.usb_host.proofs.host.Host.open_endpoint.Goals as goal
 
 -- the interface of a key, and the host whose kernel was asked for the configuration of its device
 record Asked (now next : HostState) (i : ℕ) : Type 0 where

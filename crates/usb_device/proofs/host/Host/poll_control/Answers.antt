@@ -1,8 +1,8 @@
 use Rattle.std.proofs.Common.{ap, ◌∙◌}
 use Rattle.usb_bus.specs.BusState.{BusState}
-use Rattle.usb_device.specs.HostBus.{bus_of}
-use Rattle.usb_device.proofs.CallFrames.{bus-taken}
-use Rattle.usb_device.proofs.host.Host.poll_control.Goals as goal
+use Rattle.usb_host.specs.HostBus.{bus_of}
+use Rattle.usb_host.proofs.CallFrames.{bus-taken}
+use Rattle.usb_host.proofs.host.Host.poll_control.Goals as goal
 
 pub leave_endpoint-requires : goal.leave_endpoint-requires
 leave_endpoint-requires c =

@@ -1,8 +1,8 @@
 use Rattle.std.proofs.Common.{◌≡◌, ap, ◌∙◌, arith}
 use Rattle.usb_kernel.specs.Value.{KernelState}
 use Rattle.usb_kernel.specs.Timers.{timer_turned}
-use Rattle.usb_device.proofs.ArrivalLemmas.{CompletesOnly-timer, TicketsAgree-none, TicketsAgree-at}
-use Rattle.usb_device.proofs.host.Host.raise_clock.Goals as goal
+use Rattle.usb_host.proofs.ArrivalLemmas.{CompletesOnly-timer, TicketsAgree-none, TicketsAgree-at}
+use Rattle.usb_host.proofs.host.Host.raise_clock.Goals as goal
 
 pub invariant_of-self : goal.invariant_of-self
 invariant_of-self c =

@@ -2,9 +2,9 @@ use Rattle.std.proofs.Common.{◌≡◌, ◌∙◌, ap, refl, arith}
 use Rattle.usb_kernel.specs.Value.{KernelState}
 use Rattle.usb_kernel.specs.Steps.{after_reap}
 use Rattle.usb_bus.specs.Completions.{CompletesOnly}
-use Rattle.usb_device.specs.HostTurns.{host_reaped}
-use Rattle.usb_device.proofs.ArrivalLemmas.{CompletesOnly-reap}
-use Rattle.usb_device.proofs.host.Host.reap.Goals as goal
+use Rattle.usb_host.specs.HostTurns.{host_reaped}
+use Rattle.usb_host.proofs.ArrivalLemmas.{CompletesOnly-reap}
+use Rattle.usb_host.proofs.host.Host.reap.Goals as goal
 
 pub invariant_of-self : goal.invariant_of-self
 invariant_of-self c =

@@ -7,10 +7,10 @@ use Rattle.usb_kernel.specs.Submits.{submit_or_refuse, queued_or_refused, refuse
 use Rattle.usb_bus.specs.Routes.{submission_of}
 use Rattle.usb_bus.specs.Holds.{held_at_once}
 use Rattle.usb_ledger.specs.declared.slot.TicketState.TheVariants as slot
-use Rattle.usb_device.specs.HostCalls.{host_refused}
+use Rattle.usb_host.specs.HostCalls.{host_refused}
 use Rattle.usb_ledger.specs.LedgerState.{LedgerState}
-use Rattle.usb_device.proofs.EnterLemmas.{TicketsAgree-enter, refused-made}
-use Rattle.usb_device.proofs.host.Host.refuse_transfer.Goals as goal
+use Rattle.usb_host.proofs.EnterLemmas.{TicketsAgree-enter, refused-made}
+use Rattle.usb_host.proofs.host.Host.refuse_transfer.Goals as goal
 
 pub invariant_of-self-in-Ok : goal.invariant_of-self-in-Ok
 invariant_of-self-in-Ok c =

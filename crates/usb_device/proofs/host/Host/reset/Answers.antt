@@ -1,12 +1,12 @@
 use Rattle.std.proofs.Common.{◌≡◌, ◌<◌, ◌∙◌, ap, sym, arith, length}
 use Rattle.usb_kernel.specs.Calls.{after_reset}
 use Rattle.usb_kernel.specs.Value.{KernelState}
-use Rattle.usb_device.specs.HostState.{HostState}
-use Rattle.usb_device.proofs.ArrivalLemmas.{TicketsAgree-at}
+use Rattle.usb_host.specs.HostState.{HostState}
+use Rattle.usb_host.proofs.ArrivalLemmas.{TicketsAgree-at}
 use Rattle.usb_registry.specs.History.{value_at}
 use Rattle.usb_registry.proofs.ValueLemmas.{some-of}
-use Rattle.usb_device.proofs.CalledHosts.{reset-agree, reset-spare, kernel-put, reset-at}
-use Rattle.usb_device.proofs.host.Host.reset.Goals as goal
+use Rattle.usb_host.proofs.CalledHosts.{reset-agree, reset-spare, kernel-put, reset-at}
+use Rattle.usb_host.proofs.host.Host.reset.Goals as goal
 
 pub invariant_of-self : goal.invariant_of-self
 invariant_of-self c =

@@ -1,11 +1,11 @@
 use Rattle.std.proofs.Common.{◌≡◌, ◌∷◌, [], length, ap, sym, ◌∙◌, arith, List}
 use Rattle.std.proofs.lemmas.List.{nil_from_length}
 use Rattle.usb_simulated.specs.declared.step.KernelStep.{KernelStep}
-use Rattle.usb_device.specs.HostState.{HostState}
-use Rattle.usb_device.specs.HostFacts.{host_made}
-use Rattle.usb_device.specs.HostTurns.{host_rest, host_stepped}
-use Rattle.usb_device.proofs.HostCallLemmas.{rest-more, rest-none, stepped-same}
-use Rattle.usb_device.proofs.host.Host.rest.Goals as goal
+use Rattle.usb_host.specs.HostState.{HostState}
+use Rattle.usb_host.specs.HostFacts.{host_made}
+use Rattle.usb_host.specs.HostTurns.{host_rest, host_stepped}
+use Rattle.usb_host.proofs.HostCallLemmas.{rest-more, rest-none, stepped-same}
+use Rattle.usb_host.proofs.host.Host.rest.Goals as goal
 
 pub loop-step-smaller : goal.loop-step-smaller
 loop-step-smaller c =

@@ -6,15 +6,15 @@ use Rattle.usb_simulated.specs.Calls.{same, set_interface_rules}
 use Rattle.usb_kernel.specs.Calls.{called}
 use Rattle.usb_kernel.specs.Value.{KernelState}
 use Rattle.usb_ledger.specs.Entries.{ClaimedInterface}
-use Rattle.usb_device.specs.HostState.{HostState}
-use Rattle.usb_device.specs.HostFacts.{host_made}
+use Rattle.usb_host.specs.HostState.{HostState}
+use Rattle.usb_host.specs.HostFacts.{host_made}
 use Rattle.usb_ledger.specs.OwnerRows.{claim_state}
 use Rattle.usb_ledger.specs.Owners.{has_living}
 use Rattle.usb_ledger.specs.LedgerState.{LedgerState}
-use Rattle.usb_device.specs.OnInterfaces.{alt_setting_errno}
+use Rattle.usb_host.specs.OnInterfaces.{alt_setting_errno}
 use Rattle.usb_registry.proofs.ValueLemmas.{some-of}
-use Rattle.usb_device.proofs.CalledHosts.{matched-next, called-past, called-spare, kernel-put, errno-of_err, errno-of_ok, setting-in_use, setting-refused, setting-set}
-use Rattle.usb_device.proofs.host.Host.set_alt_setting.Goals as goal
+use Rattle.usb_host.proofs.CalledHosts.{matched-next, called-past, called-spare, kernel-put, errno-of_err, errno-of_ok, setting-in_use, setting-refused, setting-set}
+use Rattle.usb_host.proofs.host.Host.set_alt_setting.Goals as goal
 
 pub returns-then-has_living-clause-host : goal.returns-then-has_living-clause-host
 returns-then-has_living-clause-host c =

@@ -6,14 +6,14 @@ use Rattle.usb_kernel.specs.Calls.{errno_of, called}
 use Rattle.usb_kernel.specs.Value.{KernelState}
 use Rattle.usb_registry.specs.History.{value_at}
 use Rattle.usb_ledger.specs.declared.opened.OpenDevice.{OpenDevice}
-use Rattle.usb_device.specs.HostState.{HostState}
-use Rattle.usb_device.specs.HostFacts.{host_made}
-use Rattle.usb_device.specs.OnDevices.{set_configuration_errno}
+use Rattle.usb_host.specs.HostState.{HostState}
+use Rattle.usb_host.specs.HostFacts.{host_made}
+use Rattle.usb_host.specs.OnDevices.{set_configuration_errno}
 use Rattle.usb_ledger.proofs.ListLemmas.{place}
 use Rattle.usb_registry.specs.History.{value_at}
 use Rattle.usb_registry.proofs.ValueLemmas.{some-of}
-use Rattle.usb_device.proofs.CalledHosts.{matched-next, called-past, called-spare, kernel-put, errno-of_err, errno-of_ok, configured-refused, configured-at}
-use Rattle.usb_device.proofs.host.Host.set_configuration.Goals as goal
+use Rattle.usb_host.proofs.CalledHosts.{matched-next, called-past, called-spare, kernel-put, errno-of_err, errno-of_ok, configured-refused, configured-at}
+use Rattle.usb_host.proofs.host.Host.set_configuration.Goals as goal
 
 pub invariant_of-self : goal.invariant_of-self
 invariant_of-self c =

@@ -4,11 +4,11 @@ use Rattle.usb_simulated.specs.Claims.{no_rules}
 use Rattle.usb_simulated.specs.Calls.{same}
 use Rattle.usb_kernel.specs.Calls.{called}
 use Rattle.usb_kernel.specs.Value.{KernelState}
-use Rattle.usb_device.specs.HostState.{HostState}
+use Rattle.usb_host.specs.HostState.{HostState}
 use Rattle.usb_registry.specs.History.{value_at}
 use Rattle.usb_registry.proofs.ValueLemmas.{some-of}
-use Rattle.usb_device.proofs.CalledHosts.{matched-next, called-past, called-spare, kernel-put, speed-at}
-use Rattle.usb_device.proofs.host.Host.speed.Goals as goal
+use Rattle.usb_host.proofs.CalledHosts.{matched-next, called-past, called-spare, kernel-put, speed-at}
+use Rattle.usb_host.proofs.host.Host.speed.Goals as goal
 
 pub invariant_of-self : goal.invariant_of-self
 invariant_of-self c =

@@ -12,11 +12,11 @@ use Rattle.usb_registry.proofs.ValueLemmas.{is-some, value-last, value-of_last}
 use Rattle.usb_ledger.specs.declared.slot.TicketState.TheVariants as slot
 use Rattle.usb_ledger.specs.Entries.{HostEndpoint, control_endpoint}
 use Rattle.usb_ledger.specs.LedgerState.{LedgerState}
-use Rattle.usb_device.specs.HostState.{HostState}
-use Rattle.usb_device.specs.Controls.{host_started, control_submission}
-use Rattle.usb_device.proofs.EnterLemmas.{TicketsAgree-enter}
-use Rattle.usb_device.proofs.ControlLemmas.{whole-once, started-made}
-use Rattle.usb_device.proofs.host.Host.start_control.Goals as goal
+use Rattle.usb_host.specs.HostState.{HostState}
+use Rattle.usb_host.specs.Controls.{host_started, control_submission}
+use Rattle.usb_host.proofs.EnterLemmas.{TicketsAgree-enter}
+use Rattle.usb_host.proofs.ControlLemmas.{whole-once, started-made}
+use Rattle.usb_host.proofs.host.Host.start_control.Goals as goal
 
 pub submit-requires-clause-whole : goal.submit-requires-clause-whole
 submit-requires-clause-whole c =

@@ -1,9 +1,9 @@
 use Rattle.std.proofs.Common.{◌≡◌, ◌<◌, ◌∙◌, refl, arith, length}
 use Rattle.usb_kernel.specs.Steps.{after_step}
 use Rattle.usb_bus.specs.Completions.{CompletesOnly}
-use Rattle.usb_device.specs.HostTurns.{host_stepped}
-use Rattle.usb_device.proofs.ArrivalLemmas.{kernel-same, CompletesOnly-step}
-use Rattle.usb_device.proofs.host.Host.step.Goals as goal
+use Rattle.usb_host.specs.HostTurns.{host_stepped}
+use Rattle.usb_host.proofs.ArrivalLemmas.{kernel-same, CompletesOnly-step}
+use Rattle.usb_host.proofs.host.Host.step.Goals as goal
 
 pub invariant_of-self : goal.invariant_of-self
 invariant_of-self c =

@@ -7,10 +7,10 @@ use Rattle.usb_kernel.specs.Submits.{submit_refusal, submit_or_refuse, queued_or
 use Rattle.usb_bus.specs.Routes.{submission_of}
 use Rattle.usb_bus.specs.Holds.{held_at_once}
 use Rattle.usb_ledger.specs.declared.slot.TicketState.TheVariants as slot
-use Rattle.usb_device.specs.HostCalls.{host_submitted}
+use Rattle.usb_host.specs.HostCalls.{host_submitted}
 use Rattle.usb_ledger.specs.LedgerState.{LedgerState}
-use Rattle.usb_device.proofs.EnterLemmas.{TicketsAgree-enter, submitted-made}
-use Rattle.usb_device.proofs.host.Host.submit_transfer.Goals as goal
+use Rattle.usb_host.proofs.EnterLemmas.{TicketsAgree-enter, submitted-made}
+use Rattle.usb_host.proofs.host.Host.submit_transfer.Goals as goal
 
 pub invariant_of-self-in-Ok : goal.invariant_of-self-in-Ok
 invariant_of-self-in-Ok c =

@@ -1,12 +1,12 @@
 use Rattle.std.proofs.Common.{◌∙◌, ap}
 use Rattle.usb_bus.specs.BusState.{BusState}
 use Rattle.usb_ledger.specs.declared.ends.TicketEnd.TheVariants.{Taken}
-use Rattle.usb_device.specs.HostState.{HostState}
-use Rattle.usb_device.specs.HostBus.{bus_of}
-use Rattle.usb_device.specs.HostBusFacts.{bus_of-ended}
-use Rattle.usb_device.specs.HostCalls.{host_left}
-use Rattle.usb_device.specs.TicketEnds.{host_taken}
-use Rattle.usb_device.proofs.host.Host.take_control.Goals as goal
+use Rattle.usb_host.specs.HostState.{HostState}
+use Rattle.usb_host.specs.HostBus.{bus_of}
+use Rattle.usb_host.specs.HostBusFacts.{bus_of-ended}
+use Rattle.usb_host.specs.HostCalls.{host_left}
+use Rattle.usb_host.specs.TicketEnds.{host_taken}
+use Rattle.usb_host.proofs.host.Host.take_control.Goals as goal
 
 pub leave_endpoint-requires : goal.leave_endpoint-requires
 leave_endpoint-requires c =

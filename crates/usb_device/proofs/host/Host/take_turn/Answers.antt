@@ -1,11 +1,11 @@
 use Rattle.std.proofs.Common.{◌≡◌, List, [], Some, None, ap, sym, ◌∙◌, arith}
 use Rattle.usb_simulated.specs.declared.step.KernelStep.{KernelStep}
-use Rattle.usb_device.specs.HostState.{HostState}
-use Rattle.usb_device.specs.HostTurns.{host_stepped, host_reaped}
-use Rattle.usb_device.specs.HostFacts.{host_made}
-use Rattle.usb_device.proofs.HostCallLemmas.{turned-more, turned-none, turn-more, turn-none}
+use Rattle.usb_host.specs.HostState.{HostState}
+use Rattle.usb_host.specs.HostTurns.{host_stepped, host_reaped}
+use Rattle.usb_host.specs.HostFacts.{host_made}
+use Rattle.usb_host.proofs.HostCallLemmas.{turned-more, turned-none, turn-more, turn-none}
 use Rattle.std.proofs.lemmas.List.{nil_from_length}
-use Rattle.usb_device.proofs.host.Host.take_turn.Goals as goal
+use Rattle.usb_host.proofs.host.Host.take_turn.Goals as goal
 
 pub returns-in-Some-clause-turn : goal.returns-in-Some-clause-turn
 returns-in-Some-clause-turn c = sym (turn-more c.args.self.now c.in-Some.step c.pop_front.new.self.items (rw (← c.self.view_is) c.in-Some.ensures.items))

@@ -3,14 +3,14 @@ use Rattle.std.proofs.Common.{subst, ◌≡◌, ◌<◌, ◌∙◌, ap, sym, len
 use Rattle.std.proofs.lemmas.Option.{same_Some}
 use Rattle.usb_ledger.specs.Entries.{ClaimedInterface}
 use Rattle.usb_registry.specs.History.{value_at}
-use Rattle.usb_device.specs.HostState.{HostState}
-use Rattle.usb_device.specs.Owners.{is_in_use}
+use Rattle.usb_host.specs.HostState.{HostState}
+use Rattle.usb_host.specs.Owners.{is_in_use}
 use Rattle.usb_ledger.specs.OwnerRows.{claim_state}
-use Rattle.usb_device.specs.EndpointRefusals.{endpoint_tried}
-use Rattle.usb_device.specs.EndpointOpens.{endpoint_of_setting, host_tries}
+use Rattle.usb_host.specs.EndpointRefusals.{endpoint_tried}
+use Rattle.usb_host.specs.EndpointOpens.{endpoint_of_setting, host_tries}
 use Rattle.usb_ledger.proofs.ListLemmas.{place}
-use Rattle.usb_device.proofs.EndpointLemmas.{tries-at}
-use Rattle.usb_device.proofs.host.Host.try_endpoint.Goals as goal
+use Rattle.usb_host.proofs.EndpointLemmas.{tries-at}
+use Rattle.usb_host.proofs.host.Host.try_endpoint.Goals as goal
 
 pub returns-clause-tried : goal.returns-clause-tried
 returns-clause-tried c = λ x there.

@@ -3,8 +3,8 @@ use Rattle.usb_simulated.specs.declared.step.KernelCall.TheVariants as call
 use Rattle.usb_simulated.specs.Claims.{no_rules}
 use Rattle.usb_kernel.specs.Value.{KernelState}
 use Rattle.usb_kernel.proofs.Answered.{asks-is}
-use Rattle.usb_device.specs.HostBus.{bus_of}
-use Rattle.usb_device.proofs.host.HostBus.clear_halt.Goals as goal
+use Rattle.usb_host.specs.HostBus.{bus_of}
+use Rattle.usb_host.proofs.host.HostBus.clear_halt.Goals as goal
 
 pub returns-clause-state : goal.returns-clause-state
 returns-clause-state c =

@@ -1,7 +1,7 @@
 use Rattle.std.proofs.Common.{◌∙◌, ap, arith}
-use Rattle.usb_device.specs.HostCalls.{host_refused}
-use Rattle.usb_device.proofs.BusLemmas.{refused-state, refused-left, some-buffer}
-use Rattle.usb_device.proofs.host.HostBus.refuse.Goals as goal
+use Rattle.usb_host.specs.HostCalls.{host_refused}
+use Rattle.usb_host.proofs.BusLemmas.{refused-state, refused-left, some-buffer}
+use Rattle.usb_host.proofs.host.HostBus.refuse.Goals as goal
 
 pub returns-in-Ok-clause-state : goal.returns-in-Ok-clause-state
 returns-in-Ok-clause-state c = λ b some.

@@ -1,8 +1,8 @@
 use Rattle.std.proofs.Common.{◌∙◌, ap, arith}
 use Rattle.usb_kernel.specs.Submits.{submit_refusal}
-use Rattle.usb_device.specs.HostCalls.{host_submitted}
-use Rattle.usb_device.proofs.BusLemmas.{submitted-state, submitted-left, some-buffer}
-use Rattle.usb_device.proofs.host.HostBus.submit.Goals as goal
+use Rattle.usb_host.specs.HostCalls.{host_submitted}
+use Rattle.usb_host.proofs.BusLemmas.{submitted-state, submitted-left, some-buffer}
+use Rattle.usb_host.proofs.host.HostBus.submit.Goals as goal
 
 pub returns-in-Ok-clause-state : goal.returns-in-Ok-clause-state
 returns-in-Ok-clause-state c = λ b some.

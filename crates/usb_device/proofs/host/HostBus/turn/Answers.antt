@@ -1,8 +1,8 @@
 use Rattle.std.proofs.Common.{◌∙◌, sym, ap, arith}
-use Rattle.usb_device.specs.HostBus.{bus_of}
-use Rattle.usb_device.proofs.HostFrames.{turn-still}
-use Rattle.usb_device.proofs.BusLemmas.{later-turned, falls-turned, time-up}
-use Rattle.usb_device.proofs.host.HostBus.turn.Goals as goal
+use Rattle.usb_host.specs.HostBus.{bus_of}
+use Rattle.usb_host.proofs.HostFrames.{turn-still}
+use Rattle.usb_host.proofs.BusLemmas.{later-turned, falls-turned, time-up}
+use Rattle.usb_host.proofs.host.HostBus.turn.Goals as goal
 
 pub returns-clause-state : goal.returns-clause-state
 returns-clause-state c = later-turned c.args.self.now c.take_turn-turn.new.self c.take_turn-turn.ensures.next

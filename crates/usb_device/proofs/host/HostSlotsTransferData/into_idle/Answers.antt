@@ -1,7 +1,7 @@
 use Rattle.std.proofs.Common.{◌∙◌, ap}
 use Rattle.usb_ledger.specs.declared.ends.TicketEnd.TheVariants.{Taken}
-use Rattle.usb_device.specs.TicketEnds.{host_ended, host_taken}
-use Rattle.usb_device.proofs.host.HostSlotsTransferData.into_idle.Goals as goal
+use Rattle.usb_host.specs.TicketEnds.{host_ended, host_taken}
+use Rattle.usb_host.proofs.host.HostSlotsTransferData.into_idle.Goals as goal
 
 pub returns-clause-rest : goal.returns-clause-rest
 unfolding host_taken

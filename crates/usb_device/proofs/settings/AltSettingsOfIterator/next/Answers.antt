@@ -3,8 +3,8 @@ use Rattle.std.specs.Option.{option_map_or}
 use borrow.Author.Tests.{tests}
 use Rattle.usb_desc.specs.Interfaces.{settings_of}
 use Rattle.usb_desc.specs.Lookups.{has_number}
-use Rattle.usb_device.proofs.SettingLemmas.{finds-first, first-goes}
-use Rattle.usb_device.proofs.settings.AltSettingsOfIterator.next.Goals as goal
+use Rattle.usb_host.proofs.SettingLemmas.{finds-first, first-goes}
+use Rattle.usb_host.proofs.settings.AltSettingsOfIterator.next.Goals as goal
 
 pub returns-clause-steps : goal.returns-clause-steps
 returns-clause-steps c =
