@@ -9,7 +9,7 @@ use Rattle.usb_lines.specs.Calls.{ok_line, condition_line, error_line}
 use Rattle.usb_ledger.specs.Entries.{ClaimedInterface}
 use Rattle.usb_host.specs.HostState.{HostState}
 use Rattle.usb_device.specs.HandleStates.{InterfaceState}
-use Rattle.usb_host.specs.Handles as handles
+use Rattle.usb_device.specs.HandleCalls as handles
 use Rattle.usb_host.specs.Handles.{handle_cloned, handle_closed}
 use Rattle.usb_host.specs.Owners.{is_shared}
 use Rattle.usb_answers.specs.Names.{named, is_free, freed, set_name}

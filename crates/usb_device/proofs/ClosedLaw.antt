@@ -1,5 +1,5 @@
 -- Where all is closed nothing is kept.
-use Rattle.std.proofs.Common.{ℕ, zero, suc, ◌≡◌, ◌<◌, ◌+◌, arith, Bool, true, false, List, [], ◌∷◌, Option, Some, None, refl, ap, sym, ◌∙◌}
+use Rattle.std.proofs.Common.{ℕ, suc, ◌≡◌, ◌+◌, arith, Bool, false, List, [], ◌∷◌, Option, Some, None, refl, ◌∙◌}
 use Rattle.std.specs.Prelude.{◌||◌, nat_lt, slice_get}
 use Rattle.std.specs.List.{list_any, count_by, enumerate_from}
 use Rattle.usb_registry.specs.History.{value_at}
@@ -11,7 +11,7 @@ use Rattle.usb_host.specs.HostState.{HostState}
 use Rattle.usb_host.specs.Finishes.{HasEnds}
 use Rattle.usb_device.specs.DeviceLaws.{holds_at, DevicesAreHeld}
 use Rattle.usb_device.specs.OwnerLaws.{InterfacesAreOwned, EndpointsLive}
-use Rattle.usb_device.specs.ClosedLaws.{IsClosed, IsEmpty, ClosedIsEmpty}
+use Rattle.usb_device.specs.ClosedLaws.{IsClosed, ClosedIsEmpty}
 use Rattle.usb_device.proofs.HeldDevices.{count-none}
 
 -- a ticket with an end is of no endpoint

@@ -1,8 +1,8 @@
 -- Handles of open devices stand where these keep their counts.
-use Rattle.std.proofs.Common.{ℕ, ◌<◌, arith}
+use Rattle.std.proofs.Common.{ℕ, arith}
 use Rattle.usb_host.specs.HostState.{HostState}
 use Rattle.usb_device.specs.HandleStates.{StandsDevice}
-pub use Rattle.usb_ledger.proofs.DeviceLemmas.{changed-none, changed-some, changed-held, changed-gone, held-handle_more, held-interface_more, changed-removed, changed-at, changed-other, changed-there, counts-same, counts-set, Counted, counted-new, counted-old, counts-there, there-same, there-push, HasHandles, KeepsOpened, opened-counts, opened-same, handle-held, is-changed, opened-changed, counts_of, KeepsCounts, KeepsThere}
+use Rattle.usb_ledger.proofs.DeviceLemmas.{KeepsCounts, KeepsOpened, counted-new}
 
 pub counts-stands : (h g : HostState) (key : ℕ) → KeepsCounts h.devices g.devices → StandsDevice h key → StandsDevice g key
 counts-stands h g key keeps stands =

@@ -15,7 +15,7 @@ use Rattle.usb_bus.specs.BusState.{BusState, without_owner, without_key}
 use Rattle.usb_bus.specs.Completions.{completion_of, transfer_completion}
 use Rattle.usb_endpoint.specs.Handles.{KeepsOthers}
 use Rattle.usb_registry.proofs.SerialLemmas.{cases_Option}
-use Rattle.usb_device.specs.declared.controls.ControlRequest.{ControlRequest}
+use Rattle.usb_host.specs.declared.controls.ControlRequest.{ControlRequest}
 use Rattle.usb_host.specs.HostState.{HostState}
 use Rattle.usb_host.specs.HostBus.{bus_of, owner_at, key_at}
 use Rattle.usb_host.specs.HostCalls.{host_left}

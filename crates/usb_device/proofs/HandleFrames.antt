@@ -1,11 +1,10 @@
 -- Handles over calls that may be refused.
-use Rattle.std.proofs.Common.{ℕ, arith, ◌≡◌, Bool, Result, Ok, Err, refl, sym, ap, subst, length}
-use Rattle.std.specs.Prelude.{OnOk, OnErr, List}
+use Rattle.std.proofs.Common.{ℕ, ◌≡◌, Bool, Result, Ok, Err, refl, sym, ap, subst}
+use Rattle.std.specs.Prelude.{OnOk, OnErr}
 use Rattle.usb_xfer.specs.BufferState.{BufferState}
 use Rattle.usb_endpoint.specs.EndpointState.{EndpointState}
 use Rattle.usb_endpoint.specs.Submits.{entered}
 use Rattle.usb_endpoint.specs.Closes.{after_close}
-use Rattle.usb_ledger.specs.declared.opened.OpenDevice.{OpenDevice}
 use Rattle.usb_host.specs.HostState.{HostState}
 use Rattle.usb_host.specs.HostBus.{bus_of}
 use Rattle.usb_host.specs.HostTurns.{host_turned}

@@ -1,10 +1,10 @@
 -- Each open device is held, and counts the interfaces that hold it, over the calls of a host.
-use Rattle.std.proofs.Common.{◌≡◌, ◌≢◌, ℕ, zero, suc, ◌+◌, ◌-◌, ◌<◌, arith, Bool, true, false, cond, List, [], ◌∷◌, ◌++◌, length, set, get_or, slice_get, Option, Some, None, Result, Ok, Err, refl, sym, ap, ◌∙◌, subst, inl, inr, ltb-true, lt-ltb}
-use Rattle.std.specs.Prelude.{◌==◌, ◌&&◌, ◌||◌, nat_lt, option_and_then, IsSome}
+use Rattle.std.proofs.Common.{◌≡◌, ◌≢◌, ℕ, zero, suc, ◌+◌, ◌-◌, ◌<◌, arith, Bool, true, false, cond, List, [], ◌∷◌, ◌++◌, length, set, slice_get, Option, Some, None, Result, Ok, Err, refl, sym, ap, ◌∙◌, subst, inl, inr, ltb-true, lt-ltb}
+use Rattle.std.specs.Prelude.{◌&&◌, ◌||◌, nat_lt, option_and_then, IsSome}
 use Rattle.std.specs.List.{count_by}
 use Rattle.std.proofs.lemmas.Bool.{cases_Bool, cases_eq, cases_lt, eq-eqb, ne_eqb}
 use Rattle.std.proofs.lemmas.Grind.{common_steps}
-use Rattle.std.proofs.lemmas.Option.{none-some, same_Some, slice_get_within}
+use Rattle.std.proofs.lemmas.Option.{none-some, same_Some}
 use Rattle.std.proofs.lemmas.List.Sums.{sum_by-cons}
 use Rattle.usb_registry.specs.History.{value_at}
 use Rattle.usb_registry.proofs.ValueLemmas.{some-of, is-some, value-within, value-last, value-pushed, value-put, value-push_cases}
@@ -25,7 +25,7 @@ use Rattle.usb_host.specs.Releases.{owner_gone}
 use Rattle.usb_host.specs.Handles.{device_cloned, device_closed, handle_added, handle_cloned, devices_left, handle_gone, handle_closed}
 use Rattle.usb_host.specs.Opens.{open_tried, open_key, with_key, opened_by, host_opened}
 use Rattle.usb_host.specs.InterfaceClaims.{kernel_claimed, claim_tried, claimed_by, claimed_on, host_claimed}
-use Rattle.usb_ledger.proofs.DeviceLemmas.{KeepsOpened, opened-same, opened-changed, changed-at, changed-other, KeepsCounts, counts-same, counted-new, counted-old, Counted}
+use Rattle.usb_ledger.proofs.DeviceLemmas.{KeepsOpened, opened-same, opened-changed, changed-at, changed-other, KeepsCounts, counts-same, counted-new, counted-old}
 use Rattle.usb_host.proofs.TryLemmas.{open-counts}
 
 -- counts over lists of interfaces

@@ -1,4 +1,4 @@
--- A host's blocking transfer goes by the steps of the line.
+-- A host's wait and its blocking transfer go by the steps of the line.
 use Rattle.std.proofs.Common.{ℕ, zero, suc, ◌≡◌, ◌≤◌, ◌<◌, ◌+◌, ◌-◌, ◌⊎◌, Bool, true, false, true≢false, List, [], ◌∷◌, ◌++◌, length, length-append, Option, Some, None, refl, sym, ◌∙◌, ap, subst, arith, inl, inr}
 use Rattle.std.proofs.lemmas.Bool.{cases_Bool}
 use Rattle.std.proofs.lemmas.Bool.Decides.{leb_tells}
@@ -14,10 +14,13 @@ use Rattle.usb_host.specs.HostCalls.{host_discarded}
 use Rattle.usb_host.specs.HostWaits.{is_found, is_late, wait_reaps, wait_steps, host_waited}
 use Rattle.usb_host.specs.HostBlocking.{or_then, waited_by_seconds, host_blocked}
 use Rattle.usb_host.specs.HostFrames.{HostGoesOn}
-use Rattle.usb_device.specs.WaitLaws.{BlockingIsBySteps}
+use Rattle.usb_device.specs.WaitLaws.{WaitIsBySteps, BlockingIsBySteps}
 use Rattle.usb_host.proofs.HostFrames.{uses-reaped, uses-stepped, uses-discarded}
 use Rattle.usb_host.proofs.WaitFrames.{went-steps}
 use Rattle.usb_host.proofs.HostWaitLemmas.{reaped-clock, reaped-fewer, reaps-found, reaps-up, reaps-more, steps-found, steps-more, by_steps}
+
+pub wait-by_steps : WaitIsBySteps
+wait-by_steps n h t timeout start x is = by_steps t timeout start n h.steps h x refl is
 
 -- no step is left, and no ticket is finished and not reaped, and this ticket has not come
 record IsOver (t : ℕ) (h : HostState) : Type 0 where

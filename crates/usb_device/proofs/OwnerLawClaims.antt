@@ -1,7 +1,7 @@
 -- The owners of interfaces over a claim.
-use Rattle.std.proofs.Common.{ℕ, ◌<◌, ◌+◌, arith, ◌≡◌, ◌≢◌, length-append, sym, Bool, true, false, List, [], ◌∷◌, ◌++◌, length, slice_get, Option, Some, None, inl, inr, refl, ◌∙◌, ap}
+use Rattle.std.proofs.Common.{ℕ, ◌+◌, arith, ◌≡◌, ◌≢◌, length-append, sym, Bool, true, false, List, [], ◌∷◌, ◌++◌, length, Option, Some, None, inl, inr, refl, ◌∙◌, ap}
 use Rattle.std.specs.Prelude.{IsSome}
-use Rattle.std.specs.Option.{option_map, option_map_or}
+use Rattle.std.specs.Option.{option_map}
 use Rattle.std.proofs.lemmas.Bool.{cases_Bool, cases_eq}
 use Rattle.std.proofs.lemmas.Option.{same_Some}
 use Rattle.usb_simulated.specs.declared.devices.DeviceState.{DeviceState}
@@ -23,7 +23,7 @@ use Rattle.usb_ledger.specs.declared.opened.OpenDevice.{OpenDevice}
 use Rattle.usb_ledger.specs.Entries.{ClaimedInterface, fresh_interface}
 use Rattle.usb_host.specs.HostState.{HostState}
 use Rattle.usb_ledger.specs.Owners.{is_owned_among}
-use Rattle.usb_device.specs.OwnerLaws.{is_owned_claim, InterfacesAreOwned, HasEnded, KeepsClaimed, KeepsHandles, KeepsClaims}
+use Rattle.usb_device.specs.OwnerLaws.{is_owned_claim, InterfacesAreOwned, HasEnded, KeepsClaimed, KeepsClaims}
 use Rattle.usb_host.specs.InterfaceClaims.{claim_errno, kernel_claimed, claimed_by, claimed_on, host_claimed}
 use Rattle.usb_device.proofs.OwnerLawKernel.{called-claimed}
 use Rattle.usb_device.proofs.OwnerLawTells.{owns, at-owns, tells-from, tells-to, named, unnamed, Gains, tells-gain}

@@ -1,5 +1,5 @@
 -- Hosts that keep their claims and the owners of these.
-use Rattle.std.proofs.Common.{ℕ, ◌≡◌, ◌≤◌, ◌<◌, arith, length, List, Bool, true, false, Option, Some, None, refl, sym, ◌∙◌, ap}
+use Rattle.std.proofs.Common.{ℕ, ◌≡◌, ◌≤◌, arith, length, List, Bool, true, false, Option, Some, None, refl, sym, ◌∙◌, ap}
 use Rattle.std.specs.Prelude.{◌==◌, ◌&&◌}
 use Rattle.std.specs.Option.{option_map, option_map_or}
 use Rattle.std.proofs.lemmas.Option.{none-some, same_Some}
@@ -9,7 +9,7 @@ use Rattle.usb_ledger.specs.Entries.{ClaimedInterface}
 use Rattle.usb_host.specs.HostState.{HostState}
 use Rattle.usb_ledger.specs.Owners.{is_owned_among}
 use Rattle.usb_host.specs.HostFrames.{ClaimsGoOn}
-use Rattle.usb_device.specs.OwnerLaws.{is_owned_claim, IsOwned, HasEnded, KeepsOwned, KeepsHandles, KeepsClaimed, KeepsClaims, EndpointsLive}
+use Rattle.usb_device.specs.OwnerLaws.{is_owned_claim, IsOwned, HasEnded, KeepsOwned, KeepsClaimed, KeepsClaims, EndpointsLive}
 use Rattle.usb_device.proofs.OwnerLawTells.{owns, tells-from, tells-to, tells-same}
 
 -- the claim of a key: its device, its number, and whether it has an owner

@@ -1,8 +1,8 @@
 -- The claim of an interface when an owner of it has gone.
-use Rattle.std.proofs.Common.{ℕ, arith, ◌≡◌, ◌≢◌, ◌≤◌, Bool, true, false, cond, List, length, length-set, set, Option, Some, None, inl, inr, refl, sym, ◌∙◌, ap}
+use Rattle.std.proofs.Common.{ℕ, arith, ◌≡◌, ◌≢◌, ◌≤◌, Bool, true, false, cond, length, length-set, Option, Some, None, inl, inr, refl, sym, ◌∙◌, ap}
 use Rattle.std.specs.Prelude.{◌==◌, ◌&&◌}
 use Rattle.std.proofs.lemmas.Bool.{cases_eq}
-use Rattle.std.proofs.lemmas.Option.{none-some, same_Some}
+use Rattle.std.proofs.lemmas.Option.{none-some}
 use Rattle.std.specs.Option.{option_map}
 use Rattle.usb_registry.proofs.ValueLemmas.{value-set_same, value-set_other}
 use Rattle.usb_registry.specs.History.{value_at}

@@ -1,5 +1,5 @@
 -- What a host keeps where all is closed: nothing.
-use Rattle.std.specs.Prelude.{ℕ, ◌≡◌, false, Option, Some, None}
+use Rattle.std.specs.Prelude.{ℕ, ◌≡◌, false, Some, None}
 use Rattle.usb_registry.specs.History.{value_at}
 use Rattle.usb_ledger.specs.declared.opened.OpenDevice.{OpenDevice}
 use Rattle.usb_ledger.specs.Entries.{ClaimedInterface, HostEndpoint}

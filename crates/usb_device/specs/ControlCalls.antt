@@ -3,7 +3,7 @@ use Rattle.std.specs.Prelude.{ℕ, ◌≡◌, List, Option, Some, Result, Ok, Er
 use Rattle.usb_desc.specs.declared.error.Fail.{Fail}
 use Rattle.usb_desc.specs.declared.error.Fail.TheVariants.{Cause, Memory}
 use Rattle.usb_xfer.specs.declared.error.TransferError.{TransferError}
-use Rattle.usb_device.specs.declared.controls.ControlRequest.{ControlRequest}
+use Rattle.usb_host.specs.declared.controls.ControlRequest.{ControlRequest}
 use Rattle.usb_host.specs.HostState.{HostState}
 use Rattle.usb_host.specs.Controls.{request_started}
 use Rattle.usb_device.specs.Futures.{fresh_future, future_awaited, future_taken, future_answer}

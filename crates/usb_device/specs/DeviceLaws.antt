@@ -1,5 +1,5 @@
 -- Which open devices a host keeps.
-use Rattle.std.specs.Prelude.{ℕ, ◌≡◌, ◌<◌, ◌==◌, ◌&&◌, Bool, true, false, List, nat_lt, Option, Some, None, IsSome}
+use Rattle.std.specs.Prelude.{ℕ, ◌≡◌, ◌<◌, ◌==◌, ◌&&◌, Bool, true, false, nat_lt, Option, Some, None, IsSome}
 use Rattle.std.specs.List.{count_by}
 use Rattle.usb_registry.specs.History.{value_at}
 use Rattle.usb_ledger.specs.Entries.{ClaimedInterface}

@@ -7,7 +7,7 @@ use Rattle.usb_xfer.specs.declared.error.TransferError.{TransferError}
 use Rattle.usb_xfer.specs.declared.transfer.Completion.{Completion}
 use Rattle.usb_kernel.specs.Tickets.{tickets}
 use Rattle.usb_bus.specs.Completions.{transfer_completion}
-use Rattle.usb_device.specs.declared.controls.ControlRequest.{ControlRequest}
+use Rattle.usb_host.specs.declared.controls.ControlRequest.{ControlRequest}
 use Rattle.usb_host.specs.HostState.{HostState}
 use Rattle.usb_host.specs.HostBus.{owner_at, key_at}
 use Rattle.usb_host.specs.HostCalls.{host_left}

@@ -10,11 +10,10 @@ ghost use Rattle.usb_host.specs.Controls.{request_in, request_out, request_start
 ghost use Rattle.usb_device.specs.Futures.{StandsFuture, fresh_future};
 ghost use Rattle.usb_device.specs.ControlCalls.{controlled, control_answered, Answers};
 
-use crate::controls::ControlRequest;
 use crate::device::{Device, Interface};
 use crate::future::TransferFuture;
-use crate::host::Host;
 use usb_desc::{ControlIn, ControlOut, Fail, NoMemory};
+use usb_host::{ControlRequest, Host};
 use usb_xfer::TransferError;
 
 /// The future of a request that is handed in to a device.

@@ -11,13 +11,13 @@ ghost use Rattle.usb_device.specs.ControlCalls.{Answers};
 ghost use Rattle.usb_device.specs.DescriptorCalls.{descriptor_request, descriptor_asked, descriptor_answered, text_answered, languages_answered, LeavesEither};
 
 use crate::device::Device;
-use crate::host::Host;
 use std::num::NonZeroU8;
 use usb_desc::{
     ControlIn, ControlType, Fail, Languages, Recipient, StringError, decode_string_descriptor,
     validate_string_descriptor,
 };
 use usb_error::GetDescriptorError;
+use usb_host::Host;
 
 /// The request GET_DESCRIPTOR.
 const GET_DESCRIPTOR: u8 = 0x06;

@@ -10,11 +10,10 @@ ghost use Rattle.usb_host.specs.HostWaits.{is_found};
 ghost use Rattle.usb_host.specs.TicketEnds.{host_taken};
 ghost use Rattle.usb_device.specs.Futures.{FutureState, StandsFuture, spent_future, future_taken, future_closed, future_awaited, future_answer, control_answer};
 
-use crate::controls::StartedControl;
-use crate::host::Host;
 use futures::task::Poll;
 use std::marker::Model;
 use usb_desc::Direction;
+use usb_host::{Host, StartedControl};
 use usb_ledger::TicketEnd;
 use usb_xfer::{Completion, MaybeFuture, Pending, TransferData, TransferError};
 
@@ -44,22 +43,6 @@ impl Model for TransferFuture {
 pub struct OnHost<'a> {
     future: TransferFuture,
     host: &'a mut Host,
-}
-
-impl Host {
-    /// Takes the completion of a control transfer, and closes its endpoint.
-    fn take_control(&mut self, key: usize, ticket: u64) -> Completion
-        requires held { owner_at self.old.tickets ticket ≡ Some key }
-        requires key { key_at self.old.endpoints key ≡ true }
-        requires found { is_found self.old ticket ≡ true }
-        ensures host { self.new ≡ host_left (host_taken self.old ticket) key }
-        ensures completion { transfer_completion self.old.kernel.past ticket ≡ Some result }
-    {
-        let ended = self.end_ticket(ticket, TicketEnd::Taken);
-        let mut transfer = ended.unwrap();
-        self.leave_endpoint(key);
-        transfer.take_completion()
-    }
 }
 
 /// What a control transfer answers: the bytes that came, and none where bytes were sent.

@@ -1,5 +1,5 @@
 use Rattle.std.proofs.Common.{◌≡◌, ap, ◌∙◌, Some}
-use Rattle.usb_device.specs.declared.controls.StartedControl.{StartedControl}
+use Rattle.usb_host.specs.declared.controls.StartedControl.{StartedControl}
 use Rattle.usb_device.specs.Futures.{fresh_future}
 use Rattle.usb_device.proofs.FutureFrames.{started-stands}
 use Rattle.usb_device.proofs.control.start.Goals as goal

@@ -1,4 +1,4 @@
-use Rattle.std.proofs.Common.{◌≡◌, ◌∙◌, ap, Some, slice_get}
+use Rattle.std.proofs.Common.{◌≡◌, ◌∙◌, ap, Some}
 use Rattle.usb_registry.specs.History.{value_at}
 use Rattle.usb_device.specs.HandleStates.{InterfaceState}
 use Rattle.usb_device.proofs.StandLemmas.{asked-interface}

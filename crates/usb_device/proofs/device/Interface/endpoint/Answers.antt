@@ -1,4 +1,4 @@
-use Rattle.std.proofs.Common.{◌≡◌, ◌∙◌, ap, Some, slice_get, length, []}
+use Rattle.std.proofs.Common.{◌≡◌, ◌∙◌, ap, Some, length, []}
 use Rattle.usb_registry.specs.History.{value_at}
 use Rattle.usb_bus.specs.declared.route.Route.{Route}
 use Rattle.usb_endpoint.specs.EndpointState.{EndpointState}
