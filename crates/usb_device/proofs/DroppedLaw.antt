@@ -11,8 +11,9 @@ use Rattle.usb_endpoint.specs.Handles.{AreHeld, IsApart}
 use Rattle.usb_registry.specs.History.{value_at}
 use Rattle.usb_ledger.specs.declared.ends.TicketEnd.{TicketEnd}
 use Rattle.usb_ledger.specs.declared.ends.TicketEnd.TheVariants.{Dropped}
-use Rattle.usb_device.specs.EndLaws.{DroppedWhereReaped}
-use Rattle.usb_ledger.specs.Entries.{HostTicket, Hold, HeldBy, Abandoned, Ended}
+use Rattle.usb_device.specs.EndLaws.{DroppedWhereReaped, FutureDroppedWhereReaped}
+use Rattle.usb_device.specs.Futures.{closed_by}
+use Rattle.usb_ledger.specs.Entries.{HostTicket, HostEndpoint, Hold, HeldBy, Abandoned, Ended}
 use Rattle.usb_host.specs.HostState.{HostState}
 use Rattle.usb_ledger.specs.EndedTickets.{end_at, ended_at}
 use Rattle.usb_host.specs.HostBus.{owner_at, held_as}
@@ -71,3 +72,12 @@ dropped_where_reaped h e i t stands at =
     ap (λ (ts : List HostTicket). end_at ts t) (left-tickets after e.key (value_at after.endpoints e.key))
     ∙ abandons-end before e.pending e.key i t (subst (λ (ts : List HostTicket). AreHeld (owner_at ts) e.key e.pending) (sym (discards-tickets h e.pending)) stands.held) at
     ∙ ap (λ (o : Option Done). dropped_if (is_some o)) (discards-completion h e.pending t)
+
+-- a future that is closed
+pub future_dropped : FutureDroppedWhereReaped
+unfolding host_left
+future_dropped h f t stands is =
+    let after = host_abandoned h t in
+    let here = held-at (slice_get h.tickets t) f.key (stands.on_its_way t is).held in
+    ap (λ (o : Option ℕ). end_at (closed_by h f.key o).tickets t) is
+    ∙ (ap (λ (ts : List HostTicket). end_at ts t) (left-tickets after f.key (value_at after.endpoints f.key)) ∙ abandoned-end h t here.0 here.1)

@@ -24,6 +24,7 @@ use Rattle.usb_host.specs.HostCalls.{host_submitted, host_refused, host_discarde
 use Rattle.usb_host.specs.HostWaits.{is_found, reap_and, host_waited}
 use Rattle.usb_host.specs.HostBlocking.{host_blocked}
 use Rattle.usb_host.specs.HostAwaits.{sought_reaps, sought_steps, host_awaited}
+use Rattle.usb_host.specs.Controls.{host_started}
 use Rattle.usb_host.specs.Finishes.{discarded_below, reaped_below, finished}
 use Rattle.usb_device.specs.HandleStates.{InterfaceState, StandsDevice, StandsInterface}
 use Rattle.usb_host.specs.Handles.{device_cloned, device_closed, handle_added, handle_cloned, handle_closed}
@@ -38,6 +39,7 @@ use Rattle.usb_host.proofs.ClaimFrames.{goes-same, goes-refl, goes-trans}
 use Rattle.usb_host.proofs.CallFrames.{keeps-submitted, keeps-refused, line-left, interfaces-left}
 use Rattle.usb_host.proofs.WaitFrames.{went-rest, went-turned, went-waited, went-blocked}
 use Rattle.usb_host.proofs.HostKeeps.{KeepsOpen}
+use Rattle.usb_host.proofs.ControlLemmas.{started-line, started-interfaces}
 use Rattle.usb_host.proofs.InterfaceFrames.{asked-is, asked-counts}
 use Rattle.usb_ledger.proofs.DeviceLemmas.{KeepsCounts, KeepsOpened, counts_of, counts-same, counts-set, counted-new, changed-at, changed-other, held-handle_more}
 use Rattle.usb_device.proofs.HeldDevices.{held-goes, held-written, held-start, held-opened, held-device_cloned, held-device_closed, held-claimed, held-handle_cloned, held-handle_closed, opened-claimed, opened-handle_closed}
@@ -310,6 +312,7 @@ devices_stay_held =
       await_ticket = λ h t deadline. leaves-held h (host_awaited h t deadline) (awaited-leaves h t deadline);
       submit = λ h to t. leaves-held h (host_submitted h to t) (leaves-open h (host_submitted h to t) (keeps-submitted h to t));
       refuse = λ h to t errno. leaves-held h (host_refused h to t errno) (leaves-open h (host_refused h to t errno) (keeps-refused h to t errno));
+      start_control = λ h s. same-held h (host_started h s) (started-line h s).devices (started-interfaces h s);
       discard = λ h t. leaves-held h (host_discarded h t) (discarded-leaves h t);
       end_ticket = λ h t end. leaves-held h (host_ended h t end) (ended-leaves h t end);
       take = λ h t. leaves-held h (host_taken h t) (taken-leaves h t);

@@ -3,6 +3,7 @@ pub mod StandLemmas
 pub mod HostBlockingLemmas
 pub mod HandleFrames
 pub mod FreshKeys
+pub mod FutureFrames
 pub mod EndLemmas
 pub mod DroppedLaw
 pub mod OwnerLawLists

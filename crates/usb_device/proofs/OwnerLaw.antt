@@ -6,7 +6,7 @@ use Rattle.usb_kernel.specs.Value.{KernelState}
 use Rattle.usb_host.specs.HostState.{host_of}
 use Rattle.usb_device.specs.OwnerLaws.{ClaimsAreOwned, ClaimsStayOwned}
 use Rattle.usb_device.proofs.OwnerLawTurns.{stepped-owned, reaped-owned, rest-owned, turned-owned, discarded-owned, ended-owned, taken-owned, abandoned-owned, finished-owned}
-use Rattle.usb_device.proofs.OwnerLawCalls.{submitted-owned, refused-owned, left-owned, idled-owned, halt-owned, opened-owned, asked-owned, configured-owned, reset-owned, detached-owned, attached-owned, speed-owned, setting-owned, cloned-owned, closed-owned, closed-alive, closed-others, endpoint-owned}
+use Rattle.usb_device.proofs.OwnerLawCalls.{submitted-owned, started-owned, refused-owned, left-owned, idled-owned, halt-owned, opened-owned, asked-owned, configured-owned, reset-owned, detached-owned, attached-owned, speed-owned, setting-owned, cloned-owned, closed-owned, closed-alive, closed-others, endpoint-owned}
 use Rattle.usb_device.proofs.OwnerLawKernel.{fresh-claimed}
 use Rattle.usb_device.proofs.OwnerLawWaits.{waited-owned, blocked-owned, awaited-owned}
 use Rattle.usb_device.proofs.OwnerLawClaims.{claimed-owned}
@@ -36,6 +36,7 @@ claims_stay_owned =
       await_ticket = awaited-owned;
       submit = submitted-owned;
       refuse = λ h to t errno is_open. refused-owned h to t is_open errno;
+      start_control = started-owned;
       discard = discarded-owned;
       end_ticket = ended-owned;
       take = taken-owned;

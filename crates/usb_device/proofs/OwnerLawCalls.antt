@@ -6,6 +6,8 @@ use Rattle.std.proofs.lemmas.Bool.{cases_eq, eq-eqb, ne_eqb}
 use Rattle.std.proofs.lemmas.Option.{same_Some}
 use Rattle.usb_xfer.specs.BufferState.{BufferState}
 use Rattle.usb_xfer.specs.declared.transfer.TransferData.{TransferData}
+use Rattle.usb_xfer.specs.declared.transfer.Held.TheVariants.{Nothing}
+use Rattle.usb_kernel.specs.declared.submission.Submission.{Submission}
 use Rattle.usb_xfer.specs.Transfers.{buffer_held}
 use Rattle.usb_simulated.specs.declared.step.KernelCall.TheVariants as call
 use Rattle.usb_kernel.specs.ClaimLaws.{is_claimed}
@@ -21,7 +23,7 @@ use Rattle.usb_bus.specs.Routes.{submission_of}
 use Rattle.usb_registry.specs.History.{value_at}
 use Rattle.usb_host.specs.Handles.{devices_left}
 use Rattle.usb_ledger.specs.declared.opened.OpenDevice.{OpenDevice}
-use Rattle.usb_ledger.specs.Entries.{ClaimedInterface, HostTicket, HostEndpoint, HeldBy}
+use Rattle.usb_ledger.specs.Entries.{ClaimedInterface, HostTicket, HostEndpoint, HeldBy, control_endpoint}
 use Rattle.usb_host.specs.HostState.{HostState}
 use Rattle.usb_host.specs.HostBus.{key_at}
 use Rattle.usb_ledger.specs.Owners.{is_ticket_of, if_there, lives, is_of, lives_on, has_living, is_owned_among}
@@ -36,9 +38,11 @@ use Rattle.usb_host.specs.EndpointOpens.{asked_on, host_asked, with_endpoint}
 use Rattle.usb_host.specs.OnDevices.{detached_on, host_detached, attached_on, host_attached, reset_on, host_reset, configured_on, host_configured, speed_asked_on, host_speed_asked}
 use Rattle.usb_host.specs.OnInterfaces.{alt_setting_errno, setting_unless, alt_setting_asked, alt_setting_on, alt_setting_set}
 use Rattle.usb_host.proofs.InterfaceFrames.{armed_as, opened-is}
+use Rattle.usb_host.specs.Controls.{host_started}
+use Rattle.usb_host.proofs.EndpointLemmas.{key-new}
 use Rattle.usb_device.proofs.OwnerLawLists.{any-at, any-push, any-push_at, or_true}
 use Rattle.usb_device.proofs.OwnerLawKernel.{called-claimed, reset-claimed}
-use Rattle.usb_device.proofs.OwnerLawKept.{claim_as, claim_at, at-claim, at-none, claims-kept, stays, claimed-refl}
+use Rattle.usb_device.proofs.OwnerLawKept.{claim_as, claim_at, at-claim, at-none, claims-kept, stays, claimed-refl, follow}
 use Rattle.usb_device.proofs.OwnerLawLosses.{OwnerLeft, owned-settled}
 use Rattle.usb_device.proofs.OwnerLawTickets.{claim-living, endpoint-settled, closed-left, closed-live}
 use Rattle.usb_device.proofs.OwnerLawTurns.{kernel-owned, claim-tickets}
@@ -279,6 +283,26 @@ module _ (h : HostState) (handle : InterfaceState) (stands : StandsInterface h h
   pub closed-others : KeepsOthers h.interfaces (handle_closed h handle.key).interfaces handle.key
   unfolding handle_closed
   closed-others = subst (λ (o : Option ClaimedInterface). KeepsOthers h.interfaces (handle_gone h handle.key o).interfaces handle.key) (sym stands.at) gone-others
+
+-- a control transfer starts, on an endpoint of no interface
+module _ (h : HostState) (s : Submission) where
+  abbrev control : HostState
+  control = record h { endpoints = h.endpoints ++ Some (control_endpoint s.endpoint) ∷ [] }
+
+  control-owned : KeepsClaims h control
+  control-owned =
+      claims-kept h control (claimed-refl h.interfaces) (λ d n. refl)
+      (λ j. claim-living h h.tickets control.endpoints j (any-push_at (if_there (lives_on h.tickets j)) 0 h.endpoints (Some (control_endpoint s.endpoint)) refl))
+      (λ live k e at. elim (value-push_cases h.endpoints (control_endpoint s.endpoint) e k at) [ inl w ↦ rw w.1 refl | inr w ↦ live k e w.1 ])
+
+  pub started-owned : KeepsClaims h (host_started h s)
+  unfolding host_started
+  started-owned =
+      let to : Route = record { device = s.device; endpoint = s.endpoint; kind = s.kind; maximum = s.maximum; key = length h.endpoints } in
+      let t : TransferData = record { endpoint = s.endpoint; kind = s.kind; held = Nothing } in
+      let kernel = kernel_submitted h.kernel s in
+      follow h control (with_held control to t kernel) control-owned
+      (held-owned control to t (key-new h.endpoints (control_endpoint s.endpoint) refl) kernel (λ d n. refl))
 
 -- an endpoint of an owned interface is opened
 module _ (h : HostState) (i address : ℕ) (owned : IsOwned h i) where

@@ -3,6 +3,7 @@ use Rattle.std.specs.Prelude.{ℕ, ◌≡◌, Bool, Some, None, is_some, slice_g
 use Rattle.usb_simulated.specs.declared.step.KernelStep.{KernelStep}
 use Rattle.usb_xfer.specs.declared.transfer.TransferData.{TransferData}
 use Rattle.usb_bus.specs.declared.route.Route.{Route}
+use Rattle.usb_kernel.specs.declared.submission.Submission.{Submission}
 use Rattle.usb_kernel.specs.Completions.{completion}
 use Rattle.usb_endpoint.specs.EndpointState.{EndpointState}
 use Rattle.usb_endpoint.specs.Handles.{Stands}
@@ -15,6 +16,9 @@ use Rattle.usb_host.specs.HostBus.{bus_of}
 use Rattle.usb_host.specs.HostTurns.{host_stepped, host_turned, host_rest}
 use Rattle.usb_host.specs.HostCalls.{host_submitted, host_refused, host_discarded, host_left, host_idled, host_halt_cleared}
 use Rattle.usb_host.specs.TicketEnds.{host_taken, host_abandoned}
+use Rattle.usb_host.specs.HostAwaits.{host_awaited}
+use Rattle.usb_host.specs.Controls.{host_started}
+use Rattle.usb_device.specs.Futures.{FutureState, StandsFuture, future_closed}
 use Rattle.usb_host.specs.Finishes.{finished}
 use Rattle.usb_host.specs.Handles.{handle_cloned, handle_closed}
 use Rattle.usb_host.specs.Opens.{host_opened}
@@ -37,6 +41,8 @@ pub record EndsStay : Type 0 where
   pub submit : (h : HostState) (to : Route) (t : TransferData) → KeepsEnds h (host_submitted h to t)
   pub refuse : (h : HostState) (to : Route) (t : TransferData) (errno : ℕ) →
       KeepsEnds h (host_refused h to t errno)
+  pub start_control : (h : HostState) (s : Submission) → KeepsEnds h (host_started h s)
+  pub await_ticket : (h : HostState) (t deadline : ℕ) → KeepsEnds h (host_awaited h t deadline)
   pub discard : (h : HostState) (t : ℕ) → KeepsEnds h (host_discarded h t)
   pub take : (h : HostState) (t : ℕ) → KeepsEnds h (host_taken h t)
   pub abandon : (h : HostState) (t : ℕ) → KeepsEnds h (host_abandoned h t)
@@ -68,4 +74,11 @@ DroppedWhereReaped =
     (h : HostState) (e : EndpointState) (i t : ℕ) → Stands (bus_of h) e →
     slice_get e.pending i ≡ Some t →
     end_at (after_close host_discarded host_abandoned host_left h e).tickets t ≡
+    (if is_some (completion h.kernel.past t) then Some Dropped else None)
+
+-- and so is that of a future that is closed
+abbrev pub FutureDroppedWhereReaped : Type 0
+FutureDroppedWhereReaped =
+    (h : HostState) (f : FutureState) (t : ℕ) → StandsFuture h f → f.ticket ≡ Some t →
+    end_at (future_closed h f).tickets t ≡
     (if is_some (completion h.kernel.past t) then Some Dropped else None)

@@ -2,6 +2,7 @@
 use Rattle.std.specs.Prelude.{ℕ, ◌≡◌, ◌≢◌, ◌<◌, ◌≤◌, Bool, List, Option, Some}
 use Rattle.usb_xfer.specs.declared.transfer.TransferData.{TransferData}
 use Rattle.usb_simulated.specs.declared.step.KernelStep.{KernelStep}
+use Rattle.usb_kernel.specs.declared.submission.Submission.{Submission}
 use Rattle.usb_kernel.specs.Value.{KernelState}
 use Rattle.usb_bus.specs.declared.route.Route.{Route}
 use Rattle.usb_registry.specs.History.{value_at}
@@ -13,6 +14,7 @@ use Rattle.usb_host.specs.HostCalls.{host_submitted, host_refused, host_discarde
 use Rattle.usb_host.specs.HostWaits.{host_waited}
 use Rattle.usb_host.specs.HostBlocking.{host_blocked}
 use Rattle.usb_host.specs.HostAwaits.{host_awaited}
+use Rattle.usb_host.specs.Controls.{host_started}
 use Rattle.usb_host.specs.TicketEnds.{host_ended, host_taken, host_abandoned}
 use Rattle.usb_host.specs.Finishes.{finished}
 use Rattle.usb_device.specs.HandleStates.{InterfaceState, StandsDevice, StandsInterface}
@@ -61,6 +63,7 @@ pub record DevicesStayHeld : Type 0 where
   pub submit : (h : HostState) (to : Route) (t : TransferData) → KeepsHeld h (host_submitted h to t)
   pub refuse : (h : HostState) (to : Route) (t : TransferData) (errno : ℕ) →
       KeepsHeld h (host_refused h to t errno)
+  pub start_control : (h : HostState) (s : Submission) → KeepsHeld h (host_started h s)
   pub discard : (h : HostState) (t : ℕ) → KeepsHeld h (host_discarded h t)
   pub end_ticket : (h : HostState) (t : ℕ) (end : TicketEnd) → KeepsHeld h (host_ended h t end)
   pub take : (h : HostState) (t : ℕ) → KeepsHeld h (host_taken h t)

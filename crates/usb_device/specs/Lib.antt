@@ -1,6 +1,8 @@
 pub mod HandleStates
 pub mod HandleCalls
 pub mod Futures
+pub mod ControlCalls
+pub mod DescriptorCalls
 pub mod WaitLaws
 pub mod EndLaws
 pub mod OwnerLaws

@@ -7,6 +7,7 @@ use Rattle.usb_simulated.specs.declared.devices.SimDevice.{SimDevice}
 use Rattle.usb_simulated.specs.declared.step.KernelStep.{KernelStep}
 use Rattle.usb_simulated.specs.Devices.{fresh_device}
 use Rattle.usb_kernel.specs.ClaimLaws.{is_claimed}
+use Rattle.usb_kernel.specs.declared.submission.Submission.{Submission}
 use Rattle.usb_kernel.specs.Value.{KernelState}
 use Rattle.usb_bus.specs.declared.route.Route.{Route}
 use Rattle.usb_registry.specs.History.{value_at}
@@ -20,6 +21,7 @@ use Rattle.usb_host.specs.HostCalls.{host_submitted, host_refused, host_discarde
 use Rattle.usb_host.specs.HostWaits.{host_waited}
 use Rattle.usb_host.specs.HostBlocking.{host_blocked}
 use Rattle.usb_host.specs.HostAwaits.{host_awaited}
+use Rattle.usb_host.specs.Controls.{host_started}
 use Rattle.usb_host.specs.TicketEnds.{host_ended, host_taken, host_abandoned}
 use Rattle.usb_host.specs.Finishes.{finished}
 use Rattle.usb_device.specs.HandleStates.{InterfaceState, StandsInterface}
@@ -122,6 +124,7 @@ pub record ClaimsStayOwned : Type 0 where
       key_at h.endpoints to.key ≡ true → KeepsClaims h (host_submitted h to t)
   pub refuse : (h : HostState) (to : Route) (t : TransferData) (errno : ℕ) →
       key_at h.endpoints to.key ≡ true → KeepsClaims h (host_refused h to t errno)
+  pub start_control : (h : HostState) (s : Submission) → KeepsClaims h (host_started h s)
   pub discard : (h : HostState) (t : ℕ) → KeepsClaims h (host_discarded h t)
   pub end_ticket : (h : HostState) (t : ℕ) (end : TicketEnd) → KeepsClaims h (host_ended h t end)
   pub take : (h : HostState) (t : ℕ) → KeepsClaims h (host_taken h t)

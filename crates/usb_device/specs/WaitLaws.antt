@@ -8,6 +8,7 @@ use Rattle.usb_host.specs.HostTurns.{host_turned, host_turn, host_rest}
 use Rattle.usb_host.specs.HostCalls.{host_discarded}
 use Rattle.usb_host.specs.HostWaits.{wait_steps, host_waited}
 use Rattle.usb_host.specs.HostBlocking.{host_blocked}
+use Rattle.usb_host.specs.HostAwaits.{host_awaited}
 use Rattle.usb_host.specs.HostFrames.{LineGoesOn, HostGoesOn}
 
 -- a wait at a host that has an answer goes by the steps that are left
@@ -34,6 +35,10 @@ WaitGoesOn = (h : HostState) (t timeout : ℕ) → HostGoesOn h (host_waited h t
 
 abbrev pub BlockingGoesOn : Type 0
 BlockingGoesOn = (h : HostState) (t timeout : ℕ) → HostGoesOn h (host_blocked h t timeout)
+
+-- so does a wait for a control transfer
+abbrev pub AwaitGoesOn : Type 0
+AwaitGoesOn = (h : HostState) (t deadline : ℕ) → HostGoesOn h (host_awaited h t deadline)
 
 -- at the end of a line no step is left
 abbrev pub RestGoesOn : Type 0

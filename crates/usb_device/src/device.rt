@@ -118,6 +118,14 @@ impl Device {
         host.close_device(key);
     }
 
+    /// Its number at the kernel.
+    pub(crate) fn device_number(&self, host: &Host) -> u8
+        requires stands { StandsDevice host.now self.now }
+        ensures number { ForSome (value_at host.now.devices self.now) (λ o. result ≡ o.device) }
+    {
+        host.device_number(self.key)
+    }
+
     /// Its device descriptor.
     pub fn device_descriptor<'h>(&self, host: &'h Host) -> &'h DeviceDescriptor
         requires stands { StandsDevice host.now self.now }
@@ -298,6 +306,15 @@ impl Interface {
         ensures number { result ≡ self.now.number }
     {
         self.number
+    }
+
+    /// The number of its device at the kernel.
+    pub(crate) fn device_number(&self, host: &Host) -> u8
+        requires stands { StandsInterface host.now self.now }
+        ensures number { ForSome (value_at host.now.interfaces self.now.key) (λ c.
+            result ≡ c.device) }
+    {
+        host.device_number_of(self.key)
     }
 
     /// One more handle of the interface, and one more owner. It takes no memory: want of memory is

@@ -3,9 +3,9 @@
 
 ghost use Rattle.usb_device.specs.HeldLaws.{DevicesStayHeld};
 ghost use Rattle.usb_device.specs.ClosedLaws.{ClosedIsEmpty};
-ghost use Rattle.usb_device.specs.EndLaws.{EndsStay, DroppedWhereReaped};
+ghost use Rattle.usb_device.specs.EndLaws.{EndsStay, DroppedWhereReaped, FutureDroppedWhereReaped};
 ghost use Rattle.usb_device.specs.OwnerLaws.{ClaimsStayOwned};
-ghost use Rattle.usb_device.specs.WaitLaws.{WaitIsBySteps, BlockingIsBySteps, TurnGoesOn, WaitGoesOn, BlockingGoesOn, RestGoesOn, RestLeavesNone, LineUsesPlaces};
+ghost use Rattle.usb_device.specs.WaitLaws.{WaitIsBySteps, BlockingIsBySteps, TurnGoesOn, WaitGoesOn, BlockingGoesOn, AwaitGoesOn, RestGoesOn, RestLeavesNone, LineUsesPlaces};
 
 /// A wait for a ticket goes by the steps of the line that are left, and then by reaps.
 pub fn wait_is_by_steps()
@@ -24,6 +24,7 @@ pub fn lines_go_on()
     ensures turn { TurnGoesOn }
     ensures wait { WaitGoesOn }
     ensures blocking { BlockingGoesOn }
+    ensures await_ticket { AwaitGoesOn }
     ensures rest { RestGoesOn }
     ensures none_left { RestLeavesNone }
     ensures places { LineUsesPlaces }
@@ -34,10 +35,11 @@ pub fn tickets_end_once()
     ensures stay { EndsStay }
 {}
 
-/// A transfer that was not taken is dropped exactly where it was reaped when its endpoint is
-/// closed. Else it is reclaimed at its reap.
+/// A transfer that was not taken is dropped exactly where it was reaped when its endpoint, or its
+/// future, is closed. Else it is reclaimed at its reap.
 pub fn what_is_reaped_is_dropped()
     ensures dropped { DroppedWhereReaped }
+    ensures future_dropped { FutureDroppedWhereReaped }
 {}
 
 /// An interface is claimed at the kernel exactly while there is an entry of it that has an owner: an

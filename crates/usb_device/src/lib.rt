@@ -5,12 +5,14 @@
 //! buffers and completions, and errors.
 #![tactic(auto)]
 
+mod control;
+mod descriptors;
 mod device;
 mod future;
 mod laws;
 
 pub use device::{Device, Interface};
-pub use future::TransferFuture;
+pub use future::{OnHost, TransferFuture};
 pub use laws::{
     blocking_is_by_steps, claims_are_owned, devices_are_held, lines_go_on,
     nothing_is_kept_once_all_is_closed, tickets_end_once, wait_is_by_steps,
@@ -18,15 +20,16 @@ pub use laws::{
 };
 pub use usb_bus::{Bus, Route, Turn};
 pub use usb_desc::{
-    ConfigurationDescriptor, Configurations, DeviceDescriptor, Fail, InterfaceDescriptor, NoMemory,
+    ConfigurationDescriptor, Configurations, ControlIn, ControlOut, ControlType, DeviceDescriptor,
+    Fail, InterfaceDescriptor, Languages, NoMemory, Recipient,
 };
 pub use usb_endpoint::{AnyEndpoint, Endpoint, NextComplete};
-pub use usb_error::{ActiveConfigurationError, Error, ErrorKind};
+pub use usb_error::{ActiveConfigurationError, Error, ErrorKind, GetDescriptorError};
 pub use usb_host::{AltSettingsOf, Host};
 pub use usb_kernel::{Kernel, KernelStep};
 pub use usb_ledger::{OpenDevice, TicketEnd};
 pub use usb_sysfs::Speed;
 pub use usb_xfer::{
-    Buffer, Bulk, BulkOrInterrupt, Completion, EndpointDirection, EndpointType, In, Interrupt, Out,
-    TransferError,
+    Buffer, Bulk, BulkOrInterrupt, Completion, EndpointDirection, EndpointType, In, Interrupt,
+    MaybeFuture, Out, TransferError,
 };

@@ -78,11 +78,11 @@ unfolding host_tries
 tried-some h i c address kind direction maximum ok = size-some (endpoint_in c address (value_at h.devices c.opened)) address kind direction (is_in_use h i address) maximum ok
 
 -- an endpoint that was opened stands, and the others stand as before
-key-new : (endpoints : List (Option HostEndpoint)) (e : HostEndpoint) → e.is_open ≡ true → key_at (endpoints ++ Some e ∷ []) (length endpoints) ≡ true
+pub key-new : (endpoints : List (Option HostEndpoint)) (e : HostEndpoint) → e.is_open ≡ true → key_at (endpoints ++ Some e ∷ []) (length endpoints) ≡ true
 key-new [] e open_ = open_
 key-new (x ∷ xs) e open_ = key-new xs e open_
 
-key-kept : (endpoints : List (Option HostEndpoint)) (e : HostEndpoint) (k : ℕ) → key_at endpoints k ≡ true → key_at (endpoints ++ Some e ∷ []) k ≡ true
+pub key-kept : (endpoints : List (Option HostEndpoint)) (e : HostEndpoint) (k : ℕ) → key_at endpoints k ≡ true → key_at (endpoints ++ Some e ∷ []) k ≡ true
 key-kept [] e k open_ = absurd (cc)
 key-kept (x ∷ xs) e zero open_ = open_
 key-kept (x ∷ xs) e (suc k) open_ = key-kept xs e k open_

@@ -27,3 +27,4 @@ pub mod CountLemmas
 pub mod HeldLemmas
 pub mod CalledHosts
 pub mod SettingLemmas
+pub mod ControlLemmas

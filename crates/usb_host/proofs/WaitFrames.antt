@@ -109,7 +109,7 @@ of_three P false true x y z px py pz = py
 of_three P false false x y z px py pz = pz
 
 module _ (t timeout start : ℕ) where
-  went-reap_and : (h : HostState) (o : Option ℕ) (further : HostState → Bool × HostState) → ((g : HostState) → HostGoesOn g (further g).1) → HostGoesOn h (reap_and o h further).1
+  pub went-reap_and : (h : HostState) (o : Option ℕ) (further : HostState → Bool × HostState) → ((g : HostState) → HostGoesOn g (further g).1) → HostGoesOn h (reap_and o h further).1
   went-reap_and h None further goes = went-nowhere h
   went-reap_and h (Some u) further goes = went-trans h (host_reaped h u) (further (host_reaped h u)).1 (went-uses h (host_reaped h u) (uses-reaped h u)) (goes (host_reaped h u))
 
@@ -131,7 +131,7 @@ pub went-waited : (h : HostState) (t timeout : ℕ) → HostGoesOn h (host_waite
 unfolding host_waited
 went-waited h t timeout = went-steps t timeout h.kernel.clock h.steps h refl
 
-went-or_then : (h : HostState) (p : Bool × HostState) (next : HostState → HostState) → HostGoesOn h p.1 → ((g : HostState) → HostGoesOn g (next g)) → HostGoesOn h (or_then p next)
+pub went-or_then : (h : HostState) (p : Bool × HostState) (next : HostState → HostState) → HostGoesOn h p.1 → ((g : HostState) → HostGoesOn g (next g)) → HostGoesOn h (or_then p next)
 went-or_then h p next goes further = elim p.0 as (λ b. HostGoesOn h (cond b p.1 (next p.1))) [ true ↦ goes | false ↦ went-trans h p.1 (next p.1) goes (further p.1) ]
 
 pub went-by_seconds : (n : ℕ) (h : HostState) (t : ℕ) → HostGoesOn h (waited_by_seconds n h t)

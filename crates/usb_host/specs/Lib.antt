@@ -24,3 +24,4 @@ pub mod HostWaits
 pub mod HostBlocking
 pub mod HostAwaits
 pub mod HostFrames
+pub mod Controls

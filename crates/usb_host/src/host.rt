@@ -92,13 +92,13 @@ fn complete(kernel: &mut Kernel, ledger: &mut Ledger, arrived: Option<Done>)
 
 /// What a submission gave: the ticket's number, and what its transfer holds.
 #[derive(Drop)]
-struct NewTicket {
-    ticket: u64,
-    held: Held,
+pub(crate) struct NewTicket {
+    pub ticket: u64,
+    pub held: Held,
 }
 
 /// A refused ticket has its completion at once.
-fn ticket_from(submitted: Submitted) -> NewTicket
+pub(crate) fn ticket_from(submitted: Submitted) -> NewTicket
     ensures ticket { result.ticket ≡ number_of submitted }
     ensures held { result.held ≡ held_at_once submitted }
 {

@@ -5,10 +5,12 @@
 mod awaiting;
 mod claiming;
 mod configuring;
+mod controls;
 mod endpoints;
 mod host;
 mod opening;
 mod settings;
 
+pub use controls::{ControlRequest, StartedControl};
 pub use host::Host;
 pub use settings::AltSettingsOf;

@@ -1,14 +1,14 @@
 -- The rows of endpoints and their tickets.
-use Rattle.std.proofs.Common.{ℕ, zero, suc, arith, ◌≡◌, ◌≢◌, ◌<◌, ◌+◌, ◌-◌, Bool, true, false, cond, List, [], ◌∷◌, ◌++◌, length, map, set, get_or, slice_get, Option, Some, None, inl, inr, refl, sym, ◌∙◌, ap, subst}
+use Rattle.std.proofs.Common.{ℕ, zero, suc, arith, ◌≡◌, ◌≢◌, ◌<◌, ◌+◌, ◌-◌, Bool, true, false, cond, List, [], ◌∷◌, ◌++◌, length, map, set, take, get_or, length-append, slice_get, Option, Some, None, inl, inr, refl, sym, ◌∙◌, ap, subst}
 use Rattle.std.specs.Prelude.{◌||◌, ◌&&◌, ◌==◌, nat_lt, option_and_then, Result, Ok, Err, OnOk, OnErr, IsSome}
 use Rattle.std.specs.List.{count_by, list_any, enumerate_from}
 use Rattle.std.specs.Option.{option_map, option_map_or}
 use Rattle.std.proofs.lemmas.Bool.{cases_Bool, cases_eq, eq-eqb, ne_eqb}
 use Rattle.std.proofs.lemmas.Option.{none-some, same_Some, slice_get_within, slice_get-map, get_or_from_slice_get}
-use Rattle.std.proofs.lemmas.List.{map-set}
+use Rattle.std.proofs.lemmas.List.{map-set, length-map, take-map}
 use Rattle.std.proofs.lemmas.Grind.{common_steps}
 use Rattle.usb_registry.specs.History.{value_at}
-use Rattle.usb_registry.proofs.ValueLemmas.{value-set_same, value-set_other, value-last, value-pushed, value-past, value-map, set-value_same}
+use Rattle.usb_registry.proofs.ValueLemmas.{last-of, take-others, value-set_same, value-set_other, value-last, value-pushed, value-past, value-map, set-value_same}
 use Rattle.usb_registry.specs.declared.registry.Key.{Key}
 use Rattle.usb_ledger.specs.declared.ends.TicketEnd.{TicketEnd}
 use Rattle.usb_ledger.specs.declared.owners.EndpointRow.{EndpointRow}
@@ -221,6 +221,28 @@ module _ (rows : List (Option EndpointRow)) (tickets : List HostTicket) (tied : 
             | inr no_ ↦ rw (lives-row k e at, no_) (sym (map-set (option_map endpoint_of) rows k None))
           ]
 
+-- one that is opened next has no ticket yet
+pub none-next : (rows : List (Option EndpointRow)) (tickets : List HostTicket) → Tied rows tickets → count_by (is_ticket_of (length (map (option_map endpoint_of) rows))) tickets ≡ 0
+none-next rows tickets tied =
+    let n : length (map (option_map endpoint_of) rows) ≡ length rows = length-map rows (option_map endpoint_of) in
+    rw n (sym (tied (length rows)) ∙ ap (λ (o : Option EndpointRow). option_map_or (λ (r : EndpointRow). r.tickets) o 0) (value-past rows (length rows) (omega arith)))
+
+-- the last one is taken back, which has none
+pub Tied-taken_back : (rows : List (Option EndpointRow)) (tickets : List HostTicket) → 0 < length rows → Tied rows tickets → count_by (is_ticket_of (length rows - 1)) tickets ≡ 0 → Tied (take (length rows - 1) rows) tickets
+Tied-taken_back rows tickets some tied none =
+    let r = last-of rows some in
+    by r.0 r.1 r.2
+  where
+    by : (xs : List (Option EndpointRow)) (x : Option EndpointRow) → rows ≡ xs ++ x ∷ [] → Tied (take (length rows - 1) rows) tickets
+    by xs x is = λ k.
+        let others : take (length rows - 1) rows ≡ xs = ap (λ ys. take (length ys - 1) ys) is ∙ take-others xs x in
+        let n : length rows - 1 ≡ length xs = omega (arith, ap length is, length-append xs (x ∷ [])) in
+        ap (λ ys. tickets_at ys k) others
+        ∙ elim (cases_eq k (length xs)) [
+          | inl same ↦ ap (λ (o : Option EndpointRow). option_map_or (λ (r : EndpointRow). r.tickets) o 0) (value-past xs k (omega (arith, same))) ∙ (sym none ∙ ap (λ j. count_by (is_ticket_of j) tickets) (n ∙ sym same))
+          | inr apart ↦ ap (λ (o : Option EndpointRow). option_map_or (λ (r : EndpointRow). r.tickets) o 0) (sym (value-pushed xs x k apart)) ∙ (ap (λ ys. tickets_at ys k) (sym is) ∙ tied k)
+        ]
+
 pub endpoint-at : (rows : List (Option EndpointRow)) (k : ℕ) (e : EndpointRow) → value_at rows k ≡ Some e → value_at (map (option_map endpoint_of) rows) k ≡ Some (endpoint_of e)
 endpoint-at rows k e at = value-map endpoint_of rows k ∙ ap (option_map endpoint_of) at
 
@@ -231,6 +253,10 @@ row-there rows k there = by (value_at rows k) (subst IsSome (value-map endpoint_
     by : (o : Option EndpointRow) → IsSome (option_map endpoint_of o) → IsSome o
     by None some = some
     by (Some e) some = refl
+
+-- the endpoints without the last
+pub endpoints-others : (rows : List (Option EndpointRow)) → map (option_map endpoint_of) (take (length rows - 1) rows) ≡ take (length (map (option_map endpoint_of) rows) - 1) (map (option_map endpoint_of) rows)
+endpoints-others rows = rw (length-map rows (option_map endpoint_of)) (sym (take-map (option_map endpoint_of) (length rows - 1) rows))
 
 -- an endpoint is the same with another count
 pub endpoints-kept : (rows : List (Option EndpointRow)) (k : ℕ) (e next : EndpointRow) → value_at rows k ≡ Some e → endpoint_of next ≡ endpoint_of e → map (option_map endpoint_of) (set rows k (Some next)) ≡ map (option_map endpoint_of) rows

@@ -1,10 +1,10 @@
 -- The counts and the bits of owners.
-use Rattle.std.proofs.Common.{ℕ, zero, suc, arith, ◌≡◌, ◌≢◌, ◌<◌, ◌+◌, ◌-◌, Bool, true, false, cond, List, [], ◌∷◌, ◌++◌, length, map, set, get_or, slice_get, Option, Some, None, inl, inr, refl, sym, ◌∙◌, ap, subst}
+use Rattle.std.proofs.Common.{ℕ, zero, suc, arith, ◌≡◌, ◌≢◌, ◌<◌, ◌+◌, ◌-◌, Bool, true, false, cond, List, [], ◌∷◌, ◌++◌, length, map, set, take, get_or, slice_get, Option, Some, None, inl, inr, refl, sym, ◌∙◌, ap, subst}
 use Rattle.std.specs.Prelude.{◌||◌, ◌&&◌, ◌==◌, not, nat_lt, option_and_then, IsSome}
 use Rattle.std.specs.List.{count_by, list_any, All}
 use Rattle.std.specs.Prelude.{◌%◌, ◌/◌}
 use Rattle.usb_ledger.specs.Owners.{shares_bit, is_of}
-use Rattle.std.specs.Option.{option_map}
+use Rattle.std.specs.Option.{option_map, ForSome}
 use Rattle.std.proofs.lemmas.Option.{none-some, same_Some, slice_get-get_or}
 use Rattle.std.specs.FinSet as bits
 use Rattle.std.specs.Ordering.{nat_cmp}
@@ -17,7 +17,7 @@ use Rattle.std.proofs.lemmas.List.Sums.{sum_by-cons}
 use Rattle.std.proofs.lemmas.Grind.{common_steps}
 use Rattle.usb_desc.specs.BitSet.{bit_of, members}
 use Rattle.usb_registry.specs.History.{value_at}
-use Rattle.usb_registry.proofs.ValueLemmas.{value-within, value-set_same, some-of, is-some, value-put, value-taken, value-push_cases, value-past, value-push, value-map, value-set_other, set-value_same, set-set, there-put}
+use Rattle.usb_registry.proofs.ValueLemmas.{last-of, take-others, value-of_last, value-within, some-of, is-some, value-put, value-taken, value-push_cases, value-past, value-push, value-map, value-set_other, set-value_same, set-set, there-put}
 use Rattle.usb_ledger.specs.declared.owners.Claim.{Claim}
 use Rattle.usb_ledger.specs.declared.owners.EndpointRow.{EndpointRow}
 use Rattle.usb_ledger.specs.declared.owners.EndedClaim.{EndedClaim}
@@ -374,6 +374,11 @@ All-one : (P : Option EndpointRow → Type 0) (x : Option EndpointRow) → P x �
 All-one P x p zero d inside = p
 All-one P x p (suc k) d inside = absurd (omega arith)
 
+All-others : (P : Option EndpointRow → Type 0) (xs : List (Option EndpointRow)) (x : Option EndpointRow) → All P (xs ++ x ∷ []) → All P xs
+All-others P [] x all k d inside = absurd (omega (arith, inside))
+All-others P (y ∷ ys) x all zero d inside = all zero d (omega arith)
+All-others P (y ∷ ys) x all (suc k) d inside = All-others P ys x (λ j c within. all (suc j) c (omega (arith, within))) k d (omega (arith, inside))
+
 -- the rows with a new one
 module _ (claims : List (Option Claim)) (rows : List (Option EndpointRow)) (e : EndpointRow) (counts : CountsOf claims rows) where
   placed-more : ((i : ℕ) → row_interface e ≡ Some i → IsSome (value_at claims i)) → (m i : ℕ) (f : EndpointRow) → value_at (rows ++ Some e ∷ []) m ≡ Some f → is_alive f ≡ true → row_interface f ≡ Some i → IsSome (value_at claims i)
@@ -392,6 +397,38 @@ CountsOf-control claims rows e counts on small =
       placed = placed-more claims rows e counts (λ i is. absurd (none-some i (sym on ∙ is)));
       small = All-append IsSmall rows (Some e ∷ []) counts.small (All-one IsSmall (Some e) small);
     }
+
+-- the control endpoint that was opened last is taken back
+none-row : (i : ℕ) (x : Option EndpointRow) → ForSome x (λ e. row_interface e ≡ None) → is_alive_on i x ≡ false
+none-row i None on = refl
+none-row i (Some e) on = none_on i e (on e refl)
+
+none-row_with : (i bit : ℕ) (x : Option EndpointRow) → ForSome x (λ e. row_interface e ≡ None) → is_alive_with i bit x ≡ false
+none-row_with i bit None on = refl
+none-row_with i bit (Some e) on = none_with i bit e (on e refl)
+
+CountsOf-others : (claims : List (Option Claim)) (rows : List (Option EndpointRow)) (x : Option EndpointRow) → CountsOf claims (rows ++ x ∷ []) → ForSome x (λ e. row_interface e ≡ None) → CountsOf claims rows
+CountsOf-others claims rows x counts on =
+    record {
+      living = λ i c here. let last : one_if (is_alive_on i x) ≡ 0 = ap one_if (none-row i x on) in omega (arith, counts.living i c here, last, count-push (is_alive_on i) rows x);
+      used = λ i c bit here. let last : one_if (is_alive_with i bit x) ≡ 0 = ap one_if (none-row_with i bit x on) in omega (arith, last, count-push (is_alive_with i bit) rows x) ∙ counts.used i c bit here;
+      placed = λ m i f at alive on. counts.placed m i f (value-push rows x m f at) alive on;
+      small = All-others IsSmall rows x counts.small;
+    }
+
+pub owners-taken_back : (claims : List (Option Claim)) (rows : List (Option EndpointRow)) → 0 < length rows → ForSome (value_at rows (length rows - 1)) (λ e. row_interface e ≡ None) → CountsOf claims rows → AreAlive rows
+    → CountsOf claims (take (length rows - 1) rows) × AreAlive (take (length rows - 1) rows)
+owners-taken_back claims rows some on counts alive =
+    let r = last-of rows some in
+    by r.0 r.1 (subst (λ xs. ForSome (value_at xs (length xs - 1)) (λ e. row_interface e ≡ None)) r.2 on) (subst (CountsOf claims) r.2 counts) (subst AreAlive r.2 alive) (ap (λ xs. take (length xs - 1) xs) r.2 ∙ take-others r.0 r.1)
+  where
+    by : (xs : List (Option EndpointRow)) (x : Option EndpointRow) → ForSome (value_at (xs ++ x ∷ []) (length (xs ++ x ∷ []) - 1)) (λ e. row_interface e ≡ None) → CountsOf claims (xs ++ x ∷ []) → AreAlive (xs ++ x ∷ [])
+        → take (length rows - 1) rows ≡ xs → CountsOf claims (take (length rows - 1) rows) × AreAlive (take (length rows - 1) rows)
+    by xs x on counts alive is =
+        rw is (
+          CountsOf-others claims xs x counts (subst (λ o. ForSome o (λ e. row_interface e ≡ None)) (value-of_last xs x) on),
+          λ m e at. alive m e (value-push xs x m e at),
+        )
 
 -- an endpoint is opened, whose bit is free
 module _ (claims : List (Option Claim)) (rows : List (Option EndpointRow)) (e : EndpointRow) (j : ℕ) (on : row_interface e ≡ Some j) (claim gained : Claim) (counts : CountsOf claims rows) (at : value_at claims j ≡ Some claim) (alive : is_alive e ≡ true) (small : e.address < 256)

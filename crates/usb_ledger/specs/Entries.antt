@@ -1,5 +1,5 @@
 -- Claimed interfaces, endpoints and tickets, as the users of a host know them.
-use Rattle.std.specs.Prelude.{ℕ, Bool, Option}
+use Rattle.std.specs.Prelude.{ℕ, Bool, true, Option, None}
 -- (`Hold` is what an endpoint holds of a ticket)
 pub use Rattle.usb_bus.specs.Holds.{Hold}
 use Rattle.usb_ledger.specs.declared.ends.TicketEnd.{TicketEnd}
@@ -40,3 +40,7 @@ pub record HostEndpoint : Type 0 where
   pub interface : Option ℕ
   pub address : ℕ
   pub is_open : Bool
+
+-- a fresh control endpoint
+abbrev pub control_endpoint : ℕ → HostEndpoint
+control_endpoint address = record { interface = None; address = address; is_open = true }

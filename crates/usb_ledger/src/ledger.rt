@@ -1,13 +1,14 @@
 //! The claimed interfaces, their endpoints, and the tickets of these.
 
-ghost use Rattle.std.specs.Prelude.{◌≡◌, ◌+◌, ◌-◌, ◌^◌, ◌<◌, ◌≤◌, ◌++◌, ◌∷◌, [], length, set, true, false, slice_get, Some, None, IsSome, OnOk, OnErr, IfOk, vec_len, vec_capacity};
+ghost use Rattle.std.specs.Prelude.{◌≡◌, ◌+◌, ◌-◌, ◌^◌, ◌<◌, ◌≤◌, ◌++◌, ◌∷◌, [], length, set, take, true, false, slice_get, Some, None, IsSome, OnOk, OnErr, IfOk, vec_len, vec_capacity};
 ghost use Rattle.std.specs.Option.{ForSome};
 ghost use Rattle.usb_registry.specs.History.{value_at, live_count};
 ghost use Rattle.usb_ledger.specs.OwnerRows.{claim_state};
-ghost use Rattle.usb_ledger.specs.Owners.{is_used_among, has_living, is_owned_among};
+ghost use Rattle.std.specs.List.{count_by};
+ghost use Rattle.usb_ledger.specs.Owners.{is_ticket_of, is_used_among, has_living, is_owned_among};
 ghost use Rattle.usb_ledger.specs.Releases.{claim_of, claim_ended, without_claim, interface_at};
 ghost use Rattle.usb_ledger.specs.EndedTickets.{end_at};
-ghost use Rattle.usb_ledger.specs.Entries.{fresh_interface};
+ghost use Rattle.usb_ledger.specs.Entries.{fresh_interface, control_endpoint};
 ghost use Rattle.usb_ledger.specs.Kept.{EachIsOwned, EachLives};
 ghost use Rattle.usb_ledger.specs.LedgerState.{host_ticket, tickets_in, ticket_key, slot_data, slot_with, slot_without, ended_with, left_with, abandoned_key};
 
@@ -347,15 +348,28 @@ impl Ledger {
     pub fn open_control(&mut self, address: u8) -> Result<usize, NoMemory>
         ensures key { IfOk result (λ key. key ≡ length self.old.endpoints) }
         ensures endpoints { OnOk result (self.new ≡ record self.old {
-          endpoints = self.old.endpoints ++ Some (record {
-            interface = None;
-            address = address;
-            is_open = true;
-          }) ∷ [];
+          endpoints = self.old.endpoints ++ Some (control_endpoint address) ∷ [];
         }) }
         ensures err { OnErr result (self.new ≡ self.old) }
+        ensures unheld { count_by (is_ticket_of (length self.old.endpoints)) (tickets_in self.old)
+            ≡ 0 }
     {
         self.owners.open_control(address)
+    }
+
+    /// Takes the endpoint that was opened last back, as if it had not been opened. It is a control
+    /// endpoint that never had a ticket.
+    pub fn take_control_back(&mut self)
+        requires some { 0 < length self.old.endpoints }
+        requires control { ForSome (value_at self.old.endpoints (length self.old.endpoints - 1)) (λ e.
+            e.interface ≡ None) }
+        requires unheld { count_by (is_ticket_of (length self.old.endpoints - 1))
+            (tickets_in self.old) ≡ 0 }
+        ensures endpoints { self.new ≡ record self.old {
+          endpoints = take (length self.old.endpoints - 1) self.old.endpoints;
+        } }
+    {
+        self.owners.take_control_back();
     }
 
     /// A slot.

@@ -1,7 +1,7 @@
 //! Who owns the claimed interfaces, and which of their endpoints are in use, kept as counts and
 //! bits.
 
-ghost use Rattle.std.specs.Prelude.{ℕ, ◌≡◌, ◌+◌, ◌-◌, ◌^◌, ◌<◌, ◌≤◌, ◌++◌, ◌∷◌, [], length, set, true, false, IfSome, IsSome, nat_lt, slice_get, option_and_then, Some, None, OnOk, OnErr, IfOk};
+ghost use Rattle.std.specs.Prelude.{ℕ, ◌≡◌, ◌+◌, ◌-◌, ◌^◌, ◌<◌, ◌≤◌, ◌++◌, ◌∷◌, [], length, set, true, false, IfSome, IsSome, nat_lt, slice_get, option_and_then, Some, None, OnOk, OnErr, IfOk, take};
 ghost use Rattle.std.specs.Option.{ForSome};
 ghost use Rattle.std.specs.List.{list_any, count_by};
 ghost use Rattle.std.specs.FinSet as bits;
@@ -9,7 +9,7 @@ ghost use Rattle.usb_desc.specs.BitSet.{bit_of, members};
 ghost use Rattle.usb_registry.specs.History.{value_at, live_count};
 ghost use Rattle.usb_ledger.specs.Entries.{ClaimedInterface, fresh_interface};
 ghost use Rattle.usb_ledger.specs.Releases.{without_claim};
-ghost use Rattle.usb_ledger.specs.OwnerRows.{OwnersState, AreAlive, claim_state, claim_if, is_alive, is_alive_on, is_counted, uses_row, interface_of_row, with_row, rows_left, row_gone, claim_gone};
+ghost use Rattle.usb_ledger.specs.OwnerRows.{OwnersState, AreAlive, claim_state, claim_if, is_alive, is_alive_on, is_counted, uses_row, interface_of_row, with_row, rows_left, row_gone, claim_gone, row_interface};
 
 use std::alloc::Global;
 use std::marker::Model;
@@ -463,5 +463,18 @@ impl Owners {
             return Err(NoMemory);
         };
         Ok(key)
+    }
+
+    /// Takes the endpoint that was opened last back, which is a control endpoint, as if it had not
+    /// been opened.
+    pub fn take_control_back(&mut self)
+        requires some { 0 < length self.old.rows }
+        requires control { ForSome (value_at self.old.rows (length self.old.rows - 1)) (λ e.
+            row_interface e ≡ None) }
+        ensures rows { self.new ≡ record self.old {
+          rows = take (length self.old.rows - 1) self.old.rows;
+        } }
+    {
+        self.rows.take_back();
     }
 }

@@ -1,5 +1,5 @@
 -- A map from serial numbers.
-use Rattle.std.proofs.Common.{is_some, count_by, ◌≡◌, ◌≢◌, ℕ, zero, suc, ◌+◌, ◌<◌, List, [], ◌∷◌, ◌++◌, length, set, slice_get, Option, Some, None, refl, sym, ap, ◌∙◌, inl, inr, arith, cond, Less}
+use Rattle.std.proofs.Common.{is_some, count_by, ◌≡◌, ◌≢◌, ℕ, zero, suc, ◌+◌, ◌-◌, List, [], ◌∷◌, ◌++◌, length, take, slice_get, Option, Some, None, refl, sym, ap, ◌∙◌, inl, inr, arith, cond, Less}
 use Rattle.std.specs.Prelude.{false}
 use Rattle.std.specs.List.{All}
 use Rattle.std.specs.List.Sorted.{IsStrictlySortedBy}
@@ -13,6 +13,7 @@ use Rattle.std.specs.BTreeMap.{is_at}
 use Rattle.std.specs.Ordering.{nat_cmp, is_eq}
 use Rattle.std.specs.Cmp.{unsigned_tied}
 use Rattle.usb_registry.specs.History.{values_below, IsBelow}
+use Rattle.usb_registry.proofs.ValueLemmas.{take-others}
 use Rattle.usb_registry.proofs.SerialLemmas.{values-same, values-set, slice_get-below, count-some_more}
 
 -- two numbers that differ compare so
@@ -32,6 +33,12 @@ module _ {T : Type 0} where
         | inl same ↦ omega (arith, same, is)
         | inr other ↦ omega (arith, is, below k v (sym (others k other) ∙ at))
       ]
+
+  -- the last number is taken back
+  pub values-taken_back : (f g : ℕ → Option T) (n m : ℕ) → n ≡ m + 1 → ((k : ℕ) → k ≢ m → g k ≡ f k) → values_below g m ≡ take (length (values_below f n) - 1) (values_below f n)
+  values-taken_back f g n m is others =
+      let step : n ≡ suc m = omega (arith, is) in
+      rw step (values-same f g m (λ k below. others k (λ z. absurd (omega (arith, z, below)))) ∙ sym (take-others (values_below f m) (f m)))
 
   -- one that is there has another value
   pub below-set : (f g : ℕ → Option T) (n s : ℕ) (v : T) → f s ≡ Some v → ((k : ℕ) → k ≢ s → g k ≡ f k) → IsBelow f n → IsBelow g n

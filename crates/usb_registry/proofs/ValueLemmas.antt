@@ -1,10 +1,23 @@
 -- What is found by a serial number when a list of values changes.
-use Rattle.std.proofs.Common.{◌≡◌, ◌≢◌, ◌⊎◌, inl, inr, ℕ, zero, suc, ◌+◌, ◌<◌, ◌≤◌, arith, cond, is_some, List, [], ◌∷◌, ◌++◌, length, map, set, slice_get, Option, Some, None, refl, sym, ap, ◌∙◌}
+use Rattle.std.proofs.Common.{◌≡◌, ◌≢◌, ◌⊎◌, inl, inr, ℕ, zero, suc, ◌-◌, ◌<◌, ◌≤◌, arith, length-append, cond, is_some, List, [], ◌∷◌, ◌++◌, length, map, set, take, Option, Some, None, refl, sym, ap, ◌∙◌}
 use Rattle.std.specs.Prelude.{IsSome}
 use Rattle.std.specs.Option.{option_map}
 use Rattle.std.proofs.lemmas.Option.{none-some, same_Some}
+use Rattle.std.proofs.lemmas.List.{take_all, take-append-le}
 use Rattle.std.proofs.lemmas.List.Sums.{sum_by-cons}
 use Rattle.usb_registry.specs.History.{value_at, live_count}
+
+-- a list that is not empty, by its last element
+pub last-of : {X : Type 0} (xs : List X) → 0 < length xs → (ys : List X) × (y : X) × (xs ≡ ys ++ y ∷ [])
+last-of [] some = absurd (omega (arith, some))
+last-of (x ∷ []) some = ([], x, refl)
+last-of (x ∷ y ∷ ys) some = let r = last-of (y ∷ ys) (omega arith) in (x ∷ r.0, r.1, ap (λ zs. x ∷ zs) r.2)
+
+-- the others
+pub take-others : {X : Type 0} (xs : List X) (x : X) → take (length (xs ++ x ∷ []) - 1) (xs ++ x ∷ []) ≡ xs
+take-others xs x =
+    let n : length (xs ++ x ∷ []) - 1 ≡ length xs = omega (arith, length-append xs (x ∷ [])) in
+    rw n (take-append-le (length xs) xs (x ∷ []) (omega arith) ∙ take_all (length xs) xs (omega arith))
 
 module _ {X : Type 0} where
   -- what is there
@@ -53,6 +66,11 @@ module _ {X : Type 0} where
   pub value-last : (xs : List (Option X)) (o : Option X) → value_at (xs ++ o ∷ []) (length xs) ≡ o
   value-last [] o = refl
   value-last (y ∷ ys) o = value-last ys o
+
+  pub value-of_last : (xs : List (Option X)) (o : Option X) → value_at (xs ++ o ∷ []) (length (xs ++ o ∷ []) - 1) ≡ o
+  value-of_last xs o =
+      let n : length (xs ++ o ∷ []) - 1 ≡ length xs = omega (arith, length-append xs (o ∷ [])) in
+      ap (value_at (xs ++ o ∷ [])) n ∙ value-last xs o
 
   pub value-pushed : (xs : List (Option X)) (o : Option X) (k : ℕ) → k ≢ length xs → value_at (xs ++ o ∷ []) k ≡ value_at xs k
   value-pushed [] o zero apart = absurd (apart refl)

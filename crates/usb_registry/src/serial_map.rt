@@ -1,6 +1,6 @@
 //! Values in an ordered map, each named by a plain number.
 
-ghost use Rattle.std.specs.Prelude.{◌≡◌, ◌+◌, ◌^◌, ◌<◌, ◌++◌, ◌∷◌, [], length, set, Some, None, OnOk, OnErr, IfOk, IsSome};
+ghost use Rattle.std.specs.Prelude.{◌≡◌, ◌+◌, ◌-◌, ◌^◌, ◌<◌, ◌++◌, ◌∷◌, [], length, set, take, Some, None, OnOk, OnErr, IfOk, IsSome};
 ghost use Rattle.std.specs.Option.{option_copied};
 ghost use Rattle.usb_registry.specs.History.{value_at, live_count};
 
@@ -9,8 +9,8 @@ use std::collections::BTreeMap;
 use std::marker::Model;
 
 /// Values, each named by the number of values that were put in before it, and looked up in a time
-/// that grows with the logarithm of how many are there. A number is never used again. Contracts see
-/// the list of all values that were put in, by number, with `None` for each that was taken out.
+/// that grows with the logarithm of how many are there. A number is never used again, unless it was
+/// taken back. Contracts see the list of all values that were put in, by number, with `None` for each that was taken out.
 #[derive(Drop)]
 pub struct SerialMap<T> {
     entries: BTreeMap<usize, T>,
@@ -88,6 +88,15 @@ impl<T: Drop> SerialMap<T> {
         ensures rest { self.new ≡ set self.old serial None }
     {
         self.entries.remove(&serial)
+    }
+
+    /// Takes the last number back, with its value: as if none had been put in for it.
+    pub fn take_back(&mut self)
+        requires some { 0 < length self.old }
+        ensures rest { self.new ≡ take (length self.old - 1) self.old }
+    {
+        self.next -= 1;
+        let _ = self.entries.remove(&self.next);
     }
 
     /// How many values are there.

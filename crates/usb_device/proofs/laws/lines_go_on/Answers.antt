@@ -1,4 +1,5 @@
 use Rattle.usb_host.proofs.WaitFrames.{went-turned, went-waited, went-blocked, went-rest, rest-steps, rest-spare}
+use Rattle.usb_host.proofs.ControlLemmas.{went-awaited}
 use Rattle.usb_device.proofs.laws.lines_go_on.Goals as goal
 
 pub returns : goal.returns
@@ -6,6 +7,7 @@ returns c = record {
   turn = went-turned;
   wait = went-waited;
   blocking = went-blocked;
+  await_ticket = went-awaited;
   rest = went-rest;
   none_left = rest-steps;
   places = rest-spare;

@@ -1,4 +1,4 @@
-use Rattle.std.proofs.Common.{Some, None, ◌≡◌, ◌++◌, ◌∷◌, [], true, ap, length, map, set, sym, ◌∙◌, arith, refl, length-append}
+use Rattle.std.proofs.Common.{Some, None, ◌≡◌, ◌++◌, ◌∷◌, [], true, ap, map, set, sym, ◌∙◌, arith, refl}
 use Rattle.std.specs.List.{count_by}
 use Rattle.std.specs.Option.{option_map}
 use Rattle.std.proofs.lemmas.Option.{none-some}

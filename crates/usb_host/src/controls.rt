@@ -1,0 +1,196 @@
+//! Control transfers at a host: USB 2.0, section 9.3.
+
+ghost use Rattle.std.specs.Prelude.{◌≡◌, ◌<◌, ◌^◌, length, true, Some, None, IfOk, IfSome, IfNone, OnOk, OnErr, IsSome};
+ghost use Rattle.std.specs.Option.{ForSome};
+ghost use Rattle.usb_desc.specs.declared.types.TransferType.{TransferType};
+ghost use Rattle.usb_kernel.specs.Tickets.{tickets};
+ghost use Rattle.usb_registry.specs.History.{value_at};
+ghost use Rattle.usb_bus.specs.Completions.{transfer_completion};
+ghost use Rattle.usb_host.specs.HostBus.{owner_at, key_at};
+ghost use Rattle.usb_host.specs.HostCalls.{host_left};
+ghost use Rattle.usb_host.specs.TicketEnds.{host_taken};
+ghost use Rattle.usb_host.specs.Controls.{request_in, request_out, control_address, deadline_after, request_started};
+
+use crate::host::{Host, ticket_from};
+use std::alloc::Global;
+use usb_desc::{ControlIn, ControlOut, Direction, NoMemory, TransferType};
+use usb_kernel::Submission;
+use usb_registry::Key;
+use usb_xfer::{Buffer, Completion, Pending, TransferData, take_completed_from_option};
+
+/// A request on the control endpoint 0: where its data go, its setup packet, and the buffer that
+/// its data come to or stand in.
+#[derive(Drop)]
+pub struct ControlRequest {
+    pub direction: Direction,
+    pub setup: [u8; 8],
+    pub buffer: Buffer,
+}
+
+impl ControlRequest {
+    /// A request whose data come from the device, with an empty buffer.
+    pub fn from_in(alloc: Global, setup: ControlIn) -> Result<ControlRequest, NoMemory>
+        ensures request { IfOk result (λ request. request ≡ request_in setup) }
+    {
+        let buffer = Buffer::new(alloc, usize::from(setup.length))?;
+        Ok(ControlRequest {
+            direction: Direction::In,
+            setup: setup.setup_packet(),
+            buffer,
+        })
+    }
+
+    /// A request that sends data, which are copied.
+    pub fn from_out(alloc: Global, setup: ControlOut<'_>) -> Result<ControlRequest, NoMemory>
+        requires short { length setup.bytes.now < 2 ^ 16 }
+        ensures request { IfOk result (λ request. request ≡ request_out setup.entry) }
+    {
+        let buffer = Buffer::from_slice(alloc, setup.bytes)?;
+        Ok(ControlRequest {
+            direction: Direction::Out,
+            setup: setup.setup_packet(),
+            buffer,
+        })
+    }
+
+    /// The address of the endpoint: 0, with the direction in bit 7 (USB 2.0, table 9-13).
+    fn address(&self) -> u8
+        ensures address { result ≡ control_address self.now.direction }
+    {
+        match self.direction {
+            Direction::Out => 0x00,
+            Direction::In => 0x80,
+        }
+    }
+
+    /// What is handed in to the kernel.
+    fn into_submission(self, device: u8, deadline: u64) -> Submission
+        ensures submission { result ≡ record {
+          device = device;
+          endpoint = control_address self.direction;
+          kind = TransferType.Control;
+          maximum = self.buffer.requested;
+          deadline = Some deadline;
+          setup = Some self.setup;
+          buffer = self.buffer;
+        } }
+    {
+        Submission {
+            device,
+            endpoint: self.address(),
+            kind: TransferType::Control,
+            maximum: self.buffer.requested_len(),
+            deadline: Some(deadline),
+            setup: Some(self.setup),
+            buffer: self.buffer,
+        }
+    }
+}
+
+/// A control transfer that was handed in: the key of its endpoint, its ticket and its deadline.
+#[derive(Clone, Copy)]
+pub struct StartedControl {
+    pub key: usize,
+    pub ticket: u64,
+    pub deadline: u64,
+}
+
+impl Host {
+    /// The number of an open device at the kernel.
+    pub fn device_number(&self, device: Key) -> u8
+        requires device { IsSome (value_at self.now.devices device.serial) }
+        ensures number { ForSome (value_at self.now.devices device.serial) (λ o.
+            result ≡ o.device) }
+    {
+        self.devices.get(device).device
+    }
+
+    /// That of the device of a claimed interface.
+    pub fn device_number_of(&self, interface: Key) -> u8
+        requires interface { IsSome (value_at self.now.interfaces interface.serial) }
+        ensures number { ForSome (value_at self.now.interfaces interface.serial) (λ c.
+            result ≡ c.device) }
+    {
+        self.ledger.device(interface)
+    }
+
+    /// When a time in nanoseconds is up. It is cut to a day, and ends at the greatest number.
+    fn deadline_after(&self, timeout: u64) -> u64
+        ensures deadline { result ≡ deadline_after self.now.kernel.clock timeout }
+    {
+        let day = 86_400_000_000_000;
+        self.kernel.now().saturating_add(timeout.min(day))
+    }
+
+    /// Hands a request in to a device. It has a control endpoint of its own, of no interface, which
+    /// has the next key and holds its ticket, refused or not. A ticket that is not refused has the
+    /// deadline. An `Err` is want of memory, and then nothing has changed.
+    pub fn start_control(
+        &mut self,
+        device: u8,
+        request: ControlRequest,
+        timeout: u64,
+    ) -> Result<StartedControl, NoMemory>
+        ensures control { IfOk result (λ control. control ≡ record {
+          key = length self.old.endpoints;
+          ticket = length (tickets self.old.kernel.past);
+          deadline = deadline_after self.old.kernel.clock timeout;
+        }) }
+        ensures count { length self.old.tickets ≡ length (tickets self.old.kernel.past) }
+        ensures ok { OnOk result (self.new ≡ request_started self.old device request timeout) }
+        ensures err { OnErr result (self.new ≡ self.old) }
+    {
+        let deadline = self.deadline_after(timeout);
+        let endpoint = request.address();
+        self.ledger.reserve()?;
+        let key = self.ledger.open_control(endpoint)?;
+        match self
+            .kernel
+            .submit(request.into_submission(device, deadline))
+        {
+            Ok(submitted) => {
+                let entry = ticket_from(submitted);
+                self.ledger.hold(
+                    key,
+                    TransferData {
+                        endpoint,
+                        kind: TransferType::Control,
+                        held: entry.held,
+                    },
+                );
+                Ok(StartedControl {
+                    key,
+                    ticket: entry.ticket,
+                    deadline,
+                })
+            }
+            Err(_) => {
+                self.ledger.take_control_back();
+                Err(NoMemory)
+            }
+        }
+    }
+
+    /// Takes the completion of a control transfer, where it is there, and closes its endpoint.
+    pub fn poll_control(
+        &mut self,
+        key: usize,
+        pending: &mut Option<Pending<TransferData>>,
+    ) -> Option<Completion>
+        requires some { IsSome pending.old }
+        requires held { ForSome pending.old (λ t. owner_at self.old.tickets t ≡ Some key) }
+        requires key { key_at self.old.endpoints key ≡ true }
+        ensures came { ForSome pending.old (λ t.
+            result ≡ transfer_completion self.old.kernel.past t) }
+        ensures taken { IfSome result (λ _. ForSome pending.old (λ t.
+            self.new ≡ host_left (host_taken self.old t) key)) }
+        ensures spent { IfSome result (λ _. pending.new ≡ None) }
+        ensures same { IfNone result (self.new ≡ self.old) }
+        ensures waits { IfNone result (pending.new ≡ pending.old) }
+    {
+        let taken = take_completed_from_option(pending, self)?;
+        self.leave_endpoint(key);
+        let mut transfer = taken.into_inner();
+        Some(transfer.take_completion())
+    }
+}
