@@ -41,8 +41,10 @@ impl Model for TransferFuture {
 
 /// A future with the host that it is waited for on.
 pub struct OnHost<'a> {
-    future: TransferFuture,
-    host: &'a mut Host,
+    /// The future.
+    pub future: TransferFuture,
+    /// The host on which its transfer started.
+    pub host: &'a mut Host,
 }
 
 /// What a control transfer answers: the bytes that came, and none where bytes were sent.
