@@ -1,5 +1,4 @@
-use Rattle.usb_device.proofs.DroppedLaw.{dropped_where_reaped}
-use Rattle.usb_host.proofs.CloseLemmas.{future_dropped}
+use Rattle.usb_device.proofs.DroppedLaw.{dropped_where_reaped, future_dropped}
 use Rattle.usb_device.proofs.laws.what_is_reaped_is_dropped.Goals as goal
 
 pub returns : goal.returns
