@@ -1,6 +1,6 @@
 -- Descriptors that are asked of a device (USB 2.0, section 9.4.3): what the calls answer, and what
 -- they leave.
-use Rattle.std.specs.Prelude.{ℕ, ◌≡◌, ◌+◌, ◌*◌, List, Option, Result, Ok, Err, ◌⊎◌, if◌then◌else◌}
+use Rattle.std.specs.Prelude.{ℕ, ◌≡◌, ◌+◌, ◌*◌, List, Option, Some, Result, Ok, Err, ◌⊎◌, if◌then◌else◌}
 use Rattle.std.specs.Option.{option_map}
 use Rattle.usb_desc.specs.declared.control.ControlIn.{ControlIn}
 use Rattle.usb_desc.specs.declared.control.ControlType.TheVariants.{Standard}
@@ -60,9 +60,11 @@ abbrev pub languages_answered : HostState → ℕ → ControlIn → ℕ →
 languages_answered h device request timeout =
     option_map (λ r. r >>= languages_of) (descriptor_answered h device request timeout)
 
--- a call that takes memory again at its end leaves one state (`called`), and where it lacked memory
--- also another (`kept`)
-abbrev pub LeavesEither : {A E S : Type 0} → Result A (Fail E) → S → S → S → Type 0
-LeavesEither (Ok x) new called kept = new ≡ called
-LeavesEither (Err (Cause error)) new called kept = new ≡ called
-LeavesEither (Err Memory) new called kept = (new ≡ called) ⊎ (new ≡ kept)
+-- a call that takes memory again for what came leaves one state (`called`). Where it lacked memory
+-- that was for a good answer (`came`), or nothing has changed (`kept`)
+abbrev pub LeavesEither : {A B E F S : Type 0} → Result A (Fail E) → Option (Result B F) → S → S → S →
+    Type 0
+LeavesEither (Ok x) came new called kept = new ≡ called
+LeavesEither (Err (Cause error)) came new called kept = new ≡ called
+LeavesEither {A} {B} (Err Memory) came new called kept =
+    ((b : B) × (came ≡ Some (Ok b)) × (new ≡ called)) ⊎ (new ≡ kept)

@@ -99,8 +99,8 @@ impl Device {
     }
 
     /// The text of a string descriptor in a language (USB 2.0, section 9.6.7). Memory is taken for
-    /// the transfer, where nothing has changed if it is wanting, and for the text once that is
-    /// over.
+    /// the transfer, where nothing has changed if it is wanting, and for the text once a string
+    /// descriptor has come.
     ///
     /// # Errors
     ///
@@ -118,7 +118,9 @@ impl Device {
             Answers (result_map string_bytes result) (text_answered host.old o.device
             (descriptor_request 3 (non_zero_u8_get desc_index) language_id) timeout)) }
         ensures host { ForSome (value_at host.old.devices self.now) (λ o.
-            LeavesEither result host.new (descriptor_asked host.old o.device
+            LeavesEither result (text_answered host.old o.device
+            (descriptor_request 3 (non_zero_u8_get desc_index) language_id) timeout) host.new
+            (descriptor_asked host.old o.device
             (descriptor_request 3 (non_zero_u8_get desc_index) language_id) timeout) host.old) }
         ensures stands { StandsDevice host.new self.now }
     {

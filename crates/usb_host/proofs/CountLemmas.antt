@@ -75,7 +75,7 @@ given_up-count h t (Some (HeldBy hold)) = record { count = length-set h.tickets 
 given_up-count h t (Some (Abandoned key)) = count-same h
 given_up-count h t (Some (Ended end)) = count-same h
 
-abandoned-count : (h : HostState) (t : ℕ) → KeepsCount h (host_abandoned h t)
+pub abandoned-count : (h : HostState) (t : ℕ) → KeepsCount h (host_abandoned h t)
 unfolding host_abandoned
 abandoned-count h t =
     cond_both (is_some (completion h.kernel.past t)) (host_ended h t Dropped) (given_up h t (slice_get h.tickets t)) (KeepsCount h)
@@ -184,7 +184,7 @@ unfolding settled endpoint_left
 closed_if-count h k None = count-same h
 closed_if-count h k (Some e) = record { count = refl; past = refl }
 
-left-count : (h : HostState) (k : ℕ) → KeepsCount h (host_left h k)
+pub left-count : (h : HostState) (k : ℕ) → KeepsCount h (host_left h k)
 unfolding host_left
 left-count h k = closed_if-count h k (value_at h.endpoints k)
 
@@ -229,7 +229,7 @@ unfolding host_asked
 asked-count h key = asked_on-count h key (value_at h.devices key)
 
 -- a submission adds a ticket, refused or not
-submit_event-count : (past : List Event) (t : ℕ) (s : Submission) (o : Option ℕ) → length (tickets (submit_or_refuse t s o ∷ past)) ≡ length (tickets past) + 1
+pub submit_event-count : (past : List Event) (t : ℕ) (s : Submission) (o : Option ℕ) → length (tickets (submit_or_refuse t s o ∷ past)) ≡ length (tickets past) + 1
 submit_event-count past t s None = omega (arith, length-append {A = Ticket})
 submit_event-count past t s (Some errno) = omega (arith, length-append {A = Ticket})
 

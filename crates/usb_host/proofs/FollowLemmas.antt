@@ -248,7 +248,7 @@ unfolding host_asked
 on-asked h key = asked_on-on h key (value_at h.devices key)
 
 -- a submission adds a ticket, which its endpoint holds
-follows-push : (ts : List HostTicket) (x : HostTicket) (t : ℕ) (o : Option HostTicket) → slice_get ts t ≡ o → Follows o (slice_get (ts ++ x ∷ []) t)
+pub follows-push : (ts : List HostTicket) (x : HostTicket) (t : ℕ) (o : Option HostTicket) → slice_get ts t ≡ o → Follows o (slice_get (ts ++ x ∷ []) t)
 follows-push ts x t None at = tt
 follows-push ts x t (Some y) at = follows-is (Some y) (slice_get (ts ++ x ∷ []) t) (slice_get-append_left ts (x ∷ []) t (within ts t y at) ∙ at)
 
@@ -258,7 +258,7 @@ pub record Adds (old new : HostState) : Type 0 where
   pub hold : Hold
   pub last : slice_get new.tickets (length old.tickets) ≡ Some (HeldBy hold)
 
-submit_event-on : (past : List Event) (t : ℕ) (s : Submission) (o : Option ℕ) → Extends past (submit_or_refuse t s o ∷ past)
+pub submit_event-on : (past : List Event) (t : ℕ) (s : Submission) (o : Option ℕ) → Extends past (submit_or_refuse t s o ∷ past)
 submit_event-on past t s o = extends-event past (submit_or_refuse t s o)
 
 adds-submitted : (h : HostState) (to : Route) (b : BufferState) → Adds h (host_submitted h to (transfer_by to b))

@@ -40,7 +40,7 @@ without_owner-some owner t u k own =
 pub taken-held : (h : HostState) (t u k : ℕ) → owner_at (host_taken h t).tickets u ≡ Some k → (u ≢ t) × (owner_at h.tickets u ≡ Some k)
 taken-held h t u k own = without_owner-some (owner_at h.tickets) t u k (sym (ap (λ (b : BusState). b.owner u) (bus-taken h t)) ∙ own)
 
-abandoned-held : (h : HostState) (t u k : ℕ) → owner_at (host_abandoned h t).tickets u ≡ Some k → (u ≢ t) × (owner_at h.tickets u ≡ Some k)
+pub abandoned-held : (h : HostState) (t u k : ℕ) → owner_at (host_abandoned h t).tickets u ≡ Some k → (u ≢ t) × (owner_at h.tickets u ≡ Some k)
 abandoned-held h t u k own = without_owner-some (owner_at h.tickets) t u k (sym (ap (λ (b : BusState). b.owner u) (bus-abandoned h t)) ∙ own)
 
 -- an element of a list that is not its first
@@ -67,7 +67,7 @@ closed-held h e u k own =
     (holds-went h first (went-all_discarded h e.pending) u k given_up.0, given_up.1)
 
 -- a ticket that is new is held by the endpoint that submitted it
-owner-last : (ts : List HostTicket) (hold : Hold) (t k : ℕ) → owner_at (ts ++ HeldBy hold ∷ []) t ≡ Some k → ((t ≡ length ts) × (k ≡ hold.key)) ⊎ (owner_at ts t ≡ Some k)
+pub owner-last : (ts : List HostTicket) (hold : Hold) (t k : ℕ) → owner_at (ts ++ HeldBy hold ∷ []) t ≡ Some k → ((t ≡ length ts) × (k ≡ hold.key)) ⊎ (owner_at ts t ≡ Some k)
 owner-last [] hold zero k own = inl (refl, sym (same_Some hold.key k own))
 owner-last [] hold (suc t) k own = absurd (none-some k own)
 owner-last (x ∷ xs) hold zero k own = inr own

@@ -28,3 +28,5 @@ pub mod HeldLemmas
 pub mod CalledHosts
 pub mod SettingLemmas
 pub mod ControlLemmas
+pub mod StartFrames
+pub mod StartedLemmas
