@@ -4,6 +4,8 @@
 #[cfg(test)]
 mod calls;
 #[cfg(test)]
+mod controls;
+#[cfg(test)]
 mod devices;
 #[cfg(test)]
 mod fields;

@@ -74,7 +74,7 @@ fn push_strings(out: &mut String, device: &DeviceDescriptor) -> Result<(), NoMem
     push_number_part(out, u64::from(count))
 }
 
-/// Appends the answer that gives a device descriptor: `device USB CC SS PP M0 VID PID VER M P S N`. The versions, the vendor
+/// Appends the answer that gives a device descriptor: `device USB CC SS PP M0 VID PID VER M P S C`. The versions, the vendor
 /// and the product are four hexadecimal digits, the class, the subclass and the protocol two, and the other numbers decimal.
 #[tactic(auto, unfolding(crate::specs::Devices::device_line))]
 pub fn write_device(out: &mut String, device: &DeviceDescriptor) -> Result<(), NoMemory>

@@ -3,6 +3,7 @@
 
 mod calls;
 mod completions;
+mod controls;
 mod descriptors;
 mod devices;
 mod settings;
@@ -11,6 +12,9 @@ mod words;
 
 pub use calls::{write_condition, write_error, write_ok, write_result};
 pub use completions::{write_count, write_now, write_polled, write_waited};
+pub use controls::{
+    write_descriptor, write_languages, write_pending, write_received, write_sent, write_string,
+};
 pub use descriptors::{write_descriptors, write_interface};
 pub use devices::write_device;
 pub use settings::{

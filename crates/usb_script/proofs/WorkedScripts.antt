@@ -1,7 +1,10 @@
 -- Scripts worked out by the definition alone.
 use Rattle.std.proofs.Common.{◌≡◌, ◌++◌, [], ◌∷◌, codes, Some, None, Ok, Err, refl}
+use Rattle.usb_desc.specs.declared.control.ControlType.TheVariants.{Standard, Class, Vendor}
+use Rattle.usb_desc.specs.declared.control.Recipient.TheVariants as recipient
+use Rattle.usb_words.specs.declared.control.ControlTarget.TheVariants as target
 use Rattle.usb_words.specs.declared.endpoint_kind.EndpointKind.TheVariants.{BulkIn, BulkOut, InterruptIn, InterruptOut}
-use Rattle.usb_script.specs.declared.item.Item.TheVariants.{Device, Driver, Now, Open, DeviceDescriptor, Descriptors, CloneDevice, CloseDevice, ActiveConfiguration, Speed, SetConfiguration, Reset, DetachDriver, AttachDriver, Claim, DetachAndClaim, CloneInterface, CloseInterface, SetAltSetting, GetAltSetting, InterfaceDescriptor, Release, Endpoint, SubmitIn, SubmitOut, Pending, Poll, Wait, TransferIn, TransferOut, Cancel, ClearHalt, CloseEndpoint, Steps}
+use Rattle.usb_script.specs.declared.item.Item.TheVariants.{Device, Driver, Now, Open, DeviceDescriptor, Descriptors, CloneDevice, CloseDevice, ActiveConfiguration, Speed, SetConfiguration, Reset, DetachDriver, AttachDriver, Claim, DetachAndClaim, CloneInterface, CloseInterface, SetAltSetting, GetAltSetting, InterfaceDescriptor, Release, Endpoint, SubmitIn, SubmitOut, Pending, Poll, Wait, TransferIn, TransferOut, Cancel, ClearHalt, CloseEndpoint, ControlIn, ControlOut, StartControlIn, StartControlOut, PollFuture, WaitFuture, GetDescriptor, SupportedLanguages, StringDescriptor, CloseFuture, Steps}
 use Rattle.usb_script.specs.declared.error.SessionError.TheVariants.{Malformed}
 use Rattle.usb_script.specs.declared.reading.Reading.TheVariants.{Skipped, Read}
 use Rattle.usb_simulated.specs.declared.step.KernelStep.TheVariants.{Packet, Ack, Fail, Unplug, Clock, Timer, Reap, Refuse}
@@ -258,6 +261,52 @@ each_line :
     )
 unfolding script_on_literals
 each_line = refl
+
+-- each line of control transfers with its fields
+each_control_line :
+    script_of (
+    codes "ctlin d1 standard device 02 0304 0506 7 8 : reap" ++ 10 ∷ []
+    ++ codes "ctlout i9 class interface 0a 0b0c 0d0E 0f10 11 : ack k12 00 ; reap" ++ 10 ∷ []
+    ++ codes "fin f13 d14 vendor endpoint 15 1617 1819 65535 max" ++ 10 ∷ []
+    ++ codes "fout f20 i21 standard other 16 1718 191a - 22" ++ 10 ∷ []
+    ++ codes "fpoll f23" ++ 10 ∷ []
+    ++ codes "fwait f24 : timer" ++ 10 ∷ []
+    ++ codes "getdesc d25 26 27 0028 29 : reap" ++ 10 ∷ []
+    ++ codes "langs d30 31 : reap" ++ 10 ∷ []
+    ++ codes "string d32 33 0034 35 : reap" ++ 10 ∷ []
+    ++ codes "close f36" ++ 10 ∷ []
+    )
+    ≡ Ok (
+    ControlIn (target.Device 1) (record { control_type = Standard; recipient = recipient.Device; request = 2; value = 772; index = 1286 }) 7 8 (Reap None ∷ [])
+    ∷ ControlOut (target.Interface 9) (record { control_type = Class; recipient = recipient.Interface; request = 10; value = 2828; index = 3342 }) (15 ∷ 16 ∷ []) 11 (Ack 12 0 ∷ Reap None ∷ [])
+    ∷ StartControlIn 13 (target.Device 14) (record { control_type = Vendor; recipient = recipient.Endpoint; request = 21; value = 5655; index = 6169 }) 65535 18446744073709551615
+    ∷ StartControlOut 20 (target.Interface 21) (record { control_type = Standard; recipient = recipient.Other; request = 22; value = 5912; index = 6426 }) [] 22
+    ∷ PollFuture 23
+    ∷ WaitFuture 24 (Timer ∷ [])
+    ∷ GetDescriptor 25 26 27 40 29 (Reap None ∷ [])
+    ∷ SupportedLanguages 30 31 (Reap None ∷ [])
+    ∷ StringDescriptor 32 33 52 35 (Reap None ∷ [])
+    ∷ CloseFuture 36
+    ∷ []
+    )
+unfolding script_on_literals
+each_control_line = refl
+
+control_transfer_of_65536_bytes : reading_of (codes "ctlin d0 vendor device 30 0000 0000 65536 1000") ≡ None
+unfolding script_on_literals
+control_transfer_of_65536_bytes = refl
+
+string_of_index_0 : reading_of (codes "string d0 0 0409 1000") ≡ None
+unfolding script_on_literals
+string_of_index_0 = refl
+
+control_transfer_of_an_endpoint : reading_of (codes "ctlin e0 vendor device 30 0000 0000 64 1000") ≡ None
+unfolding script_on_literals
+control_transfer_of_an_endpoint = refl
+
+start_with_steps : reading_of (codes "fin f0 d0 vendor device 30 0000 0000 64 1000 : reap") ≡ None
+unfolding script_on_literals
+start_with_steps = refl
 
 -- each step with its fields
 each_step : reading_of (codes "! pkt k18 93 1415 ; ack k16 17 ; fail k19 20 21 ; unplug k22 ; clock 23 ; timer ; reap 24 ; reap ; refuse k25 submit 26")

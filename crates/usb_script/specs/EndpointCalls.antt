@@ -6,7 +6,7 @@ use Rattle.usb_script.specs.declared.item.Item.TheVariants.{SubmitIn, SubmitOut,
 use Rattle.usb_words.specs.Words.{number_of, name_of, bytes_of}
 use Rattle.usb_words.specs.Fields.{Word, one, two}
 use Rattle.usb_words.specs.Letters.{endpoint_letter}
-use Rattle.usb_script.specs.TreeLines.{tree_line_of}
+use Rattle.usb_script.specs.ControlLines.{control_call_of}
 
 -- `submitin e N`, `submitout e BYTES`, `pending e`, `poll e`, `cancel e`, `halt e`
 unfoldable pub endpoint_call_of : Word → List Word → Option Item
@@ -17,4 +17,4 @@ endpoint_call_of name words =
     else if bytes_eq name (codes "poll") then one Poll (name_of endpoint_letter) words
     else if bytes_eq name (codes "cancel") then one Cancel (name_of endpoint_letter) words
     else if bytes_eq name (codes "halt") then one ClearHalt (name_of endpoint_letter) words
-    else tree_line_of name words
+    else control_call_of name words

@@ -2,7 +2,7 @@
 use Rattle.std.specs.Prelude.{ℕ, Bool, true, false, not, ◌&&◌, List, length}
 use Rattle.std.specs.List.{sum_by}
 use Rattle.usb_script.specs.declared.item.Item.{Item}
-use Rattle.usb_script.specs.declared.item.Item.TheVariants.{Device, Driver, Attribute, Denied, Child, Link, Entry, Root, Uevent, Reset, Wait, TransferIn, TransferOut, Steps}
+use Rattle.usb_script.specs.declared.item.Item.TheVariants.{Device, Driver, Attribute, Denied, Child, Link, Entry, Root, Uevent, Reset, Wait, TransferIn, TransferOut, ControlIn, ControlOut, WaitFuture, GetDescriptor, SupportedLanguages, StringDescriptor, Steps}
 use Rattle.usb_script.specs.declared.reading.Reading.{Reading}
 use Rattle.usb_script.specs.declared.reading.Reading.TheVariants.{Skipped, Read}
 
@@ -34,6 +34,12 @@ places_in (Reset device) = 1
 places_in (Wait endpoint timeout steps) = length steps
 places_in (TransferIn endpoint wanted timeout steps) = length steps
 places_in (TransferOut endpoint bytes timeout steps) = length steps
+places_in (ControlIn target setup wanted timeout steps) = length steps
+places_in (ControlOut target setup bytes timeout steps) = length steps
+places_in (WaitFuture future steps) = length steps
+places_in (GetDescriptor device kind index language timeout steps) = length steps
+places_in (SupportedLanguages device timeout steps) = length steps
+places_in (StringDescriptor device index language timeout steps) = length steps
 places_in (Steps steps) = length steps
 places_in item = 0
 

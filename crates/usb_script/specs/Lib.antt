@@ -1,4 +1,5 @@
 pub mod Calls
+pub mod ControlLines
 pub mod EndpointCalls
 pub mod ErrorText
 pub mod ItemKinds
@@ -10,3 +11,4 @@ pub mod ScriptFacts
 pub mod Taken
 pub mod TreeLines
 pub mod Waits
+pub mod WithSteps

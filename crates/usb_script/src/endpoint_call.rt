@@ -6,8 +6,8 @@ ghost use Rattle.usb_words.specs.Outcome.{Gives};
 ghost use Rattle.usb_script.specs.EndpointCalls.{endpoint_call_of};
 ghost use Rattle.usb_script.specs.ItemKinds.{places_in};
 
+use crate::control_call::control_call;
 use crate::item::Item;
-use crate::tree_line::tree_line;
 use std::alloc::Global;
 use usb_words::{Data, Length, LineError, Name, one_word, reads, two_words};
 
@@ -43,6 +43,6 @@ pub fn endpoint_call(alloc: Global, name: &[u8], words: &[&[u8]]) -> Result<Item
         let endpoint = Name::parse(b'e', one_word(words)?)?;
         Ok(Item::ClearHalt { endpoint })
     } else {
-        tree_line(alloc, name, words)
+        control_call(alloc, name, words)
     }
 }

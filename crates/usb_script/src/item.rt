@@ -6,7 +6,8 @@ ghost use Rattle.usb_script.specs.ItemKinds.{is_setup, is_call, places_in};
 use usb_kernel::Bytes;
 use usb_steps::Steps;
 use usb_words::{
-    Data, EndpointKind, Errno, FileName, Length, Name, Path, Selector, Target, Timeout,
+    ControlData, ControlTarget, Data, EndpointKind, Errno, FileName, Length, Name, Path, Selector,
+    Setup, StringIndex, Target, Timeout,
 };
 
 /// A line of a script: its form, and its words as fields. A contract sees numbers and lists of them.
@@ -245,6 +246,84 @@ pub enum Item {
     CloseEndpoint {
         endpoint: Name,
     },
+    /// `ctlin X CTL N TIME : STEP ; ..`: makes a control transfer that wants this many bytes, and
+    /// waits for it. USB 2.0, section 9.3.
+    ControlIn {
+        target: ControlTarget,
+        setup: Setup,
+        length: u16,
+        timeout: Timeout,
+        /// What happens while it waits.
+        steps: Steps,
+    },
+    /// `ctlout X CTL BYTES TIME : STEP ; ..`: makes a control transfer of these bytes, and waits
+    /// for it. USB 2.0, section 9.3.
+    ControlOut {
+        target: ControlTarget,
+        setup: Setup,
+        bytes: ControlData,
+        timeout: Timeout,
+        /// What happens while it waits.
+        steps: Steps,
+    },
+    /// `fin f X CTL N TIME`: starts a control transfer that wants this many bytes.
+    StartControlIn {
+        future: Name,
+        target: ControlTarget,
+        setup: Setup,
+        length: u16,
+        timeout: Timeout,
+    },
+    /// `fout f X CTL BYTES TIME`: starts a control transfer of these bytes.
+    StartControlOut {
+        future: Name,
+        target: ControlTarget,
+        setup: Setup,
+        bytes: ControlData,
+        timeout: Timeout,
+    },
+    /// `fpoll f`: asks for the end of a control transfer on its way.
+    PollFuture {
+        future: Name,
+    },
+    /// `fwait f : STEP ; ..`: waits for the end of a control transfer on its way.
+    WaitFuture {
+        future: Name,
+        /// What happens while it waits.
+        steps: Steps,
+    },
+    /// `getdesc d B B HHHH TIME : STEP ; ..`: asks the device for a descriptor. USB 2.0,
+    /// section 9.4.3.
+    GetDescriptor {
+        device: Name,
+        descriptor_type: u8,
+        index: u8,
+        language: u16,
+        timeout: Timeout,
+        /// What happens while it waits.
+        steps: Steps,
+    },
+    /// `langs d TIME : STEP ; ..`: asks the device for the languages of its strings. USB 2.0,
+    /// section 9.6.7.
+    SupportedLanguages {
+        device: Name,
+        timeout: Timeout,
+        /// What happens while it waits.
+        steps: Steps,
+    },
+    /// `string d B HHHH TIME : STEP ; ..`: asks the device for a string. USB 2.0, section 9.6.7.
+    StringDescriptor {
+        device: Name,
+        index: StringIndex,
+        language: u16,
+        timeout: Timeout,
+        /// What happens while it waits.
+        steps: Steps,
+    },
+    /// `close f`: gives up a control transfer on its way.
+    CloseFuture {
+        future: Name,
+    },
     /// `! STEP ; ..`: steps of the simulation.
     Steps(Steps),
 }
@@ -284,6 +363,12 @@ impl Item {
             Item::Wait { steps, .. }
             | Item::TransferIn { steps, .. }
             | Item::TransferOut { steps, .. }
+            | Item::ControlIn { steps, .. }
+            | Item::ControlOut { steps, .. }
+            | Item::WaitFuture { steps, .. }
+            | Item::GetDescriptor { steps, .. }
+            | Item::SupportedLanguages { steps, .. }
+            | Item::StringDescriptor { steps, .. }
             | Item::Steps(steps) => steps.as_slice().len(),
             Item::Reset { .. } => 1,
             _ => 0,

@@ -2,6 +2,7 @@
 #![tactic(auto)]
 
 mod call;
+mod control_call;
 mod endpoint_call;
 mod error;
 mod item;
@@ -17,6 +18,6 @@ pub use item::Item;
 pub use script::{MAX_SCRIPT, Script, parse_script};
 pub use usb_steps::Steps;
 pub use usb_words::{
-    Criterion, Data, EndpointKind, Errno, FileName, Length, Name, Path, Selector, Target, Timeout,
-    number_between,
+    ControlData, ControlTarget, Criterion, Data, EndpointKind, Errno, FileName, Length, Name, Path,
+    Selector, Setup, StringIndex, Target, Timeout, number_between,
 };

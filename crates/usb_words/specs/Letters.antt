@@ -16,3 +16,7 @@ interface_letter = 105
 -- e: an open endpoint
 abbrev pub endpoint_letter : ℕ
 endpoint_letter = 101
+
+-- f: a control transfer on its way
+abbrev pub future_letter : ℕ
+future_letter = 102

@@ -1,3 +1,4 @@
+pub mod Controls
 pub mod EndpointKinds
 pub mod Fields
 pub mod Letters

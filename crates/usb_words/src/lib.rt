@@ -1,6 +1,7 @@
 //! The words of a script, and what each of them spells.
 #![tactic(auto)]
 
+mod control;
 mod endpoint_kind;
 mod error_number;
 mod fields;
@@ -10,9 +11,11 @@ mod line_error;
 mod name;
 mod places;
 mod selector;
+mod string_index;
 mod timeout;
 mod words;
 
+pub use control::{ControlTarget, Setup, data_length, setup_and_more};
 pub use endpoint_kind::EndpointKind;
 pub use error_number::Errno;
 pub use fields::{
@@ -20,11 +23,12 @@ pub use fields::{
     two_and_more, two_words,
 };
 pub use length::Length;
-pub use line_bytes::Data;
+pub use line_bytes::{ControlData, Data};
 pub use line_error::LineError;
 pub use name::Name;
 pub use places::{FileName, Path, Target, value};
 pub use selector::{Criterion, Selector};
+pub use string_index::StringIndex;
 pub use timeout::Timeout;
 pub use words::{
     MAX_TIME, byte, call, errno, hex_byte, hex_word, number, number_between, reads, skip_spaces,

@@ -1,6 +1,7 @@
 //! The bytes of a line.
 
 ghost use Rattle.std.specs.Prelude.{◌≡◌, ◌≤◌, length};
+ghost use Rattle.usb_words.specs.Controls.{control_bytes_of};
 ghost use Rattle.usb_words.specs.Words.{at_most_bytes, bytes_of};
 ghost use Rattle.usb_words.specs.Outcome.{Gives};
 
@@ -12,6 +13,9 @@ use usb_kernel::Bytes;
 
 /// The most bytes that one word gives.
 const MAX_BYTES: usize = 65536;
+
+/// The most bytes of a data stage. USB 2.0, table 9-2, `wLength`.
+const MAX_CONTROL_BYTES: usize = 65535;
 
 /// The bytes of a transfer, or the descriptors of a device: at most 65536 bytes. A contract sees
 /// the list of them.
@@ -74,5 +78,44 @@ impl Data {
             Err(hex::FromHexError::OutOfMemory) => Err(LineError::Memory),
             Err(_) => Err(LineError::Malformed),
         }
+    }
+}
+
+/// The bytes of a control transfer's data stage: at most 65535 bytes. A contract sees the list of
+/// them.
+#[derive(Drop)]
+pub struct ControlData {
+    bytes: Bytes,
+}
+
+impl Model for ControlData {
+    ghost use Rattle.std.specs.Prelude.{ℕ, ◌≤◌, List, length};
+
+    ghost Value = { List ℕ };
+
+    ghost view = { λ held. held.bytes };
+
+    ghost invariant = { λ held. length held.bytes ≤ 65535 };
+}
+
+impl ControlData {
+    /// The bytes.
+    pub fn as_slice(&self) -> &[u8]
+        ensures value { result.now ≡ self.now }
+        ensures few { length result.now ≤ 65535 }
+    {
+        self.bytes.as_slice()
+    }
+
+    /// The bytes of a word of hexadecimal digits, or of a dash.
+    #[tactic(auto, unfolding(crate::specs::Controls::control_bytes_of))]
+    pub fn parse(alloc: Global, word: &[u8]) -> Result<ControlData, LineError>
+        ensures value { Gives (λ held. held) result (control_bytes_of word.now) }
+    {
+        let bytes = Data::parse(alloc, word)?.into_bytes();
+        if bytes.as_slice().len() > MAX_CONTROL_BYTES {
+            return Err(LineError::Malformed);
+        }
+        Ok(ControlData { bytes })
     }
 }

@@ -1,0 +1,32 @@
+-- Words with the steps of a call behind them.
+use Rattle.std.specs.Prelude.{List, Option, Some}
+use Rattle.usb_simulated.specs.declared.step.KernelStep.{KernelStep}
+use Rattle.usb_script.specs.declared.item.Item.{Item}
+use Rattle.usb_words.specs.Words.{◌>>=◌}
+use Rattle.usb_words.specs.Fields.{Word, one_and_more, two_and_more, three_and_more}
+use Rattle.usb_steps.specs.KernelSteps.{own_steps_of}
+
+-- one word, two or three, each with its own reading, and then the steps of the call, if there are any
+abbrev pub one_with_steps : {A : Type 0} → (A → List KernelStep → Item) → (Word → Option A) → List Word → Option Item
+one_with_steps make first words = do
+  w ← one_and_more words
+  a ← first w.0
+  steps ← own_steps_of w.1
+  Some (make a steps)
+
+abbrev pub two_with_steps : {A B : Type 0} → (A → B → List KernelStep → Item) → (Word → Option A) → (Word → Option B) → List Word → Option Item
+two_with_steps make first second words = do
+  w ← two_and_more words
+  a ← first w.0
+  b ← second w.1
+  steps ← own_steps_of w.2
+  Some (make a b steps)
+
+abbrev pub three_with_steps : {A B C : Type 0} → (A → B → C → List KernelStep → Item) → (Word → Option A) → (Word → Option B) → (Word → Option C) → List Word → Option Item
+three_with_steps make first second third words = do
+  w ← three_and_more words
+  a ← first w.0
+  b ← second w.1
+  c ← third w.2
+  steps ← own_steps_of w.3
+  Some (make a b c steps)
