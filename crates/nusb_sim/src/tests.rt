@@ -1,5 +1,6 @@
 //! Whole scripts: what the program writes, its status and its line on standard error.
 
+mod controls;
 mod descriptors;
 mod devices;
 mod endpoints;

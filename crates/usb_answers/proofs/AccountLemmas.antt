@@ -1,32 +1,35 @@
--- What endpoints hold stays accounted for over each answer.
-use Rattle.std.proofs.Common.{◌≡◌, ◌≢◌, ℕ, ◌≤◌, ◌+◌, suc, zero, arith, List, [], ◌∷◌, ◌++◌, length, drop, Option, Some, None, true, refl, ap, sym, ◌∙◌, subst, slice_get, inl, inr}
-use Rattle.std.specs.Prelude.{option_and_then}
+-- What endpoints and futures hold stays accounted for over each answer.
+use Rattle.std.proofs.Common.{◌≡◌, ◌≢◌, ℕ, ◌≤◌, ◌+◌, suc, zero, arith, List, [], ◌∷◌, ◌++◌, length, drop, Option, Some, None, true, refl, ap, sym, ◌∙◌, subst, slice_get, inl, inr, ◌⊎◌}
 use Rattle.std.specs.List.{Contains}
 use Rattle.std.specs.Option.{option_map}
 use Rattle.std.proofs.lemmas.Bool.{cases_eq}
 use Rattle.std.proofs.lemmas.List.Elements.{Contains-append_left, Contains-push}
-use Rattle.std.proofs.lemmas.Option.{none-some, same_Some, slice_get_past}
+use Rattle.std.proofs.lemmas.Option.{none-some, same_Some}
 use Rattle.usb_xfer.specs.BufferState.{BufferState}
-use Rattle.usb_ledger.specs.Entries.{HostTicket, HeldBy, Abandoned, Ended}
+use Rattle.usb_host.specs.declared.controls.ControlRequest.{ControlRequest}
 use Rattle.usb_host.specs.HostState.{HostState}
-use Rattle.usb_host.specs.HostBus.{held_as, owner_at}
-use Rattle.usb_host.proofs.CountLemmas.{KeepsCount, taken-count, closed-count, entered-count}
-use Rattle.usb_host.proofs.FollowLemmas.{Follows, KeepsTickets}
-use Rattle.usb_host.proofs.HeldLemmas.{HoldsNoMore, taken-held, Contains-behind, closed-held, entered-held}
+use Rattle.usb_host.specs.HostBus.{owner_at}
+use Rattle.usb_host.specs.Controls.{control_submission}
+use Rattle.usb_host.proofs.CountLemmas.{CountsOneMore, taken-count, closed-count, entered-count}
+use Rattle.usb_host.proofs.HeldLemmas.{taken-held, Contains-behind, closed-held, entered-held}
+use Rattle.usb_host.proofs.StartedLemmas.{Parts, AddsTaken, started-count, started-owner, holds-follows}
+use Rattle.usb_device.specs.Futures.{FutureState, fresh_future}
 use Rattle.usb_answers.specs.Names.{named, is_free, change_named, freed, set_name}
-use Rattle.usb_answers.specs.State.{State, Endpoint, kept, pending, tickets_of}
+use Rattle.usb_answers.specs.State.{State, Endpoint, kept, pending, tickets_of, with_host}
 use Rattle.usb_answers.specs.Answer.{Answer}
 use Rattle.usb_answers.specs.Submits.{submitted, with_submission}
 use Rattle.usb_answers.specs.Polls.{one_taken, taken_from}
 use Rattle.usb_answers.specs.Closes.{without_endpoint}
-use Rattle.usb_answers.specs.Ends.{endpoints_closed, all_closed}
+use Rattle.usb_answers.specs.Futures.{with_future}
+use Rattle.usb_answers.specs.Ends.{endpoints_closed, futures_closed, all_closed}
 use Rattle.usb_answers.specs.Output.{start}
-use Rattle.usb_answers.specs.Accounts.{Covered, Accounted, StartIsAccounted, AnswerKeepsAccounts, CloseKeepsAccounts}
+use Rattle.usb_answers.specs.Accounts.{Covered, IsAwaited, Accounted, StartIsAccounted, AnswerKeepsAccounts, CloseKeepsAccounts}
 use Rattle.usb_answers.specs.Served.{ClosedEndpoint}
-use Rattle.usb_answers.proofs.NameLemmas.{named_of, free_place, named-change_same, named-change_other, named-freed_other, named-set_other}
-use Rattle.usb_answers.proofs.Does.{Quiet, Acts, goes, opens, submits, ends, takes, closes}
+use Rattle.usb_answers.proofs.NameLemmas.{named_of, free_place, named-change_same, named-change_other, named-freed_other, named-set, named-set_other}
+use Rattle.usb_answers.proofs.Does.{Quiet, Acts, without_future_of, goes, opens, submits, starts, controls, frees, ends, takes, closes}
 use Rattle.usb_answers.proofs.DeviceLines.{handles-quiet}
 use Rattle.usb_answers.proofs.EndpointLines.{closed-does}
+use Rattle.usb_answers.proofs.ControlLines.{future_closed_under-does}
 use Rattle.usb_answers.proofs.EveryLine.{answer-does}
 
 -- the start
@@ -34,31 +37,20 @@ pub accounted-start : StartIsAccounted
 unfolding start
 accounted-start items = record { held = λ t key own. absurd (none-some key own); count = refl }
 
--- while a host goes on, whoever holds a ticket held it before
-abbrev owner_of : Option HostTicket → Option ℕ
-owner_of o = option_map (λ hold. hold.key) (option_and_then held_as o)
+-- a ticket is pending at an endpoint that is open under a name, or that of a future
+abbrev Has : State → ℕ → ℕ → Type 0
+Has state t key = Covered state.endpoints t key ⊎ IsAwaited state.futures t key
 
-held-before : (o p : Option HostTicket) (k : ℕ) → Follows o p → (o ≡ None → p ≡ None) → owner_of p ≡ Some k → owner_of o ≡ Some k
-held-before None p k follows none own = absurd (none-some k (sym (ap owner_of (none refl)) ∙ own))
-held-before (Some (HeldBy hold)) p k follows none own = sym (ap owner_of follows) ∙ own
-held-before (Some (Ended end)) p k follows none own = absurd (none-some k (sym (ap owner_of follows) ∙ own))
-held-before (Some (Abandoned key)) p k follows none own =
-    elim follows [ inl still ↦ absurd (none-some k (sym (ap owner_of still) ∙ own)) | inr gone ↦ absurd (none-some k (sym (ap owner_of gone) ∙ own)) ]
-
-none-beyond : {X : Type 0} (xs : List X) (t : ℕ) → slice_get xs t ≡ None → length xs ≤ t
-none-beyond [] t none = omega arith
-none-beyond (x ∷ xs) zero none = absurd (none-some x (sym none))
-none-beyond (x ∷ xs) (suc t) none = let IH = none-beyond xs t none in omega arith
-
-holds-quiet : (old new : HostState) → KeepsTickets old new → KeepsCount old new → HoldsNoMore old new
-holds-quiet old new keeps count t k own =
-    held-before (slice_get old.tickets t) (slice_get new.tickets t) k (keeps.tickets t)
-    (λ none. let beyond = none-beyond old.tickets t none in slice_get_past new.tickets t (omega (arith, count.count))) own
+either : {A B C D : Type 0} → (A → C) → (B → D) → A ⊎ B → C ⊎ D
+either f g (inl a) = inl (f a)
+either f g (inr b) = inr (g b)
 
 accounted-quiet : {state next : State} → Quiet state next → Accounted state → Accounted next
 accounted-quiet {state} {next} quiet a =
     record {
-      held = λ t key own. subst (λ l. Covered l t key) (sym quiet.endpoints) (a.held t key (holds-quiet state.host next.host quiet.keeps quiet.count t key own));
+      held = λ t key own.
+          either (subst (λ l. Covered l t key) (sym quiet.endpoints)) (subst (λ l. IsAwaited l t key) (sym quiet.futures))
+          (a.held t key (holds-follows state.host next.host quiet.keeps quiet.count t key own));
       count = quiet.count.count ∙ a.count ∙ sym quiet.count.past;
     }
 
@@ -71,7 +63,7 @@ covered-set endpoints e x t key free c =
     ]
 
 accounted-open : (state : State) (e : ℕ) (x : Endpoint) → is_free state.endpoints e ≡ true → Accounted state → Accounted (record state { endpoints = set_name state.endpoints e x })
-accounted-open state e x free a = record { held = λ t key own. covered-set state.endpoints e x t key free (a.held t key own); count = a.count }
+accounted-open state e x free a = record { held = λ t key own. either (covered-set state.endpoints e x t key free) (λ w. w) (a.held t key own); count = a.count }
 
 -- an endpoint was called, and has the ticket still
 covered-entry : {endpoints : List (Option Endpoint)} {t key : ℕ} (c : Covered endpoints t key) (e : ℕ) (h : Endpoint) → named endpoints e ≡ Some h → c.name ≡ e → c.entry ≡ h
@@ -111,14 +103,14 @@ accounted-submit state e b h here few a =
     record {
       held = λ t key own.
           elim (entered-held state.host (kept h) b t key own) [
-            | inl new ↦ record {
+            | inl new ↦ inl record {
               name = e;
               entry = with_submission n h;
               at = named-change_same (with_submission n) state.endpoints e ∙ ap (option_map (with_submission n)) here;
               key_is = sym new.1;
               in_pending = subst (λ (u : ℕ). Contains (drop h.taken (h.tickets ++ n ∷ [])) u) (sym (new.0 ∙ a.count)) (pushed-new h.taken h.tickets n few);
             }
-            | inr old ↦ covered-change state.endpoints (with_submission n) e h t key here refl (pushed-old h.taken h.tickets n t few) (a.held t key old)
+            | inr old ↦ either (covered-change state.endpoints (with_submission n) e h t key here refl (pushed-old h.taken h.tickets n t few)) (λ w. w) (a.held t key old)
           ];
       count = one.count ∙ ap (λ m. m + 1) a.count ∙ sym one.past;
     }
@@ -139,7 +131,7 @@ accounted-take state e t h here front a =
     record {
       held = λ u key own.
           let was = taken-held state.host t u key own in
-          covered-change state.endpoints one_taken e h u key here refl (one_taken-stays h t u front was.0) (a.held u key was.1);
+          either (covered-change state.endpoints one_taken e h u key here refl (one_taken-stays h t u front was.0)) (λ w. w) (a.held u key was.1);
       count = keeps.count ∙ a.count ∙ sym keeps.past;
     }
 
@@ -157,15 +149,73 @@ accounted-close state e h here a =
     record {
       held = λ t key own.
           let was = closed-held state.host (kept h) t key own in
-          covered-freed state.endpoints e h t key here was.1 (a.held t key was.0);
+          either (covered-freed state.endpoints e h t key here was.1) (λ w. w) (a.held t key was.0);
       count = keeps.count ∙ a.count ∙ sym keeps.past;
     }
 
+-- a control transfer is handed in, and its future is open under a name that was free
+awaited-set : (futures : List (Option FutureState)) (n : ℕ) (x : FutureState) (t key : ℕ) → is_free futures n ≡ true → IsAwaited futures t key → IsAwaited (set_name futures n x) t key
+awaited-set futures n x t key free w =
+    elim (cases_eq w.name n) [
+      | inl same ↦ absurd (none-some w.future (sym (named_of futures n None (free_place futures n free)) ∙ ap (named futures) (sym same) ∙ w.at))
+      | inr apart ↦ record { name = w.name; future = w.future; at = named-set_other futures n w.name x apart ∙ w.at; key_is = w.key_is; ticket_is = w.ticket_is }
+    ]
+
+accounted-start_future : (state : State) (n : ℕ) (request : ControlRequest) (timeout device : ℕ) → is_free state.futures n ≡ true → Accounted state → Accounted (with_future state n request timeout device)
+accounted-start_future state n request timeout device free a =
+    let s = control_submission state.host device request timeout in
+    let x = fresh_future state.host request timeout in
+    let one = started-count state.host s in
+    record {
+      held = λ t key own.
+          elim (started-owner state.host s t key own) [
+            | inl new ↦ inr record {
+              name = n;
+              future = x;
+              at = named-set state.futures n x free;
+              key_is = sym new.1;
+              ticket_is = ap (λ u. Some u) (sym (new.0 ∙ a.count));
+            }
+            | inr old ↦ either (λ c. c) (awaited-set state.futures n x t key free) (a.held t key old)
+          ];
+      count = one.count ∙ ap (λ m. m + 1) a.count ∙ sym one.past;
+    }
+
+-- it is awaited, and its ticket taken at once
+accounted-control : (state : State) (host : HostState) → CountsOneMore state.host host → AddsTaken state.host host → Accounted state → Accounted (with_host state host)
+accounted-control state host one adds a =
+    record {
+      held = λ t key own. a.held t key (adds.held t key own);
+      count = one.count ∙ ap (λ m. m + 1) a.count ∙ sym one.past;
+    }
+
+-- the host parts with the ticket of a future, whose name is free then
+awaited-freed : (futures : List (Option FutureState)) (n : ℕ) (f : FutureState) (t key : ℕ) → named futures n ≡ Some f → f.ticket ≢ Some t → IsAwaited futures t key → IsAwaited (freed futures n) t key
+awaited-freed futures n f t key here apart_ w =
+    elim (cases_eq w.name n) [
+      | inl same ↦
+          let entry : w.future ≡ f = same_Some w.future f (sym w.at ∙ ap (named futures) same ∙ here) in
+          absurd (apart_ (ap (λ (x : FutureState). x.ticket) (sym entry) ∙ w.ticket_is))
+      | inr apart ↦ record { name = w.name; future = w.future; at = named-freed_other futures n w.name apart ∙ w.at; key_is = w.key_is; ticket_is = w.ticket_is }
+    ]
+
+accounted-free : (state : State) (n : ℕ) (f : FutureState) (host : HostState) → named state.futures n ≡ Some f → Parts state.host host f.ticket → Accounted state → Accounted (without_future_of state host n)
+accounted-free state n f host here parts a =
+    record {
+      held = λ t key own.
+          let was = parts.held t key own in
+          either (λ c. c) (awaited-freed state.futures n f t key here was.0) (a.held t key was.1);
+      count = parts.count.count ∙ a.count ∙ sym parts.count.past;
+    }
+
 -- so over each answer
-acts-accounted : {few : Type 0} {a : Answer} {state : State} {closed : List ClosedEndpoint} → few → Acts few a state closed → Accounted state → Accounted a.state
+acts-accounted : {few : Type 0} {a : Answer} {state : State} {closed : List ClosedEndpoint} {handed : List ℕ} → few → Acts few a state closed handed → Accounted state → Accounted a.state
 acts-accounted few (goes quiet rest) acc = acts-accounted few rest (accounted-quiet quiet acc)
 acts-accounted {state} few (opens e x free none zero_ rest) acc = acts-accounted few rest (accounted-open state e x free acc)
 acts-accounted {state} few (submits e b h here within rest) acc = acts-accounted few rest (accounted-submit state e b h here (within few) acc)
+acts-accounted {state} few (starts n request timeout device free rest) acc = acts-accounted few rest (accounted-start_future state n request timeout device free acc)
+acts-accounted {state} few (controls host one adds rest) acc = acts-accounted few rest (accounted-control state host one (adds acc.count) acc)
+acts-accounted {state} few (frees n f host here parts rest) acc = acts-accounted few rest (accounted-free state n f host here parts acc)
 acts-accounted few (ends other quiet) acc = accounted-quiet quiet acc
 acts-accounted {state} few (takes e t h c here front came line quiet) acc = accounted-quiet quiet (accounted-take state e t h here (front few) acc)
 acts-accounted {state} few (closes e h lines here other quiet) acc = accounted-quiet quiet (accounted-close state e h here acc)
@@ -178,14 +228,23 @@ accounted-endpoints : (state : State) (n : ℕ) → Accounted state → Accounte
 accounted-endpoints state zero a = a
 accounted-endpoints state (suc n) a = acts-accounted {few = Unit {0}} tt (closed-does (endpoints_closed state n) n (λ e. [])) (accounted-endpoints state n a)
 
+accounted-futures : (state : State) (n : ℕ) → Accounted state → Accounted (futures_closed state n)
+accounted-futures state zero a = a
+accounted-futures state (suc n) a = acts-accounted {few = Unit {0}} tt (future_closed_under-does (futures_closed state n) n) (accounted-futures state n a)
+
 pub accounted-all_closed : CloseKeepsAccounts
 unfolding all_closed
-accounted-all_closed state a = accounted-quiet (handles-quiet (endpoints_closed state 64)) (accounted-endpoints state 64 a)
+accounted-all_closed state a =
+    let mid = endpoints_closed state 64 in accounted-quiet (handles-quiet (futures_closed mid 64)) (accounted-futures mid 64 (accounted-endpoints state 64 a))
 
--- where no name is open no endpoint holds a ticket
-pub accounted-none : (state : State) → Accounted state → ((e : ℕ) → named state.endpoints e ≡ None) → (t : ℕ) → owner_at state.host.tickets t ≡ None
-accounted-none state a none t = by (owner_at state.host.tickets t) refl
+-- where no name is open no ticket is held
+pub accounted-none : (state : State) → Accounted state → ((e : ℕ) → named state.endpoints e ≡ None) → ((n : ℕ) → named state.futures n ≡ None) → (t : ℕ) → owner_at state.host.tickets t ≡ None
+accounted-none state a none gone t = by (owner_at state.host.tickets t) refl
   where
+    nobody : (key : ℕ) → Has state t key → ⊥
+    nobody key (inl c) = none-some c.entry (sym (none c.name) ∙ c.at)
+    nobody key (inr w) = none-some w.future (sym (gone w.name) ∙ w.at)
+
     by : (o : Option ℕ) → owner_at state.host.tickets t ≡ o → owner_at state.host.tickets t ≡ None
     by None is = is
-    by (Some key) is = let c = a.held t key is in absurd (none-some c.entry (sym (none c.name) ∙ c.at))
+    by (Some key) is = absurd (nobody key (a.held t key is))

@@ -8,9 +8,11 @@ use Rattle.usb_endpoint.specs.AnyEndpoints.{state_of}
 use Rattle.usb_endpoint.specs.EndpointState.{EndpointState}
 use Rattle.usb_endpoint.specs.Handles.{Stands, KeepsOthers}
 use Rattle.usb_endpoint.proofs.Frames.{Stands-other}
+use Rattle.usb_kernel.specs.Extends.{Extends}
 use Rattle.usb_host.specs.HostState.{HostState}
 use Rattle.usb_host.specs.HostBus.{bus_of, key_at}
 use Rattle.usb_host.specs.HostFrames.{ClaimsGoOn}
+use Rattle.usb_device.specs.Futures.{FutureState, StandsFuture}
 use Rattle.usb_ledger.proofs.DeviceLemmas.{KeepsCounts, counts-there, opened-counts}
 use Rattle.usb_device.proofs.DeviceLemmas.{counts-stands}
 use Rattle.usb_device.proofs.HeldDevices.{held-goes}
@@ -23,11 +25,13 @@ use Rattle.usb_answers.proofs.Answering.{named_kept}
 use Rattle.usb_answers.proofs.CountedNames.{counted-goes}
 use Rattle.usb_answers.proofs.CountedDevices.{devices-kept}
 use Rattle.usb_answers.proofs.NamedKeys.{OpensNone, named-goes, named-put, named-closed}
+use Rattle.usb_answers.proofs.FutureLemmas.{control_with, future-goes}
 use Rattle.usb_answers.proofs.NameLemmas.{named-map, named-set, named-set_other, named-freed, named-freed_other, freed-free, length-freed, length-set_name, map-freed, map-set, map-change_named, put-changed, named-change_same, named-change_other}
 
 -- what is kept between lines
 pub record KeepsSession (old new : HostState) : Type 0 where
   pub idle : new.steps ≡ []
+  pub past : Extends old.kernel.past new.kernel.past
   pub devices : KeepsCounts old.devices new.devices
   pub interfaces : ClaimsGoOn old.interfaces new.interfaces
 
@@ -67,6 +71,11 @@ differ-put s after e x y sound was put key c d g h isg ish apart =
       ]
     ]
 
+-- futures stand over a call on an endpoint
+futures-other : (s : SessionState) (now : HostState) (e : ℕ) (x : EndpointState) → IsSound s → named s.endpoints e ≡ Some x → KeepsSession s.host now → KeepsOthers (bus_of s.host) (bus_of now) x.key → (n : ℕ) (f : FutureState) → named s.futures n ≡ Some f → StandsFuture now f
+futures-other s now e x sound was keeps others n f is =
+    future-goes s.host now f (λ t. Stands-other (bus_of s.host) (bus_of now) x.key (control_with f.key t) others (λ same. sound.futures_apart e n x f was is (sym same))) keeps.past (sound.futures_stand n f is)
+
 -- an endpoint was called and put back
 pub sound-put : (s : SessionState) (now : HostState) (after : List (Option EndpointState)) (e : ℕ) (x y : EndpointState) → IsSound s → named s.endpoints e ≡ Some x → after ≡ set_name (freed s.endpoints e) e y → KeepsSession s.host now → Stands (bus_of now) y → y.key ≡ x.key → KeepsOthers (bus_of s.host) (bus_of now) x.key → OpensNone s.host.endpoints now.endpoints → IsSound (record s { host = now; endpoints = after })
 sound-put s now after e x y sound was put keeps stands key others none =
@@ -82,7 +91,15 @@ sound-put s now after e x y sound was put keeps stands key others none =
       interfaces_counted = counted-goes s.host.interfaces now.interfaces s.interfaces keeps.interfaces sound.interfaces_counted;
       endpoints_stand = stands-put s now after e x y sound was put stands others;
       endpoints_differ = differ-put s after e x y sound was put key;
-      endpoints_named = named-put s.host.endpoints now.endpoints s.endpoints after e x y none was put key sound.endpoints_named;
+      keys_named = named-put s.host.endpoints now.endpoints s.endpoints after s.futures e x y none was put key sound.keys_named;
+      future_names = sound.future_names;
+      futures_wait = sound.futures_wait;
+      futures_stand = futures-other s now e x sound was keeps others;
+      futures_differ = sound.futures_differ;
+      futures_apart = λ d n h f ish isf. elim (names-put s.endpoints after e d x y h was put ish) [
+        | inl here ↦ λ same. sound.futures_apart e n x f was isf (sym key ∙ sym (ap (λ (z : EndpointState). z.key) here.1) ∙ same)
+        | inr there ↦ sound.futures_apart d n h f there.1 isf
+      ];
     }
 
 -- an endpoint was closed
@@ -100,7 +117,12 @@ sound-freed s now after e x sound was rest keeps others none closed =
       interfaces_counted = counted-goes s.host.interfaces now.interfaces s.interfaces keeps.interfaces sound.interfaces_counted;
       endpoints_stand = λ d h is. let there = names-freed s.endpoints after e d h rest is in Stands-other (bus_of s.host) (bus_of now) x.key h others (sound.endpoints_differ d e h x there.1 was there.0) (sound.endpoints_stand d h there.1);
       endpoints_differ = λ c d g h isg ish apart. sound.endpoints_differ c d g h (names-freed s.endpoints after e c g rest isg).1 (names-freed s.endpoints after e d h rest ish).1 apart;
-      endpoints_named = named-closed s.host.endpoints now.endpoints s.endpoints after e x none closed was rest sound.endpoints_named;
+      keys_named = named-closed s.host.endpoints now.endpoints s.endpoints after s.futures e x none closed was rest sound.keys_named;
+      future_names = sound.future_names;
+      futures_wait = sound.futures_wait;
+      futures_stand = futures-other s now e x sound was keeps others;
+      futures_differ = sound.futures_differ;
+      futures_apart = λ d n h f ish isf. sound.futures_apart d n h f (names-freed s.endpoints after e d h rest ish).1 isf;
     }
 
 -- a host that went on by itself
@@ -118,7 +140,12 @@ sound-host s now sound keeps stands none =
       interfaces_counted = counted-goes s.host.interfaces now.interfaces s.interfaces keeps.interfaces sound.interfaces_counted;
       endpoints_stand = λ e h is. stands h (sound.endpoints_stand e h is);
       endpoints_differ = sound.endpoints_differ;
-      endpoints_named = named-goes s.host.endpoints now.endpoints s.endpoints none sound.endpoints_named;
+      keys_named = named-goes s.host.endpoints now.endpoints s.endpoints s.futures none sound.keys_named;
+      future_names = sound.future_names;
+      futures_wait = sound.futures_wait;
+      futures_stand = λ n f is. future-goes s.host now f (λ t. stands (control_with f.key t)) keeps.past (sound.futures_stand n f is);
+      futures_differ = sound.futures_differ;
+      futures_apart = sound.futures_apart;
     }
 
 -- the endpoint of a state under a name at which the session has one

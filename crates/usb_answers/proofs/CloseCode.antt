@@ -34,6 +34,7 @@ use Rattle.usb_answers.proofs.Called.{KeepsSession, open_at, sound-freed, repres
 use Rattle.usb_answers.proofs.NamedKeys.{OpensNone, none-goes}
 use Rattle.usb_answers.proofs.SubmitCode.{line-all_discarded}
 use Rattle.usb_answers.proofs.TakenOut.{made_with, named-made, none_made, keeps-line}
+use Rattle.usb_answers.proofs.OrderLemmas.{before-past, left-past}
 
 line-all_abandoned : (h : HostState) (ts : List ℕ) → LineGoesOn h (all_abandoned host_abandoned h ts)
 line-all_abandoned h [] = line-keeps h h (keeps-open h)
@@ -50,10 +51,11 @@ line-before_left h e =
 -- the line, what is claimed and the places for steps are kept
 keeps-closed : (h : HostState) (e : EndpointState) → h.steps ≡ [] → KeepsSession h (after_close host_discarded host_abandoned host_left h e)
 keeps-closed h e idle =
-    let before = keeps-line h (before_left h e) idle (line-before_left h e) in
+    let before = keeps-line h (before_left h e) idle (before-past h e) (line-before_left h e) in
     let line = line-left (before_left h e) e.key in
     record {
       idle = line.steps ∙ before.idle;
+      past = left-past h e;
       devices = λ k. counts-same (before_left h e).devices _ line.devices k ∙ before.devices k;
       interfaces = goes-trans h.interfaces (before_left h e).interfaces (host_left (before_left h e) e.key).interfaces before.interfaces (interfaces-left (before_left h e) e.key);
     }

@@ -25,7 +25,7 @@ use Rattle.usb_answers.proofs.DeviceHosts.{KeepsHandles, KeepsAside, stands-hand
 pub sound-handles : (s : SessionState) (now next : HostState) → IsSound s → now ≡ next → KeepsHandles s.host next → IsSound (record s { host = now })
 sound-handles s now next sound is keeps =
     subst (λ (h : HostState). IsSound (record s { host = h })) (sym is)
-    (sound-host s next sound (record { idle = keeps.steps ∙ sound.idle; devices = keeps.devices; interfaces = goes-same s.host.interfaces next.interfaces keeps.interfaces }) (stands-handles s.host next keeps)
+    (sound-host s next sound (record { idle = keeps.steps ∙ sound.idle; past = keeps.goes; devices = keeps.devices; interfaces = goes-same s.host.interfaces next.interfaces keeps.interfaces }) (stands-handles s.host next keeps)
     (none-same s.host.endpoints next.endpoints keeps.endpoints))
 
 -- a call that leaves this host, and tells this line

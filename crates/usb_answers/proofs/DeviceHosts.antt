@@ -1,5 +1,5 @@
 -- What calls on open devices leave of the host, and what is printed of them.
-use Rattle.std.proofs.Common.{◌≡◌, ◌∙◌, ◌≤◌, ◌+◌, ℕ, arith, length, length-set, List, Option, Some, None, refl, ap, sym, subst, slice_get, set}
+use Rattle.std.proofs.Common.{◌≡◌, ◌∙◌, ◌≤◌, ◌+◌, ℕ, arith, length, length-set, List, [], Option, Some, None, refl, ap, sym, subst, slice_get, set}
 use Rattle.usb_registry.specs.History.{value_at}
 use Rattle.usb_ledger.proofs.DeviceLemmas.{KeepsCounts, counts_of, counts-set}
 use Rattle.usb_host.specs.EndpointOpens.{as_asked}
@@ -9,7 +9,8 @@ use Rattle.usb_kernel.specs.Value.{KernelState}
 use Rattle.usb_simulated.specs.Claims.{no_rules}
 use Rattle.usb_simulated.specs.Devices.{unplugged}
 use Rattle.usb_kernel.specs.Calls.{errno_of, called, reset_by, after_reset}
-use Rattle.usb_kernel.proofs.Extends.{extends-reset}
+use Rattle.usb_kernel.specs.Extends.{Extends}
+use Rattle.usb_kernel.proofs.Extends.{extends-same, extends-reset}
 use Rattle.usb_endpoint.specs.EndpointState.{EndpointState}
 use Rattle.usb_endpoint.specs.Handles.{Stands, AreHeld}
 use Rattle.usb_ledger.specs.declared.opened.OpenDevice.{OpenDevice}
@@ -23,13 +24,14 @@ use Rattle.usb_host.proofs.CalledHosts.{reset-spare}
 use Rattle.usb_host.proofs.CountLemmas.{KeepsCount}
 use Rattle.usb_host.proofs.FollowLemmas.{KeepsTickets, on-same}
 
--- what handles stand on is as it was, but for what an open device keeps of its configuration
+-- what handles stand on is as it was, but for what an open device keeps of its configuration; and the journal goes on
 pub record KeepsHandles (old new : HostState) : Type 0 where
   pub steps : new.steps ≡ old.steps
   pub devices : KeepsCounts old.devices new.devices
   pub interfaces : new.interfaces ≡ old.interfaces
   pub endpoints : new.endpoints ≡ old.endpoints
   pub tickets : new.tickets ≡ old.tickets
+  pub goes : Extends old.kernel.past new.kernel.past
 
 -- and so is the journal, with its places
 pub record KeepsAside (old new : HostState) : Type 0 where
@@ -38,7 +40,7 @@ pub record KeepsAside (old new : HostState) : Type 0 where
   pub spare : new.kernel.spare ≡ old.kernel.spare
 
 handles-same : (h : HostState) → KeepsHandles h h
-handles-same h = record { steps = refl; devices = λ k. refl; interfaces = refl; endpoints = refl; tickets = refl }
+handles-same h = record { steps = refl; devices = λ k. refl; interfaces = refl; endpoints = refl; tickets = refl; goes = extends-same h.kernel.past }
 
 aside-same : (h : HostState) → KeepsAside h h
 aside-same h = record { handles = handles-same h; past = refl; spare = refl }
@@ -54,7 +56,7 @@ stands-handles old new keeps e stands =
 -- a call whose kernel is left so
 called-aside : (h : HostState) (k : KernelState) → k.past ≡ h.kernel.past → k.spare ≡ h.kernel.spare → KeepsAside h (record h { kernel = k })
 called-aside h k past spare =
-    record { handles = record { steps = refl; devices = λ k. refl; interfaces = refl; endpoints = refl; tickets = refl }; past = past; spare = spare }
+    record { handles = record { steps = refl; devices = λ k. refl; interfaces = refl; endpoints = refl; tickets = refl; goes = record { more = []; is = past } }; past = past; spare = spare }
 
 detached_on-aside : (h : HostState) (i : ℕ) (o : Option OpenDevice) → KeepsAside h (detached_on h i o)
 unfolding called
@@ -86,7 +88,7 @@ speed-aside h key = speed_asked_on-aside h (value_at h.devices key)
 -- a call that changes what an open device keeps
 changed-aside : (h : HostState) (k : KernelState) (key : ℕ) (o p : OpenDevice) → value_at h.devices key ≡ Some o → counts_of p ≡ counts_of o → k.past ≡ h.kernel.past → k.spare ≡ h.kernel.spare → KeepsAside h (record h { kernel = k; devices = set h.devices key (Some p) })
 changed-aside h k key o p at same past spare =
-    record { handles = record { steps = refl; devices = counts-set h.devices key o p at same; interfaces = refl; endpoints = refl; tickets = refl }; past = past; spare = spare }
+    record { handles = record { steps = refl; devices = counts-set h.devices key o p at same; interfaces = refl; endpoints = refl; tickets = refl; goes = record { more = []; is = past } }; past = past; spare = spare }
 
 configured-counts : (o : OpenDevice) (value : ℕ) (errno : Option ℕ) → counts_of (configured_unless o value errno) ≡ counts_of o
 configured-counts o value None = refl
@@ -113,7 +115,7 @@ asked-aside h key = asked_on-aside h key (value_at h.devices key) refl
 -- a reset leaves what handles stand on, and uses a place at most
 reset_on-handles : (h : HostState) (o : Option OpenDevice) → KeepsHandles h (reset_on h o)
 reset_on-handles h None = handles-same h
-reset_on-handles h (Some o) = record { steps = refl; devices = λ k. refl; interfaces = refl; endpoints = refl; tickets = refl }
+reset_on-handles h (Some o) = record { steps = refl; devices = λ k. refl; interfaces = refl; endpoints = refl; tickets = refl; goes = extends-reset h.kernel o.device }
 
 pub reset-handles : (h : HostState) (key : ℕ) → KeepsHandles h (host_reset h key)
 unfolding host_reset

@@ -63,8 +63,8 @@ open-does state d bus address =
     free-does (λ free.
     let is = opened-is state.host bus address in
     let host = host_opened state.host bus address in
-    goes (quiet-aside state (with_host state host) (ap (λ (h : HostState). h.kernel.past) is) (ap (λ (h : HostState). h.tickets) is) refl)
-    (try-does (opened_as (with_host state host) d) (open_key state.host bus address) (λ error. refl) (λ key. ends refl (quiet-aside (with_host state host) _ refl refl refl))))
+    goes (quiet-aside state (with_host state host) (ap (λ (h : HostState). h.kernel.past) is) (ap (λ (h : HostState). h.tickets) is) refl refl)
+    (try-does (opened_as (with_host state host) d) (open_key state.host bus address) (λ error. refl) (λ key. ends refl (quiet-aside (with_host state host) _ refl refl refl refl))))
 
 pub claim-does : (state : State) (d number i : ℕ) (reattach : Bool) → Does state (claim_answer state d number i reattach)
 unfolding claim_answer
@@ -72,23 +72,23 @@ claim-does state d number i reattach =
     call-does (device_at state d) _ (λ x is.
     free-does (λ free.
     let host = host_claimed state.host x.key number reattach in
-    goes (record { keeps = on-claimed state.host x.key number reattach; count = claimed-count state.host x.key number reattach; endpoints = refl })
+    goes (record { keeps = on-claimed state.host x.key number reattach; count = claimed-count state.host x.key number reattach; endpoints = refl; futures = refl })
     (try-does (claimed_as (with_host state host) number i) (claimed_key (length state.host.interfaces) (claim_tried state.host x.opened number reattach)) (λ error. refl)
-    (λ key. ends refl (quiet-aside (with_host state host) _ refl refl refl)))))
+    (λ key. ends refl (quiet-aside (with_host state host) _ refl refl refl refl)))))
 
 -- handles of devices
 pub clone_device-does : (state : State) (name d : ℕ) → Does state (clone_device_answer state name d)
 unfolding clone_device_answer
 clone_device-does state name d =
-    call-does (named state.devices d) _ (λ key is. free-does (λ free. ends refl (quiet-aside state (with_handle state name key) refl refl refl)))
+    call-does (named state.devices d) _ (λ key is. free-does (λ free. ends refl (quiet-aside state (with_handle state name key) refl refl refl refl)))
 
 pub close_device-does : (state : State) (d : ℕ) → Does state (close_device_answer state d)
 unfolding close_device_answer
-close_device-does state d = call-does (named state.devices d) _ (λ key is. ends refl (quiet-aside state _ refl refl refl))
+close_device-does state d = call-does (named state.devices d) _ (λ key is. ends refl (quiet-aside state _ refl refl refl refl))
 
 -- calls on open devices
 aside-quiet : (state : State) (host : HostState) → KeepsAside state.host host → Quiet state (with_host state host)
-aside-quiet state host keeps = quiet-aside state (with_host state host) keeps.past keeps.handles.tickets refl
+aside-quiet state host keeps = quiet-aside state (with_host state host) keeps.past keeps.handles.tickets refl refl
 
 active-other : (r : Result (List ℕ) ActiveConfigurationError) → says_done (active_line r) ≡ false
 unfolding configuration_line no_configuration_line
@@ -116,7 +116,7 @@ pub reset-does : (state : State) (d : ℕ) → Does state (reset_answer state d)
 unfolding reset_answer
 reset-does state d =
     host-does (device_at state d) _ _ (λ x. result-other (reset_tried state.host x.opened))
-    (λ x. record { keeps = reset-follows state.host x.key; count = reset-count state.host x.key; endpoints = refl })
+    (λ x. record { keeps = reset-follows state.host x.key; count = reset-count state.host x.key; endpoints = refl; futures = refl })
 
 pub detach-does : (state : State) (d number : ℕ) → Does state (detach_answer state d number)
 unfolding detach_answer
@@ -133,7 +133,7 @@ attach-does state d number =
 -- one more handle of an interface
 cloned-quiet : (state : State) (i : ℕ) (o : Option ClaimedInterface) → Quiet state (with_host state (handle_added state.host i o))
 cloned-quiet state i None = quiet-same state
-cloned-quiet state i (Some c) = quiet-aside state _ refl refl refl
+cloned-quiet state i (Some c) = quiet-aside state _ refl refl refl refl
 
 pub clone_interface-does : (state : State) (name i : ℕ) → Does state (clone_interface_answer state name i)
 unfolding clone_interface_answer handle_cloned
@@ -141,11 +141,11 @@ clone_interface-does state name i =
     call-does (named state.interfaces i) _ (λ f is.
     free-does (λ free.
     let mid = with_host state (handle_cloned state.host f.key) in
-    ends refl (quiet-then (cloned-quiet state f.key (value_at state.host.interfaces f.key)) (quiet-aside mid (with_clone state name f) refl refl refl))))
+    ends refl (quiet-then (cloned-quiet state f.key (value_at state.host.interfaces f.key)) (quiet-aside mid (with_clone state name f) refl refl refl refl))))
 
 -- a handle of an interface is closed
 without_interface-quiet : (state : State) (i : ℕ) (f : InterfaceState) → Quiet state (without_interface state i f)
-without_interface-quiet state i f = record { keeps = on-handle_closed state.host f.key; count = handle_closed-count state.host f.key; endpoints = refl }
+without_interface-quiet state i f = record { keeps = on-handle_closed state.host f.key; count = handle_closed-count state.host f.key; endpoints = refl; futures = refl }
 
 pub close_interface-does : (state : State) (i : ℕ) → Does state (close_interface_answer state i)
 unfolding close_interface_answer
@@ -166,7 +166,7 @@ set-quiet state i setting None = quiet-same state
 set-quiet state i setting (Some c) =
     cond_both (has_living state.host.tickets state.host.endpoints i) state.host (alt_setting_asked state.host i setting c) (λ (h : HostState). Quiet state (with_host state h))
     (λ yes_. quiet-same state)
-    (λ no_. quiet-aside state (with_host state (alt_setting_asked state.host i setting c)) refl refl refl)
+    (λ no_. quiet-aside state (with_host state (alt_setting_asked state.host i setting c)) refl refl refl refl)
 
 pub set_alt_setting-does : (state : State) (i setting : ℕ) → Does state (set_alt_setting_answer state i setting)
 unfolding set_alt_setting_answer alt_setting_set
@@ -204,7 +204,7 @@ interfaces-quiet state (suc n) =
 -- and devices
 device_closed_at-quiet : (state : State) (d : ℕ) (o : Option ℕ) → Quiet state (device_closed_at state d o)
 device_closed_at-quiet state d None = quiet-same state
-device_closed_at-quiet state d (Some key) = quiet-aside state (without_device state d key) refl refl refl
+device_closed_at-quiet state d (Some key) = quiet-aside state (without_device state d key) refl refl refl refl
 
 pub devices-quiet : (state : State) (n : ℕ) → Quiet state (devices_closed state n)
 unfolding name_closed

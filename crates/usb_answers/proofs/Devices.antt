@@ -32,6 +32,7 @@ use Rattle.usb_answers.proofs.SoundDevices.{sound-device}
 use Rattle.usb_answers.proofs.Called.{KeepsSession, sound-host, represents-host}
 use Rattle.usb_answers.proofs.NamedKeys.{none-bus}
 use Rattle.usb_answers.proofs.Answering.{Gives, barred-gives}
+use Rattle.usb_answers.proofs.FutureLemmas.{past-same}
 
 -- a session whose host was refused a device
 opened-keeps : (h now : HostState) (bus address : ℕ) (error : ErrorState) → h.steps ≡ [] → now ≡ host_opened h bus address → open_key h bus address ≡ Err error → KeepsSession h now
@@ -39,6 +40,7 @@ opened-keeps h now bus address error idle is refused =
     let made = is ∙ opened-is h bus address in
     record {
       idle = ap (λ (g : HostState). g.steps) made ∙ idle;
+      past = past-same h now (ap bus_of made);
       devices = counts-same h.devices now.devices (ap (λ (g : HostState). g.devices) is ∙ opens-none h bus address error refused);
       interfaces = goes-same h.interfaces now.interfaces (ap (λ (g : HostState). g.interfaces) made);
     }

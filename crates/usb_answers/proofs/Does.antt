@@ -9,49 +9,70 @@ use Rattle.usb_error.specs.ErrorState.{ErrorState}
 use Rattle.usb_simulated.specs.declared.step.KernelStep.{KernelStep}
 use Rattle.usb_kernel.specs.Tickets.{tickets}
 use Rattle.usb_bus.specs.Completions.{transfer_completion}
+use Rattle.usb_host.specs.declared.controls.ControlRequest.{ControlRequest}
 use Rattle.usb_host.specs.HostState.{HostState}
-use Rattle.usb_host.proofs.CountLemmas.{KeepsCount, count-trans, rest-count}
+use Rattle.usb_host.proofs.CountLemmas.{KeepsCount, CountsOneMore, count-trans, rest-count}
 use Rattle.usb_host.proofs.FollowLemmas.{KeepsTickets, on-then, on-kept, on-rest}
+use Rattle.usb_host.proofs.StartedLemmas.{Parts, AddsTaken}
+use Rattle.usb_device.specs.Futures.{FutureState}
 use Rattle.usb_lines.specs.Calls.{ok_line, condition_line, error_line, result_line}
 use Rattle.usb_lines.specs.Completions.{done_line}
-use Rattle.usb_answers.specs.Names.{named, is_free, set_name}
-use Rattle.usb_answers.specs.State.{State, Endpoint, with_host}
+use Rattle.usb_answers.specs.Names.{named, is_free, freed, set_name}
+use Rattle.usb_answers.specs.State.{State, Endpoint, tickets_of, with_host}
 use Rattle.usb_answers.specs.Answer.{Answer, told, barred, ok_answer, error_answer, if_open}
 use Rattle.usb_answers.specs.Submits.{submitted}
 use Rattle.usb_answers.specs.Polls.{taken_from}
+use Rattle.usb_answers.specs.Futures.{with_future}
 use Rattle.usb_answers.specs.Closes.{without_endpoint}
 use Rattle.usb_answers.specs.Steps.{lent, rested, stepped_all, then_rested}
 use Rattle.usb_answers.specs.Accounts.{TookFew}
 use Rattle.usb_answers.specs.Served.{ClosedEndpoint}
 
--- the host went on, and no endpoint was opened or closed, and no ticket submitted or taken
+-- the host went on, and no endpoint or future was opened or closed, and no ticket submitted or taken
 pub record Quiet (old new : State) : Type 0 where
   pub keeps : KeepsTickets old.host new.host
   pub count : KeepsCount old.host new.host
   pub endpoints : new.endpoints ≡ old.endpoints
+  pub futures : new.futures ≡ old.futures
+
+-- a future is open under a name no more
+abbrev pub without_future_of : State → HostState → ℕ → State
+without_future_of state host n = record state { host = host; futures = freed state.futures n }
+
+-- the host has as many tickets as the journal
+abbrev pub CountsAlike : HostState → Type 0
+CountsAlike h = length h.tickets ≡ length (tickets h.kernel.past)
 
 -- whether a line begins as that of a completion
 abbrev pub says_done : List ℕ → Bool
 says_done line = starts_with nat_eq line (codes "done")
 
--- what an answer does from a state on, and the endpoints that it closes: the host goes on, endpoints are opened and tickets submitted;
--- and then there is nothing more, or a ticket is taken and its completion printed, or an endpoint is closed. `few` is what is asked of
--- the state before the line: no more tickets of an endpoint were taken than it has
-pub data Acts (few : Type 0) (a : Answer) : State → List ClosedEndpoint → Type 0 where
-  goes : {state next : State} {closed : List ClosedEndpoint} → Quiet state next → Acts few a next closed → Acts few a state closed
-  opens : {state : State} {closed : List ClosedEndpoint} (e : ℕ) (x : Endpoint) → is_free state.endpoints e ≡ true → x.tickets ≡ [] → x.taken ≡ 0
-      → Acts few a (record state { endpoints = set_name state.endpoints e x }) closed → Acts few a state closed
-  submits : {state : State} {closed : List ClosedEndpoint} (e : ℕ) (b : BufferState) (h : Endpoint) → named state.endpoints e ≡ Some h
-      → (few → h.taken ≤ length h.tickets) → Acts few a (submitted state e b h) closed → Acts few a state closed
-  ends : {state : State} → says_done a.line ≡ false → Quiet state a.state → Acts few a state []
+-- what an answer does from a state on, the endpoints that it closes, and the tickets of the control transfers that it hands in: the host goes
+-- on, endpoints are opened and tickets submitted, a control transfer is handed in (`starts`: its future is opened; `controls`: it is awaited and
+-- its ticket taken at once), and the host parts with the ticket of a future, whose name is free then; and then there is nothing more, or a ticket
+-- is taken and its completion printed, or an endpoint is closed. `few` is what is asked of the state before the line: no more tickets of an
+-- endpoint were taken than it has
+pub data Acts (few : Type 0) (a : Answer) : State → List ClosedEndpoint → List ℕ → Type 0 where
+  goes : {state next : State} {closed : List ClosedEndpoint} {handed : List ℕ} → Quiet state next → Acts few a next closed handed → Acts few a state closed handed
+  opens : {state : State} {closed : List ClosedEndpoint} {handed : List ℕ} (e : ℕ) (x : Endpoint) → is_free state.endpoints e ≡ true → x.tickets ≡ [] → x.taken ≡ 0
+      → Acts few a (record state { endpoints = set_name state.endpoints e x }) closed handed → Acts few a state closed handed
+  submits : {state : State} {closed : List ClosedEndpoint} {handed : List ℕ} (e : ℕ) (b : BufferState) (h : Endpoint) → named state.endpoints e ≡ Some h
+      → (few → h.taken ≤ length h.tickets) → Acts few a (submitted state e b h) closed handed → Acts few a state closed handed
+  starts : {state : State} {closed : List ClosedEndpoint} {handed : List ℕ} (n : ℕ) (request : ControlRequest) (timeout device : ℕ) → is_free state.futures n ≡ true
+      → Acts few a (with_future state n request timeout device) closed handed → Acts few a state closed (tickets_of state ∷ handed)
+  controls : {state : State} {closed : List ClosedEndpoint} {handed : List ℕ} (host : HostState) → CountsOneMore state.host host → (CountsAlike state.host → AddsTaken state.host host)
+      → Acts few a (with_host state host) closed handed → Acts few a state closed (tickets_of state ∷ handed)
+  frees : {state : State} {closed : List ClosedEndpoint} {handed : List ℕ} (n : ℕ) (f : FutureState) (host : HostState) → named state.futures n ≡ Some f → Parts state.host host f.ticket
+      → Acts few a (without_future_of state host n) closed handed → Acts few a state closed handed
+  ends : {state : State} → says_done a.line ≡ false → Quiet state a.state → Acts few a state [] []
   takes : {state : State} (e t : ℕ) (h : Endpoint) (c : Completion) → named state.endpoints e ≡ Some h → (few → slice_get h.tickets h.taken ≡ Some t)
-      → transfer_completion state.host.kernel.past t ≡ Some c → a.line ≡ done_line c → Quiet (taken_from state e t) a.state → Acts few a state []
+      → transfer_completion state.host.kernel.past t ≡ Some c → a.line ≡ done_line c → Quiet (taken_from state e t) a.state → Acts few a state [] []
   closes : {state : State} (e : ℕ) (h : Endpoint) (lines : List (List ℕ)) → named state.endpoints e ≡ Some h → says_done a.line ≡ false
-      → Quiet (without_endpoint state e h) a.state → Acts few a state (record { endpoint = h; past = state.host.kernel.past; lines = lines } ∷ [])
+      → Quiet (without_endpoint state e h) a.state → Acts few a state (record { endpoint = h; past = state.host.kernel.past; lines = lines } ∷ []) []
 
--- what the answer of a line does that closes no endpoint
+-- what the answer of a line does that closes no endpoint, and hands in no control transfer
 abbrev pub Does : State → Answer → Type 0
-Does state a = Acts (TookFew state) a state []
+Does state a = Acts (TookFew state) a state [] []
 
 pub quiet-then : {a b c : State} → Quiet a b → Quiet b c → Quiet a c
 quiet-then {a} {b} {c} first second =
@@ -59,41 +80,43 @@ quiet-then {a} {b} {c} first second =
       keeps = on-then a.host b.host c.host first.keeps second.keeps;
       count = count-trans a.host b.host c.host first.count second.count;
       endpoints = second.endpoints ∙ first.endpoints;
+      futures = second.futures ∙ first.futures;
     }
 
 -- journal and tickets are as they were
-pub quiet-aside : (old new : State) → new.host.kernel.past ≡ old.host.kernel.past → new.host.tickets ≡ old.host.tickets → new.endpoints ≡ old.endpoints → Quiet old new
-quiet-aside old new past same endpoints =
+pub quiet-aside : (old new : State) → new.host.kernel.past ≡ old.host.kernel.past → new.host.tickets ≡ old.host.tickets → new.endpoints ≡ old.endpoints → new.futures ≡ old.futures → Quiet old new
+quiet-aside old new past same endpoints futures =
     record {
       keeps = on-kept old.host new.host past same;
       count = record { count = ap (λ l. length l) same; past = ap (λ p. length (tickets p)) past };
       endpoints = endpoints;
+      futures = futures;
     }
 
 pub quiet-same : (state : State) → Quiet state state
-quiet-same state = quiet-aside state state refl refl refl
+quiet-same state = quiet-aside state state refl refl refl refl
 
-quiet-rested : (state : State) → Quiet state (rested state)
-quiet-rested state = record { keeps = on-rest state.host; count = rest-count state.host; endpoints = refl }
+pub quiet-rested : (state : State) → Quiet state (rested state)
+quiet-rested state = record { keeps = on-rest state.host; count = rest-count state.host; endpoints = refl; futures = refl }
 
-quiet-lent : (state : State) (steps : List KernelStep) → Quiet state (lent state steps)
-quiet-lent state steps = quiet-aside state (lent state steps) refl refl refl
+pub quiet-lent : (state : State) (steps : List KernelStep) → Quiet state (lent state steps)
+quiet-lent state steps = quiet-aside state (lent state steps) refl refl refl refl
 
 pub quiet-stepped : (state : State) (steps : List KernelStep) → Quiet state (stepped_all state steps)
 unfolding stepped_all
 quiet-stepped state steps = quiet-then (quiet-lent state steps) (quiet-rested (lent state steps))
 
 -- a line that only asks, and the lines of calls that give no value
-pub told-does : {few : Type 0} (state : State) (line : List ℕ) → says_done line ≡ false → Acts few (told state line) state []
+pub told-does : {few : Type 0} (state : State) (line : List ℕ) → says_done line ≡ false → Acts few (told state line) state [] []
 told-does state line other = ends other (quiet-same state)
 
-pub barred-does : {few : Type 0} (state : State) → Acts few (barred state) state []
+pub barred-does : {few : Type 0} (state : State) → Acts few (barred state) state [] []
 barred-does state = told-does state condition_line refl
 
-pub ok-does : {few : Type 0} (state : State) → Acts few (ok_answer state) state []
+pub ok-does : {few : Type 0} (state : State) → Acts few (ok_answer state) state [] []
 ok-does state = told-does state ok_line refl
 
-pub error-does : {few : Type 0} (state : State) (error : ErrorState) → Acts few (error_answer state error) state []
+pub error-does : {few : Type 0} (state : State) (error : ErrorState) → Acts few (error_answer state error) state [] []
 unfolding error_line
 error-does state error = told-does state (error_line error) refl
 
@@ -128,10 +151,13 @@ try-does {state} call (Err error) refused does = subst (Does state) (sym (refuse
 try-does call (Ok x) refused does = does x
 
 -- with the steps of its line
-rest-does : {few : Type 0} {a : Answer} {state : State} {closed : List ClosedEndpoint} → Acts few a state closed → Acts few (then_rested a) state closed
+pub rest-does : {few : Type 0} {a : Answer} {state : State} {closed : List ClosedEndpoint} {handed : List ℕ} → Acts few a state closed handed → Acts few (then_rested a) state closed handed
 rest-does (goes quiet rest) = goes quiet (rest-does rest)
 rest-does (opens e x free none zero_ rest) = opens e x free none zero_ (rest-does rest)
 rest-does (submits e b h here few rest) = submits e b h here few (rest-does rest)
+rest-does (starts n request timeout device free rest) = starts n request timeout device free (rest-does rest)
+rest-does (controls host one adds rest) = controls host one adds (rest-does rest)
+rest-does (frees n f host here parts rest) = frees n f host here parts (rest-does rest)
 rest-does {a} (ends other quiet) = ends other (quiet-then quiet (quiet-rested a.state))
 rest-does {a} (takes e t h c here front came line quiet) = takes e t h c here front came line (quiet-then quiet (quiet-rested a.state))
 rest-does {a} (closes e h lines here other quiet) = closes e h lines here other (quiet-then quiet (quiet-rested a.state))

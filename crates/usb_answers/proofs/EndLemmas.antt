@@ -33,7 +33,7 @@ use Rattle.usb_device.specs.HandleStates.{InterfaceState}
 use Rattle.usb_answers.specs.Names.{named, freed}
 use Rattle.usb_answers.specs.State.{State, kept}
 use Rattle.usb_answers.specs.Closes.{closed}
-use Rattle.usb_answers.specs.Ends.{interface_closed, interfaces_closed, name_closed, devices_closed, endpoints_closed, all_closed, ended}
+use Rattle.usb_answers.specs.Ends.{interface_closed, interfaces_closed, name_closed, devices_closed, endpoints_closed, futures_closed, all_closed, ended}
 use Rattle.usb_answers.specs.SessionState.{SessionState, IsSound}
 use Rattle.usb_answers.specs.Relation.{Represents}
 use Rattle.usb_answers.specs.Accounts.{Accounted}
@@ -152,19 +152,20 @@ named-last old front o x is at =
     named_of old (length front) o (ap (λ l. slice_get l (length front)) is ∙ slice_get-last front o) ∙ at
 
 -- the host of a session at the end
-pub end-host : (s : SessionState) (host now : HostState) (state : State) → s.host ≡ host → now ≡ finished host → Represents s (devices_closed (interfaces_closed (endpoints_closed state 64) 64) 64) → now ≡ ended state
+pub end-host : (s : SessionState) (host now : HostState) (state : State) → s.host ≡ host → now ≡ finished host → Represents s (devices_closed (interfaces_closed (futures_closed (endpoints_closed state 64) 64) 64) 64) → now ≡ ended state
 unfolding ended all_closed
 end-host s host now state here done r =
     done ∙ ap finished (sym here ∙ ap (λ (v : SessionState). v.host) r.is)
 
--- all is closed, so no endpoint holds a ticket, and each ticket of the host has its end
-pub end-ended : (s : SessionState) (before now : HostState) (state : State) → before ≡ s.host → ((e : ℕ) → named s.endpoints e ≡ None) → Represents s (devices_closed (interfaces_closed (endpoints_closed state 64) 64) 64) → Accounted state
+-- all is closed, so no endpoint and no future holds a ticket, and each ticket of the host has its end
+pub end-ended : (s : SessionState) (before now : HostState) (state : State) → before ≡ s.host → ((e : ℕ) → named s.endpoints e ≡ None) → ((n : ℕ) → named s.futures n ≡ None) → Represents s (devices_closed (interfaces_closed (futures_closed (endpoints_closed state 64) 64) 64) 64) → Accounted state
     → (((t : ℕ) → owner_at before.tickets t ≡ None) → HasEnds now.tickets) → HasEnds now.tickets
 unfolding all_closed
-end-ended s before now state same none r a ends =
+end-ended s before now state same none gone r a ends =
     let last = all_closed state in
     let closed_all : (e : ℕ) → named last.endpoints e ≡ None = λ e. unmapped kept (named last.endpoints e) (sym (named_kept s last e r) ∙ none e) in
-    ends (λ t. ap (λ (h : HostState). owner_at h.tickets t) (same ∙ host_is s last r) ∙ accounted-none last (accounted-all_closed state a) closed_all t)
+    let all_gone : (n : ℕ) → named last.futures n ≡ None = λ n. ap (λ (v : SessionState). named v.futures n) (sym r.is) ∙ gone n in
+    ends (λ t. ap (λ (h : HostState). owner_at h.tickets t) (same ∙ host_is s last r) ∙ accounted-none last (accounted-all_closed state a) closed_all all_gone t)
 
 -- one name more is closed
 pub endpoints_closed-more : (state : State) (n : ℕ) → endpoints_closed state (n + 1) ≡ closed (endpoints_closed state n) n
@@ -225,9 +226,9 @@ end-none s before now same done sound closed none d =
     ap (λ (h : HostState). value_at h.devices d) done ∙ ap (λ ds. value_at ds d) (finished-line before).devices ∙ ap (λ (h : HostState). value_at h.devices d) same ∙ none-left s sound closed none d
 
 -- once all is closed and each ticket has its end, nothing is kept
-pub end-empty : (s : SessionState) (before now : HostState) → before ≡ s.host → now ≡ finished before → IsSound s → ((d : ℕ) → named s.devices d ≡ None) → ((i : ℕ) → named s.interfaces i ≡ None) → ((e : ℕ) → named s.endpoints e ≡ None)
+pub end-empty : (s : SessionState) (before now : HostState) → before ≡ s.host → now ≡ finished before → IsSound s → ((d : ℕ) → named s.devices d ≡ None) → ((i : ℕ) → named s.interfaces i ≡ None) → ((e : ℕ) → named s.endpoints e ≡ None) → ((n : ℕ) → named s.futures n ≡ None)
     → EachIsOwned now.tickets now.endpoints now.interfaces → EachLives now.tickets now.endpoints → HasEnds now.tickets → IsEmpty now
-end-empty s before now same done sound devices interfaces endpoints owned alive ends =
+end-empty s before now same done sound devices interfaces endpoints futures owned alive ends =
     let line : LineGoesOn s.host now = subst (LineGoesOn s.host) (sym (done ∙ ap finished same)) (finished-line s.host) in
     closed_is_empty now (held-goes s.host now (counts-same s.host.devices now.devices line.devices) line.interfaces sound.devices_held) owned alive
     (record {
@@ -235,6 +236,6 @@ end-empty s before now same done sound devices interfaces endpoints owned alive 
           sym (sound.devices_counted k o (ap (λ ds. value_at ds k) (sym line.devices) ∙ at))
           ∙ count-no_device k s.devices (λ n j open_ same. none-some j (sym (devices n) ∙ open_));
       interfaces = λ k c at. no-handles s sound interfaces k c (line.interfaces.was k c at);
-      endpoints = λ k e at. named-none s.host.endpoints s.endpoints endpoints sound.endpoints_named k e (line.endpoints.was k e at);
+      endpoints = λ k e at. named-none s.host.endpoints s.endpoints s.futures endpoints futures sound.keys_named k e (line.endpoints.was k e at);
       tickets = ends;
     })

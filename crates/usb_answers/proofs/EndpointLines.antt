@@ -47,7 +47,7 @@ use Rattle.usb_answers.proofs.DeviceHosts.{halt-aside}
 endpoint_as-does : (state : State) (e address : ℕ) (kind : TransferType) (x : InterfaceAt) (tried : Result ℕ ErrorState) → is_free state.endpoints e ≡ true → Does state (endpoint_as state e address kind x tried)
 endpoint_as-does state e address kind x tried free =
     try-does (endpoint_as state e address kind x) tried (λ error. refl) (λ maximum.
-    goes (quiet-aside state (with_host state (with_endpoint state.host x.handle.key address)) refl refl refl)
+    goes (quiet-aside state (with_host state (with_endpoint state.host x.handle.key address)) refl refl refl refl)
     (opens e (new_endpoint state.host x.claimed.device address kind maximum) free refl refl (ok-does _)))
 
 pub endpoint-does : (state : State) (e i address : ℕ) (kind : TransferType) (direction : Direction) → Does state (endpoint_answer state e i address kind direction)
@@ -56,7 +56,7 @@ endpoint-does state e i address kind direction =
     call-does (interface_at state i) _ (λ x is.
     free-does (λ free.
     let host = host_asked state.host x.claimed.opened in
-    goes (record { keeps = on-asked state.host x.claimed.opened; count = asked-count state.host x.claimed.opened; endpoints = refl })
+    goes (record { keeps = on-asked state.host x.claimed.opened; count = asked-count state.host x.claimed.opened; endpoints = refl; futures = refl })
     (endpoint_as-does (with_host state host) e address kind x (host_tries host x.handle.key x.claimed address kind direction) free)))
 
 -- a ticket is submitted
@@ -89,7 +89,7 @@ waited-does : (state : State) (e timeout : ℕ) (h : Endpoint) (o : Option ℕ) 
 waited-does state e timeout h None here front = barred-does state
 waited-does state e timeout h (Some t) here front =
     wait_ended-does state e t h (host_waited state.host t timeout) here front
-    (record { keeps = on-waited state.host t timeout; count = waited-count state.host t timeout; endpoints = refl })
+    (record { keeps = on-waited state.host t timeout; count = waited-count state.host t timeout; endpoints = refl; futures = refl })
 
 pub wait-does : (state : State) (e timeout : ℕ) (steps : List KernelStep) → Does state (wait_answer state e timeout steps)
 unfolding wait_answer
@@ -125,10 +125,10 @@ transferred-does state e b timeout h here none =
     let last = with_host sent (host_blocked sent.host n timeout) in
     let one = entered-count state.host (kept h) b in
     let found = some-of (transfer_completion last.host.kernel.past n) (blocked-found sent.host n timeout (omega (arith, one.past))) in
-    submits e b h here (λ few. few e h here) (goes (record { keeps = on-blocked sent.host n timeout; count = blocked-count sent.host n timeout; endpoints = refl })
+    submits e b h here (λ few. few e h here) (goes (record { keeps = on-blocked sent.host n timeout; count = blocked-count sent.host n timeout; endpoints = refl; futures = refl })
     (takes e n (with_submission n h) found.0 (named-change_same (with_submission n) state.endpoints e ∙ ap (option_map (with_submission n)) here)
     (λ few. pushed-front h.taken h.tickets n (few e h here) none) found.1 (ap waited_line found.1)
-    (quiet-aside (taken_from last e n) (transferred state e b timeout h).state refl refl (sym (pushed-taken n state.endpoints e)))))
+    (quiet-aside (taken_from last e n) (transferred state e b timeout h).state refl refl (sym (pushed-taken n state.endpoints e)) refl)))
 
 pub transfer-does : (state : State) (direction : Direction) (e : ℕ) (b : BufferState) (timeout : ℕ) (steps : List KernelStep) → Does state (transfer_answer state direction e b timeout steps)
 unfolding transfer_answer
@@ -142,29 +142,29 @@ transfer-does state direction e b timeout steps =
 pub cancel-does : (state : State) (e : ℕ) → Does state (cancel_answer state e)
 unfolding cancel_answer
 cancel-does state e =
-    call-does (named state.endpoints e) _ (λ h here. ends refl (record { keeps = on-all_discarded state.host (pending h); count = all_discarded-count state.host (pending h); endpoints = refl }))
+    call-does (named state.endpoints e) _ (λ h here. ends refl (record { keeps = on-all_discarded state.host (pending h); count = all_discarded-count state.host (pending h); endpoints = refl; futures = refl }))
 
 -- its halt is cleared
 pub clear_halt-does : (state : State) (e : ℕ) → Does state (clear_halt_answer state e)
 unfolding clear_halt_answer
 clear_halt-does state e =
     host-does (named state.endpoints e) _ _ (λ h. result-other (or_error clear_halt_error (host_halt_result state.host h.device h.address)))
-    (λ h. let aside = halt-aside state.host h.device h.address in quiet-aside state (with_host state (host_halt_cleared state.host h.device h.address)) aside.past aside.handles.tickets refl)
+    (λ h. let aside = halt-aside state.host h.device h.address in quiet-aside state (with_host state (host_halt_cleared state.host h.device h.address)) aside.past aside.handles.tickets refl refl)
 
 -- an endpoint is closed
-closed_at-does : {few : Type 0} (state : State) (e : ℕ) (lines : List (List ℕ)) (line : List ℕ) (o : Option Endpoint) → named state.endpoints e ≡ o → says_done line ≡ false → Acts few (told (closed_at state e o) line) state (closed_as state.host.kernel.past lines o)
+closed_at-does : {few : Type 0} (state : State) (e : ℕ) (lines : List (List ℕ)) (line : List ℕ) (o : Option Endpoint) → named state.endpoints e ≡ o → says_done line ≡ false → Acts few (told (closed_at state e o) line) state (closed_as state.host.kernel.past lines o) []
 closed_at-does state e lines line None here other = told-does state line other
 closed_at-does state e lines line (Some h) here other = closes e h lines here other (quiet-same (without_endpoint state e h))
 
-pub closed-does : {few : Type 0} (state : State) (e : ℕ) (lines : ℕ → List (List ℕ)) → Acts few (silent (closed state e)) state (closed_under state lines e)
+pub closed-does : {few : Type 0} (state : State) (e : ℕ) (lines : ℕ → List (List ℕ)) → Acts few (silent (closed state e)) state (closed_under state lines e) []
 unfolding closed
 closed-does state e lines = closed_at-does state e (lines e) [] (named state.endpoints e) refl refl
 
-pub close-does : {few : Type 0} (state : State) (e : ℕ) (lines : ℕ → List (List ℕ)) → Acts few (close_answer state e) state (closed_under state lines e)
+pub close-does : {few : Type 0} (state : State) (e : ℕ) (lines : ℕ → List (List ℕ)) → Acts few (close_answer state e) state (closed_under state lines e) []
 unfolding close_answer
 close-does {few} state e lines = by (named state.endpoints e) refl
   where
-    by : (o : Option Endpoint) → named state.endpoints e ≡ o → Acts few (if_open o (λ h. ok_answer (without_endpoint state e h)) (barred state)) state (closed_as state.host.kernel.past (lines e) o)
+    by : (o : Option Endpoint) → named state.endpoints e ≡ o → Acts few (if_open o (λ h. ok_answer (without_endpoint state e h)) (barred state)) state (closed_as state.host.kernel.past (lines e) o) []
     by None here = barred-does state
     by (Some h) here = closed_at-does state e (lines e) ok_line (Some h) here refl
 

@@ -6,6 +6,7 @@ use Rattle.usb_desc.specs.declared.types.Direction.{Direction}
 use Rattle.usb_desc.specs.declared.types.TransferType.{TransferType}
 use Rattle.usb_error.specs.ErrorState.{ErrorState}
 use Rattle.usb_lines.specs.Calls.{ok_line, condition_line, error_line}
+use Rattle.usb_kernel.specs.Extends.{Extends}
 use Rattle.usb_bus.specs.BusState.{BusState}
 use Rattle.usb_endpoint.specs.EndpointState.{EndpointState}
 use Rattle.usb_endpoint.specs.Handles.{Stands, KeepsOthers}
@@ -14,6 +15,7 @@ use Rattle.usb_ledger.specs.Entries.{HostEndpoint, ClaimedInterface}
 use Rattle.usb_host.specs.HostState.{HostState}
 use Rattle.usb_host.specs.HostBus.{bus_of}
 use Rattle.usb_device.specs.HandleStates.{InterfaceState}
+use Rattle.usb_device.specs.Futures.{FutureState}
 use Rattle.usb_host.specs.EndpointOpens.{host_asked, host_tries, with_endpoint, fresh_endpoint}
 use Rattle.usb_device.proofs.StandLemmas.{StandsInterface-same}
 use Rattle.usb_host.proofs.InterfaceFrames.{asked-is, asked-counts}
@@ -35,6 +37,7 @@ use Rattle.usb_answers.proofs.NameLemmas.{length-set_name, map-set, is_free-map,
 use Rattle.usb_answers.proofs.Called.{KeepsSession, sound-host, represents-host}
 use Rattle.usb_answers.proofs.Answering.{Gives, barred-gives, free_kept}
 use Rattle.usb_answers.proofs.NamedKeys.{none-bus, named-opened}
+use Rattle.usb_answers.proofs.FutureLemmas.{control_with, future-goes, future-within, past-same}
 
 -- a look at the active configuration
 asked-keeps : (h now : HostState) (key : ℕ) → h.steps ≡ [] → now ≡ host_asked h key → KeepsSession h now
@@ -42,6 +45,7 @@ asked-keeps h now key idle is =
     let made = is ∙ asked-is h key in
     record {
       idle = ap (λ (g : HostState). g.steps) made ∙ idle;
+      past = past-same h now (ap bus_of made);
       devices = subst (λ (g : HostState). KeepsCounts h.devices g.devices) (sym is) (asked-counts h key);
       interfaces = goes-same h.interfaces now.interfaces (ap (λ (g : HostState). g.interfaces) made);
     }
@@ -63,6 +67,7 @@ opened-keeps h now key i address idle is =
     let asked = asked-keeps h (host_asked h key) key idle refl in
     record {
       idle = ap (λ (g : HostState). g.steps) is ∙ asked.idle;
+      past = subst (λ (g : HostState). Extends h.kernel.past g.kernel.past) (sym is) asked.past;
       devices = subst (λ (g : HostState). KeepsCounts h.devices g.devices) (sym is) asked.devices;
       interfaces = subst (λ (g : HostState). ClaimsGoOn h.interfaces g.interfaces) (sym is) asked.interfaces;
     }
@@ -84,6 +89,7 @@ pub endpoint-sound : (s : SessionState) (now : HostState) (after : List (Option 
 endpoint-sound s now after e i address y c sound is key stands others free put =
     let keeps = opened-keeps s.host now c.opened i address sound.idle is in
     let old : (d : ℕ) (g : EndpointState) → named s.endpoints d ≡ Some g → g.key ≢ y.key = λ d g at. apart-next g.key y.key (length s.host.endpoints) (endpoint-within s.host g (sound.endpoints_stand d g at)) key in
+    let newer : (n : ℕ) (f : FutureState) → named s.futures n ≡ Some f → f.key ≢ y.key = λ n f at. apart-next f.key y.key (length s.host.endpoints) (future-within s.host f (sound.futures_wait n f at) (sound.futures_stand n f at)) key in
     record {
       idle = keeps.idle;
       device_names = sound.device_names;
@@ -108,9 +114,17 @@ endpoint-sound s now after e i address y c sound is key stands others free put =
           | inr therek ↦ sound.endpoints_differ j k g h therej.1 therek.1 apart
         ]
       ];
-      endpoints_named =
-          named-opened s.host.endpoints now.endpoints s.endpoints after e (record { interface = Some i; address = address; is_open = true }) y
-          (opened-endpoints s.host now c.opened i address is) key free put sound.endpoints_named;
+      keys_named =
+          named-opened s.host.endpoints now.endpoints s.endpoints after s.futures e (record { interface = Some i; address = address; is_open = true }) y
+          (opened-endpoints s.host now c.opened i address is) key free put sound.keys_named;
+      future_names = sound.future_names;
+      futures_wait = sound.futures_wait;
+      futures_stand = λ n f at. future-goes s.host now f (λ t. Stands-other (bus_of s.host) (bus_of now) y.key (control_with f.key t) others (newer n f at)) keeps.past (sound.futures_stand n f at);
+      futures_differ = sound.futures_differ;
+      futures_apart = λ d n h f ish isf. elim (names-set s.endpoints after e d y h free put ish) [
+        | inl here ↦ λ same. newer n f isf (sym same ∙ ap (λ (z : EndpointState). z.key) here.1)
+        | inr there ↦ sound.futures_apart d n h f there.1 isf
+      ];
     }
 
 -- the state in which it is open

@@ -4,15 +4,17 @@ use Rattle.usb_script.specs.declared.item.Item.{Item}
 use Rattle.usb_script.specs.declared.item.Item.TheVariants as item
 use Rattle.usb_answers.specs.State.{State}
 use Rattle.usb_answers.specs.Buffers.{in_buffer, out_buffer}
+use Rattle.usb_answers.specs.Controls.{request_for, request_with}
 use Rattle.usb_answers.specs.Answers.{answer}
 use Rattle.usb_answers.specs.Accounts.{TookFew}
-use Rattle.usb_answers.specs.Served.{closed_by}
+use Rattle.usb_answers.specs.Served.{closed_by, control_ticket}
 use Rattle.usb_answers.proofs.Does.{Acts, told-does}
 use Rattle.usb_answers.proofs.DeviceLines.{now-does, open-does, device_descriptor-does, descriptors-does, clone_device-does, close_device-does, active-does, speed-does, set_configuration-does, reset-does, detach-does, attach-does, claim-does, clone_interface-does, close_interface-does, set_alt_setting-does, get_alt_setting-does, interface_descriptor-does, release-does, pending-does}
 use Rattle.usb_answers.proofs.TreeLines.{list-does, buses-does, probe-does, match-does, hotplug-does, open_path-does}
+use Rattle.usb_answers.proofs.ControlLines.{control_in-does, control_out-does, get_descriptor-does, languages-does, string-does, start-does, poll_future-does, wait_future-does, close_future-does}
 use Rattle.usb_answers.proofs.EndpointLines.{endpoint-does, submit-does, poll-does, wait-does, transfer-does, cancel-does, clear_halt-does, close-does, steps-does}
 
-pub answer-does : (state : State) (lines : ℕ → List (List ℕ)) (line : Item) → Acts (TookFew state) (answer state line) state (closed_by state lines line)
+pub answer-does : (state : State) (lines : ℕ → List (List ℕ)) (line : Item) → Acts (TookFew state) (answer state line) state (closed_by state lines line) (control_ticket state line)
 unfolding answer
 answer-does state lines (item.Device k bus address speed configuration descriptors) = told-does state [] refl
 answer-does state lines (item.Driver k number) = told-does state [] refl
@@ -60,4 +62,14 @@ answer-does state lines (item.TransferOut e bytes timeout steps) = transfer-does
 answer-does state lines (item.Cancel e) = cancel-does state e
 answer-does state lines (item.ClearHalt e) = clear_halt-does state e
 answer-does state lines (item.CloseEndpoint e) = close-does state e lines
+answer-does state lines (item.ControlIn target setup wanted timeout steps) = control_in-does state target setup wanted timeout steps
+answer-does state lines (item.ControlOut target setup bytes timeout steps) = control_out-does state target setup bytes timeout steps
+answer-does state lines (item.GetDescriptor d kind index language timeout steps) = get_descriptor-does state d kind index language timeout steps
+answer-does state lines (item.SupportedLanguages d timeout steps) = languages-does state d timeout steps
+answer-does state lines (item.StringDescriptor d index language timeout steps) = string-does state d index language timeout steps
+answer-does state lines (item.StartControlIn n target setup wanted timeout) = start-does state n target (request_for setup wanted) timeout
+answer-does state lines (item.StartControlOut n target setup bytes timeout) = start-does state n target (request_with setup bytes) timeout
+answer-does state lines (item.PollFuture n) = poll_future-does state n
+answer-does state lines (item.WaitFuture n steps) = wait_future-does state n steps
+answer-does state lines (item.CloseFuture n) = close_future-does state n
 answer-does state lines (item.Steps steps) = steps-does state steps

@@ -1,5 +1,5 @@
 -- The endpoints of a whole script.
-use Rattle.std.proofs.Common.{◌≡◌, ◌≢◌, ℕ, ◌<◌, ◌+◌, suc, zero, arith, List, [], ◌∷◌, ◌++◌, length, map, take, replicate, slice_get, Option, Some, None, refl, ap, sym, ◌∙◌, inl, inr}
+use Rattle.std.proofs.Common.{◌≡◌, ◌≢◌, ℕ, ◌<◌, ◌+◌, suc, zero, arith, List, [], ◌∷◌, ◌++◌, length, map, take, slice_get, Option, Some, None, refl, ap, sym, ◌∙◌, inl, inr}
 use Rattle.std.specs.Prelude.{option_and_then, All, count_by, ◌==◌}
 use Rattle.std.proofs.lemmas.Bool.{cases_eq}
 use Rattle.std.proofs.lemmas.List.{length-replicate}
@@ -21,15 +21,16 @@ use Rattle.usb_host.specs.HostCalls.{host_discarded}
 use Rattle.usb_host.specs.HostTurns.{host_reaped}
 use Rattle.usb_host.proofs.CountLemmas.{KeepsCount, count-same, count-trans, discarded-count, reaped-count}
 use Rattle.usb_host.proofs.FollowLemmas.{on-finished}
+use Rattle.usb_device.specs.Futures.{FutureState}
 use Rattle.usb_answers.specs.Names.{named, freed}
 use Rattle.usb_answers.specs.State.{State, Endpoint, tickets_of, with_host}
 use Rattle.usb_answers.specs.Closes.{closed_at, closed}
 use Rattle.usb_answers.specs.Answers.{answer}
-use Rattle.usb_answers.specs.Ends.{endpoints_closed, interfaces_closed, devices_closed, all_closed, ended}
+use Rattle.usb_answers.specs.Ends.{endpoints_closed, future_closed_at, future_closed_under, futures_closed, interfaces_closed, devices_closed, all_closed, ended}
 use Rattle.usb_answers.specs.Output.{start, last_host, final_host}
 use Rattle.usb_answers.specs.Accounts.{Accounted}
 use Rattle.usb_answers.specs.Behind.{behind, GoesOnTo, ScriptsGoOn}
-use Rattle.usb_answers.specs.Served.{ClosedEndpoint, closed_endpoints, IsServedInOrder, EndpointsAreServedInOrder, ScriptsAreCounted, closed_as, tickets_of_all, closed_under, closed_by, closed_at_end, closed_endpoints_from, lines_behind}
+use Rattle.usb_answers.specs.Served.{ClosedEndpoint, closed_endpoints, IsServedInOrder, EndpointsAreServedInOrder, ScriptsAreCounted, closed_as, tickets_of_all, closed_under, closed_by, closed_at_end, closed_endpoints_from, control_ticket, control_tickets_from, control_tickets, lines_behind}
 use Rattle.usb_answers.specs.Fates.{fate_lines, fate_lines_from}
 use Rattle.usb_answers.specs.FinalFates.{FatesOfScripts}
 use Rattle.usb_answers.specs.Sums.{counts_of}
@@ -38,14 +39,14 @@ use Rattle.usb_answers.proofs.Does.{Quiet, quiet-same, quiet-then}
 use Rattle.usb_answers.proofs.DeviceLines.{handles-quiet}
 use Rattle.usb_answers.proofs.AccountLemmas.{accounted-start, accounted-answer}
 use Rattle.usb_answers.proofs.NameLemmas.{named-freed, named-freed_other, named-replicate}
-use Rattle.usb_answers.proofs.TimesLemmas.{times, counts-times, among, among-within, times_in, times_open}
+use Rattle.usb_answers.proofs.TimesLemmas.{times, times-append, counts-times, among, among-within, tickets_in, ticket_in, times_open, times-none, times-replicate}
 use Rattle.usb_answers.proofs.OrderLemmas.{Leaves, LeavesTickets, goes-then, closed-few, closed-taken, closed-others}
-use Rattle.usb_answers.proofs.StepLemmas.{Inv, Step, Closes, closes-on, all-tickets, step-then, step-after, step-quiet, few-taken, answer-step, closed-step}
+use Rattle.usb_answers.proofs.StepLemmas.{Inv, Step, Closes, closes-on, all-tickets, step-then, step-after, step-quiet, few-taken, answer-step, closed-step, future_closed-step}
 use Rattle.usb_answers.proofs.PrintLemmas.{Prints, prints-stay, taken_of, AllPrint, all-print}
 use Rattle.usb_answers.proofs.TakeLemmas.{answer-takes}
 
 -- the end closes the endpoints by number
-ends-step : (state : State) (lines : ℕ → List (List ℕ)) (k : ℕ) → Inv state → Step state (endpoints_closed state k) (closed_at_end state lines k)
+ends-step : (state : State) (lines : ℕ → List (List ℕ)) (k : ℕ) → Inv state → Step state (endpoints_closed state k) (closed_at_end state lines k) []
 ends-step state lines zero inv = step-quiet inv (quiet-same state)
 ends-step state lines (suc k) inv =
     let first = ends-step state lines k inv in
@@ -72,12 +73,19 @@ none-below state (suc k) n below = closed-none (endpoints_closed state k) k n (�
     lower : (k n : ℕ) → n ≢ k → n < suc k → n < k
     lower k n apart small = omega arith
 
-times-none : (t : ℕ) (os : List (Option Endpoint)) → ((n : ℕ) → n < length os → named os n ≡ None) → times_open t os ≡ 0
-unfolding named
-times-none t [] none = refl
-times-none t (o ∷ os) none =
-    let here : times_in t o ≡ 0 = ap (times_in t) (none 0 (omega arith)) in
-    let IH = times-none t os (λ n below. none (suc n) (omega arith)) in omega arith
+-- futures are closed, and endpoints stay
+futures-step : (state : State) (k : ℕ) → Inv state → Step state (futures_closed state k) [] []
+futures-step state zero inv = step-quiet inv (quiet-same state)
+futures-step state (suc k) inv = let first = futures-step state k inv in step-then first (future_closed-step (futures_closed state k) k first.inv)
+
+future_closed-endpoints : (state : State) (n : ℕ) (o : Option FutureState) → (future_closed_at state n o).endpoints ≡ state.endpoints
+future_closed-endpoints state n None = refl
+future_closed-endpoints state n (Some f) = refl
+
+futures-endpoints : (state : State) (k : ℕ) → (futures_closed state k).endpoints ≡ state.endpoints
+unfolding future_closed_under
+futures-endpoints state zero = refl
+futures-endpoints state (suc k) = let mid = futures_closed state k in future_closed-endpoints mid k (named mid.futures k) ∙ futures-endpoints state k
 
 -- the discards and reaps at the end
 discarded_below-count : (h : HostState) (n : ℕ) → KeepsCount h (discarded_below h n)
@@ -95,13 +103,17 @@ end-quiet state =
     let n = length (tickets last.kernel.past) in
     let discarded = discarded_below last n in
     quiet-then (handles-quiet state)
-    (record { keeps = on-finished last; count = count-trans last discarded (reaped_below discarded n) (discarded_below-count last n) (reaped_below-count discarded n); endpoints = refl })
+    (record { keeps = on-finished last; count = count-trans last discarded (reaped_below discarded n) (discarded_below-count last n) (reaped_below-count discarded n); endpoints = refl; futures = refl })
+
+-- what is done at the end once the endpoints are closed
+last-step : (state : State) → Inv state → Step state (with_host (devices_closed (interfaces_closed (futures_closed state 64) 64) 64) (finished (devices_closed (interfaces_closed (futures_closed state 64) 64) 64).host)) [] []
+last-step state inv = let first = futures-step state 64 inv in step-after first (step-quiet first.inv (end-quiet (futures_closed state 64)))
 
 -- what these items and the end of the session make
 record Runs (state : State) (lines : ℕ → List (List ℕ)) (items : List Item) : Type 0 where
   goes : LeavesTickets state.host (last_host state items)
   closes : All (Closes (last_host state items)) (closed_endpoints_from state lines items)
-  adds : (t : ℕ) → times t (tickets_of_all (closed_endpoints_from state lines items)) + among t (tickets_of state) ≡ times_open t state.endpoints + among t (length (tickets (last_host state items).kernel.past))
+  adds : (t : ℕ) → times t (tickets_of_all (closed_endpoints_from state lines items)) + times t (control_tickets_from state items) + among t (tickets_of state) ≡ times_open t state.endpoints + among t (length (tickets (last_host state items).kernel.past))
   count : length (last_host state items).tickets ≡ length (tickets (last_host state items).kernel.past)
 
 runs-end : (state : State) (lines : ℕ → List (List ℕ)) → Inv state → Runs state lines []
@@ -109,15 +121,15 @@ unfolding ended all_closed
 runs-end state lines inv =
     let mid = endpoints_closed state 64 in
     let first = ends-step state lines 64 inv in
-    let quiet = end-quiet mid in
-    let all = step-after first (step-quiet first.inv quiet) in
+    let last = last-step mid first.inv in
+    let all = step-after first last in
     record {
       goes = all.goes;
       closes = all.closes;
       adds = λ t.
           let whole = all.adds t in
-          let same = ap (times_open t) quiet.endpoints in
-          let none = times-none t mid.endpoints (λ n below. none-below state 64 n (omega (arith, first.inv.names))) in omega arith;
+          let same = ap (times_open t) ((end-quiet (futures_closed mid 64)).endpoints ∙ futures-endpoints mid 64) in
+          let none = times-none tickets_in t mid.endpoints (λ n below. none-below state 64 n (omega (arith, first.inv.names))) in omega arith;
       count = all.inv.count;
     }
 
@@ -134,28 +146,26 @@ runs state lines (item ∷ items) inv =
       adds = λ t.
           let one_ = first.adds t in
           let two = rest.adds t in
-          let parts = all-tickets t (closed_by state lines item) (closed_endpoints_from next (lines_behind state (answer state item) lines) items) in omega arith;
+          let parts = all-tickets t (closed_by state lines item) (closed_endpoints_from next (lines_behind state (answer state item) lines) items) in
+          let handed = times-append t (control_ticket state item) (control_tickets_from next items) in omega arith;
       count = rest.count;
     }
 
 -- the beginning
-times-replicate : (t n : ℕ) → times_open t (replicate n None) ≡ 0
-times-replicate t zero = refl
-times-replicate t (suc n) = let IH = times-replicate t n in omega arith
-
 inv-start : (items : List Item) → Inv (start items)
 unfolding start
 inv-start items =
     record {
       order = λ e h is. absurd (none-some h (sym (named-replicate 64 e) ∙ is));
-      once = λ t. let none = times-replicate t 64 in omega arith;
+      once = λ t. let none = times-replicate tickets_in t 64 in let no_ = times-replicate ticket_in t 64 in omega arith;
+      waits = λ n f t is ticket. absurd (none-some f (sym (named-replicate 64 n) ∙ is));
       count = refl;
       names = length-replicate {A = Option Endpoint} 64 None;
     }
 
 nothing-open : (items : List Item) (t : ℕ) → (times_open t (start items).endpoints ≡ 0) × (tickets_of (start items) ≡ 0)
 unfolding start
-nothing-open items t = (times-replicate t 64, refl)
+nothing-open items t = (times-replicate tickets_in t 64, refl)
 
 -- what was printed of the endpoints that are closed
 abbrev Printed : List Event → ClosedEndpoint → Type 0
@@ -212,7 +222,7 @@ ends-print state lines (suc k) inv prints =
 runs-print : (state : State) (lines : ℕ → List (List ℕ)) (items : List Item) → Inv state → AllPrint state lines → All (Printed (last_host state items).kernel.past) (closed_endpoints_from state lines items)
 unfolding ended all_closed
 runs-print state lines [] inv prints =
-    printed-on (endpoints_closed state 64).host.kernel.past (ended state).kernel.past (closed_at_end state lines 64) (end-quiet (endpoints_closed state 64)).keeps.past
+    printed-on (endpoints_closed state 64).host.kernel.past (ended state).kernel.past (closed_at_end state lines 64) (last-step (endpoints_closed state 64) (ends-step state lines 64 inv).inv).goes.past
     (ends-print state lines 64 inv prints).shut
 runs-print state lines (item ∷ items) inv prints =
     let a = answer state item in
@@ -227,13 +237,14 @@ unfolding start
 none-print items lines e h is = absurd (none-some h (sym (named-replicate 64 e) ∙ is))
 
 -- each ticket of the last host stands once
-handles-once : (state : State) (lines : ℕ → List (List ℕ)) (items : List Item) (t : ℕ) → times_open t state.endpoints ≡ 0 → tickets_of state ≡ 0 → Runs state lines items → t < length (last_host state items).tickets → count_by (λ u. u == t) (tickets_of_all (closed_endpoints_from state lines items)) ≡ 1
+handles-once : (state : State) (lines : ℕ → List (List ℕ)) (items : List Item) (t : ℕ) → times_open t state.endpoints ≡ 0 → tickets_of state ≡ 0 → Runs state lines items → t < length (last_host state items).tickets → count_by (λ u. u == t) (tickets_of_all (closed_endpoints_from state lines items) ++ control_tickets_from state items) ≡ 1
 handles-once state lines items t none few run within =
     let all = run.adds t in
     let before : among t (tickets_of state) ≡ 0 = ap (among t) few in
     let there : t < length (tickets (last_host state items).kernel.past) = omega (arith, run.count, within) in
     let here = among-within t (length (tickets (last_host state items).kernel.past)) there in
-    let counts = counts-times t (tickets_of_all (closed_endpoints_from state lines items)) in
+    let counts = counts-times t (tickets_of_all (closed_endpoints_from state lines items) ++ control_tickets_from state items) in
+    let parts = times-append t (tickets_of_all (closed_endpoints_from state lines items)) (control_tickets_from state items) in
     omega arith
 
 served-one : (last : HostState) (c : ClosedEndpoint) → HasEnds last.tickets → Closes last c → c.lines ≡ map (λ t. polled_line (transfer_completion last.kernel.past t)) (take c.endpoint.taken c.endpoint.tickets) → IsServedInOrder last c
@@ -247,7 +258,7 @@ served-one last c ends closes printed =
     }
 
 pub served-handles : EndpointsAreServedInOrder
-unfolding closed_endpoints final_host
+unfolding closed_endpoints control_tickets final_host
 served-handles items ends =
     let lines : ℕ → List (List ℕ) = λ e. [] in
     let run = runs (start items) lines items (inv-start items) in

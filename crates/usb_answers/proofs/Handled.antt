@@ -29,6 +29,7 @@ use Rattle.usb_answers.proofs.NameLemmas.{length-set_name, length-freed, names-s
 use Rattle.usb_answers.proofs.CountedNames.{Counted, counted-same, counted-goes, counted-open, counted-claimed, counted-closed, counted-cloned, counted-changed}
 use Rattle.usb_answers.proofs.Called.{names-freed}
 use Rattle.usb_answers.proofs.NamedKeys.{none-bus, named-goes}
+use Rattle.usb_answers.proofs.FutureLemmas.{future-same}
 use Rattle.usb_answers.proofs.HandleHosts.{KeepsBeside, WritesOne, fewer, more, claimed-keeps, closed-keeps, cloned-keeps, setting-keeps, closed-writes, cloned-writes, stands-written, setting_unless-like, setting_unless-handles, claim-interfaces, claim-refused_interfaces}
 
 -- the interfaces and their names change together
@@ -46,7 +47,12 @@ sound-handled s now after sound keeps names stands counted held =
       interfaces_counted = counted;
       endpoints_stand = λ e h at. subst (λ (b : BusState). Stands b h) (sym keeps.bus) (sound.endpoints_stand e h at);
       endpoints_differ = sound.endpoints_differ;
-      endpoints_named = named-goes s.host.endpoints now.endpoints s.endpoints (none-bus s.host now keeps.bus) sound.endpoints_named;
+      keys_named = named-goes s.host.endpoints now.endpoints s.endpoints s.futures (none-bus s.host now keeps.bus) sound.keys_named;
+      future_names = sound.future_names;
+      futures_wait = sound.futures_wait;
+      futures_stand = λ n f at. future-same s.host now f keeps.bus (sound.futures_stand n f at);
+      futures_differ = sound.futures_differ;
+      futures_apart = sound.futures_apart;
     }
 
 -- a handle is closed

@@ -9,7 +9,7 @@ use Rattle.usb_lines.specs.Calls.{ok_line, condition_line, error_line}
 use Rattle.usb_ledger.specs.Entries.{ClaimedInterface}
 use Rattle.usb_host.specs.HostState.{HostState}
 use Rattle.usb_device.specs.HandleStates.{InterfaceState}
-use Rattle.usb_device.specs.HandleCalls as handles
+use Rattle.usb_device.specs.HandleCalls as calls
 use Rattle.usb_host.specs.Handles.{handle_cloned, handle_closed}
 use Rattle.usb_host.specs.Owners.{is_shared}
 use Rattle.usb_answers.specs.Names.{named, is_free, freed, set_name}
@@ -124,11 +124,11 @@ given_back xs mid after n x y was rest back put =
     put ∙ ap (λ l. set_name l n y) rest ∙ ap (set_name (freed xs n) n) back ∙ put-back xs n x was
 
 -- what the answer to a release says
-pub alone-answer : (handle : InterfaceState) (b : Bool) (done : Unit {0}) → Ok done ≡ handles.release_answer handle b → b ≡ false
+pub alone-answer : (handle : InterfaceState) (b : Bool) (done : Unit {0}) → Ok done ≡ calls.release_answer handle b → b ≡ false
 alone-answer handle true done is = absurd (cc)
 alone-answer handle false done is = refl
 
-pub shared-answer : (handle back : InterfaceState) (error : ErrorState) (b : Bool) → Err (back, error) ≡ handles.release_answer handle b → (b ≡ true) × (back ≡ handle) × (error ≡ interface_in_use_error)
+pub shared-answer : (handle back : InterfaceState) (error : ErrorState) (b : Bool) → Err (back, error) ≡ calls.release_answer handle b → (b ≡ true) × (back ≡ handle) × (error ≡ interface_in_use_error)
 shared-answer handle back error true is =
     let same : (back, error) ≡ (handle, interface_in_use_error) = cc in
     (refl, ap (λ (p : InterfaceState × ErrorState). p.0) same, ap (λ (p : InterfaceState × ErrorState). p.1) same)

@@ -5,6 +5,8 @@ use Rattle.std.specs.Option.{option_map}
 use Rattle.std.specs.declared.alloc.Global.{Global}
 use Rattle.usb_ledger.proofs.DeviceLemmas.{counts-same}
 use Rattle.usb_simulated.specs.declared.step.KernelStep.{KernelStep}
+use Rattle.usb_kernel.specs.Extends.{Extends}
+use Rattle.usb_kernel.proofs.Extends.{extends-same, extends-trans}
 use Rattle.usb_endpoint.specs.declared.any_endpoint.AnyEndpoint.{AnyEndpoint}
 use Rattle.usb_endpoint.specs.AnyEndpoints.{state_of}
 use Rattle.usb_endpoint.specs.EndpointState.{EndpointState}
@@ -48,10 +50,10 @@ stands-rested : (now : HostState) (x : EndpointState) → Stands (bus_of now) x 
 stands-rested now x stands = Stands-later (bus_of now) (bus_of (host_rest now)) x stands (went-rest now).later
 
 -- over the line no step is left, and what is claimed stays
-keeps-lent : (host now : HostState) (steps : List KernelStep) → LineGoesOn (lent_host host steps) now → KeepsSession host (host_rest now)
-keeps-lent host now steps line =
+keeps-lent : (host now : HostState) (steps : List KernelStep) → Extends host.kernel.past now.kernel.past → LineGoesOn (lent_host host steps) now → KeepsSession host (host_rest now)
+keeps-lent host now steps past line =
     let rest = (went-rest now).line in
-    record { idle = rest-steps now; devices = counts-same host.devices (host_rest now).devices (rest.devices ∙ line.devices); interfaces = goes-trans host.interfaces now.interfaces (host_rest now).interfaces line.interfaces rest.interfaces }
+    record { idle = rest-steps now; past = extends-trans host.kernel.past now.kernel.past (host_rest now).kernel.past past (went-rest now).later.past; devices = counts-same host.devices (host_rest now).devices (rest.devices ∙ line.devices); interfaces = goes-trans host.interfaces now.interfaces (host_rest now).interfaces line.interfaces rest.interfaces }
 
 others-lent : (host now : HostState) (steps : List KernelStep) (key : ℕ) → KeepsOthers (bus_of (lent_host host steps)) (bus_of now) key → KeepsOthers (bus_of host) (bus_of (host_rest now)) key
 others-lent host now steps key others =
@@ -72,10 +74,10 @@ sound-lent i steps at now last after e x y sound is back keeps rest =
     let k = subst (λ (h : HostState). CallKeeps h now (state_of x) (state_of y)) is keeps in
     subst (λ (h : HostState). IsSound (made_with i h after)) (sym rest)
     (sound-put (made_of i) (host_rest now) (map (option_map state_of) after) e (state_of x) (state_of y) sound (taken-map i.endpoints.items e x back.was) (made-put i after e x y back)
-    (keeps-lent i.host now steps k.line) (stands-rested now (state_of y) k.stands) k.key (others-lent i.host now steps (state_of x).key k.others) (none-lent i.host now steps k.line))
+    (keeps-lent i.host now steps k.past k.line) (stands-rested now (state_of y) k.stands) k.key (others-lent i.host now steps (state_of x).key k.others) (none-lent i.host now steps k.line))
 
 -- its answer, and then the rest of the steps
-rested-answered : (s : SessionState) (now : HostState) (before after : List ℕ) (a : Answer) → s.host ≡ now → Answered s before after a → Answered (record s { host = host_rest now }) before after (then_rested a)
+pub rested-answered : (s : SessionState) (now : HostState) (before after : List ℕ) (a : Answer) → s.host ≡ now → Answered s before after a → Answered (record s { host = host_rest now }) before after (then_rested a)
 rested-answered s now before after a is answered =
     record {
       state = subst (λ (h : HostState). Represents (record s { host = host_rest now }) (with_host a.state (host_rest h))) (sym is ∙ host_is s a.state answered.state)
@@ -106,7 +108,7 @@ pub sound-stepped : (i : Inside) (steps : List KernelStep) (at last : HostState)
 sound-stepped i steps at last mid sound is rest none =
     subst (λ l. IsSound (made_with i last l)) (sym none)
     (subst (λ (h : HostState). IsSound (made_with i h i.endpoints.items)) (sym (rest ∙ ap host_rest is))
-    (sound-host (made_of i) (host_rest (lent_host i.host steps)) sound (keeps-lent i.host (lent_host i.host steps) steps (line-keeps (lent_host i.host steps) (lent_host i.host steps) (keeps-open (lent_host i.host steps))))
+    (sound-host (made_of i) (host_rest (lent_host i.host steps)) sound (keeps-lent i.host (lent_host i.host steps) steps (extends-same i.host.kernel.past) (line-keeps (lent_host i.host steps) (lent_host i.host steps) (keeps-open (lent_host i.host steps))))
     (λ h stands. stands-rested (lent_host i.host steps) h (stands-lent i.host (lent_host i.host steps) steps h refl stands))
     (none-lent i.host (lent_host i.host steps) steps (line-keeps (lent_host i.host steps) (lent_host i.host steps) (keeps-open (lent_host i.host steps))))))
 

@@ -2,7 +2,10 @@ pub mod AccountLemmas
 pub mod Answering
 pub mod Called
 pub mod CloseCode
+pub mod ControlLines
 pub mod CountedNames
+pub mod ControlHosts
+pub mod ControlCode
 pub mod CountedDevices
 pub mod DeviceCalls
 pub mod DeviceHandles
@@ -15,6 +18,10 @@ pub mod EndpointLines
 pub mod EndpointOpened
 pub mod EveryLine
 pub mod FateLemmas
+pub mod FutureCalls
+pub mod FutureCloses
+pub mod FutureLemmas
+pub mod FutureSessions
 pub mod HaltCode
 pub mod HandleHosts
 pub mod HandleLemmas

@@ -78,11 +78,11 @@ pub record Stays (old new : HostState) (t : ℕ) : Type 0 where
 pub stays-same : (old new : HostState) (t : ℕ) → slice_get new.tickets t ≡ slice_get old.tickets t → Stays old new t
 stays-same old new t same = record { held = λ hold is. same ∙ is; taken = λ is. same ∙ is }
 
-stays-keeps : (old new : HostState) (t : ℕ) → KeepsTickets old new → Stays old new t
+pub stays-keeps : (old new : HostState) (t : ℕ) → KeepsTickets old new → Stays old new t
 stays-keeps old new t keeps =
     record { held = λ hold is. rw is at (keeps.tickets t); taken = λ is. rw is at (keeps.tickets t) }
 
-held-stays : (old new : HostState) (t : ℕ) → Stays old new t → IsHeld old t → IsHeld new t
+pub held-stays : (old new : HostState) (t : ℕ) → Stays old new t → IsHeld old t → IsHeld new t
 held-stays old new t stays was = record { hold = was.hold; is = stays.held was.hold was.is }
 
 -- so the order stays where all tickets of the endpoint do
@@ -254,7 +254,11 @@ given_up_by h e = all_abandoned host_abandoned (discarded_by h e) e.pending
 abbrev pub left_by : HostState → EndpointState → HostState
 left_by h e = after_close host_discarded host_abandoned host_left h e
 
-left-past : (h : HostState) (e : EndpointState) → Extends h.kernel.past (left_by h e).kernel.past
+pub before-past : (h : HostState) (e : EndpointState) → Extends h.kernel.past (given_up_by h e).kernel.past
+before-past h e =
+    subst (λ (past : List Event). Extends h.kernel.past past) (sym (abandons-past (discarded_by h e) e.pending)) (on-all_discarded h e.pending).past
+
+pub left-past : (h : HostState) (e : EndpointState) → Extends h.kernel.past (left_by h e).kernel.past
 left-past h e =
     extends-trans h.kernel.past (discarded_by h e).kernel.past (left_by h e).kernel.past (on-all_discarded h e.pending).past
     (subst (λ (past : List Event). Extends past (left_by h e).kernel.past) (abandons-past (discarded_by h e) e.pending) (on-left (given_up_by h e) e.key).past)
@@ -292,7 +296,7 @@ leaves-follows (Some (HeldBy hold)) p follows = tt
 leaves-follows (Some (Abandoned key)) p follows = follows
 leaves-follows (Some (Ended end)) p follows = follows
 
-leaves-is : (o p : Option HostTicket) → p ≡ o → Leaves o p
+pub leaves-is : (o p : Option HostTicket) → p ≡ o → Leaves o p
 leaves-is None p is = tt
 leaves-is (Some (HeldBy hold)) p is = tt
 leaves-is (Some (Abandoned key)) p is = inl is
@@ -314,7 +318,7 @@ goes-then a b c first second =
       tickets = λ t. leaves-then (slice_get a.tickets t) (slice_get b.tickets t) (slice_get c.tickets t) (first.tickets t) (second.tickets t);
     }
 
-leaves-held : (o p : Option HostTicket) (hold : Hold) → o ≡ Some (HeldBy hold) → Leaves o p
+pub leaves-held : (o p : Option HostTicket) (hold : Hold) → o ≡ Some (HeldBy hold) → Leaves o p
 leaves-held o p hold is = rw is tt
 
 pub goes-taken : (h : HostState) (t : ℕ) → IsHeld h t → LeavesTickets h (host_taken h t)

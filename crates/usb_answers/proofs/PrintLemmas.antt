@@ -95,10 +95,10 @@ prints-in past lines (Some h) prints = prints h refl
 prints-are : (past : List Event) (ts us : List ℕ) (lines now : List (List ℕ)) → us ≡ ts → now ≡ lines → Prints past ts lines → Prints past us now
 prints-are past ts us lines now same are p = record { came = subst (λ l. All (HasCame past) l) (sym same) p.came; are = are ∙ (p.are ∙ ap (map (line_in past)) (sym same)) }
 
-not_more : (n m : ℕ) → m ≡ n → nat_lt n m ≡ false
+pub not_more : (n m : ℕ) → m ≡ n → nat_lt n m ≡ false
 not_more n m same = grind (arith, nat_tests)
 
-one_more : (n m : ℕ) → m ≡ suc n → nat_lt n m ≡ true
+pub one_more : (n m : ℕ) → m ≡ suc n → nat_lt n m ≡ true
 one_more n m more = grind (arith, nat_tests)
 
 one-prints : (state : State) (a : Answer) (lines : ℕ → List (List ℕ)) (e : ℕ) (g : Endpoint) → Extends state.host.kernel.past a.state.host.kernel.past → named a.state.endpoints e ≡ Some g → AllPrint state lines → Takes state a e g → Prints a.state.host.kernel.past (taken_of g) (lines_behind state a lines e)

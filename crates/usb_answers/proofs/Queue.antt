@@ -5,6 +5,7 @@ use Rattle.std.specs.Option.{option_map}
 use Rattle.std.specs.declared.alloc.Global.{Global}
 use Rattle.std.proofs.lemmas.Option.{same_Some}
 use Rattle.usb_xfer.specs.declared.transfer.Completion.{Completion}
+use Rattle.usb_kernel.specs.Extends.{Extends}
 use Rattle.usb_bus.specs.Completions.{transfer_completion}
 use Rattle.usb_endpoint.specs.EndpointState.{EndpointState}
 use Rattle.usb_endpoint.specs.Handles.{TookNext}
@@ -14,6 +15,7 @@ use Rattle.usb_host.specs.HostFrames.{LineGoesOn}
 use Rattle.usb_host.specs.TicketEnds.{host_taken}
 use Rattle.usb_host.proofs.CallFrames.{keeps-taken}
 use Rattle.usb_host.proofs.WaitFrames.{line-keeps}
+use Rattle.usb_host.proofs.FollowLemmas.{taken-past}
 use Rattle.usb_answers.specs.Names.{named, change_named}
 use Rattle.usb_answers.specs.State.{State, Endpoint, kept, with_host}
 use Rattle.usb_answers.specs.Answer.{Answer, told}
@@ -99,3 +101,6 @@ took-comes print host now x y c t state e h host_was same =
 
 pub took-line : (host now : HostState) (x y : EndpointState) (c : Completion) → TookNext bus_of host_taken host x c now y → LineGoesOn host now
 took-line host now x y c t = subst (LineGoesOn host) (sym t.rest) (line-keeps host (host_taken host t.front) (keeps-taken host t.front))
+
+pub took-past : (host now : HostState) (x y : EndpointState) (c : Completion) → TookNext bus_of host_taken host x c now y → Extends host.kernel.past now.kernel.past
+took-past host now x y c t = record { more = []; is = ap (λ (h : HostState). h.kernel.past) t.rest ∙ taken-past host t.front }

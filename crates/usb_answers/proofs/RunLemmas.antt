@@ -19,6 +19,7 @@ use Rattle.usb_ledger.specs.Entries.{ClaimedInterface, HostEndpoint}
 use Rattle.usb_host.specs.HostState.{HostState, host_of}
 use Rattle.usb_host.specs.HostBus.{key_at}
 use Rattle.usb_device.specs.HandleStates.{InterfaceState}
+use Rattle.usb_device.specs.Futures.{FutureState}
 use Rattle.usb_script.specs.declared.item.Item.{Item}
 use Rattle.usb_script.specs.ItemKinds.{place_count}
 use Rattle.usb_answers.specs.Names.{named}
@@ -46,7 +47,7 @@ nobody {X} n e x is = none-some x (sym (named-replicate n e) ∙ is)
 
 -- a session with nothing open
 abbrev pub empty_session : Tree → List UdevPacket → HostState → SessionState
-empty_session t p host = record { host = host; devices = replicate 64 None; interfaces = replicate 64 None; endpoints = replicate 64 None; tree = t; packets = p }
+empty_session t p host = record { host = host; devices = replicate 64 None; interfaces = replicate 64 None; endpoints = replicate 64 None; futures = replicate 64 None; tree = t; packets = p }
 
 empty-sound : (t : Tree) (p : List UdevPacket) (host : HostState) → host.steps ≡ [] → host.interfaces ≡ [] → host.devices ≡ [] → host.endpoints ≡ [] → IsSound (empty_session t p host)
 empty-sound t p host idle none nothing closed =
@@ -66,13 +67,19 @@ empty-sound t p host idle none nothing closed =
       interfaces_counted = λ key c at. absurd (none-some c (sym (ap (λ (l : List (Option ClaimedInterface)). value_at l key) none) ∙ at));
       endpoints_stand = λ e h is. absurd (nobody 64 e h is);
       endpoints_differ = λ d e g h isg ish apart. absurd (nobody 64 d g isg);
-      endpoints_named = λ key open_. let no_ : false ≡ true = sym (ap (λ (es : List (Option HostEndpoint)). key_at es key) closed) ∙ open_ in absurd (cc);
+      keys_named = λ key open_. let no_ : false ≡ true = sym (ap (λ (es : List (Option HostEndpoint)). key_at es key) closed) ∙ open_ in absurd (cc);
+      future_names = length-replicate {A = Option FutureState} 64 None;
+      futures_wait = λ n f is. absurd (nobody 64 n f is);
+      futures_stand = λ n f is. absurd (nobody 64 n f is);
+      futures_differ = λ m n f g isf isg apart. absurd (nobody 64 m f isf);
+      futures_apart = λ e n h f ish isf. absurd (nobody 64 n f isf);
     }
 
-made-empty : (t : Tree) (p : List UdevPacket) (host : HostState) (ds : List (Option ℕ)) (is : List (Option InterfaceState)) (es : List (Option AnyEndpoint)) → ds ≡ replicate 64 None → is ≡ replicate 64 None → es ≡ replicate 64 None → session_made t p host ds is es ≡ empty_session t p host
-made-empty t p host ds is es d i e =
-    ap (λ (l : List (Option ℕ)). session_made t p host l is es) d ∙ ap (λ (l : List (Option InterfaceState)). session_made t p host (replicate 64 None) l es) i
-    ∙ ap (λ (l : List (Option EndpointState)). record (empty_session t p host) { endpoints = l }) (ap (map (option_map state_of)) e ∙ sym (map-replicate state_of 64))
+made-empty : (t : Tree) (p : List UdevPacket) (host : HostState) (ds : List (Option ℕ)) (is : List (Option InterfaceState)) (es : List (Option AnyEndpoint)) (fs : List (Option FutureState)) → ds ≡ replicate 64 None → is ≡ replicate 64 None → es ≡ replicate 64 None → fs ≡ replicate 64 None → session_made t p host ds is es fs ≡ empty_session t p host
+made-empty t p host ds is es fs d i e f =
+    ap (λ (l : List (Option ℕ)). session_made t p host l is es fs) d ∙ ap (λ (l : List (Option InterfaceState)). session_made t p host (replicate 64 None) l es fs) i
+    ∙ ap (λ (l : List (Option EndpointState)). record (empty_session t p host) { endpoints = l; futures = fs }) (ap (map (option_map state_of)) e ∙ sym (map-replicate state_of 64))
+    ∙ ap (λ (l : List (Option FutureState)). record (empty_session t p host) { futures = l }) f
 
 start-steps : (items : List Item) → (start items).host.steps ≡ []
 unfolding start
@@ -90,9 +97,9 @@ start-endpoints : (items : List Item) → (start items).host.endpoints ≡ []
 unfolding start
 start-endpoints items = refl
 
-pub sound-start : (items : List Item) (t : Tree) (p : List UdevPacket) (host : HostState) (ds : List (Option ℕ)) (is : List (Option InterfaceState)) (es : List (Option AnyEndpoint)) → host ≡ (start items).host → ds ≡ replicate 64 None → is ≡ replicate 64 None → es ≡ replicate 64 None → IsSound (session_made t p host ds is es)
-sound-start items t p host ds is es start_ d i e =
-    subst IsSound (sym (made-empty t p host ds is es d i e)) (empty-sound t p host (ap (λ (h : HostState). h.steps) start_ ∙ start-steps items) (ap (λ (h : HostState). h.interfaces) start_ ∙ start-interfaces items) (ap (λ (h : HostState). h.devices) start_ ∙ start-devices items) (ap (λ (h : HostState). h.endpoints) start_ ∙ start-endpoints items))
+pub sound-start : (items : List Item) (t : Tree) (p : List UdevPacket) (host : HostState) (ds : List (Option ℕ)) (is : List (Option InterfaceState)) (es : List (Option AnyEndpoint)) (fs : List (Option FutureState)) → host ≡ (start items).host → ds ≡ replicate 64 None → is ≡ replicate 64 None → es ≡ replicate 64 None → fs ≡ replicate 64 None → IsSound (session_made t p host ds is es fs)
+sound-start items t p host ds is es fs start_ d i e f =
+    subst IsSound (sym (made-empty t p host ds is es fs d i e f)) (empty-sound t p host (ap (λ (h : HostState). h.steps) start_ ∙ start-steps items) (ap (λ (h : HostState). h.interfaces) start_ ∙ start-interfaces items) (ap (λ (h : HostState). h.devices) start_ ∙ start-devices items) (ap (λ (h : HostState). h.endpoints) start_ ∙ start-endpoints items))
 
 empty-start : (items : List Item) → empty_session (tree_of items) (packets_of items) (start items).host ≡ session_of (start items)
 unfolding start
@@ -102,11 +109,11 @@ few-start : (items : List Item) (e : ℕ) (h : Endpoint) → named (start items)
 unfolding start
 few-start items e h is = absurd (nobody 64 e h is)
 
-pub represents-start : (items : List Item) (t : Tree) (p : List UdevPacket) (host : HostState) (ds : List (Option ℕ)) (is : List (Option InterfaceState)) (es : List (Option AnyEndpoint)) → host ≡ (start items).host → ds ≡ replicate 64 None → is ≡ replicate 64 None → es ≡ replicate 64 None → t ≡ tree_of items → p ≡ packets_of items → Represents (session_made t p host ds is es) (start items)
-represents-start items t p host ds is es start_ d i e known left =
+pub represents-start : (items : List Item) (t : Tree) (p : List UdevPacket) (host : HostState) (ds : List (Option ℕ)) (is : List (Option InterfaceState)) (es : List (Option AnyEndpoint)) (fs : List (Option FutureState)) → host ≡ (start items).host → ds ≡ replicate 64 None → is ≡ replicate 64 None → es ≡ replicate 64 None → fs ≡ replicate 64 None → t ≡ tree_of items → p ≡ packets_of items → Represents (session_made t p host ds is es fs) (start items)
+represents-start items t p host ds is es fs start_ d i e f known left =
     record {
       is =
-          made-empty t p host ds is es d i e ∙ ap (empty_session t p) start_ ∙ ap (λ s. empty_session s p (start items).host) known
+          made-empty t p host ds is es fs d i e f ∙ ap (empty_session t p) start_ ∙ ap (λ s. empty_session s p (start items).host) known
           ∙ ap (λ l. empty_session (tree_of items) l (start items).host) left ∙ empty-start items;
       few = few-start items;
     }

@@ -14,6 +14,7 @@ use Rattle.usb_answers.specs.SessionState.{SessionState, IsSound}
 use Rattle.usb_answers.proofs.CountedNames.{counted-same}
 use Rattle.usb_answers.proofs.CountedDevices.{CountedDevices}
 use Rattle.usb_answers.proofs.NamedKeys.{none-bus, named-goes}
+use Rattle.usb_answers.proofs.FutureLemmas.{future-same}
 
 -- the device of a handle that stands
 pub device-of : (h : HostState) (key : ℕ) → StandsDevice h key → (o : OpenDevice) × (value_at h.devices key ≡ Some o)
@@ -40,5 +41,10 @@ sound-device s now after sound steps interfaces bus names stand counted held =
       interfaces_counted = counted-same s.host.interfaces now.interfaces s.interfaces interfaces sound.interfaces_counted;
       endpoints_stand = λ e h at. subst (λ (b : BusState). Stands b h) (sym bus) (sound.endpoints_stand e h at);
       endpoints_differ = sound.endpoints_differ;
-      endpoints_named = named-goes s.host.endpoints now.endpoints s.endpoints (none-bus s.host now bus) sound.endpoints_named;
+      keys_named = named-goes s.host.endpoints now.endpoints s.endpoints s.futures (none-bus s.host now bus) sound.keys_named;
+      future_names = sound.future_names;
+      futures_wait = sound.futures_wait;
+      futures_stand = λ n f at. future-same s.host now f bus (sound.futures_stand n f at);
+      futures_differ = sound.futures_differ;
+      futures_apart = sound.futures_apart;
     }

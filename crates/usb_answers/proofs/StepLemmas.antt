@@ -1,5 +1,5 @@
 -- What a call makes of the order of tickets and of their places.
-use Rattle.std.proofs.Common.{ℕ, zero, suc, arith, ◌≡◌, ◌<◌, ◌≢◌, ◌≤◌, ◌+◌, true, List, [], ◌∷◌, ◌++◌, length, drop, slice_get, Option, Some, None, inl, inr, sym, ◌∙◌, ap, subst, append-nil}
+use Rattle.std.proofs.Common.{ℕ, zero, suc, arith, ◌≡◌, ◌<◌, ◌≢◌, ◌≤◌, ◌+◌, true, List, [], ◌∷◌, ◌++◌, length, drop, slice_get, Option, Some, None, inl, inr, refl, sym, ◌∙◌, ap, subst, append-nil}
 use Rattle.std.specs.Prelude.{All}
 use Rattle.std.specs.Option.{option_map}
 use Rattle.std.proofs.lemmas.Bool.{cases_eq}
@@ -9,40 +9,48 @@ use Rattle.std.proofs.lemmas.List.Elements.{All-append, All-nil, All-cons}
 use Rattle.usb_xfer.specs.BufferState.{BufferState}
 use Rattle.usb_kernel.specs.Tickets.{tickets}
 use Rattle.usb_endpoint.specs.Submits.{entered}
+use Rattle.usb_host.specs.declared.controls.ControlRequest.{ControlRequest}
 use Rattle.usb_host.specs.HostState.{HostState}
+use Rattle.usb_host.specs.Controls.{control_submission, request_started}
 use Rattle.usb_host.specs.HostCalls.{host_submitted, host_refused}
 use Rattle.usb_host.specs.TicketEnds.{host_taken}
-use Rattle.usb_host.proofs.CountLemmas.{KeepsCount, taken-count, closed-count, entered-count}
-use Rattle.usb_host.proofs.FollowLemmas.{on-same, adds-entered, taken-others}
+use Rattle.usb_host.proofs.CountLemmas.{KeepsCount, CountsOneMore, taken-count, closed-count, entered-count}
+use Rattle.usb_host.proofs.FollowLemmas.{KeepsTickets, on-same, adds-entered, taken-others}
+use Rattle.usb_host.proofs.StartedLemmas.{Parts, AddsTaken, adds-started, started-count}
+use Rattle.usb_device.specs.Futures.{FutureState, fresh_future}
 use Rattle.usb_script.specs.declared.item.Item.{Item}
 use Rattle.usb_answers.specs.Names.{named, is_free, change_named, freed, set_name, nothing, something}
-use Rattle.usb_answers.specs.State.{State, Endpoint, kept, pending, tickets_of}
+use Rattle.usb_answers.specs.State.{State, Endpoint, kept, pending, tickets_of, with_host}
 use Rattle.usb_answers.specs.Answer.{Answer}
 use Rattle.usb_answers.specs.Polls.{one_taken, taken_from}
 use Rattle.usb_answers.specs.Submits.{submitted, with_submission}
 use Rattle.usb_answers.specs.Closes.{without_endpoint, closed}
+use Rattle.usb_answers.specs.Futures.{with_future}
+use Rattle.usb_answers.specs.Ends.{future_closed_under}
 use Rattle.usb_answers.specs.Answers.{answer}
 use Rattle.usb_answers.specs.Accounts.{TookFew}
-use Rattle.usb_answers.specs.Served.{ClosedEndpoint, tickets_of_all, closed_under, closed_by}
+use Rattle.usb_answers.specs.Served.{ClosedEndpoint, tickets_of_all, closed_under, closed_by, control_ticket}
 use Rattle.usb_answers.proofs.NameLemmas.{place_of, free_place, named-change_same, named-change_other, named-freed, named-freed_other, named-set, named-set_other, length-change, length-freed, length-set_name}
-use Rattle.usb_answers.proofs.TimesLemmas.{one, times, times-append, among, among-once, times_open, open-change, open-one, open-two}
-use Rattle.usb_answers.proofs.OrderLemmas.{IsHeld, InOrder, order-few, order-stays, order-keeps, order-fresh, order-push, order-within, order-takes, front-held, front-stands, pending-all, stays-same, left_by, LeavesTickets, goes-keeps, goes-then, goes-taken, goes-left, IsClosed, closed-goes, closed-order, left-stays}
-use Rattle.usb_answers.proofs.Does.{Quiet, Acts, goes, opens, submits, ends, takes, closes}
+use Rattle.usb_answers.proofs.TimesLemmas.{one, times, times-append, among, among-once, tickets_in, ticket_in, times_open, times_awaited, listed-once, listed-apart, open-change, open-one, open-two}
+use Rattle.usb_answers.proofs.OrderLemmas.{IsHeld, Stays, held-stays, stays-keeps, leaves-is, leaves-held, InOrder, order-few, order-stays, order-keeps, order-fresh, order-push, order-within, order-takes, front-held, front-stands, pending-all, stays-same, left_by, LeavesTickets, goes-keeps, goes-then, goes-taken, goes-left, IsClosed, closed-goes, closed-order, left-stays}
+use Rattle.usb_answers.proofs.Does.{Quiet, Acts, without_future_of, goes, opens, submits, starts, controls, frees, ends, takes, closes}
+use Rattle.usb_answers.proofs.ControlLines.{future_closed_under-does}
 use Rattle.usb_answers.proofs.EndpointLines.{closed-does}
 use Rattle.usb_answers.proofs.EveryLine.{answer-does}
 
--- each open endpoint is in order, and each ticket stands at one place at most
+-- each open endpoint is in order, each ticket stands at one place at most, and that of a future is held
 pub record Inv (state : State) : Type 0 where
   pub order : (e : ℕ) (h : Endpoint) → named state.endpoints e ≡ Some h → InOrder state.host h
-  pub once : (t : ℕ) → times_open t state.endpoints ≤ among t (tickets_of state)
+  pub once : (t : ℕ) → times_open t state.endpoints + times_awaited t state.futures ≤ among t (tickets_of state)
+  pub waits : (n : ℕ) (f : FutureState) (t : ℕ) → named state.futures n ≡ Some f → f.ticket ≡ Some t → IsHeld state.host t
   pub count : length state.host.tickets ≡ tickets_of state
   pub names : length state.endpoints ≡ 64
 
--- a change of the state, and the endpoints that it closes
-pub record Step (state next : State) (closed : List ClosedEndpoint) : Type 0 where
+-- a change of the state, the endpoints that it closes, and the tickets of the control transfers that it hands in
+pub record Step (state next : State) (closed : List ClosedEndpoint) (handed : List ℕ) : Type 0 where
   pub goes : LeavesTickets state.host next.host
   pub inv : Inv next
-  pub adds : (t : ℕ) → times t (tickets_of_all closed) + times_open t next.endpoints + among t (tickets_of state) ≡ times_open t state.endpoints + among t (tickets_of next)
+  pub adds : (t : ℕ) → times t (tickets_of_all closed) + times t handed + times_open t next.endpoints + among t (tickets_of state) ≡ times_open t state.endpoints + among t (tickets_of next)
   pub closes : All (λ (c : ClosedEndpoint). IsClosed next.host c.endpoint c.past) closed
 
 abbrev pub Closes : HostState → ClosedEndpoint → Type 0
@@ -54,31 +62,45 @@ closes-on old new xs leaves all k d below = closed-goes old new _ _ leaves (all 
 pub all-tickets : (t : ℕ) (xs ys : List ClosedEndpoint) → times t (tickets_of_all (xs ++ ys)) ≡ times t (tickets_of_all xs) + times t (tickets_of_all ys)
 all-tickets t xs ys = ap (times t) (flat_map-append (λ (h : ClosedEndpoint). h.endpoint.tickets) xs ys) ∙ times-append t (tickets_of_all xs) (tickets_of_all ys)
 
-pub step-then : {a b c : State} {xs ys : List ClosedEndpoint} → Step a b xs → Step b c ys → Step a c (xs ++ ys)
-step-then {a} {b} {c} {xs} {ys} first second =
+pub step-then : {a b c : State} {xs ys : List ClosedEndpoint} {us vs : List ℕ} → Step a b xs us → Step b c ys vs → Step a c (xs ++ ys) (us ++ vs)
+step-then {a} {b} {c} {xs} {ys} {us} {vs} first second =
     record {
       goes = goes-then a.host b.host c.host first.goes second.goes;
       inv = second.inv;
-      adds = λ t. let one_ = first.adds t in let two = second.adds t in let parts = all-tickets t xs ys in omega arith;
+      adds = λ t. let one_ = first.adds t in let two = second.adds t in let parts = all-tickets t xs ys in let handed = times-append t us vs in omega arith;
       closes = All-append (Closes c.host) xs ys (closes-on b.host c.host xs second.goes first.closes) second.closes;
     }
 
-pub step-after : {a b c : State} {xs : List ClosedEndpoint} → Step a b xs → Step b c [] → Step a c xs
-step-after {a} {c} {xs} first second = subst (Step a c) (append-nil xs) (step-then first second)
+pub step-after : {a b c : State} {xs : List ClosedEndpoint} {us : List ℕ} → Step a b xs us → Step b c [] [] → Step a c xs us
+step-after {a} {c} {xs} {us} first second =
+    subst (λ l. Step a c l us) (append-nil xs) (subst (Step a c (xs ++ [])) (append-nil us) (step-then first second))
 
 among-kept : {old new : HostState} → KeepsCount old new → (t : ℕ) → among t (length (tickets new.kernel.past)) ≡ among t (length (tickets old.kernel.past))
 among-kept count t = ap (among t) count.past
 
+-- the tickets of futures stand in the lists of no endpoint, and of no other future
+awaited-one : (state : State) (n : ℕ) (f : FutureState) (t : ℕ) → named state.futures n ≡ Some f → f.ticket ≡ Some t → 1 ≤ times_awaited t state.futures
+awaited-one state n f t is ticket = let here = listed-once f.ticket t ticket in let most = open-one ticket_in t state.futures n f is in omega arith
+
+awaited-apart : (state : State) (n : ℕ) (f : FutureState) (t : ℕ) → Inv state → named state.futures n ≡ Some f → f.ticket ≡ Some t → times_open t state.endpoints ≡ 0
+awaited-apart state n f t inv is ticket =
+    let one_ = awaited-one state n f t is ticket in let all = inv.once t in let few = among-once t (tickets_of state) in omega arith
+
+waits-keeps : (state : State) (host : HostState) → Inv state → KeepsTickets state.host host → (n : ℕ) (f : FutureState) (t : ℕ) → named state.futures n ≡ Some f → f.ticket ≡ Some t → IsHeld host t
+waits-keeps state host inv keeps n f t is ticket = held-stays state.host host t (stays-keeps state.host host t keeps) (inv.waits n f t is ticket)
+
 -- the host goes on
-pub step-quiet : {state next : State} → Inv state → Quiet state next → Step state next []
+pub step-quiet : {state next : State} → Inv state → Quiet state next → Step state next [] []
 step-quiet {state} {next} inv quiet =
     let below = among-kept quiet.count in
     let lists : (t : ℕ) → times_open t next.endpoints ≡ times_open t state.endpoints = λ t. ap (times_open t) quiet.endpoints in
+    let futures : (t : ℕ) → times_awaited t next.futures ≡ times_awaited t state.futures = λ t. ap (times_awaited t) quiet.futures in
     record {
       goes = goes-keeps state.host next.host quiet.keeps;
       inv = record {
         order = λ e h is. order-keeps state.host next.host h quiet.keeps (inv.order e h (ap (λ (l : List (Option Endpoint)). named l e) (sym quiet.endpoints) ∙ is));
-        once = λ t. let was = inv.once t in let l = lists t in let b = below t in omega arith;
+        once = λ t. let was = inv.once t in let l = lists t in let f = futures t in let b = below t in omega arith;
+        waits = λ n f t is ticket. waits-keeps state next.host inv quiet.keeps n f t (ap (λ (l : List (Option FutureState)). named l n) (sym quiet.futures) ∙ is) ticket;
         count = quiet.count.count ∙ inv.count ∙ sym quiet.count.past;
         names = ap (λ (l : List (Option Endpoint)). length l) quiet.endpoints ∙ inv.names;
       };
@@ -87,12 +109,12 @@ step-quiet {state} {next} inv quiet =
     }
 
 -- an endpoint is opened
-step-open : (state : State) (e : ℕ) (x : Endpoint) → Inv state → is_free state.endpoints e ≡ true → x.tickets ≡ [] → x.taken ≡ 0 → Step state (record state { endpoints = set_name state.endpoints e x }) []
+step-open : (state : State) (e : ℕ) (x : Endpoint) → Inv state → is_free state.endpoints e ≡ true → x.tickets ≡ [] → x.taken ≡ 0 → Step state (record state { endpoints = set_name state.endpoints e x }) [] []
 unfolding set_name
 step-open state e x inv free none zero_ =
     let es = set_name state.endpoints e x in
     let lists : (t : ℕ) → times_open t es ≡ times_open t state.endpoints = λ t.
-    let change = open-change t (something x) state.endpoints e None (free_place state.endpoints e free) in
+    let change = open-change tickets_in t (something x) state.endpoints e None (free_place state.endpoints e free) in
     let empty : times t x.tickets ≡ 0 = ap (times t) none in omega arith in
     record {
       goes = goes-keeps state.host state.host (on-same state.host);
@@ -104,6 +126,7 @@ step-open state e x inv free none zero_ =
           | inr apart ↦ inv.order d h (sym (named-set_other state.endpoints e d x apart) ∙ is)
         ];
         once = λ t. let was = inv.once t in let l = lists t in omega arith;
+        waits = inv.waits;
         count = inv.count;
         names = length-set_name state.endpoints e x ∙ inv.names;
       };
@@ -116,7 +139,7 @@ changed : (f : Endpoint → Endpoint) (es : List (Option Endpoint)) (e : ℕ) (h
 changed f es e h g here is = same_Some (f h) g (sym (named-change_same f es e ∙ ap (option_map f) here) ∙ is)
 
 -- a ticket is submitted
-step-push : (state : State) (e : ℕ) (b : BufferState) (h : Endpoint) → Inv state → named state.endpoints e ≡ Some h → Step state (submitted state e b h) []
+step-push : (state : State) (e : ℕ) (b : BufferState) (h : Endpoint) → Inv state → named state.endpoints e ≡ Some h → Step state (submitted state e b h) [] []
 unfolding change_named
 step-push state e b h inv here =
     let n = tickets_of state in
@@ -127,7 +150,7 @@ step-push state e b h inv here =
     let many : length (tickets host.kernel.past) ≡ suc n = omega (arith, count.past) in
     let new : IsHeld host n = record { hold = adds.hold; is = ap (slice_get host.tickets) (sym inv.count) ∙ adds.last } in
     let lists : (t : ℕ) → times_open t es ≡ times_open t state.endpoints + one t n = λ t.
-    let change = open-change t (option_map (with_submission n)) state.endpoints e (Some h) (place_of state.endpoints e h here) in
+    let change = open-change tickets_in t (option_map (with_submission n)) state.endpoints e (Some h) (place_of state.endpoints e h here) in
     let pushed = times-append t h.tickets (n ∷ []) in omega arith in
     let below : (t : ℕ) → among t (length (tickets host.kernel.past)) ≡ one t n + among t n = λ t. ap (among t) many in
     record {
@@ -140,6 +163,7 @@ step-push state e b h inv here =
           | inr apart ↦ order-keeps state.host host g adds.goes (inv.order d g (sym (named-change_other (with_submission n) state.endpoints e d apart) ∙ is))
         ];
         once = λ t. let was = inv.once t in let l = lists t in let c = below t in omega arith;
+        waits = waits-keeps state host inv adds.goes;
         count = count.count ∙ omega (arith, inv.count, many);
         names = length-change (option_map (with_submission n)) state.endpoints e ∙ inv.names;
       };
@@ -150,21 +174,21 @@ step-push state e b h inv here =
 -- each ticket stands once at most
 stands-once : (state : State) (e : ℕ) (h : Endpoint) (t : ℕ) → Inv state → named state.endpoints e ≡ Some h → times t h.tickets ≤ 1
 stands-once state e h t inv here =
-    let most = open-one t state.endpoints e h here in let all = inv.once t in let few = among-once t (tickets_of state) in omega arith
+    let most = open-one tickets_in t state.endpoints e h here in let all = inv.once t in let few = among-once t (tickets_of state) in omega arith
 
 apart-two : (state : State) (d e : ℕ) (g h : Endpoint) (t : ℕ) → Inv state → d ≢ e → named state.endpoints d ≡ Some g → named state.endpoints e ≡ Some h → times t g.tickets + times t h.tickets ≤ 1
 apart-two state d e g h t inv apart first second =
-    let most = open-two t state.endpoints d e g h apart first second in let all = inv.once t in let few = among-once t (tickets_of state) in omega arith
+    let most = open-two tickets_in t state.endpoints d e g h apart first second in let all = inv.once t in let few = among-once t (tickets_of state) in omega arith
 
 -- the ticket at the place of those that were taken is taken
-step-take : (state : State) (e t : ℕ) (h : Endpoint) → Inv state → named state.endpoints e ≡ Some h → slice_get h.tickets h.taken ≡ Some t → Step state (taken_from state e t) []
+step-take : (state : State) (e t : ℕ) (h : Endpoint) → Inv state → named state.endpoints e ≡ Some h → slice_get h.tickets h.taken ≡ Some t → Step state (taken_from state e t) [] []
 unfolding change_named
 step-take state e t h inv here front =
     let host = host_taken state.host t in
     let es = change_named one_taken state.endpoints e in
     let count = taken-count state.host t in
     let lists : (u : ℕ) → times_open u es ≡ times_open u state.endpoints = λ u.
-    let change = open-change u (option_map one_taken) state.endpoints e (Some h) (place_of state.endpoints e h here) in omega arith in
+    let change = open-change tickets_in u (option_map one_taken) state.endpoints e (Some h) (place_of state.endpoints e h here) in omega arith in
     record {
       goes = goes-taken state.host t (front-held state.host h t (inv.order e h here) front);
       inv = record {
@@ -179,6 +203,12 @@ step-take state e t h inv here front =
               order-stays state.host host g (λ u there. stays-same state.host host u (taken-others state.host t u (λ same. let moved : times u g.tickets ≡ times t g.tickets = ap (λ v. times v g.tickets) same in absurd (omega arith)))) (inv.order d g was)
         ];
         once = λ u. let was = inv.once u in let l = lists u in let b = among-kept count u in omega arith;
+        waits = λ n f u is ticket.
+            held-stays state.host host u (stays-same state.host host u (taken-others state.host t u (λ same.
+            let none : times_open u state.endpoints ≡ 0 = awaited-apart state n f u inv is ticket in
+            let moved : times_open u state.endpoints ≡ times_open t state.endpoints = ap (λ v. times_open v state.endpoints) same in
+            let stands = front-stands state.host h t (inv.order e h here) front in
+            let most = open-one tickets_in t state.endpoints e h here in absurd (omega arith)))) (inv.waits n f u is ticket);
         count = count.count ∙ inv.count ∙ sym count.past;
         names = length-change (option_map one_taken) state.endpoints e ∙ inv.names;
       };
@@ -187,7 +217,7 @@ step-take state e t h inv here front =
     }
 
 -- an endpoint is closed
-step-close : (state : State) (e : ℕ) (h : Endpoint) (lines : List (List ℕ)) → Inv state → named state.endpoints e ≡ Some h → Step state (without_endpoint state e h) (record { endpoint = h; past = state.host.kernel.past; lines = lines } ∷ [])
+step-close : (state : State) (e : ℕ) (h : Endpoint) (lines : List (List ℕ)) → Inv state → named state.endpoints e ≡ Some h → Step state (without_endpoint state e h) (record { endpoint = h; past = state.host.kernel.past; lines = lines } ∷ []) []
 unfolding freed
 step-close state e h lines inv here =
     let host = left_by state.host (kept h) in
@@ -195,7 +225,7 @@ step-close state e h lines inv here =
     let count = closed-count state.host (kept h) in
     let handle : ClosedEndpoint = record { endpoint = h; past = state.host.kernel.past; lines = lines } in
     let lists : (u : ℕ) → times_open u es + times u h.tickets ≡ times_open u state.endpoints = λ u.
-    let change = open-change u nothing state.endpoints e (Some h) (place_of state.endpoints e h here) in omega arith in
+    let change = open-change tickets_in u nothing state.endpoints e (Some h) (place_of state.endpoints e h here) in omega arith in
     let whole : (u : ℕ) → times u (tickets_of_all (handle ∷ [])) ≡ times u h.tickets = λ u. ap (times u) (append-nil h.tickets) in
     record {
       goes = goes-left state.host (kept h) (pending-all state.host h (inv.order e h here));
@@ -210,6 +240,11 @@ step-close state e h lines inv here =
               left-stays state.host (kept h) u (omega arith)) (inv.order d g was)
         ];
         once = λ u. let was = inv.once u in let l = lists u in let b = among-kept count u in omega arith;
+        waits = λ n f u is ticket.
+            let none = awaited-apart state n f u inv is ticket in
+            let most = open-one tickets_in u state.endpoints e h here in
+            let part = pending-few h u in
+            held-stays state.host host u (left-stays state.host (kept h) u (omega arith)) (inv.waits n f u is ticket);
         count = count.count ∙ inv.count ∙ sym count.past;
         names = length-freed state.endpoints e ∙ inv.names;
       };
@@ -225,11 +260,112 @@ step-close state e h lines inv here =
     pending-few : (h : Endpoint) (u : ℕ) → times u (pending h) ≤ times u h.tickets
     pending-few h u = times-drop h.taken h.tickets u
 
+-- a control transfer is handed in, and its future is open under a name
+step-start : (state : State) (n : ℕ) (request : ControlRequest) (timeout device : ℕ) → Inv state → is_free state.futures n ≡ true → Step state (with_future state n request timeout device) [] (tickets_of state ∷ [])
+unfolding set_name
+step-start state n request timeout device inv free =
+    let m = tickets_of state in
+    let s = control_submission state.host device request timeout in
+    let host = request_started state.host device request timeout in
+    let x = fresh_future state.host request timeout in
+    let fs = set_name state.futures n x in
+    let adds = adds-started state.host s in
+    let count = started-count state.host s in
+    let many : length (tickets host.kernel.past) ≡ suc m = omega (arith, count.past) in
+    let new : IsHeld host m = record { hold = adds.hold; is = ap (slice_get host.tickets) (sym inv.count) ∙ adds.last } in
+    let lists : (t : ℕ) → times_awaited t fs ≡ times_awaited t state.futures + one t m = λ t.
+    let change = open-change ticket_in t (something x) state.futures n None (free_place state.futures n free) in omega arith in
+    let below : (t : ℕ) → among t (length (tickets host.kernel.past)) ≡ one t m + among t m = λ t. ap (among t) many in
+    record {
+      goes = goes-keeps state.host host adds.goes;
+      inv = record {
+        order = λ e h is. order-keeps state.host host h adds.goes (inv.order e h is);
+        once = λ t. let was = inv.once t in let l = lists t in let c = below t in omega arith;
+        waits = λ k g t is ticket. elim (cases_eq k n) [
+          | inl same ↦
+              let entry : x ≡ g = same_Some x g (sym (named-set state.futures n x free) ∙ (ap (named fs) (sym same) ∙ is)) in
+              subst (IsHeld host) (same_Some m t (ap (λ (f : FutureState). f.ticket) entry ∙ ticket)) new
+          | inr apart ↦ waits-keeps state host inv adds.goes k g t (sym (named-set_other state.futures n k x apart) ∙ is) ticket
+        ];
+        count = count.count ∙ omega (arith, inv.count, many);
+        names = inv.names;
+      };
+      adds = λ t. let c = below t in omega arith;
+      closes = All-nil (Closes host);
+    }
+
+-- it is awaited, and its ticket taken at once
+step-control : (state : State) (host : HostState) → Inv state → CountsOneMore state.host host → AddsTaken state.host host → Step state (with_host state host) [] (tickets_of state ∷ [])
+step-control state host inv count adds =
+    let m = tickets_of state in
+    let many : length (tickets host.kernel.past) ≡ suc m = omega (arith, count.past) in
+    let below : (t : ℕ) → among t (length (tickets host.kernel.past)) ≡ one t m + among t m = λ t. ap (among t) many in
+    record {
+      goes = goes-keeps state.host host adds.goes;
+      inv = record {
+        order = λ e h is. order-keeps state.host host h adds.goes (inv.order e h is);
+        once = λ t. let was = inv.once t in let c = below t in omega arith;
+        waits = waits-keeps state host inv adds.goes;
+        count = count.count ∙ omega (arith, inv.count, many);
+        names = inv.names;
+      };
+      adds = λ t. let c = below t in omega arith;
+      closes = All-nil (Closes host);
+    }
+
+-- the host parts with the ticket of a future, whose name is free then
+goes-parts : (old new : HostState) (ticket : Option ℕ) → ((t : ℕ) → ticket ≡ Some t → IsHeld old t) → Parts old new ticket → LeavesTickets old new
+goes-parts old new None held parts =
+    record { past = parts.past; tickets = λ u. leaves-is (slice_get old.tickets u) (slice_get new.tickets u) (parts.others u (none-some u)) }
+goes-parts old new (Some t) held parts =
+    record {
+      past = parts.past;
+      tickets = λ u. elim (cases_eq u t) [
+        | inl same ↦ let was = held t refl in leaves-held (slice_get old.tickets u) (slice_get new.tickets u) was.hold (ap (slice_get old.tickets) same ∙ was.is)
+        | inr apart ↦ leaves-is (slice_get old.tickets u) (slice_get new.tickets u) (parts.others u (λ is. apart (sym (same_Some t u is))))
+      ];
+    }
+
+step-free : (state : State) (n : ℕ) (f : FutureState) (host : HostState) → Inv state → named state.futures n ≡ Some f → Parts state.host host f.ticket → Step state (without_future_of state host n) [] []
+unfolding freed
+step-free state n f host inv here parts =
+    let fs = freed state.futures n in
+    let lists : (u : ℕ) → times_awaited u fs + times u (ticket_in f) ≡ times_awaited u state.futures = λ u.
+    let change = open-change ticket_in u nothing state.futures n (Some f) (place_of state.futures n f here) in omega arith in
+    let stays : (u : ℕ) → times u (ticket_in f) ≡ 0 → Stays state.host host u = λ u none. stays-same state.host host u (parts.others u (listed-apart f.ticket u none)) in
+    record {
+      goes = goes-parts state.host host f.ticket (λ t is. inv.waits n f t here is) parts;
+      inv = record {
+        order = λ d g is. order-stays state.host host g (λ u there. stays u (
+            let most = open-one tickets_in u state.endpoints d g is in
+            let few = open-one ticket_in u state.futures n f here in
+            let all = inv.once u in let one_ = among-once u (tickets_of state) in omega arith
+            )) (inv.order d g is);
+        once = λ u. let was = inv.once u in let l = lists u in let b = among-kept parts.count u in omega arith;
+        waits = λ m g u is ticket. elim (cases_eq m n) [
+          | inl same ↦ absurd (none-some g (sym (named-freed state.futures n) ∙ (ap (named fs) (sym same) ∙ is)))
+          | inr apart ↦
+              let was : named state.futures m ≡ Some g = sym (named-freed_other state.futures n m apart) ∙ is in
+              let most = open-two ticket_in u state.futures m n g f apart was here in
+              let once_ = listed-once g.ticket u ticket in
+              let all = inv.once u in let one_ = among-once u (tickets_of state) in
+              held-stays state.host host u (stays u (omega arith)) (inv.waits m g u was ticket)
+        ];
+        count = parts.count.count ∙ inv.count ∙ sym parts.count.past;
+        names = inv.names;
+      };
+      adds = λ u. let b = among-kept parts.count u in omega arith;
+      closes = All-nil (Closes host);
+    }
+
 -- so is what an answer does
-acts-step : {few : Type 0} {a : Answer} {state : State} {closed : List ClosedEndpoint} → few → Acts few a state closed → Inv state → Step state a.state closed
+acts-step : {few : Type 0} {a : Answer} {state : State} {closed : List ClosedEndpoint} {handed : List ℕ} → few → Acts few a state closed handed → Inv state → Step state a.state closed handed
 acts-step few (goes quiet rest) inv = let first = step-quiet inv quiet in step-then first (acts-step few rest first.inv)
 acts-step {state} few (opens e x free none zero_ rest) inv = let first = step-open state e x inv free none zero_ in step-then first (acts-step few rest first.inv)
 acts-step {state} few (submits e b h here within rest) inv = let first = step-push state e b h inv here in step-then first (acts-step few rest first.inv)
+acts-step {state} few (starts n request timeout device free rest) inv = let first = step-start state n request timeout device inv free in step-then first (acts-step few rest first.inv)
+acts-step {state} few (controls host one adds rest) inv = let first = step-control state host inv one (adds inv.count) in step-then first (acts-step few rest first.inv)
+acts-step {state} few (frees n f host here parts rest) inv = let first = step-free state n f host inv here parts in step-then first (acts-step few rest first.inv)
 acts-step few (ends other quiet) inv = step-quiet inv quiet
 acts-step {state} few (takes e t h c here front came line quiet) inv = let first = step-take state e t h inv here (front few) in step-after first (step-quiet first.inv quiet)
 acts-step {state} few (closes e h lines here other quiet) inv = let first = step-close state e h lines inv here in step-after first (step-quiet first.inv quiet)
@@ -237,8 +373,11 @@ acts-step {state} few (closes e h lines here other quiet) inv = let first = step
 pub few-taken : (state : State) → Inv state → TookFew state
 few-taken state inv e h is = order-few state.host h (inv.order e h is)
 
-pub answer-step : (state : State) (lines : ℕ → List (List ℕ)) (item : Item) → Inv state → Step state (answer state item).state (closed_by state lines item)
+pub answer-step : (state : State) (lines : ℕ → List (List ℕ)) (item : Item) → Inv state → Step state (answer state item).state (closed_by state lines item) (control_ticket state item)
 answer-step state lines item inv = acts-step (few-taken state inv) (answer-does state lines item) inv
 
-pub closed-step : (state : State) (e : ℕ) (lines : ℕ → List (List ℕ)) → Inv state → Step state (closed state e) (closed_under state lines e)
+pub closed-step : (state : State) (e : ℕ) (lines : ℕ → List (List ℕ)) → Inv state → Step state (closed state e) (closed_under state lines e) []
 closed-step state e lines inv = acts-step (few-taken state inv) (closed-does state e lines) inv
+
+pub future_closed-step : (state : State) (n : ℕ) → Inv state → Step state (future_closed_under state n) [] []
+future_closed-step state n inv = acts-step {few = Unit {0}} tt (future_closed_under-does state n) inv

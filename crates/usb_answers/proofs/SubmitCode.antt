@@ -5,7 +5,9 @@ use Rattle.std.specs.declared.alloc.Global.{Global}
 use Rattle.std.proofs.lemmas.List.{drop-append-le}
 use Rattle.usb_desc.specs.declared.types.Direction.{Direction}
 use Rattle.usb_xfer.specs.BufferState.{BufferState}
+use Rattle.usb_kernel.specs.Extends.{Extends}
 use Rattle.usb_kernel.specs.Tickets.{tickets}
+use Rattle.usb_kernel.proofs.Extends.{extends-same}
 use Rattle.usb_endpoint.specs.EndpointState.{EndpointState, route_of}
 use Rattle.usb_endpoint.specs.Submits.{entered, handed_over, transfer_by, is_valid}
 use Rattle.usb_endpoint.specs.Closes.{all_discarded}
@@ -14,6 +16,7 @@ use Rattle.usb_host.specs.HostFrames.{LineGoesOn}
 use Rattle.usb_host.proofs.HostKeeps.{KeepsOpen}
 use Rattle.usb_host.specs.HostCalls.{host_submitted, host_refused, host_discarded}
 use Rattle.usb_host.proofs.HostFrames.{uses-discarded}
+use Rattle.usb_host.proofs.FollowLemmas.{adds-entered}
 use Rattle.usb_host.proofs.CallFrames.{keeps-open, keeps-submitted, keeps-refused}
 use Rattle.usb_host.proofs.WaitFrames.{line-keeps, line-trans}
 use Rattle.usb_lines.specs.Calls.{condition_line, ok_line}
@@ -71,6 +74,13 @@ line-entered h e b = line-keeps h (entered host_submitted host_refused h e b) (k
 pub submit-line : (r : Result Unit BufferState) (host now : HostState) (x y : EndpointState) (b : BufferState) → OnOk r (now ≡ entered host_submitted host_refused host x b) → OnErr r ((y ≡ x) × (now ≡ host)) → LineGoesOn host now
 submit-line (Ok done) host now x y b ok err = subst (LineGoesOn host) (sym ok) (line-entered host x b)
 submit-line (Err back) host now x y b ok err = subst (LineGoesOn host) (sym err.1) (line-keeps host host (keeps-open host))
+
+pub past-entered : (h : HostState) (e : EndpointState) (b : BufferState) → Extends h.kernel.past (entered host_submitted host_refused h e b).kernel.past
+past-entered h e b = (adds-entered h e b).goes.past
+
+pub submit-past : (r : Result Unit BufferState) (host now : HostState) (x y : EndpointState) (b : BufferState) → OnOk r (now ≡ entered host_submitted host_refused host x b) → OnErr r ((y ≡ x) × (now ≡ host)) → Extends host.kernel.past now.kernel.past
+submit-past (Ok done) host now x y b ok err = subst (λ (h : HostState). Extends host.kernel.past h.kernel.past) (sym ok) (past-entered host x b)
+submit-past (Err back) host now x y b ok err = subst (λ (h : HostState). Extends host.kernel.past h.kernel.past) (sym err.1) (extends-same host.kernel.past)
 
 pub submit-key : (r : Result Unit BufferState) (host now : HostState) (x y : EndpointState) (t : ℕ) → OnOk r (y ≡ record x { pending = x.pending ++ t ∷ [] }) → OnErr r ((y ≡ x) × (now ≡ host)) → y.key ≡ x.key
 submit-key (Ok done) host now x y t ok err = ap (λ (h : EndpointState). h.key) ok

@@ -1,5 +1,5 @@
 -- An answer that takes a ticket prints its completion, and a completion is printed only by one that does.
-use Rattle.std.proofs.Common.{◌≡◌, ℕ, ◌≤◌, ◌+◌, suc, zero, arith, List, [], ◌∷◌, ◌++◌, length, take, Option, Some, None, true, false, ap, sym, ◌∙◌, subst, slice_get, inl, inr}
+use Rattle.std.proofs.Common.{◌≡◌, ℕ, ◌≤◌, ◌+◌, suc, zero, arith, List, [], ◌∷◌, ◌++◌, length, take, Option, Some, None, true, false, refl, ap, sym, ◌∙◌, subst, slice_get, inl, inr}
 use Rattle.std.specs.Option.{option_map, option_map_or}
 use Rattle.std.proofs.lemmas.Bool.{cases_eq}
 use Rattle.std.proofs.lemmas.List.{take-append-le}
@@ -12,17 +12,18 @@ use Rattle.usb_host.proofs.FollowLemmas.{taken-past}
 use Rattle.usb_lines.specs.Completions.{done_line}
 use Rattle.usb_script.specs.declared.item.Item.{Item}
 use Rattle.usb_answers.specs.Names.{named, is_free, set_name}
-use Rattle.usb_answers.specs.State.{State, Endpoint, tickets_of}
+use Rattle.usb_answers.specs.State.{State, Endpoint, tickets_of, with_host}
 use Rattle.usb_answers.specs.Answer.{Answer}
 use Rattle.usb_answers.specs.Submits.{submitted, with_submission}
 use Rattle.usb_answers.specs.Polls.{one_taken, taken_from}
 use Rattle.usb_answers.specs.Closes.{without_endpoint}
+use Rattle.usb_answers.specs.Futures.{with_future}
 use Rattle.usb_answers.specs.Answers.{answer}
 use Rattle.usb_answers.specs.Accounts.{TookFew}
 use Rattle.usb_answers.specs.Served.{ClosedEndpoint, taken_under}
 use Rattle.usb_answers.specs.Places.{TakesOne, CompletionsAreTaken}
 use Rattle.usb_answers.proofs.NameLemmas.{named_of, free_place, named-change_same, named-change_other, named-freed, named-freed_other, named-set, named-set_other}
-use Rattle.usb_answers.proofs.Does.{Quiet, Acts, says_done, goes, opens, submits, ends, takes, closes}
+use Rattle.usb_answers.proofs.Does.{Quiet, Acts, without_future_of, says_done, goes, opens, submits, starts, controls, frees, ends, takes, closes}
 use Rattle.usb_answers.proofs.EveryLine.{answer-does}
 use Rattle.usb_answers.proofs.PrintLemmas.{transfer-stays, taken_of, taken_in, count-under, Takes, none, next}
 
@@ -90,10 +91,13 @@ takes-next state a e t h g c here front came line quiet is =
     (ap (λ (x : Endpoint). taken_of x) (sym entry) ∙ (ap (λ n. take n h.tickets) more ∙ (take-one h.taken h.tickets t front ∙ ap (λ l. l ++ t ∷ []) (sym (ap taken_in here)))))
     (transfer-stays state.host.kernel.past a.state.host.kernel.past t c (subst (λ p. Extends p a.state.host.kernel.past) (taken-past state.host t) quiet.keeps.past) came) line
 
-acts-takes : {few : Type 0} {a : Answer} {state : State} {closed : List ClosedEndpoint} → few → Acts few a state closed → (d : ℕ) (g : Endpoint) → named a.state.endpoints d ≡ Some g → Takes state a d g
+acts-takes : {few : Type 0} {a : Answer} {state : State} {closed : List ClosedEndpoint} {handed : List ℕ} → few → Acts few a state closed handed → (d : ℕ) (g : Endpoint) → named a.state.endpoints d ≡ Some g → Takes state a d g
 acts-takes few (goes quiet rest) d g is = takes-before few (none-quiet d quiet) (acts-takes few rest d g is)
 acts-takes {state} few (opens e x free empty zero_ rest) d g is = takes-before few (none-opened state e x free zero_ d) (acts-takes few rest d g is)
 acts-takes {state} few (submits e b h here within rest) d g is = takes-before few (none-submitted state e b h here within d) (acts-takes few rest d g is)
+acts-takes {state} few (starts n request timeout device free rest) d g is = takes-before few (none-same state (with_future state n request timeout device) d refl) (acts-takes few rest d g is)
+acts-takes {state} few (controls host one adds rest) d g is = takes-before few (none-same state (with_host state host) d refl) (acts-takes few rest d g is)
+acts-takes {state} few (frees n f host here parts rest) d g is = takes-before few (none-same state (without_future_of state host n) d refl) (acts-takes few rest d g is)
 acts-takes {a} {state} few (ends other quiet) d g is = takes-none state a d g few (none-quiet d quiet) is
 acts-takes {a} {state} few (takes e t h c here front came line quiet) d g is =
     elim (cases_eq d e) [
@@ -117,10 +121,13 @@ not-done line c other is = let wrong : true ≡ false = sym (ap says_done is) �
 one-before : (few : Type 0) (old new : State) (a : Answer) → ((e : ℕ) → TakesNone few old new e) → TakesOne new a → TakesOne old a
 one-before few old new a before one = (one.0, one.1 ∙ ap (λ n. n + 1) (before one.0).count)
 
-acts-done : {few : Type 0} {a : Answer} {state : State} {closed : List ClosedEndpoint} → Acts few a state closed → (c : Completion) → a.line ≡ done_line c → TakesOne state a
+acts-done : {few : Type 0} {a : Answer} {state : State} {closed : List ClosedEndpoint} {handed : List ℕ} → Acts few a state closed handed → (c : Completion) → a.line ≡ done_line c → TakesOne state a
 acts-done {few} {a} {state} (goes {next = mid} quiet rest) c is = one-before few state mid a (λ d. none-quiet d quiet) (acts-done rest c is)
 acts-done {few} {a} {state} (opens e x free empty zero_ rest) c is = one-before few state (record state { endpoints = set_name state.endpoints e x }) a (none-opened state e x free zero_) (acts-done rest c is)
 acts-done {few} {a} {state} (submits e b h here within rest) c is = one-before few state (submitted state e b h) a (none-submitted state e b h here within) (acts-done rest c is)
+acts-done {few} {a} {state} (starts n request timeout device free rest) c is = one-before few state (with_future state n request timeout device) a (λ d. none-same state (with_future state n request timeout device) d refl) (acts-done rest c is)
+acts-done {few} {a} {state} (controls host one adds rest) c is = one-before few state (with_host state host) a (λ d. none-same state (with_host state host) d refl) (acts-done rest c is)
+acts-done {few} {a} {state} (frees n f host here parts rest) c is = one-before few state (without_future_of state host n) a (λ d. none-same state (without_future_of state host n) d refl) (acts-done rest c is)
 acts-done {a} (ends other quiet) c is = absurd (not-done a.line c other is)
 acts-done {state} (takes e t h c here front came line quiet) _ is = (
   e,

@@ -5,6 +5,7 @@ use Rattle.std.specs.Option.{option_map}
 use Rattle.std.specs.declared.alloc.Global.{Global}
 use Rattle.usb_ledger.proofs.DeviceLemmas.{counts-same}
 use Rattle.usb_simulated.specs.declared.step.KernelStep.{KernelStep}
+use Rattle.usb_kernel.specs.Extends.{Extends}
 use Rattle.usb_endpoint.specs.declared.any_endpoint.AnyEndpoint.{AnyEndpoint}
 use Rattle.usb_endpoint.specs.AnyEndpoints.{state_of}
 use Rattle.usb_endpoint.specs.EndpointState.{EndpointState}
@@ -28,7 +29,7 @@ use Rattle.usb_answers.proofs.NamedKeys.{none-goes}
 
 -- a session with another host and other endpoints
 abbrev pub made_with : Inside → HostState → List (Option AnyEndpoint) → SessionState
-made_with i host endpoints = session_made i.tree i.watch host i.devices.items i.interfaces.items endpoints
+made_with i host endpoints = session_made i.tree i.watch host i.devices.items i.interfaces.items endpoints i.futures.items
 
 -- an endpoint was taken out of its name, and put back as it was left
 pub record PutBack (es after : List (Option AnyEndpoint)) (e : ℕ) (x y : AnyEndpoint) : Type 0 where
@@ -55,16 +56,16 @@ no_front [] rest is = sym is
 no_front (s ∷ ss) rest is = absurd (cc)
 
 -- between lines no step is left
-pub keeps-line : (old new : HostState) → old.steps ≡ [] → LineGoesOn old new → KeepsSession old new
-keeps-line old new idle line =
-    record { idle = no_front line.front new.steps (sym idle ∙ line.steps); devices = counts-same old.devices new.devices line.devices; interfaces = line.interfaces }
+pub keeps-line : (old new : HostState) → old.steps ≡ [] → Extends old.kernel.past new.kernel.past → LineGoesOn old new → KeepsSession old new
+keeps-line old new idle past line =
+    record { idle = no_front line.front new.steps (sym idle ∙ line.steps); past = past; devices = counts-same old.devices new.devices line.devices; interfaces = line.interfaces }
 
 pub made-put : (i : Inside) (after : List (Option AnyEndpoint)) (e : ℕ) (x y : AnyEndpoint) → PutBack i.endpoints.items after e x y → map (option_map state_of) after ≡ set_name (freed (map (option_map state_of) i.endpoints.items) e) e (state_of y)
 made-put i after e x y back = put-map i.endpoints.items (freed i.endpoints.items e) after e y refl back.put
 
 pub sound-called : (i : Inside) (now : HostState) (after : List (Option AnyEndpoint)) (e : ℕ) (x y : AnyEndpoint) → IsSound (made_of i) → PutBack i.endpoints.items after e x y → CallKeeps i.host now (state_of x) (state_of y) → IsSound (made_with i now after)
 sound-called i now after e x y sound back keeps =
-    sound-put (made_of i) now (map (option_map state_of) after) e (state_of x) (state_of y) sound (taken-map i.endpoints.items e x back.was) (made-put i after e x y back) (keeps-line i.host now sound.idle keeps.line) keeps.stands keeps.key keeps.others
+    sound-put (made_of i) now (map (option_map state_of) after) e (state_of x) (state_of y) sound (taken-map i.endpoints.items e x back.was) (made-put i after e x y back) (keeps-line i.host now sound.idle keeps.past keeps.line) keeps.stands keeps.key keeps.others
     (none-goes i.host.endpoints now.endpoints keeps.line.endpoints)
 
 pub made-called : (i : Inside) (S : SessionState) (now : HostState) (after : List (Option AnyEndpoint)) (e : ℕ) (x y : AnyEndpoint) → made_of i ≡ S → PutBack i.endpoints.items after e x y → with_called S e now (state_of y) ≡ made_with i now after

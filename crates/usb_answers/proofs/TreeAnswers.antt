@@ -108,7 +108,12 @@ sound-packets s after sound =
       interfaces_counted = sound.interfaces_counted;
       endpoints_stand = sound.endpoints_stand;
       endpoints_differ = sound.endpoints_differ;
-      endpoints_named = sound.endpoints_named;
+      keys_named = sound.keys_named;
+      future_names = sound.future_names;
+      futures_wait = sound.futures_wait;
+      futures_stand = sound.futures_stand;
+      futures_differ = sound.futures_differ;
+      futures_apart = sound.futures_apart;
     }
 
 -- the device of a folder is opened as one is at its bus and its address

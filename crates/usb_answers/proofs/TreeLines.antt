@@ -79,14 +79,14 @@ event-other (Ready (Disconnected id)) = refl
 
 pub hotplug-does : (state : State) → Does state (hotplug_answer state)
 unfolding hotplug_answer
-hotplug-does state = ends (event-other (polled state.tree state.packets)) (quiet-aside state (record state { packets = drop 1 state.packets }) refl refl refl)
+hotplug-does state = ends (event-other (polled state.tree state.packets)) (quiet-aside state (record state { packets = drop 1 state.packets }) refl refl refl refl)
 
 opened_at-does : (state : State) (d bus address : ℕ) → Does state (opened_at state d bus address)
 opened_at-does state d bus address =
     let is = opened-is state.host bus address in
     let host = host_opened state.host bus address in
-    goes (quiet-aside state (with_host state host) (ap (λ (h : HostState). h.kernel.past) is) (ap (λ (h : HostState). h.tickets) is) refl)
-    (try-does (opened_as (with_host state host) d) (open_key state.host bus address) (λ error. refl) (λ key. ends refl (quiet-aside (with_host state host) _ refl refl refl)))
+    goes (quiet-aside state (with_host state host) (ap (λ (h : HostState). h.kernel.past) is) (ap (λ (h : HostState). h.tickets) is) refl refl)
+    (try-does (opened_as (with_host state host) d) (open_key state.host bus address) (λ error. refl) (λ key. ends refl (quiet-aside (with_host state host) _ refl refl refl refl)))
 
 opened_probed-does : (state : State) (d : ℕ) (r : Result DeviceFacts SysfsError) → Does state (opened_probed state d r)
 opened_probed-does state d (Ok device) = opened_at-does state d device.numbers.busnum device.numbers.address

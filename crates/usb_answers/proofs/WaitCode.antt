@@ -8,7 +8,9 @@ use Rattle.usb_xfer.specs.BufferState.{BufferState}
 use Rattle.usb_xfer.specs.declared.transfer.Completion.{Completion}
 use Rattle.usb_kernel.specs.declared.event.Event.{Event}
 use Rattle.usb_kernel.specs.Info.{unreaped}
+use Rattle.usb_kernel.specs.Extends.{Extends}
 use Rattle.usb_kernel.specs.Tickets.{tickets}
+use Rattle.usb_kernel.proofs.Extends.{extends-trans}
 use Rattle.usb_endpoint.specs.EndpointState.{EndpointState}
 use Rattle.usb_endpoint.specs.Submits.{entered}
 use Rattle.usb_endpoint.specs.Waits as waits
@@ -25,6 +27,7 @@ use Rattle.usb_host.specs.TicketEnds.{host_taken}
 use Rattle.usb_device.specs.WaitLaws.{WaitIsBySteps, BlockingIsBySteps}
 use Rattle.usb_host.proofs.CallFrames.{keeps-taken}
 use Rattle.usb_host.proofs.WaitFrames.{line-keeps, line-trans, went-waited, went-blocked}
+use Rattle.usb_host.proofs.FollowLemmas.{taken-past}
 use Rattle.usb_lines.specs.Calls.{condition_line}
 use Rattle.usb_lines.specs.Completions.{waited_line}
 use Rattle.usb_answers.specs.Names.{change_named}
@@ -36,8 +39,8 @@ use Rattle.usb_answers.specs.Waits.{waited, wait_ended}
 use Rattle.usb_answers.specs.Transfers.{bars_transfer, with_taken, transfer_ended, transfer_on}
 use Rattle.usb_answers.specs.OpenCalls.{CallAnswers}
 use Rattle.usb_answers.proofs.PollCode.{nothing_pending}
-use Rattle.usb_answers.proofs.Queue.{call-comes, call-told, call-host, front_kept, took-comes, took-line}
-use Rattle.usb_answers.proofs.SubmitCode.{line-entered}
+use Rattle.usb_answers.proofs.Queue.{call-comes, call-told, call-host, front_kept, took-comes, took-line, took-past}
+use Rattle.usb_answers.proofs.SubmitCode.{line-entered, past-entered}
 
 abbrev pub wait : ℕ → State → ℕ → Endpoint → Answer
 wait timeout state e h = waited state e timeout (slice_get h.tickets h.taken)
@@ -100,6 +103,16 @@ wait-line law (Some c) host now x y timeout w vain =
     line-trans host w.mid now (line-waited host w.mid (waits.front_of x.pending) timeout true (by_steps law w.looks host (waits.front_of x.pending) timeout (true, w.mid) w.found)) (took-line w.mid now x y c w.took)
 wait-line law None host now x y timeout found w =
     line-waited host now (waits.front_of x.pending) timeout false (by_steps law w.looks host (waits.front_of x.pending) timeout (false, now) w.ended)
+
+past-waited : (host mid : HostState) (t timeout : ℕ) (b : Bool) → (b, mid) ≡ host_waited host t timeout → Extends host.kernel.past mid.kernel.past
+past-waited host mid t timeout b is = subst (λ (p : Bool × HostState). Extends host.kernel.past p.1.kernel.past) (sym is) (went-waited host t timeout).later.past
+
+pub wait-past : WaitIsBySteps → (o : Option Completion) (host now : HostState) (x y : EndpointState) (timeout : ℕ) → IfSome o (λ c. WaitedNext bus_of host_turned host_turn host_taken timeout host x c now y) → IfNone o (WaitedInVain bus_of host_turned host_turn timeout host x now y) → Extends host.kernel.past now.kernel.past
+wait-past law (Some c) host now x y timeout w vain =
+    extends-trans host.kernel.past w.mid.kernel.past now.kernel.past
+    (past-waited host w.mid (waits.front_of x.pending) timeout true (by_steps law w.looks host (waits.front_of x.pending) timeout (true, w.mid) w.found)) (took-past w.mid now x y c w.took)
+wait-past law None host now x y timeout found w =
+    past-waited host now (waits.front_of x.pending) timeout false (by_steps law w.looks host (waits.front_of x.pending) timeout (false, now) w.ended)
 
 pub wait-key : (o : Option Completion) (timeout : ℕ) (host now : HostState) (x y : EndpointState) → IfSome o (λ c. WaitedNext bus_of host_turned host_turn host_taken timeout host x c now y) → IfNone o (WaitedInVain bus_of host_turned host_turn timeout host x now y) → y.key ≡ x.key
 wait-key (Some c) timeout host now x y found vain = ap (λ (h : EndpointState). h.key) found.took.next_is
@@ -170,3 +183,11 @@ transfer-line law host now x b timeout c w =
     line-trans host w.mid now
     (line-trans host middle w.mid (line-entered host x b) (subst (LineGoesOn middle) (sym (entered_blocked law host now x b timeout c w)) (went-blocked middle (count_of host) timeout).line))
     (subst (LineGoesOn w.mid) (sym w.rest) (line-keeps w.mid (host_taken w.mid (count_of host)) (keeps-taken w.mid (count_of host))))
+
+pub transfer-past : BlockingIsBySteps → (host now : HostState) (x : EndpointState) (b : BufferState) (timeout : ℕ) (c : Completion) → Transferred bus_of host_submitted host_refused host_turned host_turn host_discarded host_taken timeout host x b c now → Extends host.kernel.past now.kernel.past
+transfer-past law host now x b timeout c w =
+    let middle = entered host_submitted host_refused host x b in
+    extends-trans host.kernel.past w.mid.kernel.past now.kernel.past
+    (extends-trans host.kernel.past middle.kernel.past w.mid.kernel.past (past-entered host x b)
+    (subst (λ (h : HostState). Extends middle.kernel.past h.kernel.past) (sym (entered_blocked law host now x b timeout c w)) (went-blocked middle (count_of host) timeout).later.past))
+    (record { more = []; is = ap (λ (h : HostState). h.kernel.past) w.rest ∙ taken-past w.mid (count_of host) })

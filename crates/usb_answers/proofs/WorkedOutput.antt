@@ -1,16 +1,21 @@
 -- Whole scripts and what is written for them, computed by the definitions alone. The answers were worked out by hand from the description of the script language.
+use lib.Utf8.{encode}
 use Rattle.std.proofs.Common.{◌≡◌, ℕ, List, [], ◌∷◌, ◌++◌, codes, Some, None, Ok, refl}
 use Rattle.std.specs.Fmt.{digits}
 use Rattle.std.specs.Prelude.{⊤, true, false, map, flat_map, replicate}
+use Rattle.std.specs.Char.Utf16.{utf16_chars}
 use Rattle.hex.specs.Hex.{encode_with}
 use Rattle.usb_desc.specs.declared.types.Direction.TheVariants.{In}
 use Rattle.usb_desc.specs.declared.types.TransferType.TheVariants.{Bulk}
+use Rattle.usb_desc.specs.declared.control.ControlType.TheVariants.{Vendor}
+use Rattle.usb_desc.specs.declared.control.Recipient.TheVariants as recipient
 use Rattle.usb_desc.specs.Chain.{chain}
 use Rattle.usb_desc.specs.Groups.{groups}
 use Rattle.usb_desc.specs.Configurations.{concatenated, configurations}
 use Rattle.usb_desc.specs.Interfaces.{interfaces_among}
 use Rattle.usb_simulated.specs.declared.step.KernelCall.TheVariants.{Submit, Halt}
-use Rattle.usb_simulated.specs.declared.step.KernelStep.TheVariants.{Packet, Ack, Fail, Unplug, Clock, Reap, Refuse}
+use Rattle.usb_simulated.specs.declared.step.KernelStep.TheVariants.{Packet, Ack, Fail, Unplug, Clock, Timer, Reap, Refuse}
+use Rattle.usb_kernel.specs.Timers.{timer_turned}
 use Rattle.usb_kernel.specs.Completions.{completion}
 use Rattle.usb_kernel.specs.Info.{unreaped}
 use Rattle.usb_bus.specs.Completions.{transfer_completion}
@@ -23,6 +28,8 @@ use Rattle.usb_kernel.specs.Calls.{called, after_reset}
 use Rattle.usb_host.specs.Opens.{descriptors_tried, open_tried, host_opened, open_key}
 use Rattle.usb_host.specs.InterfaceClaims.{host_claimed}
 use Rattle.usb_host.specs.EndpointOpens.{host_asked, endpoint_of_setting, host_tries}
+use Rattle.usb_host.specs.Controls.{host_started}
+use Rattle.usb_host.specs.HostAwaits.{host_awaited}
 use Rattle.usb_host.specs.HostCalls.{host_submitted, host_refused, host_discarded, host_left}
 use Rattle.usb_host.specs.TicketEnds.{host_ended, host_taken, host_abandoned, came}
 use Rattle.usb_host.specs.HostTurns.{host_stepped, host_reaped}
@@ -36,11 +43,14 @@ use Rattle.usb_host.specs.Finishes.{finished}
 use Rattle.usb_lines.specs.Words.{hex_word, class_code}
 use Rattle.usb_lines.specs.Calls.{error_line}
 use Rattle.usb_lines.specs.Completions.{done_line, count_line, now_line}
+use Rattle.usb_lines.specs.Controls.{data_line, failed_line, languages_told, string_told}
 use Rattle.usb_lines.specs.Tickets.{ticket_line}
 use Rattle.usb_lines.specs.Devices.{device_line, class_words, product_words, string_words}
 use Rattle.usb_lines.specs.Settings.{configuration_line, no_configuration_line, speed_line, alt_setting_line}
 use Rattle.usb_lines.specs.Descriptors.{endpoint_words, class_words as interface_words, setting_words, configuration_words, descriptors_line}
 use Rattle.usb_words.specs.declared.endpoint_kind.EndpointKind.TheVariants.{BulkIn, BulkOut, InterruptIn, InterruptOut}
+use Rattle.usb_words.specs.declared.control.Setup.{Setup}
+use Rattle.usb_words.specs.declared.control.ControlTarget.TheVariants.{Device}
 use Rattle.usb_script.specs.declared.item.Item.{Item}
 use Rattle.usb_script.specs.declared.item.Item.TheVariants as item
 use Rattle.usb_script.specs.Parse.{script_of}
@@ -62,16 +72,18 @@ use Rattle.usb_answers.specs.Configurations.{active_answer, speed_answer, set_co
 use Rattle.usb_answers.specs.Drivers.{detach_answer, attach_answer}
 use Rattle.usb_answers.specs.Settings.{set_alt_setting_answer, get_alt_setting_answer, interface_descriptor_answer}
 use Rattle.usb_answers.specs.Halts.{clear_halt_answer}
-use Rattle.usb_answers.specs.Closes.{cancel_answer, close_answer, close_device_answer, close_interface_answer, release_answer, closed}
+use Rattle.usb_answers.specs.Controls.{control_answer}
+use Rattle.usb_answers.specs.Futures.{start_answer, poll_future_answer, wait_future_answer}
+use Rattle.usb_answers.specs.Closes.{cancel_answer, close_answer, close_future_answer, close_device_answer, close_interface_answer, release_answer, closed}
 use Rattle.usb_answers.specs.Answers.{answer}
-use Rattle.usb_answers.specs.Ends.{interface_closed, name_closed, all_closed, ended}
+use Rattle.usb_answers.specs.Ends.{future_closed_under, interface_closed, name_closed, all_closed, ended}
 use Rattle.usb_answers.specs.Fates.{fate_line, fate_lines}
 use Rattle.usb_answers.specs.Output.{start, output}
-use Rattle.usb_answers.specs.Served.{ClosedEndpoint, closed_endpoints}
+use Rattle.usb_answers.specs.Served.{ClosedEndpoint, closed_endpoints, control_tickets}
 
 -- all that an output unfolds
 unfoldable output_on_literals : ⊤
-unfolding output start answer now_answer open_answer device_descriptor_answer descriptors_answer claim_answer endpoint_answer submit_answer pending_answer poll_answer wait_answer transfer_answer cancel_answer close_answer clone_device_answer clone_interface_answer active_answer speed_answer set_configuration_answer reset_answer detach_answer attach_answer set_alt_setting_answer get_alt_setting_answer interface_descriptor_answer clear_halt_answer close_device_answer close_interface_answer release_answer steps_answer stepped_all closed interface_closed name_closed all_closed ended fate_line fate_lines named is_free change_named freed set_name is_used_among is_owned_among claim_ended claim_of owner_gone settled endpoint_left endpoints_left device_changed called descriptors_tried open_tried host_opened open_key host_claimed host_asked endpoint_of_setting host_tries host_submitted host_refused host_discarded host_left host_ended host_taken host_abandoned came host_stepped host_reaped host_waited host_blocked handle_closed handle_cloned after_reset host_detached host_attached host_reset host_configured host_speed_asked speed_of_code alt_setting_set finished transfer_completion completion unreaped chain groups concatenated configurations interfaces_among hex_word error_line done_line count_line now_line ticket_line device_line class_words product_words string_words class_code endpoint_words interface_words setting_words configuration_words descriptors_line configuration_line no_configuration_line speed_line alt_setting_line digits encode_with
+unfolding output start answer control_answer start_answer poll_future_answer wait_future_answer close_future_answer future_closed_under host_started host_awaited timer_turned data_line failed_line languages_told string_told utf16_chars encode now_answer open_answer device_descriptor_answer descriptors_answer claim_answer endpoint_answer submit_answer pending_answer poll_answer wait_answer transfer_answer cancel_answer close_answer clone_device_answer clone_interface_answer active_answer speed_answer set_configuration_answer reset_answer detach_answer attach_answer set_alt_setting_answer get_alt_setting_answer interface_descriptor_answer clear_halt_answer close_device_answer close_interface_answer release_answer steps_answer stepped_all closed interface_closed name_closed all_closed ended fate_line fate_lines named is_free change_named freed set_name is_used_among is_owned_among claim_ended claim_of owner_gone settled endpoint_left endpoints_left device_changed called descriptors_tried open_tried host_opened open_key host_claimed host_asked endpoint_of_setting host_tries host_submitted host_refused host_discarded host_left host_ended host_taken host_abandoned came host_stepped host_reaped host_waited host_blocked handle_closed handle_cloned after_reset host_detached host_attached host_reset host_configured host_speed_asked speed_of_code alt_setting_set finished transfer_completion completion unreaped chain groups concatenated configurations interfaces_among hex_word error_line done_line count_line now_line ticket_line device_line class_words product_words string_words class_code endpoint_words interface_words setting_words configuration_words descriptors_line configuration_line no_configuration_line speed_line alt_setting_line digits encode_with
 output_on_literals = tt
 
 -- a line of a script, the item that it is, and the line that it is answered, which is empty where it has no answer
@@ -525,6 +537,82 @@ configurations_and_reset : IsWorkedOut
     []
 unfolding script_on_literals output_on_literals
 configurations_and_reset = (refl, refl)
+
+-- a control transfer of the vendor's request 30 to the device, with no value and no index
+abbrev vendor_request : ℕ → Setup
+vendor_request request = record { control_type = Vendor; recipient = recipient.Device; request = request; value = 0; index = 0 }
+
+-- control transfers that are awaited: data come and go, a string and the languages of strings are asked for, a descriptor that counts more bytes than came, and a halt
+control_and_strings : IsWorkedOut
+    (bulk_device
+    ∷ (codes "open d0 1 6", item.Open 0 1 6, codes "ok")
+    ∷ (codes "claim d0 0 i0", item.Claim 0 0 0, codes "ok")
+    ∷ (codes "ctlin d0 vendor device 30 0000 0000 64 1000 : pkt k0 80 0102", item.ControlIn (Device 0) (vendor_request 48) 64 1000 (Packet 0 128 (1 ∷ 2 ∷ []) ∷ []), codes "data 0102")
+    ∷ (codes "ctlout d0 vendor device 32 0000 0000 01020304 1000 : ack k0 00", item.ControlOut (Device 0) (vendor_request 50) (1 ∷ 2 ∷ 3 ∷ 4 ∷ []) 1000 (Ack 0 0 ∷ []), codes "ok")
+    ∷ (codes "string d0 1 0409 1000 : pkt k0 80 060341004200", item.StringDescriptor 0 1 1033 1000 (Packet 0 128 (6 ∷ 3 ∷ 65 ∷ 0 ∷ 66 ∷ 0 ∷ []) ∷ []), codes "string 4142")
+    ∷ (codes "langs d0 1000 : pkt k0 80 04030904", item.SupportedLanguages 0 1000 (Packet 0 128 (4 ∷ 3 ∷ 9 ∷ 4 ∷ []) ∷ []), codes "langs 0409")
+    ∷ (codes "string d0 1 0409 1000 : pkt k0 80 06034100", item.StringDescriptor 0 1 1033 1000 (Packet 0 128 (6 ∷ 3 ∷ 65 ∷ 0 ∷ []) ∷ []), codes "failed invalid-descriptor")
+    ∷ (codes "getdesc d0 1 0 0000 1000 : fail k0 80 32", item.GetDescriptor 0 1 0 0 1000 (Fail 0 128 32 ∷ []), codes "failed stall")
+    ∷ [])
+    (codes "ticket 0 k0 80 ok 2 taken"
+    ∷ codes "ticket 1 k0 00 ok 4 taken"
+    ∷ codes "ticket 2 k0 80 ok 6 taken"
+    ∷ codes "ticket 3 k0 80 ok 4 taken"
+    ∷ codes "ticket 4 k0 80 ok 4 taken"
+    ∷ codes "ticket 5 k0 80 stall 0 taken" ∷ [])
+unfolding script_on_literals output_on_literals
+control_and_strings = (refl, refl)
+
+-- control transfers on their way: at the deadline the timer discards the first, and the wait for the second goes on to its deadline
+control_deadlines : IsWorkedOut
+    (bulk_device
+    ∷ (codes "open d0 1 6", item.Open 0 1 6, codes "ok")
+    ∷ (codes "claim d0 0 i0", item.Claim 0 0 0, codes "ok")
+    ∷ (codes "fin f0 d0 vendor device 30 0000 0000 64 100", item.StartControlIn 0 (Device 0) (vendor_request 48) 64 100, codes "ok")
+    ∷ (codes "fin f1 d0 vendor device 30 0000 0000 64 200", item.StartControlIn 1 (Device 0) (vendor_request 48) 64 200, codes "ok")
+    ∷ (codes "! clock 100 ; timer", item.Steps (Clock 100 ∷ Timer ∷ []), [])
+    ∷ (codes "fpoll f0", item.PollFuture 0, codes "pending")
+    ∷ (codes "! reap", item.Steps (Reap None ∷ []), [])
+    ∷ (codes "fpoll f0", item.PollFuture 0, codes "failed cancelled")
+    ∷ (codes "fpoll f1", item.PollFuture 1, codes "pending")
+    ∷ (codes "fwait f1", item.WaitFuture 1 [], codes "failed cancelled")
+    ∷ (codes "now", item.Now, codes "now 200")
+    ∷ [])
+    (codes "ticket 0 k0 80 cancelled 0 taken"
+    ∷ codes "ticket 1 k0 80 cancelled 0 taken" ∷ [])
+unfolding script_on_literals output_on_literals
+control_deadlines = (refl, refl)
+
+-- control transfers that are given up: the first is reaped before, the second is not, and the third has its name still at the end
+given_up : IsWorkedOut
+    (bulk_device
+    ∷ (codes "open d0 1 6", item.Open 0 1 6, codes "ok")
+    ∷ (codes "fin f0 d0 vendor device 30 0000 0000 64 100", item.StartControlIn 0 (Device 0) (vendor_request 48) 64 100, codes "ok")
+    ∷ (codes "fin f1 d0 vendor device 30 0000 0000 64 100", item.StartControlIn 1 (Device 0) (vendor_request 48) 64 100, codes "ok")
+    ∷ (codes "fin f0 d0 vendor device 30 0000 0000 64 100", item.StartControlIn 0 (Device 0) (vendor_request 48) 64 100, codes "condition")
+    ∷ (codes "! pkt k0 80 0102 ; reap", item.Steps (Packet 0 128 (1 ∷ 2 ∷ []) ∷ Reap None ∷ []), [])
+    ∷ (codes "close f0", item.CloseFuture 0, codes "ok")
+    ∷ (codes "close f1", item.CloseFuture 1, codes "ok")
+    ∷ (codes "fpoll f1", item.PollFuture 1, codes "condition")
+    ∷ (codes "fin f0 d0 vendor device 30 0000 0000 64 100", item.StartControlIn 0 (Device 0) (vendor_request 48) 64 100, codes "ok")
+    ∷ [])
+    (codes "ticket 0 k0 80 ok 2 dropped"
+    ∷ codes "ticket 1 k0 80 cancelled 0 reclaimed"
+    ∷ codes "ticket 2 k0 80 cancelled 0 reclaimed" ∷ [])
+unfolding script_on_literals output_on_literals
+given_up = (refl, refl)
+
+-- between them a transfer of an endpoint, whose ticket is not theirs
+own_tickets : control_tickets (items
+    (with_endpoint
+    ((codes "ctlin d0 vendor device 30 0000 0000 64 100", item.ControlIn (Device 0) (vendor_request 48) 64 100 [], codes "failed cancelled")
+    ∷ (codes "submitin e0 64", item.SubmitIn 0 64, codes "ok")
+    ∷ (codes "fin f0 d0 vendor device 30 0000 0000 64 100", item.StartControlIn 0 (Device 0) (vendor_request 48) 64 100, codes "ok")
+    ∷ (codes "fpoll f0", item.PollFuture 0, codes "pending")
+    ∷ [])))
+    ≡ 0 ∷ 2 ∷ []
+unfolding output_on_literals control_tickets
+own_tickets = refl
 
 -- what became of each endpoint of a script: its tickets, how many of them were taken, and the lines that printed these
 abbrev endpoints_of : List Line → List (List ℕ × ℕ × List (List ℕ))

@@ -1,9 +1,10 @@
--- What endpoints hold is pending at an endpoint that is open under a name.
-use Rattle.std.specs.Prelude.{ℕ, ◌≡◌, ◌≤◌, List, Option, Some, length}
+-- What endpoints hold is pending at an endpoint that is open under a name, or is the ticket of a future that is.
+use Rattle.std.specs.Prelude.{ℕ, ◌≡◌, ◌≤◌, ◌⊎◌, List, Option, Some, length}
 use Rattle.std.specs.List.{Contains}
 use Rattle.usb_kernel.specs.Tickets.{tickets}
 use Rattle.usb_script.specs.declared.item.Item.{Item}
 use Rattle.usb_host.specs.HostBus.{owner_at}
+use Rattle.usb_device.specs.Futures.{FutureState}
 use Rattle.usb_answers.specs.Names.{named}
 use Rattle.usb_answers.specs.State.{State, Endpoint, pending}
 use Rattle.usb_answers.specs.Answers.{answer}
@@ -18,10 +19,19 @@ pub record Covered (endpoints : List (Option Endpoint)) (t key : ℕ) : Type 0 w
   pub key_is : entry.key ≡ key
   pub in_pending : Contains (pending entry) t
 
--- each ticket that an endpoint holds is pending at it, and the host has as many tickets as the
--- journal
+-- a ticket is that of a future of a key, which is open under a name
+pub record IsAwaited (futures : List (Option FutureState)) (t key : ℕ) : Type 0 where
+  pub name : ℕ
+  pub future : FutureState
+  pub at : named futures name ≡ Some future
+  pub key_is : future.key ≡ key
+  pub ticket_is : future.ticket ≡ Some t
+
+-- each ticket that an endpoint holds is pending at it, or that of a future, and the host has as many
+-- tickets as the journal
 pub record Accounted (state : State) : Type 0 where
-  pub held : (t key : ℕ) → owner_at state.host.tickets t ≡ Some key → Covered state.endpoints t key
+  pub held : (t key : ℕ) → owner_at state.host.tickets t ≡ Some key →
+      Covered state.endpoints t key ⊎ IsAwaited state.futures t key
   pub count : length state.host.tickets ≡ length (tickets state.host.kernel.past)
 
 -- no more tickets of an open endpoint were taken than it has

@@ -2,7 +2,7 @@
 use Rattle.std.specs.Prelude.{true, false}
 use Rattle.usb_desc.specs.declared.types.Direction.TheVariants as direction
 use Rattle.usb_script.specs.declared.item.Item.{Item}
-use Rattle.usb_script.specs.declared.item.Item.TheVariants.{Device, Driver, Attribute, Denied, Child, Link, Entry, Root, Uevent, List, Buses, Probe, Match, Hotplug, OpenPath, Now, Open, DeviceDescriptor, Descriptors, CloneDevice, CloseDevice, ActiveConfiguration, Speed, SetConfiguration, Reset, DetachDriver, AttachDriver, Claim, DetachAndClaim, CloneInterface, CloseInterface, SetAltSetting, GetAltSetting, InterfaceDescriptor, Release, Endpoint, SubmitIn, SubmitOut, Pending, Poll, Wait, TransferIn, TransferOut, Cancel, ClearHalt, CloseEndpoint, Steps}
+use Rattle.usb_script.specs.declared.item.Item.TheVariants.{Device, Driver, Attribute, Denied, Child, Link, Entry, Root, Uevent, List, Buses, Probe, Match, Hotplug, OpenPath, Now, Open, DeviceDescriptor, Descriptors, CloneDevice, CloseDevice, ActiveConfiguration, Speed, SetConfiguration, Reset, DetachDriver, AttachDriver, Claim, DetachAndClaim, CloneInterface, CloseInterface, SetAltSetting, GetAltSetting, InterfaceDescriptor, Release, Endpoint, SubmitIn, SubmitOut, Pending, Poll, Wait, TransferIn, TransferOut, Cancel, ClearHalt, CloseEndpoint, ControlIn, ControlOut, GetDescriptor, SupportedLanguages, StringDescriptor, StartControlIn, StartControlOut, PollFuture, WaitFuture, CloseFuture, Steps}
 use Rattle.usb_words.specs.EndpointKinds.{transfer_type_of, direction_of}
 use Rattle.usb_answers.specs.State.{State}
 use Rattle.usb_answers.specs.Answer.{Answer, silent}
@@ -25,7 +25,9 @@ use Rattle.usb_answers.specs.Configurations.{active_answer, speed_answer, set_co
 use Rattle.usb_answers.specs.Drivers.{detach_answer, attach_answer}
 use Rattle.usb_answers.specs.Settings.{set_alt_setting_answer, get_alt_setting_answer, interface_descriptor_answer}
 use Rattle.usb_answers.specs.Halts.{clear_halt_answer}
-use Rattle.usb_answers.specs.Closes.{cancel_answer, close_answer, close_device_answer, close_interface_answer, release_answer}
+use Rattle.usb_answers.specs.Closes.{cancel_answer, close_answer, close_future_answer, close_device_answer, close_interface_answer, release_answer}
+use Rattle.usb_answers.specs.Controls.{request_for, request_with, control_in_answer, control_out_answer, get_descriptor_answer, languages_answer, string_answer}
+use Rattle.usb_answers.specs.Futures.{start_answer, poll_future_answer, wait_future_answer}
 use Rattle.usb_answers.specs.Steps.{steps_answer}
 
 -- a setup line took effect before the first call
@@ -76,4 +78,14 @@ answer state (TransferOut e bytes timeout steps) = transfer_answer state directi
 answer state (Cancel e) = cancel_answer state e
 answer state (ClearHalt e) = clear_halt_answer state e
 answer state (CloseEndpoint e) = close_answer state e
+answer state (ControlIn target setup wanted timeout steps) = control_in_answer state target setup wanted timeout steps
+answer state (ControlOut target setup bytes timeout steps) = control_out_answer state target setup bytes timeout steps
+answer state (GetDescriptor d kind index language timeout steps) = get_descriptor_answer state d kind index language timeout steps
+answer state (SupportedLanguages d timeout steps) = languages_answer state d timeout steps
+answer state (StringDescriptor d index language timeout steps) = string_answer state d index language timeout steps
+answer state (StartControlIn n target setup wanted timeout) = start_answer state n target (request_for setup wanted) timeout
+answer state (StartControlOut n target setup bytes timeout) = start_answer state n target (request_with setup bytes) timeout
+answer state (PollFuture n) = poll_future_answer state n
+answer state (WaitFuture n steps) = wait_future_answer state n steps
+answer state (CloseFuture n) = close_future_answer state n
 answer state (Steps steps) = steps_answer state steps

@@ -5,6 +5,7 @@ use Rattle.usb_host.specs.HostCalls.{host_discarded, host_left}
 use Rattle.usb_host.specs.TicketEnds.{host_abandoned}
 use Rattle.usb_device.specs.HandleStates.{InterfaceState}
 use Rattle.usb_host.specs.Handles.{device_closed, handle_closed}
+use Rattle.usb_device.specs.Futures.{FutureState, future_closed}
 use Rattle.usb_host.specs.Owners.{is_shared}
 use Rattle.usb_error.specs.Errors.{interface_in_use_error}
 use Rattle.usb_answers.specs.Names.{named, freed}
@@ -38,6 +39,15 @@ closed_at state e (Some h) = without_endpoint state e h
 unfoldable pub closed : State → ℕ → State
 closed state e = closed_at state e (named state.endpoints e)
 
+-- a future is closed, and its name is free: its transfer goes on, and is given up
+abbrev pub without_future : State → ℕ → FutureState → State
+without_future state n f = record state { host = future_closed state.host f; futures = freed state.futures n }
+
+-- the answer to `close` of a future
+unfoldable pub close_future_answer : State → ℕ → Answer
+close_future_answer state n = if_open (named state.futures n) (λ f. ok_answer (without_future state n f)) (barred state)
+
+-- a handle of a device is closed, and its name is free
 abbrev pub without_device : State → ℕ → ℕ → State
 without_device state d key =
     record state { host = device_closed state.host key; devices = freed state.devices d }

@@ -1,17 +1,32 @@
--- The end of a session: what is open is closed, endpoints by number, then interfaces by number and then devices by number;
+-- The end of a session: what is open is closed, endpoints by number, then futures, then interfaces and then devices, each by number;
 -- then the tickets are discarded by number, and reaped by number.
 use Rattle.std.specs.Prelude.{ℕ, zero, suc, Option, Some, None}
 use Rattle.usb_host.specs.HostState.{HostState}
 use Rattle.usb_host.specs.Finishes.{finished}
 use Rattle.usb_device.specs.HandleStates.{InterfaceState}
+use Rattle.usb_device.specs.Futures.{FutureState}
 use Rattle.usb_answers.specs.Names.{named}
 use Rattle.usb_answers.specs.State.{State}
-use Rattle.usb_answers.specs.Closes.{closed, without_interface, without_device}
+use Rattle.usb_answers.specs.Closes.{closed, without_future, without_interface, without_device}
 
 -- the endpoints of the names below k are closed, in order
 abbrev pub endpoints_closed : State → ℕ → State
 endpoints_closed state zero = state
 endpoints_closed state (suc k) = closed (endpoints_closed state k) k
+
+-- the future that is open under a name is closed, if there is one
+abbrev pub future_closed_at : State → ℕ → Option FutureState → State
+future_closed_at state n None = state
+future_closed_at state n (Some f) = without_future state n f
+
+-- the same, with the name looked up
+unfoldable pub future_closed_under : State → ℕ → State
+future_closed_under state n = future_closed_at state n (named state.futures n)
+
+-- the futures of the names below k are closed, in order
+abbrev pub futures_closed : State → ℕ → State
+futures_closed state zero = state
+futures_closed state (suc k) = future_closed_under (futures_closed state k) k
 
 -- the interface that is open under a name is closed, if there is one
 abbrev pub interface_closed_at : State → ℕ → Option InterfaceState → State
@@ -42,9 +57,9 @@ abbrev pub devices_closed : State → ℕ → State
 devices_closed state zero = state
 devices_closed state (suc k) = name_closed (devices_closed state k) k
 
--- all endpoints, then all interfaces and then all devices are closed
+-- all endpoints, then all futures, then all interfaces and then all devices are closed
 unfoldable pub all_closed : State → State
-all_closed state = devices_closed (interfaces_closed (endpoints_closed state 64) 64) 64
+all_closed state = devices_closed (interfaces_closed (futures_closed (endpoints_closed state 64) 64) 64) 64
 
 -- the host at the end of the session
 unfoldable pub ended : State → HostState

@@ -1,7 +1,7 @@
--- Which lines are calls on what is open or on the tree, and which of these on interfaces and endpoints.
+-- Which lines are calls on what is open or on the tree, and which of these are control transfers, or on interfaces and endpoints.
 use Rattle.std.specs.Prelude.{Bool, true, false}
 use Rattle.usb_script.specs.declared.item.Item.{Item}
-use Rattle.usb_script.specs.declared.item.Item.TheVariants.{Device, Driver, Attribute, Denied, Child, Link, Entry, Root, Uevent, List, Buses, Probe, Match, Hotplug, OpenPath, Now, CloneInterface, CloseInterface, SetAltSetting, GetAltSetting, InterfaceDescriptor, Release, Endpoint, SubmitIn, SubmitOut, Pending, Poll, Wait, TransferIn, TransferOut, Cancel, ClearHalt, CloseEndpoint, Steps}
+use Rattle.usb_script.specs.declared.item.Item.TheVariants.{Device, Driver, Attribute, Denied, Child, Link, Entry, Root, Uevent, List, Buses, Probe, Match, Hotplug, OpenPath, Now, CloneInterface, CloseInterface, SetAltSetting, GetAltSetting, InterfaceDescriptor, Release, Endpoint, SubmitIn, SubmitOut, Pending, Poll, Wait, TransferIn, TransferOut, Cancel, ClearHalt, CloseEndpoint, ControlIn, ControlOut, GetDescriptor, SupportedLanguages, StringDescriptor, StartControlIn, StartControlOut, PollFuture, WaitFuture, CloseFuture, Steps}
 
 -- those on an endpoint: they hand a transfer in, ask for one, wait, cancel, clear its halt or close
 abbrev pub is_of_endpoint : Item → Bool
@@ -16,6 +16,24 @@ is_of_endpoint (Cancel e) = true
 is_of_endpoint (ClearHalt e) = true
 is_of_endpoint (CloseEndpoint e) = true
 is_of_endpoint item = false
+
+-- those by which a device is asked for a descriptor
+abbrev pub asks_descriptor : Item → Bool
+asks_descriptor (GetDescriptor d kind index language timeout steps) = true
+asks_descriptor (SupportedLanguages d timeout steps) = true
+asks_descriptor (StringDescriptor d index language timeout steps) = true
+asks_descriptor item = false
+
+-- those of control transfers: they are handed in, awaited or not, and what is on its way is polled, awaited or closed
+abbrev pub is_of_control : Item → Bool
+is_of_control (ControlIn target setup wanted timeout steps) = true
+is_of_control (ControlOut target setup bytes timeout steps) = true
+is_of_control (StartControlIn n target setup wanted timeout) = true
+is_of_control (StartControlOut n target setup bytes timeout) = true
+is_of_control (PollFuture n) = true
+is_of_control (WaitFuture n steps) = true
+is_of_control (CloseFuture n) = true
+is_of_control item = asks_descriptor item
 
 -- those on a claimed interface, or on an endpoint
 abbrev pub is_of_interface : Item → Bool
@@ -55,6 +73,16 @@ is_of_handle (Probe path) = false
 is_of_handle (Match path selector) = false
 is_of_handle Hotplug = false
 is_of_handle (OpenPath d path) = false
+is_of_handle (ControlIn target setup wanted timeout steps) = false
+is_of_handle (ControlOut target setup bytes timeout steps) = false
+is_of_handle (GetDescriptor d kind index language timeout steps) = false
+is_of_handle (SupportedLanguages d timeout steps) = false
+is_of_handle (StringDescriptor d index language timeout steps) = false
+is_of_handle (StartControlIn n target setup wanted timeout) = false
+is_of_handle (StartControlOut n target setup bytes timeout) = false
+is_of_handle (PollFuture n) = false
+is_of_handle (WaitFuture n steps) = false
+is_of_handle (CloseFuture n) = false
 is_of_handle Now = false
 is_of_handle (Steps steps) = false
 is_of_handle item = true

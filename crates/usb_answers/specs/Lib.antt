@@ -12,6 +12,7 @@ pub mod Hotplugs
 pub mod Claims
 pub mod Clones
 pub mod Configurations
+pub mod Controls
 pub mod Drivers
 pub mod Settings
 pub mod Endpoints
@@ -23,6 +24,7 @@ pub mod Waits
 pub mod Transfers
 pub mod Halts
 pub mod Closes
+pub mod Futures
 pub mod Ends
 pub mod Fates
 pub mod EndWords
@@ -33,6 +35,7 @@ pub mod SessionState
 pub mod Relation
 pub mod Answered
 pub mod OpenCalls
+pub mod TargetCalls
 pub mod SessionFacts
 pub mod AnyOpened
 pub mod Kinds

@@ -1,6 +1,7 @@
 -- A call on an endpoint that a session has open under a name.
 use Rattle.std.specs.Prelude.{ℕ, ◌≡◌, Some, Result, OnOk, String, string_bytes}
 use Rattle.std.specs.declared.alloc.Global.{Global}
+use Rattle.usb_kernel.specs.Extends.{Extends}
 use Rattle.usb_endpoint.specs.EndpointState.{EndpointState}
 use Rattle.usb_endpoint.specs.Handles.{Stands, KeepsOthers}
 use Rattle.usb_host.specs.HostState.{HostState}
@@ -13,10 +14,11 @@ use Rattle.usb_answers.specs.SessionState.{SessionState}
 use Rattle.usb_answers.specs.Relation.{Represents}
 use Rattle.usb_answers.specs.Answered.{Answered}
 
--- what is open stays open, steps are taken from the front of the line alone, and the endpoint
--- stands under its key
+-- what is open stays open, steps are taken from the front of the line alone, the journal goes on,
+-- and the endpoint stands under its key
 pub record CallKeeps (old new : HostState) (x y : EndpointState) : Type 0 where
   pub line : LineGoesOn old new
+  pub past : Extends old.kernel.past new.kernel.past
   pub stands : Stands (bus_of new) y
   pub others : KeepsOthers (bus_of old) (bus_of new) x.key
   pub key : y.key ≡ x.key

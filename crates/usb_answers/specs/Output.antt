@@ -54,6 +54,7 @@ start items =
       devices = replicate 64 None;
       interfaces = replicate 64 None;
       endpoints = replicate 64 None;
+      futures = replicate 64 None;
       tree = tree_of items;
       packets = packets_of items;
     }

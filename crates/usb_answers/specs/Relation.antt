@@ -13,6 +13,7 @@ session_of state =
       devices = state.devices;
       interfaces = state.interfaces;
       endpoints = map (option_map kept) state.endpoints;
+      futures = state.futures;
       tree = state.tree;
       packets = state.packets;
     }

@@ -1,5 +1,5 @@
 -- Each endpoint that a script opens: its tickets in the order of submission, how many of them were taken, what was printed at that, and how all of them ended.
-use Rattle.std.specs.Prelude.{ℕ, zero, suc, ◌≡◌, ◌<◌, ◌≤◌, ◌==◌, nat_lt, List, [], ◌∷◌, ◌++◌, take, drop, length, map, flat_map, count_by, Option, Some, None, is_none, is_some, if◌then◌else◌}
+use Rattle.std.specs.Prelude.{ℕ, zero, suc, ◌≡◌, ◌<◌, ◌≤◌, ◌==◌, nat_lt, ◌&&◌, List, [], ◌∷◌, ◌++◌, take, drop, length, map, flat_map, count_by, Option, Some, None, is_none, is_some, if◌then◌else◌}
 use Rattle.std.specs.List.{All}
 use Rattle.std.specs.List.Sorted.{IsStrictlyIncreasing}
 use Rattle.std.specs.Option.{option_map_or}
@@ -16,7 +16,8 @@ use Rattle.usb_ledger.specs.EndedTickets.{end_at}
 use Rattle.usb_host.specs.Finishes.{HasEnds}
 use Rattle.usb_lines.specs.Completions.{polled_line}
 use Rattle.usb_answers.specs.Names.{named}
-use Rattle.usb_answers.specs.State.{State, Endpoint}
+use Rattle.usb_answers.specs.State.{State, Endpoint, tickets_of}
+use Rattle.usb_answers.specs.Kinds.{is_of_control}
 use Rattle.usb_answers.specs.Answer.{Answer}
 use Rattle.usb_answers.specs.Answers.{answer}
 use Rattle.usb_answers.specs.Ends.{endpoints_closed}
@@ -70,6 +71,19 @@ closed_endpoints_from state lines (item ∷ items) = closed_by state lines item 
 unfoldable pub closed_endpoints : List Item → List ClosedEndpoint
 closed_endpoints items = closed_endpoints_from (start items) (λ e. []) items
 
+-- the ticket of a control transfer that a line hands in, if it does: the next number
+abbrev pub control_ticket : State → Item → List ℕ
+control_ticket state item =
+    if is_of_control item && nat_lt (tickets_of state) (tickets_of (answer state item).state) then tickets_of state ∷ [] else []
+
+abbrev pub control_tickets_from : State → List Item → List ℕ
+control_tickets_from state [] = []
+control_tickets_from state (item ∷ items) = control_ticket state item ++ control_tickets_from (answer state item).state items
+
+-- those of a script
+unfoldable pub control_tickets : List Item → List ℕ
+control_tickets items = control_tickets_from (start items) items
+
 -- how a ticket ends that its endpoint gives up: dropped exactly where it is reaped then, and else reclaimed
 abbrev pub end_given_up : List Event → ℕ → TicketEnd
 end_given_up past t = if is_some (completion past t) then Dropped else Reclaimed
@@ -89,10 +103,11 @@ pub record IsServedInOrder (last : HostState) (h : ClosedEndpoint) : Type 0 wher
 abbrev pub tickets_of_all : List ClosedEndpoint → List ℕ
 tickets_of_all hs = flat_map (λ (h : ClosedEndpoint). h.endpoint.tickets) hs
 
--- of a script whose tickets have their ends each endpoint is served so, and each ticket belongs to one endpoint, at one place
+-- of a script whose tickets have their ends each endpoint is served so, and each ticket belongs to one endpoint, at one place, or is
+-- that of one control transfer
 pub record EndpointsAreServed (items : List Item) : Type 0 where
   pub served : All (IsServedInOrder (final_host items)) (closed_endpoints items)
-  pub once : (t : ℕ) → t < length (final_host items).tickets → count_by (λ u. u == t) (tickets_of_all (closed_endpoints items)) ≡ 1
+  pub once : (t : ℕ) → t < length (final_host items).tickets → count_by (λ u. u == t) (tickets_of_all (closed_endpoints items) ++ control_tickets items) ≡ 1
 
 -- the law: so it is of each script whose tickets have their ends
 abbrev pub EndpointsAreServedInOrder : Type 0

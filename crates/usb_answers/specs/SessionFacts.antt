@@ -7,23 +7,25 @@ use Rattle.usb_endpoint.specs.declared.any_endpoint.AnyEndpoint.{AnyEndpoint}
 use Rattle.usb_endpoint.specs.AnyEndpoints.{state_of}
 use Rattle.usb_host.specs.HostState.{HostState}
 use Rattle.usb_device.specs.HandleStates.{InterfaceState}
+use Rattle.usb_device.specs.Futures.{FutureState}
 use Rattle.usb_answers.specs.declared.session.Session.TheInside.{Inside}
 use Rattle.usb_answers.specs.SessionState.{SessionState, IsSound}
 
 -- a session by its parts
-abbrev pub session_made : Tree → List UdevPacket → HostState → List (Option ℕ) → List (Option InterfaceState) → List (Option AnyEndpoint) → SessionState
-session_made tree packets host devices interfaces endpoints =
+abbrev pub session_made : Tree → List UdevPacket → HostState → List (Option ℕ) → List (Option InterfaceState) → List (Option AnyEndpoint) → List (Option FutureState) → SessionState
+session_made tree packets host devices interfaces endpoints futures =
     record {
       host = host;
       devices = devices;
       interfaces = interfaces;
       endpoints = map (option_map state_of) endpoints;
+      futures = futures;
       tree = tree;
       packets = packets;
     }
 
 abbrev pub made_of : Inside → SessionState
-made_of s = session_made s.tree s.watch s.host s.devices.items s.interfaces.items s.endpoints.items
+made_of s = session_made s.tree s.watch s.host s.devices.items s.interfaces.items s.endpoints.items s.futures.items
 
 abbrev pub IsSoundInside : Inside → Type 0
 IsSoundInside s = IsSound (made_of s)

@@ -1,5 +1,5 @@
 -- What a session is to its users.
-use Rattle.std.specs.Prelude.{ℕ, ◌≡◌, ◌≢◌, ◌<◌, ◌==◌, Bool, true, false, List, [], Option, Some, None, length}
+use Rattle.std.specs.Prelude.{ℕ, ◌≡◌, ◌≢◌, ◌<◌, ◌==◌, Bool, true, false, List, [], Option, Some, None, IsSome, length, ◌⊎◌}
 use Rattle.std.specs.List.{count_by}
 use Rattle.usb_registry.specs.History.{value_at}
 use Rattle.usb_sysfs.specs.Tree.{Tree}
@@ -11,16 +11,18 @@ use Rattle.usb_ledger.specs.declared.opened.OpenDevice.{OpenDevice}
 use Rattle.usb_host.specs.HostState.{HostState}
 use Rattle.usb_host.specs.HostBus.{bus_of, key_at}
 use Rattle.usb_device.specs.HandleStates.{InterfaceState, StandsDevice, StandsInterface}
+use Rattle.usb_device.specs.Futures.{FutureState, StandsFuture}
 use Rattle.usb_device.specs.DeviceLaws.{DevicesAreHeld}
 use Rattle.usb_answers.specs.Names.{named}
 
--- the host, and what is open by the number of its name: the keys of devices, the interfaces, and the endpoints as their calls see them; the
--- tree of attributes, and the packets of udev that are left
+-- the host, and what is open by the number of its name: the keys of devices, the interfaces, the endpoints as their calls see them, and the
+-- futures; the tree of attributes, and the packets of udev that are left
 pub record SessionState : Type 0 where
   pub host : HostState
   pub devices : List (Option ℕ)
   pub interfaces : List (Option InterfaceState)
   pub endpoints : List (Option EndpointState)
+  pub futures : List (Option FutureState)
   pub tree : Tree
   pub packets : List UdevPacket
 
@@ -34,25 +36,33 @@ abbrev pub is_device_of : ℕ → Option ℕ → Bool
 is_device_of key None = false
 is_device_of key (Some k) = k == key
 
--- the endpoint of a key is open under a name
-pub record IsNamed (endpoints : List (Option EndpointState)) (key : ℕ) : Type 0 where
+-- what is open under some name has this key
+pub record IsNamed {X : Type 0} (key_of : X → ℕ) (names : List (Option X)) (key : ℕ) : Type 0 where
   pub name : ℕ
-  pub endpoint : EndpointState
-  pub at : named endpoints name ≡ Some endpoint
-  pub key_is : endpoint.key ≡ key
+  pub entry : X
+  pub at : named names name ≡ Some entry
+  pub key_is : key_of entry ≡ key
 
--- each endpoint that is open at the host is so
-abbrev pub EndpointsAreNamed : List (Option HostEndpoint) → List (Option EndpointState) → Type 0
-EndpointsAreNamed opened endpoints = (key : ℕ) → key_at opened key ≡ true → IsNamed endpoints key
+abbrev pub endpoint_key : EndpointState → ℕ
+endpoint_key e = e.key
+
+abbrev pub future_key : FutureState → ℕ
+future_key f = f.key
+
+-- each endpoint that is open at the host is open under a name, or is that of a future
+abbrev pub KeysAreNamed : List (Option HostEndpoint) → List (Option EndpointState) → List (Option FutureState) → Type 0
+KeysAreNamed opened endpoints futures =
+    (key : ℕ) → key_at opened key ≡ true → IsNamed endpoint_key endpoints key ⊎ IsNamed future_key futures key
 
 -- between calls no step is left; there are 64 names of each kind; what is open under a name stands in the host; a device and an interface have as many open handles as there
--- are names of them; each device that the host keeps is held; no endpoint is open under two names; and each that is open at the host
--- is open under one
+-- are names of them; each device that the host keeps is held; no endpoint and no future is open under two names, and no two of them have one key;
+-- a future that is open under a name still has its ticket; and each endpoint that is open at the host is open under a name, or is a future's
 pub record IsSound (s : SessionState) : Type 0 where
   pub idle : s.host.steps ≡ []
   pub device_names : length s.devices ≡ 64
   pub interface_names : length s.interfaces ≡ 64
   pub endpoint_names : length s.endpoints ≡ 64
+  pub future_names : length s.futures ≡ 64
   pub devices_stand : (d key : ℕ) → named s.devices d ≡ Some key → StandsDevice s.host key
   pub devices_counted : (key : ℕ) (o : OpenDevice) → value_at s.host.devices key ≡ Some o → count_by (is_device_of key) s.devices ≡ o.handles
   pub devices_held : DevicesAreHeld s.host
@@ -60,4 +70,8 @@ pub record IsSound (s : SessionState) : Type 0 where
   pub interfaces_counted : (key : ℕ) (c : ClaimedInterface) → value_at s.host.interfaces key ≡ Some c → count_by (is_handle_of key) s.interfaces ≡ c.handles
   pub endpoints_stand : (e : ℕ) (h : EndpointState) → named s.endpoints e ≡ Some h → Stands (bus_of s.host) h
   pub endpoints_differ : (d e : ℕ) (g h : EndpointState) → named s.endpoints d ≡ Some g → named s.endpoints e ≡ Some h → d ≢ e → g.key ≢ h.key
-  pub endpoints_named : EndpointsAreNamed s.host.endpoints s.endpoints
+  pub futures_wait : (n : ℕ) (f : FutureState) → named s.futures n ≡ Some f → IsSome f.ticket
+  pub futures_stand : (n : ℕ) (f : FutureState) → named s.futures n ≡ Some f → StandsFuture s.host f
+  pub futures_differ : (m n : ℕ) (f g : FutureState) → named s.futures m ≡ Some f → named s.futures n ≡ Some g → m ≢ n → f.key ≢ g.key
+  pub futures_apart : (e n : ℕ) (h : EndpointState) (f : FutureState) → named s.endpoints e ≡ Some h → named s.futures n ≡ Some f → h.key ≢ f.key
+  pub keys_named : KeysAreNamed s.host.endpoints s.endpoints s.futures

@@ -7,6 +7,7 @@ use Rattle.usb_enum.specs.declared.hotplug.UdevPacket.{UdevPacket}
 use Rattle.usb_endpoint.specs.EndpointState.{EndpointState}
 use Rattle.usb_host.specs.HostState.{HostState}
 use Rattle.usb_device.specs.HandleStates.{InterfaceState}
+use Rattle.usb_device.specs.Futures.{FutureState}
 
 -- an open endpoint: where its submissions go, its tickets in the order of submission, and how many of them were taken
 pub record Endpoint : Type 0 where
@@ -18,13 +19,14 @@ pub record Endpoint : Type 0 where
   pub tickets : List ℕ
   pub taken : ℕ
 
--- the host, and what is open by the number of its name: the keys of devices, the interfaces, and the endpoints; the tree of
--- attributes, and the packets of udev that are still to be looked at
+-- the host, and what is open by the number of its name: the keys of devices, the interfaces, the endpoints, and the
+-- control transfers on their way (futures); the tree of attributes, and the packets of udev that are still to be looked at
 pub record State : Type 0 where
   pub host : HostState
   pub devices : List (Option ℕ)
   pub interfaces : List (Option InterfaceState)
   pub endpoints : List (Option Endpoint)
+  pub futures : List (Option FutureState)
   pub tree : Tree
   pub packets : List UdevPacket
 

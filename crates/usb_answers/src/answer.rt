@@ -5,7 +5,7 @@ ghost use Rattle.usb_script.specs.ItemKinds.{places_in};
 ghost use Rattle.usb_answers.specs.State.{State};
 ghost use Rattle.usb_answers.specs.Answered.{Answers};
 ghost use Rattle.usb_answers.specs.Answers.{answer};
-ghost use Rattle.usb_answers.specs.Kinds.{is_of_endpoint, is_of_interface, is_of_handle, is_of_tree};
+ghost use Rattle.usb_answers.specs.Kinds.{is_of_endpoint, is_of_interface, is_of_handle, is_of_control, asks_descriptor, is_of_tree};
 
 use crate::session::Session;
 use usb_desc::NoMemory;
@@ -140,6 +140,95 @@ impl Session {
         }
     }
 
+    /// The answer to a request for a descriptor.
+    #[tactic(auto, unfolding(crate::specs::Answers::answer))]
+    fn answer_request(&mut self, line: &mut String, item: Item) -> Result<(), NoMemory>
+        requires kind { IsTrue (asks_descriptor item) }
+        requires spare { places_in item ≤ self.old.host.kernel.spare }
+        ensures answered { Answers self.old self.new line.old line.new result
+            (λ state. answer state item) }
+        ensures spare { OnOk result
+            (self.old.host.kernel.spare ≤ self.new.host.kernel.spare + places_in item) }
+    {
+        match item {
+            Item::GetDescriptor {
+                device,
+                descriptor_type,
+                index,
+                language,
+                timeout,
+                steps,
+            } => self.get_descriptor(
+                line,
+                device,
+                descriptor_type,
+                index,
+                language,
+                timeout,
+                steps,
+            ),
+            Item::SupportedLanguages {
+                device,
+                timeout,
+                steps,
+            } => self.supported_languages(line, device, timeout, steps),
+            Item::StringDescriptor {
+                device,
+                index,
+                language,
+                timeout,
+                steps,
+            } => self.string_descriptor(line, device, index, language, timeout, steps),
+            _ => unreachable!(),
+        }
+    }
+
+    /// The answer to a control transfer, which is awaited or on its way.
+    #[tactic(auto, unfolding(crate::specs::Answers::answer))]
+    fn answer_control(&mut self, line: &mut String, item: Item) -> Result<(), NoMemory>
+        requires kind { IsTrue (is_of_control item) }
+        requires spare { places_in item ≤ self.old.host.kernel.spare }
+        ensures answered { Answers self.old self.new line.old line.new result
+            (λ state. answer state item) }
+        ensures spare { OnOk result
+            (self.old.host.kernel.spare ≤ self.new.host.kernel.spare + places_in item) }
+    {
+        match item {
+            Item::ControlIn {
+                target,
+                setup,
+                length,
+                timeout,
+                steps,
+            } => self.control_in(line, target, setup, length, timeout, steps),
+            Item::ControlOut {
+                target,
+                setup,
+                bytes,
+                timeout,
+                steps,
+            } => self.control_out(line, target, setup, bytes, timeout, steps),
+            Item::StartControlIn {
+                future,
+                target,
+                setup,
+                length,
+                timeout,
+            } => self.start_control_in(line, future, target, setup, length, timeout),
+            Item::StartControlOut {
+                future,
+                target,
+                setup,
+                bytes,
+                timeout,
+            } => self.start_control_out(line, future, target, setup, bytes, timeout),
+            Item::PollFuture { future } => self.poll_future(line, future),
+            Item::WaitFuture { future, steps } => self.wait_future(line, future, steps),
+            Item::CloseFuture { future } => self.close_future(line, future),
+            item => self.answer_request(line, item),
+        }
+    }
+
     /// Appends the line that answers an item of a script, with its LF, and nothing where the item has no answer.
     #[tactic(auto, unfolding(crate::specs::Answers::answer))]
     pub fn answer(&mut self, line: &mut String, item: Item) -> Result<(), NoMemory>
@@ -170,6 +259,16 @@ impl Session {
                 self.step_all(steps);
                 Ok(())
             }
+            Item::ControlIn { .. }
+            | Item::ControlOut { .. }
+            | Item::GetDescriptor { .. }
+            | Item::SupportedLanguages { .. }
+            | Item::StringDescriptor { .. }
+            | Item::StartControlIn { .. }
+            | Item::StartControlOut { .. }
+            | Item::PollFuture { .. }
+            | Item::WaitFuture { .. }
+            | Item::CloseFuture { .. } => self.answer_control(line, item),
             item => self.answer_handle(line, item),
         }
     }

@@ -7,8 +7,8 @@ ghost use Rattle.usb_host.specs.HostBus.{bus_of};
 ghost use Rattle.usb_answers.specs.State.{State};
 ghost use Rattle.usb_answers.specs.Names.{named, freed};
 ghost use Rattle.usb_answers.specs.Answer.{ok_answer};
-ghost use Rattle.usb_answers.specs.Closes.{cancelled, cancel_answer, closed, close_answer, close_device_answer, close_interface_answer, release_answer};
-ghost use Rattle.usb_answers.specs.Ends.{interface_closed, name_closed};
+ghost use Rattle.usb_answers.specs.Closes.{cancelled, cancel_answer, closed, close_answer, close_future_answer, close_device_answer, close_interface_answer, release_answer};
+ghost use Rattle.usb_answers.specs.Ends.{future_closed_under, interface_closed, name_closed};
 ghost use Rattle.usb_answers.specs.Relation.{Represents};
 ghost use Rattle.usb_answers.specs.Answered.{Answers};
 ghost use Rattle.usb_answers.specs.OpenCalls.{CallKeeps, CallAnswers};
@@ -80,6 +80,35 @@ impl Session {
         }
     }
 
+    /// Closes what is open under the number of a future's name, and says whether anything was.
+    pub(crate) fn close_future_at(&mut self, number: u8) -> bool
+        ensures was_open { result ≡ is_some (named self.old.futures number) }
+        ensures stands { (state : State) → Represents self.old state →
+            Represents self.new (future_closed_under state number) }
+        ensures freed { self.new.futures ≡ freed self.old.futures number }
+        ensures endpoints { self.new.endpoints ≡ self.old.endpoints }
+        ensures spare { self.new.host.kernel.spare ≡ self.old.host.kernel.spare }
+    {
+        let Some(future) = take_at(&mut self.futures, number) else {
+            return false;
+        };
+        future.close(&mut self.host);
+        true
+    }
+
+    /// `close`: a future is closed. Its transfer goes on, and nobody can take it any more.
+    pub(crate) fn close_future(&mut self, line: &mut String, name: Name) -> Result<(), NoMemory>
+        ensures answered { Answers self.old self.new line.old line.new result
+            (λ state. close_future_answer state name) }
+        ensures spare { self.new.host.kernel.spare ≡ self.old.host.kernel.spare }
+    {
+        if self.close_future_at(name.number()) {
+            write_ok(line)
+        } else {
+            write_condition(line)
+        }
+    }
+
     /// Closes what is open under the number of a device's name, and says whether anything was.
     pub(crate) fn close_name(&mut self, number: u8) -> bool
         ensures was_open { result ≡ is_some (named self.old.devices number) }
@@ -88,6 +117,7 @@ impl Session {
         ensures freed { self.new.devices ≡ freed self.old.devices number }
         ensures interfaces { self.new.interfaces ≡ self.old.interfaces }
         ensures endpoints { self.new.endpoints ≡ self.old.endpoints }
+        ensures futures { self.new.futures ≡ self.old.futures }
         ensures spare { self.new.host.kernel.spare ≡ self.old.host.kernel.spare }
     {
         let Some(device) = take_at(&mut self.devices, number) else {
@@ -117,6 +147,7 @@ impl Session {
             Represents self.new (interface_closed state number) }
         ensures freed { self.new.interfaces ≡ freed self.old.interfaces number }
         ensures endpoints { self.new.endpoints ≡ self.old.endpoints }
+        ensures futures { self.new.futures ≡ self.old.futures }
         ensures spare { self.new.host.kernel.spare ≡ self.old.host.kernel.spare }
     {
         let Some(interface) = take_at(&mut self.interfaces, number) else {

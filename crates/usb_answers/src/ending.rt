@@ -5,7 +5,7 @@ ghost use Rattle.usb_host.specs.Finishes.{HasEnds, HasCompletions};
 ghost use Rattle.usb_registry.specs.History.{value_at};
 ghost use Rattle.usb_answers.specs.State.{State};
 ghost use Rattle.usb_answers.specs.Names.{named, freed};
-ghost use Rattle.usb_answers.specs.Ends.{endpoints_closed, interfaces_closed, devices_closed, ended};
+ghost use Rattle.usb_answers.specs.Ends.{endpoints_closed, futures_closed, interfaces_closed, devices_closed, ended};
 ghost use Rattle.usb_answers.specs.Relation.{Represents};
 ghost use Rattle.usb_answers.specs.Accounts.{Accounted};
 
@@ -25,12 +25,25 @@ impl Session {
         }
     }
 
+    /// Closes the futures by number.
+    fn close_futures(&mut self)
+        ensures stands { (state : State) → Represents self.old state →
+            Represents self.new (futures_closed state 64) }
+        ensures none { (f : ℕ) → f < 64 → named self.new.futures f ≡ None }
+        ensures endpoints { self.new.endpoints ≡ self.old.endpoints }
+    {
+        for name in 0..64 {
+            self.close_future_at(name);
+        }
+    }
+
     /// Closes the interfaces by number.
     fn close_interfaces(&mut self)
         ensures stands { (state : State) → Represents self.old state →
             Represents self.new (interfaces_closed state 64) }
         ensures none { (i : ℕ) → i < 64 → named self.new.interfaces i ≡ None }
         ensures endpoints { self.new.endpoints ≡ self.old.endpoints }
+        ensures futures { self.new.futures ≡ self.old.futures }
     {
         for name in 0..64 {
             self.close_handle(name);
@@ -44,13 +57,14 @@ impl Session {
         ensures none { (d : ℕ) → d < 64 → named self.new.devices d ≡ None }
         ensures interfaces { self.new.interfaces ≡ self.old.interfaces }
         ensures endpoints { self.new.endpoints ≡ self.old.endpoints }
+        ensures futures { self.new.futures ≡ self.old.futures }
     {
         for name in 0..64 {
             self.close_name(name);
         }
     }
 
-    /// Closes what is open, endpoints by number, then interfaces and then devices by number; and gives the host, at which all
+    /// Closes what is open, endpoints, then futures, then interfaces and then devices, each by number; and gives the host, at which all
     /// tickets are discarded and then reaped, by number. Then each ticket has its completion and its end, and the host keeps
     /// no open device, no claimed interface and no endpoint.
     pub fn end(self) -> Host
@@ -66,6 +80,7 @@ impl Session {
     {
         let mut session = self;
         session.close_endpoints();
+        session.close_futures();
         session.close_interfaces();
         session.close_devices();
         let Session {
@@ -73,9 +88,11 @@ impl Session {
             devices,
             interfaces,
             endpoints,
+            futures,
             tree: _tree,
             watch: _watch,
         } = session;
+        drop_names(futures);
         drop_names(endpoints);
         drop_names(interfaces);
         drop_names(devices);

@@ -6,9 +6,9 @@ ghost use Rattle.usb_answers.specs.Places.{PollsAnswerForTheirPlace, Completions
 ghost use Rattle.usb_answers.specs.Behind.{ScriptsGoOn};
 ghost use Rattle.usb_answers.specs.Served.{EndpointsAreServedInOrder, ScriptsAreCounted};
 
-/// What an endpoint holds is pending at an endpoint that is open under a name, and the host has as
-/// many tickets as the journal: before the first line, behind each line, and when all is closed. So
-/// no ticket is held where no name is open.
+/// What is held is pending at an endpoint that is open under a name, or is the ticket of a control
+/// transfer that has a name, and the host has as many tickets as the journal: before the first line,
+/// behind each line, and when all is closed. So no ticket is held where no name is open.
 pub fn each_ticket_is_accounted_for()
     ensures start { StartIsAccounted }
     ensures answer { AnswerKeepsAccounts }
@@ -23,21 +23,23 @@ pub fn fates_are_final()
 {}
 
 /// A poll answers for the endpoint's n-th ticket, counted from 0, where n were taken: with the completion that the journal has
-/// of it, and `pending` exactly where the journal has none. A line with a completion is printed only where a ticket is taken.
+/// of it, and `pending` exactly where the journal has none. A line with a completion is printed only where an endpoint's ticket is
+/// taken: control transfers print none.
 pub fn polls_answer_for_their_place()
     ensures poll { PollsAnswerForTheirPlace }
     ensures taken { CompletionsAreTaken }
 {}
 
 /// Each endpoint that a script opens is served in the order of its submissions: the tickets that were taken are the first, each was
-/// printed with the completion that the last journal has of it, and the others were given up when it was closed.
+/// printed with the completion that the last journal has of it, and the others were given up when it was closed. Each ticket is
+/// that of one endpoint, at one place, or of one control transfer.
 pub fn endpoints_are_served_in_order()
     ensures handles { EndpointsAreServedInOrder }
     ensures count { ScriptsAreCounted }
 {}
 
 /// Over each line of a script and over its end the journal goes on, and a ticket that has its end keeps it. So the completion that
-/// a line prints is the last journal's. Behind any lines what endpoints hold is accounted for.
+/// a line prints is the last journal's. Behind any lines what is held is accounted for.
 pub fn scripts_go_on()
     ensures { ScriptsGoOn }
 {}

@@ -3,11 +3,13 @@
 #![tactic(auto)]
 
 mod answer;
+mod awaiting;
 mod buffers;
 mod claiming;
 mod cloning;
 mod closing;
 mod configuring;
+mod controlling;
 mod describing;
 mod ending;
 mod endpoints;
@@ -20,6 +22,7 @@ mod now;
 mod opening;
 mod polling;
 mod probing;
+mod requesting;
 mod session;
 mod settings;
 mod stepping;

@@ -10,15 +10,15 @@ use crate::names::{drop_names, no_names};
 use std::alloc::Global;
 use std::marker::Model;
 use usb_desc::NoMemory;
-use usb_device::{Device, Host, Interface};
+use usb_device::{Device, Host, Interface, TransferFuture};
 use usb_endpoint::AnyEndpoint;
 use usb_enum::{AttrTree, HotplugWatch, watch_devices};
 use usb_kernel::{Bytes, Kernel, SimDevice};
 use usb_script::Item;
 use usb_setup::{packets_of, tree_of};
 
-/// A host, what is open under each name (devices, claimed interfaces and endpoints), the tree of
-/// attributes, and the packets of udev that are left.
+/// A host, what is open under each name (devices, claimed interfaces, endpoints and control
+/// transfers on their way), the tree of attributes, and the packets of udev that are left.
 ///
 /// It can't be dropped: `end` has to spend it.
 pub struct Session {
@@ -26,6 +26,7 @@ pub struct Session {
     pub(crate) devices: Vec<Option<Device>>,
     pub(crate) interfaces: Vec<Option<Interface>>,
     pub(crate) endpoints: Vec<Option<AnyEndpoint>>,
+    pub(crate) futures: Vec<Option<TransferFuture>>,
     pub(crate) tree: AttrTree,
     pub(crate) watch: HotplugWatch,
 }
@@ -43,6 +44,7 @@ impl Model for Session {
       devices = s.devices.items;
       interfaces = s.interfaces.items;
       endpoints = map (option_map state_of) s.endpoints.items;
+      futures = s.futures.items;
       tree = s.tree;
       packets = s.watch;
     } };
@@ -143,6 +145,7 @@ struct Names {
     devices: Vec<Option<Device>>,
     interfaces: Vec<Option<Interface>>,
     endpoints: Vec<Option<AnyEndpoint>>,
+    futures: Vec<Option<TransferFuture>>,
 }
 
 /// Names of each kind under which nothing is open.
@@ -150,6 +153,7 @@ fn all_names(alloc: Global) -> Result<Names, NoMemory>
     ensures devices { IfOk result (λ n. n.devices.items ≡ replicate 64 None) }
     ensures interfaces { IfOk result (λ n. n.interfaces.items ≡ replicate 64 None) }
     ensures endpoints { IfOk result (λ n. n.endpoints.items ≡ replicate 64 None) }
+    ensures futures { IfOk result (λ n. n.futures.items ≡ replicate 64 None) }
 {
     let devices = no_names(alloc)?;
     let interfaces = match no_names(alloc) {
@@ -167,10 +171,20 @@ fn all_names(alloc: Global) -> Result<Names, NoMemory>
             return Err(error);
         }
     };
+    let futures = match no_names(alloc) {
+        Ok(names) => names,
+        Err(error) => {
+            drop_names(devices);
+            drop_names(interfaces);
+            drop_names(endpoints);
+            return Err(error);
+        }
+    };
     Ok(Names {
         devices,
         interfaces,
         endpoints,
+        futures,
     })
 }
 
@@ -188,6 +202,7 @@ impl Session {
             devices,
             interfaces,
             endpoints,
+            futures,
         } = names;
         let tree = match tree_of(alloc, items) {
             Ok(tree) => tree,
@@ -195,6 +210,7 @@ impl Session {
                 drop_names(devices);
                 drop_names(interfaces);
                 drop_names(endpoints);
+                drop_names(futures);
                 return Err(error);
             }
         };
@@ -203,6 +219,7 @@ impl Session {
             devices,
             interfaces,
             endpoints,
+            futures,
             tree,
             watch: watch_devices(alloc, packets),
         })

@@ -1,13 +1,17 @@
 use Rattle.std.proofs.Common.{ap, sym, subst}
 use Rattle.usb_endpoint.specs.EndpointState.{EndpointState}
 use Rattle.usb_endpoint.specs.AnyEndpoints.{state_of}
+use Rattle.usb_kernel.specs.Extends.{Extends}
+use Rattle.usb_host.specs.HostState.{HostState}
 use Rattle.usb_host.specs.HostFrames.{LineGoesOn}
+use Rattle.usb_host.proofs.FollowLemmas.{on-all_discarded}
 use Rattle.usb_answers.proofs.SubmitCode.{cancel-made, line-all_discarded}
 use Rattle.usb_answers.proofs.closing.cancel_open.Goals as goal
 
 pub returns-clause-keeps : goal.returns-clause-keeps
 returns-clause-keeps c = record {
   line = subst (LineGoesOn c.args.host.now) (sym c.cancel_all.ensures.bus) (line-all_discarded c.args.host.now (state_of c.args.endpoint.now).pending);
+  past = subst (λ (h : HostState). Extends c.args.host.now.kernel.past h.kernel.past) (sym c.cancel_all.ensures.bus) (on-all_discarded c.args.host.now (state_of c.args.endpoint.now).pending).past;
   stands = c.cancel_all.ensures.stands;
   others = c.cancel_all.ensures.others;
   key = ap (λ (h : EndpointState). h.key) c.cancel_all.ensures.rest;

@@ -1,7 +1,10 @@
 use Rattle.std.proofs.Common.{ap, sym, subst}
 use Rattle.usb_endpoint.specs.EndpointState.{EndpointState}
 use Rattle.usb_endpoint.specs.AnyEndpoints.{state_of}
+use Rattle.usb_kernel.specs.Extends.{Extends}
+use Rattle.usb_host.specs.HostState.{HostState}
 use Rattle.usb_host.specs.HostFrames.{LineGoesOn}
+use Rattle.usb_answers.proofs.DeviceHosts.{halt-aside}
 use Rattle.usb_answers.proofs.HaltCode.{line-halt, halt-made}
 use Rattle.usb_answers.proofs.halting.clear_open.Goals as goal
 
@@ -9,6 +12,7 @@ pub returns-clause-keeps : goal.returns-clause-keeps
 returns-clause-keeps c =
     let x = state_of c.args.endpoint.now in record {
       line = subst (LineGoesOn c.args.host.now) (sym c.clear_halt.ensures.bus) (line-halt c.args.host.now x.device x.address);
+      past = subst (λ (h : HostState). Extends c.args.host.now.kernel.past h.kernel.past) (sym c.clear_halt.ensures.bus) (halt-aside c.args.host.now x.device x.address).handles.goes;
       stands = c.clear_halt.ensures.stands;
       others = c.clear_halt.ensures.others;
       key = ap (λ (h : EndpointState). h.key) c.clear_halt.ensures.rest;

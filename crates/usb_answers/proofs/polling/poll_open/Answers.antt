@@ -1,7 +1,7 @@
 use Rattle.std.proofs.Common.{ap}
 use Rattle.usb_endpoint.specs.EndpointState.{EndpointState}
 use Rattle.usb_endpoint.specs.AnyEndpoints.{state_of}
-use Rattle.usb_answers.proofs.Queue.{took-line}
+use Rattle.usb_answers.proofs.Queue.{took-line, took-past}
 use Rattle.usb_answers.proofs.PollCode.{nothing_pending, poll-barred, poll-took, poll-left}
 use Rattle.usb_answers.proofs.polling.poll_open.Goals as goal
 
@@ -13,6 +13,7 @@ returns-then-pending-eq0-clause-answered c =
 pub returns-in-Ready-clause-keeps : goal.returns-in-Ready-clause-keeps
 returns-in-Ready-clause-keeps c = record {
   line = took-line c.args.host.now c.poll_next_complete.new.bus (state_of c.args.endpoint.now) (state_of c.poll_next_complete.new.self) c.in-Ready.completion c.in-Ready.ensures.ready;
+  past = took-past c.args.host.now c.poll_next_complete.new.bus (state_of c.args.endpoint.now) (state_of c.poll_next_complete.new.self) c.in-Ready.completion c.in-Ready.ensures.ready;
   stands = c.poll_next_complete.ensures.stands;
   others = c.poll_next_complete.ensures.others;
   key = ap (λ (h : EndpointState). h.key) c.in-Ready.ensures.ready.next_is;

@@ -11,3 +11,12 @@ drop_names-requires-in-Err-no_names c = record { none = λ n. ap (λ l. named l 
 
 pub drop_names-requires-in-Err-no_names-2 : goal.drop_names-requires-in-Err-no_names-2
 drop_names-requires-in-Err-no_names-2 c = record { none = λ n. ap (λ l. named l n) c.in-Ok.ensures.empty ∙ named-replicate 64 n }
+
+pub drop_names-requires-in-Err-no_names-2-2 : goal.drop_names-requires-in-Err-no_names-2-2
+drop_names-requires-in-Err-no_names-2-2 c = record { none = λ n. ap (λ l. named l n) c.in_ok-devices.ensures.empty ∙ named-replicate 64 n }
+
+pub drop_names-requires-in-Err-no_names-2-3 : goal.drop_names-requires-in-Err-no_names-2-3
+drop_names-requires-in-Err-no_names-2-3 c = record { none = λ n. ap (λ l. named l n) c.in-Ok.ensures.empty ∙ named-replicate 64 n }
+
+pub drop_names-requires-in-Err-no_names-2-4 : goal.drop_names-requires-in-Err-no_names-2-4
+drop_names-requires-in-Err-no_names-2-4 c = record { none = λ n. ap (λ l. named l n) c.in-Ok-no_names.ensures.empty ∙ named-replicate 64 n }

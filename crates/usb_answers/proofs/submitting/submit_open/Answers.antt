@@ -1,7 +1,7 @@
 use Rattle.std.proofs.Common.{sym, ◌∙◌, length}
 use Rattle.usb_kernel.specs.Tickets.{tickets}
 use Rattle.usb_endpoint.specs.AnyEndpoints.{state_of}
-use Rattle.usb_answers.proofs.SubmitCode.{submit-barred, submit-made, submit-line, submit-key, ok-holds}
+use Rattle.usb_answers.proofs.SubmitCode.{submit-barred, submit-made, submit-line, submit-past, submit-key, ok-holds}
 use Rattle.usb_answers.proofs.submitting.submit_open.Goals as goal
 use Rattle.usb_answers.proofs.submitting.submit_open.Goals.{in-Ok, in-Err}
 
@@ -16,6 +16,7 @@ returns-clause-keeps c =
     let y = state_of c.submit.new.self in
     record {
       line = submit-line c.submit.result c.args.host.now c.submit.new.bus x y c.args.buffer c.submit.ensures.bus c.submit.ensures.err;
+      past = submit-past c.submit.result c.args.host.now c.submit.new.bus x y c.args.buffer c.submit.ensures.bus c.submit.ensures.err;
       stands = c.submit.ensures.stands;
       others = c.submit.ensures.others;
       key = submit-key c.submit.result c.args.host.now c.submit.new.bus x y (length (tickets c.args.host.now.kernel.past)) c.submit.ensures.pending c.submit.ensures.err;

@@ -1,12 +1,15 @@
 use Rattle.std.proofs.Common.{ap, sym, ◌∙◌, subst}
 use Rattle.usb_endpoint.specs.EndpointState.{EndpointState}
 use Rattle.usb_endpoint.specs.AnyEndpoints.{state_of}
+use Rattle.usb_kernel.specs.Extends.{Extends}
+use Rattle.usb_kernel.proofs.Extends.{extends-same}
+use Rattle.usb_host.specs.HostState.{HostState}
 use Rattle.usb_host.specs.HostFrames.{LineGoesOn}
 use Rattle.usb_host.proofs.CallFrames.{keeps-open}
 use Rattle.usb_host.proofs.WaitFrames.{line-keeps}
 use Rattle.usb_answers.specs.Transfers.{transfer_on}
 use Rattle.usb_answers.specs.OpenCalls.{CallAnswers}
-use Rattle.usb_answers.proofs.WaitCode.{transfer-barred, transfer-made, transfer-line}
+use Rattle.usb_answers.proofs.WaitCode.{transfer-barred, transfer-made, transfer-line, transfer-past}
 use Rattle.usb_answers.proofs.transferring.transfer_open.Goals as goal
 
 pub returns-then-bars_transfer-clause-answered : goal.returns-then-bars_transfer-clause-answered
@@ -17,6 +20,7 @@ returns-then-bars_transfer-clause-answered c =
 pub returns-in-Ok-clause-keeps : goal.returns-in-Ok-clause-keeps
 returns-in-Ok-clause-keeps c = record {
   line = transfer-line c.blocking_is_by_steps.ensures c.args.host.now c.transfer_blocking-tried.new.bus (state_of c.args.endpoint.now) c.args.buffer c.nanoseconds.result c.in-Ok.completion c.in-Ok.ensures.transferred;
+  past = transfer-past c.blocking_is_by_steps.ensures c.args.host.now c.transfer_blocking-tried.new.bus (state_of c.args.endpoint.now) c.args.buffer c.nanoseconds.result c.in-Ok.completion c.in-Ok.ensures.transferred;
   stands = c.transfer_blocking-tried.ensures.stands;
   others = c.transfer_blocking-tried.ensures.others;
   key = ap (λ (h : EndpointState). h.key) c.transfer_blocking-tried.ensures.rest;
@@ -34,6 +38,7 @@ returns-in-Ok-clause-answered c =
 pub returns-clause-keeps : goal.returns-clause-keeps
 returns-clause-keeps c = record {
   line = subst (LineGoesOn c.args.host.now) (sym c.in-Err.ensures.err) (line-keeps c.args.host.now c.args.host.now (keeps-open c.args.host.now));
+  past = subst (λ (h : HostState). Extends c.args.host.now.kernel.past h.kernel.past) (sym c.in-Err.ensures.err) (extends-same c.args.host.now.kernel.past);
   stands = c.transfer_blocking-tried.ensures.stands;
   others = c.transfer_blocking-tried.ensures.others;
   key = ap (λ (h : EndpointState). h.key) c.transfer_blocking-tried.ensures.rest;

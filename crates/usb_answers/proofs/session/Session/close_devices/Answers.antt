@@ -12,4 +12,5 @@ loop-name-preserved c = record {
   none = none-more c.loop-name.self.devices c.close_name.new.self.devices c.loop-name.name c.close_name.ensures.freed c.loop-name.invariant.none;
   interfaces = c.close_name.ensures.interfaces ∙ c.loop-name.invariant.interfaces;
   endpoints = c.close_name.ensures.endpoints ∙ c.loop-name.invariant.endpoints;
+  futures = c.close_name.ensures.futures ∙ c.loop-name.invariant.futures;
 }

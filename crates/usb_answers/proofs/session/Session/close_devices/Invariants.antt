@@ -11,4 +11,5 @@ invariant-loop-name l = record {
   none : (d : ℕ) → d < l.name → named l.self.devices d ≡ None;
   interfaces : l.self.interfaces ≡ l.initial.self.interfaces;
   endpoints : l.self.endpoints ≡ l.initial.self.endpoints;
+  futures : l.self.futures ≡ l.initial.self.futures;
 }

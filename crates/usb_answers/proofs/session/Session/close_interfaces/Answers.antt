@@ -11,4 +11,5 @@ loop-name-preserved c = record {
       (c.close_handle.ensures.stands (interfaces_closed state c.loop-name.name) (c.loop-name.invariant.stands state r));
   none = none-more c.loop-name.self.interfaces c.close_handle.new.self.interfaces c.loop-name.name c.close_handle.ensures.freed c.loop-name.invariant.none;
   endpoints = c.close_handle.ensures.endpoints ∙ c.loop-name.invariant.endpoints;
+  futures = c.close_handle.ensures.futures ∙ c.loop-name.invariant.futures;
 }

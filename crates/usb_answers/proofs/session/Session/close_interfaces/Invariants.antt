@@ -10,4 +10,5 @@ invariant-loop-name l = record {
   stands : (state : State) → Represents l.initial.self state → Represents l.self (interfaces_closed state l.name);
   none : (i : ℕ) → i < l.name → named l.self.interfaces i ≡ None;
   endpoints : l.self.endpoints ≡ l.initial.self.endpoints;
+  futures : l.self.futures ≡ l.initial.self.futures;
 }

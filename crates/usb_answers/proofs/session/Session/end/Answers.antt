@@ -5,7 +5,7 @@ use Rattle.usb_host.specs.Finishes.{HasEnds}
 use Rattle.usb_device.specs.ClosedLaws.{IsEmpty}
 use Rattle.usb_answers.specs.Names.{named}
 use Rattle.usb_answers.specs.State.{State}
-use Rattle.usb_answers.specs.Ends.{endpoints_closed, interfaces_closed, devices_closed}
+use Rattle.usb_answers.specs.Ends.{endpoints_closed, futures_closed, interfaces_closed, devices_closed}
 use Rattle.usb_answers.specs.Relation.{Represents}
 use Rattle.usb_answers.specs.Accounts.{Accounted}
 use Rattle.usb_answers.specs.SessionState.{SessionState}
@@ -16,20 +16,27 @@ use Rattle.usb_answers.proofs.session.Session.end.Goals as goal
 pub drop_names-requires : goal.drop_names-requires
 drop_names-requires c = record {
   none =
-      none-endpoints c.session.inside.endpoints.items
-      (none-all (map (option_map state_of) c.session.inside.endpoints.items) c.session.invariant.endpoint_names
-      (λ n below. ap (λ (v : SessionState). named v.endpoints n) c.session.view_is ∙ ap (λ l. named l n) (c.close_devices.ensures.endpoints ∙ c.close_interfaces.ensures.endpoints) ∙ c.close_endpoints.ensures.none n below));
+      none-all c.session.inside.futures.items c.session.invariant.future_names
+      (λ n below. ap (λ (v : SessionState). named v.futures n) c.session.view_is ∙ ap (λ l. named l n) (c.close_devices.ensures.futures ∙ c.close_interfaces.ensures.futures) ∙ c.close_futures.ensures.none n below);
 }
 
 pub drop_names-requires-2 : goal.drop_names-requires-2
 drop_names-requires-2 c = record {
   none =
-      none-all c.session.inside.interfaces.items c.session.invariant.interface_names
-      (λ n below. ap (λ (v : SessionState). named v.interfaces n) c.session.view_is ∙ ap (λ l. named l n) c.close_devices.ensures.interfaces ∙ c.close_interfaces.ensures.none n below);
+      none-endpoints c.session.inside.endpoints.items
+      (none-all (map (option_map state_of) c.session.inside.endpoints.items) c.session.invariant.endpoint_names
+      (λ n below. ap (λ (v : SessionState). named v.endpoints n) c.session.view_is ∙ ap (λ l. named l n) (c.close_devices.ensures.endpoints ∙ c.close_interfaces.ensures.endpoints ∙ c.close_futures.ensures.endpoints) ∙ c.close_endpoints.ensures.none n below));
 }
 
 pub drop_names-requires-3 : goal.drop_names-requires-3
 drop_names-requires-3 c = record {
+  none =
+      none-all c.session.inside.interfaces.items c.session.invariant.interface_names
+      (λ n below. ap (λ (v : SessionState). named v.interfaces n) c.session.view_is ∙ ap (λ l. named l n) c.close_devices.ensures.interfaces ∙ c.close_interfaces.ensures.none n below);
+}
+
+pub drop_names-requires-4 : goal.drop_names-requires-4
+drop_names-requires-4 c = record {
   none =
       none-all c.session.inside.devices.items c.session.invariant.device_names
       (λ n below. ap (λ (v : SessionState). named v.devices n) c.session.view_is ∙ c.close_devices.ensures.none n below);
@@ -48,15 +55,20 @@ returns c =
     (λ n below. ap (λ (v : SessionState). named v.interfaces n) c.session.view_is ∙ ap (λ l. named l n) c.close_devices.ensures.interfaces ∙ c.close_interfaces.ensures.none n below) in
     let no_endpoints : (e : ℕ) → named s.endpoints e ≡ None =
     none-all s.endpoints c.session.invariant.endpoint_names
-    (λ n below. ap (λ (v : SessionState). named v.endpoints n) c.session.view_is ∙ ap (λ l. named l n) (c.close_devices.ensures.endpoints ∙ c.close_interfaces.ensures.endpoints) ∙ c.close_endpoints.ensures.none n below) in
-    let stands : (state : State) → Represents c.args.self state → Represents c.close_devices.new.self (devices_closed (interfaces_closed (endpoints_closed state 64) 64) 64) =
-    λ state r. c.close_devices.ensures.stands (interfaces_closed (endpoints_closed state 64) 64) (c.close_interfaces.ensures.stands (endpoints_closed state 64) (c.close_endpoints.ensures.stands state r)) in
+    (λ n below. ap (λ (v : SessionState). named v.endpoints n) c.session.view_is ∙ ap (λ l. named l n) (c.close_devices.ensures.endpoints ∙ c.close_interfaces.ensures.endpoints ∙ c.close_futures.ensures.endpoints) ∙ c.close_endpoints.ensures.none n below) in
+    let no_futures : (n : ℕ) → named s.futures n ≡ None =
+    none-all s.futures c.session.invariant.future_names
+    (λ n below. ap (λ (v : SessionState). named v.futures n) c.session.view_is ∙ ap (λ l. named l n) (c.close_devices.ensures.futures ∙ c.close_interfaces.ensures.futures) ∙ c.close_futures.ensures.none n below) in
+    let stands : (state : State) → Represents c.args.self state → Represents c.close_devices.new.self (devices_closed (interfaces_closed (futures_closed (endpoints_closed state 64) 64) 64) 64) =
+    λ state r. c.close_devices.ensures.stands (interfaces_closed (futures_closed (endpoints_closed state 64) 64) 64)
+    (c.close_interfaces.ensures.stands (futures_closed (endpoints_closed state 64) 64) (c.close_futures.ensures.stands (endpoints_closed state 64) (c.close_endpoints.ensures.stands state r))) in
     let ends : (state : State) → Represents c.args.self state → Accounted state → HasEnds now.tickets =
     λ state r a. end-ended c.close_devices.new.self before now state (ap (λ (v : SessionState). v.host) c.session.view_is)
     (λ n. sym (ap (λ (v : SessionState). named v.endpoints n) c.session.view_is) ∙ no_endpoints n)
+    (λ n. sym (ap (λ (v : SessionState). named v.futures n) c.session.view_is) ∙ no_futures n)
     (stands state r) a c.finish.ensures.ended in
     let empty : (state : State) → Represents c.args.self state → Accounted state → IsEmpty now =
-    λ state r a. end-empty s before now refl c.finish.ensures.finished c.session.invariant no_devices no_interfaces no_endpoints c.nothing_is_kept_that_has_gone.ensures.owned c.nothing_is_kept_that_has_gone.ensures.alive (ends state r a) in
+    λ state r a. end-empty s before now refl c.finish.ensures.finished c.session.invariant no_devices no_interfaces no_endpoints no_futures c.nothing_is_kept_that_has_gone.ensures.owned c.nothing_is_kept_that_has_gone.ensures.alive (ends state r a) in
     record {
       host = λ state r. end-host c.close_devices.new.self before now state (sym (ap (λ (v : SessionState). v.host) c.session.view_is)) c.finish.ensures.finished (stands state r);
       ended = ends;

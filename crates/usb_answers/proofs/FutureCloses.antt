@@ -1,0 +1,90 @@
+-- Futures are closed.
+use Rattle.std.proofs.Common.{◌≡◌, ℕ, ◌+◌, suc, arith, List, ◌++◌, Bool, true, false, Option, Some, None, Result, Ok, Err, String, string_bytes, refl, ap, sym, ◌∙◌, subst}
+use Rattle.std.specs.Prelude.{is_some, OnOk}
+use Rattle.std.specs.declared.alloc.Global.{Global}
+use Rattle.usb_host.specs.HostState.{HostState}
+use Rattle.usb_device.specs.Futures.{FutureState, future_closed}
+use Rattle.usb_device.proofs.FutureFrames.{stays-closed}
+use Rattle.usb_lines.specs.Calls.{condition_line, ok_line}
+use Rattle.usb_answers.specs.Names.{named, freed}
+use Rattle.usb_answers.specs.State.{State}
+use Rattle.usb_answers.specs.Answer.{barred, ok_answer, if_open}
+use Rattle.usb_answers.specs.Closes.{without_future, close_future_answer}
+use Rattle.usb_answers.specs.Ends.{future_closed_at, future_closed_under, futures_closed}
+use Rattle.usb_answers.specs.SessionState.{SessionState, IsSound}
+use Rattle.usb_answers.specs.Relation.{Represents}
+use Rattle.usb_answers.specs.Answered.{Answered, Answers}
+use Rattle.usb_answers.proofs.Answering.{told-answered}
+use Rattle.usb_answers.proofs.FutureSessions.{leaves-closed, sound-future_freed}
+use Rattle.usb_answers.proofs.NameLemmas.{freed-none}
+
+pub future-sound_same : (s : SessionState) (after : List (Option FutureState)) (n : ℕ) → IsSound s → named s.futures n ≡ None → after ≡ freed s.futures n → IsSound (record s { futures = after })
+future-sound_same s after n sound none rest =
+    subst (λ (l : List (Option FutureState)). IsSound (record s { futures = l })) (sym (rest ∙ freed-none s.futures n none)) sound
+
+pub future-closed_sound : (s : SessionState) (now : HostState) (after : List (Option FutureState)) (n : ℕ) (f : FutureState) → IsSound s → named s.futures n ≡ Some f → after ≡ freed s.futures n → now ≡ future_closed s.host f → IsSound (record s { host = now; futures = after })
+future-closed_sound s now after n f sound was rest is =
+    subst (λ (h : HostState). IsSound (record s { host = h; futures = after })) (sym is)
+    (sound-future_freed s (future_closed s.host f) after n f sound was rest (leaves-closed s.host f sound.idle (sound.futures_wait n f was) (sound.futures_stand n f was)))
+
+pub future-closed_spare : (h now : HostState) (f : FutureState) → now ≡ future_closed h f → now.kernel.spare ≡ h.kernel.spare
+future-closed_spare h now f is = ap (λ (g : HostState). g.kernel.spare) is ∙ (stays-closed h f).line.spare
+
+-- the state behind the close
+future-represents : (s : SessionState) (state : State) (after : List (Option FutureState)) (n : ℕ) (f : FutureState) → Represents s state → named s.futures n ≡ Some f → after ≡ freed s.futures n → Represents (record s { host = future_closed s.host f; futures = after }) (future_closed_under state n)
+unfolding future_closed_under
+future-represents s state after n f r was rest =
+    let here : named state.futures n ≡ Some f = ap (λ (v : SessionState). named v.futures n) (sym r.is) ∙ was in
+    rw here record {
+      is =
+          ap (λ (l : List (Option FutureState)). record s { host = future_closed s.host f; futures = l }) rest
+          ∙ ap (λ (v : SessionState). record v { host = future_closed v.host f; futures = freed v.futures n }) r.is;
+      few = r.few;
+    }
+
+future-none : (s : SessionState) (state : State) (n : ℕ) → Represents s state → named s.futures n ≡ None → Represents s (future_closed_under state n)
+unfolding future_closed_under
+future-none s state n r none =
+    let here : named state.futures n ≡ None = ap (λ (v : SessionState). named v.futures n) (sym r.is) ∙ none in
+    rw here r
+
+pub close_future-code : (S s : SessionState) (now : HostState) (after : List (Option FutureState)) (n : ℕ) (f : FutureState) → s ≡ S → named s.futures n ≡ Some f → after ≡ freed s.futures n → now ≡ future_closed s.host f → (state : State) → Represents S state → Represents (record s { host = now; futures = after }) (future_closed_under state n)
+close_future-code S s now after n f view was rest closed state r =
+    subst (λ (g : HostState). Represents (record s { host = g; futures = after }) (future_closed_under state n)) (sym closed)
+    (future-represents s state after n f (subst (λ v. Represents v state) (sym view) r) was rest)
+
+pub future-nothing : (S s : SessionState) (after : List (Option FutureState)) (n : ℕ) → s ≡ S → named s.futures n ≡ None → after ≡ freed s.futures n → (state : State) → Represents S state → Represents (record s { futures = after }) (future_closed_under state n)
+future-nothing S s after n view none rest state r =
+    subst (λ (l : List (Option FutureState)). Represents (record s { futures = l }) (future_closed_under state n)) (sym (rest ∙ freed-none s.futures n none))
+    (future-none s state n (subst (λ v. Represents v state) (sym view) r) none)
+
+pub futures_closed-more : (state : State) (n : ℕ) → futures_closed state (n + 1) ≡ future_closed_under (futures_closed state n) n
+futures_closed-more state n = let more : n + 1 ≡ suc n = omega arith in rw more refl
+
+-- the line that closes one
+was_open : (s : SessionState) (state : State) (n : ℕ) (before after : List ℕ) (o : Option FutureState) → is_some o ≡ true → Represents s (future_closed_at state n o) → after ≡ before ++ ok_line → Answered s before after (if_open o (λ f. ok_answer (without_future state n f)) (barred state))
+was_open s state n before after None some r is = absurd (cc)
+was_open s state n before after (Some f) some r is = told-answered s (without_future state n f) before after ok_line r is
+
+was_free : (s : SessionState) (state : State) (n : ℕ) (before after : List ℕ) (o : Option FutureState) → is_some o ≡ false → Represents s (future_closed_at state n o) → after ≡ before ++ condition_line → Answered s before after (if_open o (λ f. ok_answer (without_future state n f)) (barred state))
+was_free s state n before after None some r is = told-answered s state before after condition_line r is
+was_free s state n before after (Some f) some r is = absurd (cc)
+
+some_is : (S : SessionState) (state : State) (n : ℕ) (b : Bool) → Represents S state → is_some (named S.futures n) ≡ b → is_some (named state.futures n) ≡ b
+some_is S state n b r is = ap (λ (v : SessionState). is_some (named v.futures n)) (sym r.is) ∙ is
+
+pub close_future-answered : {E : Type 0} (S s : SessionState) (m n : ℕ) (before text : String Global) (result : Result Unit E) → m ≡ n → is_some (named S.futures m) ≡ true → ((state : State) → Represents S state → Represents s (future_closed_under state m)) → OnOk result (string_bytes text ≡ string_bytes before ++ ok_line) → Answers S s before text result (λ state. close_future_answer state n)
+unfolding close_future_answer future_closed_under
+close_future-answered S s m n before text (Err error) same some now is = tt
+close_future-answered S s m n before text (Ok done) same some now is =
+    λ state r.
+    subst (λ k. Answered s (string_bytes before) (string_bytes text) (if_open (named state.futures k) (λ f. ok_answer (without_future state k f)) (barred state))) same
+    (was_open s state m (string_bytes before) (string_bytes text) (named state.futures m) (some_is S state m true r some) (now state r) is)
+
+pub close_future-barred : {E : Type 0} (S s : SessionState) (m n : ℕ) (before text : String Global) (result : Result Unit E) → m ≡ n → is_some (named S.futures m) ≡ false → ((state : State) → Represents S state → Represents s (future_closed_under state m)) → OnOk result (string_bytes text ≡ string_bytes before ++ condition_line) → Answers S s before text result (λ state. close_future_answer state n)
+unfolding close_future_answer future_closed_under
+close_future-barred S s m n before text (Err error) same some now is = tt
+close_future-barred S s m n before text (Ok done) same some now is =
+    λ state r.
+    subst (λ k. Answered s (string_bytes before) (string_bytes text) (if_open (named state.futures k) (λ f. ok_answer (without_future state k f)) (barred state))) same
+    (was_free s state m (string_bytes before) (string_bytes text) (named state.futures m) (some_is S state m false r some) (now state r) is)

@@ -1,0 +1,58 @@
+use Rattle.std.proofs.Common.{◌≡◌, ◌∙◌, ap, sym, Some, None}
+use Rattle.usb_answers.specs.Names.{named, freed, is_free}
+use Rattle.usb_answers.specs.SessionState.{SessionState}
+use Rattle.usb_answers.specs.SessionFacts.{made_of}
+use Rattle.usb_answers.proofs.Answering.{answers}
+use Rattle.usb_answers.proofs.FutureCalls.{poll-none, polled-sound, polled-spare, polled-gives, pending-same, pending-sound, pending-gives}
+use Rattle.usb_answers.proofs.FutureCloses.{future-sound_same}
+use Rattle.usb_answers.proofs.NameLemmas.{freed-free}
+use Rattle.usb_answers.proofs.session.Session.poll_future.Goals as goal
+
+pub invariant_of-self : goal.invariant_of-self
+invariant_of-self c =
+    future-sound_same (made_of c.self.inside) c.take_at.new.names.items c.number-number.result c.self.invariant (sym c.take_at.ensures.taken ∙ c.in_default.is) c.take_at.ensures.rest
+
+pub returns-in_default-clause-answered : goal.returns-in_default-clause-answered
+returns-in_default-clause-answered c =
+    answers _ _ _ c.self.view_is c.write_condition.ensures.text
+    (λ state r. poll-none (made_of c.self.inside) state c.take_at.new.names.items c.args.name r
+    (rw c.number-number.ensures.value at (sym c.take_at.ensures.taken ∙ c.in_default.is)) (rw c.number-number.ensures.value at c.take_at.ensures.rest))
+
+pub poll-requires-clause-stands : goal.poll-requires-clause-stands
+poll-requires-clause-stands c = c.self.invariant.futures_stand c.number-number.result c.in-Some.future (sym c.take_at.ensures.taken ∙ c.in-Some.is)
+
+pub invariant_of-self-2 : goal.invariant_of-self-2
+invariant_of-self-2 c =
+    polled-sound (made_of c.self.inside) c.poll.new.host c.close.new.host c.take_at.new.names.items c.number-number.result c.in-Some.future c.poll.new.self c.self.invariant
+    (sym c.take_at.ensures.taken ∙ c.in-Some.is) c.take_at.ensures.rest c.in-Ready.ensures.taken c.in-Ready.ensures.spent c.close.ensures.host
+
+pub put_at-requires : goal.put_at-requires
+put_at-requires c =
+    record { free = ap (λ l. is_free l c.number-number.result) c.take_at.ensures.rest ∙ freed-free c.self.inside.futures.items c.number-number.result c.in-Some.future (sym c.take_at.ensures.taken ∙ c.in-Some.is) }
+
+pub invariant_of-self-in_default-poll : goal.invariant_of-self-in_default-poll
+invariant_of-self-in_default-poll c =
+    pending-sound (made_of c.self.inside) c.poll.new.host c.put_at.new.names.items c.self.invariant c.in_default-poll.ensures.same_host
+    (pending-same (made_of c.self.inside) c.take_at.new.names.items c.put_at.new.names.items c.number-number.result c.in-Some.future c.poll.new.self
+    (sym c.take_at.ensures.taken ∙ c.in-Some.is) c.take_at.ensures.rest c.in_default-poll.ensures.same c.put_at.ensures.after)
+
+pub returns-clause-answered : goal.returns-clause-answered
+returns-clause-answered c =
+    answers _ _ _ c.self.view_is c.write_received.ensures.text
+    (λ state r. polled-gives (made_of c.self.inside) state c.poll.new.host c.close.new.host c.take_at.new.names.items c.args.name c.in-Some.future c.poll.new.self _ r
+    (rw c.number-number.ensures.value at (sym c.take_at.ensures.taken ∙ c.in-Some.is)) (rw c.number-number.ensures.value at c.take_at.ensures.rest)
+    c.in-Ready.ensures.taken c.in-Ready.ensures.spent c.close.ensures.host c.in-Ready.ensures.answer)
+
+pub returns-clause-spare : goal.returns-clause-spare
+returns-clause-spare c =
+    polled-spare c.self.inside.host c.poll.new.host c.close.new.host c.in-Some.future c.poll.new.self c.in-Ready.ensures.taken c.in-Ready.ensures.spent c.close.ensures.host
+    ∙ ap (λ (v : SessionState). v.host.kernel.spare) c.self.view_is
+
+pub returns-in_default-poll-clause-answered : goal.returns-in_default-poll-clause-answered
+returns-in_default-poll-clause-answered c =
+    answers _ _ _ c.self.view_is c.write_pending.ensures.text
+    (λ state r. pending-gives (made_of c.self.inside) state c.poll.new.host c.put_at.new.names.items c.args.name c.in-Some.future r
+    (rw c.number-number.ensures.value at (sym c.take_at.ensures.taken ∙ c.in-Some.is)) c.in_default-poll.ensures.same_host
+    (pending-same (made_of c.self.inside) c.take_at.new.names.items c.put_at.new.names.items c.number-number.result c.in-Some.future c.poll.new.self
+    (sym c.take_at.ensures.taken ∙ c.in-Some.is) c.take_at.ensures.rest c.in_default-poll.ensures.same c.put_at.ensures.after)
+    c.in_default-poll.ensures.waits)
