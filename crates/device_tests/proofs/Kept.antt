@@ -8,6 +8,8 @@ use Rattle.usb_endpoint.specs.EndpointState.{EndpointState}
 use Rattle.usb_endpoint.specs.Handles.{Stands, KeepsOthers}
 use Rattle.usb_endpoint.proofs.Frames.{Stands-other}
 use Rattle.usb_device.proofs.FreshKeys.{endpoint-within}
+use Rattle.usb_device.specs.Futures.{FutureState, StandsFuture}
+use Rattle.usb_device.proofs.FutureFrames.{future-same}
 use Rattle.usb_ledger.specs.Entries.{ClaimedInterface}
 use Rattle.usb_host.specs.HostBus.{bus_of}
 use Rattle.usb_host.specs.HostTurns.{host_rest, host_turned}
@@ -104,3 +106,8 @@ other_stands h opened between called closed e key last stands fresh same open_ k
     let later : e.key ≢ last = λ is. absurd (omega (arith, within, fresh, same, is)) in
     let over_open = subst (λ (b : BusState). Stands b e) (sym kept) (Stands-other (bus_of h) opened key e open_ apart stands) in
     Stands-other called closed last e close_ later (Stands-other between called key e call_ apart over_open)
+
+-- a future that was started stands where the bus stays
+pub started_stands : {E : Type 0} (h g : HostState) (r : Result FutureState E) → bus_of g ≡ bus_of h → IfOk r (StandsFuture h) → IfOk r (StandsFuture g)
+started_stands h g (Err error) same stands = tt
+started_stands h g (Ok f) same stands = future-same h g f same stands

@@ -5,11 +5,14 @@ ghost use Rattle.std.specs.List.{All};
 ghost use Rattle.usb_kernel.specs.Steps.{HasErrno};
 
 use crate::claims::{expect_busy, expect_release, expect_room, expect_texts};
-use crate::hosts::{new_host, packet, reap};
+use crate::controls::{Control, STATUS, expect_control};
+use crate::descriptors::{Question, expect_descriptor, sent};
+use crate::hosts::{acknowledgement, control_packet, new_host, packet, reap};
 use crate::transfers::{expect_other, expect_packet};
 use std::alloc::Global;
 use std::process::Abort;
 use std::test::Fail;
+use usb_desc::Direction;
 use usb_device::{Host, KernelStep, NoMemory};
 
 /// What is done at a new host.
@@ -27,6 +30,10 @@ pub enum Case {
     Packet,
     /// One of two endpoints with a transfer each is closed.
     Other,
+    /// A control transfer is started and answered.
+    Control(Control),
+    /// The device is asked for a descriptor.
+    Descriptor(Question),
 }
 
 /// Compares what is found at a new host.
@@ -44,6 +51,8 @@ fn expect_case(rt: &impl Abort, alloc: Global, host: &mut Host, case: Case) {
         Case::Release => expect_release(rt, alloc, host),
         Case::Packet => expect_packet(rt, alloc, host),
         Case::Other => expect_other(rt, alloc, host),
+        Case::Control(control) => expect_control(rt, alloc, host, control),
+        Case::Descriptor(question) => expect_descriptor(rt, alloc, host, question),
     }
 }
 
@@ -56,6 +65,8 @@ fn steps_of(alloc: Global, case: Case) -> Result<Vec<KernelStep>, NoMemory>
         Case::Other => packet_steps(alloc),
         Case::Busy(order) => two_packets(alloc, order),
         Case::Packet => one_step(alloc, packet(alloc, &[1, 2, 3])?),
+        Case::Control(control) => control_steps(alloc, control.direction),
+        Case::Descriptor(question) => one_step(alloc, control_packet(alloc, sent(question))?),
     }
 }
 
@@ -92,6 +103,20 @@ fn packet_steps(alloc: Global) -> Result<Vec<KernelStep>, NoMemory>
     ensures errnos { IfOk result (λ steps. All HasErrno steps.items) }
 {
     match vec![in alloc; packet(alloc, &[1, 2])?, reap(0)] {
+        Ok(steps) => Ok(steps),
+        Err(_) => Err(NoMemory),
+    }
+}
+
+/// The status of the device, or the acknowledgement of what it is sent, and a reap.
+fn control_steps(alloc: Global, direction: Direction) -> Result<Vec<KernelStep>, NoMemory>
+    ensures errnos { IfOk result (λ steps. All HasErrno steps.items) }
+{
+    let answer = match direction {
+        Direction::In => control_packet(alloc, &STATUS)?,
+        Direction::Out => acknowledgement(),
+    };
+    match vec![in alloc; answer, reap(0)] {
         Ok(steps) => Ok(steps),
         Err(_) => Err(NoMemory),
     }

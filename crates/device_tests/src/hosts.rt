@@ -5,6 +5,7 @@ ghost use Rattle.std.specs.List.{All};
 ghost use Rattle.usb_kernel.specs.Steps.{HasErrno};
 ghost use Rattle.usb_endpoint.specs.EndpointState.{EndpointState};
 ghost use Rattle.usb_endpoint.specs.Handles.{Stands};
+ghost use Rattle.usb_device.specs.Futures.{FutureState, StandsFuture};
 ghost use Rattle.usb_device.specs.HandleStates.{InterfaceState, StandsInterface};
 ghost use Rattle.usb_host.specs.HostBus.{bus_of};
 
@@ -38,6 +39,27 @@ pub fn packet(alloc: Global, bytes: &[u8]) -> Result<KernelStep, NoMemory>
         endpoint: 0x81,
         bytes: Bytes::from_slice(alloc, bytes)?,
     })
+}
+
+/// A packet of device 0, which comes to its control endpoint.
+pub fn control_packet(alloc: Global, bytes: &[u8]) -> Result<KernelStep, NoMemory>
+    ensures errno { IfOk result HasErrno }
+{
+    Ok(KernelStep::Packet {
+        device: 0,
+        endpoint: 0x80,
+        bytes: Bytes::from_slice(alloc, bytes)?,
+    })
+}
+
+/// The control endpoint of device 0 acknowledges what it was sent.
+pub fn acknowledgement() -> KernelStep
+    ensures errno { HasErrno result }
+{
+    KernelStep::Ack {
+        device: 0,
+        endpoint: 0x00,
+    }
 }
 
 /// A reap of a ticket.
@@ -101,6 +123,7 @@ pub fn go_on(host: &mut Host)
         Stands (bus_of host.new) e }
     ensures interfaces { (i : InterfaceState) → StandsInterface host.old i →
         StandsInterface host.new i }
+    ensures futures { (f : FutureState) → StandsFuture host.old f → StandsFuture host.new f }
 {
     let _ = host.turn();
 }

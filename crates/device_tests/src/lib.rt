@@ -1,4 +1,5 @@
-//! Tests of the host, of what is opened at it, and of transfers there: the crate `usb_device`.
+//! Tests of the host, of what is opened at it, and of transfers there: the crates `usb_host` and
+//! `usb_device`.
 //!
 //! What calls answer is asked by whole scripts too, of the crate `nusb_sim`.
 //!
@@ -9,6 +10,10 @@
 mod cases;
 #[cfg(test)]
 mod claims;
+#[cfg(test)]
+mod controls;
+#[cfg(test)]
+mod descriptors;
 #[cfg(test)]
 mod hosts;
 #[cfg(test)]
