@@ -218,6 +218,27 @@ def packets(size):
     yield from itertools.repeat("hotplug\n", count)
 
 
+CONTROL = "vendor device 30 0000 0000"
+
+
+def control(_size):
+    """control transfers of 64 bytes in and of 4 bytes out, strings and languages, again and again"""
+    yield OPENED
+    calls = f"ctlin d0 {CONTROL} 64 1000 : pkt k0 80 {'5a' * 64}\nctlout i0 {CONTROL} 01020304 1000 : ack k0 00\n"
+    told = "string d0 1 0409 1000 : pkt k0 80 060341004200\nlangs d0 1000 : pkt k0 80 04030904\n"
+    yield from itertools.repeat(calls + told)
+
+
+def futures(_size):
+    """1,000 control transfers that are given up, with their deadlines to come, and before them one that fails and one whose time goes by, again and again"""
+    yield OPENED
+    for number in range(1000):
+        yield f"fout f{number % 64} d0 {CONTROL} 00 {10**9 - number}\nclose f{number % 64}\n"
+    for number in itertools.count(1):
+        yield f"fin f0 i0 {CONTROL} 64 1000\n! fail k0 80 32 ; reap ; clock {4000 * number} ; timer\nfpoll f0\n"
+        yield f"fin f0 d0 {CONTROL} 64 1000\nfwait f0\n"
+
+
 def comments(_size):
     """comments"""
     yield OPENED
@@ -228,7 +249,7 @@ KINDS = {
     kind.__name__: kind
     for kind in (
         polls, cycles, behind, flight, cancels, waits, refused, armed, submitout, steps, claims, closes, owners, openings,
-        refusals, descriptors, printed, attributes, again, matches, packets, comments,
+        refusals, descriptors, printed, attributes, again, matches, packets, control, futures, comments,
     )
 }
 

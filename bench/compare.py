@@ -4,13 +4,15 @@
 usage: bench/compare.py PROGRAM OTHER [COUNT [SEED]]
 
 In one script in five most calls are about a tree of attributes and packets of udev: the folders of a hub, of devices and of
-interfaces, some of whose attributes are missing, denied or damaged. Each other script has a few simulated devices, and then calls and steps over few names, so that names collide, endpoints are busy,
-tickets are reaped in any order and devices are pulled out while transfers are open. In half of the scripts most calls are
-transfers, in the others most are about owners: claims, clones, closes, kernel drivers, configurations and alternate
-settings. In about a third of the scripts no refusal is armed. One in ten has a malformed line. Some scripts print the
-descriptors of damaged devices.
+interfaces, some of whose attributes are missing, denied or damaged. Each other script has a few simulated devices, and then
+calls and steps over few names, so that names collide, endpoints are busy, tickets are reaped in any order and devices are
+pulled out while transfers are open. In a third of the scripts most calls are control transfers, with deadlines that pass while
+they wait, in another third transfers of endpoints; in the others most are about owners: claims, clones, closes, kernel drivers,
+configurations and alternate settings. In about a third of the scripts no refusal is armed. One in ten has a malformed line.
+Some scripts print the descriptors of damaged devices.
 At the end stand the kinds of lines and steps of docs/SCRIPT.md, the answers and the statuses that didn't occur, and of the
-calls about owners each answer that didn't: those that a script can have without an armed refusal are counted there alone.
+calls about owners and of control transfers each answer that didn't: those that a script can have without an armed refusal are
+counted there alone.
 """
 import collections
 import pathlib
@@ -22,7 +24,7 @@ import sys
 LANGUAGE = pathlib.Path(__file__).parent.parent / "docs/SCRIPT.md"
 ANSWERS = [
     "ok", "condition", "error", "device", "desc", "count", "pending", "none", "done", "now", "ticket", "config", "noconfig", "speed",
-    "alt", "if", "list", "buses", "info", "sysfs", "match", "connected", "disconnected",
+    "alt", "if", "list", "buses", "info", "sysfs", "match", "connected", "disconnected", "data", "failed", "langs", "string",
 ]
 STATUSES = ["ok", "cancelled", "stall", "disconnected", "fault", "invalid", "unknown"]
 ENDS = ["taken", "dropped", "reclaimed"]
@@ -32,6 +34,8 @@ GONE = "error Disconnected device disconnected (errno 19)"
 NO_INTERFACE = "error NotFound interface not found"
 NO_ENDPOINT = "error NotFound specified endpoint does not exist on this interface"
 SETTING_IN_USE = "error Busy can't change alternate setting while endpoints are in use"
+FAILED = [f"failed {it}" for it in ("cancelled", "stall", "disconnected", "fault", "invalid", "unknown")]
+UNTOLD = ["failed invalid-descriptor", *FAILED]
 UNKNOWN_CONFIGURATION = "noconfig no descriptor found for active configuration 7"
 
 # by call the answers that it gives without an armed refusal, and those that want one
@@ -73,6 +77,16 @@ OF_CALLS = {
     "release": (["ok", "error Busy interface is still in use"], []),
     "endpoint": (["ok", NO_ENDPOINT, "error Busy endpoint already in use"], []),
     "halt": (["ok", GONE], ["error Other failed to clear halt"]),
+    "ctlin": (["data", *FAILED], []),
+    "ctlout": (["ok", *FAILED], []),
+    "fin": (["ok"], []),
+    "fout": (["ok"], []),
+    "fpoll": (["pending", "data", *FAILED], []),
+    "fwait": (["data", *FAILED], []),
+    "getdesc": (["data", *FAILED], []),
+    "langs": (["langs", *UNTOLD], []),
+    "string": (["string", *UNTOLD], []),
+    "close f": (["ok"], []),
 }
 
 CONFIGURATIONS = [
@@ -236,6 +250,83 @@ def owner_call(r):
     ])()
 
 
+FAILURES = [5, 22, 32, 71] * 4 + [2, 5, 19, 22, 32, 62, 70, 71, 75, 84, 104, 108, 110, 4095]
+# string descriptors, and bytes that are none
+STRINGS = [
+    "04030904", "06030904070c", "060341004200", "080341003dd800de", "0603410000d8", "040300dc", "0503410042", "0203", "0403ac20",
+    "06034100", "040241ff", "02", "-",
+]
+
+
+def control_step(r):
+    k = name(r, "k", 2)
+    return r.choice([
+        lambda: f"pkt {k} 80 {hexes(r, [0, 1, 7, 8, 63, 64, 65])}",
+        lambda: f"pkt {k} 80 {r.choice(STRINGS)}",
+        lambda: f"pkt {k} 80 {r.choice(STRINGS)}",
+        lambda: f"ack {k} 00",
+        lambda: f"ack {k} 00",
+        lambda: f"fail {k} {r.choice(['80', '80', '00'])} {r.choice(FAILURES)}",
+        lambda: control_failure(r),
+        lambda: control_failure(r),
+        lambda: "timer",
+        lambda: "timer",
+        lambda: f"clock {r.randrange(4000)}",
+        lambda: f"refuse {k} submit {r.choice(FAILURES)}",
+        lambda: "reap",
+        lambda: f"reap {r.randrange(12)}",
+        lambda: f"unplug {k}" if r.random() < 0.2 else "reap",
+        lambda: step(r),
+    ])()
+
+
+def control_steps(r):
+    return " ; ".join(control_step(r) for _ in range(r.randint(1, 3)))
+
+
+def control_failure(r):
+    return f"fail k0 {r.choice(['80', '80', '00'])} {r.choice(FAILURES)}"
+
+
+def control_own(r):
+    return r.choice(["", f" : {control_failure(r)}", f" : {control_steps(r)}", f" : {control_steps(r)}"])
+
+
+def control_words(r):
+    """Whom a control transfer goes to, and what it asks for."""
+    kind, to = r.choice(["standard", "class", "vendor"]), r.choice(["device", "interface", "endpoint", "other"])
+    numbers = f"{r.randrange(256):02x} {r.randrange(65536):04x} {r.randrange(65536):04x}"
+    return f"{name(r, r.choice('ddi'), 2)} {kind} {to} {numbers}"
+
+
+def control_timeout(r):
+    return r.choice(["0", "50", "500", "1000", "2000", "86400000000001", "max"])
+
+
+def control_call(r):
+    d, f = name(r, "d", 2), name(r, "f", 3)
+    wanted, data = r.choice([0, 1, 8, 64, 65535]), hexes(r, [0, 1, 8, 64])
+    return r.choice([
+        lambda: f"ctlin {control_words(r)} {wanted} {control_timeout(r)}{control_own(r)}",
+        lambda: f"ctlout {control_words(r)} {data} {control_timeout(r)}{control_own(r)}",
+        lambda: f"fin {f} {control_words(r)} {wanted} {control_timeout(r)}",
+        lambda: f"fin {f} {control_words(r)} 64 {control_timeout(r)}",
+        lambda: f"fout {f} {control_words(r)} {data} {control_timeout(r)}",
+        lambda: f"fpoll {f}",
+        lambda: f"fpoll {f}",
+        lambda: f"fpoll {f}",
+        lambda: f"fwait {f}{control_own(r)}",
+        lambda: f"fwait {f} : {control_failure(r)}",
+        lambda: f"close {f}",
+        lambda: f"getdesc {d} {r.randrange(1, 8)} {r.randrange(3)} 0000 {control_timeout(r)}{control_own(r)}",
+        lambda: f"langs {d} {control_timeout(r)}{control_own(r)}",
+        lambda: f"langs {d} {control_timeout(r)} : pkt k0 80 {r.choice(STRINGS)}",
+        lambda: f"string {d} {r.randint(1, 255)} 0409 {control_timeout(r)}{control_own(r)}",
+        lambda: f"string {d} 1 0409 {control_timeout(r)} : pkt k0 80 {r.choice(STRINGS)}",
+        lambda: "now",
+    ])()
+
+
 CONTROLLER = "/sys/devices/pci0"
 HUB = f"{CONTROLLER}/usb1"
 FOLDERS = [HUB, f"{HUB}/1-6", f"{HUB}/1-7", "/sys/none", "/"]
@@ -332,6 +423,12 @@ def tree_call(r):
     ])()
 
 
+def lines_of_controls(r):
+    """Setup lines and the first calls of a script in which most calls are control transfers."""
+    lines = lines_of_transfers(r)
+    return lines + ["open d0 1 6", "claim d0 0 i0", *(["open d1 1 7"] if r.random() < 0.5 else [])]
+
+
 def armed_call(r):
     """A refusal, and a line that makes its call."""
     call, line = r.choice(list(LINES_OF.items()))
@@ -380,13 +477,15 @@ def spelled(r, line):
     """The same line in other bytes: more spaces, capital digits, a CR."""
     words = line.split(" ")
     if r.random() < 0.5:
-        words = [word.upper() if re.fullmatch("(?![de][0-9]+$)[0-9a-f]{2,}", word) and words[0] not in SETUP[2:] else word for word in words]
+        words = [word.upper() if re.fullmatch("(?![def][0-9]+$)[0-9a-f]{2,}", word) and words[0] not in SETUP[2:] else word for word in words]
     return " " * r.randrange(3) + (" " * r.randint(1, 2)).join(words) + r.choice(["", " ", "\r"])
 
 
 def burst(r):
-    """More transfers than an endpoint may have pending."""
-    return [f"submitin {name(r, 'e', 2)} 64"] * r.randint(60, 70)
+    """More transfers than an endpoint may have pending, or than may be unreaped."""
+    if r.random() < 0.5:
+        return [f"submitin {name(r, 'e', 2)} 64"] * r.randint(60, 70)
+    return ["fin f2 d0 vendor device 30 0000 0000 64 1000\nclose f2"] * r.randint(1000, 1030)
 
 
 MALFORMED = [
@@ -400,6 +499,11 @@ MALFORMED = [
     "attr / a", "attr a b =1", "attr /a/ b =1", "attr /a/.. b =1", "deny /a b 0", "child /a b/c", "link /a b", "entry /a /b",
     "entry a b", "root 4096", "uevent 4294967296 -", "uevent 2 0", "attr / a =", "root 5", "list 1", "probe", "probe a", "match",
     "match / vid", "match / vid 0", "match / serial ff", "match / x 00", "hotplug 1", "openpath d0", "openpath i0 /",
+"ctlin d0 vendor device 30 0000 0000 65536 1", "ctlin d0 vendor device 30 0000 0000 64", "ctlin e0 vendor device 30 0000 0000 64 1",
+    "ctlin d0 vendor host 30 0000 0000 64 1", "ctlin d0 vendor device 3 0000 0000 64 1", "ctlout d0 usb device 30 0000 0000 - 1",
+    "ctlout d0 vendor device 30 0000 0000 0 1", "fin f0 d0 vendor device 30 0000 0000 64 1 : reap", "fin f64 d0 vendor device 30 0000 0000 64 1",
+    "fin d0 vendor device 30 0000 0000 64 1", "fpoll f0 : reap", "fpoll e0", "fwait f0 :", "fwait f0 5", "close f0 : reap", "close f064",
+    "getdesc d0 256 0 0000 1", "getdesc i0 1 0 0000 1", "langs d0", "langs i0 1", "string d0 0 0409 1", "string d0 1 409 1",
     "detachclaim d0 0", "detach i0 0", "attach d0", "alt i0 256", "alt i0", "getalt d0", "ifdesc i64", "release d0", "halt i0",
 ]
 
@@ -423,13 +527,16 @@ def script(seed):
         return "\n".join(walks(r)).encode()
     if r.random() < 0.2:
         return script_of(r, lines_of_trees(r), lambda: tree_call(r) if r.random() < 0.9 else owner_call(r), 40)
+    if r.random() < 0.35:
+        call = lambda: (control_call if r.random() < 0.85 else owner_call if r.random() < 0.3 else transfer_call)(r)
+        return script_of(r, lines_of_controls(r), call, 60, control_steps)
     is_of_owners = r.random() < 0.5
     lines = (lines_of_owners if is_of_owners else lines_of_transfers)(r)
     call = lambda: (owner_call if is_of_owners == (r.random() < 0.9) else transfer_call)(r)
     return script_of(r, lines, call, 90 if is_of_owners else 60)
 
 
-def script_of(r, lines, call, most):
+def script_of(r, lines, call, most, steps=steps):
     """A script of these first lines, and then of steps and calls."""
     for _ in range(r.randint(5, most)):
         if r.random() < 0.3:
@@ -478,7 +585,8 @@ def kind_of_answer(call, line):
     """The answer without a number that a script can choose, and without the descriptors behind the first words."""
     if call == "ifdesc":
         return " ".join(line.split()[:2])
-    return re.sub(r"^(error Other failed .*) \(errno [0-9]+\)$", r"\1", line)
+    line = re.sub(r"^(data|langs|string) .*$|^langs$", lambda found: found[0].split()[0], line)
+    return re.sub(r"^(error Other failed .*) \(errno [0-9]+\)$|^(failed unknown):[0-9]+$", lambda found: found[1] or found[2], line)
 
 
 SETUP = ["device", "driver", "attr", "deny", "child", "link", "entry", "root", "uevent", "!"]

@@ -1,5 +1,6 @@
 //! The lines that calls and tickets are answered by.
 
+use crate::control::Received;
 use crate::descriptors::{DeviceDescriptor, configurations};
 use crate::host::{Completion, End};
 use crate::kernel::{Device, Outcome, SettingPlace, Ticket, Transfer};
@@ -29,6 +30,12 @@ pub enum Answer {
     /// A wait ended without a transfer.
     Nothing,
     Done(Completion),
+    /// By a control transfer.
+    Received(Received),
+    /// What a device told is no string descriptor.
+    InvalidDescriptor,
+    Languages(Vec<u16>),
+    Text(String),
     /// Nanoseconds.
     Now(u64),
     Devices(Vec<DeviceInfo>),
@@ -61,6 +68,16 @@ impl Show for Answer {
             Answer::Pending => text.word("pending"),
             Answer::Nothing => text.word("none"),
             Answer::Done(completion) => text.word("done ").show(completion),
+            Answer::Received(Ok(bytes)) => bytes_or_dash(text.word("data "), bytes),
+            Answer::Received(Err(outcome)) => text.word("failed ").show(outcome),
+            Answer::InvalidDescriptor => text.word("failed invalid-descriptor"),
+            Answer::Languages(languages) => {
+                let text = text.word("langs");
+                languages
+                    .iter()
+                    .fold(text, |text, it| text.word(" ").hex(&it.to_be_bytes()))
+            }
+            Answer::Text(string) => bytes_or_dash(text.word("string "), string.as_bytes()),
             Answer::Now(clock) => text.word("now ").number(*clock),
             Answer::Devices(devices) => show_devices(text, devices),
             Answer::Buses(buses) => show_buses(text, buses),

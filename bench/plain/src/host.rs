@@ -14,7 +14,7 @@ use std::sync::Arc;
 /// An open device.
 #[derive(Clone)]
 pub struct OpenDevice {
-    name: Name,
+    pub name: Name,
     pub descriptor: DeviceDescriptor,
     pub device: Arc<Device>,
     /// The value of the active configuration as it was last told or set. The clones of an open
@@ -88,8 +88,9 @@ impl Show for End {
 pub enum Fate {
     /// It is pending.
     Held,
-    /// Its endpoint was closed before it was reaped.
-    Abandoned(EndpointKey),
+    /// Its endpoint was closed before it was reaped, or the future of a control transfer, which has
+    /// no endpoint.
+    Abandoned(Option<EndpointKey>),
     Ended(End),
 }
 
@@ -253,6 +254,11 @@ impl Host {
         }
     }
 
+    /// The device of an interface.
+    pub fn device(&self, key: InterfaceKey) -> Name {
+        self.interfaces[key].device.name
+    }
+
     /// The number of an interface's current setting.
     pub fn alternate(&self, key: InterfaceKey) -> u8 {
         self.interfaces[key].alternate
@@ -330,12 +336,17 @@ impl Host {
         self.endpoints[endpoint].pending.len()
     }
 
+    /// Whether a transfer may be handed in at all.
+    pub fn has_free_ticket(&self) -> bool {
+        self.kernel.unreaped < MOST_UNREAPED
+    }
+
     /// Whether the endpoint has the direction of a transfer, and there is room for it.
     fn has_room(&self, key: EndpointKey, data: &Data) -> bool {
         let endpoint = &self.endpoints[key];
         Direction::of_address(endpoint.address) == data.direction()
             && endpoint.pending.len() < MOST_PENDING
-            && self.kernel.unreaped < MOST_UNREAPED
+            && self.has_free_ticket()
     }
 
     /// Hands a transfer in, or gives none where the call is barred.
@@ -383,7 +394,7 @@ impl Host {
         pending.pop_front();
         let bytes = std::mem::take(&mut transfer.bytes);
         let (count, requested) = (transfer.count, transfer.requested);
-        self.end(ticket, key, End::Taken);
+        self.end(ticket, Some(key), End::Taken);
         Some(Completion {
             outcome,
             count,
@@ -425,7 +436,7 @@ impl Host {
     }
 
     /// Goes on by a step or by a reap, and tells whether there was one.
-    fn turn(&mut self, steps: &mut Steps) -> bool {
+    pub fn turn(&mut self, steps: &mut Steps) -> bool {
         match steps.next() {
             Some(step) => self.step(step),
             None => match self.kernel.lowest_finished() {
@@ -454,9 +465,25 @@ impl Host {
         }
     }
 
-    fn end(&mut self, ticket: Ticket, endpoint: EndpointKey, end: End) {
+    fn end(&mut self, ticket: Ticket, endpoint: Option<EndpointKey>, end: End) {
         self.fates[ticket] = Fate::Ended(end);
-        self.leave(endpoint);
+        if let Some(endpoint) = endpoint {
+            self.leave(endpoint);
+        }
+    }
+
+    /// Ends the ticket of a control transfer that was taken.
+    pub fn take_ticket(&mut self, ticket: Ticket) {
+        self.end(ticket, None, End::Taken);
+    }
+
+    /// Gives a ticket up that nobody has taken.
+    pub fn give_up(&mut self, ticket: Ticket, endpoint: Option<EndpointKey>) {
+        if self.kernel.transfers[ticket].is_reaped {
+            self.end(ticket, endpoint, End::Dropped);
+        } else {
+            self.fates[ticket] = Fate::Abandoned(endpoint);
+        }
     }
 
     /// Ends one use of an endpoint's address, and with the last one the endpoint's part in its
@@ -481,11 +508,7 @@ impl Host {
     pub fn close_endpoint(&mut self, key: EndpointKey) {
         self.cancel(key);
         for ticket in std::mem::take(&mut self.endpoints[key].pending) {
-            if self.kernel.transfers[ticket].is_reaped {
-                self.end(ticket, key, End::Dropped);
-            } else {
-                self.fates[ticket] = Fate::Abandoned(key);
-            }
+            self.give_up(ticket, Some(key));
         }
         self.leave(key);
     }

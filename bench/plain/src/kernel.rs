@@ -157,7 +157,7 @@ impl Show for Outcome {
 pub struct Transfer {
     pub device: Name,
     pub endpoint: u8,
-    /// The endpoint's maximum packet size.
+    /// The endpoint's maximum packet size, and of a control transfer the length of its data.
     pub maximum: usize,
     /// What an IN transfer wants, and the length of an OUT transfer's bytes.
     pub requested: usize,
@@ -179,6 +179,8 @@ pub struct Kernel {
     pub unreaped: usize,
     /// The finished tickets, some of which may have been reaped.
     finished: BinaryHeap<Reverse<Ticket>>,
+    /// The deadlines of tickets, some of which may be finished.
+    deadlines: BinaryHeap<Reverse<(u64, Ticket)>>,
 }
 
 impl Kernel {
@@ -323,6 +325,43 @@ impl Kernel {
         }
     }
 
+    /// Hands a control transfer in, whose direction and length the setup packet tells. It ends at
+    /// the deadline at the latest.
+    pub fn submit_control(
+        &mut self,
+        device: Name,
+        setup: [u8; 8],
+        bytes: Vec<u8>,
+        deadline: u64,
+    ) -> Ticket {
+        let length = usize::from(u16::from_le_bytes([setup[6], setup[7]]));
+        let ticket = self.submit(Transfer {
+            device,
+            endpoint: setup[0] & 0x80,
+            maximum: length,
+            requested: length,
+            bytes,
+            count: 0,
+            outcome: None,
+            is_reaped: false,
+        });
+        if self.transfers[ticket].outcome.is_none() {
+            self.deadlines.push(Reverse((deadline, ticket)));
+        }
+        ticket
+    }
+
+    /// Discards the tickets that are due, by deadline and then number.
+    pub fn turn_timer(&mut self) {
+        while let Some(&Reverse((deadline, ticket))) = self.deadlines.peek() {
+            if deadline > self.clock {
+                break;
+            }
+            self.deadlines.pop();
+            self.discard(ticket, errno::NOENT);
+        }
+    }
+
     fn accept(&mut self, transfer: Transfer) -> Ticket {
         let ticket = self.transfers.len();
         if let Some(plug) = self.plugs.get_mut(transfer.device) {
@@ -454,8 +493,7 @@ impl Kernel {
             }
             Step::Unplug { device } => self.unplug(device),
             Step::Clock { to } => self.clock = self.clock.max(to),
-            // No transfer has a deadline, so none is due.
-            Step::Timer => {}
+            Step::Timer => self.turn_timer(),
             Step::Refuse {
                 device,
                 call,

@@ -3,6 +3,7 @@
 //! channels. It has no status 7: where memory is wanting it aborts.
 
 mod answer;
+mod control;
 mod descriptors;
 mod errno;
 mod fault;

@@ -1,5 +1,6 @@
 //! The grammar of a script.
 
+use crate::control::{Question, Setup};
 use crate::descriptors::{Direction, TransferType};
 use crate::errno::Errno;
 use crate::fault::Fault;
@@ -44,6 +45,27 @@ pub enum Call {
     Interface(Name, InterfaceCall),
     /// A call on an open endpoint.
     Endpoint(Name, EndpointCall),
+    Control(Control, Patience),
+    /// Under the name of a future, at most so long.
+    StartControl(Name, Control, u64),
+    PollFuture(Name),
+    WaitFuture(Name, Vec<Step>),
+    CloseFuture(Name),
+    /// Of an open device.
+    Ask(Name, Question, Patience),
+}
+
+/// A control transfer.
+pub struct Control {
+    pub target: Target,
+    pub setup: Setup,
+    pub data: Data,
+}
+
+/// Whom a control transfer goes to.
+pub enum Target {
+    Device(Name),
+    Interface(Name),
 }
 
 pub struct Open {
@@ -113,6 +135,7 @@ pub struct Patience {
 }
 
 const MOST_BYTES: usize = 65536;
+const MOST_CONTROL_BYTES: usize = 65535;
 const MOST_TIME: u64 = 1_000_000_000_000_000_000;
 
 pub fn number<T: TryFrom<u64>>(word: &[u8], most: u64) -> Option<T> {
@@ -232,16 +255,22 @@ fn steps(words: &[&[u8]]) -> Option<Vec<Step>> {
     words.split(|word| *word == b";").map(step).collect()
 }
 
-/// A time, and the steps behind it, which may be missing.
+/// The steps of a call, which may be missing.
+fn own_steps(words: &[&[u8]]) -> Option<Vec<Step>> {
+    match words {
+        [] => Some(Vec::new()),
+        [b":", words @ ..] => steps(words),
+        _ => None,
+    }
+}
+
+/// A time, and the steps behind it.
 fn patience(words: &[&[u8]]) -> Option<Patience> {
     let (word, rest) = words.split_first()?;
-    let steps = match rest {
-        [] => Vec::new(),
-        [b":", words @ ..] => steps(words)?,
-        _ => return None,
-    };
-    let time = time(word)?;
-    Some(Patience { time, steps })
+    Some(Patience {
+        time: time(word)?,
+        steps: own_steps(rest)?,
+    })
 }
 
 fn device(words: &[&[u8]]) -> Option<(Name, Device)> {
@@ -308,12 +337,115 @@ fn endpoint_call(verb: &[u8], rest: &[&[u8]]) -> Option<EndpointCall> {
     })
 }
 
+fn target(word: &[u8]) -> Option<Target> {
+    match name(word, b'd') {
+        Some(device) => Some(Target::Device(device)),
+        None => name(word, b'i').map(Target::Interface),
+    }
+}
+
+/// The bits of a request's type and recipient.
+fn request_kind(kind: &[u8], recipient: &[u8]) -> Option<u8> {
+    let kind = match kind {
+        b"standard" => 0,
+        b"class" => 0x20,
+        b"vendor" => 0x40,
+        _ => return None,
+    };
+    let recipient = match recipient {
+        b"device" => 0,
+        b"interface" => 1,
+        b"endpoint" => 2,
+        b"other" => 3,
+        _ => return None,
+    };
+    Some(kind | recipient)
+}
+
+/// A control transfer, and the words behind it: what a data word says is told by its reader.
+fn control<'w, 'a>(
+    words: &'w [&'a [u8]],
+    data: fn(&[u8]) -> Option<Data>,
+) -> Option<(Control, &'w [&'a [u8]])> {
+    let [x, kind, recipient, request, value, index, word, rest @ ..] = words else {
+        return None;
+    };
+    let setup = Setup {
+        kind: request_kind(kind, recipient)?,
+        request: hex::byte(request)?,
+        value: hex_word(value)?,
+        index: hex_word(index)?,
+    };
+    let control = Control {
+        target: target(x)?,
+        setup,
+        data: data(word)?,
+    };
+    Some((control, rest))
+}
+
+fn control_in(word: &[u8]) -> Option<Data> {
+    number(word, MOST_CONTROL_BYTES as u64).map(Data::In)
+}
+
+fn control_out(word: &[u8]) -> Option<Data> {
+    bytes(word)
+        .filter(|bytes| bytes.len() <= MOST_CONTROL_BYTES)
+        .map(Data::Out)
+}
+
+fn control_call(words: &[&[u8]], data: fn(&[u8]) -> Option<Data>) -> Option<Call> {
+    let (control, rest) = control(words, data)?;
+    Some(Call::Control(control, patience(rest)?))
+}
+
+fn start_call(f: &[u8], words: &[&[u8]], data: fn(&[u8]) -> Option<Data>) -> Option<Call> {
+    match control(words, data)? {
+        (control, [word]) => Some(Call::StartControl(name(f, b'f')?, control, time(word)?)),
+        _ => None,
+    }
+}
+
+/// A question to a device, its name first.
+fn question(verb: &[u8], d: &[u8], words: &[&[u8]]) -> Option<Call> {
+    let (question, rest) = match (verb, words) {
+        (b"getdesc", [kind, index, language, rest @ ..]) => {
+            let question = Question::Descriptor {
+                kind: byte(kind)?,
+                index: byte(index)?,
+                language: hex_word(language)?,
+            };
+            (question, rest)
+        }
+        (b"langs", rest) => (Question::Languages, rest),
+        (b"string", [index, language, rest @ ..]) => {
+            let question = Question::Text {
+                index: byte(index).filter(|index| *index > 0)?,
+                language: hex_word(language)?,
+            };
+            (question, rest)
+        }
+        _ => return None,
+    };
+    Some(Call::Ask(name(d, b'd')?, question, patience(rest)?))
+}
+
 /// A call on what the name stands for, whose letter tells its kind.
 fn call_on(verb: &[u8], word: &[u8], rest: &[&[u8]]) -> Option<Call> {
     Some(match word.first()? {
         b'd' => Call::Device(name(word, b'd')?, device_call(verb, rest)?),
         b'i' => Call::Interface(name(word, b'i')?, interface_call(verb, rest)?),
         b'e' => Call::Endpoint(name(word, b'e')?, endpoint_call(verb, rest)?),
+        b'f' => future_call(name(word, b'f')?, verb, rest)?,
+        _ => return None,
+    })
+}
+
+fn future_call(name: Name, verb: &[u8], rest: &[&[u8]]) -> Option<Call> {
+    Some(match (verb, rest) {
+        (b"fpoll", []) => Call::PollFuture(name),
+        (b"fwait", rest) => Call::WaitFuture(name, own_steps(rest)?),
+        (b"close", []) => Call::CloseFuture(name),
         _ => return None,
     })
 }
@@ -427,6 +559,15 @@ fn call(words: &[&[u8]]) -> Option<Call> {
                 direction,
             })
         }
+        [b"ctlin", ref words @ ..] => control_call(words, control_in)?,
+        [b"ctlout", ref words @ ..] => control_call(words, control_out)?,
+        [b"fin", f, ref words @ ..] => start_call(f, words, control_in)?,
+        [b"fout", f, ref words @ ..] => start_call(f, words, control_out)?,
+        [
+            verb @ (b"getdesc" | b"langs" | b"string"),
+            d,
+            ref words @ ..,
+        ] => question(verb, d, words)?,
         [verb, word, ref rest @ ..] => call_on(verb, word, rest)?,
         _ => return None,
     })

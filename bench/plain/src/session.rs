@@ -1,13 +1,14 @@
 //! A session: the host, and what the names of its script stand for.
 
 use crate::answer::{Answer, TicketEnd};
-use crate::host::{EndpointKey, Fate, Host, InterfaceKey, OpenDevice, Steps};
+use crate::control::{Future, Question, Received, units};
+use crate::host::{Data, EndpointKey, Fate, Host, InterfaceKey, OpenDevice, Steps};
 use crate::kernel::{Device, Step};
 use crate::names::{Name, Names};
 use crate::refusal::Refusal;
 use crate::script::{
-    Call, Claim, DeviceCall, EndpointCall, InterfaceCall, Line, Open, OpenEndpoint, Patience,
-    SecondHandle,
+    Call, Claim, Control, DeviceCall, EndpointCall, InterfaceCall, Line, Open, OpenEndpoint,
+    Patience, SecondHandle, Target,
 };
 use crate::tree::{DeviceInfo, Tree};
 use crate::udev::{self, Notice};
@@ -19,6 +20,7 @@ pub struct Session {
     devices: Names<OpenDevice>,
     interfaces: Names<InterfaceKey>,
     endpoints: Names<EndpointKey>,
+    futures: Names<Future>,
     tree: Tree,
     packets: VecDeque<(u32, Vec<u8>)>,
 }
@@ -37,6 +39,22 @@ fn opened<T>(place: &mut Option<T>, tried: Result<T, Refusal>) -> Answer {
 /// Answers a call that gives nothing.
 fn done(tried: Result<(), Refusal>) -> Answer {
     tried.map_or_else(Answer::Refused, |()| Answer::Ok)
+}
+
+/// What the bytes that came say about a question.
+fn told(question: &Question, received: Received) -> Answer {
+    match (question, received) {
+        (Question::Descriptor { .. }, received) | (_, received @ Err(_)) => {
+            Answer::Received(received)
+        }
+        (Question::Languages, Ok(bytes)) => {
+            units(&bytes).map_or(Answer::InvalidDescriptor, Answer::Languages)
+        }
+        (Question::Text { .. }, Ok(bytes)) => match units(&bytes) {
+            Some(units) => Answer::Text(String::from_utf16_lossy(&units)),
+            None => Answer::InvalidDescriptor,
+        },
+    }
 }
 
 impl Session {
@@ -97,7 +115,71 @@ impl Session {
             Call::Device(name, call) => self.device_call(name, call),
             Call::Interface(name, call) => self.interface_call(name, call),
             Call::Endpoint(name, call) => self.endpoint_call(name, call),
+            Call::Control(control, patience) => self.control(control, patience),
+            Call::StartControl(name, control, time) => self.start(name, control, time),
+            Call::PollFuture(name) => self.poll_future(name),
+            Call::WaitFuture(name, steps) => self.wait_future(name, steps),
+            Call::CloseFuture(name) => {
+                self.host.close_future(self.futures.take(name)?);
+                Some(Answer::Ok)
+            }
+            Call::Ask(name, question, patience) => self.ask(name, question, patience),
         }
+    }
+
+    /// The device that a control transfer goes to.
+    fn target(&self, target: &Target) -> Option<Name> {
+        match target {
+            Target::Device(name) => self.devices.get(*name).map(|device| device.name),
+            Target::Interface(name) => self.interfaces.get(*name).map(|key| self.host.device(*key)),
+        }
+    }
+
+    fn control(&mut self, control: Control, patience: Patience) -> Option<Answer> {
+        let device = self.target(&control.target);
+        self.with_steps(patience, |host, time, steps| {
+            let is_out = matches!(control.data, Data::Out(_));
+            let received = host.control(device?, control.setup, control.data, time, steps)?;
+            Some(match received {
+                Ok(_) if is_out => Answer::Ok,
+                received => Answer::Received(received),
+            })
+        })
+    }
+
+    fn start(&mut self, name: Name, control: Control, time: u64) -> Option<Answer> {
+        let device = self.target(&control.target)?;
+        let place = self.futures.vacant(name)?;
+        *place = Some(self.host.start(device, control.setup, control.data, time)?);
+        Some(Answer::Ok)
+    }
+
+    fn poll_future(&mut self, name: Name) -> Option<Answer> {
+        let future = self.futures.get(name)?;
+        let Some(received) = self.host.poll_future(future) else {
+            return Some(Answer::Pending);
+        };
+        self.futures.take(name);
+        Some(Answer::Received(received))
+    }
+
+    fn wait_future(&mut self, name: Name, steps: Vec<Step>) -> Option<Answer> {
+        let future = self.futures.take(name);
+        let patience = Patience {
+            time: u64::MAX,
+            steps,
+        };
+        self.with_steps(patience, |host, _, steps| {
+            Some(Answer::Received(host.wait_future(future?, steps)))
+        })
+    }
+
+    fn ask(&mut self, name: Name, question: Question, patience: Patience) -> Option<Answer> {
+        let device = self.devices.get(name).map(|device| device.name);
+        let received = self.with_steps(patience, |host, time, steps| {
+            host.ask(device?, &question, time, steps)
+        });
+        Some(told(&question, received?))
     }
 
     /// The answer about the device of a folder.
@@ -242,22 +324,27 @@ impl Session {
     }
 
     /// Makes a call that waits. The steps that are left are taken right after it.
-    fn with_steps(
+    fn with_steps<A>(
         &mut self,
         patience: Patience,
-        call: impl FnOnce(&mut Host, u64, &mut Steps) -> Option<Answer>,
-    ) -> Option<Answer> {
+        call: impl FnOnce(&mut Host, u64, &mut Steps) -> Option<A>,
+    ) -> Option<A> {
         let mut steps = patience.steps.into_iter();
         let answer = call(&mut self.host, patience.time, &mut steps);
         self.take_steps(steps);
         answer
     }
 
-    /// Closes the endpoints and then the interfaces, and ends each ticket. Of a device nothing is
-    /// left to close.
+    /// Closes the endpoints, the futures and then the interfaces, and ends each ticket. Of a device
+    /// nothing is left to close.
     pub fn finish(&mut self) {
         for (_, endpoint) in self.endpoints.iter() {
             self.host.close_endpoint(*endpoint);
+        }
+        for number in 0..64 {
+            if let Some(future) = self.futures.take(number) {
+                self.host.close_future(future);
+            }
         }
         for (_, interface) in self.interfaces.iter() {
             self.host.leave_interface(*interface);

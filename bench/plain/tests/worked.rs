@@ -45,6 +45,11 @@ fn claims() {
 }
 
 #[test]
+fn controls() {
+    check(include_str!("worked/controls.txt"));
+}
+
+#[test]
 fn first_script_of_the_language() {
     let script = include_bytes!("../../../crates/nusb_sim/stdin");
     let output = include_str!("../../../crates/nusb_sim/stdout");
