@@ -51,4 +51,4 @@ reset_by k d None = record k { past = Unplug d ∷ k.past; spare = k.spare - 1 }
 unfoldable pub after_reset : KernelState → ℕ → KernelState
 after_reset k d = reset_by (called k d call.Reset no_rules unplugged) d (errno_of k d call.Reset no_rules)
 
--- release: no rule of refusal, and no armed refusal (usb_simulated: Claims.antt)
+-- release: no rule of refusal, and no armed refusal (Claims.antt)

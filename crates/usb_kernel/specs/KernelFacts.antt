@@ -9,7 +9,7 @@ use Rattle.usb_kernel.specs.Rows.{Agrees, owed}
 use Rattle.usb_kernel.specs.Unreaped.{unreaped_places}
 use Rattle.usb_kernel.specs.Deadlines.{KeepsDeadlines}
 
--- the journal is lawful, the table is what it says, the indexes of the tickets that are not reaped and the deadlines of those that
+-- the journal is lawful, the table is what it says, the places of the tickets that are not reaped and the deadlines of those that
 -- are not finished are listed, and there is room for the steps to come and for what the tickets may still need
 pub record IsKept (k : Inside) : Type 0 where
   pub lawful : IsLawful (reverse k.journal.items)

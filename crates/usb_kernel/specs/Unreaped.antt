@@ -1,9 +1,9 @@
--- The indexes of the rows that are not reaped.
+-- The places of the rows that are not reaped.
 use Rattle.std.specs.Prelude.{ℕ, ◌+◌, ◌==◌, List, [], ◌∷◌, if◌then◌else◌}
 use Rattle.usb_kernel.specs.declared.slot.TicketRow.{TicketRow}
 use Rattle.usb_kernel.specs.Rows.{is_unreaped_row}
 
--- of rows whose first has the index k, ascending
+-- of rows whose first has place k, ascending
 unfoldable pub places_from : ℕ → List TicketRow → List ℕ
 places_from k [] = []
 places_from k (r ∷ rows) = if is_unreaped_row r then k ∷ places_from (k + 1) rows else places_from (k + 1) rows

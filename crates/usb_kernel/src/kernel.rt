@@ -41,7 +41,7 @@ use usb_simulated::{
 };
 
 /// A simulated kernel. It keeps its events in a journal, and beside it the table of tickets that
-/// the journal means, and the indexes of the tickets that are not reaped, ascending.
+/// the journal means, and the places of the tickets that are not reaped, ascending.
 #[derive(Drop)]
 pub struct Kernel {
     journal: Vec<Event>,

@@ -58,7 +58,7 @@ pub(crate) fn add_refused(rows: &mut Vec<TicketRow>, s: Submission, errno: u16) 
     done
 }
 
-/// Appends an index for which there is room.
+/// Appends a place for which there is room.
 pub(crate) fn push_place(unreaped: &mut Vec<usize>, at: usize)
     requires room { vec_len unreaped.old < vec_capacity unreaped.old }
     ensures places { unreaped.new.items ≡ unreaped.old.items ++ at ∷ [] }
@@ -66,14 +66,14 @@ pub(crate) fn push_place(unreaped: &mut Vec<usize>, at: usize)
     let _ = unreaped.push(at);
 }
 
-/// Where the first of these indexes stands that is this number.
+/// The index of the first place that has this number.
 fn index_of(unreaped: &[usize], ticket: u64) -> Option<usize>
     ensures index { result ≡ position (λ place. place == ticket) unreaped.now }
 {
     unreaped.iter().position(|place| *place as u64 == ticket)
 }
 
-/// Takes out the first of these indexes that is this number.
+/// Takes out the first place that has this number.
 pub(crate) fn forget_place(unreaped: &mut Vec<usize>, ticket: u64)
     ensures places { unreaped.new.items ≡ without ticket unreaped.old.items }
 {
@@ -82,7 +82,7 @@ pub(crate) fn forget_place(unreaped: &mut Vec<usize>, ticket: u64)
     }
 }
 
-/// The first open ticket of an endpoint. It is sought among those that are not reaped.
+/// The first open ticket of an endpoint. It is sought among the places that are not reaped.
 fn open_among(rows: &[TicketRow], unreaped: &[usize], device: u8, endpoint: u8) -> Option<usize>
     requires listed { unreaped.now ≡ unreaped_places rows.now }
     requires roomy { All IsRoomy rows.now }
@@ -97,8 +97,8 @@ fn open_among(rows: &[TicketRow], unreaped: &[usize], device: u8, endpoint: u8) 
     None
 }
 
-/// The number of the first ticket that is finished and not reaped. It is sought among those that
-/// are not reaped.
+/// The number of the first ticket that is finished and not reaped. It is sought among the places
+/// that are not reaped.
 pub(crate) fn first_number(rows: &[TicketRow], unreaped: &[usize]) -> Option<u64>
     requires listed { unreaped.now ≡ unreaped_places rows.now }
     ensures number { result ≡ position is_reapable_row rows.now }

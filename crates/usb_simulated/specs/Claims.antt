@@ -17,7 +17,7 @@ abbrev pub ok_unless : Option ℕ → Result (Unit {0}) ℕ
 ok_unless None = Ok tt
 ok_unless (Some errno) = Err errno
 
--- the same: refused with 19 (ENODEV) where the device is not plugged, and else by its rules
+-- with 19 (ENODEV) where the device is not plugged, and else by its rules
 abbrev pub result_by : (DeviceState → Option ℕ) → Option DeviceState → Result (Unit {0}) ℕ
 result_by rules None = Err 19
 result_by rules (Some d) = ok_unless (rules d)
