@@ -18,9 +18,9 @@ is-string false e r is memory invalid = absurd (let no = sym (is ∙ ap Err memo
 pub returns-in-Ok-clause-host : goal.returns-in-Ok-clause-host
 returns-in-Ok-clause-host c =
     λ o at.
-        let bytes = c.in-Ok.bytes.items in
-        let came = rw c.get.ensures.value at (c.in-Ok.ensures.answer o at) in
-        let asked = rw c.get.ensures.value at (c.in-Ok.ensures.host o at) in
-        let valid : is_string bytes ≡ true = ap is_string (sym c.as_slice.ensures.value) ∙ is-string (is_string c.as_slice.result.now) c.in-Err-Memory.field-0 c.decode_string_descriptor.result c.in-Err-Memory.is c.in-Err-Memory.field-0-is c.decode_string_descriptor.ensures.invalid in
-        let good : text_of bytes ≡ Ok (text bytes) = ap (λ b. if b then Ok (text bytes) else Err InvalidDescriptor) valid in
-        inl (text bytes, ap (option_map (λ r. r >>= text_of)) came ∙ ap Some good, asked)
+    let bytes = c.in-Ok.bytes.items in
+    let came = rw c.get.ensures.value at (c.in-Ok.ensures.answer o at) in
+    let asked = rw c.get.ensures.value at (c.in-Ok.ensures.host o at) in
+    let valid : is_string bytes ≡ true = ap is_string (sym c.as_slice.ensures.value) ∙ is-string (is_string c.as_slice.result.now) c.in-Err-Memory.field-0 c.decode_string_descriptor.result c.in-Err-Memory.is c.in-Err-Memory.field-0-is c.decode_string_descriptor.ensures.invalid in
+    let good : text_of bytes ≡ Ok (text bytes) = ap (λ b. if b then Ok (text bytes) else Err InvalidDescriptor) valid in
+    inl (text bytes, ap (option_map (λ r. r >>= text_of)) came ∙ ap Some good, asked)
