@@ -12,9 +12,9 @@ use Rattle.usb_kernel.specs.Journal.{fate}
 use Rattle.usb_kernel.specs.Completions.{is_reapable, lowest}
 use Rattle.usb_kernel.specs.Info.{is_unreaped, unreaped}
 use Rattle.usb_kernel.specs.Rows.{row_of, rows_from, Agrees, is_reapable_row, is_unreaped_row}
-use Rattle.usb_kernel.specs.Unreaped.{unreaped_places}
+use Rattle.usb_kernel.specs.Unreaped.{unreaped_indices}
 use Rattle.usb_kernel.proofs.TableLemmas.{position-rows}
-use Rattle.usb_kernel.proofs.Unreaped.{length-places}
+use Rattle.usb_kernel.proofs.Unreaped.{length-indices}
 
 is_reapable_row-row_of : (s : Ticket) (f : Fate) → is_reapable_row (row_of s f) ≡ (is_some f.status && not f.reaped)
 is_reapable_row-row_of s f = grind (arith, common_steps)
@@ -38,6 +38,6 @@ unreaped_count : (past : List Event) (rows : List TicketRow) → Agrees past row
 unfolding unreaped
 unreaped_count past rows agrees = rw agrees.table (count-rows (tickets past) 0 (fate past))
 
--- as many places are listed
-pub unreaped_length : (past : List Event) (rows : List TicketRow) (places : List ℕ) → Agrees past rows → places ≡ unreaped_places rows → length places ≡ unreaped past
-unreaped_length past rows places agrees listed = ap length listed ∙ length-places rows 0 ∙ unreaped_count past rows agrees
+-- as many indices are listed
+pub unreaped_length : (past : List Event) (rows : List TicketRow) (indices : List ℕ) → Agrees past rows → indices ≡ unreaped_indices rows → length indices ≡ unreaped past
+unreaped_length past rows indices agrees listed = ap length listed ∙ length-indices rows 0 ∙ unreaped_count past rows agrees

@@ -1,4 +1,4 @@
--- The places of the rows that are not reaped, and searches that go over these alone.
+-- The indices of the rows that are not reaped, and searches that go over these alone.
 use Rattle.std.proofs.Common.{◌≡◌, ◌≢◌, ℕ, ◌+◌, ◌<◌, ◌≤◌, suc, zero, arith, List, [], ◌∷◌, ◌++◌, length, set, drop, get_or, Option, Some, None, Bool, true, false, refl, ap, sym, ◌∙◌, slice_get, cond, inl, inr}
 use Rattle.std.specs.Prelude.{position, is_some, is_none, ◌&&◌, ◌==◌}
 use Rattle.std.specs.List.{All, count_by, remove, position_from}
@@ -9,99 +9,99 @@ use Rattle.std.proofs.lemmas.Iterator.Adapters.{position_from-zero}
 use Rattle.std.proofs.lemmas.Grind.{common_steps}
 use Rattle.usb_kernel.specs.declared.slot.TicketRow.{TicketRow}
 use Rattle.usb_kernel.specs.Rows.{IsRoomy, is_open_row, is_reapable_row, is_unreaped_row}
-use Rattle.usb_kernel.specs.Unreaped.{places_from, unreaped_places, without}
+use Rattle.usb_kernel.specs.Unreaped.{indices_from, unreaped_indices, without}
 use Rattle.usb_kernel.proofs.Steps.{All-slice_get, some_not_none}
 
-pub unreaped-none : [] ≡ unreaped_places []
-unfolding places_from
+pub unreaped-none : [] ≡ unreaped_indices []
+unfolding indices_from
 unreaped-none = refl
 
 -- one more row
-places-append : (rows : List TicketRow) (k : ℕ) (r : TicketRow) → places_from k (rows ++ r ∷ []) ≡ places_from k rows ++ places_from (k + length rows) (r ∷ [])
-unfolding places_from
-places-append [] k r = let z : k + 0 ≡ k = omega arith in rw z refl
-places-append (x ∷ rows) k r =
+indices-append : (rows : List TicketRow) (k : ℕ) (r : TicketRow) → indices_from k (rows ++ r ∷ []) ≡ indices_from k rows ++ indices_from (k + length rows) (r ∷ [])
+unfolding indices_from
+indices-append [] k r = let z : k + 0 ≡ k = omega arith in rw z refl
+indices-append (x ∷ rows) k r =
     let e : (k + 1) + length rows ≡ k + length (x ∷ rows) = omega arith in
-    let others = rw e at (places-append rows (k + 1) r) in
-    elim (is_unreaped_row x) as (λ v. cond v (k ∷ places_from (k + 1) (rows ++ r ∷ [])) (places_from (k + 1) (rows ++ r ∷ [])) ≡ cond v (k ∷ places_from (k + 1) rows) (places_from (k + 1) rows) ++ places_from (k + length (x ∷ rows)) (r ∷ [])) [ true ↦ ap (λ ys. k ∷ ys) others | false ↦ others ]
+    let others = rw e at (indices-append rows (k + 1) r) in
+    elim (is_unreaped_row x) as (λ v. cond v (k ∷ indices_from (k + 1) (rows ++ r ∷ [])) (indices_from (k + 1) (rows ++ r ∷ [])) ≡ cond v (k ∷ indices_from (k + 1) rows) (indices_from (k + 1) rows) ++ indices_from (k + length (x ∷ rows)) (r ∷ [])) [ true ↦ ap (λ ys. k ∷ ys) others | false ↦ others ]
 
-places-one : (k : ℕ) (r : TicketRow) → is_unreaped_row r ≡ true → places_from k (r ∷ []) ≡ k ∷ []
-unfolding places_from
-places-one k r waiting = rw waiting refl
+indices-one : (k : ℕ) (r : TicketRow) → is_unreaped_row r ≡ true → indices_from k (r ∷ []) ≡ k ∷ []
+unfolding indices_from
+indices-one k r waiting = rw waiting refl
 
-places-no : (k : ℕ) (r : TicketRow) → is_unreaped_row r ≡ false → places_from k (r ∷ []) ≡ []
-unfolding places_from
-places-no k r reaped = rw reaped refl
+indices-no : (k : ℕ) (r : TicketRow) → is_unreaped_row r ≡ false → indices_from k (r ∷ []) ≡ []
+unfolding indices_from
+indices-no k r reaped = rw reaped refl
 
-pub places-add : (rows : List TicketRow) (r : TicketRow) → is_unreaped_row r ≡ true → unreaped_places (rows ++ r ∷ []) ≡ unreaped_places rows ++ length rows ∷ []
-places-add rows r waiting =
+pub indices-add : (rows : List TicketRow) (r : TicketRow) → is_unreaped_row r ≡ true → unreaped_indices (rows ++ r ∷ []) ≡ unreaped_indices rows ++ length rows ∷ []
+indices-add rows r waiting =
     let z : 0 + length rows ≡ length rows = omega arith in
-    places-append rows 0 r ∙ ap (λ k. places_from 0 rows ++ places_from k (r ∷ [])) z ∙ ap (λ ys. places_from 0 rows ++ ys) (places-one (length rows) r waiting)
+    indices-append rows 0 r ∙ ap (λ k. indices_from 0 rows ++ indices_from k (r ∷ [])) z ∙ ap (λ ys. indices_from 0 rows ++ ys) (indices-one (length rows) r waiting)
 
 append-none : {X : Type 0} (xs : List X) → xs ++ [] ≡ xs
 append-none [] = refl
 append-none (x ∷ xs) = ap (λ ys. x ∷ ys) (append-none xs)
 
-pub places-add_reaped : (rows : List TicketRow) (r : TicketRow) → is_unreaped_row r ≡ false → unreaped_places (rows ++ r ∷ []) ≡ unreaped_places rows
-places-add_reaped rows r reaped =
-    places-append rows 0 r ∙ ap (λ ys. places_from 0 rows ++ ys) (places-no (0 + length rows) r reaped) ∙ append-none (places_from 0 rows)
+pub indices-add_reaped : (rows : List TicketRow) (r : TicketRow) → is_unreaped_row r ≡ false → unreaped_indices (rows ++ r ∷ []) ≡ unreaped_indices rows
+indices-add_reaped rows r reaped =
+    indices-append rows 0 r ∙ ap (λ ys. indices_from 0 rows ++ ys) (indices-no (0 + length rows) r reaped) ∙ append-none (indices_from 0 rows)
 
 -- a write that leaves a row as reaped as it was
-places-set : (rows : List TicketRow) (k i : ℕ) (r next : TicketRow) → i < length rows → r ≡ get_or rows i r → is_unreaped_row next ≡ is_unreaped_row r → places_from k (set rows i next) ≡ places_from k rows
-unfolding places_from
-places-set [] k i r next inside read same = absurd (omega arith)
-places-set (x ∷ rows) k zero r next inside read same =
+indices-set : (rows : List TicketRow) (k i : ℕ) (r next : TicketRow) → i < length rows → r ≡ get_or rows i r → is_unreaped_row next ≡ is_unreaped_row r → indices_from k (set rows i next) ≡ indices_from k rows
+unfolding indices_from
+indices-set [] k i r next inside read same = absurd (omega arith)
+indices-set (x ∷ rows) k zero r next inside read same =
     let here : is_unreaped_row next ≡ is_unreaped_row x = same ∙ ap is_unreaped_row read in
     rw here refl
-places-set (x ∷ rows) k (suc i) r next inside read same =
-    let others = places-set rows (k + 1) i r next (omega arith) read same in
+indices-set (x ∷ rows) k (suc i) r next inside read same =
+    let others = indices-set rows (k + 1) i r next (omega arith) read same in
     rw others refl
 
-pub unreaped-set : (rows : List TicketRow) (i : ℕ) (r next : TicketRow) → i < length rows → r ≡ get_or rows i r → is_unreaped_row next ≡ is_unreaped_row r → unreaped_places (set rows i next) ≡ unreaped_places rows
-unreaped-set rows i r next inside read same = places-set rows 0 i r next inside read same
+pub unreaped-set : (rows : List TicketRow) (i : ℕ) (r next : TicketRow) → i < length rows → r ≡ get_or rows i r → is_unreaped_row next ≡ is_unreaped_row r → unreaped_indices (set rows i next) ≡ unreaped_indices rows
+unreaped-set rows i r next inside read same = indices-set rows 0 i r next inside read same
 
--- a reap takes the place of its row out
-places-reap : (rows : List TicketRow) (k i : ℕ) (r next : TicketRow) → i < length rows → r ≡ get_or rows i r → is_unreaped_row r ≡ true → is_unreaped_row next ≡ false → places_from k (set rows i next) ≡ without (k + i) (places_from k rows)
-unfolding places_from without
-places-reap [] k i r next inside read waiting reaped = absurd (omega arith)
-places-reap (x ∷ rows) k zero r next inside read waiting reaped =
+-- a reap takes the index of its row out
+indices-reap : (rows : List TicketRow) (k i : ℕ) (r next : TicketRow) → i < length rows → r ≡ get_or rows i r → is_unreaped_row r ≡ true → is_unreaped_row next ≡ false → indices_from k (set rows i next) ≡ without (k + i) (indices_from k rows)
+unfolding indices_from without
+indices-reap [] k i r next inside read waiting reaped = absurd (omega arith)
+indices-reap (x ∷ rows) k zero r next inside read waiting reaped =
     let z : k + 0 ≡ k = omega arith in
     let here : is_unreaped_row x ≡ true = sym (ap is_unreaped_row read) ∙ waiting in
     rw (z, here, reaped, eq-eqb k k refl) refl
-places-reap (x ∷ rows) k (suc i) r next inside read waiting reaped =
+indices-reap (x ∷ rows) k (suc i) r next inside read waiting reaped =
     let e : (k + 1) + i ≡ k + suc i = omega arith in
     let apart : k ≢ k + suc i = λ same. omega arith in
-    let others = rw e at (places-reap rows (k + 1) i r next (omega arith) read waiting reaped) in
-    rw others (elim (is_unreaped_row x) as (λ v. cond v (k ∷ without (k + suc i) (places_from (k + 1) rows)) (without (k + suc i) (places_from (k + 1) rows)) ≡ without (k + suc i) (cond v (k ∷ places_from (k + 1) rows) (places_from (k + 1) rows))) [ true ↦ rw (ne_eqb k (k + suc i) apart) refl | false ↦ refl ])
+    let others = rw e at (indices-reap rows (k + 1) i r next (omega arith) read waiting reaped) in
+    rw others (elim (is_unreaped_row x) as (λ v. cond v (k ∷ without (k + suc i) (indices_from (k + 1) rows)) (without (k + suc i) (indices_from (k + 1) rows)) ≡ without (k + suc i) (cond v (k ∷ indices_from (k + 1) rows) (indices_from (k + 1) rows))) [ true ↦ rw (ne_eqb k (k + suc i) apart) refl | false ↦ refl ])
 
-pub unreaped-reap : (rows : List TicketRow) (i : ℕ) (r next : TicketRow) → i < length rows → r ≡ get_or rows i r → is_unreaped_row r ≡ true → is_unreaped_row next ≡ false → unreaped_places (set rows i next) ≡ without i (unreaped_places rows)
+pub unreaped-reap : (rows : List TicketRow) (i : ℕ) (r next : TicketRow) → i < length rows → r ≡ get_or rows i r → is_unreaped_row r ≡ true → is_unreaped_row next ≡ false → unreaped_indices (set rows i next) ≡ without i (unreaped_indices rows)
 unreaped-reap rows i r next inside read waiting reaped =
     let z : 0 + i ≡ i = omega arith in
-    places-reap rows 0 i r next inside read waiting reaped ∙ ap (λ n. without n (places_from 0 rows)) z
+    indices-reap rows 0 i r next inside read waiting reaped ∙ ap (λ n. without n (indices_from 0 rows)) z
 
 -- there are as many as rows that are not reaped
-pub length-places : (rows : List TicketRow) (k : ℕ) → length (places_from k rows) ≡ count_by is_unreaped_row rows
-unfolding places_from
-length-places [] k = refl
-length-places (r ∷ rows) k =
-    let others = length-places rows (k + 1) in
+pub length-indices : (rows : List TicketRow) (k : ℕ) → length (indices_from k rows) ≡ count_by is_unreaped_row rows
+unfolding indices_from
+length-indices [] k = refl
+length-indices (r ∷ rows) k =
+    let others = length-indices rows (k + 1) in
     elim (cases_Bool (is_unreaped_row r)) [
       | inl waiting ↦ grind (arith, common_steps)
       | inr reaped ↦ grind (arith, common_steps)
     ]
 
--- taking out a number by its place
-without-place : (xs : List ℕ) (n i d : ℕ) → i < length xs → (get_or xs i d == n) ≡ true → ((j : ℕ) → j < i → (get_or xs j d == n) ≡ false) → remove xs i ≡ without n xs
+-- taking out a number by its index
+without-index : (xs : List ℕ) (n i d : ℕ) → i < length xs → (get_or xs i d == n) ≡ true → ((j : ℕ) → j < i → (get_or xs j d == n) ≡ false) → remove xs i ≡ without n xs
 unfolding without
-without-place [] n i d inside here before = absurd (omega arith)
-without-place (x ∷ xs) n zero d inside here before = rw here refl
-without-place (x ∷ xs) n (suc i) d inside here before =
+without-index [] n i d inside here before = absurd (omega arith)
+without-index (x ∷ xs) n zero d inside here before = rw here refl
+without-index (x ∷ xs) n (suc i) d inside here before =
     let apart : (x == n) ≡ false = before 0 (omega arith) in
-    let others = without-place xs n i d (omega arith) here (λ j below. before (suc j) (omega arith)) in
+    let others = without-index xs n i d (omega arith) here (λ j below. before (suc j) (omega arith)) in
     rw apart (ap (λ ys. x ∷ ys) others)
 
 pub without-some : (xs : List ℕ) (n i : ℕ) → position (λ x. x == n) xs ≡ Some i → remove xs i ≡ without n xs
-without-some xs n i at = let p = position-Some (λ x. x == n) xs i 0 at in without-place xs n i 0 p.0 p.1 p.2
+without-some xs n i at = let p = position-Some (λ x. x == n) xs i 0 at in without-index xs n i 0 p.0 p.1 p.2
 
 without-nowhere : (xs : List ℕ) (n k : ℕ) → position_from (λ x. x == n) k xs ≡ None → without n xs ≡ xs
 unfolding without
@@ -115,23 +115,23 @@ without-nowhere (x ∷ xs) n k none =
 pub without-none : (xs : List ℕ) (n : ℕ) → position (λ x. x == n) xs ≡ None → without n xs ≡ xs
 without-none xs n none = without-nowhere xs n 0 (sym (position_from-zero (λ x. x == n) xs) ∙ none)
 
--- each is the place of a row
+-- each is the index of a row
 below-one_more : (n : ℕ) (xs : List ℕ) (k i d : ℕ) → k < n → ((j : ℕ) → j < length xs → get_or xs j d < n) → i < length (k ∷ xs) → get_or (k ∷ xs) i d < n
 below-one_more n xs k zero d first others inside = first
 below-one_more n xs k (suc i) d first others inside = others i (omega arith)
 
-places-below : (rows : List TicketRow) (k n i d : ℕ) → k + length rows ≤ n → i < length (places_from k rows) → get_or (places_from k rows) i d < n
-unfolding places_from
-places-below [] k n i d long inside = absurd (omega arith)
-places-below (r ∷ rows) k n i d long inside =
-    let others : (j : ℕ) → j < length (places_from (k + 1) rows) → get_or (places_from (k + 1) rows) j d < n = λ j within. places-below rows (k + 1) n j d (omega arith) within in
+indices-below : (rows : List TicketRow) (k n i d : ℕ) → k + length rows ≤ n → i < length (indices_from k rows) → get_or (indices_from k rows) i d < n
+unfolding indices_from
+indices-below [] k n i d long inside = absurd (omega arith)
+indices-below (r ∷ rows) k n i d long inside =
+    let others : (j : ℕ) → j < length (indices_from (k + 1) rows) → get_or (indices_from (k + 1) rows) j d < n = λ j within. indices-below rows (k + 1) n j d (omega arith) within in
     elim (cases_Bool (is_unreaped_row r)) [
-      | inl waiting ↦ rw waiting (below-one_more n (places_from (k + 1) rows) k i d (omega arith) others (rw waiting at inside))
+      | inl waiting ↦ rw waiting (below-one_more n (indices_from (k + 1) rows) k i d (omega arith) others (rw waiting at inside))
       | inr reaped ↦ rw reaped (others i (rw reaped at inside))
     ]
 
-pub place-inside : (rows : List TicketRow) (places : List ℕ) (i d : ℕ) → places ≡ unreaped_places rows → i < length places → get_or places i d < length rows
-place-inside rows places i d listed inside = rw listed (places-below rows 0 (length rows) i d (omega arith) (rw listed at inside))
+pub index-inside : (rows : List TicketRow) (places : List ℕ) (i d : ℕ) → places ≡ unreaped_indices rows → i < length places → get_or places i d < length rows
+index-inside rows places i d listed inside = rw listed (indices-below rows 0 (length rows) i d (omega arith) (rw listed at inside))
 
 -- the first of some places whose row passes a test
 abbrev passes : (TicketRow → Bool) → Option TicketRow → Bool
@@ -143,8 +143,8 @@ first_among p rows [] = None
 first_among p rows (i ∷ places) = cond (passes p (slice_get rows i)) (Some i) (first_among p rows places)
 
 -- a search of the table finds what one of its unreaped places finds, where no reaped row passes
-among-places : (p : TicketRow → Bool) (all rows : List TicketRow) (k : ℕ) → ((i : ℕ) → slice_get all (k + i) ≡ slice_get rows i) → ((i : ℕ) (r : TicketRow) → slice_get rows i ≡ Some r → is_unreaped_row r ≡ false → p r ≡ false) → position_from p k rows ≡ first_among p all (places_from k rows)
-unfolding places_from first_among
+among-places : (p : TicketRow → Bool) (all rows : List TicketRow) (k : ℕ) → ((i : ℕ) → slice_get all (k + i) ≡ slice_get rows i) → ((i : ℕ) (r : TicketRow) → slice_get rows i ≡ Some r → is_unreaped_row r ≡ false → p r ≡ false) → position_from p k rows ≡ first_among p all (indices_from k rows)
+unfolding indices_from first_among
 among-places p all [] k same fails = refl
 among-places p all (r ∷ rows) k same fails =
     let z : k + 0 ≡ k = omega arith in
@@ -155,7 +155,7 @@ among-places p all (r ∷ rows) k same fails =
       | inr reaped ↦ rw (reaped, fails 0 r refl reaped) others
     ]
 
-among : (p : TicketRow → Bool) (rows : List TicketRow) (places : List ℕ) → places ≡ unreaped_places rows → ((i : ℕ) (r : TicketRow) → slice_get rows i ≡ Some r → is_unreaped_row r ≡ false → p r ≡ false) → position p rows ≡ first_among p rows places
+among : (p : TicketRow → Bool) (rows : List TicketRow) (places : List ℕ) → places ≡ unreaped_indices rows → ((i : ℕ) (r : TicketRow) → slice_get rows i ≡ Some r → is_unreaped_row r ≡ false → p r ≡ false) → position p rows ≡ first_among p rows places
 among p rows places listed fails =
     rw listed (position_from-zero p rows ∙ among-places p rows rows 0 (λ i. let z : 0 + i ≡ i = omega arith in rw z refl) fails)
 
@@ -176,14 +176,14 @@ open-waits d e r roomy reaped =
     no_buffer : {X : Type 0} (o : Option X) → is_some o ≡ false → o ≡ None
     no_buffer o said = grind (arith, common_steps)
 
-pub open-among : (rows : List TicketRow) (places : List ℕ) (d e : ℕ) → places ≡ unreaped_places rows → All IsRoomy rows → position (is_open_row d e) rows ≡ first_among (is_open_row d e) rows places
+pub open-among : (rows : List TicketRow) (places : List ℕ) (d e : ℕ) → places ≡ unreaped_indices rows → All IsRoomy rows → position (is_open_row d e) rows ≡ first_among (is_open_row d e) rows places
 open-among rows places d e listed roomy =
     among (is_open_row d e) rows places listed (λ i r at reaped. open-waits d e r (All-slice_get IsRoomy rows i r roomy at) reaped)
 
 reapable-waits : (r : TicketRow) → is_unreaped_row r ≡ false → is_reapable_row r ≡ false
 reapable-waits r reaped = rw reaped (elim (is_some r.status) as (λ v. (v && false) ≡ false) [ true ↦ refl | false ↦ refl ])
 
-pub reapable-among : (rows : List TicketRow) (places : List ℕ) → places ≡ unreaped_places rows → position is_reapable_row rows ≡ first_among is_reapable_row rows places
+pub reapable-among : (rows : List TicketRow) (places : List ℕ) → places ≡ unreaped_indices rows → position is_reapable_row rows ≡ first_among is_reapable_row rows places
 reapable-among rows places listed = among is_reapable_row rows places listed (λ i r at reaped. reapable-waits r reaped)
 
 pub row_read : (rows : List TicketRow) (i : ℕ) (r : TicketRow) → i < length rows → r ≡ get_or rows i r → slice_get rows i ≡ Some r

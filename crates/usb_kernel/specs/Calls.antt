@@ -42,7 +42,7 @@ after_open_by k (Some d) = record k { armed = disarmed k.armed d.number call.Ope
 abbrev pub after_open : KernelState → ℕ → ℕ → KernelState
 after_open k bus address = after_open_by k (find (is_at bus address) k.devices)
 
--- reset: no rule of refusal. One that is not refused acts as an unplug, and uses a place
+-- reset: no rule of refusal. One that is not refused acts as an unplug, and uses a place of spare
 abbrev pub reset_by : KernelState → ℕ → Option ℕ → KernelState
 reset_by k d (Some errno) = k
 reset_by k d None = record k { past = Unplug d ∷ k.past; spare = k.spare - 1 }
@@ -51,4 +51,4 @@ reset_by k d None = record k { past = Unplug d ∷ k.past; spare = k.spare - 1 }
 unfoldable pub after_reset : KernelState → ℕ → KernelState
 after_reset k d = reset_by (called k d call.Reset no_rules unplugged) d (errno_of k d call.Reset no_rules)
 
--- release: no rule of refusal, and no armed refusal (Claims.antt)
+-- release: no rule of refusal, and no armed refusal (Claims.antt of usb_simulated)

@@ -6,15 +6,15 @@ use Rattle.usb_kernel.specs.Tickets.{tickets}
 use Rattle.usb_kernel.specs.Legal.{IsLawful}
 use Rattle.usb_simulated.specs.Refusals.{HasArmedErrno}
 use Rattle.usb_kernel.specs.Rows.{Agrees, owed}
-use Rattle.usb_kernel.specs.Unreaped.{unreaped_places}
+use Rattle.usb_kernel.specs.Unreaped.{unreaped_indices}
 use Rattle.usb_kernel.specs.Deadlines.{KeepsDeadlines}
 
--- the journal is lawful, the table is what it says, the places of the tickets that are not reaped and the deadlines of those that
+-- the journal is lawful, the table is what it says, the indices of the rows that are not reaped and the deadlines of those that
 -- are not finished are listed, and there is room for the steps to come and for what the tickets may still need
 pub record IsKept (k : Inside) : Type 0 where
   pub lawful : IsLawful (reverse k.journal.items)
   pub agrees : Agrees (reverse k.journal.items) k.tickets.items
-  pub listed : k.unreaped.items ≡ unreaped_places k.tickets.items
+  pub listed : k.unreaped.items ≡ unreaped_indices k.tickets.items
   pub timed : KeepsDeadlines (reverse k.journal.items) k.deadlines.keys
   pub owes : k.owed ≡ sum_by owed k.tickets.items
   pub space : vec_len k.journal + k.spare + k.owed ≤ vec_capacity k.journal

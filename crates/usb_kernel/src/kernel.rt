@@ -27,8 +27,8 @@ use crate::journal::put;
 use crate::slot::TicketRow;
 use crate::submission::{Done, Submission, Submitted, TicketInfo};
 use crate::table::{
-    add, add_refused, fail_oldest, first_number, forget_place, give_ack, give_packet, info_at,
-    push_place, take_finished, unplug_tickets,
+    add, add_refused, fail_oldest, first_number, forget_index, give_ack, give_packet, info_at,
+    push_index, take_finished, unplug_tickets,
 };
 use crate::timer::{add_deadline, deadline_of, discard_due, discard_ticket, forget_deadline};
 use std::alloc::Global;
@@ -41,7 +41,7 @@ use usb_simulated::{
 };
 
 /// A simulated kernel. It keeps its events in a journal, and beside it the table of tickets that
-/// the journal means, and the places of the tickets that are not reaped, ascending.
+/// the journal means, and the indices of the rows that are not reaped, ascending.
 #[derive(Drop)]
 pub struct Kernel {
     journal: Vec<Event>,
@@ -251,7 +251,7 @@ impl Kernel {
             return Err(s);
         };
         let ticket = add(&mut self.tickets, s);
-        push_place(&mut self.unreaped, ticket as usize);
+        push_index(&mut self.unreaped, ticket as usize);
         self.owed += 2;
         put(
             &mut self.journal,
@@ -521,7 +521,7 @@ impl Kernel {
         ensures rest { self.new ≡ record self.old { past = self.new.past } }
     {
         let done = take_finished(&mut self.tickets, ticket)?;
-        forget_place(&mut self.unreaped, ticket);
+        forget_index(&mut self.unreaped, ticket);
         let deadline = deadline_of(&self.tickets, ticket);
         forget_deadline(&mut self.deadlines, deadline, ticket);
         self.owed -= 1;

@@ -10,7 +10,7 @@ ghost use Rattle.usb_kernel.specs.Completions.{reapable, refused_done};
 ghost use Rattle.usb_kernel.specs.Steps.{after_packet, after_ack, after_fail, after_reap, after_discard};
 ghost use Rattle.usb_kernel.specs.Info.{info_of};
 ghost use Rattle.usb_kernel.specs.Rows.{IsRoomy, is_open_row, is_reapable_row, row_unplugged, owed, Agrees};
-ghost use Rattle.usb_kernel.specs.Unreaped.{unreaped_places, without};
+ghost use Rattle.usb_kernel.specs.Unreaped.{unreaped_indices, without};
 
 use crate::errno;
 use crate::slot::TicketRow;
@@ -34,8 +34,8 @@ pub(crate) fn add(rows: &mut Vec<TicketRow>, s: Submission) -> u64
     ensures agrees { (past : List Event) → Agrees past rows.old.items
         → Agrees (submit_event (length (tickets past)) s ∷ past) rows.new.items }
     ensures places { sum_by owed rows.new.items ≡ sum_by owed rows.old.items + 2 }
-    ensures unreaped { unreaped_places rows.new.items
-        ≡ unreaped_places rows.old.items ++ result ∷ [] }
+    ensures unreaped { unreaped_indices rows.new.items
+        ≡ unreaped_indices rows.old.items ++ result ∷ [] }
 {
     let number = rows.len() as u64;
     push_slot(rows, TicketRow::queued(s));
@@ -51,42 +51,42 @@ pub(crate) fn add_refused(rows: &mut Vec<TicketRow>, s: Submission, errno: u16) 
     ensures agrees { (past : List Event) → Agrees past rows.old.items
         → Agrees (refuse_event (length (tickets past)) s errno ∷ past) rows.new.items }
     ensures places { sum_by owed rows.new.items ≡ sum_by owed rows.old.items }
-    ensures unreaped { unreaped_places rows.new.items ≡ unreaped_places rows.old.items }
+    ensures unreaped { unreaped_indices rows.new.items ≡ unreaped_indices rows.old.items }
 {
     let (slot, done) = TicketRow::refused(rows.len() as u64, s, errno);
     push_slot(rows, slot);
     done
 }
 
-/// Appends a place for which there is room.
-pub(crate) fn push_place(unreaped: &mut Vec<usize>, at: usize)
+/// Appends an index for which there is room.
+pub(crate) fn push_index(unreaped: &mut Vec<usize>, at: usize)
     requires room { vec_len unreaped.old < vec_capacity unreaped.old }
-    ensures places { unreaped.new.items ≡ unreaped.old.items ++ at ∷ [] }
+    ensures indices { unreaped.new.items ≡ unreaped.old.items ++ at ∷ [] }
 {
     let _ = unreaped.push(at);
 }
 
-/// The index of the first place that has this number.
+/// Where this number first stands.
 fn index_of(unreaped: &[usize], ticket: u64) -> Option<usize>
-    ensures index { result ≡ position (λ place. place == ticket) unreaped.now }
+    ensures index { result ≡ position (λ index. index == ticket) unreaped.now }
 {
-    unreaped.iter().position(|place| *place as u64 == ticket)
+    unreaped.iter().position(|index| *index as u64 == ticket)
 }
 
-/// Takes out the first place that has this number.
-pub(crate) fn forget_place(unreaped: &mut Vec<usize>, ticket: u64)
-    ensures places { unreaped.new.items ≡ without ticket unreaped.old.items }
+/// Takes this number out where it first stands.
+pub(crate) fn forget_index(unreaped: &mut Vec<usize>, ticket: u64)
+    ensures indices { unreaped.new.items ≡ without ticket unreaped.old.items }
 {
     if let Some(at) = index_of(unreaped, ticket) {
         unreaped.remove(at);
     }
 }
 
-/// The first open ticket of an endpoint. It is sought among the places that are not reaped.
+/// The first open ticket of an endpoint. It is sought among the rows that are not reaped.
 fn open_among(rows: &[TicketRow], unreaped: &[usize], device: u8, endpoint: u8) -> Option<usize>
-    requires listed { unreaped.now ≡ unreaped_places rows.now }
+    requires listed { unreaped.now ≡ unreaped_indices rows.now }
     requires roomy { All IsRoomy rows.now }
-    ensures place { result ≡ position (is_open_row device endpoint) rows.now }
+    ensures index { result ≡ position (is_open_row device endpoint) rows.now }
 {
     for &at in unreaped {
         let row = &rows[at];
@@ -97,10 +97,10 @@ fn open_among(rows: &[TicketRow], unreaped: &[usize], device: u8, endpoint: u8) 
     None
 }
 
-/// The number of the first ticket that is finished and not reaped. It is sought among the places
+/// The number of the first ticket that is finished and not reaped. It is sought among the rows
 /// that are not reaped.
 pub(crate) fn first_number(rows: &[TicketRow], unreaped: &[usize]) -> Option<u64>
-    requires listed { unreaped.now ≡ unreaped_places rows.now }
+    requires listed { unreaped.now ≡ unreaped_indices rows.now }
     ensures number { result ≡ position is_reapable_row rows.now }
 {
     for &at in unreaped {
@@ -120,7 +120,7 @@ pub(crate) fn give_packet(
     endpoint: u8,
     bytes: &[u8],
 ) -> Option<usize>
-    requires listed { unreaped.now ≡ unreaped_places rows.old.items }
+    requires listed { unreaped.now ≡ unreaped_indices rows.old.items }
     requires roomy { All IsRoomy rows.old.items }
     ensures agrees { (past : List Event) → Agrees past rows.old.items
         → Agrees (after_packet past device endpoint bytes.now) rows.new.items }
@@ -128,7 +128,7 @@ pub(crate) fn give_packet(
         → after_packet past device endpoint bytes.now
         ≡ (if is_some result then Event.Packet device endpoint bytes.now ∷ past else past) }
     ensures places { sum_by owed rows.new.items + unwrap_or result 0 ≡ sum_by owed rows.old.items }
-    ensures unreaped { unreaped_places rows.new.items ≡ unreaped_places rows.old.items }
+    ensures unreaped { unreaped_indices rows.new.items ≡ unreaped_indices rows.old.items }
 {
     if endpoint < 128 {
         return None;
@@ -150,7 +150,7 @@ pub(crate) fn give_ack(
     device: u8,
     endpoint: u8,
 ) -> Option<usize>
-    requires listed { unreaped.now ≡ unreaped_places rows.old.items }
+    requires listed { unreaped.now ≡ unreaped_indices rows.old.items }
     requires roomy { All IsRoomy rows.old.items }
     ensures agrees { (past : List Event) → Agrees past rows.old.items
         → Agrees (after_ack past device endpoint) rows.new.items }
@@ -158,7 +158,7 @@ pub(crate) fn give_ack(
         → after_ack past device endpoint
         ≡ (if is_some result then Event.Ack device endpoint ∷ past else past) }
     ensures places { sum_by owed rows.new.items + unwrap_or result 0 ≡ sum_by owed rows.old.items }
-    ensures unreaped { unreaped_places rows.new.items ≡ unreaped_places rows.old.items }
+    ensures unreaped { unreaped_indices rows.new.items ≡ unreaped_indices rows.old.items }
 {
     if endpoint >= 128 {
         return None;
@@ -180,7 +180,7 @@ pub(crate) fn fail_oldest(
     endpoint: u8,
     errno: u16,
 ) -> bool
-    requires listed { unreaped.now ≡ unreaped_places rows.old.items }
+    requires listed { unreaped.now ≡ unreaped_indices rows.old.items }
     requires roomy { All IsRoomy rows.old.items }
     ensures agrees { (past : List Event) → Agrees past rows.old.items
         → Agrees (after_fail past device endpoint errno) rows.new.items }
@@ -189,7 +189,7 @@ pub(crate) fn fail_oldest(
         ≡ (if result then Event.Fail device endpoint errno ∷ past else past) }
     ensures places { sum_by owed rows.new.items + (if result then 1 else 0)
         ≡ sum_by owed rows.old.items }
-    ensures unreaped { unreaped_places rows.new.items ≡ unreaped_places rows.old.items }
+    ensures unreaped { unreaped_indices rows.new.items ≡ unreaped_indices rows.old.items }
 {
     let Some(at) = open_among(rows, unreaped, device, endpoint) else {
         return false;
@@ -203,7 +203,7 @@ pub(crate) fn fail_oldest(
 fn unplug_rows(rows: &mut Vec<TicketRow>, device: u8) -> usize
     ensures rows { rows.new.items ≡ map (row_unplugged device) rows.old.items }
     ensures places { sum_by owed rows.new.items + result ≡ sum_by owed rows.old.items }
-    ensures unreaped { unreaped_places rows.new.items ≡ unreaped_places rows.old.items }
+    ensures unreaped { unreaped_indices rows.new.items ≡ unreaped_indices rows.old.items }
 {
     let mut freed = 0;
     for i in 0..rows.len() {
@@ -218,7 +218,7 @@ pub(crate) fn unplug_tickets(rows: &mut Vec<TicketRow>, device: u8) -> usize
     ensures agrees { (past : List Event) → Agrees past rows.old.items
         → Agrees (Event.Unplug device ∷ past) rows.new.items }
     ensures places { sum_by owed rows.new.items + result ≡ sum_by owed rows.old.items }
-    ensures unreaped { unreaped_places rows.new.items ≡ unreaped_places rows.old.items }
+    ensures unreaped { unreaped_indices rows.new.items ≡ unreaped_indices rows.old.items }
 {
     unplug_rows(rows, device)
 }
@@ -231,9 +231,9 @@ pub(crate) fn take_finished(rows: &mut Vec<TicketRow>, ticket: u64) -> Option<Do
         → reapable past ticket ≡ result }
     ensures places { sum_by owed rows.new.items + (if is_some result then 1 else 0)
         ≡ sum_by owed rows.old.items }
-    ensures unreaped { unreaped_places rows.new.items
-        ≡ (if is_some result then without ticket (unreaped_places rows.old.items)
-        else unreaped_places rows.old.items) }
+    ensures unreaped { unreaped_indices rows.new.items
+        ≡ (if is_some result then without ticket (unreaped_indices rows.old.items)
+        else unreaped_indices rows.old.items) }
 {
     if ticket >= rows.len() as u64 {
         return None;
@@ -254,7 +254,7 @@ pub(crate) fn drop_open(rows: &mut Vec<TicketRow>, ticket: u64) -> bool
         → after_discard past ticket ≡ (if result then Event.Discard ticket ∷ past else past) }
     ensures places { sum_by owed rows.new.items + (if result then 1 else 0)
         ≡ sum_by owed rows.old.items }
-    ensures unreaped { unreaped_places rows.new.items ≡ unreaped_places rows.old.items }
+    ensures unreaped { unreaped_indices rows.new.items ≡ unreaped_indices rows.old.items }
 {
     if ticket >= rows.len() as u64 {
         return false;

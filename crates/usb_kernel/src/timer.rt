@@ -9,7 +9,7 @@ ghost use Rattle.usb_kernel.specs.Submissions.{submit_event};
 ghost use Rattle.usb_kernel.specs.Legal.{IsLawful};
 ghost use Rattle.usb_kernel.specs.Steps.{after_discard};
 ghost use Rattle.usb_kernel.specs.Rows.{Agrees, owed};
-ghost use Rattle.usb_kernel.specs.Unreaped.{unreaped_places};
+ghost use Rattle.usb_kernel.specs.Unreaped.{unreaped_indices};
 ghost use Rattle.usb_kernel.specs.Timers.{with_deadline, is_open_entry, is_up, timer_turned};
 ghost use Rattle.usb_kernel.specs.Deadlines.{KeepsDeadlines};
 
@@ -87,7 +87,7 @@ pub(crate) fn discard_ticket(
     ensures places { sum_by owed rows.new.items + result ≡ sum_by owed rows.old.items }
     ensures len { vec_len journal.new ≡ vec_len journal.old + result }
     ensures capacity { vec_capacity journal.old ≤ vec_capacity journal.new }
-    ensures unreaped { unreaped_places rows.new.items ≡ unreaped_places rows.old.items }
+    ensures unreaped { unreaped_indices rows.new.items ≡ unreaped_indices rows.old.items }
 {
     if !drop_open(rows, ticket) {
         return 0;
@@ -114,7 +114,7 @@ pub(crate) fn discard_due(
     ensures places { sum_by owed rows.new.items + result ≡ sum_by owed rows.old.items }
     ensures len { vec_len journal.new ≡ vec_len journal.old + result }
     ensures capacity { vec_capacity journal.old ≤ vec_capacity journal.new }
-    ensures unreaped { unreaped_places rows.new.items ≡ unreaped_places rows.old.items }
+    ensures unreaped { unreaped_indices rows.new.items ≡ unreaped_indices rows.old.items }
 {
     let mut freed = 0;
     'due: while let Some(ticket) = take_due(deadlines, clock) {

@@ -1,7 +1,7 @@
 use Rattle.std.proofs.Common.{◌≡◌, arith, length, refl}
 use Rattle.usb_kernel.specs.Tickets.{tickets}
 use Rattle.usb_kernel.proofs.Fresh.{Agrees-refuse, length-rows}
-use Rattle.usb_kernel.proofs.Unreaped.{places-add_reaped}
+use Rattle.usb_kernel.proofs.Unreaped.{indices-add_reaped}
 use Rattle.usb_kernel.proofs.table.add_refused.Goals as goal
 
 pub returns-clause-number : goal.returns-clause-number
@@ -15,4 +15,4 @@ returns-clause-agrees c =
     λ past agrees. rw c.push_slot.ensures.rows (Agrees-refuse past c.args.rows.now.items c.args.s (length (tickets past)) c.args.errno _ agrees c.refused-slot.ensures.row)
 
 pub returns-clause-unreaped : goal.returns-clause-unreaped
-returns-clause-unreaped c = rw c.push_slot.ensures.rows (places-add_reaped c.args.rows.now.items c.refused-slot.result.0 (rw c.refused-slot.ensures.row refl))
+returns-clause-unreaped c = rw c.push_slot.ensures.rows (indices-add_reaped c.args.rows.now.items c.refused-slot.result.0 (rw c.refused-slot.ensures.row refl))

@@ -5,27 +5,27 @@ use Rattle.usb_kernel.proofs.table.give_packet.Goals as goal
 
 pub returns-in_default-clause-acts : goal.returns-in_default-clause-acts
 returns-in_default-clause-acts c =
-    λ past agrees. after_packet-none past c.args.device c.args.endpoint c.args.bytes.now (oldest-none past c.args.rows.now.items c.args.device c.args.endpoint agrees (rw c.deref.ensures.value at (sym c.in_default.ensures.place)))
+    λ past agrees. after_packet-none past c.args.device c.args.endpoint c.args.bytes.now (oldest-none past c.args.rows.now.items c.args.device c.args.endpoint agrees (rw c.deref.ensures.value at (sym c.in_default.ensures.index)))
 
 pub returns-in_default-clause-agrees : goal.returns-in_default-clause-agrees
 returns-in_default-clause-agrees c =
-    λ past agrees. rw (after_packet-none past c.args.device c.args.endpoint c.args.bytes.now (oldest-none past c.args.rows.now.items c.args.device c.args.endpoint agrees (rw c.deref.ensures.value at (sym c.in_default.ensures.place)))) agrees
+    λ past agrees. rw (after_packet-none past c.args.device c.args.endpoint c.args.bytes.now (oldest-none past c.args.rows.now.items c.args.device c.args.endpoint agrees (rw c.deref.ensures.value at (sym c.in_default.ensures.index)))) agrees
 
 pub take_packet-requires : goal.take_packet-requires
 take_packet-requires c =
-    let row = open_row c.args.rows.now.items c.args.device c.args.endpoint c.in-Some.at c.index_mut-slot.result.now c.requires.roomy (rw c.deref.ensures.value at (sym c.in-Some.ensures.place)) c.index_mut-slot.ensures.value in
+    let row = open_row c.args.rows.now.items c.args.device c.args.endpoint c.in-Some.at c.index_mut-slot.result.now c.requires.roomy (rw c.deref.ensures.value at (sym c.in-Some.ensures.index)) c.index_mut-slot.ensures.value in
     record { input = omega (arith, row.endpoint); unfinished = row.unfinished; roomy = row.roomy }
 
 pub returns-clause-agrees : goal.returns-clause-agrees
 returns-clause-agrees c =
     λ past agrees.
-    let row = found past c.args.rows.now.items c.args.device c.args.endpoint c.in-Some.at c.index_mut-slot.result.now agrees (rw c.deref.ensures.value at (sym c.in-Some.ensures.place)) c.index_mut-slot.ensures.value in
+    let row = found past c.args.rows.now.items c.args.device c.args.endpoint c.in-Some.at c.index_mut-slot.result.now agrees (rw c.deref.ensures.value at (sym c.in-Some.ensures.index)) c.index_mut-slot.ensures.value in
     Agrees-packet past _ c.args.rows.now.items c.args.device c.args.endpoint c.in-Some.at c.args.bytes.now c.index_mut-slot.result.now c.take_packet.new.self agrees row c.if-endpoint-lt128.false c.take_packet.ensures.row c.take_packet.ensures.roomy (after_packet-some past c.args.device c.args.endpoint c.in-Some.at c.args.bytes.now c.if-endpoint-lt128.false row.first)
 
 pub returns-clause-acts : goal.returns-clause-acts
 returns-clause-acts c =
     λ past agrees.
-    let row = found past c.args.rows.now.items c.args.device c.args.endpoint c.in-Some.at c.index_mut-slot.result.now agrees (rw c.deref.ensures.value at (sym c.in-Some.ensures.place)) c.index_mut-slot.ensures.value in
+    let row = found past c.args.rows.now.items c.args.device c.args.endpoint c.in-Some.at c.index_mut-slot.result.now agrees (rw c.deref.ensures.value at (sym c.in-Some.ensures.index)) c.index_mut-slot.ensures.value in
     after_packet-some past c.args.device c.args.endpoint c.in-Some.at c.args.bytes.now c.if-endpoint-lt128.false row.first
 
 pub open_among-requires-clause-roomy : goal.open_among-requires-clause-roomy
@@ -33,5 +33,5 @@ open_among-requires-clause-roomy c = rw c.deref.ensures.value c.requires.roomy
 
 pub returns-clause-unreaped : goal.returns-clause-unreaped
 returns-clause-unreaped c =
-    let row = open_row c.args.rows.now.items c.args.device c.args.endpoint c.in-Some.at c.index_mut-slot.result.now c.requires.roomy (rw c.deref.ensures.value at (sym c.in-Some.ensures.place)) c.index_mut-slot.ensures.value in
+    let row = open_row c.args.rows.now.items c.args.device c.args.endpoint c.in-Some.at c.index_mut-slot.result.now c.requires.roomy (rw c.deref.ensures.value at (sym c.in-Some.ensures.index)) c.index_mut-slot.ensures.value in
     unreaped-set c.args.rows.now.items c.in-Some.at c.index_mut-slot.result.now c.take_packet.new.self row.inside c.index_mut-slot.ensures.value c.take_packet.ensures.unreaped

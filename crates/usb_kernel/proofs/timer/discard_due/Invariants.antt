@@ -1,7 +1,7 @@
 use Rattle.std.proofs.Common.{◌≡◌, ◌+◌, ◌≤◌, length, map, filter, reverse, sum_by, vec_len, vec_capacity}
 use Rattle.usb_kernel.specs.Legal.{IsLawful}
 use Rattle.usb_kernel.specs.Rows.{Agrees, owed}
-use Rattle.usb_kernel.specs.Unreaped.{unreaped_places}
+use Rattle.usb_kernel.specs.Unreaped.{unreaped_indices}
 use Rattle.usb_kernel.specs.Timers.{is_up, discarded_in_order}
 use Rattle.usb_kernel.specs.Deadlines.{KeepsDeadlines}
 use Rattle.usb_kernel.proofs.timer.discard_due.Given as goal
@@ -15,7 +15,7 @@ invariant-due l = record {
   places : sum_by owed l.rows.items + l.freed ≡ sum_by owed l.initial.rows.items;
   len : vec_len l.journal ≡ vec_len l.initial.journal + l.freed;
   capacity : vec_capacity l.initial.journal ≤ vec_capacity l.journal;
-  unreaped : unreaped_places l.rows.items ≡ unreaped_places l.initial.rows.items;
+  unreaped : unreaped_indices l.rows.items ≡ unreaped_indices l.initial.rows.items;
 }
 
 abbrev pub decreases-due : goal.decreases-due

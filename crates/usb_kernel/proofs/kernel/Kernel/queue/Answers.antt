@@ -4,7 +4,7 @@ use Rattle.usb_kernel.specs.Tickets.{tickets}
 use Rattle.usb_kernel.specs.Submissions.{submit_event}
 use Rattle.std.specs.List.{sum_by}
 use Rattle.usb_kernel.specs.Rows.{Agrees, owed}
-use Rattle.usb_kernel.specs.Unreaped.{unreaped_places}
+use Rattle.usb_kernel.specs.Unreaped.{unreaped_indices}
 use Rattle.usb_kernel.proofs.Fresh.{length-rows}
 use Rattle.usb_kernel.proofs.Deadlines.{tickets-submit}
 use Rattle.usb_kernel.proofs.kernel.Kernel.queue.Goals as goal
@@ -21,7 +21,7 @@ invariant_of-self-2 c =
     record {
       lawful = rw journal (c.requires.whole, inv.lawful);
       agrees = rw journal (c.add-ticket.ensures.agrees past agrees);
-      listed = c.push_place.ensures.places ∙ (ap (λ xs. xs ++ c.add-ticket.result ∷ []) (c.reserve-else-is_err.ensures.items ∙ (inv.listed ∙ ap unreaped_places (sym c.reserve.ensures.items))) ∙ sym c.add-ticket.ensures.unreaped);
+      listed = c.push_index.ensures.indices ∙ (ap (λ xs. xs ++ c.add-ticket.result ∷ []) (c.reserve-else-is_err.ensures.items ∙ (inv.listed ∙ ap unreaped_indices (sym c.reserve.ensures.items))) ∙ sym c.add-ticket.ensures.unreaped);
       timed = rw journal (c.in-Ok-add_deadline.ensures.kept past c.args.s refl next inv.timed);
       owes = omega (arith, inv.owes, ap (sum_by owed) (sym c.reserve.ensures.items), c.add-ticket.ensures.places);
       space = omega (arith, c.in-Ok-make_room.ensures.room);

@@ -5,7 +5,7 @@ use Rattle.usb_kernel.specs.Tickets.{tickets}
 use Rattle.usb_kernel.specs.Submissions.{refuse_event}
 use Rattle.std.specs.List.{sum_by}
 use Rattle.usb_kernel.specs.Rows.{Agrees, owed}
-use Rattle.usb_kernel.specs.Unreaped.{unreaped_places}
+use Rattle.usb_kernel.specs.Unreaped.{unreaped_indices}
 use Rattle.usb_kernel.proofs.Fresh.{tickets-refuse, length-rows}
 use Rattle.usb_kernel.proofs.kernel.Kernel.refuse.Goals as goal
 
@@ -19,7 +19,7 @@ invariant_of-self-2 c =
     record {
       lawful = rw journal (c.requires.errno, c.self.invariant.lawful);
       agrees = rw journal (c.add_refused-done.ensures.agrees past agrees);
-      listed = c.self.invariant.listed ∙ ap unreaped_places (sym c.reserve.ensures.items) ∙ sym c.add_refused-done.ensures.unreaped;
+      listed = c.self.invariant.listed ∙ ap unreaped_indices (sym c.reserve.ensures.items) ∙ sym c.add_refused-done.ensures.unreaped;
       timed = c.put.ensures.timed c.self.inside.deadlines.keys refl (rw before c.self.invariant.timed);
       owes = c.self.invariant.owes ∙ ap (sum_by owed) (sym c.reserve.ensures.items) ∙ sym c.add_refused-done.ensures.places;
       space = omega (arith, c.in-Ok-make_room.ensures.room);
