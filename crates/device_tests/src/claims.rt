@@ -47,21 +47,13 @@ fn endpoints_after(alloc: Global, host: &mut Host, times: u32) -> Result<usize, 
     Ok(host.endpoint_count())
 }
 
-/// Whether two rooms are there and the same.
-fn is_same(once: Result<usize, Fail<Error>>, often: Result<usize, Fail<Error>>) -> bool {
-    match (once, often) {
-        (Ok(once), Ok(often)) => once == often,
-        _ => false,
-    }
-}
-
+/// Opens the device, claims its interface, opens an endpoint, submits, closes all and reaps, this
+/// often. Then each table has room for at most one entry.
 pub fn expect_room(rt: &impl Abort, alloc: Global, host: &mut Host) {
-    let devices = room_after(alloc, host, 1);
-    let claims = claims_after(alloc, host, 1);
-    let kept = endpoints_after(alloc, host, 100_000);
-    assert!(rt; matches!(kept, Ok(0)));
-    assert!(rt; is_same(devices, room_after(alloc, host, 200)));
-    assert!(rt; is_same(claims, claims_after(alloc, host, 200)));
+    assert!(rt; endpoints_after(alloc, host, 100_000).is_ok());
+    assert!(rt; host.device_capacity() <= 1);
+    assert!(rt; host.interface_capacity() <= 1);
+    assert!(rt; host.endpoint_count() == 0);
 }
 
 #[test]

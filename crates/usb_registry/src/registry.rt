@@ -150,32 +150,32 @@ impl<T> Registry<T> {
         ensures had_room { live_count self.old.values < self.old.capacity →
             self.new.capacity ≡ self.old.capacity }
     {
-        let serial = self.next;
-        let Some(next) = serial.checked_add(1) else {
-            return Err(AllocFailed { value });
-        };
-        match self.entries.insert(Entry { serial, value }) {
-            Ok(place) => {
-                self.next = next;
-                Ok(Key { serial, place })
-            }
-            Err(failed) => Err(AllocFailed {
-                value: into_value(failed.value),
-            }),
+        match self.reserve() {
+            Ok(()) => Ok(self.insert_reserved(value)),
+            Err(AllocError) => Err(AllocFailed { value }),
         }
     }
 
-    /// Makes room for one value more, of which `insert_reserved` needs no memory. An `Err` is want of
-    /// memory, or the serial numbers below 2^64 - 1 are used up.
+    /// Makes room for one value more, of which `insert_reserved` needs no memory. Where there is none
+    /// it asks for room for as many more as are there, and at least one. An `Err` is want of memory,
+    /// or the serial numbers below 2^64 - 1 are used up.
     pub fn reserve(&mut self) -> Result<(), AllocError>
         ensures room { OnOk result (live_count self.new.values < self.new.capacity) }
         ensures serials { OnOk result (length self.new.values + 1 < 2 ^ 64) }
         ensures values { self.new ≡ record self.old { capacity = self.new.capacity } }
+        ensures succeeds { live_count self.old.values < self.old.capacity →
+            length self.old.values + 1 < 2 ^ 64 → IsOk result }
+        ensures had_room { live_count self.old.values < self.old.capacity →
+            self.new.capacity ≡ self.old.capacity }
     {
         if self.next == u64::MAX {
             return Err(AllocError);
         }
-        self.entries.reserve(1)
+        let count = self.entries.len();
+        if count < self.entries.capacity() {
+            return Ok(());
+        }
+        self.entries.reserve_exact(count.max(1))
     }
 
     /// Puts a value in where there is room for it, and takes no memory. Its serial number is the
