@@ -17,7 +17,6 @@ use Rattle.usb_ledger.specs.Kept.{EachIsOwned, EachLives}
 use Rattle.usb_host.specs.HostFrames.{LineGoesOn}
 use Rattle.usb_host.specs.HostCalls.{host_discarded}
 use Rattle.usb_host.specs.HostTurns.{host_reaped}
-use Rattle.usb_device.specs.ClosedLaws.{IsEmpty}
 use Rattle.usb_host.proofs.CallFrames.{keeps-open}
 use Rattle.usb_device.proofs.ClosedLaw.{closed_is_empty}
 use Rattle.usb_ledger.proofs.DeviceLemmas.{counts-same}
@@ -28,7 +27,7 @@ use Rattle.usb_answers.proofs.NamedKeys.{named-none}
 use Rattle.usb_registry.specs.History.{value_at}
 use Rattle.usb_kernel.specs.Tickets.{tickets}
 use Rattle.std.specs.List.{count_by}
-use Rattle.usb_host.specs.Finishes.{discarded_below, reaped_below, finished, HasEnds}
+use Rattle.usb_host.specs.Finishes.{discarded_below, reaped_below, finished, HasEnds, KeepsNothing}
 use Rattle.usb_device.specs.HandleStates.{InterfaceState}
 use Rattle.usb_answers.specs.Names.{named, freed}
 use Rattle.usb_answers.specs.State.{State, kept}
@@ -227,7 +226,7 @@ end-none s before now same done sound closed none d =
 
 -- once all is closed and each ticket has its end, nothing is kept
 pub end-empty : (s : SessionState) (before now : HostState) → before ≡ s.host → now ≡ finished before → IsSound s → ((d : ℕ) → named s.devices d ≡ None) → ((i : ℕ) → named s.interfaces i ≡ None) → ((e : ℕ) → named s.endpoints e ≡ None) → ((n : ℕ) → named s.futures n ≡ None)
-    → EachIsOwned now.tickets now.endpoints now.interfaces → EachLives now.tickets now.endpoints → HasEnds now.tickets → IsEmpty now
+    → EachIsOwned now.tickets now.endpoints now.interfaces → EachLives now.tickets now.endpoints → HasEnds now.tickets → KeepsNothing now
 end-empty s before now same done sound devices interfaces endpoints futures owned alive ends =
     let line : LineGoesOn s.host now = subst (LineGoesOn s.host) (sym (done ∙ ap finished same)) (finished-line s.host) in
     closed_is_empty now (held-goes s.host now (counts-same s.host.devices now.devices line.devices) line.interfaces sound.devices_held) owned alive

@@ -1,7 +1,7 @@
 //! The end of a session.
 
 ghost use Rattle.std.specs.Prelude.{◌≡◌, ◌<◌, ℕ, Some, None};
-ghost use Rattle.usb_host.specs.Finishes.{HasEnds, HasCompletions};
+ghost use Rattle.usb_host.specs.Finishes.{HasEnds, HasCompletions, KeepsNothing};
 ghost use Rattle.usb_registry.specs.History.{value_at};
 ghost use Rattle.usb_answers.specs.State.{State};
 ghost use Rattle.usb_answers.specs.Names.{named, freed};
@@ -73,10 +73,8 @@ impl Session {
             HasEnds result.tickets }
         ensures reaped { HasCompletions result.kernel.past }
         ensures none_open { (d : ℕ) → value_at result.devices d ≡ None }
-        ensures none_claimed { (state : State) → Represents self state → Accounted state →
-            (i : ℕ) → value_at result.interfaces i ≡ None }
-        ensures none_left { (state : State) → Represents self state → Accounted state →
-            (k : ℕ) → value_at result.endpoints k ≡ None }
+        ensures keeps_nothing { (state : State) → Represents self state → Accounted state →
+            KeepsNothing result }
     {
         let mut session = self;
         session.close_endpoints();

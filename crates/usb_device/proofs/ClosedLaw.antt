@@ -11,7 +11,7 @@ use Rattle.usb_host.specs.HostState.{HostState}
 use Rattle.usb_host.specs.Finishes.{HasEnds}
 use Rattle.usb_device.specs.DeviceLaws.{holds_at, DevicesAreHeld}
 use Rattle.usb_device.specs.OwnerLaws.{InterfacesAreOwned, EndpointsLive}
-use Rattle.usb_device.specs.ClosedLaws.{IsClosed, ClosedIsEmpty}
+use Rattle.usb_device.specs.ClosedLaws.{IsClosed, ClosedKeepsNothing}
 use Rattle.usb_device.proofs.HeldDevices.{count-none}
 
 -- a ticket with an end is of no endpoint
@@ -51,7 +51,7 @@ idle-device h k (Some o) at held closed none =
     holds-nothing n None here = refl
     holds-nothing n (Some c) here = absurd (cc (none n, here))
 
-pub closed_is_empty : ClosedIsEmpty
+pub closed_is_empty : ClosedKeepsNothing
 closed_is_empty h held owned alive closed =
     let endpoints : (k : ℕ) → value_at h.endpoints k ≡ None = λ k. dead-endpoint h k (value_at h.endpoints k) refl alive closed in
     let interfaces : (k : ℕ) → value_at h.interfaces k ≡ None = λ k. free-interface h k (value_at h.interfaces k) refl owned closed endpoints in

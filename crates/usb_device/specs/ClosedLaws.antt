@@ -1,12 +1,12 @@
 -- What a host keeps where all is closed: nothing.
-use Rattle.std.specs.Prelude.{ℕ, ◌≡◌, false, Some, None}
+use Rattle.std.specs.Prelude.{ℕ, ◌≡◌, false, Some}
 use Rattle.usb_registry.specs.History.{value_at}
 use Rattle.usb_ledger.specs.declared.opened.OpenDevice.{OpenDevice}
 use Rattle.usb_ledger.specs.Entries.{ClaimedInterface, HostEndpoint}
 use Rattle.usb_host.specs.HostState.{HostState}
 use Rattle.usb_device.specs.DeviceLaws.{DevicesAreHeld}
 use Rattle.usb_device.specs.OwnerLaws.{InterfacesAreOwned, EndpointsLive}
-use Rattle.usb_host.specs.Finishes.{HasEnds}
+use Rattle.usb_host.specs.Finishes.{HasEnds, KeepsNothing}
 
 -- no handle is open, and each ticket has its end
 pub record IsClosed (h : HostState) : Type 0 where
@@ -16,14 +16,8 @@ pub record IsClosed (h : HostState) : Type 0 where
   pub endpoints : (k : ℕ) (e : HostEndpoint) → value_at h.endpoints k ≡ Some e → e.is_open ≡ false
   pub tickets : HasEnds h.tickets
 
--- nothing is kept
-pub record IsEmpty (h : HostState) : Type 0 where
-  pub devices : (k : ℕ) → value_at h.devices k ≡ None
-  pub interfaces : (k : ℕ) → value_at h.interfaces k ≡ None
-  pub endpoints : (k : ℕ) → value_at h.endpoints k ≡ None
-
 -- where nothing is kept that has gone, nothing is kept once all is closed
-abbrev pub ClosedIsEmpty : Type 0
-ClosedIsEmpty =
+abbrev pub ClosedKeepsNothing : Type 0
+ClosedKeepsNothing =
     (h : HostState) → DevicesAreHeld h → InterfacesAreOwned h → EndpointsLive h → IsClosed h →
-    IsEmpty h
+    KeepsNothing h

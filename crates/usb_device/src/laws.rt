@@ -2,7 +2,7 @@
 //! nothing.
 
 ghost use Rattle.usb_device.specs.HeldLaws.{DevicesStayHeld};
-ghost use Rattle.usb_device.specs.ClosedLaws.{ClosedIsEmpty};
+ghost use Rattle.usb_device.specs.ClosedLaws.{ClosedKeepsNothing};
 ghost use Rattle.usb_device.specs.EndLaws.{EndsStay, DroppedWhereReaped, FutureDroppedWhereReaped};
 ghost use Rattle.usb_device.specs.OwnerLaws.{ClaimsStayOwned};
 ghost use Rattle.usb_device.specs.WaitLaws.{WaitIsBySteps, BlockingIsBySteps, TurnGoesOn, WaitGoesOn, BlockingGoesOn, AwaitGoesOn, RestGoesOn, RestLeavesNone, LineUsesPlaces};
@@ -61,5 +61,5 @@ pub fn devices_are_held()
 /// Where no handle is open and each ticket has its end, nothing is kept: no open device, no claimed
 /// interface and no endpoint.
 pub fn nothing_is_kept_once_all_is_closed()
-    ensures { ClosedIsEmpty }
+    ensures { ClosedKeepsNothing }
 {}

@@ -1,5 +1,6 @@
 -- The end: the tickets are discarded by number, and then reaped by number.
-use Rattle.std.specs.Prelude.{ℕ, zero, suc, ◌<◌, List, length, IsSome}
+use Rattle.std.specs.Prelude.{ℕ, zero, suc, ◌≡◌, ◌<◌, List, length, IsSome, None}
+use Rattle.usb_registry.specs.History.{value_at}
 use Rattle.usb_kernel.specs.declared.event.Event.{Event}
 use Rattle.usb_kernel.specs.Tickets.{tickets}
 use Rattle.usb_kernel.specs.Completions.{completion}
@@ -32,3 +33,9 @@ HasEnds tickets = (t : ℕ) → t < length tickets → IsSome (end_at tickets t)
 -- each ticket of a journal has its completion
 abbrev pub HasCompletions : List Event → Type 0
 HasCompletions past = (t : ℕ) → t < length (tickets past) → IsSome (completion past t)
+
+-- no open device is kept, no claimed interface and no endpoint
+pub record KeepsNothing (h : HostState) : Type 0 where
+  pub devices : (k : ℕ) → value_at h.devices k ≡ None
+  pub interfaces : (k : ℕ) → value_at h.interfaces k ≡ None
+  pub endpoints : (k : ℕ) → value_at h.endpoints k ≡ None

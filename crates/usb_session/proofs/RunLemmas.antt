@@ -7,7 +7,7 @@ use Rattle.std.proofs.lemmas.List.Sums.{sum_by-cons}
 use Rattle.usb_script.specs.declared.item.Item.{Item}
 use Rattle.usb_script.specs.ItemKinds.{is_call}
 use Rattle.usb_host.specs.HostState.{HostState}
-use Rattle.usb_host.specs.Finishes.{HasEnds}
+use Rattle.usb_host.specs.Finishes.{HasEnds, KeepsNothing}
 use Rattle.usb_answers.specs.SessionState.{SessionState}
 use Rattle.usb_answers.specs.declared.summary.Summary.{Summary}
 use Rattle.usb_kernel.specs.Tickets.{tickets}
@@ -95,6 +95,10 @@ host-final s host items done ends = ends done.now done.stands ∙ done.leads
 
 pub host-ended : {old new : Option (List ℕ)} (s : SessionState) (host : HostState) (items : List Item) → AllAnswered old new s items → ((state : State) → Represents s state → Accounted state → HasEnds host.tickets) → HasEnds host.tickets
 host-ended s host items done ends = ends done.now done.stands done.accounted
+
+-- and it keeps nothing
+pub host-nothing : {old new : Option (List ℕ)} (s : SessionState) (host : HostState) (items : List Item) → AllAnswered old new s items → ((state : State) → Represents s state → Accounted state → KeepsNothing host) → KeepsNothing host
+host-nothing s host items done keeps = keeps done.now done.stands done.accounted
 
 -- the summary of the last host
 pub answered-sum : {old new : Option (List ℕ)} (s : SessionState) (host : HostState) (items : List Item) (calls : ℕ) (summary : Summary) → AllAnswered old new s items → ((state : State) → Represents s state → host ≡ ended state) → summary ≡ counts_of calls host → calls ≡ count_by is_call items → summary ≡ sum_of items

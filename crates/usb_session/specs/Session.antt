@@ -7,7 +7,7 @@ use Rattle.usb_script.specs.declared.error.SessionError.{SessionError}
 use Rattle.usb_script.specs.declared.error.SessionError.TheVariants.{Malformed, TooLong, ReadFault, WriteFault, Memory}
 use Rattle.usb_script.specs.Parse.{script_of}
 use Rattle.usb_session.specs.Causes.{Rose, ReadWhole, WrotePrefix, TookTooMany}
-use Rattle.usb_host.specs.Finishes.{HasEnds, HasCompletions}
+use Rattle.usb_host.specs.Finishes.{HasEnds, HasCompletions, KeepsNothing}
 use Rattle.usb_answers.specs.Output.{output, final_host}
 use Rattle.usb_answers.specs.Sums.{sum_of}
 use Rattle.usb_answers.specs.Served.{IsCounted, EndpointsAreServed}
@@ -47,8 +47,9 @@ pub record ReadAs (s : Streams) (items : Result (List Item) SessionError) : Type
   pub parsed : script_of bytes ≡ items
 
 -- a valid script was read, and its whole output was written; at its end the host has as many
--- tickets as the journal, each with its end and its completion, each endpoint was served in the
--- order of its submissions, and there is one final fate line for each ticket
+-- tickets as the journal, each with its end and its completion, and keeps no open device, no claimed
+-- interface and no endpoint; each endpoint was served in the order of its submissions, and there is
+-- one final fate line for each ticket
 pub record IsAnswered (s : Streams) (summary : Summary) : Type 0 where
   pub items : List Item
   pub script : ReadAs s (Ok items)
@@ -56,6 +57,7 @@ pub record IsAnswered (s : Streams) (summary : Summary) : Type 0 where
   pub summed : summary ≡ sum_of items
   pub ended : HasEnds (final_host items).tickets
   pub reaped : HasCompletions (final_host items).kernel.past
+  pub keeps_nothing : KeepsNothing (final_host items)
   pub counted : IsCounted items
   pub served : EndpointsAreServed items
   pub fates : HasFinalFates items

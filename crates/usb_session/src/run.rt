@@ -6,7 +6,7 @@ ghost use Rattle.std.specs.Io.KnownBytes.{Appends};
 ghost use Rattle.usb_script.specs.declared.item.Item.{Item};
 ghost use Rattle.usb_script.specs.ItemKinds.{is_call, place_count};
 ghost use Rattle.usb_script.specs.ScriptFacts.{IsBounded};
-ghost use Rattle.usb_host.specs.Finishes.{HasEnds, HasCompletions};
+ghost use Rattle.usb_host.specs.Finishes.{HasEnds, HasCompletions, KeepsNothing};
 ghost use Rattle.usb_answers.specs.Fates.{fate_lines};
 ghost use Rattle.usb_answers.specs.Output.{output, start, final_host};
 ghost use Rattle.usb_answers.specs.Sums.{sum_of};
@@ -108,6 +108,7 @@ fn answer_items<K: Sink>(
     ensures summary { IfOk result (λ s. s ≡ sum_of items.items) }
     ensures ended { IfOk result (λ _. HasEnds (final_host items.items).tickets) }
     ensures reaped { IfOk result (λ _. HasCompletions (final_host items.items).kernel.past) }
+    ensures keeps_nothing { IfOk result (λ _. KeepsNothing (final_host items.items)) }
     ensures counted { IfOk result (λ _. IsCounted items.items) }
     ensures served { IfOk result (λ _. EndpointsAreServed items.items) }
     ensures fates { IfOk result (λ _. HasFinalFates items.items) }

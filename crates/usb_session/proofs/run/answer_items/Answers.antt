@@ -1,10 +1,10 @@
 use Rattle.std.proofs.Common.{arith, subst}
 use Rattle.std.proofs.lemmas.Result.{err_from_is_err_and}
 use Rattle.usb_host.specs.HostState.{HostState}
-use Rattle.usb_host.specs.Finishes.{HasEnds, HasCompletions}
+use Rattle.usb_host.specs.Finishes.{HasEnds, HasCompletions, KeepsNothing}
 use Rattle.usb_answers.specs.Output.{output}
 use Rattle.usb_answers.proofs.HandleLemmas.{served-handles, final-counted, fates-of_scripts}
-use Rattle.usb_session.proofs.RunLemmas.{running-none, answered-end, answered-cut, answered-sum, host-final, host-ended}
+use Rattle.usb_session.proofs.RunLemmas.{running-none, answered-end, answered-cut, answered-sum, host-final, host-ended, host-nothing}
 use Rattle.usb_session.proofs.run.answer_items.Goals as goal
 
 pub returns-in_err-session-clause-err : goal.returns-in_err-session-clause-err
@@ -37,6 +37,11 @@ returns-clause-ended g c =
 pub returns-clause-reaped : goal.returns-clause-reaped
 returns-clause-reaped g c =
     subst (λ (h : HostState). HasCompletions h.kernel.past) (host-final c.answer_each-answered.new.session c.end-host.result c.args.items.items c.in_ok-calls.ensures.ok c.end-host.ensures.host) c.end-host.ensures.reaped
+
+pub returns-clause-keeps_nothing : goal.returns-clause-keeps_nothing
+returns-clause-keeps_nothing g c =
+    subst KeepsNothing (host-final c.answer_each-answered.new.session c.end-host.result c.args.items.items c.in_ok-calls.ensures.ok c.end-host.ensures.host)
+    (host-nothing c.answer_each-answered.new.session c.end-host.result c.args.items.items c.in_ok-calls.ensures.ok c.end-host.ensures.keeps_nothing)
 
 pub returns-clause-counted : goal.returns-clause-counted
 returns-clause-counted g c = final-counted c.args.items.items

@@ -1,8 +1,7 @@
 use Rattle.std.proofs.Common.{◌≡◌, ◌∙◌, ℕ, None, ap, sym, map, refl}
 use Rattle.std.specs.Option.{option_map}
 use Rattle.usb_endpoint.specs.AnyEndpoints.{state_of}
-use Rattle.usb_host.specs.Finishes.{HasEnds}
-use Rattle.usb_device.specs.ClosedLaws.{IsEmpty}
+use Rattle.usb_host.specs.Finishes.{HasEnds, KeepsNothing}
 use Rattle.usb_answers.specs.Names.{named}
 use Rattle.usb_answers.specs.State.{State}
 use Rattle.usb_answers.specs.Ends.{endpoints_closed, futures_closed, interfaces_closed, devices_closed}
@@ -67,13 +66,12 @@ returns c =
     (λ n. sym (ap (λ (v : SessionState). named v.endpoints n) c.session.view_is) ∙ no_endpoints n)
     (λ n. sym (ap (λ (v : SessionState). named v.futures n) c.session.view_is) ∙ no_futures n)
     (stands state r) a c.finish.ensures.ended in
-    let empty : (state : State) → Represents c.args.self state → Accounted state → IsEmpty now =
+    let nothing : (state : State) → Represents c.args.self state → Accounted state → KeepsNothing now =
     λ state r a. end-empty s before now refl c.finish.ensures.finished c.session.invariant no_devices no_interfaces no_endpoints no_futures c.nothing_is_kept_that_has_gone.ensures.owned c.nothing_is_kept_that_has_gone.ensures.alive (ends state r a) in
     record {
       host = λ state r. end-host c.close_devices.new.self before now state (sym (ap (λ (v : SessionState). v.host) c.session.view_is)) c.finish.ensures.finished (stands state r);
       ended = ends;
       reaped = c.finish.ensures.reaped;
       none_open = end-none s before now refl c.finish.ensures.finished c.session.invariant no_devices no_interfaces;
-      none_claimed = λ state r a. (empty state r a).interfaces;
-      none_left = λ state r a. (empty state r a).endpoints;
+      keeps_nothing = nothing;
     }
