@@ -1,4 +1,8 @@
--- `cancel`, `close` and `release`. The pending transfers of an endpoint are discarded, from the last to the first; and at its close then given up, and the endpoint is left. A handle of a device or of an interface is closed; a release is refused where the interface has another owner. All are barred where nothing is open under the name.
+-- `cancel`, `close` and `release`, which are barred where nothing is open under the name.
+--
+-- The pending transfers of an endpoint are discarded, from the last to the first; at its close they are then given up, and its
+-- key is open no more. A future is closed: its ticket is given up, and nothing is discarded. A handle of a device or of an
+-- interface is closed; a release is refused where the interface has another owner.
 use Rattle.std.specs.Prelude.{ℕ, Option, Some, None, if◌then◌else◌}
 use Rattle.usb_endpoint.specs.Closes.{all_discarded, after_close}
 use Rattle.usb_host.specs.HostCalls.{host_discarded, host_left}

@@ -24,7 +24,7 @@ use Rattle.usb_answers.specs.State.{State, with_host}
 use Rattle.usb_answers.specs.Answer.{Answer, told, barred, if_open}
 use Rattle.usb_answers.specs.Steps.{lent, then_rested, stepped_all}
 
--- the number of the device that a device or an interface is of, which is open under a name
+-- the kernel's number of the device that is open under this name, or whose interface is
 abbrev pub device_of_target : State → ControlTarget → Option ℕ
 device_of_target state (Device d) = option_map (λ (x : DeviceAt). x.opened.device) (device_at state d)
 device_of_target state (Interface i) = option_map (λ (x : InterfaceAt). x.claimed.device) (interface_at state i)

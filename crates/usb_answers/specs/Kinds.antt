@@ -56,7 +56,7 @@ is_of_tree Hotplug = true
 is_of_tree (OpenPath d path) = true
 is_of_tree item = false
 
--- those on a device, on an interface or on an endpoint
+-- those on a device (`open` too), on an interface or on an endpoint, but for control transfers
 abbrev pub is_of_handle : Item → Bool
 is_of_handle (Device k bus address speed configuration descriptors) = false
 is_of_handle (Driver k number) = false

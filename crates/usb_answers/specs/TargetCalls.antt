@@ -31,14 +31,15 @@ DevicesStand h devices = (d key : ℕ) → named devices d ≡ Some key → Stan
 abbrev pub InterfacesStand : HostState → List (Option InterfaceState) → Type 0
 InterfacesStand h interfaces = (i : ℕ) (f : InterfaceState) → named interfaces i ≡ Some f → StandsInterface h f
 
--- the number of the device that a device or an interface is of, which is open under a name
+-- the kernel's number of the device that is open under this name, or whose interface is
 abbrev pub number_of_target : HostState → List (Option ℕ) → List (Option InterfaceState) → ControlTarget → Option ℕ
 number_of_target h devices interfaces (Device d) =
     option_map (λ (o : OpenDevice). o.device) (option_and_then (λ key. value_at h.devices key) (named devices d))
 number_of_target h devices interfaces (Interface i) =
     option_map (λ (c : ClaimedInterface). c.device) (option_and_then (λ (f : InterfaceState). value_at h.interfaces f.key) (named interfaces i))
 
--- steps are taken from the front of the line alone, the journal goes on, what stands stays, and no endpoint is left that was opened
+-- steps are taken from the front of the line alone, each of which used a place of the kernel; the journal goes on, what stands
+-- stays, and no endpoint is open that wasn't open before
 pub record KeepsHandles (old new : HostState) : Type 0 where
   pub front : List KernelStep
   pub steps : old.steps ≡ front ++ new.steps

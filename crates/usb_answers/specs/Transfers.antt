@@ -23,7 +23,7 @@ use Rattle.usb_answers.specs.Steps.{lent, then_rested, stepped_all}
 abbrev pub bars_transfer : List Event → Direction → EndpointState → Bool
 bars_transfer past direction h = not (has_direction direction h) || (not (length h.pending == 0) || nat_le 1024 (unreaped past))
 
--- an endpoint to which one more ticket was submitted, and which it took
+-- an endpoint with one more ticket, which was taken
 abbrev pub with_taken : ℕ → Endpoint → Endpoint
 with_taken t h = record h { tickets = h.tickets ++ t ∷ []; taken = h.taken + 1 }
 

@@ -80,7 +80,8 @@ impl Session {
         }
     }
 
-    /// The answer to a call on a device, on an interface or on an endpoint.
+    /// The answer to a call on a device (`open` too), on an interface or on an endpoint, but for
+    /// control transfers.
     #[tactic(auto, unfolding(crate::specs::Answers::answer))]
     fn answer_handle(&mut self, line: &mut String, item: Item) -> Result<(), NoMemory>
         requires kind { IsTrue (is_of_handle item) }

@@ -67,7 +67,8 @@ impl Session {
         true
     }
 
-    /// `close`: the pending transfers of an endpoint are discarded and given up, and it is left.
+    /// `close`: the pending transfers of an endpoint are discarded and given up, and its key is
+    /// open no more.
     pub(crate) fn close(&mut self, line: &mut String, name: Name) -> Result<(), NoMemory>
         ensures answered { Answers self.old self.new line.old line.new result
             (λ state. close_answer state name) }

@@ -1,4 +1,4 @@
-//! The lines of completions, and of what else a queue tells.
+//! The lines of completions, of the count of pending transfers, and of the clock.
 
 ghost use Rattle.std.specs.Prelude.{◌≡◌, ◌++◌, OnOk, decimal, string_bytes};
 ghost use Rattle.usb_xfer.specs.TransferTexts.{word_of_status};

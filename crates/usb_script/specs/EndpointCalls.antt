@@ -1,4 +1,5 @@
--- Calls on endpoints by their first word: the fields behind it. Most lines of a long script are such calls, so they come first.
+-- Calls on endpoints by their first word: the fields behind it. Most lines of a long script are such calls, so
+-- they come early, right behind the calls that wait at endpoints.
 use Rattle.std.specs.Prelude.{List, codes, Option, if◌then◌else◌}
 use Rattle.std.specs.Str.{bytes_eq}
 use Rattle.usb_script.specs.declared.item.Item.{Item}

@@ -15,7 +15,8 @@ taken_by item = None
 abbrev pub taken_of : List Item → List Taken
 taken_of items = filter_map taken_by items
 
--- what is known of these items: whether they are setup lines alone, and what their device lines take
+-- what is known of these items: whether they are setup lines alone, and what their device lines take (`places`; not places of the
+-- kernel)
 pub record IsKnown (items : List Item) (are_setup : Bool) (taken : List Taken) : Type 0 where
   pub setup : are_setup ≡ list_all is_setup items
   pub places : taken ≡ taken_of items

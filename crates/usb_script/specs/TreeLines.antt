@@ -10,7 +10,7 @@ use Rattle.usb_words.specs.Fields.{Word, none, one, two, three, one_and_more}
 use Rattle.usb_words.specs.Letters.{device_letter}
 use Rattle.usb_script.specs.Calls.{device_call_of}
 
--- a path, and the calls that build a selector
+-- a path, and the criteria of a selector
 abbrev pub match_of : List Word → Option Item
 match_of words = do
   w ← one_and_more words

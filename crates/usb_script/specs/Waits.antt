@@ -1,4 +1,4 @@
--- Calls that wait, which may have steps of their own, by their first word: the fields behind it.
+-- Calls that wait at an endpoint, which may have steps of their own, by their first word: the fields behind it.
 use Rattle.std.specs.Prelude.{List, codes, Option, if◌then◌else◌}
 use Rattle.std.specs.Str.{bytes_eq}
 use Rattle.usb_script.specs.declared.item.Item.{Item}
@@ -9,7 +9,7 @@ use Rattle.usb_script.specs.EndpointCalls.{endpoint_call_of}
 use Rattle.usb_words.specs.Letters.{endpoint_letter}
 use Rattle.usb_script.specs.WithSteps.{two_with_steps, three_with_steps}
 
--- `wait e TIME`, `xferin e N TIME`, `xferout e BYTES TIME`, and calls that don't wait
+-- `wait e TIME`, `xferin e N TIME`, `xferout e BYTES TIME`, and the further lines
 unfoldable pub wait_call_of : Word → List Word → Option Item
 wait_call_of name words =
     if bytes_eq name (codes "wait") then two_with_steps Wait (name_of endpoint_letter) time_of words

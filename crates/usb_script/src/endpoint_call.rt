@@ -12,7 +12,8 @@ use std::alloc::Global;
 use usb_words::{Data, Length, LineError, Name, one_word, reads, two_words};
 
 /// `submitin e N`, `submitout e BYTES`, `pending e`, `poll e`, `cancel e`, `halt e`, or a further
-/// line. Most lines of a long script are calls on endpoints, so that these come first.
+/// line. Most lines of a long script are calls on endpoints, so these come early, right behind the
+/// calls that wait at endpoints.
 #[tactic(auto, unfolding(crate::specs::EndpointCalls::endpoint_call_of))]
 pub fn endpoint_call(alloc: Global, name: &[u8], words: &[&[u8]]) -> Result<Item, LineError>
     ensures value { Gives (λ i. i) result (endpoint_call_of name.now (texts words.now)) }

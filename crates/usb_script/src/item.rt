@@ -112,7 +112,7 @@ pub enum Item {
         name: Name,
         device: Name,
     },
-    /// `close d`: gives up this name of the device.
+    /// `close d`: closes this handle of the device, and frees its name.
     CloseDevice {
         device: Name,
     },
@@ -163,7 +163,7 @@ pub enum Item {
         name: Name,
         interface: Name,
     },
-    /// `close i`: gives up this name of the interface.
+    /// `close i`: closes this handle of the interface, and frees its name.
     CloseInterface {
         interface: Name,
     },
@@ -282,11 +282,11 @@ pub enum Item {
         bytes: ControlData,
         timeout: Timeout,
     },
-    /// `fpoll f`: asks for the end of a control transfer on its way.
+    /// `fpoll f`: asks for the completion of a control transfer on its way.
     PollFuture {
         future: Name,
     },
-    /// `fwait f : STEP ; ..`: waits for the end of a control transfer on its way.
+    /// `fwait f : STEP ; ..`: waits for the completion of a control transfer on its way.
     WaitFuture {
         future: Name,
         /// What happens while it waits.

@@ -14,7 +14,7 @@ use usb_words::{
     one_word, reads, three_words, two_words, value,
 };
 
-/// The most groups that a packet of udev is sent to.
+/// The greatest set of groups that a packet of udev is sent to, one bit for each.
 const MAX_GROUPS: u64 = 4294967295;
 
 /// `attr PATH NAME VALUE`, `deny PATH NAME ERRNO`, `link PATH NAME TEXT`, or a further line
@@ -105,7 +105,7 @@ fn tree_call(alloc: Global, name: &[u8], words: &[&[u8]]) -> Result<Item, LineEr
     }
 }
 
-/// `match`: a path, and the calls that build a selector
+/// `match`: a path, and the criteria of a selector
 fn match_call(alloc: Global, words: &[&[u8]]) -> Result<Item, LineError>
     ensures value { Gives (λ i. i) result (match_of (texts words.now)) }
     ensures few { IfOk result (λ item. places_in item ≤ length words.now) }

@@ -1,4 +1,4 @@
-//! Calls that wait, which may have steps of their own, by their first word.
+//! Calls that wait at an endpoint, which may have steps of their own, by their first word.
 
 ghost use Rattle.std.specs.Prelude.{◌≤◌, length, IfOk};
 ghost use Rattle.usb_words.specs.Fields.{texts};
@@ -12,8 +12,7 @@ use std::alloc::Global;
 use usb_steps::own_steps;
 use usb_words::{Data, Length, LineError, Name, Timeout, reads, three_and_more, two_and_more};
 
-/// `wait e TIME`, `xferin e N TIME`, `xferout e BYTES TIME`, and steps, or a call that doesn't
-/// wait
+/// `wait e TIME`, `xferin e N TIME`, `xferout e BYTES TIME`, and steps, or a further line
 #[tactic(auto, unfolding(crate::specs::Waits::wait_call_of))]
 pub fn wait_call(alloc: Global, name: &[u8], words: &[&[u8]]) -> Result<Item, LineError>
     ensures value { Gives (λ i. i) result (wait_call_of name.now (texts words.now)) }

@@ -8,7 +8,7 @@ use Rattle.usb_enum.specs.Selectors.{SelectorFacts, all_devices, matches}
 use Rattle.usb_words.specs.declared.selector.Criterion.{Criterion}
 use Rattle.usb_words.specs.declared.selector.Criterion.TheVariants.{Vendor, Product, Class, Subclass, Protocol, Serial}
 
--- the selector that one more call makes
+-- the selector with one more criterion, which replaces only what it names
 abbrev pub with_criterion : SelectorFacts → Criterion → SelectorFacts
 with_criterion s (Vendor vendor) = record s { vendor_id = Some vendor }
 with_criterion s (Product vendor product) = record s { vendor_id = Some vendor; product_id = Some product }
@@ -17,7 +17,7 @@ with_criterion s (Subclass class subclass) = record s { class = Some class; subc
 with_criterion s (Protocol class subclass protocol) = record s { class = Some class; subclass = Some subclass; protocol = Some protocol }
 with_criterion s (Serial serial) = record s { serial = Some serial }
 
--- the calls in their order
+-- the criteria in their order
 unfoldable pub selector_with : List Criterion → SelectorFacts
 selector_with criteria = fold with_criterion all_devices criteria
 

@@ -10,7 +10,7 @@ use usb_desc::{Fail, NoMemory};
 use usb_enum::{AttrTree, DeviceInfo, DeviceSelector, SysfsError, SysfsPath, Text, probe_device};
 use usb_script::{Criterion, Path, Selector};
 
-/// The selector that one more call makes.
+/// The selector with one more criterion, which replaces only what it names.
 fn with_criterion(
     selector: DeviceSelector,
     criterion: &Criterion,
@@ -34,7 +34,7 @@ fn with_criterion(
     }
 }
 
-/// The selector that these calls build.
+/// The selector that these criteria make, in their order.
 #[tactic(auto, unfolding(crate::specs::Selecting::selector_with))]
 fn selector_with(criteria: &[Criterion]) -> Result<DeviceSelector, NoMemory>
     ensures selector { IfOk result (λ s. s ≡ selector_with criteria.now) }

@@ -1,4 +1,4 @@
--- The calls that build a selector, one after another.
+-- The criteria of a selector, one after another.
 use Rattle.std.proofs.Common.{◌≡◌, ℕ, ◌≤◌, ◌<◌, zero, suc, List, [], ◌∷◌, ◌++◌, length, get_or, drop, drop-cons, length-drop, subst, Bor, ◌+◌, Option, Some, None, refl, ap, sym, ◌∙◌, append_assoc, append-nil, arith}
 use Rattle.std.specs.Prelude.{option_and_then, Err}
 use Rattle.std.proofs.lemmas.List.{drop-map, drop-drop}
@@ -9,11 +9,11 @@ use Rattle.usb_words.specs.Fields.{Word, texts}
 use Rattle.usb_words.specs.Selectors.{named_criterion, criteria_of}
 use Rattle.usb_words.specs.declared.selector.Criterion.{Criterion}
 
--- these calls, and those of the words behind them
+-- these criteria, and those of the words behind them
 abbrev pub behind : List Criterion → Option (List Criterion) → Option (List Criterion)
 behind found rest = option_and_then (λ more. Some (found ++ more)) rest
 
--- what is left of the words, and how many calls it may have
+-- what is left of the words, and how many criteria it may have
 pub record Left (found : List Criterion) (rest : List Word) (whole : Option (List Criterion)) : Type 0 where
   pub most : ℕ
   pub few : length rest ≤ most

@@ -51,7 +51,7 @@ unfoldable pub three_and_more : List Word → Option (Word × Word × Word × Li
 three_and_more (a ∷ b ∷ c ∷ more) = Some (a, b, c, more)
 three_and_more words = None
 
--- `none`, `one` to `six`: exactly so many words, each with its own reading, and what is made of the
+-- `none`, `one` to `four`, and `six`: exactly so many words, each with its own reading, and what is made of the
 -- fields that they spell
 abbrev pub none : {R : Type 0} → R → List Word → Option R
 none made words = no_word words >>= λ _. Some made

@@ -1,4 +1,4 @@
--- SEL: what devices are looked for by, as the calls that build a selector, in order.
+-- SEL: what devices are looked for by, as criteria in order.
 use Rattle.std.specs.Prelude.{ℕ, zero, suc, List, [], ◌∷◌, length, take, drop, codes, Option, Some, None, if◌then◌else◌}
 use Rattle.std.specs.Str.{bytes_eq}
 use Rattle.usb_words.specs.Fields.{Word, one, two, three}
@@ -17,7 +17,7 @@ front n read words = do
   criterion ← read (take n words)
   Some (criterion, drop n words)
 
--- a call by its name: `vid HHHH`, `vidpid HHHH HHHH`, `class HH`, `classsub HH HH`, `classsubproto HH HH HH`, `serial VALUE`
+-- a criterion by its name: `vid HHHH`, `vidpid HHHH HHHH`, `class HH`, `classsub HH HH`, `classsubproto HH HH HH`, `serial VALUE`
 unfoldable pub named_criterion : Word → List Word → Option (Criterion × List Word)
 named_criterion name words =
     if bytes_eq name (codes "vid") then front 1 (one Vendor hex_word_of) words
@@ -28,7 +28,7 @@ named_criterion name words =
     else if bytes_eq name (codes "serial") then front 1 (one Serial serial_of) words
     else None
 
--- the calls that these words spell one behind another, of which there are at most so many
+-- the criteria that these words spell one behind another, of which there are at most so many
 abbrev pub criteria_of : ℕ → List Word → Option (List Criterion)
 criteria_of most [] = Some []
 criteria_of zero (name ∷ words) = None
@@ -37,6 +37,6 @@ criteria_of (suc most) (name ∷ words) = do
   rest ← criteria_of most first.1
   Some (first.0 ∷ rest)
 
--- each call has a word of its own
+-- each criterion has a word of its own
 unfoldable pub selector_of : List Word → Option (List Criterion)
 selector_of words = criteria_of (length words) words

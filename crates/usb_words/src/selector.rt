@@ -13,7 +13,7 @@ use std::alloc::Global;
 use std::marker::Model;
 use usb_sysfs::Text;
 
-/// A call that builds a selector of devices.
+/// A criterion by which devices are looked for.
 #[derive(Drop)]
 pub enum Criterion {
     /// `vid HHHH`: the vendor has this number.
@@ -30,8 +30,7 @@ pub enum Criterion {
     Serial(Text),
 }
 
-/// What devices are looked for by, as the calls that build it, in order. A contract sees the list of
-/// them.
+/// What devices are looked for by, as criteria in order. A contract sees the list of them.
 #[derive(Drop)]
 pub struct Selector {
     criteria: Vec<Criterion>,
@@ -49,7 +48,7 @@ impl Model for Selector {
 impl Selector {
     ghost use Rattle.usb_words.specs.Selectors.{selector_of};
 
-    /// The calls that build it, in order.
+    /// Its criteria, in order.
     pub fn as_slice(&self) -> &[Criterion]
         ensures value { result.now ≡ self.now }
     {
@@ -84,7 +83,7 @@ fn front<'w, 'a>(words: &'w [&'a [u8]], count: usize) -> &'w [&'a [u8]]
     &words[..count]
 }
 
-/// The call with this name, and how many words stand behind it.
+/// The criterion with this name, and how many words behind the name are its own.
 #[tactic(auto, unfolding(crate::specs::Selectors::named_criterion))]
 fn named_criterion(
     alloc: Global,
@@ -126,7 +125,7 @@ fn named_criterion(
     }
 }
 
-/// The calls that the words spell, in order.
+/// The criteria that the words spell, in order.
 #[tactic(auto, unfolding(crate::specs::Selectors::selector_of))]
 fn criteria(alloc: Global, words: &[&[u8]]) -> Result<Vec<Criterion>, LineError>
     ensures value { Gives (λ v. v.items) result (selector_of (texts words.now)) }
