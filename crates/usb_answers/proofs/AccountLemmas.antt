@@ -14,7 +14,7 @@ use Rattle.usb_host.proofs.CountLemmas.{CountsOneMore, taken-count, closed-count
 use Rattle.usb_host.proofs.HeldLemmas.{taken-held, Contains-behind, closed-held, entered-held}
 use Rattle.usb_host.proofs.StartedLemmas.{Parts, AddsTaken, started-count, started-owner, holds-follows}
 use Rattle.usb_device.specs.Futures.{FutureState, fresh_future}
-use Rattle.usb_answers.specs.Names.{named, is_free, change_named, freed, set_name}
+use Rattle.usb_names.specs.Names.{named, is_free, change_named, freed, set_name}
 use Rattle.usb_answers.specs.State.{State, Endpoint, kept, pending, tickets_of, with_host}
 use Rattle.usb_answers.specs.Answer.{Answer}
 use Rattle.usb_answers.specs.Submits.{submitted, with_submission}
@@ -25,7 +25,7 @@ use Rattle.usb_answers.specs.Ends.{endpoints_closed, futures_closed, all_closed}
 use Rattle.usb_answers.specs.Output.{start}
 use Rattle.usb_answers.specs.Accounts.{Covered, IsAwaited, Accounted, StartIsAccounted, AnswerKeepsAccounts, CloseKeepsAccounts}
 use Rattle.usb_answers.specs.Served.{ClosedEndpoint}
-use Rattle.usb_answers.proofs.NameLemmas.{named_of, free_place, named-change_same, named-change_other, named-freed_other, named-set, named-set_other}
+use Rattle.usb_names.proofs.NameLemmas.{named_of, free_place, named-change_same, named-change_other, named-freed_other, named-set, named-set_other}
 use Rattle.usb_answers.proofs.Does.{Quiet, Acts, without_future_of, goes, opens, submits, starts, controls, frees, ends, takes, closes}
 use Rattle.usb_answers.proofs.DeviceLines.{handles-quiet}
 use Rattle.usb_answers.proofs.EndpointLines.{closed-does}

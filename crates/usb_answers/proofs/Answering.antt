@@ -3,13 +3,13 @@ use Rattle.std.proofs.Common.{◌≡◌, ℕ, List, ◌++◌, Option, Some, None
 use Rattle.std.specs.Prelude.{OnOk}
 use Rattle.std.specs.Option.{option_map}
 use Rattle.usb_lines.specs.Calls.{condition_line}
-use Rattle.usb_answers.specs.Names.{named, is_free}
+use Rattle.usb_names.specs.Names.{named, is_free}
 use Rattle.usb_answers.specs.State.{State, Endpoint, kept}
 use Rattle.usb_answers.specs.Answer.{Answer, told, barred, if_open}
 use Rattle.usb_answers.specs.Answered.{Answered}
 use Rattle.usb_answers.specs.SessionState.{SessionState}
 use Rattle.usb_answers.specs.Relation.{Represents}
-use Rattle.usb_answers.proofs.NameLemmas.{named-map, is_free-map}
+use Rattle.usb_names.proofs.NameLemmas.{named-map, is_free-map}
 
 -- a session stands for the state behind an answer, which prints this line
 pub record Gives (s : SessionState) (line : List ℕ) (a : Answer) : Type 0 where

@@ -17,7 +17,7 @@ use Rattle.usb_ledger.proofs.DeviceLemmas.{KeepsCounts, counts-there, opened-cou
 use Rattle.usb_device.proofs.DeviceLemmas.{counts-stands}
 use Rattle.usb_device.proofs.HeldDevices.{held-goes}
 use Rattle.usb_device.proofs.StandLemmas.{StandsInterface-same}
-use Rattle.usb_answers.specs.Names.{named, change_named, freed, set_name}
+use Rattle.usb_names.specs.Names.{named, change_named, freed, set_name}
 use Rattle.usb_answers.specs.State.{State, Endpoint, kept}
 use Rattle.usb_answers.specs.SessionState.{SessionState, IsSound}
 use Rattle.usb_answers.specs.Relation.{Represents, session_of}
@@ -26,7 +26,7 @@ use Rattle.usb_answers.proofs.CountedNames.{counted-goes}
 use Rattle.usb_answers.proofs.CountedDevices.{devices-kept}
 use Rattle.usb_answers.proofs.NamedKeys.{OpensNone, named-goes, named-put, named-closed}
 use Rattle.usb_answers.proofs.FutureLemmas.{control_with, future-goes}
-use Rattle.usb_answers.proofs.NameLemmas.{named-map, named-set, named-set_other, named-freed, named-freed_other, freed-free, length-freed, length-set_name, map-freed, map-set, map-change_named, put-changed, named-change_same, named-change_other}
+use Rattle.usb_names.proofs.NameLemmas.{named-map, named-set, named-set_other, named-freed, named-freed_other, freed-free, length-freed, length-set_name, map-freed, map-set, map-change_named, put-changed, named-change_same, named-change_other}
 
 -- what is kept between lines
 pub record KeepsSession (old new : HostState) : Type 0 where

@@ -21,7 +21,7 @@ use Rattle.usb_host.proofs.CallFrames.{keeps-open, keeps-abandoned, line-left, i
 use Rattle.usb_host.proofs.WaitFrames.{line-keeps, line-trans}
 use Rattle.usb_lines.specs.Calls.{condition_line, ok_line}
 use Rattle.usb_answers.specs.declared.session.Session.TheInside.{Inside}
-use Rattle.usb_answers.specs.Names.{named, freed}
+use Rattle.usb_names.specs.Names.{named, freed}
 use Rattle.usb_answers.specs.State.{State, Endpoint, kept}
 use Rattle.usb_answers.specs.Answer.{barred, ok_answer, if_open}
 use Rattle.usb_answers.specs.Closes.{closed, closed_at, close_answer, without_endpoint}

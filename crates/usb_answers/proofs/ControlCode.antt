@@ -28,7 +28,7 @@ use Rattle.usb_device.specs.DescriptorCalls.{LeavesEither}
 use Rattle.usb_words.specs.declared.control.ControlTarget.{ControlTarget}
 use Rattle.usb_words.specs.declared.control.ControlTarget.TheVariants.{Device, Interface}
 use Rattle.usb_lines.specs.Calls.{condition_line}
-use Rattle.usb_answers.specs.Names.{named}
+use Rattle.usb_names.specs.Names.{named}
 use Rattle.usb_answers.specs.State.{State, with_host}
 use Rattle.usb_answers.specs.OpenAt.{DeviceAt, InterfaceAt}
 use Rattle.usb_answers.specs.Answer.{Answer, told, barred, if_open}
@@ -42,7 +42,7 @@ use Rattle.usb_answers.proofs.Answering.{told-answered, host_is}
 use Rattle.usb_answers.proofs.Called.{KeepsSession, sound-host, represents-host}
 use Rattle.usb_answers.proofs.ControlHosts.{spare-rested}
 use Rattle.usb_answers.proofs.Lent.{rested-answered, stands-lent}
-use Rattle.usb_answers.proofs.NameLemmas.{found_at}
+use Rattle.usb_names.proofs.NameLemmas.{found_at}
 use Rattle.usb_answers.proofs.NamedKeys.{OpensNone}
 
 -- what is open under a name, and the number of its device

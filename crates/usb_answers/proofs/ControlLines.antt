@@ -20,7 +20,7 @@ use Rattle.usb_words.specs.declared.control.ControlTarget.{ControlTarget}
 use Rattle.usb_words.specs.declared.control.ControlTarget.TheVariants.{Device}
 use Rattle.usb_lines.specs.Calls.{ok_line}
 use Rattle.usb_lines.specs.Controls.{pending_line, data_line, failed_line, descriptor_failed_line, received_line, sent_line, descriptor_line, languages_told, languages_line, string_told, string_line}
-use Rattle.usb_answers.specs.Names.{named, is_free}
+use Rattle.usb_names.specs.Names.{named, is_free}
 use Rattle.usb_answers.specs.State.{State, tickets_of, with_host}
 use Rattle.usb_answers.specs.Answer.{Answer, told, barred, ok_answer, silent, if_open}
 use Rattle.usb_answers.specs.Accounts.{TookFew}

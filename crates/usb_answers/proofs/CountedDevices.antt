@@ -14,10 +14,10 @@ use Rattle.usb_device.specs.HandleStates.{StandsDevice}
 use Rattle.usb_ledger.specs.Devices.{if_held, device_changed}
 use Rattle.usb_ledger.proofs.DeviceLemmas.{KeepsOpened, changed-at, changed-other, handle-held, is-changed}
 use Rattle.usb_device.proofs.HeldDevices.{OpensOne}
-use Rattle.usb_answers.specs.Names.{named, is_free, freed, nothing, set_name, something}
+use Rattle.usb_names.specs.Names.{named, is_free, freed, nothing, set_name, something}
 use Rattle.usb_answers.specs.SessionState.{is_device_of}
 use Rattle.usb_answers.proofs.CountedNames.{count-change, count-none}
-use Rattle.usb_answers.proofs.NameLemmas.{free_place, place_of, named_of}
+use Rattle.usb_names.proofs.NameLemmas.{free_place, place_of, named_of}
 
 -- the names of a device when one that was free is opened, or one that was open is freed
 pub count-opened : (key : ℕ) (xs : List (Option ℕ)) (n k : ℕ) → is_free xs n ≡ true → count_by (is_device_of key) (set_name xs n k) ≡ count_by (is_device_of key) xs + one_if (k == key)

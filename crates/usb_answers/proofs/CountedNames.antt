@@ -12,9 +12,9 @@ use Rattle.usb_registry.specs.History.{value_at}
 use Rattle.usb_registry.proofs.ValueLemmas.{value-within, value-put, value-push_cases}
 use Rattle.usb_ledger.proofs.ListLemmas.{count-some}
 use Rattle.usb_host.specs.HostFrames.{ClaimsGoOn}
-use Rattle.usb_answers.specs.Names.{named, is_free, change_at, freed, nothing, set_name, something}
+use Rattle.usb_names.specs.Names.{named, is_free, change_at, freed, nothing, set_name, something}
 use Rattle.usb_answers.specs.SessionState.{is_handle_of}
-use Rattle.usb_answers.proofs.NameLemmas.{free_place, place_of, named_of}
+use Rattle.usb_names.proofs.NameLemmas.{free_place, place_of, named_of}
 
 -- how a count changes with the element at a place
 count-cons : {X : Type 0} (p : X → Bool) (x : X) (xs : List X) → count_by p (x ∷ xs) ≡ one_if (p x) + count_by p xs

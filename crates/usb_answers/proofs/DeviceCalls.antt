@@ -9,7 +9,7 @@ use Rattle.usb_host.specs.HostState.{HostState}
 use Rattle.usb_host.specs.EndpointOpens.{as_asked, host_asked}
 use Rattle.usb_host.proofs.ClaimFrames.{goes-same}
 use Rattle.usb_host.proofs.EndpointLemmas.{asked-at}
-use Rattle.usb_answers.specs.Names.{named}
+use Rattle.usb_names.specs.Names.{named}
 use Rattle.usb_answers.specs.State.{State, with_host}
 use Rattle.usb_answers.specs.OpenAt.{device_at}
 use Rattle.usb_answers.specs.Answer.{Answer, told, barred, if_open}

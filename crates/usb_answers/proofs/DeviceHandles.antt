@@ -11,7 +11,7 @@ use Rattle.usb_device.specs.HandleStates.{StandsDevice}
 use Rattle.usb_ledger.specs.Devices.{handle_more, handle_less}
 use Rattle.usb_host.specs.Handles.{device_cloned, device_closed}
 use Rattle.usb_device.proofs.HeldDevices.{held-device_cloned, held-device_closed}
-use Rattle.usb_answers.specs.Names.{named, is_free, freed, set_name}
+use Rattle.usb_names.specs.Names.{named, is_free, freed, set_name}
 use Rattle.usb_answers.specs.State.{State}
 use Rattle.usb_answers.specs.Answer.{barred, ok_answer, if_open}
 use Rattle.usb_answers.specs.Answered.{Answered, Answers}
@@ -20,7 +20,7 @@ use Rattle.usb_answers.specs.Closes.{close_device_answer, without_device}
 use Rattle.usb_answers.specs.Ends.{name_closed, device_closed_at}
 use Rattle.usb_answers.specs.SessionState.{SessionState, IsSound, is_device_of}
 use Rattle.usb_answers.specs.Relation.{Represents}
-use Rattle.usb_answers.proofs.NameLemmas.{length-set_name, length-freed, names-set}
+use Rattle.usb_names.proofs.NameLemmas.{length-set_name, length-freed, names-set}
 use Rattle.usb_answers.proofs.Answering.{Gives, barred-gives, told-answered, host_is}
 use Rattle.usb_answers.proofs.Called.{names-freed}
 use Rattle.usb_answers.proofs.CountedDevices.{count-opened, count-closed, devices-changed, stands-changed}

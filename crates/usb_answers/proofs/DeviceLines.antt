@@ -23,7 +23,7 @@ use Rattle.usb_host.specs.OnInterfaces.{alt_setting_tried, alt_setting_asked, al
 use Rattle.usb_host.proofs.InterfaceFrames.{opened-is}
 use Rattle.usb_host.proofs.CountLemmas.{claimed-count, handle_closed-count}
 use Rattle.usb_host.proofs.FollowLemmas.{on-claimed, on-handle_closed}
-use Rattle.usb_answers.specs.Names.{named}
+use Rattle.usb_names.specs.Names.{named}
 use Rattle.usb_answers.specs.State.{State, with_host}
 use Rattle.usb_answers.specs.OpenAt.{device_at, interface_at}
 use Rattle.usb_answers.specs.Answer.{ok_answer, error_answer}

@@ -18,7 +18,7 @@ use Rattle.usb_host.proofs.InterfaceFrames.{opened-is}
 use Rattle.usb_ledger.proofs.DeviceLemmas.{counts-same}
 use Rattle.usb_host.proofs.ClaimFrames.{goes-same}
 use Rattle.usb_device.proofs.HeldDevices.{OpensOne, opens-one, opens-none, held-opened}
-use Rattle.usb_answers.specs.Names.{named, is_free, set_name}
+use Rattle.usb_names.specs.Names.{named, is_free, set_name}
 use Rattle.usb_answers.specs.State.{State, with_host}
 use Rattle.usb_answers.specs.OpenAt.{device_at}
 use Rattle.usb_answers.specs.Answer.{Answer, told, barred, if_open}
@@ -26,7 +26,7 @@ use Rattle.usb_answers.specs.Opens.{open_answer, opened_as}
 use Rattle.usb_answers.specs.SessionState.{SessionState, IsSound}
 use Rattle.usb_answers.specs.Relation.{Represents, session_of}
 use Rattle.usb_answers.proofs.CountedNames.{counted-same}
-use Rattle.usb_answers.proofs.NameLemmas.{length-set_name, names-set}
+use Rattle.usb_names.proofs.NameLemmas.{length-set_name, names-set}
 use Rattle.usb_answers.proofs.CountedDevices.{devices-opened}
 use Rattle.usb_answers.proofs.SoundDevices.{sound-device}
 use Rattle.usb_answers.proofs.Called.{KeepsSession, sound-host, represents-host}

@@ -17,7 +17,7 @@ use Rattle.usb_host.proofs.StartedLemmas.{Parts, AddsTaken}
 use Rattle.usb_device.specs.Futures.{FutureState}
 use Rattle.usb_lines.specs.Calls.{ok_line, condition_line, error_line, result_line}
 use Rattle.usb_lines.specs.Completions.{done_line}
-use Rattle.usb_answers.specs.Names.{named, is_free, freed, set_name}
+use Rattle.usb_names.specs.Names.{named, is_free, freed, set_name}
 use Rattle.usb_answers.specs.State.{State, Endpoint, tickets_of, with_host}
 use Rattle.usb_answers.specs.Answer.{Answer, told, barred, ok_answer, error_answer, if_open}
 use Rattle.usb_answers.specs.Submits.{submitted}

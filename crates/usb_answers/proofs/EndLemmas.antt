@@ -29,7 +29,7 @@ use Rattle.usb_kernel.specs.Tickets.{tickets}
 use Rattle.std.specs.List.{count_by}
 use Rattle.usb_host.specs.Finishes.{discarded_below, reaped_below, finished, HasEnds, KeepsNothing}
 use Rattle.usb_device.specs.HandleStates.{InterfaceState}
-use Rattle.usb_answers.specs.Names.{named, freed}
+use Rattle.usb_names.specs.Names.{named, freed}
 use Rattle.usb_answers.specs.State.{State, kept}
 use Rattle.usb_answers.specs.Closes.{closed}
 use Rattle.usb_answers.specs.Ends.{interface_closed, interfaces_closed, name_closed, devices_closed, endpoints_closed, futures_closed, all_closed, ended}
@@ -40,7 +40,7 @@ use Rattle.usb_answers.proofs.AccountLemmas.{accounted-all_closed, accounted-non
 use Rattle.usb_answers.proofs.CountedNames.{count-none, count-no_name}
 use Rattle.usb_answers.proofs.CountedDevices.{count-no_device}
 use Rattle.usb_answers.proofs.Answering.{named_kept, host_is}
-use Rattle.usb_answers.proofs.NameLemmas.{named-map, named-freed, named-freed_other, named-past, freed-none, named_of, place_of}
+use Rattle.usb_names.proofs.NameLemmas.{named-map, named-freed, named-freed_other, named-past, freed-none, named_of, place_of}
 
 interface-represents : (s : SessionState) (state : State) (after : List (Option InterfaceState)) (i : ℕ) (f : InterfaceState) → Represents s state → named s.interfaces i ≡ Some f → after ≡ freed s.interfaces i → Represents (record s { host = handle_closed s.host f.key; interfaces = after }) (interface_closed state i)
 unfolding interface_closed

@@ -26,7 +26,7 @@ use Rattle.usb_host.proofs.FollowLemmas.{on-asked, on-waited, on-blocked, on-all
 use Rattle.usb_host.proofs.FoundLemmas.{blocked-found}
 use Rattle.usb_lines.specs.Calls.{ok_line}
 use Rattle.usb_lines.specs.Completions.{done_line, polled_line, waited_line}
-use Rattle.usb_answers.specs.Names.{named, is_free, change_named}
+use Rattle.usb_names.specs.Names.{named, is_free, change_named}
 use Rattle.usb_answers.specs.State.{State, Endpoint, kept, pending, tickets_of, with_host}
 use Rattle.usb_answers.specs.Answer.{told, barred, ok_answer, silent, if_open}
 use Rattle.usb_answers.specs.OpenAt.{InterfaceAt, interface_at}
@@ -39,7 +39,7 @@ use Rattle.usb_answers.specs.Halts.{clear_halt_answer}
 use Rattle.usb_answers.specs.Closes.{cancel_answer, without_endpoint, close_answer, closed_at, closed}
 use Rattle.usb_answers.specs.Steps.{lent, steps_answer}
 use Rattle.usb_answers.specs.Served.{closed_as, closed_under}
-use Rattle.usb_answers.proofs.NameLemmas.{named-change_same, change-change}
+use Rattle.usb_names.proofs.NameLemmas.{named-change_same, change-change}
 use Rattle.usb_answers.proofs.Does.{Quiet, Acts, Does, says_done, goes, opens, submits, ends, takes, closes, quiet-aside, quiet-same, quiet-stepped, told-does, barred-does, free-does, bar-does, try-does, ok-does, call-does, stepping-does, host-does, result-other}
 use Rattle.usb_answers.proofs.DeviceHosts.{halt-aside}
 

@@ -20,7 +20,7 @@ use Rattle.usb_host.specs.EndpointOpens.{host_asked, host_tries, with_endpoint, 
 use Rattle.usb_device.proofs.StandLemmas.{StandsInterface-same}
 use Rattle.usb_host.proofs.InterfaceFrames.{asked-is, asked-counts}
 use Rattle.usb_device.proofs.FreshKeys.{endpoint-within}
-use Rattle.usb_answers.specs.Names.{named, is_free, set_name}
+use Rattle.usb_names.specs.Names.{named, is_free, set_name}
 use Rattle.usb_answers.specs.State.{State, Endpoint, kept, with_host}
 use Rattle.usb_answers.specs.OpenAt.{InterfaceAt}
 use Rattle.usb_answers.specs.Endpoints.{new_endpoint, endpoint_as, endpoint_answer}
@@ -33,7 +33,7 @@ use Rattle.usb_host.proofs.ClaimFrames.{goes-same}
 use Rattle.usb_device.proofs.HeldDevices.{held-goes}
 use Rattle.usb_answers.proofs.CountedDevices.{devices-kept}
 use Rattle.usb_answers.proofs.CountedNames.{counted-goes}
-use Rattle.usb_answers.proofs.NameLemmas.{length-set_name, map-set, is_free-map, names-set}
+use Rattle.usb_names.proofs.NameLemmas.{length-set_name, map-set, is_free-map, names-set}
 use Rattle.usb_answers.proofs.Called.{KeepsSession, sound-host, represents-host}
 use Rattle.usb_answers.proofs.Answering.{Gives, barred-gives, free_kept}
 use Rattle.usb_answers.proofs.NamedKeys.{none-bus, named-opened}

@@ -17,7 +17,7 @@ use Rattle.usb_device.proofs.FutureFrames.{stays-started, others-started, stays-
 use Rattle.usb_words.specs.declared.control.ControlTarget.{ControlTarget}
 use Rattle.usb_lines.specs.Calls.{condition_line, ok_line}
 use Rattle.usb_lines.specs.Controls.{pending_line, received_line}
-use Rattle.usb_answers.specs.Names.{named, is_free, freed, set_name}
+use Rattle.usb_names.specs.Names.{named, is_free, freed, set_name}
 use Rattle.usb_answers.specs.State.{State, with_host}
 use Rattle.usb_answers.specs.Answer.{told, barred, if_open}
 use Rattle.usb_answers.specs.Steps.{lent, rested, stepped_all}
@@ -31,7 +31,7 @@ use Rattle.usb_answers.proofs.Called.{KeepsSession, represents-host}
 use Rattle.usb_answers.proofs.ControlCode.{number-is, sound-controlled}
 use Rattle.usb_answers.proofs.ControlHosts.{keeps-same, leaves-taken, leaves-waited, spare-waited, stands-lent_host}
 use Rattle.usb_answers.proofs.FutureSessions.{sound-future_opened, sound-future_freed}
-use Rattle.usb_answers.proofs.NameLemmas.{freed-none, put-back}
+use Rattle.usb_names.proofs.NameLemmas.{freed-none, put-back}
 
 -- the device that is found under a name
 pub started-future : (h : HostState) (given request : ControlRequest) (nanoseconds timeout : ℕ) (o : Option ℕ) (d : ℕ) (f : FutureState) → given ≡ request → nanoseconds ≡ timeout → o ≡ Some d → f ≡ fresh_future h given nanoseconds → Some f ≡ started_future h request timeout o

@@ -6,7 +6,7 @@ use Rattle.usb_host.specs.HostState.{HostState}
 use Rattle.usb_device.specs.Futures.{FutureState, future_closed}
 use Rattle.usb_device.proofs.FutureFrames.{stays-closed}
 use Rattle.usb_lines.specs.Calls.{condition_line, ok_line}
-use Rattle.usb_answers.specs.Names.{named, freed}
+use Rattle.usb_names.specs.Names.{named, freed}
 use Rattle.usb_answers.specs.State.{State}
 use Rattle.usb_answers.specs.Answer.{barred, ok_answer, if_open}
 use Rattle.usb_answers.specs.Closes.{without_future, close_future_answer}
@@ -16,7 +16,7 @@ use Rattle.usb_answers.specs.Relation.{Represents}
 use Rattle.usb_answers.specs.Answered.{Answered, Answers}
 use Rattle.usb_answers.proofs.Answering.{told-answered}
 use Rattle.usb_answers.proofs.FutureSessions.{leaves-closed, sound-future_freed}
-use Rattle.usb_answers.proofs.NameLemmas.{freed-none}
+use Rattle.usb_names.proofs.NameLemmas.{freed-none}
 
 pub future-sound_same : (s : SessionState) (after : List (Option FutureState)) (n : ℕ) → IsSound s → named s.futures n ≡ None → after ≡ freed s.futures n → IsSound (record s { futures = after })
 future-sound_same s after n sound none rest =

@@ -26,13 +26,13 @@ use Rattle.usb_device.proofs.FreshKeys.{endpoint-within}
 use Rattle.usb_device.proofs.HeldDevices.{held-goes}
 use Rattle.usb_host.proofs.HostKeeps.{KeepsOpen}
 use Rattle.usb_device.proofs.StandLemmas.{StandsInterface-same}
-use Rattle.usb_answers.specs.Names.{named, is_free, freed, set_name}
+use Rattle.usb_names.specs.Names.{named, is_free, freed, set_name}
 use Rattle.usb_answers.specs.SessionState.{SessionState, IsSound}
 use Rattle.usb_answers.proofs.Called.{KeepsSession, names-freed}
 use Rattle.usb_answers.proofs.CountedNames.{counted-goes}
 use Rattle.usb_answers.proofs.CountedDevices.{devices-kept}
 use Rattle.usb_answers.proofs.FutureLemmas.{control_with, future-goes, future-within}
-use Rattle.usb_answers.proofs.NameLemmas.{length-freed, length-set_name, names-set}
+use Rattle.usb_names.proofs.NameLemmas.{length-freed, length-set_name, names-set}
 use Rattle.usb_answers.proofs.NamedKeys.{OpensNone, none-goes, none-then, named-future_closed, named-future_opened}
 
 -- what a session stands on is kept, and the endpoint of a key is open no more

@@ -22,7 +22,7 @@ use Rattle.usb_host.specs.HostTurns.{host_reaped}
 use Rattle.usb_host.proofs.CountLemmas.{KeepsCount, count-same, count-trans, discarded-count, reaped-count}
 use Rattle.usb_host.proofs.FollowLemmas.{on-finished}
 use Rattle.usb_device.specs.Futures.{FutureState}
-use Rattle.usb_answers.specs.Names.{named, freed}
+use Rattle.usb_names.specs.Names.{named, freed}
 use Rattle.usb_answers.specs.State.{State, Endpoint, tickets_of, with_host}
 use Rattle.usb_answers.specs.Closes.{closed_at, closed}
 use Rattle.usb_answers.specs.Answers.{answer}
@@ -38,7 +38,7 @@ use Rattle.usb_answers.proofs.FateLemmas.{fates-final}
 use Rattle.usb_answers.proofs.Does.{Quiet, quiet-same, quiet-then}
 use Rattle.usb_answers.proofs.DeviceLines.{handles-quiet}
 use Rattle.usb_answers.proofs.AccountLemmas.{accounted-start, accounted-answer}
-use Rattle.usb_answers.proofs.NameLemmas.{named-freed, named-freed_other, named-replicate}
+use Rattle.usb_names.proofs.NameLemmas.{named-freed, named-freed_other, named-replicate}
 use Rattle.usb_answers.proofs.TimesLemmas.{times, times-append, counts-times, among, among-within, tickets_in, ticket_in, times_open, times-none, times-replicate}
 use Rattle.usb_answers.proofs.OrderLemmas.{Leaves, LeavesTickets, goes-then, closed-few, closed-taken, closed-others}
 use Rattle.usb_answers.proofs.StepLemmas.{Inv, Step, Closes, closes-on, all-tickets, step-then, step-after, step-quiet, few-taken, answer-step, closed-step, future_closed-step}

@@ -21,11 +21,11 @@ use Rattle.usb_device.proofs.StandLemmas.{StandsInterface-claimed}
 use Rattle.usb_device.proofs.FreshKeys.{stands-within}
 use Rattle.usb_host.proofs.CalledHosts.{setting-in_use, setting-asked}
 use Rattle.std.proofs.lemmas.Bool.{cases_Bool}
-use Rattle.usb_answers.specs.Names.{named, is_free, freed, set_name}
+use Rattle.usb_names.specs.Names.{named, is_free, freed, set_name}
 use Rattle.usb_answers.specs.State.{State}
 use Rattle.usb_answers.specs.SessionState.{SessionState, IsSound}
 use Rattle.usb_answers.specs.Relation.{Represents}
-use Rattle.usb_answers.proofs.NameLemmas.{length-set_name, length-freed, names-set}
+use Rattle.usb_names.proofs.NameLemmas.{length-set_name, length-freed, names-set}
 use Rattle.usb_answers.proofs.CountedNames.{Counted, counted-same, counted-goes, counted-open, counted-claimed, counted-closed, counted-cloned, counted-changed}
 use Rattle.usb_answers.proofs.Called.{names-freed}
 use Rattle.usb_answers.proofs.NamedKeys.{none-bus, named-goes}

@@ -12,7 +12,7 @@ use Rattle.usb_device.specs.HandleStates.{InterfaceState}
 use Rattle.usb_device.specs.HandleCalls as calls
 use Rattle.usb_host.specs.Handles.{handle_cloned, handle_closed}
 use Rattle.usb_host.specs.Owners.{is_shared}
-use Rattle.usb_answers.specs.Names.{named, is_free, freed, set_name}
+use Rattle.usb_names.specs.Names.{named, is_free, freed, set_name}
 use Rattle.usb_answers.specs.State.{State}
 use Rattle.usb_answers.specs.OpenAt.{interface_at}
 use Rattle.usb_answers.specs.Answer.{barred, ok_answer, if_open}
@@ -22,7 +22,7 @@ use Rattle.usb_answers.specs.Closes.{close_interface_answer, release_answer, wit
 use Rattle.usb_answers.specs.Ends.{interface_closed, interface_closed_at}
 use Rattle.usb_answers.specs.SessionState.{SessionState, IsSound}
 use Rattle.usb_answers.specs.Relation.{Represents}
-use Rattle.usb_answers.proofs.NameLemmas.{freed-none, put-back}
+use Rattle.usb_names.proofs.NameLemmas.{freed-none, put-back}
 use Rattle.usb_answers.proofs.Answering.{Gives, barred-gives, told-answered, host_is}
 use Rattle.usb_answers.proofs.Handled.{represents-handled}
 

@@ -11,7 +11,7 @@ use Rattle.usb_host.specs.CallErrors.{Leaves}
 use Rattle.usb_host.specs.InterfaceClaims.{claim_tried, host_claimed, claimed_key}
 use Rattle.usb_host.proofs.Left.{left}
 use Rattle.usb_host.proofs.InterfaceFrames.{line-claimed}
-use Rattle.usb_answers.specs.Names.{named, is_free, set_name}
+use Rattle.usb_names.specs.Names.{named, is_free, set_name}
 use Rattle.usb_answers.specs.State.{State, with_host}
 use Rattle.usb_answers.specs.Claims.{claim_answer, claimed_as}
 use Rattle.usb_answers.specs.SessionState.{SessionState}

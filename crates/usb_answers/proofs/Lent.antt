@@ -20,7 +20,7 @@ use Rattle.usb_host.proofs.CallFrames.{keeps-open}
 use Rattle.usb_host.proofs.WaitFrames.{went-rest, rest-steps, rest-spare, line-keeps}
 use Rattle.usb_lines.specs.Calls.{condition_line}
 use Rattle.usb_answers.specs.declared.session.Session.TheInside.{Inside}
-use Rattle.usb_answers.specs.Names.{named}
+use Rattle.usb_names.specs.Names.{named}
 use Rattle.usb_answers.specs.State.{State, Endpoint, with_host}
 use Rattle.usb_answers.specs.Answer.{Answer, barred, if_open}
 use Rattle.usb_answers.specs.Steps.{lent, then_rested, stepped_all}

@@ -29,7 +29,6 @@ pub mod Handled
 pub mod InterfaceHandles
 pub mod Interfaces
 pub mod Lent
-pub mod NameLemmas
 pub mod NamedKeys
 pub mod OrderLemmas
 pub mod PlaceLemmas

@@ -12,9 +12,9 @@ use Rattle.usb_host.specs.HostState.{HostState}
 use Rattle.usb_host.specs.HostBus.{bus_of, key_at}
 use Rattle.usb_host.specs.HostFrames.{EndpointsGoOn}
 use Rattle.usb_device.specs.Futures.{FutureState}
-use Rattle.usb_answers.specs.Names.{named, is_free, freed, set_name}
+use Rattle.usb_names.specs.Names.{named, is_free, freed, set_name}
 use Rattle.usb_answers.specs.SessionState.{IsNamed, KeysAreNamed, endpoint_key, future_key}
-use Rattle.usb_answers.proofs.NameLemmas.{free_place, named_of, named-set, named-set_other, named-freed_other, freed-free}
+use Rattle.usb_names.proofs.NameLemmas.{free_place, named_of, named-set, named-set_other, named-freed_other, freed-free}
 
 -- no endpoint was opened
 abbrev pub OpensNone : List (Option HostEndpoint) → List (Option HostEndpoint) → Type 0

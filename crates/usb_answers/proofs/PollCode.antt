@@ -11,7 +11,7 @@ use Rattle.usb_host.specs.HostBus.{bus_of}
 use Rattle.usb_host.specs.TicketEnds.{host_taken}
 use Rattle.usb_lines.specs.Calls.{condition_line}
 use Rattle.usb_lines.specs.Completions.{polled_line, count_line}
-use Rattle.usb_answers.specs.Names.{named}
+use Rattle.usb_names.specs.Names.{named}
 use Rattle.usb_answers.specs.State.{State, Endpoint, pending}
 use Rattle.usb_answers.specs.Answer.{Answer, told, barred}
 use Rattle.usb_answers.specs.SessionState.{SessionState}

@@ -13,7 +13,7 @@ use Rattle.usb_kernel.specs.Completions.{completion}
 use Rattle.usb_kernel.proofs.Extends.{completion-stays}
 use Rattle.usb_bus.specs.Completions.{completion_of, transfer_completion}
 use Rattle.usb_lines.specs.Completions.{done_line, polled_line}
-use Rattle.usb_answers.specs.Names.{named}
+use Rattle.usb_names.specs.Names.{named}
 use Rattle.usb_answers.specs.State.{State, Endpoint}
 use Rattle.usb_answers.specs.Answer.{Answer}
 use Rattle.usb_answers.specs.Served.{taken_under, lines_behind}

@@ -16,7 +16,7 @@ use Rattle.usb_host.specs.TicketEnds.{host_taken}
 use Rattle.usb_host.proofs.CallFrames.{keeps-taken}
 use Rattle.usb_host.proofs.WaitFrames.{line-keeps}
 use Rattle.usb_host.proofs.FollowLemmas.{taken-past}
-use Rattle.usb_answers.specs.Names.{named, change_named}
+use Rattle.usb_names.specs.Names.{named, change_named}
 use Rattle.usb_answers.specs.State.{State, Endpoint, kept, with_host}
 use Rattle.usb_answers.specs.Answer.{Answer, told}
 use Rattle.usb_answers.specs.Answered.{Answered}
@@ -25,7 +25,7 @@ use Rattle.usb_answers.specs.SessionState.{SessionState}
 use Rattle.usb_answers.specs.Relation.{Represents}
 use Rattle.usb_answers.specs.OpenCalls.{CallAnswers, with_called}
 use Rattle.usb_answers.proofs.Answering.{named_kept, host_is, told-answered}
-use Rattle.usb_answers.proofs.NameLemmas.{put-changed, put-back}
+use Rattle.usb_names.proofs.NameLemmas.{put-changed, put-back}
 use Rattle.usb_answers.proofs.Called.{represents-put, represents-host}
 
 -- an answer by which the host is another and the endpoint is changed, and a line is told

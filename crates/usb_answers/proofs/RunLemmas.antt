@@ -22,13 +22,13 @@ use Rattle.usb_device.specs.HandleStates.{InterfaceState}
 use Rattle.usb_device.specs.Futures.{FutureState}
 use Rattle.usb_script.specs.declared.item.Item.{Item}
 use Rattle.usb_script.specs.ItemKinds.{place_count}
-use Rattle.usb_answers.specs.Names.{named}
+use Rattle.usb_names.specs.Names.{named}
 use Rattle.usb_answers.specs.State.{Endpoint, kept}
 use Rattle.usb_answers.specs.Output.{devices_of, start}
 use Rattle.usb_answers.specs.SessionState.{SessionState, IsSound}
 use Rattle.usb_answers.specs.SessionFacts.{session_made}
 use Rattle.usb_answers.specs.Relation.{Represents, session_of}
-use Rattle.usb_answers.proofs.NameLemmas.{named-replicate, map-replicate}
+use Rattle.usb_names.proofs.NameLemmas.{named-replicate, map-replicate}
 
 -- the host at the beginning
 larger : (a b : ℕ) → a ≡ 0 → max a b ≡ b

@@ -10,7 +10,7 @@ use Rattle.usb_device.specs.HandleStates.{InterfaceState}
 use Rattle.usb_host.specs.EndpointOpens.{host_asked}
 use Rattle.usb_host.specs.OnInterfaces.{alt_setting_tried, alt_setting_set, current_setting}
 use Rattle.usb_host.proofs.InterfaceFrames.{asked-is}
-use Rattle.usb_answers.specs.Names.{named}
+use Rattle.usb_names.specs.Names.{named}
 use Rattle.usb_answers.specs.State.{State, with_host}
 use Rattle.usb_answers.specs.Settings.{set_alt_setting_answer, get_alt_setting_answer, interface_descriptor_answer}
 use Rattle.usb_answers.specs.SessionState.{SessionState}

@@ -9,7 +9,7 @@ use Rattle.usb_host.specs.HostState.{HostState}
 use Rattle.usb_host.specs.HostBus.{bus_of}
 use Rattle.usb_device.specs.HandleStates.{InterfaceState, StandsDevice, StandsInterface}
 use Rattle.usb_device.specs.DeviceLaws.{DevicesAreHeld}
-use Rattle.usb_answers.specs.Names.{named}
+use Rattle.usb_names.specs.Names.{named}
 use Rattle.usb_answers.specs.SessionState.{SessionState, IsSound}
 use Rattle.usb_answers.proofs.CountedNames.{counted-same}
 use Rattle.usb_answers.proofs.CountedDevices.{CountedDevices}

@@ -19,7 +19,7 @@ use Rattle.usb_host.proofs.FollowLemmas.{KeepsTickets, on-same, adds-entered, ta
 use Rattle.usb_host.proofs.StartedLemmas.{Parts, AddsTaken, adds-started, started-count}
 use Rattle.usb_device.specs.Futures.{FutureState, fresh_future}
 use Rattle.usb_script.specs.declared.item.Item.{Item}
-use Rattle.usb_answers.specs.Names.{named, is_free, change_named, freed, set_name, nothing, something}
+use Rattle.usb_names.specs.Names.{named, is_free, change_named, freed, set_name, nothing, something}
 use Rattle.usb_answers.specs.State.{State, Endpoint, kept, pending, tickets_of, with_host}
 use Rattle.usb_answers.specs.Answer.{Answer}
 use Rattle.usb_answers.specs.Polls.{one_taken, taken_from}
@@ -30,7 +30,7 @@ use Rattle.usb_answers.specs.Ends.{future_closed_under}
 use Rattle.usb_answers.specs.Answers.{answer}
 use Rattle.usb_answers.specs.Accounts.{TookFew}
 use Rattle.usb_answers.specs.Served.{ClosedEndpoint, tickets_of_all, closed_under, closed_by, control_ticket}
-use Rattle.usb_answers.proofs.NameLemmas.{place_of, free_place, named-change_same, named-change_other, named-freed, named-freed_other, named-set, named-set_other, length-change, length-freed, length-set_name}
+use Rattle.usb_names.proofs.NameLemmas.{place_of, free_place, named-change_same, named-change_other, named-freed, named-freed_other, named-set, named-set_other, length-change, length-freed, length-set_name}
 use Rattle.usb_answers.proofs.TimesLemmas.{one, times, times-append, among, among-once, tickets_in, ticket_in, times_open, times_awaited, listed-once, listed-apart, open-change, open-one, open-two}
 use Rattle.usb_answers.proofs.OrderLemmas.{IsHeld, Stays, held-stays, stays-keeps, leaves-is, leaves-held, InOrder, order-few, order-stays, order-keeps, order-fresh, order-push, order-within, order-takes, front-held, front-stands, pending-all, stays-same, left_by, LeavesTickets, goes-keeps, goes-then, goes-taken, goes-left, IsClosed, closed-goes, closed-order, left-stays}
 use Rattle.usb_answers.proofs.Does.{Quiet, Acts, without_future_of, goes, opens, submits, starts, controls, frees, ends, takes, closes}

@@ -20,7 +20,7 @@ use Rattle.usb_host.proofs.FollowLemmas.{adds-entered}
 use Rattle.usb_host.proofs.CallFrames.{keeps-open, keeps-submitted, keeps-refused}
 use Rattle.usb_host.proofs.WaitFrames.{line-keeps, line-trans}
 use Rattle.usb_lines.specs.Calls.{condition_line, ok_line}
-use Rattle.usb_answers.specs.Names.{change_named}
+use Rattle.usb_names.specs.Names.{change_named}
 use Rattle.usb_answers.specs.State.{State, Endpoint, kept, with_host}
 use Rattle.usb_answers.specs.Answer.{Answer, barred, ok_answer}
 use Rattle.usb_answers.specs.Submits.{bars_submission, with_submission, submit_on}

@@ -11,7 +11,7 @@ use Rattle.usb_bus.specs.Completions.{transfer_completion}
 use Rattle.usb_host.proofs.FollowLemmas.{taken-past}
 use Rattle.usb_lines.specs.Completions.{done_line}
 use Rattle.usb_script.specs.declared.item.Item.{Item}
-use Rattle.usb_answers.specs.Names.{named, is_free, set_name}
+use Rattle.usb_names.specs.Names.{named, is_free, set_name}
 use Rattle.usb_answers.specs.State.{State, Endpoint, tickets_of, with_host}
 use Rattle.usb_answers.specs.Answer.{Answer}
 use Rattle.usb_answers.specs.Submits.{submitted, with_submission}
@@ -22,7 +22,7 @@ use Rattle.usb_answers.specs.Answers.{answer}
 use Rattle.usb_answers.specs.Accounts.{TookFew}
 use Rattle.usb_answers.specs.Served.{ClosedEndpoint, taken_under}
 use Rattle.usb_answers.specs.Places.{TakesOne, CompletionsAreTaken}
-use Rattle.usb_answers.proofs.NameLemmas.{named_of, free_place, named-change_same, named-change_other, named-freed, named-freed_other, named-set, named-set_other}
+use Rattle.usb_names.proofs.NameLemmas.{named_of, free_place, named-change_same, named-change_other, named-freed, named-freed_other, named-set, named-set_other}
 use Rattle.usb_answers.proofs.Does.{Quiet, Acts, without_future_of, says_done, goes, opens, submits, starts, controls, frees, ends, takes, closes}
 use Rattle.usb_answers.proofs.EveryLine.{answer-does}
 use Rattle.usb_answers.proofs.PrintLemmas.{transfer-stays, taken_of, taken_in, count-under, Takes, none, next}

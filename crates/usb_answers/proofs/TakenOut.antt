@@ -15,7 +15,7 @@ use Rattle.usb_host.specs.HostBus.{bus_of}
 use Rattle.usb_host.specs.HostFrames.{LineGoesOn}
 use Rattle.usb_lines.specs.Calls.{condition_line}
 use Rattle.usb_answers.specs.declared.session.Session.TheInside.{Inside}
-use Rattle.usb_answers.specs.Names.{named, freed, set_name, is_free}
+use Rattle.usb_names.specs.Names.{named, freed, set_name, is_free}
 use Rattle.usb_answers.specs.State.{State, Endpoint}
 use Rattle.usb_answers.specs.Answer.{Answer, barred, if_open}
 use Rattle.usb_answers.specs.SessionState.{SessionState, IsSound}
@@ -23,7 +23,7 @@ use Rattle.usb_answers.specs.SessionFacts.{session_made, made_of}
 use Rattle.usb_answers.specs.Answered.{Answered, Answers}
 use Rattle.usb_answers.specs.OpenCalls.{CallKeeps, CallAnswers, with_called}
 use Rattle.usb_answers.proofs.Answering.{told-answered, answered-none, answered-some, none_kept}
-use Rattle.usb_answers.proofs.NameLemmas.{named-map, freed-none, freed-free, put-changed}
+use Rattle.usb_names.proofs.NameLemmas.{named-map, freed-none, freed-free, put-changed}
 use Rattle.usb_answers.proofs.Called.{KeepsSession, open_at, sound-put, taken-map, put-map}
 use Rattle.usb_answers.proofs.NamedKeys.{none-goes}
 

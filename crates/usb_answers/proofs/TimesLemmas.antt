@@ -6,9 +6,9 @@ use Rattle.std.proofs.lemmas.Option.{none-some, same_Some}
 use Rattle.std.proofs.lemmas.List.Sums.{sum_by-cons}
 use Rattle.std.proofs.lemmas.List.Elements.{All-nil, All-cons}
 use Rattle.usb_device.specs.Futures.{FutureState}
-use Rattle.usb_answers.specs.Names.{named, change_at}
+use Rattle.usb_names.specs.Names.{named, change_at}
 use Rattle.usb_answers.specs.State.{Endpoint}
-use Rattle.usb_answers.proofs.NameLemmas.{place_of}
+use Rattle.usb_names.proofs.NameLemmas.{place_of}
 
 abbrev pub one : ℕ → ℕ → ℕ
 one t u = if u == t then 1 else 0

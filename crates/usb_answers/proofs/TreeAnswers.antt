@@ -20,7 +20,7 @@ use Rattle.usb_listings.specs.Buses.{buses_line}
 use Rattle.usb_listings.specs.Devices.{info_line}
 use Rattle.usb_listings.specs.Events.{hotplug_line}
 use Rattle.usb_listings.specs.Listings.{devices_line}
-use Rattle.usb_answers.specs.Names.{is_free}
+use Rattle.usb_names.specs.Names.{is_free}
 use Rattle.usb_answers.specs.State.{State}
 use Rattle.usb_answers.specs.Answer.{Answer}
 use Rattle.usb_answers.specs.Answered.{Answered, Answers}

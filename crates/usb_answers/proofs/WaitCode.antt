@@ -30,7 +30,7 @@ use Rattle.usb_host.proofs.WaitFrames.{line-keeps, line-trans, went-waited, went
 use Rattle.usb_host.proofs.FollowLemmas.{taken-past}
 use Rattle.usb_lines.specs.Calls.{condition_line}
 use Rattle.usb_lines.specs.Completions.{waited_line}
-use Rattle.usb_answers.specs.Names.{change_named}
+use Rattle.usb_names.specs.Names.{change_named}
 use Rattle.usb_answers.specs.State.{State, Endpoint, kept, with_host}
 use Rattle.usb_answers.specs.Answer.{Answer, told, barred}
 use Rattle.usb_answers.specs.Polls.{one_taken}

@@ -5,7 +5,7 @@ use Rattle.usb_kernel.specs.Tickets.{tickets}
 use Rattle.usb_script.specs.declared.item.Item.{Item}
 use Rattle.usb_host.specs.HostBus.{owner_at}
 use Rattle.usb_device.specs.Futures.{FutureState}
-use Rattle.usb_answers.specs.Names.{named}
+use Rattle.usb_names.specs.Names.{named}
 use Rattle.usb_answers.specs.State.{State, Endpoint, pending}
 use Rattle.usb_answers.specs.Answers.{answer}
 use Rattle.usb_answers.specs.Ends.{all_closed}

@@ -2,7 +2,7 @@
 use Rattle.std.specs.Prelude.{ℕ, Bool, length, Result, Ok, Err, if◌then◌else◌}
 use Rattle.usb_error.specs.ErrorState.{ErrorState}
 use Rattle.usb_host.specs.InterfaceClaims.{claim_tried, claimed_key, host_claimed}
-use Rattle.usb_answers.specs.Names.{is_free, set_name}
+use Rattle.usb_names.specs.Names.{is_free, set_name}
 use Rattle.usb_answers.specs.State.{State, with_host}
 use Rattle.usb_answers.specs.OpenAt.{DeviceAt, device_at}
 use Rattle.usb_answers.specs.Answer.{Answer, barred, ok_answer, error_answer, if_open}

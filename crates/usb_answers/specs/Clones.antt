@@ -2,7 +2,7 @@
 use Rattle.std.specs.Prelude.{ℕ, if◌then◌else◌}
 use Rattle.usb_device.specs.HandleStates.{InterfaceState}
 use Rattle.usb_host.specs.Handles.{device_cloned, handle_cloned}
-use Rattle.usb_answers.specs.Names.{named, is_free, set_name}
+use Rattle.usb_names.specs.Names.{named, is_free, set_name}
 use Rattle.usb_answers.specs.State.{State}
 use Rattle.usb_answers.specs.Answer.{Answer, barred, ok_answer, if_open}
 

@@ -12,7 +12,7 @@ use Rattle.usb_host.specs.Handles.{device_closed, handle_closed}
 use Rattle.usb_device.specs.Futures.{FutureState, future_closed}
 use Rattle.usb_host.specs.Owners.{is_shared}
 use Rattle.usb_error.specs.Errors.{interface_in_use_error}
-use Rattle.usb_answers.specs.Names.{named, freed}
+use Rattle.usb_names.specs.Names.{named, freed}
 use Rattle.usb_answers.specs.State.{State, Endpoint, kept, pending, with_host}
 use Rattle.usb_answers.specs.OpenAt.{InterfaceAt, interface_at}
 use Rattle.usb_answers.specs.Answer.{Answer, barred, ok_answer, error_answer, if_open}

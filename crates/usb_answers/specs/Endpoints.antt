@@ -5,7 +5,7 @@ use Rattle.usb_desc.specs.declared.types.TransferType.{TransferType}
 use Rattle.usb_error.specs.ErrorState.{ErrorState}
 use Rattle.usb_host.specs.HostState.{HostState}
 use Rattle.usb_host.specs.EndpointOpens.{host_asked, host_tries, with_endpoint}
-use Rattle.usb_answers.specs.Names.{is_free, set_name}
+use Rattle.usb_names.specs.Names.{is_free, set_name}
 use Rattle.usb_answers.specs.State.{State, Endpoint, with_host}
 use Rattle.usb_answers.specs.OpenAt.{InterfaceAt, interface_at}
 use Rattle.usb_answers.specs.Answer.{Answer, barred, ok_answer, error_answer, if_open}

@@ -8,7 +8,7 @@ use Rattle.usb_host.specs.Controls.{request_started}
 use Rattle.usb_device.specs.Futures.{FutureState, fresh_future, future_taken, future_awaited, future_answer}
 use Rattle.usb_words.specs.declared.control.ControlTarget.{ControlTarget}
 use Rattle.usb_lines.specs.Controls.{pending_line, received_line}
-use Rattle.usb_answers.specs.Names.{named, is_free, freed, set_name}
+use Rattle.usb_names.specs.Names.{named, is_free, freed, set_name}
 use Rattle.usb_answers.specs.State.{State}
 use Rattle.usb_answers.specs.Answer.{Answer, told, barred, ok_answer, if_open}
 use Rattle.usb_answers.specs.Controls.{device_of_target, bars_control, came_line}

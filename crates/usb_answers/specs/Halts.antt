@@ -4,7 +4,7 @@ use Rattle.usb_error.specs.Errors.{clear_halt_error}
 use Rattle.usb_endpoint.specs.CallErrors.{or_error}
 use Rattle.usb_host.specs.HostCalls.{host_halt_result, host_halt_cleared}
 use Rattle.usb_lines.specs.Calls.{result_line}
-use Rattle.usb_answers.specs.Names.{named}
+use Rattle.usb_names.specs.Names.{named}
 use Rattle.usb_answers.specs.State.{State, Endpoint, with_host}
 use Rattle.usb_answers.specs.Answer.{Answer, told, barred, if_open}
 

@@ -1,4 +1,3 @@
-pub mod Names
 pub mod State
 pub mod Answer
 pub mod OpenAt

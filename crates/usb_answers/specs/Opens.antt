@@ -6,7 +6,7 @@ use Rattle.usb_sysfs.specs.declared.sysfs.SysfsError.{SysfsError}
 use Rattle.usb_enum.specs.Devices.{DeviceFacts}
 use Rattle.usb_enum.specs.Probing.{probe}
 use Rattle.usb_listings.specs.Attributes.{sysfs_line}
-use Rattle.usb_answers.specs.Names.{is_free, set_name}
+use Rattle.usb_names.specs.Names.{is_free, set_name}
 use Rattle.usb_answers.specs.State.{State, with_host}
 use Rattle.usb_answers.specs.Answer.{Answer, told, barred, ok_answer, error_answer}
 

@@ -5,7 +5,7 @@ use Rattle.usb_bus.specs.Completions.{transfer_completion}
 use Rattle.usb_script.specs.declared.item.Item.{Item}
 use Rattle.usb_script.specs.declared.item.Item.TheVariants.{Poll}
 use Rattle.usb_lines.specs.Completions.{done_line, polled_line}
-use Rattle.usb_answers.specs.Names.{named}
+use Rattle.usb_names.specs.Names.{named}
 use Rattle.usb_answers.specs.State.{State, Endpoint}
 use Rattle.usb_answers.specs.Answer.{Answer}
 use Rattle.usb_answers.specs.Answers.{answer}

@@ -4,7 +4,7 @@ use Rattle.usb_xfer.specs.declared.transfer.Completion.{Completion}
 use Rattle.usb_bus.specs.Completions.{transfer_completion}
 use Rattle.usb_host.specs.TicketEnds.{host_taken}
 use Rattle.usb_lines.specs.Completions.{polled_line}
-use Rattle.usb_answers.specs.Names.{named, change_named}
+use Rattle.usb_names.specs.Names.{named, change_named}
 use Rattle.usb_answers.specs.State.{State, Endpoint}
 use Rattle.usb_answers.specs.Answer.{Answer, told, barred, if_open}
 

@@ -2,7 +2,7 @@
 use Rattle.std.specs.Prelude.{ℕ, ◌≡◌, ◌≤◌, Some, length, map}
 use Rattle.std.specs.Option.{option_map}
 use Rattle.usb_answers.specs.SessionState.{SessionState}
-use Rattle.usb_answers.specs.Names.{named}
+use Rattle.usb_names.specs.Names.{named}
 use Rattle.usb_answers.specs.State.{State, Endpoint, kept}
 
 -- what a session keeps of a state: of each endpoint the tickets that were not taken

@@ -15,7 +15,7 @@ use Rattle.usb_host.specs.HostState.{HostState}
 use Rattle.usb_ledger.specs.EndedTickets.{end_at}
 use Rattle.usb_host.specs.Finishes.{HasEnds}
 use Rattle.usb_lines.specs.Completions.{polled_line}
-use Rattle.usb_answers.specs.Names.{named}
+use Rattle.usb_names.specs.Names.{named}
 use Rattle.usb_answers.specs.State.{State, Endpoint, tickets_of}
 use Rattle.usb_answers.specs.Kinds.{is_of_control}
 use Rattle.usb_answers.specs.Answer.{Answer}

@@ -13,7 +13,7 @@ use Rattle.usb_host.specs.HostBus.{bus_of, key_at}
 use Rattle.usb_device.specs.HandleStates.{InterfaceState, StandsDevice, StandsInterface}
 use Rattle.usb_device.specs.Futures.{FutureState, StandsFuture}
 use Rattle.usb_device.specs.DeviceLaws.{DevicesAreHeld}
-use Rattle.usb_answers.specs.Names.{named}
+use Rattle.usb_names.specs.Names.{named}
 
 -- the host, and what is open by the number of its name: the keys of devices, the interfaces, the endpoints as their calls see them, and the
 -- futures; the tree of attributes, and the packets of udev that are left

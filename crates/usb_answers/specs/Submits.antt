@@ -9,7 +9,7 @@ use Rattle.usb_endpoint.specs.EndpointState.{EndpointState}
 use Rattle.usb_endpoint.specs.Submits.{entered}
 use Rattle.usb_host.specs.HostCalls.{host_submitted, host_refused}
 use Rattle.usb_host.specs.EndpointRefusals.{same_direction}
-use Rattle.usb_answers.specs.Names.{named, change_named}
+use Rattle.usb_names.specs.Names.{named, change_named}
 use Rattle.usb_answers.specs.State.{State, Endpoint, kept, tickets_of}
 use Rattle.usb_answers.specs.Answer.{Answer, barred, ok_answer, if_open}
 

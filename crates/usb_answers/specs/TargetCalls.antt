@@ -21,7 +21,7 @@ use Rattle.usb_device.specs.Futures.{FutureState, fresh_future}
 use Rattle.usb_words.specs.declared.control.ControlTarget.{ControlTarget}
 use Rattle.usb_words.specs.declared.control.ControlTarget.TheVariants.{Device, Interface}
 use Rattle.usb_lines.specs.Calls.{condition_line}
-use Rattle.usb_answers.specs.Names.{named}
+use Rattle.usb_names.specs.Names.{named}
 use Rattle.usb_answers.specs.Controls.{bars_control}
 
 -- each handle that is open under a name stands in the host

@@ -13,7 +13,7 @@ use Rattle.usb_host.specs.HostCalls.{host_submitted, host_refused}
 use Rattle.usb_host.specs.HostBlocking.{host_blocked}
 use Rattle.usb_host.specs.TicketEnds.{host_taken}
 use Rattle.usb_lines.specs.Completions.{waited_line}
-use Rattle.usb_answers.specs.Names.{named, change_named}
+use Rattle.usb_names.specs.Names.{named, change_named}
 use Rattle.usb_answers.specs.State.{State, Endpoint, kept, tickets_of}
 use Rattle.usb_answers.specs.Answer.{Answer, told, barred, if_open}
 use Rattle.usb_answers.specs.Submits.{has_direction}

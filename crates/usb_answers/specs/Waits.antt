@@ -5,7 +5,7 @@ use Rattle.usb_bus.specs.Completions.{transfer_completion}
 use Rattle.usb_host.specs.HostState.{HostState}
 use Rattle.usb_host.specs.HostWaits.{host_waited}
 use Rattle.usb_lines.specs.Completions.{waited_line}
-use Rattle.usb_answers.specs.Names.{named}
+use Rattle.usb_names.specs.Names.{named}
 use Rattle.usb_answers.specs.State.{State, with_host}
 use Rattle.usb_answers.specs.Answer.{Answer, told, barred, if_open}
 use Rattle.usb_answers.specs.Polls.{took}

@@ -10,12 +10,12 @@ ghost use Rattle.usb_answers.specs.Answered.{Answers};
 ghost use Rattle.usb_answers.specs.TargetCalls.{DevicesStand, InterfacesStand, number_of_target, started_host, started_future};
 
 use crate::controlling::bars_control;
-use crate::names::{is_free, open_at, put_at, take_at};
 use crate::session::Session;
 use futures::task::Poll;
 use usb_desc::NoMemory;
 use usb_device::{Device, Host, Interface, TransferFuture};
 use usb_lines::{write_condition, write_ok, write_pending, write_received};
+use usb_names::{is_free, open_at, put_at, take_at};
 use usb_script::{ControlData, ControlTarget, Name, Setup, Steps, Timeout};
 
 /// Starts to ask a device or an interface for so many bytes, where it is open.

@@ -7,12 +7,12 @@ ghost use Rattle.usb_answers.specs.State.{State};
 ghost use Rattle.usb_answers.specs.Answered.{Answers};
 ghost use Rattle.usb_answers.specs.Claims.{claim_answer};
 
-use crate::names::{is_free, open_at, put_at};
 use crate::session::Session;
 use usb_desc::{Fail, NoMemory};
 use usb_device::{Device, Host, Interface};
 use usb_error::Error;
 use usb_lines::{write_condition, write_error, write_ok};
+use usb_names::{is_free, open_at, put_at};
 use usb_script::Name;
 
 /// Claims an interface of a device, with its driver detached and noted, or as it is.

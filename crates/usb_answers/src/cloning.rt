@@ -5,10 +5,10 @@ ghost use Rattle.usb_answers.specs.State.{State};
 ghost use Rattle.usb_answers.specs.Answered.{Answers};
 ghost use Rattle.usb_answers.specs.Clones.{clone_device_answer, clone_interface_answer};
 
-use crate::names::{is_free, open_at, put_at};
 use crate::session::Session;
 use usb_desc::NoMemory;
 use usb_lines::{write_condition, write_ok};
+use usb_names::{is_free, open_at, put_at};
 use usb_script::Name;
 
 impl Session {

@@ -5,7 +5,7 @@ ghost use Rattle.usb_endpoint.specs.Handles.{Stands};
 ghost use Rattle.usb_endpoint.specs.AnyEndpoints.{state_of};
 ghost use Rattle.usb_host.specs.HostBus.{bus_of};
 ghost use Rattle.usb_answers.specs.State.{State};
-ghost use Rattle.usb_answers.specs.Names.{named, freed};
+ghost use Rattle.usb_names.specs.Names.{named, freed};
 ghost use Rattle.usb_answers.specs.Answer.{ok_answer};
 ghost use Rattle.usb_answers.specs.Closes.{cancelled, cancel_answer, closed, close_answer, close_future_answer, close_device_answer, close_interface_answer, release_answer};
 ghost use Rattle.usb_answers.specs.Ends.{future_closed_under, interface_closed, name_closed};
@@ -13,12 +13,12 @@ ghost use Rattle.usb_answers.specs.Relation.{Represents};
 ghost use Rattle.usb_answers.specs.Answered.{Answers};
 ghost use Rattle.usb_answers.specs.OpenCalls.{CallKeeps, CallAnswers};
 
-use crate::names::{put_at, take_at};
 use crate::session::Session;
 use usb_desc::NoMemory;
 use usb_device::Host;
 use usb_endpoint::AnyEndpoint;
 use usb_lines::{write_condition, write_error, write_ok};
+use usb_names::{put_at, take_at};
 use usb_script::Name;
 
 /// Discards the pending transfers of an endpoint that is open.

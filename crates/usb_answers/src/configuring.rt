@@ -10,13 +10,13 @@ ghost use Rattle.usb_answers.specs.Answered.{Answers};
 ghost use Rattle.usb_answers.specs.Configurations.{active_line, active_answer, speed_answer, set_configuration_answer, reset_answer};
 ghost use Rattle.usb_answers.specs.Drivers.{detach_answer, attach_answer};
 
-use crate::names::open_at;
 use crate::session::Session;
 use usb_desc::NoMemory;
 use usb_device::{Device, Host};
 use usb_lines::{
     write_condition, write_configuration, write_no_configuration, write_result, write_speed,
 };
+use usb_names::open_at;
 use usb_script::Name;
 
 /// Appends the value of the configuration that an open device keeps, or why there is none.

@@ -5,10 +5,10 @@ ghost use Rattle.usb_answers.specs.State.{State};
 ghost use Rattle.usb_answers.specs.Answered.{Answers};
 ghost use Rattle.usb_answers.specs.Describes.{device_descriptor_answer, descriptors_answer};
 
-use crate::names::open_at;
 use crate::session::Session;
 use usb_desc::NoMemory;
 use usb_lines::{write_condition, write_descriptors, write_device};
+use usb_names::open_at;
 use usb_script::Name;
 
 impl Session {

@@ -4,14 +4,14 @@ ghost use Rattle.std.specs.Prelude.{◌≡◌, ◌<◌, ℕ, Some, None};
 ghost use Rattle.usb_host.specs.Finishes.{HasEnds, HasCompletions, KeepsNothing};
 ghost use Rattle.usb_registry.specs.History.{value_at};
 ghost use Rattle.usb_answers.specs.State.{State};
-ghost use Rattle.usb_answers.specs.Names.{named, freed};
+ghost use Rattle.usb_names.specs.Names.{named, freed};
 ghost use Rattle.usb_answers.specs.Ends.{endpoints_closed, futures_closed, interfaces_closed, devices_closed, ended};
 ghost use Rattle.usb_answers.specs.Relation.{Represents};
 ghost use Rattle.usb_answers.specs.Accounts.{Accounted};
 
-use crate::names::drop_names;
 use crate::session::Session;
 use usb_device::Host;
+use usb_names::drop_names;
 
 impl Session {
     /// Closes the endpoints by number.

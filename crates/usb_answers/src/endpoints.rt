@@ -12,13 +12,13 @@ ghost use Rattle.usb_answers.specs.State.{State};
 ghost use Rattle.usb_answers.specs.Answered.{Answers};
 ghost use Rattle.usb_answers.specs.Endpoints.{endpoint_answer};
 
-use crate::names::{is_free, open_at, put_at};
 use crate::session::Session;
 use usb_desc::{Fail, NoMemory};
 use usb_device::{Host, Interface};
 use usb_endpoint::AnyEndpoint;
 use usb_error::Error;
 use usb_lines::{write_condition, write_error, write_ok};
+use usb_names::{is_free, open_at, put_at};
 use usb_script::{EndpointKind, Name};
 
 /// Opens an endpoint of an interface, of any kind that a script names.

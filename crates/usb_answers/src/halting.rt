@@ -9,12 +9,12 @@ ghost use Rattle.usb_answers.specs.Halts.{halt_cleared, clear_halt_answer};
 ghost use Rattle.usb_answers.specs.Answered.{Answers};
 ghost use Rattle.usb_answers.specs.OpenCalls.{CallKeeps, CallAnswers};
 
-use crate::names::{put_at, take_at};
 use crate::session::Session;
 use usb_desc::NoMemory;
 use usb_device::Host;
 use usb_endpoint::AnyEndpoint;
 use usb_lines::{write_condition, write_result};
+use usb_names::{put_at, take_at};
 use usb_script::Name;
 
 /// Clears the halt of an endpoint that is open.

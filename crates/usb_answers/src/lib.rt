@@ -17,7 +17,6 @@ mod fates;
 mod halting;
 mod laws;
 mod listing;
-mod names;
 mod now;
 mod opening;
 mod polling;

@@ -3,16 +3,16 @@
 ghost use Rattle.std.specs.Prelude.{◌≡◌, true};
 ghost use Rattle.usb_answers.specs.State.{State};
 ghost use Rattle.usb_answers.specs.Answered.{Answers};
-ghost use Rattle.usb_answers.specs.Names.{is_free};
+ghost use Rattle.usb_names.specs.Names.{is_free};
 ghost use Rattle.usb_answers.specs.Opens.{open_answer, open_path_answer};
 
-use crate::names::{is_free, put_at};
 use crate::session::Session;
 use usb_desc::{Fail, NoMemory};
 use usb_device::Device;
 use usb_enum::DeviceInfo;
 use usb_lines::{write_condition, write_error, write_ok};
 use usb_listings::write_sysfs_error;
+use usb_names::{is_free, put_at};
 use usb_script::{Name, Path};
 use usb_setup::probe_at;
 

@@ -9,13 +9,13 @@ ghost use Rattle.usb_answers.specs.Polls.{polled, poll_answer};
 ghost use Rattle.usb_answers.specs.Answered.{Answers};
 ghost use Rattle.usb_answers.specs.OpenCalls.{CallKeeps, CallAnswers};
 
-use crate::names::{open_at, put_at, take_at};
 use crate::session::Session;
 use futures::task::Poll;
 use usb_desc::NoMemory;
 use usb_device::Host;
 use usb_endpoint::AnyEndpoint;
 use usb_lines::{write_condition, write_count, write_polled};
+use usb_names::{open_at, put_at, take_at};
 use usb_script::Name;
 
 /// Polls an endpoint that is open.

@@ -10,11 +10,11 @@ ghost use Rattle.usb_answers.specs.Answered.{Answers};
 ghost use Rattle.usb_answers.specs.TargetCalls.{DevicesStand, KeepsHandles, TargetAnswers, number_of_target};
 
 use crate::controlling::{answer_of, bars_control};
-use crate::names::open_at;
 use crate::session::Session;
 use usb_desc::NoMemory;
 use usb_device::{Device, Host};
 use usb_lines::{write_condition, write_descriptor, write_languages, write_string};
+use usb_names::open_at;
 use usb_script::{Name, Steps, StringIndex, Timeout};
 
 /// Asks a device that is open for a descriptor by its type, index and language.

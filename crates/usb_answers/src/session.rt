@@ -6,7 +6,6 @@ ghost use Rattle.usb_script.specs.ItemKinds.{place_count};
 ghost use Rattle.usb_answers.specs.Output.{driver_of_item, device_of_item, devices_of, start};
 ghost use Rattle.usb_answers.specs.Relation.{Represents};
 
-use crate::names::{drop_names, no_names};
 use std::alloc::Global;
 use std::marker::Model;
 use usb_desc::NoMemory;
@@ -14,6 +13,7 @@ use usb_device::{Device, Host, Interface, TransferFuture};
 use usb_endpoint::AnyEndpoint;
 use usb_enum::{AttrTree, HotplugWatch, watch_devices};
 use usb_kernel::{Bytes, Kernel, SimDevice};
+use usb_names::{drop_names, no_names};
 use usb_script::Item;
 use usb_setup::{packets_of, tree_of};
 

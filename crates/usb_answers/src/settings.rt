@@ -5,10 +5,10 @@ ghost use Rattle.usb_answers.specs.State.{State};
 ghost use Rattle.usb_answers.specs.Answered.{Answers};
 ghost use Rattle.usb_answers.specs.Settings.{set_alt_setting_answer, get_alt_setting_answer, interface_descriptor_answer};
 
-use crate::names::open_at;
 use crate::session::Session;
 use usb_desc::NoMemory;
 use usb_lines::{write_alt_setting, write_condition, write_interface, write_result};
+use usb_names::open_at;
 use usb_script::Name;
 
 impl Session {

@@ -11,12 +11,12 @@ ghost use Rattle.usb_answers.specs.Answered.{Answers};
 ghost use Rattle.usb_answers.specs.OpenCalls.{CallKeeps, CallAnswers};
 
 use crate::buffers::{in_buffer, out_buffer};
-use crate::names::{put_at, take_at};
 use crate::session::Session;
 use usb_desc::{Direction, NoMemory};
 use usb_device::Host;
 use usb_endpoint::AnyEndpoint;
 use usb_lines::{write_condition, write_ok};
+use usb_names::{put_at, take_at};
 use usb_script::{Data, Length, Name};
 use usb_xfer::Buffer;
 

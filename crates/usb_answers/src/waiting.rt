@@ -8,12 +8,12 @@ ghost use Rattle.usb_answers.specs.Waits.{waited, wait_answer};
 ghost use Rattle.usb_answers.specs.Answered.{Answers};
 ghost use Rattle.usb_answers.specs.OpenCalls.{CallKeeps, CallAnswers};
 
-use crate::names::{put_at, take_at};
 use crate::session::Session;
 use usb_desc::NoMemory;
 use usb_device::{Host, wait_is_by_steps};
 use usb_endpoint::AnyEndpoint;
 use usb_lines::{write_condition, write_waited};
+use usb_names::{put_at, take_at};
 use usb_script::{Name, Steps, Timeout};
 
 /// Waits at an endpoint that is open.

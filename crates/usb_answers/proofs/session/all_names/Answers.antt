@@ -1,6 +1,6 @@
 use Rattle.std.proofs.Common.{◌∙◌, ap}
-use Rattle.usb_answers.specs.Names.{named}
-use Rattle.usb_answers.proofs.NameLemmas.{named-replicate}
+use Rattle.usb_names.specs.Names.{named}
+use Rattle.usb_names.proofs.NameLemmas.{named-replicate}
 use Rattle.usb_answers.proofs.session.all_names.Goals as goal
 
 pub drop_names-requires : goal.drop_names-requires

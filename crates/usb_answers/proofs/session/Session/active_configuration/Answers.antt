@@ -8,7 +8,7 @@ use Rattle.usb_answers.specs.Configurations.{active_line, active_answer}
 use Rattle.usb_answers.specs.SessionState.{SessionState}
 use Rattle.usb_answers.specs.SessionFacts.{made_of}
 use Rattle.usb_answers.proofs.SoundDevices.{device-of}
-use Rattle.usb_answers.proofs.NameLemmas.{found_at}
+use Rattle.usb_names.proofs.NameLemmas.{found_at}
 use Rattle.usb_answers.proofs.Answering.{answers, answers-same}
 use Rattle.usb_answers.proofs.DeviceHosts.{asked-aside}
 use Rattle.usb_answers.proofs.DeviceCalls.{sound-handles, on_device-none, on_device-some, spare-aside, asked-device}

@@ -1,11 +1,11 @@
 use Rattle.std.proofs.Common.{ℕ, ◌≡◌, ◌∙◌, ap, subst, sym, Ok, Err}
 use Rattle.std.specs.Option.{option_copied}
 use Rattle.usb_host.specs.HostState.{HostState}
-use Rattle.usb_answers.specs.Names.{set_name}
+use Rattle.usb_names.specs.Names.{set_name}
 use Rattle.usb_answers.specs.SessionState.{SessionState, IsSound}
 use Rattle.usb_answers.specs.SessionFacts.{made_of}
 use Rattle.usb_answers.proofs.SoundDevices.{device-of}
-use Rattle.usb_answers.proofs.NameLemmas.{found_at, free_at}
+use Rattle.usb_names.proofs.NameLemmas.{found_at, free_at}
 use Rattle.usb_answers.proofs.Answering.{answers, answers-same}
 use Rattle.usb_answers.proofs.Handled.{sound-claimed, sound-refused}
 use Rattle.usb_answers.proofs.Interfaces.{claim-gives, claim-refused, claim-none, claim-used, claim-spare}

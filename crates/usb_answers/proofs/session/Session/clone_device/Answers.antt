@@ -2,9 +2,9 @@ use Rattle.std.proofs.Common.{◌≡◌, ◌∙◌, ap}
 use Rattle.usb_host.specs.HostState.{HostState}
 use Rattle.usb_answers.specs.SessionState.{SessionState}
 use Rattle.std.specs.Option.{option_copied}
-use Rattle.usb_answers.specs.Names.{set_name}
+use Rattle.usb_names.specs.Names.{set_name}
 use Rattle.usb_answers.specs.SessionFacts.{made_of}
-use Rattle.usb_answers.proofs.NameLemmas.{found_at, free_at}
+use Rattle.usb_names.proofs.NameLemmas.{found_at, free_at}
 use Rattle.usb_answers.proofs.Answering.{answers, answers-same}
 use Rattle.usb_answers.proofs.DeviceHandles.{sound-device_cloned, clone_device-none, clone_device-used, clone_device-gives}
 use Rattle.usb_answers.proofs.session.Session.clone_device.Goals as goal

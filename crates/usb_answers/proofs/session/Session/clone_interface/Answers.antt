@@ -1,10 +1,10 @@
 use Rattle.std.proofs.Common.{◌≡◌, ◌∙◌, ap}
 use Rattle.std.specs.Option.{option_copied}
 use Rattle.usb_host.specs.Handles.{handle_cloned}
-use Rattle.usb_answers.specs.Names.{set_name}
+use Rattle.usb_names.specs.Names.{set_name}
 use Rattle.usb_answers.specs.SessionState.{SessionState}
 use Rattle.usb_answers.specs.SessionFacts.{made_of}
-use Rattle.usb_answers.proofs.NameLemmas.{found_at, free_at}
+use Rattle.usb_names.proofs.NameLemmas.{found_at, free_at}
 use Rattle.usb_answers.proofs.Answering.{answers, answers-same}
 use Rattle.usb_answers.proofs.HandleHosts.{cloned-keeps, spare-beside}
 use Rattle.usb_answers.proofs.Handled.{sound-cloned}

@@ -1,6 +1,6 @@
 use Rattle.std.proofs.Common.{◌≡◌, ◌<◌, ℕ, None}
 use Rattle.usb_answers.specs.State.{State}
-use Rattle.usb_answers.specs.Names.{named}
+use Rattle.usb_names.specs.Names.{named}
 use Rattle.usb_answers.specs.Ends.{devices_closed}
 use Rattle.usb_answers.specs.Relation.{Represents}
 use Rattle.usb_answers.proofs.session.Session.close_devices.Given as goal

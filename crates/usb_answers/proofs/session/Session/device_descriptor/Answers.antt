@@ -5,7 +5,7 @@ use Rattle.usb_ledger.specs.declared.opened.OpenDevice.{OpenDevice}
 use Rattle.usb_answers.specs.Describes.{device_descriptor_answer}
 use Rattle.usb_answers.specs.SessionFacts.{made_of}
 use Rattle.usb_answers.proofs.SoundDevices.{device-of}
-use Rattle.usb_answers.proofs.NameLemmas.{found_at}
+use Rattle.usb_names.proofs.NameLemmas.{found_at}
 use Rattle.usb_answers.proofs.Answering.{answers-same}
 use Rattle.usb_answers.proofs.Devices.{asked-none, asked-some}
 use Rattle.usb_answers.proofs.session.Session.device_descriptor.Goals as goal

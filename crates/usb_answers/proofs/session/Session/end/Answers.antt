@@ -2,7 +2,7 @@ use Rattle.std.proofs.Common.{◌≡◌, ◌∙◌, ℕ, None, ap, sym, map, ref
 use Rattle.std.specs.Option.{option_map}
 use Rattle.usb_endpoint.specs.AnyEndpoints.{state_of}
 use Rattle.usb_host.specs.Finishes.{HasEnds, KeepsNothing}
-use Rattle.usb_answers.specs.Names.{named}
+use Rattle.usb_names.specs.Names.{named}
 use Rattle.usb_answers.specs.State.{State}
 use Rattle.usb_answers.specs.Ends.{endpoints_closed, futures_closed, interfaces_closed, devices_closed}
 use Rattle.usb_answers.specs.Relation.{Represents}

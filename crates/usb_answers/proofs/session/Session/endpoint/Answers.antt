@@ -3,10 +3,10 @@ use Rattle.std.specs.Option.{option_map, option_copied}
 use Rattle.usb_words.specs.EndpointKinds.{transfer_type_of, direction_of}
 use Rattle.usb_endpoint.specs.AnyEndpoints.{state_of}
 use Rattle.usb_endpoint.specs.EndpointState.{EndpointState}
-use Rattle.usb_answers.specs.Names.{set_name}
+use Rattle.usb_names.specs.Names.{set_name}
 use Rattle.usb_answers.specs.SessionState.{SessionState}
 use Rattle.usb_answers.specs.SessionFacts.{made_of}
-use Rattle.usb_answers.proofs.NameLemmas.{found_at, free_at, map-set, is_free-map}
+use Rattle.usb_names.proofs.NameLemmas.{found_at, free_at, map-set, is_free-map}
 use Rattle.usb_answers.proofs.Answering.{answers, answers-same}
 use Rattle.usb_answers.proofs.EndpointOpened.{endpoint-sound, endpoint-gives, endpoint-refused, endpoint-none, endpoint-used, asked-sound, asked-spare, opened-spare}
 use Rattle.usb_answers.proofs.session.Session.endpoint.Goals as goal

@@ -1,7 +1,7 @@
 use Rattle.std.proofs.Common.{ap}
 use Rattle.std.specs.Option.{option_copied}
 use Rattle.usb_answers.specs.SessionFacts.{made_of}
-use Rattle.usb_answers.proofs.NameLemmas.{found_at}
+use Rattle.usb_names.proofs.NameLemmas.{found_at}
 use Rattle.usb_answers.proofs.Answering.{answers-same}
 use Rattle.usb_answers.proofs.SettingCalls.{getalt-none, getalt-gives}
 use Rattle.usb_answers.proofs.session.Session.get_alt_setting.Goals as goal

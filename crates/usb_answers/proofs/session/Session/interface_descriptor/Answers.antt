@@ -2,7 +2,7 @@ use Rattle.std.proofs.Common.{◌∙◌, ap}
 use Rattle.std.specs.Option.{option_copied}
 use Rattle.usb_answers.specs.SessionState.{SessionState}
 use Rattle.usb_answers.specs.SessionFacts.{made_of}
-use Rattle.usb_answers.proofs.NameLemmas.{found_at}
+use Rattle.usb_names.proofs.NameLemmas.{found_at}
 use Rattle.usb_answers.proofs.Answering.{answers, answers-same}
 use Rattle.usb_answers.proofs.EndpointOpened.{asked-sound, asked-spare}
 use Rattle.usb_answers.proofs.SettingCalls.{ifdesc-none, ifdesc-gives, asked-claim}

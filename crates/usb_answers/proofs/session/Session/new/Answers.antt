@@ -1,6 +1,6 @@
 use Rattle.std.proofs.Common.{◌∙◌, ap}
-use Rattle.usb_answers.specs.Names.{named}
-use Rattle.usb_answers.proofs.NameLemmas.{named-replicate}
+use Rattle.usb_names.specs.Names.{named}
+use Rattle.usb_names.proofs.NameLemmas.{named-replicate}
 use Rattle.usb_answers.proofs.RunLemmas.{sound-start, represents-start, spare-start}
 use Rattle.usb_answers.proofs.session.Session.new.Goals as goal
 

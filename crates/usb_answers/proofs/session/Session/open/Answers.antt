@@ -1,9 +1,9 @@
 use Rattle.std.proofs.Common.{ℕ, ◌≡◌, ◌∙◌, ap, sym, subst, Ok, Err}
 use Rattle.usb_host.specs.HostState.{HostState}
-use Rattle.usb_answers.specs.Names.{set_name}
+use Rattle.usb_names.specs.Names.{set_name}
 use Rattle.usb_answers.specs.SessionState.{SessionState, IsSound}
 use Rattle.usb_answers.specs.SessionFacts.{made_of}
-use Rattle.usb_answers.proofs.NameLemmas.{free_at}
+use Rattle.usb_names.proofs.NameLemmas.{free_at}
 use Rattle.usb_answers.proofs.Answering.{answers, answers-same}
 use Rattle.usb_answers.proofs.Devices.{open-sound, open-left, open-gives, open-refused, open-barred, open-spare}
 use Rattle.usb_answers.proofs.session.Session.open.Goals as goal

@@ -1,6 +1,6 @@
 use Rattle.std.proofs.Common.{ℕ, ◌≡◌, ◌∙◌, ap, sym, subst, Ok, Err}
 use Rattle.usb_host.specs.HostState.{HostState}
-use Rattle.usb_answers.specs.Names.{set_name, is_free}
+use Rattle.usb_names.specs.Names.{set_name, is_free}
 use Rattle.usb_answers.specs.SessionState.{SessionState, IsSound}
 use Rattle.usb_answers.specs.SessionFacts.{made_of}
 use Rattle.usb_answers.proofs.Answering.{answers}

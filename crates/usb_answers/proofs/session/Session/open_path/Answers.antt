@@ -1,9 +1,9 @@
 use Rattle.std.proofs.Common.{◌≡◌, ◌∙◌, sym, ap, true}
 use Rattle.usb_enum.specs.Probing.{probe}
-use Rattle.usb_answers.specs.Names.{is_free}
+use Rattle.usb_names.specs.Names.{is_free}
 use Rattle.usb_answers.specs.SessionFacts.{made_of}
 use Rattle.usb_answers.specs.SessionState.{SessionState}
-use Rattle.usb_answers.proofs.NameLemmas.{free_at}
+use Rattle.usb_names.proofs.NameLemmas.{free_at}
 use Rattle.usb_answers.proofs.Answering.{answers-same}
 use Rattle.usb_answers.proofs.TreeAnswers.{answers-found, open_path-refused, open_path-barred}
 use Rattle.usb_answers.proofs.session.Session.open_path.Goals as goal

@@ -1,7 +1,7 @@
 use Rattle.std.proofs.Common.{sym, ◌∙◌, ap}
 use Rattle.std.specs.Option.{option_copied}
 use Rattle.usb_endpoint.specs.AnyEndpoints.{state_of}
-use Rattle.usb_answers.specs.Names.{named}
+use Rattle.usb_names.specs.Names.{named}
 use Rattle.usb_answers.proofs.TakenOut.{named-made, none_made}
 use Rattle.usb_answers.proofs.PollCode.{pending-answered, pending-barred}
 use Rattle.usb_answers.proofs.session.Session.pending.Goals as goal

@@ -1,11 +1,11 @@
 use Rattle.std.proofs.Common.{◌≡◌, ◌∙◌, ap, sym, Some, None}
-use Rattle.usb_answers.specs.Names.{named, freed, is_free}
+use Rattle.usb_names.specs.Names.{named, freed, is_free}
 use Rattle.usb_answers.specs.SessionState.{SessionState}
 use Rattle.usb_answers.specs.SessionFacts.{made_of}
 use Rattle.usb_answers.proofs.Answering.{answers}
 use Rattle.usb_answers.proofs.FutureCalls.{poll-none, polled-sound, polled-spare, polled-gives, pending-same, pending-sound, pending-gives}
 use Rattle.usb_answers.proofs.FutureCloses.{future-sound_same}
-use Rattle.usb_answers.proofs.NameLemmas.{freed-free}
+use Rattle.usb_names.proofs.NameLemmas.{freed-free}
 use Rattle.usb_answers.proofs.session.Session.poll_future.Goals as goal
 
 pub invariant_of-self : goal.invariant_of-self

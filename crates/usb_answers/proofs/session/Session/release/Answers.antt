@@ -1,10 +1,10 @@
 use Rattle.std.proofs.Common.{◌≡◌, ◌∙◌, ap, sym, Some, None}
 use Rattle.usb_host.specs.Handles.{handle_closed}
 use Rattle.usb_host.specs.Owners.{is_shared}
-use Rattle.usb_answers.specs.Names.{named, freed}
+use Rattle.usb_names.specs.Names.{named, freed}
 use Rattle.usb_answers.specs.SessionState.{SessionState}
 use Rattle.usb_answers.specs.SessionFacts.{made_of}
-use Rattle.usb_answers.proofs.NameLemmas.{freed-free}
+use Rattle.usb_names.proofs.NameLemmas.{freed-free}
 use Rattle.usb_answers.proofs.Answering.{answers}
 use Rattle.usb_answers.proofs.HandleHosts.{closed-keeps, spare-beside}
 use Rattle.usb_answers.proofs.Handled.{sound-closed}

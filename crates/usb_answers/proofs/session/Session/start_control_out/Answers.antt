@@ -1,13 +1,13 @@
 use Rattle.std.proofs.Common.{◌≡◌, ◌∙◌, ap, sym}
 use Rattle.usb_answers.specs.Controls.{request_with}
-use Rattle.usb_answers.specs.Names.{set_name}
+use Rattle.usb_names.specs.Names.{set_name}
 use Rattle.usb_answers.specs.SessionState.{SessionState}
 use Rattle.usb_answers.specs.SessionFacts.{made_of}
 use Rattle.usb_answers.specs.TargetCalls.{number_of_target, started_host, started_future}
 use Rattle.usb_answers.proofs.Answering.{answers, answers-same}
 use Rattle.usb_answers.proofs.ControlCode.{number-shown}
 use Rattle.usb_answers.proofs.FutureCalls.{start-sound, start-spare, start-gives, start-none, start-used, start-bars}
-use Rattle.usb_answers.proofs.NameLemmas.{free_at}
+use Rattle.usb_names.proofs.NameLemmas.{free_at}
 use Rattle.usb_answers.proofs.session.Session.start_control_out.Goals as goal
 
 pub returns-then-bars_control-clause-answered : goal.returns-then-bars_control-clause-answered

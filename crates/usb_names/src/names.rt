@@ -2,7 +2,7 @@
 
 ghost use Rattle.std.specs.Prelude.{◌≡◌, ℕ, IfOk, true, replicate, None};
 ghost use Rattle.std.specs.Option.{option_copied};
-ghost use Rattle.usb_answers.specs.Names.{named, is_free, set_name, freed};
+ghost use Rattle.usb_names.specs.Names.{named, is_free, set_name, freed};
 
 use std::alloc::Global;
 use usb_desc::NoMemory;

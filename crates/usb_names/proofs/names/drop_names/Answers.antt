@@ -1,6 +1,6 @@
 use Rattle.std.proofs.Common.{◌∷◌, []}
-use Rattle.usb_answers.proofs.NameLemmas.{none-front, none-last}
-use Rattle.usb_answers.proofs.names.drop_names.Goals as goal
+use Rattle.usb_names.proofs.NameLemmas.{none-front, none-last}
+use Rattle.usb_names.proofs.names.drop_names.Goals as goal
 
 pub places-preserved : goal.places-preserved
 places-preserved g c =

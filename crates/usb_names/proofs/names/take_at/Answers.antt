@@ -1,6 +1,6 @@
 use Rattle.std.proofs.Common.{◌∙◌, arith}
-use Rattle.usb_answers.proofs.NameLemmas.{named-beyond, freed-beyond, named-read, freed-written}
-use Rattle.usb_answers.proofs.names.take_at.Goals as goal
+use Rattle.usb_names.proofs.NameLemmas.{named-beyond, freed-beyond, named-read, freed-written}
+use Rattle.usb_names.proofs.names.take_at.Goals as goal
 
 pub returns-then-name-len-clause-taken : goal.returns-then-name-len-clause-taken
 returns-then-name-len-clause-taken g c = named-beyond c.args.names.now.items c.args.name (omega arith)

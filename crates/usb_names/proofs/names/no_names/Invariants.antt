@@ -1,6 +1,6 @@
 use Rattle.std.proofs.Common.{◌≡◌, None, ◌≤◌, vec_len, vec_capacity}
 use Rattle.std.specs.Prelude.{replicate}
-use Rattle.usb_answers.proofs.names.no_names.Given as goal
+use Rattle.usb_names.proofs.names.no_names.Given as goal
 
 abbrev pub invariant-loop-i : goal.invariant-loop-i
 invariant-loop-i g l = record {

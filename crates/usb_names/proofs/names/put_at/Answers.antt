@@ -1,7 +1,7 @@
 use Rattle.std.proofs.Common.{sym, ◌∙◌, arith}
 use Rattle.std.proofs.lemmas.Option.{none-some}
-use Rattle.usb_answers.proofs.NameLemmas.{free-within, free-read, set-written}
-use Rattle.usb_answers.proofs.names.put_at.Goals as goal
+use Rattle.usb_names.proofs.NameLemmas.{free-within, free-read, set-written}
+use Rattle.usb_names.proofs.names.put_at.Goals as goal
 
 pub index_mut-place-requires : goal.index_mut-place-requires
 index_mut-place-requires g c =

@@ -1,6 +1,6 @@
 use Rattle.std.proofs.Common.{◌≡◌, ℕ, None}
-use Rattle.usb_answers.specs.Names.{named}
-use Rattle.usb_answers.proofs.names.drop_names.Given as goal
+use Rattle.usb_names.specs.Names.{named}
+use Rattle.usb_names.proofs.names.drop_names.Given as goal
 
 abbrev pub invariant-places : goal.invariant-places
 invariant-places g l = (n : ℕ) → named l.names.items n ≡ None

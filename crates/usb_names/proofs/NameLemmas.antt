@@ -3,7 +3,7 @@ use Rattle.std.proofs.Common.{◌≡◌, ◌≢◌, ℕ, ◌<◌, ◌≤◌, suc
 use Rattle.std.proofs.lemmas.Bool.{cases_eq}
 use Rattle.std.specs.Option.{option_map, option_copied}
 use Rattle.std.proofs.lemmas.Option.{slice_get-map, slice_get_past, slice_get_read, slice_get_within, none-some, same_Some}
-use Rattle.usb_answers.specs.Names.{named, flat, is_free, is_free_place, change_at, change_named, freed, nothing, set_name, something}
+use Rattle.usb_names.specs.Names.{named, flat, is_free, is_free_place, change_at, change_named, freed, nothing, set_name, something}
 
 -- a change at a place, read back
 pub slice_get-change : {X : Type 0} (f : X → X) (xs : List X) (n : ℕ) → slice_get (change_at f xs n) n ≡ option_map f (slice_get xs n)
