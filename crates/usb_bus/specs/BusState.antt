@@ -20,6 +20,6 @@ with_owner owner t k u = if t == u then Some k else owner u
 abbrev pub without_owner : (ℕ → Option ℕ) → ℕ → ℕ → Option ℕ
 without_owner owner t u = if t == u then None else owner u
 
--- the open keys when an endpoint was left
+-- the open keys when an endpoint has left
 abbrev pub without_key : (ℕ → Bool) → ℕ → ℕ → Bool
 without_key keys k j = if k == j then false else keys j

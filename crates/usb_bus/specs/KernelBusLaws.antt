@@ -1,4 +1,4 @@
--- What the bus over a kernel alone owes as a bus: its owners and keys after a write, and the values of its tickets.
+-- What the bus over a kernel alone owes as a bus: its owners after a write, and the values of its tickets.
 use Rattle.std.specs.Prelude.{ℕ, ◌≡◌, true, false, set, List, [], ◌∷◌, Option, Some, None, IsSome, ◌==◌, refl}
 use Rattle.std.specs.Option.{option_map}
 use Rattle.std.proofs.Common.{cond, zero, suc}

@@ -3,8 +3,8 @@ use Rattle.std.specs.Prelude.{Bool, List, Option}
 use Rattle.usb_kernel.specs.Value.{KernelState}
 use Rattle.usb_bus.specs.Holds.{Hold}
 
--- the kernel; for each ticket what an endpoint holds of it, while it has no end; and for each key whether it is that of
--- an open endpoint
+-- the kernel; for each ticket what an endpoint holds of it, until it is taken or given up; and for each key whether
+-- it is that of an open endpoint
 pub record KernelBusState : Type 0 where
   pub kernel : KernelState
   pub holds : List (Option Hold)

@@ -19,6 +19,6 @@ pub record GoesBy (t : TransferData) (to : Route) : Type 0 where
   pub kind : t.kind ≡ to.kind
   pub filled : IsFilled t
 
--- an IN endpoint is asked for its maximum, or for a multiple of it that is not 0
+-- an IN endpoint is asked for its maximum, or a multiple of it, at least once (`WantsWhole`: usb_kernel, Submissions.antt)
 abbrev pub AsksWhole : TransferData → Route → Type 0
 AsksWhole t to = ForSome (buffer_held t.held) (λ b. IsWhole (submission_of to b))

@@ -15,8 +15,8 @@ use std::mem;
 use usb_kernel::{Done, Submitted};
 use usb_xfer::{Completion, Held, TransferData};
 
-/// What is kept of a ticket: the key of the endpoint that holds it, while it has no end, and the
-/// transfer, which holds nothing while the kernel has its buffer.
+/// What is kept of a ticket: the key of the endpoint that holds it, until it is taken or given up,
+/// and the transfer, which holds nothing while the kernel has its buffer.
 #[derive(Drop)]
 pub struct OwnedTransfer {
     pub owner: Option<usize>,

@@ -1,4 +1,4 @@
-//! The bus: what endpoints ask of the host below them, as a trait whose clauses are its whole
+//! The bus: what endpoints ask of whatever lies below them, as a trait whose clauses are its whole
 //! meaning.
 #![tactic(auto)]
 

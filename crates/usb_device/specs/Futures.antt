@@ -24,8 +24,8 @@ pub record FutureState : Type 0 where
   pub deadline : ℕ
   pub direction : Direction
 
--- its ticket is on its way: its endpoint is open and holds it, and it has the deadline unless it was
--- refused
+-- its ticket is on its way: its endpoint is open and holds it, and while it is not reaped its
+-- deadline is this one (a refused ticket is reaped at once)
 pub record IsOnItsWay (h : HostState) (f : FutureState) (t : ℕ) : Type 0 where
   pub key_is_open : key_at h.endpoints f.key ≡ true
   pub held : owner_at h.tickets t ≡ Some f.key

@@ -40,14 +40,15 @@ BlockingGoesOn = (h : HostState) (t timeout : ℕ) → HostGoesOn h (host_blocke
 abbrev pub AwaitGoesOn : Type 0
 AwaitGoesOn = (h : HostState) (t deadline : ℕ) → HostGoesOn h (host_awaited h t deadline)
 
--- at the end of a line no step is left
+-- and so do the steps that are left at the end of a line
 abbrev pub RestGoesOn : Type 0
 RestGoesOn = (h : HostState) → HostGoesOn h (host_rest h)
 
+-- of which none is left then
 abbrev pub RestLeavesNone : Type 0
 RestLeavesNone = (h : HostState) → (host_rest h).steps ≡ []
 
--- and each step of it, taken by a call before or not, has used a place of the kernel
+-- and each step of the line, taken by a call before or not, has used a place of the kernel
 abbrev pub LineUsesPlaces : Type 0
 LineUsesPlaces =
     (old new : HostState) → LineGoesOn old new → length old.steps ≤ old.kernel.spare →

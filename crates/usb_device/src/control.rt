@@ -56,8 +56,10 @@ fn finish(
 
 impl Device {
     /// Starts a control transfer on the device's endpoint 0 whose data come from the device (USB
-    /// 2.0, section 9.3). It is discarded once `timeout` nanoseconds are over, of which those of a
-    /// day count at most. An `Err` is want of memory, and then nothing has changed.
+    /// 2.0, section 9.3). Its deadline is `timeout` nanoseconds away, of which those of a day count
+    /// at most (`deadline_after`, Controls.antt of usb_host): the first turn of the kernel's timer
+    /// from then on discards it, if it is unfinished. An `Err` is want of memory, and then nothing
+    /// has changed.
     pub fn start_control_in(
         &self,
         host: &mut Host,
@@ -164,9 +166,10 @@ impl Device {
 
 impl Interface {
     /// Starts a control transfer on the endpoint 0 of the interface's device whose data come from
-    /// the device (USB 2.0, section 9.3). It is discarded once `timeout` nanoseconds are over, of
-    /// which those of a day count at most. An `Err` is want of memory, and then nothing has
-    /// changed.
+    /// the device (USB 2.0, section 9.3). Its deadline is `timeout` nanoseconds away, of which those
+    /// of a day count at most (`deadline_after`, Controls.antt of usb_host): the first turn of the
+    /// kernel's timer from then on discards it, if it is unfinished. An `Err` is want of memory, and
+    /// then nothing has changed.
     pub fn start_control_in(
         &self,
         host: &mut Host,

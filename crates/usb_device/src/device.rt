@@ -75,8 +75,9 @@ impl fmt::Debug for Interface {
 impl Device {
     /// Opens the first plugged device at an address of a bus. The kernel opens it, then gives its
     /// descriptors, of which the first must be a device descriptor (USB 2.0, section 9.6.1), and
-    /// then its active configuration. What is refused first is the error, and each of the three
-    /// uses up the refusal that is armed for it. Where memory is wanting nothing has changed.
+    /// then its active configuration. What is refused first is the error, and nothing is asked
+    /// behind it. Each of the three that is asked uses up the refusal that is armed for it. Where
+    /// memory is wanting nothing has changed.
     pub fn open_at(
         alloc: Global,
         host: &mut Host,
@@ -109,7 +110,8 @@ impl Device {
     }
 
     /// Closes the handle. Where no handle of the open device and none of an interface of it is left,
-    /// what the host keeps of it goes. The kernel keeps the device open.
+    /// what the host keeps of it goes. The kernel isn't told: it keeps nothing of who opened a
+    /// device.
     pub fn close(self, host: &mut Host)
         requires stands { StandsDevice host.old self }
         ensures closed { host.new ≡ device_closed host.old self }

@@ -36,7 +36,7 @@ pub fn tickets_end_once()
 {}
 
 /// A transfer that was not taken is dropped exactly where it was reaped when its endpoint, or its
-/// future, is closed. Else it is reclaimed at its reap.
+/// future, is closed. Else it has no end yet.
 pub fn what_is_reaped_is_dropped()
     ensures dropped { DroppedWhereReaped }
     ensures future_dropped { FutureDroppedWhereReaped }

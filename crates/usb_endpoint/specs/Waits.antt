@@ -60,6 +60,6 @@ pub record TimeWasUp (old : BusState) (t : ℕ) : Type 0 where
 abbrev pub EndedWhy : BusState → BusState → ℕ → ℕ → Type 0
 EndedWhy old new t timeout = TimeWasUp old t ⊎ (0 < timeout → new.turns_left < old.turns_left)
 
--- why a wait found its ticket: it was reaped at once, or a turn was made
+-- why a wait found its ticket: it was reaped already, or a turn was made
 abbrev pub FoundWhy : BusState → BusState → ℕ → Type 0
 FoundWhy old new t = IsSome (transfer_completion old.past t) ⊎ (new.turns_left < old.turns_left)

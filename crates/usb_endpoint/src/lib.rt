@@ -1,4 +1,5 @@
-//! Endpoints over any bus: queues of transfers that complete in the order of their submission.
+//! Endpoints over any bus: queues of transfers, whose completions are taken in the order of
+//! submission.
 #![tactic(auto)]
 
 mod any_endpoint;

@@ -80,7 +80,8 @@ impl<T: EndpointType, D: EndpointDirection> Endpoint<T, D> {
     }
 
     /// Submits a buffer, waits for its completion and takes it. After `timeout` nanoseconds of the
-    /// bus's clock the transfer is cancelled, and then waited for until it is there.
+    /// bus's clock, or where time is up before, the transfer is cancelled, and then waited for until
+    /// it is there.
     ///
     /// # Errors
     ///

@@ -26,7 +26,7 @@ connected t path = option_map (λ d. Connected d) (result_ok (probe t (folder_be
 abbrev pub event_with : Tree → Notice → Option HotplugEvent
 event_with t n = if n.added then connected t n.path else Some (Disconnected (record { bus = n.busnum; address = n.address }))
 
--- the event of a packet, of which only the one group of udev counts
+-- the event of a packet, which counts only where its groups are 2
 abbrev pub event_of : Tree → UdevPacket → Option HotplugEvent
 event_of t packet = if packet.groups == 2 then option_and_then (event_with t) (notice_in packet.bytes) else None
 

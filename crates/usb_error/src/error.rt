@@ -212,7 +212,7 @@ impl Error {
         }
     }
 
-    /// An endpoint of the interface is open, so its alternate setting stays.
+    /// An endpoint of the interface lives, so its alternate setting stays.
     pub fn settings_in_use() -> Error
         ensures error { result ≡ settings_in_use_error }
     {

@@ -33,7 +33,7 @@ pub enum Message {
     AlternateSettingNotFound,
     FailedToSetAlternateSetting,
     FailedToClearHalt,
-    /// The alternate setting stays while an endpoint of the interface is open.
+    /// The alternate setting stays while an endpoint of the interface lives.
     EndpointsAreInUse,
     /// The interface has another owner.
     InterfaceStillInUse,

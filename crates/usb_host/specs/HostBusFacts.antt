@@ -18,7 +18,7 @@ use Rattle.usb_ledger.specs.Releases.{endpoints_left}
 use Rattle.usb_host.specs.Releases.{endpoint_left, settled}
 use Rattle.usb_host.specs.TicketEnds.{host_ended, ended_as, host_taken, with_ticket}
 
--- a ticket that nobody holds any more, at its place
+-- the owners when a ticket that nobody holds is written into the list
 owner-set : (tickets : List HostTicket) (t u : ℕ) (x : HostTicket) → held_as x ≡ None →
     owner_at (set tickets t x) u ≡ without_owner (owner_at tickets) t u
 owner-set [] t u x is =

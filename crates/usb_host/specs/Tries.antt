@@ -1,4 +1,4 @@
--- A call that asks the kernel several times, each time the kernel that was left before, up to the first refusal.
+-- A call that asks the kernel several times, each time as the attempt before left it, up to the first refusal.
 use Rattle.std.specs.Prelude.{ℕ, Result, Ok, Err, Option}
 use Rattle.usb_kernel.specs.Value.{KernelState}
 use Rattle.usb_error.specs.ErrorState.{ErrorState}

@@ -77,8 +77,8 @@ impl Host {
     /// Opens the first plugged device at an address of a bus, which has the next key and one
     /// handle. The kernel opens it, then gives its descriptors, of which the first must be a device
     /// descriptor (USB 2.0, section 9.6.1), and then its active configuration. What is refused
-    /// first is the error, and each of the three uses up the refusal that is armed for it. Where
-    /// memory is wanting nothing has changed.
+    /// first is the error, and nothing is asked behind it. Each of the three that is asked uses up
+    /// the refusal that is armed for it. Where memory is wanting nothing has changed.
     pub fn open_device(&mut self, alloc: Global, bus: u8, address: u8) -> Result<Key, Fail<Error>>
         ensures tried { Tried (result_map (λ (key : Key). key.serial) result)
             (open_key self.old bus address) }
@@ -115,7 +115,8 @@ impl Host {
     }
 
     /// A handle of an open device is closed. Where no handle of it and none of an interface of it
-    /// is left, what the host keeps of it goes. The kernel keeps the device open.
+    /// is left, what the host keeps of it goes. The kernel isn't told: it keeps nothing of who
+    /// opened a device.
     pub fn close_device(&mut self, device: Key)
         ensures closed { self.new ≡ device_closed self.old device.serial }
     {

@@ -66,7 +66,7 @@ abbrev pub OpensUseNone : Type 0
 OpensUseNone =
     (k : KernelState) (bus address d : ℕ) → open_answer k bus address ≡ Ok d → after_open k bus address ≡ k
 
--- while an interface is claimed, each call that would claim it or attach its driver is refused, and so is each configuration
+-- while an interface is claimed, each call that would claim it or attach its driver is refused, and so is each `set_configuration`
 abbrev pub ClaimedIsRefused : Type 0
 ClaimedIsRefused =
     (k : KernelState) (d i value : ℕ) → is_claimed k.devices d i ≡ true

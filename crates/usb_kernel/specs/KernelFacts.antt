@@ -10,7 +10,9 @@ use Rattle.usb_kernel.specs.Unreaped.{unreaped_indices}
 use Rattle.usb_kernel.specs.Deadlines.{KeepsDeadlines}
 
 -- the journal is lawful, the table is what it says, the indices of the rows that are not reaped and the deadlines of those that
--- are not finished are listed, and there is room for the steps to come and for what the tickets may still need
+-- are not finished are listed, and there is room for the steps to come and for what the tickets may still need.
+-- `four`: the journal's memory has four places for each ticket, so four times a ticket's number, plus 3, is a 64-bit number, and
+-- so the word of a cell (usb_live) is one
 pub record IsKept (k : Inside) : Type 0 where
   pub lawful : IsLawful (reverse k.journal.items)
   pub agrees : Agrees (reverse k.journal.items) k.tickets.items

@@ -187,8 +187,9 @@ impl Kernel {
     }
 
     /// A submission becomes the next ticket, which is refused with 19 where no plugged device has
-    /// the number, and else by the first refusal that is armed for it, which is used up. An `Err`
-    /// is want of memory, and then nothing has changed.
+    /// the number, and else by the first refusal that is armed for it, which is used up. Four times
+    /// the ticket's number, plus 3, is a 64-bit number, and so the word of a cell (usb_live) is one.
+    /// An `Err` is want of memory, and then nothing has changed.
     pub fn submit(&mut self, s: Submission) -> Result<Submitted, Submission>
         requires whole { IsWhole s }
         requires deadline { IsSome s.deadline → s.kind ≡ TransferType.Control }
@@ -268,8 +269,8 @@ impl Kernel {
         Ok(Submitted::Queued(ticket))
     }
 
-    /// A submission becomes the next ticket, and is refused at once. An `Err` is want of memory,
-    /// and then nothing has changed.
+    /// A submission becomes the next ticket, and is refused at once. Its number is bounded as
+    /// that of `submit` is. An `Err` is want of memory, and then nothing has changed.
     pub fn refuse(&mut self, s: Submission, errno: u16) -> Result<Submitted, Submission>
         requires errno { IsErrno errno }
         ensures submitted { IfOk result (λ r. r ≡ refuse_result self.old.past s errno) }

@@ -1,4 +1,4 @@
--- What is true of all owners.
+-- What the type `Owners` (src/owners.rt: the claimed interfaces and the endpoints) keeps.
 use Rattle.usb_ledger.specs.declared.owners.Owners.TheInside.{Inside}
 use Rattle.usb_ledger.specs.OwnerRows.{CountsOf, AreOwned, AreAlive}
 

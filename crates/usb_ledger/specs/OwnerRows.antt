@@ -12,11 +12,11 @@ use Rattle.usb_ledger.specs.declared.owners.EndedClaim.{EndedClaim}
 use Rattle.usb_ledger.specs.Entries.{ClaimedInterface, HostEndpoint}
 use Rattle.usb_ledger.specs.Owners.{shares_bit, is_of}
 
--- the serial number of the interface of a row
+-- the key of the interface of a row (`serial`, of usb_registry)
 abbrev pub row_interface : EndpointRow → Option ℕ
 row_interface e = option_map (λ (key : Key). key.serial) e.interface
 
--- an endpoint with a count of its tickets that have no end
+-- the endpoint of a row, without its count of tickets
 abbrev pub endpoint_of : EndpointRow → HostEndpoint
 endpoint_of e = record { interface = row_interface e; address = e.address; is_open = e.is_open }
 
@@ -50,7 +50,8 @@ claim_state c =
       handles = c.handles;
     }
 
--- what the owners are to the host. claim_capacity: how many interfaces there is memory for at once
+-- what a value of the type `Owners` (src/owners.rt) is. claim_capacity: how many interfaces there is
+-- memory for at once
 pub record OwnersState : Type 0 where
   pub interfaces : List (Option ClaimedInterface)
   pub rows : List (Option EndpointRow)

@@ -6,10 +6,10 @@ ghost use Rattle.usb_ledger.specs.Devices.{is_held};
 use usb_desc::DeviceDescriptor;
 use usb_kernel::Bytes;
 
-/// An open device: its number at the kernel, the value of the configuration that was active when
-/// the kernel last gave one (USB 2.0, section 9.4.2), its device descriptor, all descriptors that it
-/// gave, of which that one is the first, how many handles of it are open, and how many interfaces
-/// that were claimed on it have an open handle.
+/// An open device: its number at the kernel, the value of the active configuration that the kernel
+/// gave last, or that was set since (USB 2.0, sections 9.4.2 and 9.4.7), its device descriptor, all
+/// descriptors that it gave, of which that one is the first, how many handles of it are open, and
+/// how many interfaces that were claimed on it have an open handle.
 #[derive(Drop)]
 pub struct OpenDevice {
     pub device: u8,

@@ -393,7 +393,7 @@ impl Owners {
     }
 
     /// Nothing is kept that has gone: each interface has an owner, and each endpoint lives. That is
-    /// so of all owners, and the call does nothing.
+    /// so of each value of this type, and the call does nothing.
     pub fn nothing_is_kept_that_has_gone(&self)
         ensures owned { (i : ℕ) (c : ClaimedInterface) →
             value_at self.now.interfaces i ≡ Some c → is_counted self.now.rows i c ≡ true }
