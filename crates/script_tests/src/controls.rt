@@ -3,7 +3,8 @@
 use crate::scripts::{count_of, expect_malformed, expect_read};
 use std::process::Abort;
 use std::test::Fail;
-use usb_script::{ControlTarget, Item, SessionError, parse_script};
+use usb_parse::{SessionError, parse_script};
+use usb_script::{ControlTarget, Item};
 
 const TRANSFERS: [(&str, usize); 10] = [
     ("ctlin d0 standard device 00 0000 0000 0 0", 1),

@@ -3,7 +3,8 @@
 use std::process::Abort;
 use std::test::Fail;
 use usb_desc::{Direction, TransferType};
-use usb_script::{Data, EndpointKind, Item, Length, Name, Timeout, parse_script};
+use usb_parse::parse_script;
+use usb_script::{Data, EndpointKind, Item, Length, Name, Timeout};
 
 /// The value of a name, a length or a time-out that is made of it.
 fn name(value: u64) -> Option<u64> {

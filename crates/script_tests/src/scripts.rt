@@ -3,7 +3,8 @@
 use std::alloc::{AllocError, Global};
 use std::process::Abort;
 use std::test::Fail;
-use usb_script::{Item, MAX_SCRIPT, SessionError, parse_script};
+use usb_parse::{MAX_SCRIPT, SessionError, parse_script};
+use usb_script::Item;
 
 /// How many items a script has, or why it is refused.
 pub fn count_of(alloc: Global, bytes: &[u8]) -> Result<usize, SessionError> {

@@ -53,8 +53,8 @@ use Rattle.usb_words.specs.declared.control.Setup.{Setup}
 use Rattle.usb_words.specs.declared.control.ControlTarget.TheVariants.{Device}
 use Rattle.usb_script.specs.declared.item.Item.{Item}
 use Rattle.usb_script.specs.declared.item.Item.TheVariants as item
-use Rattle.usb_script.specs.Parse.{script_of}
-use Rattle.usb_script.proofs.OnLiterals.{script_on_literals}
+use Rattle.usb_parse.specs.Parse.{script_of}
+use Rattle.usb_parse.proofs.OnLiterals.{script_on_literals}
 use Rattle.usb_names.specs.Names.{named, is_free, change_named, freed, set_name}
 use Rattle.usb_answers.specs.Now.{now_answer}
 use Rattle.usb_answers.specs.Opens.{open_answer}

@@ -1,14 +1,8 @@
 pub mod Calls
 pub mod ControlLines
 pub mod EndpointCalls
-pub mod ErrorText
 pub mod ItemKinds
 pub mod LineForms
-pub mod Order
-pub mod Outcome
-pub mod Parse
-pub mod ScriptFacts
-pub mod Taken
 pub mod TreeLines
 pub mod Waits
 pub mod WithSteps

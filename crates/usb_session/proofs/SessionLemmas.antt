@@ -4,10 +4,10 @@ use Rattle.std.specs.declared.option.Option.{Option}
 use Rattle.std.specs.Io.KnownBytes.{Consumes, Keeps}
 use Rattle.std.proofs.lemmas.Bool.Decides.{nat_tests}
 use Rattle.usb_script.specs.declared.item.Item.{Item}
-use Rattle.usb_script.specs.declared.error.SessionError.{SessionError}
-use Rattle.usb_script.specs.declared.error.SessionError.TheVariants.{Malformed, TooLong, ReadFault, WriteFault, Memory}
-use Rattle.usb_script.specs.Parse.{script_of, parse, or_malformed}
-use Rattle.usb_script.specs.Outcome.{OrMemory}
+use Rattle.usb_parse.specs.declared.error.SessionError.{SessionError}
+use Rattle.usb_parse.specs.declared.error.SessionError.TheVariants.{Malformed, TooLong, ReadFault, WriteFault, Memory}
+use Rattle.usb_parse.specs.Parse.{script_of, parse, or_malformed}
+use Rattle.usb_parse.specs.Outcome.{OrMemory}
 use Rattle.usb_session.specs.Causes.{ReadWhole}
 use Rattle.usb_script.specs.ItemKinds.{is_call}
 use Rattle.usb_answers.specs.declared.summary.Summary.{Summary}

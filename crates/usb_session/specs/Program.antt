@@ -4,8 +4,8 @@ use Rattle.std.specs.Fmt.{decimal}
 use Rattle.std.specs.Str.{bytes_eq}
 use Rattle.std.specs.declared.option.Option.{Option}
 use Rattle.std.specs.Io.KnownBytes.{Appends}
-use Rattle.usb_script.specs.declared.error.SessionError.{SessionError}
-use Rattle.usb_script.specs.declared.error.SessionError.TheVariants.{Malformed, TooLong, ReadFault, WriteFault, Memory}
+use Rattle.usb_parse.specs.declared.error.SessionError.{SessionError}
+use Rattle.usb_parse.specs.declared.error.SessionError.TheVariants.{Malformed, TooLong, ReadFault, WriteFault, Memory}
 use Rattle.usb_session.specs.Causes.{Rose, WrotePrefix}
 use Rattle.usb_session.specs.Live.{live_count, IsLive}
 use Rattle.usb_session.specs.Session.{Streams, IsAnswered, HasReason}

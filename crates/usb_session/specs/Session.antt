@@ -3,9 +3,9 @@ use Rattle.std.specs.Prelude.{ℕ, ◌≡◌, ◌≤◌, ◌⊎◌, List, Result
 use Rattle.std.specs.declared.option.Option.{Option}
 use Rattle.std.specs.Io.KnownBytes.{Appends, Keeps}
 use Rattle.usb_script.specs.declared.item.Item.{Item}
-use Rattle.usb_script.specs.declared.error.SessionError.{SessionError}
-use Rattle.usb_script.specs.declared.error.SessionError.TheVariants.{Malformed, TooLong, ReadFault, WriteFault, Memory}
-use Rattle.usb_script.specs.Parse.{script_of}
+use Rattle.usb_parse.specs.declared.error.SessionError.{SessionError}
+use Rattle.usb_parse.specs.declared.error.SessionError.TheVariants.{Malformed, TooLong, ReadFault, WriteFault, Memory}
+use Rattle.usb_parse.specs.Parse.{script_of}
 use Rattle.usb_session.specs.Causes.{Rose, ReadWhole, WrotePrefix, TookTooMany}
 use Rattle.usb_host.specs.Finishes.{HasEnds, HasCompletions, KeepsNothing}
 use Rattle.usb_answers.specs.Output.{output, final_host}

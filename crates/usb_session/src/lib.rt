@@ -19,4 +19,5 @@ pub use standard::{StdSink, StdSource};
 pub use sure::{SureSink, SureSource};
 pub use usb_answers::Summary;
 pub use usb_live::{Gate, OpenGate, Seen};
-pub use usb_script::{Item, Script, SessionError, Steps, parse_script};
+pub use usb_parse::{Script, SessionError, parse_script};
+pub use usb_script::{Item, Steps};

@@ -9,7 +9,7 @@ use std::alloc::{AllocError, Global};
 use std::sync::Wait;
 use std::thread::Threads;
 use usb_live::{Gate, Seen, live_run};
-use usb_script::SessionError;
+use usb_parse::SessionError;
 
 /// The line of a run.
 #[tactic(auto, unfolding(crate::specs::Live::run_line))]

@@ -3,7 +3,7 @@
 ghost use Rattle.std.specs.Prelude.{ℕ, List, ◌≡◌, ◌≢◌, ◌⊎◌, ◌↔◌, ◌≤◌, ◌++◌, true, false, Some, map, string_bytes, decimal, IfSome, OnOk, OnErr};
 ghost use Rattle.std.specs.Io.KnownBytes.{Appends, Keeps};
 ghost use Rattle.usb_session.specs.Causes.{Rose, HasCause, WrotePrefix, FailedLast, TookAtMost};
-ghost use Rattle.usb_script.specs.Parse.{script_of};
+ghost use Rattle.usb_parse.specs.Parse.{script_of};
 ghost use Rattle.usb_session.specs.Session.{streams, IsAnswered, HasReason, IsSmooth, IsQuiet};
 ghost use Rattle.usb_answers.specs.declared.summary.Summary.{Summary};
 ghost use Rattle.usb_session.specs.Live.{live_count, IsLive};
@@ -19,7 +19,8 @@ use std::sync::Wait;
 use std::thread::Threads;
 use usb_answers::Summary;
 use usb_live::{Gate, Seen};
-use usb_script::{SessionError, number_between};
+use usb_parse::SessionError;
+use usb_script::number_between;
 
 const USAGE: u8 = 2;
 

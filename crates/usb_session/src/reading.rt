@@ -5,7 +5,7 @@ ghost use Rattle.usb_session.specs.Causes.{FailedLast, ReadWhole, ReadPiece, Too
 
 use crate::outside::Source;
 use std::alloc::Global;
-use usb_script::SessionError;
+use usb_parse::SessionError;
 
 /// One more byte than a script has.
 const MAX_TAKEN: usize = 1048577;

@@ -5,7 +5,7 @@ ghost use Rattle.std.specs.List.{All, count_by};
 ghost use Rattle.std.specs.Io.KnownBytes.{Appends};
 ghost use Rattle.usb_script.specs.declared.item.Item.{Item};
 ghost use Rattle.usb_script.specs.ItemKinds.{is_call, place_count};
-ghost use Rattle.usb_script.specs.ScriptFacts.{IsBounded};
+ghost use Rattle.usb_parse.specs.ScriptFacts.{IsBounded};
 ghost use Rattle.usb_host.specs.Finishes.{HasEnds, HasCompletions, KeepsNothing};
 ghost use Rattle.usb_answers.specs.Fates.{fate_lines};
 ghost use Rattle.usb_answers.specs.Output.{output, start, final_host};
@@ -22,7 +22,8 @@ use crate::reading::read_script;
 use crate::writing::offer;
 use std::alloc::Global;
 use usb_answers::{Host, Session, Summary, tickets, write_fate};
-use usb_script::{Item, SessionError, parse_script};
+use usb_parse::{SessionError, parse_script};
+use usb_script::Item;
 
 /// Writes these bytes to the sink, in as many writes as it takes.
 fn write_piece<K: Sink>(sink: &mut K, bytes: &[u8]) -> Result<(), SessionError>

@@ -1,6 +1,6 @@
 use Rattle.std.proofs.Common.{◌≡◌, ◌+◌}
 use Rattle.std.proofs.lemmas.Result.{IfErr-weaker, IfOk-weaker}
-use Rattle.usb_script.specs.declared.error.SessionError.TheVariants.{Memory}
+use Rattle.usb_parse.specs.declared.error.SessionError.TheVariants.{Memory}
 use Rattle.usb_session.specs.Session.{streams, HasReason, IsAnswered}
 use Rattle.usb_session.proofs.SessionLemmas.{memory_alone, answered-ends, exact_of}
 use Rattle.usb_session.proofs.run.run_session.Goals as goal

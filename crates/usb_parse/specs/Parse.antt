@@ -1,12 +1,12 @@
 -- A whole script: its items, or the first line outside the grammar.
 use Rattle.std.specs.Prelude.{ℕ, ◌+◌, nat_lt, List, [], ◌∷◌, length, Option, Some, None, Result, Ok, Err, if◌then◌else◌}
 use Rattle.usb_script.specs.declared.item.Item.{Item}
-use Rattle.usb_script.specs.declared.error.SessionError.{SessionError}
-use Rattle.usb_script.specs.declared.error.SessionError.TheVariants as errors
+use Rattle.usb_parse.specs.declared.error.SessionError.{SessionError}
+use Rattle.usb_parse.specs.declared.error.SessionError.TheVariants as errors
 use Rattle.usb_words.specs.Lines.{lines_of}
 use Rattle.usb_words.specs.Words.{◌>>=◌}
 use Rattle.usb_script.specs.LineForms.{reading_of}
-use Rattle.usb_script.specs.Order.{with_reading}
+use Rattle.usb_parse.specs.Order.{with_reading}
 
 -- the items with those of one more line, or nothing where it is outside the grammar
 abbrev pub with_line : List Item → List ℕ → Option (List Item)

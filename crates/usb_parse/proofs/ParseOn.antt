@@ -2,9 +2,9 @@
 use Rattle.std.proofs.Common.{◌≡◌, ℕ, ◌<◌, ◌≤◌, List, [], ◌∷◌, length, None, Ok, Err, refl, ap, ◌∙◌, sym, arith}
 use Rattle.std.proofs.lemmas.Bool.Decides.{nat_tests}
 use Rattle.usb_script.specs.declared.item.Item.{Item}
-use Rattle.usb_script.specs.declared.error.SessionError.TheVariants as errors
+use Rattle.usb_parse.specs.declared.error.SessionError.TheVariants as errors
 use Rattle.usb_words.specs.Lines.{lines_of}
-use Rattle.usb_script.specs.Parse.{with_line, parse, parse_from, script_of, or_malformed}
+use Rattle.usb_parse.specs.Parse.{with_line, parse, parse_from, script_of, or_malformed}
 
 script_of_small : (bytes : List ℕ) → length bytes ≤ 1048576 → script_of bytes ≡ or_malformed (parse_from [] 1 (lines_of bytes))
 unfolding script_of parse

@@ -1,8 +1,8 @@
 use Rattle.std.proofs.Common.{◌+◌, arith, add-one}
 use Rattle.std.proofs.lemmas.Grind.{common_steps}
 use Rattle.std.proofs.lemmas.List.{take_rest}
-use Rattle.usb_script.proofs.FirstLine.{lines_of_at, lines_of_all}
-use Rattle.usb_script.proofs.script.first_line.Goals as goal
+use Rattle.usb_parse.proofs.FirstLine.{lines_of_at, lines_of_all}
+use Rattle.usb_parse.proofs.script.first_line.Goals as goal
 
 pub returns-then-b-eq10-clause-lines : goal.returns-then-b-eq10-clause-lines
 returns-then-b-eq10-clause-lines c =

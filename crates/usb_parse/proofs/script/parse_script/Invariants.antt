@@ -1,8 +1,8 @@
 use Rattle.std.proofs.Common.{◌≡◌, ◌≤◌, ◌+◌, length, []}
 use Rattle.usb_words.specs.Lines.{lines_of}
-use Rattle.usb_script.specs.Parse.{parse_from}
+use Rattle.usb_parse.specs.Parse.{parse_from}
 use Rattle.usb_script.specs.ItemKinds.{place_count}
-use Rattle.usb_script.proofs.script.parse_script.Given as goal
+use Rattle.usb_parse.proofs.script.parse_script.Given as goal
 
 abbrev pub invariant-loop-rest : goal.invariant-loop-rest
 invariant-loop-rest l = record {

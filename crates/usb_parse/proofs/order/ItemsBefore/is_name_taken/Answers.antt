@@ -1,8 +1,8 @@
 use Rattle.std.proofs.Common.{ap, ◌∙◌}
 use Rattle.std.specs.List.{list_any}
-use Rattle.usb_script.specs.Order.{has_name}
-use Rattle.usb_script.proofs.TakenLemmas.{name-taken}
-use Rattle.usb_script.proofs.order.ItemsBefore.is_name_taken.Goals as goal
+use Rattle.usb_parse.specs.Order.{has_name}
+use Rattle.usb_parse.proofs.TakenLemmas.{name-taken}
+use Rattle.usb_parse.proofs.order.ItemsBefore.is_name_taken.Goals as goal
 
 pub returns : goal.returns
 returns c = record {

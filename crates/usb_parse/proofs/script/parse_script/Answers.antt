@@ -1,7 +1,7 @@
 use Rattle.std.proofs.Common.{◌≡◌, None, rules}
-use Rattle.usb_script.specs.Parse.{with_line}
-use Rattle.usb_script.proofs.ParseOn.{script_of_long, script_of_refused, script_of_read}
-use Rattle.usb_script.proofs.script.parse_script.Goals as goal
+use Rattle.usb_parse.specs.Parse.{with_line}
+use Rattle.usb_parse.proofs.ParseOn.{script_of_long, script_of_refused, script_of_read}
+use Rattle.usb_parse.proofs.script.parse_script.Goals as goal
 
 pub returns-then-bytes-gt-MAX_SCRIPT-clause-answer : goal.returns-then-bytes-gt-MAX_SCRIPT-clause-answer
 returns-then-bytes-gt-MAX_SCRIPT-clause-answer c = script_of_long c.args.bytes.now c.if-bytes-gt-MAX_SCRIPT.true

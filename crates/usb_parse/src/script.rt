@@ -2,18 +2,16 @@
 
 ghost use Rattle.std.specs.Prelude.{◌≡◌, ◌+◌, ◌<◌, ◌≤◌, ◌∷◌, length, OnOk, IfErr};
 ghost use Rattle.usb_words.specs.Lines.{lines_of};
-ghost use Rattle.usb_script.specs.Parse.{with_line, script_of};
-ghost use Rattle.usb_script.specs.Outcome.{OrMemory, IsParsingError};
+ghost use Rattle.usb_parse.specs.Parse.{with_line, script_of};
+ghost use Rattle.usb_parse.specs.Outcome.{OrMemory, IsParsingError};
 ghost use Rattle.usb_words.specs.Outcome.{Gives};
 ghost use Rattle.usb_script.specs.ItemKinds.{place_count};
 
 use crate::error::SessionError;
-use crate::item::Item;
-use crate::line::read_line;
 use crate::order::ItemsBefore;
-use crate::reading::Reading;
 use std::alloc::Global;
 use std::marker::Model;
+use usb_script::{Item, Reading, read_line};
 use usb_words::LineError;
 
 /// The most bytes that a script has.
@@ -28,7 +26,7 @@ pub struct Script {
 impl Model for Script {
     ghost use Rattle.std.specs.Prelude.{List};
     ghost use Rattle.usb_script.specs.declared.item.Item.{Item};
-    ghost use Rattle.usb_script.specs.ScriptFacts.{IsBounded};
+    ghost use Rattle.usb_parse.specs.ScriptFacts.{IsBounded};
 
     ghost Value = { List Item };
 

@@ -1,7 +1,7 @@
 -- How parsing answers what a definition gives.
 use Rattle.std.specs.Prelude.{◌≡◌, Result, Err}
-use Rattle.usb_script.specs.declared.error.SessionError.{SessionError}
-use Rattle.usb_script.specs.declared.error.SessionError.TheVariants as errors
+use Rattle.usb_parse.specs.declared.error.SessionError.{SessionError}
+use Rattle.usb_parse.specs.declared.error.SessionError.TheVariants as errors
 
 -- this answer, or want of memory
 abbrev pub OrMemory : {X : Type 0} → Result X SessionError → Result X SessionError → Type 0

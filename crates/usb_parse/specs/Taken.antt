@@ -3,7 +3,7 @@ use Rattle.std.specs.Prelude.{◌≡◌, Bool, List, Option, Some, None}
 use Rattle.std.specs.List.{filter_map, list_all}
 use Rattle.usb_script.specs.declared.item.Item.{Item}
 use Rattle.usb_script.specs.declared.item.Item.TheVariants.{Device}
-use Rattle.usb_script.specs.declared.order.Taken.{Taken}
+use Rattle.usb_parse.specs.declared.order.Taken.{Taken}
 use Rattle.usb_script.specs.ItemKinds.{is_setup}
 
 -- what an item takes, if it is a device line

@@ -4,13 +4,13 @@ ghost use Rattle.std.specs.Prelude.{◌≡◌, ◌<◌, ◌==◌, ◌&&◌, ◌+
 ghost use Rattle.std.specs.List.{list_any};
 ghost use Rattle.usb_words.specs.declared.line_error.LineError.TheVariants.{Memory};
 ghost use Rattle.usb_script.specs.declared.reading.Reading.TheVariants.{Read};
-ghost use Rattle.usb_script.specs.Order.{has_name, has_bus_address, is_free_device, may_follow, with_reading};
+ghost use Rattle.usb_parse.specs.Order.{has_name, has_bus_address, is_free_device, may_follow, with_reading};
 ghost use Rattle.usb_words.specs.Outcome.{Gives};
-ghost use Rattle.usb_script.specs.Taken.{taken_of};
+ghost use Rattle.usb_parse.specs.Taken.{taken_of};
 
-use crate::item::Item;
 use std::alloc::Global;
 use std::marker::Model;
+use usb_script::Item;
 use usb_words::{LineError, Name};
 
 /// What a device line takes: its name, and its bus with its address.
@@ -80,7 +80,7 @@ pub struct ItemsBefore {
 impl Model for ItemsBefore {
     ghost use Rattle.std.specs.Prelude.{List};
     ghost use Rattle.usb_script.specs.declared.item.Item.{Item};
-    ghost use Rattle.usb_script.specs.Taken.{IsKnown};
+    ghost use Rattle.usb_parse.specs.Taken.{IsKnown};
 
     ghost Value = { List Item };
 

@@ -5,9 +5,9 @@ use Rattle.std.specs.List.{list_any, cons_option}
 use Rattle.std.specs.Option.{option_map_or}
 use Rattle.usb_script.specs.declared.item.Item.{Item}
 use Rattle.usb_script.specs.declared.item.Item.TheVariants.{Device}
-use Rattle.usb_script.specs.declared.order.Taken.{Taken}
-use Rattle.usb_script.specs.Order.{has_name, has_bus_address}
-use Rattle.usb_script.specs.Taken.{taken_by, taken_of}
+use Rattle.usb_parse.specs.declared.order.Taken.{Taken}
+use Rattle.usb_parse.specs.Order.{has_name, has_bus_address}
+use Rattle.usb_parse.specs.Taken.{taken_by, taken_of}
 
 any_onto : (p : Taken → Bool) (o : Option Taken) (ts : List Taken) → list_any p (cons_option o ts) ≡ (option_map_or p o false || list_any p ts)
 any_onto p None ts = refl

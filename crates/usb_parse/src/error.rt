@@ -1,7 +1,7 @@
 //! Why a script is not answered.
 
 ghost use Rattle.std.specs.Prelude.{◌≡◌};
-ghost use Rattle.usb_script.specs.declared.error.SessionError.TheVariants.{Memory};
+ghost use Rattle.usb_parse.specs.declared.error.SessionError.TheVariants.{Memory};
 
 use std::alloc::{AllocError, AllocFailed};
 use std::error::Error;
@@ -25,7 +25,7 @@ pub enum SessionError {
 
 impl fmt::Display for SessionError {
     ghost use Rattle.std.specs.Prelude.{Some};
-    ghost use Rattle.usb_script.specs.ErrorText.{error_text};
+    ghost use Rattle.usb_parse.specs.ErrorText.{error_text};
 
     ghost output = { λ e. Some (error_text e) };
 

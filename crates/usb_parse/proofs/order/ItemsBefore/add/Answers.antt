@@ -1,9 +1,9 @@
 use Rattle.std.proofs.Common.{◌≡◌, ◌∷◌, ◌++◌, [], ◌∙◌, arith}
 use Rattle.std.proofs.lemmas.Grind.{common_steps}
-use Rattle.usb_script.specs.Taken.{taken_of}
-use Rattle.usb_script.proofs.TakenLemmas.{taken-more}
-use Rattle.usb_script.proofs.order.ItemsBefore.add.Goals as goal
-use Rattle.usb_script.proofs.order.ItemsBefore.add.Goals.{then-may_follow, else-may_follow}
+use Rattle.usb_parse.specs.Taken.{taken_of}
+use Rattle.usb_parse.proofs.TakenLemmas.{taken-more}
+use Rattle.usb_parse.proofs.order.ItemsBefore.add.Goals as goal
+use Rattle.usb_parse.proofs.order.ItemsBefore.add.Goals.{then-may_follow, else-may_follow}
 
 pub invariant_of-self-2 : goal.invariant_of-self-2
 invariant_of-self-2 c =

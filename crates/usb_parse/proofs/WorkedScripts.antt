@@ -5,13 +5,13 @@ use Rattle.usb_desc.specs.declared.control.Recipient.TheVariants as recipient
 use Rattle.usb_words.specs.declared.control.ControlTarget.TheVariants as target
 use Rattle.usb_words.specs.declared.endpoint_kind.EndpointKind.TheVariants.{BulkIn, BulkOut, InterruptIn, InterruptOut}
 use Rattle.usb_script.specs.declared.item.Item.TheVariants.{Device, Driver, Now, Open, DeviceDescriptor, Descriptors, CloneDevice, CloseDevice, ActiveConfiguration, Speed, SetConfiguration, Reset, DetachDriver, AttachDriver, Claim, DetachAndClaim, CloneInterface, CloseInterface, SetAltSetting, GetAltSetting, InterfaceDescriptor, Release, Endpoint, SubmitIn, SubmitOut, Pending, Poll, Wait, TransferIn, TransferOut, Cancel, ClearHalt, CloseEndpoint, ControlIn, ControlOut, StartControlIn, StartControlOut, PollFuture, WaitFuture, GetDescriptor, SupportedLanguages, StringDescriptor, CloseFuture, Steps}
-use Rattle.usb_script.specs.declared.error.SessionError.TheVariants.{Malformed}
+use Rattle.usb_parse.specs.declared.error.SessionError.TheVariants.{Malformed}
 use Rattle.usb_script.specs.declared.reading.Reading.TheVariants.{Skipped, Read}
 use Rattle.usb_simulated.specs.declared.step.KernelStep.TheVariants.{Packet, Ack, Fail, Unplug, Clock, Timer, Reap, Refuse}
 use Rattle.usb_simulated.specs.declared.step.KernelCall.TheVariants as call
 use Rattle.usb_script.specs.LineForms.{reading_of}
-use Rattle.usb_script.specs.Parse.{script_of}
-use Rattle.usb_script.proofs.OnLiterals.{script_on_literals}
+use Rattle.usb_parse.specs.Parse.{script_of}
+use Rattle.usb_parse.proofs.OnLiterals.{script_on_literals}
 
 empty_script : script_of [] ≡ Ok []
 unfolding script_on_literals
