@@ -1,7 +1,7 @@
 -- How a bus goes on.
 use Rattle.std.specs.Prelude.{ℕ, ◌≡◌, ◌≤◌, Option}
 use Rattle.usb_bus.specs.BusState.{BusState, without_owner}
--- the old journal is the beginning of the new one
+-- the old journal is the beginning of the new one (it stands behind the new events, which come first)
 pub use Rattle.usb_kernel.specs.Extends.{Extends}
 
 -- events may have come and time may have passed, and these are the owners of the tickets then

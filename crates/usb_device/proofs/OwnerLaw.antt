@@ -6,7 +6,7 @@ use Rattle.usb_kernel.specs.Value.{KernelState}
 use Rattle.usb_host.specs.HostState.{host_of}
 use Rattle.usb_device.specs.OwnerLaws.{ClaimsAreOwned, ClaimsStayOwned}
 use Rattle.usb_device.proofs.OwnerLawTurns.{stepped-owned, reaped-owned, rest-owned, turned-owned, discarded-owned, ended-owned, taken-owned, abandoned-owned, finished-owned}
-use Rattle.usb_device.proofs.OwnerLawCalls.{submitted-owned, started-owned, refused-owned, left-owned, idled-owned, halt-owned, opened-owned, asked-owned, configured-owned, reset-owned, detached-owned, attached-owned, speed-owned, setting-owned, cloned-owned, closed-owned, closed-alive, closed-others, endpoint-owned}
+use Rattle.usb_device.proofs.OwnerLawCalls.{submitted-owned, started-owned, refused-owned, left-owned, idled-owned, halt-owned, opened-owned, device_cloned-owned, device_closed-owned, asked-owned, configured-owned, reset-owned, detached-owned, attached-owned, speed-owned, setting-owned, cloned-owned, closed-owned, closed-alive, closed-others, endpoint-owned}
 use Rattle.usb_device.proofs.OwnerLawKernel.{fresh-claimed}
 use Rattle.usb_device.proofs.OwnerLawWaits.{waited-owned, blocked-owned, awaited-owned}
 use Rattle.usb_device.proofs.OwnerLawClaims.{claimed-owned}
@@ -43,6 +43,8 @@ claims_stay_owned =
       abandon = abandoned-owned;
       leave = left-owned;
       open_device = opened-owned;
+      clone_device = device_cloned-owned;
+      close_device = device_closed-owned;
       claim = claimed-owned;
       clone_handle = cloned-owned;
       close_handle = closed-owned;

@@ -104,6 +104,12 @@ opened-owned h bus address =
     let next : HostState = record h { kernel = armed_as h.kernel (open_tried bus address h.kernel).kernel; devices = (host_opened h bus address).devices } in
     subst (λ (g : HostState). KeepsClaims h g) (sym (opened-is h bus address)) (claims-kept h next (claimed-refl h.interfaces) (λ d n. refl) (λ i. refl) (λ live. live))
 
+pub device_cloned-owned : (h : HostState) (key : ℕ) → KeepsClaims h (device_cloned h key)
+device_cloned-owned h key = claims-kept h (device_cloned h key) (claimed-refl h.interfaces) (λ d n. refl) (λ i. refl) (λ live. live)
+
+pub device_closed-owned : (h : HostState) (key : ℕ) → KeepsClaims h (device_closed h key)
+device_closed-owned h key = claims-kept h (device_closed h key) (claimed-refl h.interfaces) (λ d n. refl) (λ i. refl) (λ live. live)
+
 asked-by : (h : HostState) (key : ℕ) (o : Option OpenDevice) → KeepsClaims h (asked_on h key o)
 asked-by h key None = stays h
 asked-by h key (Some o) = claims-kept h (asked_on h key (Some o)) (claimed-refl h.interfaces) (λ d n. called-claimed h.kernel o.device call.GetConfig no_rules same (λ x. refl) d n (λ here x. refl)) (λ i. refl) (λ live. live)

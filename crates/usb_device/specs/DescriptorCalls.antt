@@ -60,8 +60,8 @@ abbrev pub languages_answered : HostState → ℕ → ControlIn → ℕ →
 languages_answered h device request timeout =
     option_map (λ r. r >>= languages_of) (descriptor_answered h device request timeout)
 
--- a call that takes memory again for what came leaves one state (`called`). Where it lacked memory
--- that was for a good answer (`came`), or nothing has changed (`kept`)
+-- a call that takes memory once more for the answer that came leaves `called`. Where it answers lack of
+-- memory, either the answer was good (`came`) and it leaves `called` too, or nothing has changed (`kept`)
 abbrev pub LeavesEither : {A B E F S : Type 0} → Result A (Fail E) → Option (Result B F) → S → S → S →
     Type 0
 LeavesEither (Ok x) came new called kept = new ≡ called

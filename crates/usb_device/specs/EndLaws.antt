@@ -13,14 +13,14 @@ use Rattle.usb_ledger.specs.declared.ends.TicketEnd.TheVariants.{Dropped}
 use Rattle.usb_host.specs.HostState.{HostState}
 use Rattle.usb_ledger.specs.EndedTickets.{end_at}
 use Rattle.usb_host.specs.HostBus.{bus_of}
-use Rattle.usb_host.specs.HostTurns.{host_stepped, host_turned, host_rest}
+use Rattle.usb_host.specs.HostTurns.{host_stepped, host_turned, host_reaped, host_rest}
 use Rattle.usb_host.specs.HostCalls.{host_submitted, host_refused, host_discarded, host_left, host_idled, host_halt_cleared}
 use Rattle.usb_host.specs.TicketEnds.{host_taken, host_abandoned}
 use Rattle.usb_host.specs.HostAwaits.{host_awaited}
 use Rattle.usb_host.specs.Controls.{host_started}
 use Rattle.usb_device.specs.Futures.{FutureState, StandsFuture, future_closed}
 use Rattle.usb_host.specs.Finishes.{finished}
-use Rattle.usb_host.specs.Handles.{handle_cloned, handle_closed}
+use Rattle.usb_host.specs.Handles.{device_cloned, device_closed, handle_cloned, handle_closed}
 use Rattle.usb_host.specs.Opens.{host_opened}
 use Rattle.usb_host.specs.InterfaceClaims.{host_claimed}
 use Rattle.usb_host.specs.EndpointOpens.{host_asked, with_endpoint}
@@ -32,11 +32,12 @@ abbrev pub KeepsEnds : HostState → HostState → Type 0
 KeepsEnds old new =
     (t : ℕ) (end : TicketEnd) → end_at old.tickets t ≡ Some end → end_at new.tickets t ≡ Some end
 
--- over each call: so a ticket has at most one end
+-- over each call (a wait and a blocking transfer are made of these): so a ticket has at most one end
 pub record EndsStay : Type 0 where
   pub step : (h : HostState) (s : KernelStep) → KeepsEnds h (host_stepped h s)
   pub rest : (h : HostState) → KeepsEnds h (host_rest h)
   pub turn : (h : HostState) → KeepsEnds h (host_turned h)
+  pub reap : (h : HostState) (t : ℕ) → KeepsEnds h (host_reaped h t)
   pub idle : (h : HostState) (until : ℕ) → KeepsEnds h (host_idled h until)
   pub submit : (h : HostState) (to : Route) (t : TransferData) → KeepsEnds h (host_submitted h to t)
   pub refuse : (h : HostState) (to : Route) (t : TransferData) (errno : ℕ) →
@@ -48,6 +49,8 @@ pub record EndsStay : Type 0 where
   pub abandon : (h : HostState) (t : ℕ) → KeepsEnds h (host_abandoned h t)
   pub leave : (h : HostState) (key : ℕ) → KeepsEnds h (host_left h key)
   pub open_device : (h : HostState) (bus address : ℕ) → KeepsEnds h (host_opened h bus address)
+  pub clone_device : (h : HostState) (device : ℕ) → KeepsEnds h (device_cloned h device)
+  pub close_device : (h : HostState) (device : ℕ) → KeepsEnds h (device_closed h device)
   pub claim : (h : HostState) (device number : ℕ) (reattach : Bool) →
       KeepsEnds h (host_claimed h device number reattach)
   pub clone_handle : (h : HostState) (interface : ℕ) → KeepsEnds h (handle_cloned h interface)

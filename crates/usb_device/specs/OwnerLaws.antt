@@ -25,7 +25,7 @@ use Rattle.usb_host.specs.Controls.{host_started}
 use Rattle.usb_host.specs.TicketEnds.{host_ended, host_taken, host_abandoned}
 use Rattle.usb_host.specs.Finishes.{finished}
 use Rattle.usb_device.specs.HandleStates.{InterfaceState, StandsInterface}
-use Rattle.usb_host.specs.Handles.{handle_cloned, handle_closed}
+use Rattle.usb_host.specs.Handles.{device_cloned, device_closed, handle_cloned, handle_closed}
 use Rattle.usb_host.specs.Opens.{host_opened}
 use Rattle.usb_host.specs.InterfaceClaims.{host_claimed}
 use Rattle.usb_host.specs.EndpointOpens.{host_asked, with_endpoint}
@@ -132,6 +132,8 @@ pub record ClaimsStayOwned : Type 0 where
   pub leave : (h : HostState) (key : ℕ) → key_at h.endpoints key ≡ true →
       KeepsClaims h (host_left h key)
   pub open_device : (h : HostState) (bus address : ℕ) → KeepsClaims h (host_opened h bus address)
+  pub clone_device : (h : HostState) (device : ℕ) → KeepsClaims h (device_cloned h device)
+  pub close_device : (h : HostState) (device : ℕ) → KeepsClaims h (device_closed h device)
   pub claim : (h : HostState) (device number : ℕ) (reattach : Bool) →
       KeepsClaims h (host_claimed h device number reattach)
   pub clone_handle : (h : HostState) (handle : InterfaceState) → StandsInterface h handle →

@@ -1,4 +1,4 @@
--- An endpoint of any type and direction.
+-- An endpoint of type bulk or interrupt, of either direction.
 use Rattle.usb_endpoint.specs.declared.any_endpoint.AnyEndpoint.{AnyEndpoint}
 use Rattle.usb_endpoint.specs.declared.any_endpoint.AnyEndpoint.TheVariants.{BulkIn, BulkOut, InterruptIn, InterruptOut}
 use Rattle.usb_endpoint.specs.EndpointState.{EndpointState}

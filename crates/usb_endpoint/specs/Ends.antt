@@ -9,7 +9,7 @@ pub record HasEnded (b : BusState) (t : ℕ) : Type 0 where
   pub is : t < length (tickets b.past)
   pub free : b.owner t ≡ None
 
--- the journal went on, and endpoints hold what they held; or a ticket has ended; or the next ticket
+-- the journal went on; and endpoints hold what they held, or a ticket has ended, or the next ticket
 -- has come to one
 pub record Moved (old new : BusState) : Type 0 where
   pub past : Extends old.past new.past

@@ -20,8 +20,8 @@ time_is_up Reaped = false
 time_is_up TimeUp = true
 
 -- A look at the ticket, then at the clock, then a turn, and so on: whether the ticket was found
--- reaped, and what is left then. The number bounds the looks: with too small a number there is no
--- answer.
+-- reaped, and what is left then. The last number bounds the looks: with too small a number there is
+-- no answer.
 abbrev pub waited : {S : Type 0} → (S → BusState) → (S → S) → (S → Turn) → ℕ → ℕ → ℕ → ℕ → S →
     Option (Bool × S)
 waited state turned turn_of t timeout start zero s = None

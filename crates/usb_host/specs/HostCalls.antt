@@ -72,7 +72,7 @@ host_idled h until =
       };
     }
 
--- the kernel's answer to the clearing of a halt, a call with no rule of refusal (usb_kernel: Calls.antt)
+-- the kernel's answer to the clearing of a halt, a call with no rule of refusal (`no_rules`: Claims.antt of usb_simulated)
 abbrev pub host_halt_result : HostState → ℕ → ℕ → Result (Unit {0}) ℕ
 host_halt_result h device endpoint = ok_unless (errno_of h.kernel device call.Halt no_rules)
 

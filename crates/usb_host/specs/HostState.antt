@@ -7,9 +7,9 @@ use Rattle.usb_ledger.specs.declared.opened.OpenDevice.{OpenDevice}
 
 -- the kernel; the devices that were opened, with nothing where one is held no more (usb_ledger:
 -- Devices.antt); the interfaces that were claimed, with nothing where one has no owner any more, and
--- the endpoints that were opened, with nothing where one lives no more (Releases.antt), each in this
--- order, in which the n-th, counted from 0, has the key n; what became of each ticket; and the steps
--- of a line that are left
+-- the endpoints that were opened, with nothing where one lives no more (Releases.antt of usb_host),
+-- each in this order, in which the n-th, counted from 0, has the key n; what became of each ticket;
+-- and the steps of a line that are left
 pub record HostState : Type 0 where
   pub kernel : KernelState
   pub devices : List (Option OpenDevice)

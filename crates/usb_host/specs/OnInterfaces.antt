@@ -63,5 +63,6 @@ abbrev pub current_setting : HostState → ClaimedInterface → Option (List ℕ
 current_setting h c =
     option_and_then (λ o. setting_in o c.number c.setting) (value_at h.devices c.opened)
 
+-- `descriptors`: all its settings
 abbrev pub all_settings : HostState → ClaimedInterface → List (List ℕ)
 all_settings h c = option_map_or (λ o. settings_in o c.number) (value_at h.devices c.opened) []

@@ -8,6 +8,6 @@ use Rattle.usb_host.specs.HostState.{HostState}
 abbrev pub is_in_use : HostState → ℕ → ℕ → Bool
 is_in_use h i address = is_used_among h.tickets h.endpoints i address
 
--- whether it has an owner beside one of its handles
+-- whether an interface has an owner beside one of its handles
 abbrev pub is_shared : HostState → ℕ → ClaimedInterface → Bool
 is_shared h i c = is_owned_among h.tickets h.endpoints i (record c { handles = c.handles - 1 })

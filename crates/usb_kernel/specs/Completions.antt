@@ -18,7 +18,7 @@ abbrev pub buffer_for : Body → ℕ → List ℕ → BufferState
 buffer_for (Wanted n) room got = record { bytes = got; requested = n; room = room }
 buffer_for (Sent bytes) room got = record { bytes = bytes; requested = length bytes; room = room }
 
--- the completion of a ticket t, of which this is known, with its errno
+-- the completion of a ticket t, made of what was submitted (s), its fate (f) and its errno
 abbrev pub done_of : ℕ → Ticket → Fate → ℕ → Done
 done_of t s f errno =
     record { ticket = t; status = errno; refused = s.refused; count = count_of s f; buffer = buffer_for s.body s.capacity (received f) }

@@ -83,7 +83,7 @@ row_with_packet r b =
     row_taking r b None = r
     row_taking r b (Some buffer) = row_with_bytes r b buffer
 
--- a row with a count, of the bytes of its buffer
+-- a row whose count is n, where its buffer has len bytes: finished once all are counted
 abbrev pub row_with_count : TicketRow → ℕ → ℕ → TicketRow
 row_with_count r len n = record r { count = n; status = if nat_le len n then Some 0 else r.status }
 

@@ -63,7 +63,7 @@ slot_kept done (slot.HeldBy key transfer) =
 slot_kept done (slot.Abandoned key) = slot.Abandoned key
 slot_kept done (slot.Ended end) = slot.Ended end
 
--- a slot whose ticket was given up before that
+-- a slot whose ticket its endpoint gives up: nothing of the transfer is kept, and what was given up or has its end stays so
 abbrev pub slot_without : TicketState → TicketState
 slot_without (slot.HeldBy key transfer) = slot.Abandoned key
 slot_without (slot.Abandoned key) = slot.Abandoned key

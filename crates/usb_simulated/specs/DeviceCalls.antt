@@ -8,7 +8,7 @@ use Rattle.usb_simulated.specs.declared.step.KernelCall.TheVariants as call
 use Rattle.usb_simulated.specs.Claims.{claim_rules, with_claim}
 use Rattle.usb_simulated.specs.Calls.{same, set_configuration_rules, with_configuration, detach_and_claim_rules, with_claimed_only, detach_rules, without_driver, attach_rules, with_driver, set_interface_rules}
 
--- which refusals are armed for a call
+-- the kind of a call, by which refusals are armed for it
 abbrev pub kind_of : DeviceCall → KernelCall
 kind_of (SetConfiguration value) = call.SetConfig
 kind_of (Claim i) = call.Claim

@@ -6,7 +6,8 @@ use Rattle.usb_simulated.specs.declared.refusals.Arming.{Arming}
 use Rattle.usb_simulated.specs.declared.refusals.Queue.{Queue}
 use Rattle.usb_simulated.specs.Refusals.{call_number}
 
--- the place of the queue of a refusal's device and call
+-- there is a queue for each of the 13 calls on each of the 256 numbers of devices, 3328 in all; the place of that of a refusal's device
+-- and call
 abbrev pub kind_of : Armed → ℕ
 kind_of a = a.device * 13 + call_number a.call
 
