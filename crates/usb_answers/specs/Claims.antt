@@ -7,7 +7,7 @@ use Rattle.usb_answers.specs.State.{State, with_host}
 use Rattle.usb_answers.specs.OpenAt.{DeviceAt, device_at}
 use Rattle.usb_answers.specs.Answer.{Answer, barred, ok_answer, error_answer, if_open}
 
--- where it is not refused, the interface has a handle of this key
+-- where it is not refused, a handle of this key is open under the name
 abbrev pub claimed_as : State → ℕ → ℕ → Result ℕ ErrorState → Answer
 claimed_as state number i (Err error) = error_answer state error
 claimed_as state number i (Ok key) =

@@ -24,7 +24,7 @@ endpoint_as state e address kind x (Ok maximum) =
       endpoints = set_name state.endpoints e (new_endpoint state.host x.claimed.device address kind maximum);
     })
 
--- the kernel is asked for the configuration, and then the endpoint is looked for
+-- `host` is the host once the kernel was asked for the configuration: the endpoint is looked for there
 abbrev pub endpoint_asked : State → ℕ → ℕ → TransferType → Direction → InterfaceAt → HostState → Answer
 endpoint_asked state e address kind direction x host =
     endpoint_as (with_host state host) e address kind x (host_tries host x.handle.key x.claimed address kind direction)

@@ -15,7 +15,8 @@ use Rattle.usb_answers.specs.Relation.{Represents}
 use Rattle.usb_answers.specs.Answered.{Answered}
 
 -- what is open stays open, steps are taken from the front of the line alone, the journal goes on,
--- and the endpoint stands under its key
+-- the endpoint stands under its key, and what endpoints of other keys hold has not ended; x is the
+-- endpoint before the call, and y after it
 pub record CallKeeps (old new : HostState) (x y : EndpointState) : Type 0 where
   pub line : LineGoesOn old new
   pub past : Extends old.kernel.past new.kernel.past

@@ -10,7 +10,7 @@ use Rattle.usb_names.specs.Names.{is_free, set_name}
 use Rattle.usb_answers.specs.State.{State, with_host}
 use Rattle.usb_answers.specs.Answer.{Answer, told, barred, ok_answer, error_answer}
 
--- where it is not refused, the device has a handle of this key
+-- where it is not refused, a handle of this key is open under the name
 abbrev pub opened_as : State → ℕ → Result ℕ ErrorState → Answer
 opened_as state d (Err error) = error_answer state error
 opened_as state d (Ok key) = ok_answer (record state { devices = set_name state.devices d key })

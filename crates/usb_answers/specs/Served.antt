@@ -103,8 +103,8 @@ pub record IsServedInOrder (last : HostState) (h : ClosedEndpoint) : Type 0 wher
 abbrev pub tickets_of_all : List ClosedEndpoint → List ℕ
 tickets_of_all hs = flat_map (λ (h : ClosedEndpoint). h.endpoint.tickets) hs
 
--- of a script whose tickets have their ends each endpoint is served so, and each ticket belongs to one endpoint, at one place, or is
--- that of one control transfer
+-- each endpoint of a script is served so, and each ticket belongs to one endpoint, at one place, or is that of one control
+-- transfer
 pub record EndpointsAreServed (items : List Item) : Type 0 where
   pub served : All (IsServedInOrder (final_host items)) (closed_endpoints items)
   pub once : (t : ℕ) → t < length (final_host items).tickets → count_by (λ u. u == t) (tickets_of_all (closed_endpoints items) ++ control_tickets items) ≡ 1

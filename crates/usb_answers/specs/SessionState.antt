@@ -56,7 +56,8 @@ KeysAreNamed opened endpoints futures =
 
 -- between calls no step is left; there are 64 names of each kind; what is open under a name stands in the host; a device and an interface have as many open handles as there
 -- are names of them; each device that the host keeps is held; no endpoint and no future is open under two names, and no two of them have one key;
--- a future that is open under a name still has its ticket; and each endpoint that is open at the host is open under a name, or is a future's
+-- a future that is open under a name still has its ticket; and each endpoint that is open at the host is open under a name, or is a future's.
+-- (In `endpoints_differ` d and e are numbers of names of endpoints, and in `futures_differ` m and n of names of futures)
 pub record IsSound (s : SessionState) : Type 0 where
   pub idle : s.host.steps ≡ []
   pub device_names : length s.devices ≡ 64

@@ -19,7 +19,7 @@ unfoldable pub get_alt_setting_answer : State → ℕ → Answer
 get_alt_setting_answer state i =
     if_open (interface_at state i) (λ x. told state (alt_setting_line x.claimed.setting)) (barred state)
 
--- the kernel is asked for the configuration, and then the current setting is looked for
+-- `host` is the host once the kernel was asked for the configuration: the current setting is looked for there
 abbrev pub setting_told : State → InterfaceAt → HostState → Answer
 setting_told state x host = told (with_host state host) (interface_line (current_setting host x.claimed))
 

@@ -17,7 +17,8 @@ use Rattle.usb_answers.specs.Answer.{Answer, barred, ok_answer, if_open}
 abbrev pub has_direction : Direction → EndpointState → Bool
 has_direction direction h = same_direction (direction_of_address h.address) direction
 
--- it is barred where the endpoint is not open or has the other direction, where 64 transfers of it are pending, or where 1,024 tickets are unreaped
+-- whether a submission to an open endpoint is barred: where it has the other direction, where 64 transfers of it are pending,
+-- or where 1,024 tickets are unreaped
 abbrev pub bars_submission : List Event → Direction → EndpointState → Bool
 bars_submission past direction h = not (has_direction direction h) || (nat_le 64 (length h.pending) || nat_le 1024 (unreaped past))
 

@@ -19,7 +19,8 @@ use Rattle.usb_answers.specs.Answer.{Answer, told, barred, if_open}
 use Rattle.usb_answers.specs.Submits.{has_direction}
 use Rattle.usb_answers.specs.Steps.{lent, then_rested, stepped_all}
 
--- it is barred where the endpoint is not open or has the other direction, where a transfer of it is pending, or where 1,024 tickets are unreaped
+-- whether a blocking transfer of an open endpoint is barred: where it has the other direction, where a transfer of it is
+-- pending, or where 1,024 tickets are unreaped
 abbrev pub bars_transfer : List Event → Direction → EndpointState → Bool
 bars_transfer past direction h = not (has_direction direction h) || (not (length h.pending == 0) || nat_le 1024 (unreaped past))
 

@@ -34,7 +34,7 @@ AllCarry past d e m (t ∷ ts) (b ∷ bs) = Carries past d e m t b × AllCarry p
 abbrev pub HandleCarries : List Event → EndpointState → List ℕ → List (List ℕ) → Type 0
 HandleCarries past e taken transfers = AllCarry past e.device e.address e.maximum (taken ++ e.pending) transfers × IsAscending (taken ++ e.pending)
 
--- a step of a handle, after which it has its tickets and more, which carry these bytes too
+-- a call on a handle, after which it has its tickets and more, which carry these bytes too
 pub record CarriesOn (old new : BusState) (e e' : EndpointState) (more : List (List ℕ)) : Type 0 where
   pub maximum : e'.maximum ≡ e.maximum
   pub all : (taken : List ℕ) (transfers : List (List ℕ)) → HandleCarries old.past e taken transfers → (taken' : List ℕ) × (submitted : List ℕ) × (taken' ++ e'.pending ≡ (taken ++ e.pending) ++ submitted) × HandleCarries new.past e' taken' (transfers ++ more)

@@ -39,7 +39,7 @@ CameOne k timeout old new (Took status) = TookOne k timeout old new status
 CameOne k timeout old new NotCome = MissedOne k timeout old new
 
 -- whether fronts are to be taken: by a flushing call while any is pending, by a write while no
--- buffer stands and as many as are to be are pending
+-- buffer stands and at least as many as are to be are pending
 abbrev pub waits_on : Bool → WriterState → Bool
 waits_on true w = nat_lt 0 (length w.endpoint.pending)
 waits_on false w = is_none w.buffer && nat_le w.n (length w.endpoint.pending)

@@ -20,7 +20,7 @@ accepted_count src w = min (length src) (w.size - length (unwrap_or w.buffer [])
 abbrev pub accepts : {S : Type 0} → BusCalls S → List ℕ → Writing S → Writing S
 accepts k src w = accepted k (unwrap_or w.writer.buffer [] ++ take (accepted_count src w.writer) src) w
 
--- without memory it accepts nothing: what stood still does, and an empty buffer may stand
+-- without memory it accepts nothing: what stood goes on to stand, and an empty buffer may stand
 pub record AcceptsNone {S : Type 0} (old new : Writing S) : Type 0 where
   pub bus : new.bus ≡ old.bus
   pub bytes : unwrap_or new.writer.buffer [] ≡ unwrap_or old.writer.buffer []
@@ -39,7 +39,7 @@ pub record WroteNone {S : Type 0} (k : BusCalls S) (timeout : ℕ) (old new : Wr
   pub came : DrainedAll k false timeout (not_begun old) mid
   pub none : AcceptsNone mid new
 
--- why a write accepted nothing: a front failed or was not there, or memory was wanted
+-- why a write accepted nothing: a front failed or was not there, or memory was lacking
 abbrev pub IsWriteError : {S : Type 0} → BusCalls S → ℕ → Writing S → Writing S → Fail WriteFault → Type 0
 IsWriteError k timeout old new e =
     FailsBy e (DrainFault k false timeout (not_begun old) new) (WroteNone k timeout old new)
@@ -59,7 +59,7 @@ end_start k w = sent_end k w.writer.buffer (not_begun w)
 abbrev pub Flushed : {S : Type 0} → BusCalls S → ℕ → Writing S → Writing S → Type 0
 Flushed k timeout old new = DrainedAll k true timeout (flush_start k old) new
 
--- why one answers an error: a front failed or was not there, or memory was wanted, with nothing
+-- why one answers an error: a front failed or was not there, or memory was lacking, with nothing
 -- submitted
 abbrev pub IsFlushError : {S : Type 0} → BusCalls S → ℕ → Writing S → Writing S → Fail WriteFault → Type 0
 IsFlushError k timeout old new e = FailsBy e (DrainFault k true timeout (flush_start k old) new) (new ≡ not_begun old)

@@ -23,7 +23,7 @@ pub record Reaps (k l : KernelState) (t : ℕ) (c : Completion) : Type 0 where
   pub gives : completion l.past t ≡ Some done
   pub is : c ≡ completion_of done
 
--- a ticket waits in the cell i: the last look, which the view keeps, read its word as pending or abandoned
+-- a ticket for the handler lies in the cell i: the last look, which the view keeps, read its word as pending or abandoned
 abbrev pub Waits : ℕ → View → View → Type 0
 Waits i v w = (w.word % 4 ≢ 0) × MayFind (handler_cell v i).stage w.word
 
@@ -32,8 +32,9 @@ abbrev pub ticket_seen : View → ℕ
 ticket_seen w = w.word / 4
 
 -- Of the answer, the cell, the view and the kernel before, and both after.
--- Empty: the last look read a word that is neither pending nor abandoned. NotYet: a ticket waits that is not to be reaped.
--- Finished and Reclaimed: a ticket waits and was reaped, and the view keeps its completion as the one that was put in last
+-- Empty: the last look read a word that is neither pending nor abandoned. NotYet: a ticket for the handler lies there, and the
+-- kernel has nothing of it to reap. Finished and Reclaimed: such a ticket lies there and was reaped, and the view keeps its
+-- completion as the one that was put in last
 abbrev pub StepTells : CellStep → ℕ → View → KernelState → View → KernelState → Type 0
 StepTells CellStep.Empty i v k w l = (w.word % 4 ≡ 0) × (w ≡ looked v i w.word) × (l ≡ k)
 StepTells CellStep.NotYet i v k w l =

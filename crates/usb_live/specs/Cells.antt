@@ -61,7 +61,7 @@ CellAgrees w home (Left t) (Reclaim u) last = (u ≡ t) × (w ≡ 4 * t) × AtHo
 CellAgrees w home (Left t) (Reclaimed u) last = (u ≡ t) × (w ≡ 4 * t) × AtHome IsEmpty home
 CellAgrees w home _ _ last = ⊥
 
--- the stages in which the owner may have the slot out
+-- the stages (what a seat knows of a cell, `Owned` or `Handled`) in which the owner may have the slot out
 abbrev pub OwnerTakes : Owned → Type 0
 OwnerTakes Free = Unit {0}
 OwnerTakes (Filled t) = Unit {0}

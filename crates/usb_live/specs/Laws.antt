@@ -1,4 +1,10 @@
--- Each kind of step keeps the rule of the row, whatever the row is when the word changes. In each law i is the cell and m the seat before.
+-- Each kind of step keeps the rule of the row, whatever the row is when the word changes. In each law n is the number of slots,
+-- id the number of the seat in the row, i the cell, and m the seat before.
+-- `Allows Rowed n id m i f T` (of the kit's `atomic_table`): whatever row of n slots keeps the rule and has the view of m at
+-- the seat number id, when the word of the cell i, a number below 2^64, becomes f of what it was, there are a new view and a
+-- possible move of slots (maybe of none) after which the rule holds, and T holds of the word found and of the seat after.
+-- `step n i a b none` is a step on the cell i with the operands a and b. `rest xs` is xs without its first, and `either b x y`
+-- is x where b is true, and else y.
 use Rattle.std.specs.Prelude.{◌≡◌, ℕ, ◌+◌, ◌*◌, ◌<◌, ◌∷◌, false, Some, None, ◌==◌}
 use prog.Atomic.{either}
 use Rattle.atomic_table.specs.Table.{Allows, step, rest}

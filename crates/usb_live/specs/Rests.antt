@@ -25,7 +25,7 @@ IsSmall (Left t) = t < 2 ^ 62
 abbrev pub OwnerCellRests : OwnerCell → Type 0
 OwnerCellRests c = (c.out ≡ false) × IsSmall c.stage
 
--- the owner between its steps
+-- the owner between its calls
 pub record OwnerRests (id : TableId) (s : Seat SlotValue View) : Type 0 where
   pub table : s.table_id ≡ id
   pub owner : IsOwner s.me.0
@@ -41,7 +41,7 @@ HandlerIsDone _ = Unit {0}
 abbrev pub HandlerCellRests : HandlerCell → Type 0
 HandlerCellRests c = (c.out ≡ false) × HandlerIsDone c.stage
 
--- the handler between its steps
+-- the handler between its calls
 pub record HandlerRests (id : TableId) (s : Seat SlotValue View) : Type 0 where
   pub table : s.table_id ≡ id
   pub handler : IsHandler s.me.0

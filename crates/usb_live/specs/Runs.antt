@@ -23,7 +23,8 @@ pub record IsIdle (x : Live) : Type 0 where
   pub queue : x.queue ≡ []
   pub free : AllFree x.seat.view.owner
 
--- the endpoint's looks alone may have changed
+-- the endpoint is as it was, but for what its seat keeps beside the row and the owner's cells: its looks, and what it heard and
+-- found
 pub record OnlyLooked (x y : Live) : Type 0 where
   pub rest : y ≡ record x { seat = y.seat }
   pub row : y.seat.row ≡ x.seat.row

@@ -1,4 +1,4 @@
--- What the two seats of a row are between and during their steps.
+-- What the two seats of a row are between and during their calls.
 use Rattle.std.specs.Prelude.{◌≡◌, ℕ, ◌<◌, Bool, true, false, Some, length}
 use Rattle.atomic_table.specs.Seated.{TableId}
 use Rattle.atomic_table.specs.declared.shared.Seat.{Seat}
@@ -44,8 +44,8 @@ pub record SeatState : Type 0 where
   pub row : TableId
   pub view : View
 
--- the owner at work: the same, the source at which it hears of the handler's moves, whether a task is registered there that has still
--- to look, and whether the last look was made by such a task
+-- the owner at work: the same, the `Notify` at which it hears of the handler's moves, by its number (`source`), whether a task is
+-- registered there that has still to look, and whether the last look was made by such a task
 pub record OwnerState : Type 0 where
   pub row : TableId
   pub view : View
@@ -53,7 +53,7 @@ pub record OwnerState : Type 0 where
   pub ready : Bool
   pub heard : Bool
 
--- the owner as it begins in a seat, where it hears of the handler's moves at this source
+-- the owner as it begins in a seat, where it hears of the handler's moves at the `Notify` of this number
 abbrev pub owner_in : SeatState → ℕ → OwnerState
 owner_in s source = record { row = s.row; view = s.view; source = source; ready = false; heard = false }
 

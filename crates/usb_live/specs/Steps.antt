@@ -1,4 +1,6 @@
--- What each step tells: of the step, the seat before, the number found and the seat after.
+-- What each step tells: of the step (st), the seat before (m), the word found (r) and the seat after (n).
+-- Of a step `st.word` is the number of its cell, and `st.first` its first operand: where it is used here, the word that the
+-- step writes.
 use Rattle.std.specs.Prelude.{◌≡◌, ◌≢◌, ◌⊎◌, ℕ, ◌+◌, ◌*◌, ◌/◌, ◌%◌, ◌<◌, List, [], ◌∷◌, true, false, Bool, Option, Some, None, slice_set}
 use Rattle.atomic_table.specs.Table.{Me, Step, rest}
 use Rattle.usb_xfer.specs.declared.transfer.Completion.{Completion}

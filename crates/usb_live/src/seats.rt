@@ -18,7 +18,7 @@ use usb_desc::NoMemory;
 use usb_kernel::Kernel;
 use usb_xfer::{Completion, Notify};
 
-/// The owner of a row between its steps, with the place where it hears of the handler's moves.
+/// The owner of a row between its calls, with the place where it hears of the handler's moves.
 #[derive(Drop)]
 pub(crate) struct Owner<'a> {
     row: Arc<Row, Global>,
@@ -75,13 +75,13 @@ impl Model for HandlerSeat {
 /// What became of a cell at a step of the handler.
 #[derive(Clone, Copy, PartialEq, Eq, Debug)]
 pub enum CellStep {
-    /// The kernel has not finished the ticket that waits there.
+    /// A ticket lies there for the handler, and the kernel has nothing of it to reap.
     NotYet,
     /// The owner has the completion now.
     Finished,
     /// The owner had left the ticket, and the handler took it out.
     Reclaimed,
-    /// No ticket waits there.
+    /// No ticket lies there for the handler.
     Empty,
 }
 
@@ -205,8 +205,9 @@ impl<'a> Owner<'a> {
 impl HandlerSeat {
     ghost use Rattle.usb_live.specs.Answers.{StepTells, reclaimed_in, reclaimed_by};
 
-    /// Looks at one cell, below 64. Where a ticket waits there that the kernel has finished, it is reaped and its completion goes to
-    /// the owner, or is let go where the owner left it. `NotYet` and `Empty` leave the kernel as it was.
+    /// Looks at one cell, below 64. Where a ticket lies there for the handler, and waits for its
+    /// reap, it is reaped and its completion goes to the owner, or is let go where the owner left
+    /// it. `NotYet` and `Empty` leave the kernel as it was.
     pub fn step(&mut self, kernel: &mut Kernel, cell: usize) -> CellStep
         requires below { cell < 64 }
         ensures row { self.new.row ≡ self.old.row }

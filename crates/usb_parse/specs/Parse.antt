@@ -12,7 +12,7 @@ use Rattle.usb_parse.specs.Order.{with_reading}
 abbrev pub with_line : List Item → List ℕ → Option (List Item)
 with_line before line = reading_of line >>= with_reading before
 
--- the next lines are read behind these items; where there are none, it ends with the number of this line
+-- the next lines are read behind these items; where the line gave none, being outside the grammar, it ends with its number
 abbrev pub or_line : Option (List Item) → ℕ → (List Item → Result (List Item) ℕ) → Result (List Item) ℕ
 or_line None line next = Err line
 or_line (Some items) line next = next items

@@ -15,7 +15,7 @@ live_count (word ∷ []) = None
 live_count (word ∷ count ∷ []) = if bytes_eq word (codes "live") then number_between 1 1000 count else None
 live_count (word ∷ count ∷ next ∷ words) = None
 
--- the line of a run, of n and the numbers of its tallies
+-- the line of a run, of n and the four counts of its tally
 unfoldable pub run_line : ℕ → ℕ → ℕ → ℕ → ℕ → List ℕ
 run_line n submitted taken dropped reclaimed =
     codes "live " ++ (decimal n ++ (codes " submitted " ++ (decimal submitted ++ (codes " taken " ++ (decimal taken

@@ -44,6 +44,7 @@ abbrev pub version_after : ℕ → List (List ℕ) → Option ℕ
 version_after version [] = Some version
 version_after version (part ∷ parts) = option_and_then (λ n. version_after (with_part version n) parts) (number 16 65536 part)
 
--- the version of a device (USB 2.0, section 9.6.1) as its attribute shows it: hexadecimal parts, cut at each dot
+-- the version of USB of a device (bcdUSB: USB 2.0, section 9.6.1), as its attribute `version` shows it: hexadecimal parts, cut
+-- at each dot
 abbrev pub version_word : List ℕ → Option ℕ
 version_word text = version_after 0 (slice_split (λ b. b == 46) text)

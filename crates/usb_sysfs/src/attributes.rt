@@ -82,7 +82,7 @@ pub fn read_hex<T: FromHexStr>(
     }
 }
 
-/// The version of a device: hexadecimal parts, cut at each dot.
+/// The version of USB of a device: hexadecimal parts, cut at each dot.
 pub fn read_version(
     alloc: Global,
     tree: &AttrTree,

@@ -49,7 +49,8 @@ fn without_prefix(text: &str) -> &str
     text.strip_prefix("0x").unwrap_or(text)
 }
 
-/// The version of a device, which its attribute shows as hexadecimal parts with dots between them.
+/// The version of USB of a device, which its attribute shows as hexadecimal parts with dots
+/// between them.
 pub fn version_word(text: &str) -> Option<u16>
     ensures value { result ≡ version_word text.now }
 {

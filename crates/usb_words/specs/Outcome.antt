@@ -1,4 +1,4 @@
--- How a function that may want memory answers what a definition gives.
+-- How a function that may lack memory answers what a definition gives.
 use Rattle.std.specs.Prelude.{◌≡◌, Option, Some, None, Result, Ok, Err}
 use Rattle.usb_words.specs.declared.line_error.LineError.{LineError}
 use Rattle.usb_words.specs.declared.line_error.LineError.TheVariants.{Malformed, Memory}

@@ -8,7 +8,7 @@ use Rattle.usb_words.specs.Words.{bytes_of}
 abbrev pub is_slash : ℕ → Bool
 is_slash b = b == 47
 
--- a name in a path: neither empty, nor the folder itself, nor the one above it
+-- a name in a path: neither empty, nor the folder itself, nor the one above it (a step of a path, not of a script)
 abbrev pub is_step : List ℕ → Bool
 is_step name = is_word name && not (bytes_eq name (codes ".")) && not (bytes_eq name (codes ".."))
 
