@@ -1,0 +1,51 @@
+-- What a call on a reader at a host gives, whatever it answered.
+use Rattle.std.proofs.Common.{◌≡◌, ℕ, Bool, List, length, take, Result, Ok, Err}
+use Rattle.std.specs.Prelude.{IfOk, IfErr}
+use Rattle.futures.specs.declared.task.Poll.{Poll}
+use Rattle.futures.specs.declared.task.Poll.TheVariants.{Ready, Pending}
+use Rattle.usb_desc.specs.declared.error.Fail.{Fail}
+use Rattle.usb_endpoint.specs.Polls.{IfReady, IfPending}
+use Rattle.usb_host.specs.HostState.{HostState}
+use Rattle.usb_host.specs.HostFrames.{LineGoesOn}
+use Rattle.usb_io.specs.Reads.{Reading}
+use Rattle.usb_io.specs.Answers.{ReadTook, ReadFailed, IsReadError}
+use Rattle.usb_io.specs.declared.fault.ReadFault.{ReadFault}
+use Rattle.usb_io.specs.declared.fault.ReadFault.TheVariants.{TimedOut}
+use Rattle.usb_streams.specs.HostReads.{host_calls, answered, read_came, FailedAs}
+use Rattle.usb_streams.proofs.AnswersCome.{read-took, read-failed, read-error}
+use Rattle.usb_streams.proofs.LinesGoOn.{line-read, line-failed, line-error}
+
+-- what a read and a poll of one answer
+abbrev Count : Type 0
+Count = Result ℕ (Fail ReadFault)
+
+module _ (us : Bool) (timeout : ℕ) (old new : Reading HostState) (dest after : List ℕ) where
+  -- a read
+  pub read-gives : (r : Count) → IfOk r (λ n. ReadTook host_calls us timeout old new dest after n) → IfOk r (λ n. read_came us timeout (length dest) old ≡ answered (Ok (take n after)) new)
+  read-gives (Ok n) took = read-took us timeout old new dest after n took
+  read-gives (Err e) took = tt
+
+  pub read-fails : (r : Count) → IfErr r (IsReadError host_calls us timeout old new) → IfErr r (λ e. FailedAs (read_came us timeout (length dest) old) e new)
+  read-fails (Ok n) failed = tt
+  read-fails (Err e) failed = read-error us timeout (length dest) old new e failed
+
+  pub read-line : (r : Count) → IfOk r (λ n. ReadTook host_calls us timeout old new dest after n) → IfErr r (IsReadError host_calls us timeout old new) → LineGoesOn old.bus new.bus
+  read-line (Ok n) took failed = line-read us timeout old new dest after n took
+  read-line (Err e) took failed = line-error us timeout old new e failed
+
+  -- a poll
+  pub poll-gives : (p : Poll Count) → IfReady p (λ r. IfOk r (λ n. ReadTook host_calls us timeout old new dest after n)) → IfReady p (λ r. IfOk r (λ n. read_came us timeout (length dest) old ≡ answered (Ok (take n after)) new))
+  poll-gives (Ready r) took = read-gives r took
+  poll-gives Pending took = tt
+
+  pub poll-fails : (p : Poll Count) → IfReady p (λ r. IfErr r (IsReadError host_calls us timeout old new)) → IfReady p (λ r. IfErr r (λ e. FailedAs (read_came us timeout (length dest) old) e new))
+  poll-fails (Ready r) failed = read-fails r failed
+  poll-fails Pending failed = tt
+
+  pub poll-waits : (p : Poll Count) → IfPending p (ReadFailed host_calls us timeout old new TimedOut) → IfPending p (read_came us timeout (length dest) old ≡ answered (Err TimedOut) new)
+  poll-waits (Ready r) pending = tt
+  poll-waits Pending pending = read-failed us timeout (length dest) old new TimedOut pending
+
+  pub poll-line : (p : Poll Count) → IfReady p (λ r. IfOk r (λ n. ReadTook host_calls us timeout old new dest after n)) → IfReady p (λ r. IfErr r (IsReadError host_calls us timeout old new)) → IfPending p (ReadFailed host_calls us timeout old new TimedOut) → LineGoesOn old.bus new.bus
+  poll-line (Ready r) took failed pending = read-line r took failed
+  poll-line Pending took failed pending = line-failed us timeout old new TimedOut pending

@@ -1,0 +1,4 @@
+pub mod TurnsCome
+pub mod AnswersCome
+pub mod LinesGoOn
+pub mod CallAnswers
