@@ -1,1 +1,2 @@
 pub mod HostReads
+pub mod Lent

@@ -23,8 +23,8 @@ use usb_io::{AnyReader, ReadFault};
 /// The error of a transfer, once its bytes are read, at this read and each later one; that the front
 /// was not there in time; want of memory, with some transfers submitted.
 pub fn read(
-    host: &mut Host,
     reader: &mut AnyReader,
+    host: &mut Host,
     dest: &mut [u8],
 ) -> Result<usize, Fail<ReadFault>>
     requires stands { Stands (bus_of host.old) (reader_of reader.old).endpoint }
@@ -51,8 +51,8 @@ pub fn read(
 ///
 /// Those of `read`; and that nothing is pending and no short packet came.
 pub fn read_until_short(
-    host: &mut Host,
     reader: &mut AnyReader,
+    host: &mut Host,
     dest: &mut [u8],
 ) -> Result<usize, Fail<ReadFault>>
     requires stands { Stands (bus_of host.old) (reader_of reader.old).endpoint }
@@ -75,8 +75,8 @@ pub fn read_until_short(
 
 /// `read`, which is pending where the front is not there.
 pub fn poll_read(
-    host: &mut Host,
     reader: &mut AnyReader,
+    host: &mut Host,
     dest: &mut [u8],
 ) -> Poll<Result<usize, Fail<ReadFault>>>
     requires stands { Stands (bus_of host.old) (reader_of reader.old).endpoint }
@@ -105,8 +105,8 @@ pub fn poll_read(
 
 /// `read_until_short`, which is pending where the front is not there.
 pub fn poll_read_until_short(
-    host: &mut Host,
     reader: &mut AnyReader,
+    host: &mut Host,
     dest: &mut [u8],
 ) -> Poll<Result<usize, Fail<ReadFault>>>
     requires stands { Stands (bus_of host.old) (reader_of reader.old).endpoint }
