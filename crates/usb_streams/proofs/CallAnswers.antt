@@ -1,14 +1,15 @@
 -- What a call on a reader at a host gives, whatever it answered.
-use Rattle.std.proofs.Common.{◌≡◌, ℕ, Bool, List, length, take, Result, Ok, Err}
-use Rattle.std.specs.Prelude.{IfOk, IfErr}
+use Rattle.std.proofs.Common.{◌≡◌, ℕ, Bool, List, length, take, Result, Ok, Err, subst, sym}
+use Rattle.std.specs.Prelude.{IfOk, IfErr, OnOk, OnErr}
 use Rattle.std.specs.Borrow.{Bor}
 use Rattle.futures.specs.declared.task.Poll.{Poll}
 use Rattle.futures.specs.declared.task.Poll.TheVariants.{Ready, Pending}
 use Rattle.usb_desc.specs.declared.error.Fail.{Fail}
+use Rattle.usb_desc.specs.declared.error.NoMemory.{NoMemory}
 use Rattle.usb_endpoint.specs.Polls.{IfReady, IfPending}
 use Rattle.usb_host.specs.HostState.{HostState}
 use Rattle.usb_host.specs.HostFrames.{LineGoesOn}
-use Rattle.usb_io.specs.Reads.{Reading}
+use Rattle.usb_io.specs.Reads.{Reading, filled_to, FilledShort}
 use Rattle.usb_io.specs.Answers.{ReadTook, ReadFailed, IsReadError}
 use Rattle.usb_io.specs.Lent.{Filled, PollFilled}
 use Rattle.usb_io.specs.declared.fault.ReadFault.{ReadFault}
@@ -16,7 +17,7 @@ use Rattle.usb_io.specs.declared.fault.ReadFault.TheVariants.{TimedOut}
 use Rattle.usb_streams.specs.HostReads.{host_calls, answered, fill_came, read_came, FailedAs}
 use Rattle.usb_streams.specs.Lent.{FilledAs, PollFilledAs}
 use Rattle.usb_streams.proofs.AnswersCome.{fill-bytes, fill-failed, fill-error, read-took, read-failed, read-error}
-use Rattle.usb_streams.proofs.LinesGoOn.{line-bytes, line-read, line-failed, line-error}
+use Rattle.usb_streams.proofs.LinesGoOn.{line-filled, line-filled_short, line-bytes, line-read, line-failed, line-error}
 
 -- what a read and a poll of one answer
 abbrev Count : Type 0
@@ -74,3 +75,8 @@ module _ (us : Bool) (old new : Reading HostState) where
   pub poll_fill-line : (p : Poll Lent) → PollFilled host_calls us old new p → LineGoesOn old.bus new.bus
   poll_fill-line (Ready r) filled = fill-line us 0 old new r filled.0
   poll_fill-line Pending filled = line-failed us 0 old new TimedOut filled
+
+-- submissions
+pub num-line : (r : Result Unit NoMemory) (goal : ℕ) (old new : Reading HostState) → OnOk r (new ≡ filled_to host_calls goal old) → OnErr r (FilledShort host_calls goal old new) → LineGoesOn old.bus new.bus
+num-line (Ok u) goal old new ok err = subst (λ (w : Reading HostState). LineGoesOn old.bus w.bus) (sym ok) (line-filled goal old)
+num-line (Err e) goal old new ok err = line-filled_short goal old new err

@@ -2,3 +2,4 @@ pub mod TurnsCome
 pub mod AnswersCome
 pub mod LinesGoOn
 pub mod CallAnswers
+pub mod FillKeeps

@@ -35,7 +35,7 @@ keeps-handed : (h : HostState) (e : EndpointState) (b : BufferState) (valid : Bo
 keeps-handed h e b true = keeps-submitted h (route_of e) (transfer_by (route_of e) b)
 keeps-handed h e b false = keeps-refused h (route_of e) (transfer_by (route_of e) b) 22
 
-line-one : (w : Reading HostState) → Line w (submit_one host_calls w)
+pub line-one : (w : Reading HostState) → Line w (submit_one host_calls w)
 line-one w =
     let b = fresh_buffer w.reader.size in
     line-keeps w.bus (entered host_submitted host_refused w.bus w.reader.endpoint b) (keeps-handed w.bus w.reader.endpoint b (is_valid w.reader.endpoint b))

@@ -1,6 +1,5 @@
 -- The turns of a reader at a host, and what its calls answer, are functions.
 use Rattle.std.proofs.Common.{◌∙◌, ◌≡◌, ℕ, zero, suc, ◌+◌, ◌-◌, ◌≤◌, min, arith, Bool, true, false, List, [], ◌∷◌, length, take, Option, Some, None, Ok, Err, refl, ap, sym}
-use Rattle.std.specs.Prelude.{if◌then◌else◌}
 use Rattle.usb_xfer.specs.declared.transfer.Completion.{Completion}
 use Rattle.usb_bus.specs.Completions.{transfer_completion}
 use Rattle.usb_endpoint.specs.Waits.{waited, front_of}
@@ -14,7 +13,7 @@ use Rattle.usb_io.specs.Reads.{Reading, reading, pending_of, begin_turn, TookFro
 use Rattle.usb_io.specs.Answers.{standing}
 use Rattle.usb_io.specs.declared.fault.ReadFault.{ReadFault}
 use Rattle.usb_io.specs.declared.fault.ReadFault.TheVariants.{TimedOut}
-use Rattle.usb_streams.specs.HostReads.{host_calls, Answered, answered, stands_at, stop_answer, front_taken, after_wait, waited_on, turn_at, turn_on, turned_on, fill_came}
+use Rattle.usb_streams.specs.HostReads.{host_calls, Answered, answered, stands_at, stop_answer, front_taken, after_wait, waited_on, turn_at, turn_on, turned_if, turned_on, fill_came}
 
 -- a wait that has an answer goes by the steps of the line
 pub wait-is : (looks : ℕ) (h : HostState) (t timeout : ℕ) (x : Bool × HostState) → waited bus_of host_turned host_turn t timeout (bus_of h).clock looks h ≡ Some x → host_waited h t timeout ≡ x
@@ -48,23 +47,13 @@ turn-none us timeout w v further same none =
     ap (λ (x : Reading HostState). turn_on us timeout x further) (sym same)
     ∙ ap (λ (l : List ℕ). turn_at us timeout l v further) none
 
-if-true : {A : Type 0} (b : Bool) (x y : A) → b ≡ true → (if b then x else y) ≡ x
-if-true true x y is = refl
-if-true false x y is = cc
-
-if-false : {A : Type 0} (b : Bool) (x y : A) → b ≡ false → (if b then x else y) ≡ y
-if-false true x y is = cc
-if-false false x y is = refl
-
 module _ (us : Bool) (timeout : ℕ) where
   -- the first of the turns
   turned-goes : (n : ℕ) (w : Reading HostState) → turns us w.reader ≡ true → turned_on (suc n) us timeout w ≡ turn_on us timeout (begin_turn host_calls w) (λ v. turned_on n us timeout v)
-  turned-goes n w goes =
-      if-true (turns us w.reader) (turn_on us timeout (begin_turn host_calls w) (λ v. turned_on n us timeout v)) (stands_at w) goes
+  turned-goes n w goes = ap (λ (b : Bool). turned_if b us timeout w (λ v. turned_on n us timeout v)) goes
 
   turned-stands : (n : ℕ) (w : Reading HostState) → turns us w.reader ≡ false → turned_on (suc n) us timeout w ≡ stands_at w
-  turned-stands n w stands =
-      if-false (turns us w.reader) (turn_on us timeout (begin_turn host_calls w) (λ v. turned_on n us timeout v)) (stands_at w) stands
+  turned-stands n w stands = ap (λ (b : Bool). turned_if b us timeout w (λ v. turned_on n us timeout v)) stands
 
   -- turns that took the front lead on
   turns-lead : (ws : List (Reading HostState)) (n : ℕ) (old last : Reading HostState) → Turns host_calls us timeout ws old last → turned_on (length ws + n) us timeout old ≡ turned_on n us timeout last

@@ -1,5 +1,5 @@
 -- What reads of a reader at a host come to, as functions of the host and the reader.
-use Rattle.std.specs.Prelude.{ℕ, ◌≡◌, zero, suc, Bool, true, false, List, [], ◌∷◌, length, take, min, Option, Some, None, Result, Ok, Err, if◌then◌else◌}
+use Rattle.std.specs.Prelude.{ℕ, ◌≡◌, zero, suc, Bool, true, false, List, [], ◌∷◌, length, take, min, Option, Some, None, Result, Ok, Err}
 use Rattle.usb_desc.specs.declared.error.Fail.{Fail}
 use Rattle.usb_desc.specs.declared.error.Fail.TheVariants.{Cause, Memory}
 use Rattle.usb_xfer.specs.declared.transfer.Completion.{Completion}
@@ -60,14 +60,18 @@ turn_at until_short timeout (front ∷ others) w further =
 abbrev pub turn_on : Bool → ℕ → Reading HostState → (Reading HostState → Answered) → Answered
 turn_on until_short timeout w further = turn_at until_short timeout (pending_of w) w further
 
+-- a turn, where the reader is to turn
+abbrev pub turned_if : Bool → Bool → ℕ → Reading HostState → (Reading HostState → Answered) → Answered
+turned_if false until_short timeout w further = stands_at w
+turned_if true until_short timeout w further =
+    turn_on until_short timeout (begin_turn host_calls w) further
+
 -- turn after turn, until there is something to answer, nothing is pending, or a wait was in vain. The number only ends the
 -- recursion
 abbrev pub turned_on : ℕ → Bool → ℕ → Reading HostState → Answered
 turned_on zero until_short timeout w = stands_at w
 turned_on (suc n) until_short timeout w =
-    if turns until_short w.reader
-    then turn_on until_short timeout (begin_turn host_calls w) (λ v. turned_on n until_short timeout v)
-    else stands_at w
+    turned_if (turns until_short w.reader) until_short timeout w (λ v. turned_on n until_short timeout v)
 
 -- a call that lends the bytes that stand once the reader has turned: of a reader, or until a short packet, with a timeout in
 -- nanoseconds. A poll is one with no time, and is pending where it answers `TimedOut`
