@@ -1,5 +1,5 @@
 -- What the calls of a reader at a host answer, by the functions.
-use Rattle.std.proofs.Common.{◌∙◌, ◌≡◌, ℕ, ◌≤◌, min, arith, Bool, true, false, List, [], ◌∷◌, ◌++◌, length, take, drop, Option, Some, None, Result, Ok, Err, refl, ap, sym, inl, inr}
+use Rattle.std.proofs.Common.{◌∙◌, ◌≡◌, ℕ, ◌≤◌, arith, Bool, true, false, List, [], ◌∷◌, ◌++◌, length, take, drop, Option, Some, None, Result, Ok, Err, refl, ap, sym, inl, inr}
 use Rattle.std.proofs.Math.Seq.{take-length}
 use Rattle.std.proofs.lemmas.List.{take-append-le, length-take-le}
 use Rattle.usb_desc.specs.declared.error.Fail.{Fail}
@@ -11,7 +11,7 @@ use Rattle.usb_io.specs.Reads.{Reading, reading}
 use Rattle.usb_io.specs.Answers.{standing, CameToBytes, ReadTook, ReadFailed, IsReadError}
 use Rattle.usb_io.specs.declared.fault.ReadFault.{ReadFault}
 use Rattle.usb_io.specs.declared.fault.ReadFault.TheVariants.{Transfer, TimedOut, UnexpectedEof}
-use Rattle.usb_streams.specs.HostReads.{host_calls, Answered, answered, stop_answer, fill_came, read_of, read_came, FailedAs}
+use Rattle.usb_streams.specs.HostReads.{host_calls, answered, stop_answer, fill_came, read_of, read_came, FailedAs}
 use Rattle.usb_streams.proofs.TurnsCome.{stand-came, stop-came, vain-came}
 
 -- the bytes that stand, where no error is to be told first

@@ -1,23 +1,16 @@
 -- What is kept by all that a call on a reader does is kept by the call.
-use Rattle.std.proofs.Common.{◌∙◌, ◌≡◌, ℕ, zero, suc, ◌-◌, Bool, true, false, cond, List, [], ◌∷◌, length, Option, Some, None, Result, Ok, Err, refl, ap, subst, sym}
+use Rattle.std.proofs.Common.{◌≡◌, ℕ, zero, suc, ◌-◌, Bool, true, false, cond, List, [], ◌∷◌, length, Option, Some, None, Result, Ok, Err, refl}
 use Rattle.std.specs.Prelude.{nat_lt, min}
 use Rattle.usb_xfer.specs.declared.transfer.Completion.{Completion}
-use Rattle.usb_kernel.specs.Extends.{Extends}
-use Rattle.usb_kernel.proofs.Extends.{extends-same, extends-trans}
 use Rattle.usb_bus.specs.Completions.{transfer_completion}
-use Rattle.usb_endpoint.specs.EndpointState.{EndpointState}
 use Rattle.usb_host.specs.HostState.{HostState}
-use Rattle.usb_host.specs.HostFrames.{LineGoesOn}
 use Rattle.usb_host.specs.HostWaits.{host_waited}
 use Rattle.usb_host.specs.TicketEnds.{host_taken}
-use Rattle.usb_host.proofs.CallFrames.{keeps-taken}
-use Rattle.usb_host.proofs.WaitFrames.{line-keeps, line-trans, went-waited}
 use Rattle.usb_io.specs.Readers.{ReaderState, with_taken, with_read, turns}
 use Rattle.usb_host.specs.HostBus.{bus_of}
 use Rattle.usb_io.specs.Reads.{Reading, reading, pending_of, ended_off, submit_one, submit_more, begin_turn, most_turns}
 use Rattle.usb_io.specs.declared.fault.ReadFault.{ReadFault}
-use Rattle.usb_streams.specs.HostReads.{host_calls, Answered, answered, front_taken, after_wait, turn_at, turned_if, turned_on, handed_over, fill_came, read_came}
-use Rattle.usb_streams.proofs.LinesGoOn.{line-same, line-one}
+use Rattle.usb_streams.specs.HostReads.{host_calls, Answered, front_taken, after_wait, turn_at, turned_if, turned_on, handed_over, fill_came, read_came}
 
 -- each submission, the end that goes, each wait and the taking of the front, at a reader's calls with this timeout
 pub record Keeps (timeout : ℕ) (P : Reading HostState → Type 0) : Type 0 where
@@ -77,18 +70,3 @@ module _ (us : Bool) (timeout : ℕ) (P : Reading HostState → Type 0) (keeps :
 
   pub read-keeps : (most : ℕ) (w : Reading HostState) → KeepsRead P → P w → P (read_came us timeout most w).left
   read-keeps most w read at_w = handed-keeps most (fill_came us timeout w).answer (fill_came us timeout w).left read (fill-keeps w at_w)
-
--- the line goes on
-line-kept : (timeout : ℕ) (h : HostState) → Keeps timeout (λ w. LineGoesOn h w.bus)
-line-kept timeout h = record {
-  submission = λ w so_far. line-trans h w.bus (submit_one host_calls w).bus so_far (line-one w);
-  end = λ w so_far. so_far;
-  wait = λ w front others was so_far. line-trans h w.bus (host_waited w.bus front timeout).1 so_far (went-waited w.bus front timeout).line;
-  taking = λ w front others c was come so_far. line-trans h w.bus (host_taken w.bus front) so_far (line-keeps w.bus (host_taken w.bus front) (keeps-taken w.bus front));
-}
-
-pub line-fill_came : (us : Bool) (timeout : ℕ) (w : Reading HostState) → LineGoesOn w.bus (fill_came us timeout w).left.bus
-line-fill_came us timeout w = fill-keeps us timeout (λ v. LineGoesOn w.bus v.bus) (line-kept timeout w.bus) w (line-same w.bus)
-
-pub line-read_came : (us : Bool) (timeout most : ℕ) (w : Reading HostState) → LineGoesOn w.bus (read_came us timeout most w).left.bus
-line-read_came us timeout most w = read-keeps us timeout (λ v. LineGoesOn w.bus v.bus) (line-kept timeout w.bus) most w (λ v n so_far. so_far) (line-same w.bus)

@@ -3,3 +3,4 @@ pub mod AnswersCome
 pub mod LinesGoOn
 pub mod CallAnswers
 pub mod FillKeeps
+pub mod CallsGoOn

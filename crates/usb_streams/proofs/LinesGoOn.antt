@@ -17,7 +17,7 @@ use Rattle.usb_host.proofs.HostKeeps.{KeepsOpen}
 use Rattle.usb_host.proofs.CallFrames.{keeps-open, keeps-submitted, keeps-refused, keeps-taken}
 use Rattle.usb_host.proofs.WaitFrames.{line-keeps, line-trans, went-waited}
 use Rattle.usb_io.specs.Readers.{fresh_buffer}
-use Rattle.usb_io.specs.Reads.{Reading, reading, pending_of, ended_off, submit_one, submit_more, filled_to, begin_turn, TookFront, MissedFront, Turns, TurnedToStand, TurnedToStop, TurnedInVain, TurnedShort, FilledShort}
+use Rattle.usb_io.specs.Reads.{Reading, pending_of, ended_off, submit_one, submit_more, filled_to, begin_turn, TookFront, MissedFront, Turns, TurnedToStand, TurnedToStop, TurnedInVain, TurnedShort, FilledShort}
 use Rattle.usb_io.specs.Answers.{CameToBytes, ReadTook, ReadFailed, IsReadError}
 use Rattle.usb_io.specs.declared.fault.ReadFault.{ReadFault}
 use Rattle.usb_io.specs.declared.fault.ReadFault.TheVariants.{Transfer, TimedOut, UnexpectedEof}

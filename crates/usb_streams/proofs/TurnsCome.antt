@@ -1,7 +1,6 @@
 -- The turns of a reader at a host, and what its calls answer, are functions.
-use Rattle.std.proofs.Common.{◌∙◌, ◌≡◌, ℕ, zero, suc, ◌+◌, ◌-◌, ◌≤◌, min, arith, Bool, true, false, List, [], ◌∷◌, length, take, Option, Some, None, Ok, Err, refl, ap, sym}
+use Rattle.std.proofs.Common.{◌∙◌, ◌≡◌, ℕ, suc, ◌+◌, ◌-◌, ◌≤◌, arith, Bool, true, false, List, [], ◌∷◌, length, Option, Some, Err, ap, sym}
 use Rattle.usb_xfer.specs.declared.transfer.Completion.{Completion}
-use Rattle.usb_bus.specs.Completions.{transfer_completion}
 use Rattle.usb_endpoint.specs.Waits.{waited, front_of}
 use Rattle.usb_host.specs.HostState.{HostState}
 use Rattle.usb_host.specs.HostBus.{bus_of}
@@ -9,11 +8,9 @@ use Rattle.usb_host.specs.HostTurns.{host_turned, host_turn}
 use Rattle.usb_host.specs.HostWaits.{host_waited}
 use Rattle.usb_device.proofs.HostBlockingLemmas.{wait-by_steps}
 use Rattle.usb_io.specs.Readers.{ReaderState, turns}
-use Rattle.usb_io.specs.Reads.{Reading, reading, pending_of, begin_turn, TookFront, MissedFront, TurnTook, Turns, TurnedToStand, TurnedToStop, TurnedInVain, most_turns}
-use Rattle.usb_io.specs.Answers.{standing}
-use Rattle.usb_io.specs.declared.fault.ReadFault.{ReadFault}
+use Rattle.usb_io.specs.Reads.{Reading, reading, pending_of, begin_turn, TookFront, MissedFront, Turns, TurnedToStand, TurnedToStop, TurnedInVain, most_turns}
 use Rattle.usb_io.specs.declared.fault.ReadFault.TheVariants.{TimedOut}
-use Rattle.usb_streams.specs.HostReads.{host_calls, Answered, answered, stands_at, stop_answer, front_taken, after_wait, waited_on, turn_at, turn_on, turned_if, turned_on, fill_came}
+use Rattle.usb_streams.specs.HostReads.{host_calls, Answered, answered, stands_at, stop_answer, front_taken, waited_on, turn_at, turn_on, turned_if, turned_on, fill_came}
 
 -- a wait that has an answer goes by the steps of the line
 pub wait-is : (looks : ℕ) (h : HostState) (t timeout : ℕ) (x : Bool × HostState) → waited bus_of host_turned host_turn t timeout (bus_of h).clock looks h ≡ Some x → host_waited h t timeout ≡ x

@@ -20,7 +20,8 @@ use Rattle.usb_io.specs.declared.fault.ReadFault.TheVariants.{TimedOut, Unexpect
 abbrev pub host_calls : BusCalls HostState
 host_calls = bus_calls bus_of host_submitted host_refused host_turned host_turn host_taken
 
--- what a call on a reader answered, bytes or why there are none, and what it left of the host and the reader
+-- what a call on a reader answered, bytes or why there are none, and what it left of the host and
+-- the reader
 pub record Answered : Type 0 where
   pub answer : Result (List ℕ) ReadFault
   pub left : Reading HostState
@@ -38,21 +39,27 @@ stop_answer false = Ok []
 stop_answer true = Err UnexpectedEof
 
 -- the front is taken, with the completion that the journal has for it
-abbrev pub front_taken : HostState → ReaderState → ℕ → List ℕ → Option Completion → Reading HostState
+abbrev pub front_taken : HostState → ReaderState → ℕ → List ℕ → Option Completion →
+    Reading HostState
 front_taken h r front others None = reading h r
 front_taken h r front others (Some c) = reading (host_taken h front) (with_taken c others r)
 
--- a wait found the front reaped, and the turns go on (further) from where it is taken; or it was in vain
-abbrev pub after_wait : Bool → HostState → ReaderState → ℕ → List ℕ → (Reading HostState → Answered) → Answered
+-- a wait found the front reaped, and the turns go on (further) from where it is taken; or it was in
+-- vain
+abbrev pub after_wait : Bool → HostState → ReaderState → ℕ → List ℕ →
+    (Reading HostState → Answered) → Answered
 after_wait true h r front others further =
     further (front_taken h r front others (transfer_completion h.kernel.past front))
 after_wait false h r front others further = answered (Err TimedOut) (reading h r)
 
-abbrev pub waited_on : Bool × HostState → ReaderState → ℕ → List ℕ → (Reading HostState → Answered) → Answered
+abbrev pub waited_on : Bool × HostState → ReaderState → ℕ → List ℕ →
+    (Reading HostState → Answered) → Answered
 waited_on p r front others further = after_wait p.0 p.1 r front others further
 
--- the rest of a turn that has submitted its transfers: where none of these is pending it stops, else it waits for the front
-abbrev pub turn_at : Bool → ℕ → List ℕ → Reading HostState → (Reading HostState → Answered) → Answered
+-- the rest of a turn that has submitted its transfers: where none is pending it stops, else it waits
+-- for the front
+abbrev pub turn_at : Bool → ℕ → List ℕ → Reading HostState → (Reading HostState → Answered) →
+    Answered
 turn_at until_short timeout [] w further = answered (stop_answer until_short) w
 turn_at until_short timeout (front ∷ others) w further =
     waited_on (host_waited w.bus front timeout) w.reader front others further
@@ -61,20 +68,23 @@ abbrev pub turn_on : Bool → ℕ → Reading HostState → (Reading HostState �
 turn_on until_short timeout w further = turn_at until_short timeout (pending_of w) w further
 
 -- a turn, where the reader is to turn
-abbrev pub turned_if : Bool → Bool → ℕ → Reading HostState → (Reading HostState → Answered) → Answered
+abbrev pub turned_if : Bool → Bool → ℕ → Reading HostState → (Reading HostState → Answered) →
+    Answered
 turned_if false until_short timeout w further = stands_at w
 turned_if true until_short timeout w further =
     turn_on until_short timeout (begin_turn host_calls w) further
 
--- turn after turn, until there is something to answer, nothing is pending, or a wait was in vain. The number only ends the
--- recursion
+-- turn after turn, until there is something to answer, nothing is pending, or a wait was in vain. The
+-- number only ends the recursion
 abbrev pub turned_on : ℕ → Bool → ℕ → Reading HostState → Answered
 turned_on zero until_short timeout w = stands_at w
 turned_on (suc n) until_short timeout w =
-    turned_if (turns until_short w.reader) until_short timeout w (λ v. turned_on n until_short timeout v)
+    turned_if (turns until_short w.reader) until_short timeout w
+    (λ v. turned_on n until_short timeout v)
 
--- a call that lends the bytes that stand once the reader has turned: of a reader, or until a short packet, with a timeout in
--- nanoseconds. A poll is one with no time, and is pending where it answers `TimedOut`
+-- a call that lends the bytes that stand once the reader has turned: of a reader, or until a short
+-- packet, with a timeout in nanoseconds. A poll is one with no time, and is pending where this
+-- answers `TimedOut`
 unfoldable pub fill_came : Bool → ℕ → Reading HostState → Answered
 fill_came until_short timeout w =
     turned_on (suc (most_turns (bus_of w.bus) w.reader)) until_short timeout w
@@ -93,7 +103,7 @@ read_of most a = handed_over most a.answer a.left
 abbrev pub read_came : Bool → ℕ → ℕ → Reading HostState → Answered
 read_came until_short timeout most w = read_of most (fill_came until_short timeout w)
 
--- what is true of a call that answered these bytes, or failed, unless memory was lacking
+-- a call failed as it says, unless memory was lacking
 abbrev pub FailedAs : Answered → Fail ReadFault → Reading HostState → Type 0
 FailedAs a (Cause e) left = a ≡ answered (Err e) left
 FailedAs a Memory left = Unit {0}

@@ -12,11 +12,13 @@ use Rattle.usb_io.specs.declared.fault.ReadFault.TheVariants.{TimedOut}
 use Rattle.usb_streams.specs.HostReads.{Answered, answered, FailedAs}
 
 -- it lent the bytes that a function says, or failed as it says
-abbrev pub FilledAs : Answered → Result (Bor (List ℕ)) (Fail ReadFault) → Reading HostState → Type 0
+abbrev pub FilledAs : Answered → Result (Bor (List ℕ)) (Fail ReadFault) → Reading HostState →
+    Type 0
 FilledAs a (Ok s) left = a ≡ answered (Ok s.now) left
 FilledAs a (Err e) left = FailedAs a e left
 
 -- a poll is pending where the function says that the time was up, and fails otherwise
-abbrev pub PollFilledAs : Answered → Poll (Result (Bor (List ℕ)) (Fail ReadFault)) → Reading HostState → Type 0
+abbrev pub PollFilledAs : Answered → Poll (Result (Bor (List ℕ)) (Fail ReadFault)) →
+    Reading HostState → Type 0
 PollFilledAs a (Ready r) left = FilledAs a r left × IfErr r IsInTime
 PollFilledAs a Pending left = a ≡ answered (Err TimedOut) left
