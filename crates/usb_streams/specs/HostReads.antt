@@ -56,8 +56,8 @@ abbrev pub waited_on : Bool × HostState → ReaderState → ℕ → List ℕ �
     (Reading HostState → Answered) → Answered
 waited_on p r front others further = after_wait p.0 p.1 r front others further
 
--- the rest of a turn that has submitted its transfers: where none is pending it stops, else it waits
--- for the front
+-- the rest of a turn that has submitted its transfers: where none is pending it stops, else it
+-- waits for the front
 abbrev pub turn_at : Bool → ℕ → List ℕ → Reading HostState → (Reading HostState → Answered) →
     Answered
 turn_at until_short timeout [] w further = answered (stop_answer until_short) w
@@ -74,8 +74,8 @@ turned_if false until_short timeout w further = stands_at w
 turned_if true until_short timeout w further =
     turn_on until_short timeout (begin_turn host_calls w) further
 
--- turn after turn, until there is something to answer, nothing is pending, or a wait was in vain. The
--- number only ends the recursion
+-- turn after turn, until there is something to answer, nothing is pending, or a wait was in vain.
+-- The number only ends the recursion
 abbrev pub turned_on : ℕ → Bool → ℕ → Reading HostState → Answered
 turned_on zero until_short timeout w = stands_at w
 turned_on (suc n) until_short timeout w =

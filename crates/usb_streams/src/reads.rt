@@ -15,13 +15,13 @@ use usb_desc::Fail;
 use usb_host::Host;
 use usb_io::{AnyReader, ReadFault};
 
-/// Reads up to as many bytes as fit, in the order of the transfers. It answers 0 bytes where none is
-/// pending.
+/// Reads up to as many bytes as fit, in the order of the transfers. It answers 0 bytes where none
+/// is pending.
 ///
 /// # Errors
 ///
-/// The error of a transfer, once its bytes are read, at this read and each later one; that the front
-/// was not there in time; want of memory, with some transfers submitted.
+/// The error of a transfer, once its bytes are read, at this read and each later one; that the
+/// front was not there in time; want of memory, with some transfers submitted.
 pub fn read(
     reader: &mut AnyReader,
     host: &mut Host,
@@ -87,8 +87,8 @@ pub fn poll_read(
         ≡ answered (Ok (take n dest.new)) (reading host.new (reader_of reader.new)))) }
     ensures failed { IfReady result
         (λ r. IfErr r
-        (λ e. FailedAs (read_came false 0 (length dest.old) (reading host.old (reader_of reader.old)))
-        e (reading host.new (reader_of reader.new)))) }
+        (λ e. FailedAs (read_came false 0 (length dest.old)
+        (reading host.old (reader_of reader.old))) e (reading host.new (reader_of reader.new)))) }
     ensures in_time { IfReady result (λ r. IfErr r IsInTime) }
     ensures pending { IfPending result
         (read_came false 0 (length dest.old) (reading host.old (reader_of reader.old))
@@ -117,8 +117,8 @@ pub fn poll_read_until_short(
         ≡ answered (Ok (take n dest.new)) (reading host.new (reader_of reader.new)))) }
     ensures failed { IfReady result
         (λ r. IfErr r
-        (λ e. FailedAs (read_came true 0 (length dest.old) (reading host.old (reader_of reader.old)))
-        e (reading host.new (reader_of reader.new)))) }
+        (λ e. FailedAs (read_came true 0 (length dest.old)
+        (reading host.old (reader_of reader.old))) e (reading host.new (reader_of reader.new)))) }
     ensures in_time { IfReady result (λ r. IfErr r IsInTime) }
     ensures pending { IfPending result
         (read_came true 0 (length dest.old) (reading host.old (reader_of reader.old))
