@@ -24,11 +24,11 @@ abbrev pub KeepsRead : (Reading HostState → Type 0) → Type 0
 KeepsRead P = (w : Reading HostState) (n : ℕ) → P w → P (record w { reader = with_read n w.reader })
 
 module _ (us : Bool) (timeout : ℕ) (P : Reading HostState → Type 0) (keeps : Keeps timeout P) where
-  more-keeps : (i : ℕ) (w : Reading HostState) → P w → P (submit_more host_calls i w)
+  pub more-keeps : (i : ℕ) (w : Reading HostState) → P w → P (submit_more host_calls i w)
   more-keeps zero w at_w = at_w
   more-keeps (suc i) w at_w = keeps.submission (submit_more host_calls i w) (more-keeps i w at_w)
 
-  begin-keeps : (w : Reading HostState) → P w → P (begin_turn host_calls w)
+  pub begin-keeps : (w : Reading HostState) → P w → P (begin_turn host_calls w)
   begin-keeps w at_w =
       let all = submit_more host_calls (w.reader.n - length (pending_of w)) w in
       elim (nat_lt (length (pending_of w)) w.reader.n) as (λ b. P (cond b (ended_off all) w)) [
