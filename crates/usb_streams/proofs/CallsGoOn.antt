@@ -1,5 +1,5 @@
 -- Calls on a reader take steps from the front of the line, and keep what is open.
-use Rattle.std.proofs.Common.{◌∙◌, ◌≡◌, ℕ, arith, Bool, List, [], length, refl, ap}
+use Rattle.std.proofs.Common.{◌∙◌, ◌≡◌, ℕ, arith, Bool, List, [], length, refl, ap, ◌-◌, false}
 use Rattle.usb_kernel.specs.Tickets.{tickets}
 use Rattle.usb_kernel.proofs.Extends.{extends-same, extends-trans}
 use Rattle.usb_xfer.specs.declared.transfer.Completion.{Completion}
@@ -12,11 +12,11 @@ use Rattle.usb_host.proofs.CountLemmas.{entered-count, waited-count, taken-count
 use Rattle.usb_host.proofs.FollowLemmas.{adds-entered, taken-past}
 use Rattle.usb_host.proofs.WaitFrames.{line-keeps, line-trans, went-waited}
 use Rattle.usb_io.specs.Readers.{ReaderState, fresh_buffer, with_taken, with_read}
-use Rattle.usb_io.specs.Reads.{Reading, reading, KeepsSettings, ended_off, submit_one}
+use Rattle.usb_io.specs.Reads.{Reading, reading, KeepsSettings, ended_off, submit_one, filled_to}
 use Rattle.usb_streams.specs.HostReads.{host_calls, fill_came, read_came}
-use Rattle.usb_streams.specs.Laws.{CallGoesOn, FillGoesOn, ReadGoesOn}
+use Rattle.usb_streams.specs.Laws.{CallGoesOn, FillGoesOn, ReadGoesOn, SubmissionsGoOn}
 use Rattle.usb_streams.proofs.LinesGoOn.{line-same, line-one}
-use Rattle.usb_streams.proofs.FillKeeps.{Keeps, fill-keeps, read-keeps}
+use Rattle.usb_streams.proofs.FillKeeps.{Keeps, fill-keeps, read-keeps, more-keeps}
 
 settings-same : (r : ReaderState) → KeepsSettings r r
 settings-same r = record { n = refl; size = refl; timeout = refl }
@@ -70,6 +70,9 @@ read_goes_on us timeout most w =
     read-keeps us timeout (CallGoesOn w) (call-kept timeout w) most w
     (λ v n so_far. call-trans w v (record v { reader = with_read n v.reader }) so_far (call-read v n)) (call-same w)
 
+pub submissions_go_on : SubmissionsGoOn
+submissions_go_on goal w = more-keeps false 0 (CallGoesOn w) (call-kept 0 w) (goal - length w.reader.endpoint.pending) w (call-same w)
+
 -- a host has as many tickets as its journal
 abbrev pub IsCounted : Reading HostState → Type 0
 IsCounted w = length w.bus.tickets ≡ length (tickets w.bus.kernel.past)
@@ -87,3 +90,6 @@ fill-count us timeout w so_far = fill-keeps us timeout IsCounted (count-kept tim
 
 pub read-count : (us : Bool) (timeout most : ℕ) (w : Reading HostState) → IsCounted w → IsCounted (read_came us timeout most w).left
 read-count us timeout most w so_far = read-keeps us timeout IsCounted (count-kept timeout) most w (λ v n counted. counted) so_far
+
+pub filled-count : (goal : ℕ) (w : Reading HostState) → IsCounted w → IsCounted (filled_to host_calls goal w)
+filled-count goal w so_far = more-keeps false 0 IsCounted (count-kept 0) (goal - length w.reader.endpoint.pending) w so_far
