@@ -32,7 +32,7 @@ use Rattle.usb_host.proofs.ClaimFrames.{handles-own, goes-ended}
 use Rattle.usb_host.specs.Releases.{owner_gone}
 use Rattle.usb_host.specs.HostCalls.{with_held, submitted_with, host_submitted, refused_with, host_refused, closed_if, host_left, host_idled, host_halt_cleared}
 use Rattle.usb_device.specs.HandleStates.{InterfaceState, StandsInterface}
-use Rattle.usb_host.specs.Handles.{handle_added, handle_cloned, handle_gone, handle_closed}
+use Rattle.usb_host.specs.Handles.{handle_added, handle_cloned, handle_gone, handle_closed, device_cloned, device_closed}
 use Rattle.usb_host.specs.Opens.{open_tried, host_opened}
 use Rattle.usb_host.specs.EndpointOpens.{asked_on, host_asked, with_endpoint}
 use Rattle.usb_host.specs.OnDevices.{detached_on, host_detached, attached_on, host_attached, reset_on, host_reset, configured_on, host_configured, speed_asked_on, host_speed_asked}
