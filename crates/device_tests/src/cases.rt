@@ -8,6 +8,7 @@ use crate::claims::{expect_busy, expect_release, expect_room, expect_texts};
 use crate::controls::{Control, STATUS, expect_control};
 use crate::descriptors::{Question, expect_descriptor, sent};
 use crate::hosts::{acknowledgement, control_packet, new_host, packet, reap};
+use crate::readers::{Reading, expect_reading, reading_steps};
 use crate::transfers::{expect_other, expect_packet};
 use std::alloc::Global;
 use std::process::Abort;
@@ -34,6 +35,8 @@ pub enum Case {
     Control(Control),
     /// The device is asked for a descriptor.
     Descriptor(Question),
+    /// A reader is made of an endpoint, and used.
+    Reading(Reading),
 }
 
 /// Compares what is found at a new host.
@@ -53,6 +56,7 @@ fn expect_case(rt: &impl Abort, alloc: Global, host: &mut Host, case: Case) {
         Case::Other => expect_other(rt, alloc, host),
         Case::Control(control) => expect_control(rt, alloc, host, control),
         Case::Descriptor(question) => expect_descriptor(rt, alloc, host, question),
+        Case::Reading(reading) => expect_reading(rt, alloc, host, reading),
     }
 }
 
@@ -67,6 +71,7 @@ fn steps_of(alloc: Global, case: Case) -> Result<Vec<KernelStep>, NoMemory>
         Case::Packet => one_step(alloc, packet(alloc, &[1, 2, 3])?),
         Case::Control(control) => control_steps(alloc, control.direction),
         Case::Descriptor(question) => one_step(alloc, control_packet(alloc, sent(question))?),
+        Case::Reading(reading) => reading_steps(alloc, reading),
     }
 }
 

@@ -1,5 +1,6 @@
 //! Tests of the host, of what is opened at it, and of transfers there: the crates `usb_host` and
-//! `usb_device`.
+//! `usb_device`. And tests of readers there, and of their printed lines: the readers of either type
+//! of `usb_io`, `usb_streams` and `usb_stream_lines`.
 //!
 //! What calls answer is asked by whole scripts too, of the crate `nusb_sim`.
 //!
@@ -16,5 +17,7 @@ mod controls;
 mod descriptors;
 #[cfg(test)]
 mod hosts;
+#[cfg(test)]
+mod readers;
 #[cfg(test)]
 mod transfers;

@@ -1,0 +1,6 @@
+pub mod TurnsCome
+pub mod AnswersCome
+pub mod LinesGoOn
+pub mod CallAnswers
+pub mod FillKeeps
+pub mod CallsGoOn

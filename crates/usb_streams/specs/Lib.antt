@@ -1,0 +1,3 @@
+pub mod HostReads
+pub mod Lent
+pub mod Laws

@@ -1,0 +1,12 @@
+//! Reads of a reader at a host, whose answers are functions of the host and the reader.
+#![tactic(auto)]
+
+mod fills;
+mod laws;
+mod reads;
+mod settings;
+
+pub use fills::{fill_buf, fill_until_short, poll_fill_buf, poll_fill_until_short};
+pub use laws::calls_go_on;
+pub use reads::{poll_read, poll_read_until_short, read, read_until_short};
+pub use settings::set_num_transfers;
