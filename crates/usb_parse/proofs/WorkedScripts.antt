@@ -4,7 +4,9 @@ use Rattle.usb_desc.specs.declared.control.ControlType.TheVariants.{Standard, Cl
 use Rattle.usb_desc.specs.declared.control.Recipient.TheVariants as recipient
 use Rattle.usb_words.specs.declared.control.ControlTarget.TheVariants as target
 use Rattle.usb_words.specs.declared.endpoint_kind.EndpointKind.TheVariants.{BulkIn, BulkOut, InterruptIn, InterruptOut}
-use Rattle.usb_script.specs.declared.item.Item.TheVariants.{Device, Driver, Now, Open, DeviceDescriptor, Descriptors, CloneDevice, CloseDevice, ActiveConfiguration, Speed, SetConfiguration, Reset, DetachDriver, AttachDriver, Claim, DetachAndClaim, CloneInterface, CloseInterface, SetAltSetting, GetAltSetting, InterfaceDescriptor, Release, Endpoint, SubmitIn, SubmitOut, Pending, Poll, Wait, TransferIn, TransferOut, Cancel, ClearHalt, CloseEndpoint, ControlIn, ControlOut, StartControlIn, StartControlOut, PollFuture, WaitFuture, GetDescriptor, SupportedLanguages, StringDescriptor, CloseFuture, Steps}
+use Rattle.usb_words.specs.declared.framing.Framing.TheVariants.{Plain, UntilShort}
+use Rattle.usb_script.specs.declared.item.Item.TheVariants.{Device, Driver, Now, Open, DeviceDescriptor, Descriptors, CloneDevice, CloseDevice, ActiveConfiguration, Speed, SetConfiguration, Reset, DetachDriver, AttachDriver, Claim, DetachAndClaim, CloneInterface, CloseInterface, SetAltSetting, GetAltSetting, InterfaceDescriptor, Release, Endpoint, SubmitIn, SubmitOut, Pending, Poll, Wait, TransferIn, TransferOut, Cancel, ClearHalt, CloseEndpoint, Reader, IntoInner, SetNumTransfers, SetReadTimeout, CancelReader, CloseReader, PollRead, FillBuf, PollFillBuf, Consume, IsEnd, ConsumeEnd, ControlIn, ControlOut, StartControlIn, StartControlOut, PollFuture, WaitFuture, GetDescriptor, SupportedLanguages, StringDescriptor, CloseFuture, Steps}
+use Rattle.usb_script.specs.declared.item.Item.TheVariants as item
 use Rattle.usb_parse.specs.declared.error.SessionError.TheVariants.{Malformed}
 use Rattle.usb_script.specs.declared.reading.Reading.TheVariants.{Skipped, Read}
 use Rattle.usb_simulated.specs.declared.step.KernelStep.TheVariants.{Packet, Ack, Fail, Unplug, Clock, Timer, Reap, Refuse}
@@ -307,6 +309,64 @@ control_transfer_of_an_endpoint = refl
 start_with_steps : reading_of (codes "fin f0 d0 vendor device 30 0000 0000 64 1000 : reap") ≡ None
 unfolding script_on_literals
 start_with_steps = refl
+
+-- each line of readers with its fields
+each_reader_line :
+    script_of (
+    codes "reader r1 e2 3" ++ 10 ∷ []
+    ++ codes "inner e4 r5" ++ 10 ∷ []
+    ++ codes "num r6 65536" ++ 10 ∷ []
+    ++ codes "timeout r7 8" ++ 10 ∷ []
+    ++ codes "cancel r9" ++ 10 ∷ []
+    ++ codes "close r10" ++ 10 ∷ []
+    ++ codes "read r11 12 : reap" ++ 10 ∷ []
+    ++ codes "sread r13 65536 : timer" ++ 10 ∷ []
+    ++ codes "pollread r14 15" ++ 10 ∷ []
+    ++ codes "pollsread r16 17" ++ 10 ∷ []
+    ++ codes "fill r18 : reap ; timer" ++ 10 ∷ []
+    ++ codes "sfill r19 : reap 20" ++ 10 ∷ []
+    ++ codes "pollfill r21" ++ 10 ∷ []
+    ++ codes "pollsfill r22" ++ 10 ∷ []
+    ++ codes "consume r23 0" ++ 10 ∷ []
+    ++ codes "sconsume r24 25" ++ 10 ∷ []
+    ++ codes "isend r26" ++ 10 ∷ []
+    ++ codes "endmsg r27" ++ 10 ∷ []
+    )
+    ≡ Ok (
+    Reader 1 2 3
+    ∷ IntoInner 4 5
+    ∷ SetNumTransfers 6 65536
+    ∷ SetReadTimeout 7 8
+    ∷ CancelReader 9
+    ∷ CloseReader 10
+    ∷ item.Read Plain 11 12 (Reap None ∷ [])
+    ∷ item.Read UntilShort 13 65536 (Timer ∷ [])
+    ∷ PollRead Plain 14 15
+    ∷ PollRead UntilShort 16 17
+    ∷ FillBuf Plain 18 (Reap None ∷ Timer ∷ [])
+    ∷ FillBuf UntilShort 19 (Reap (Some 20) ∷ [])
+    ∷ PollFillBuf Plain 21
+    ∷ PollFillBuf UntilShort 22
+    ∷ Consume Plain 23 0
+    ∷ Consume UntilShort 24 25
+    ∷ IsEnd 26
+    ∷ ConsumeEnd 27
+    ∷ []
+    )
+unfolding script_on_literals
+each_reader_line = refl
+
+read_of_no_bytes : reading_of (codes "read r0 0") ≡ None
+unfolding script_on_literals
+read_of_no_bytes = refl
+
+read_of_65537_bytes : reading_of (codes "read r0 65537") ≡ None
+unfolding script_on_literals
+read_of_65537_bytes = refl
+
+poll_with_steps : reading_of (codes "pollread r0 5 : reap") ≡ None
+unfolding script_on_literals
+poll_with_steps = refl
 
 -- each step with its fields
 each_step : reading_of (codes "! pkt k18 93 1415 ; ack k16 17 ; fail k19 20 21 ; unplug k22 ; clock 23 ; timer ; reap 24 ; reap ; refuse k25 submit 26")

@@ -2,9 +2,9 @@
 use Rattle.std.specs.Prelude.{ℕ, Bool, true, false, not, ◌&&◌, List, length}
 use Rattle.std.specs.List.{sum_by}
 use Rattle.usb_script.specs.declared.item.Item.{Item}
-use Rattle.usb_script.specs.declared.item.Item.TheVariants.{Device, Driver, Attribute, Denied, Child, Link, Entry, Root, Uevent, Reset, Wait, TransferIn, TransferOut, ControlIn, ControlOut, WaitFuture, GetDescriptor, SupportedLanguages, StringDescriptor, Steps}
+use Rattle.usb_script.specs.declared.item.Item.TheVariants.{Device, Driver, Attribute, Denied, Child, Link, Entry, Root, Uevent, Reset, Wait, TransferIn, TransferOut, Read, FillBuf, ControlIn, ControlOut, WaitFuture, GetDescriptor, SupportedLanguages, StringDescriptor, Steps}
 use Rattle.usb_script.specs.declared.reading.Reading.{Reading}
-use Rattle.usb_script.specs.declared.reading.Reading.TheVariants.{Skipped, Read}
+use Rattle.usb_script.specs.declared.reading.Reading.TheVariants as reading
 
 -- a setup line declares what is there before the first call
 abbrev pub is_setup : Item → Bool
@@ -34,6 +34,8 @@ places_in (Reset device) = 1
 places_in (Wait endpoint timeout steps) = length steps
 places_in (TransferIn endpoint wanted timeout steps) = length steps
 places_in (TransferOut endpoint bytes timeout steps) = length steps
+places_in (Read framing reader wanted steps) = length steps
+places_in (FillBuf framing reader steps) = length steps
 places_in (ControlIn target setup wanted timeout steps) = length steps
 places_in (ControlOut target setup bytes timeout steps) = length steps
 places_in (WaitFuture future steps) = length steps
@@ -45,8 +47,8 @@ places_in item = 0
 
 -- how many places the item of a line may use, if it gives one
 abbrev pub places_read : Reading → ℕ
-places_read Skipped = 0
-places_read (Read item) = places_in item
+places_read reading.Skipped = 0
+places_read (reading.Read item) = places_in item
 
 -- how many places these items may use in all
 abbrev pub place_count : List Item → ℕ

@@ -3,6 +3,7 @@ pub mod ControlLines
 pub mod EndpointCalls
 pub mod ItemKinds
 pub mod LineForms
+pub mod ReaderCalls
 pub mod TreeLines
 pub mod Waits
 pub mod WithSteps

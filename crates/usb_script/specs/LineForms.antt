@@ -13,7 +13,7 @@ use Rattle.usb_words.specs.Letters.{simulated_letter}
 use Rattle.usb_steps.specs.KernelSteps.{steps_of}
 use Rattle.usb_script.specs.Waits.{wait_call_of}
 
--- `! STEP ; ..`, `device k B B B B BYTES`, `driver k B`, calls, and lines on the tree of attributes
+-- `! STEP ; ..`, `device k B B B B BYTES`, `driver k B`, calls, and lines on the tree of attributes and on packets of udev
 unfoldable pub named_of : Word → List Word → Option Item
 named_of name words =
     if bytes_eq name (codes "!") then (steps_of words >>= λ steps. Some (Steps steps))

@@ -6,8 +6,8 @@ ghost use Rattle.usb_script.specs.ItemKinds.{is_setup, is_call, places_in};
 use usb_kernel::Bytes;
 use usb_steps::Steps;
 use usb_words::{
-    ControlData, ControlTarget, Data, EndpointKind, Errno, FileName, Length, Name, Path, Selector,
-    Setup, StringIndex, Target, Timeout,
+    ControlData, ControlTarget, Data, EndpointKind, Errno, FileName, Framing, Length, Name, Path,
+    ReadLength, Selector, Setup, StringIndex, Target, Timeout,
 };
 
 /// A line of a script: its form, and its words as fields. A contract sees numbers and lists of them.
@@ -246,6 +246,82 @@ pub enum Item {
     CloseEndpoint {
         endpoint: Name,
     },
+    /// `reader r e N`: makes a reader of the endpoint, whose transfers want this many bytes at
+    /// least.
+    Reader {
+        reader: Name,
+        endpoint: Name,
+        transfer_size: Length,
+    },
+    /// `inner e r`: takes the endpoint back out of the reader, under this name.
+    IntoInner {
+        endpoint: Name,
+        reader: Name,
+    },
+    /// `num r N`: sets how many transfers of the reader are to be pending.
+    SetNumTransfers {
+        reader: Name,
+        count: u32,
+    },
+    /// `timeout r TIME`: sets for how long the calls on the reader wait.
+    SetReadTimeout {
+        reader: Name,
+        timeout: Timeout,
+    },
+    /// `cancel r`: cancels the pending transfers of the reader, and keeps none pending from then
+    /// on.
+    CancelReader {
+        reader: Name,
+    },
+    /// `close r`: closes the reader with its endpoint.
+    CloseReader {
+        reader: Name,
+    },
+    /// `read r R : STEP ; ..`, and `sread` until a short packet: reads up to this many bytes, and
+    /// waits where there are none.
+    Read {
+        framing: Framing,
+        reader: Name,
+        length: ReadLength,
+        /// What happens while it waits.
+        steps: Steps,
+    },
+    /// `pollread r R`, and `pollsread` until a short packet: reads up to this many bytes, and does
+    /// not wait.
+    PollRead {
+        framing: Framing,
+        reader: Name,
+        length: ReadLength,
+    },
+    /// `fill r : STEP ; ..`, and `sfill` until a short packet: asks for the unread bytes that are
+    /// there, and waits where there are none.
+    FillBuf {
+        framing: Framing,
+        reader: Name,
+        /// What happens while it waits.
+        steps: Steps,
+    },
+    /// `pollfill r`, and `pollsfill` until a short packet: asks for the unread bytes that are
+    /// there, and does not wait.
+    PollFillBuf {
+        framing: Framing,
+        reader: Name,
+    },
+    /// `consume r N`, and `sconsume` until a short packet: takes this many of the unread bytes as
+    /// read.
+    Consume {
+        framing: Framing,
+        reader: Name,
+        count: Length,
+    },
+    /// `isend r`: asks whether the end of a message is next.
+    IsEnd {
+        reader: Name,
+    },
+    /// `endmsg r`: goes over the end of a message.
+    ConsumeEnd {
+        reader: Name,
+    },
     /// `ctlin X CTL N TIME : STEP ; ..`: makes a control transfer that wants this many bytes, and
     /// waits for it. USB 2.0, section 9.3.
     ControlIn {
@@ -363,6 +439,8 @@ impl Item {
             Item::Wait { steps, .. }
             | Item::TransferIn { steps, .. }
             | Item::TransferOut { steps, .. }
+            | Item::Read { steps, .. }
+            | Item::FillBuf { steps, .. }
             | Item::ControlIn { steps, .. }
             | Item::ControlOut { steps, .. }
             | Item::WaitFuture { steps, .. }

@@ -6,6 +6,7 @@ mod control_call;
 mod endpoint_call;
 mod item;
 mod line;
+mod reader_call;
 mod reading;
 mod tree_line;
 mod wait;
@@ -15,6 +16,6 @@ pub use line::read_line;
 pub use reading::Reading;
 pub use usb_steps::Steps;
 pub use usb_words::{
-    ControlData, ControlTarget, Criterion, Data, EndpointKind, Errno, FileName, Length, Name, Path,
-    Selector, Setup, StringIndex, Target, Timeout, number_between,
+    ControlData, ControlTarget, Criterion, Data, EndpointKind, Errno, FileName, Framing, Length,
+    Name, Path, ReadLength, Selector, Setup, StringIndex, Target, Timeout, number_between,
 };

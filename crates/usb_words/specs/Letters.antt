@@ -20,3 +20,7 @@ endpoint_letter = 101
 -- f: a control transfer on its way
 abbrev pub future_letter : ℕ
 future_letter = 102
+
+-- r: a reader of an endpoint
+abbrev pub reader_letter : ℕ
+reader_letter = 114

@@ -38,11 +38,15 @@ number_of most word = do
 abbrev pub at_least : ℕ → ℕ → Option ℕ
 at_least least n = if nat_le least n then Some n else None
 
+-- a number from this one up to that one
+abbrev pub between : ℕ → ℕ → ℕ → Option ℕ
+between least most n = at_most most n >>= at_least least
+
 -- a decimal number from this one up to that one
 unfoldable pub number_between : ℕ → ℕ → List ℕ → Option ℕ
 number_between least most word = do
-  n ← number_of most word
-  at_least least n
+  n ← decimal_of word
+  between least most n
 
 -- whether of several digits the first is 0 (48 in ASCII)
 abbrev pub has_leading_zero : List ℕ → Bool
@@ -105,6 +109,10 @@ kind_of word =
 -- ERRNO: the number of an error, from 1 to 4095
 unfoldable pub errno_of : List ℕ → Option ℕ
 errno_of word = number_between 1 4095 word
+
+-- R: how many bytes a read wants at most, from 1 to 65536
+unfoldable pub read_length_of : List ℕ → Option ℕ
+read_length_of word = number_between 1 65536 word
 
 -- CALL: the kind of call that a refusal is for
 unfoldable pub call_of : List ℕ → Option KernelCall

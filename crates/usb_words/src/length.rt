@@ -1,4 +1,4 @@
-//! How many bytes a transfer wants.
+//! How many bytes a transfer wants, or are read.
 
 ghost use Rattle.std.specs.Prelude.{◌≡◌, ◌≤◌};
 ghost use Rattle.usb_words.specs.Words.{at_most, number_of};
@@ -8,7 +8,8 @@ use crate::line_error::LineError;
 use crate::words::decimal;
 use std::marker::Model;
 
-/// How many bytes a transfer wants, at most 65536. A contract sees the number.
+/// How many bytes a transfer wants, or are taken as read: at most 65536. A contract sees the
+/// number.
 #[derive(Clone, Copy, Debug, PartialEq, Eq)]
 pub struct Length {
     bytes: u32,

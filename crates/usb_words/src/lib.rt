@@ -5,11 +5,13 @@ mod control;
 mod endpoint_kind;
 mod error_number;
 mod fields;
+mod framing;
 mod length;
 mod line_bytes;
 mod line_error;
 mod name;
 mod places;
+mod read_length;
 mod selector;
 mod string_index;
 mod timeout;
@@ -22,11 +24,13 @@ pub use fields::{
     four_words, no_word, one_and_more, one_word, six_words, three_and_more, three_words,
     two_and_more, two_words,
 };
+pub use framing::Framing;
 pub use length::Length;
 pub use line_bytes::{ControlData, Data};
 pub use line_error::LineError;
 pub use name::Name;
 pub use places::{FileName, Path, Target, value};
+pub use read_length::ReadLength;
 pub use selector::{Criterion, Selector};
 pub use string_index::StringIndex;
 pub use timeout::Timeout;

@@ -108,7 +108,7 @@ pub fn decimal(word: &[u8]) -> Option<u64>
 }
 
 /// A number of 1 to 19 decimal digits that is in the range.
-#[tactic(auto, unfolding(crate::specs::Words::number_of, crate::specs::Words::number_between))]
+#[tactic(auto, unfolding(crate::specs::Words::number_between))]
 pub fn number_between(least: u64, most: u64, word: &[u8]) -> Option<u64>
     ensures value { result ≡ number_between least most word.now }
     ensures range { IfSome result (λ n. (least ≤ n) × (n ≤ most)) }

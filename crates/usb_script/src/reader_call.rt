@@ -1,0 +1,176 @@
+//! Calls on readers, of which some may have steps of their own, by their first word.
+
+ghost use Rattle.std.specs.Prelude.{◌≤◌, length, IfOk};
+ghost use Rattle.usb_words.specs.Fields.{texts};
+ghost use Rattle.usb_words.specs.Outcome.{Gives};
+ghost use Rattle.usb_script.specs.ReaderCalls.{read_call_of, framed_read_of, framed_fill_of, poll_call_of, framed_poll_read_of, framed_poll_fill_of, consume_call_of, framed_consume_of, reader_call_of};
+ghost use Rattle.usb_script.specs.ItemKinds.{places_in};
+
+use crate::control_call::control_call;
+use crate::item::Item;
+use std::alloc::Global;
+use usb_steps::own_steps;
+use usb_words::{
+    Framing, Length, LineError, Name, ReadLength, Timeout, number, one_and_more, one_word, reads,
+    three_words, two_and_more, two_words,
+};
+
+/// The most transfers that a line asks a reader to keep pending.
+const MAX_TRANSFERS: u64 = 65536;
+
+/// `read r R`, `sread r R`, `fill r`, `sfill r`, and steps, or a further line
+#[tactic(auto, unfolding(crate::specs::ReaderCalls::read_call_of))]
+pub fn read_call(alloc: Global, name: &[u8], words: &[&[u8]]) -> Result<Item, LineError>
+    ensures value { Gives (λ i. i) result (read_call_of name.now (texts words.now)) }
+    ensures few { IfOk result (λ item. places_in item ≤ length words.now) }
+{
+    if reads(name, b"read") {
+        framed_read(alloc, Framing::Plain, words)
+    } else if reads(name, b"sread") {
+        framed_read(alloc, Framing::UntilShort, words)
+    } else if reads(name, b"fill") {
+        framed_fill(alloc, Framing::Plain, words)
+    } else if reads(name, b"sfill") {
+        framed_fill(alloc, Framing::UntilShort, words)
+    } else {
+        poll_call(alloc, name, words)
+    }
+}
+
+/// A read: a reader, and how many bytes are wanted at most, with the steps of the call behind them
+fn framed_read(alloc: Global, framing: Framing, words: &[&[u8]]) -> Result<Item, LineError>
+    ensures value { Gives (λ i. i) result (framed_read_of framing (texts words.now)) }
+    ensures few { IfOk result (λ item. places_in item ≤ length words.now) }
+{
+    let (reader, wanted, own) = two_and_more(words)?;
+    Ok(Item::Read {
+        framing,
+        reader: Name::parse(b'r', reader)?,
+        length: ReadLength::parse(wanted)?,
+        steps: own_steps(alloc, own)?,
+    })
+}
+
+/// A fill: a reader, with the steps of the call behind it
+fn framed_fill(alloc: Global, framing: Framing, words: &[&[u8]]) -> Result<Item, LineError>
+    ensures value { Gives (λ i. i) result (framed_fill_of framing (texts words.now)) }
+    ensures few { IfOk result (λ item. places_in item ≤ length words.now) }
+{
+    let (reader, own) = one_and_more(words)?;
+    Ok(Item::FillBuf {
+        framing,
+        reader: Name::parse(b'r', reader)?,
+        steps: own_steps(alloc, own)?,
+    })
+}
+
+/// `pollread r R`, `pollsread r R`, `pollfill r`, `pollsfill r`, or a further line
+#[tactic(auto, unfolding(crate::specs::ReaderCalls::poll_call_of))]
+fn poll_call(alloc: Global, name: &[u8], words: &[&[u8]]) -> Result<Item, LineError>
+    ensures value { Gives (λ i. i) result (poll_call_of name.now (texts words.now)) }
+    ensures few { IfOk result (λ item. places_in item ≤ length words.now) }
+{
+    if reads(name, b"pollread") {
+        framed_poll_read(Framing::Plain, words)
+    } else if reads(name, b"pollsread") {
+        framed_poll_read(Framing::UntilShort, words)
+    } else if reads(name, b"pollfill") {
+        framed_poll_fill(Framing::Plain, words)
+    } else if reads(name, b"pollsfill") {
+        framed_poll_fill(Framing::UntilShort, words)
+    } else {
+        consume_call(alloc, name, words)
+    }
+}
+
+/// A poll that reads: a reader, and how many bytes are wanted at most
+fn framed_poll_read(framing: Framing, words: &[&[u8]]) -> Result<Item, LineError>
+    ensures value { Gives (λ i. i) result (framed_poll_read_of framing (texts words.now)) }
+    ensures few { IfOk result (λ item. places_in item ≤ length words.now) }
+{
+    let (reader, wanted) = two_words(words)?;
+    Ok(Item::PollRead {
+        framing,
+        reader: Name::parse(b'r', reader)?,
+        length: ReadLength::parse(wanted)?,
+    })
+}
+
+/// A poll that fills: a reader
+fn framed_poll_fill(framing: Framing, words: &[&[u8]]) -> Result<Item, LineError>
+    ensures value { Gives (λ i. i) result (framed_poll_fill_of framing (texts words.now)) }
+    ensures few { IfOk result (λ item. places_in item ≤ length words.now) }
+{
+    let reader = Name::parse(b'r', one_word(words)?)?;
+    Ok(Item::PollFillBuf { framing, reader })
+}
+
+/// `consume r N`, `sconsume r N`, `isend r`, `endmsg r`, or a further line
+#[tactic(auto, unfolding(crate::specs::ReaderCalls::consume_call_of))]
+fn consume_call(alloc: Global, name: &[u8], words: &[&[u8]]) -> Result<Item, LineError>
+    ensures value { Gives (λ i. i) result (consume_call_of name.now (texts words.now)) }
+    ensures few { IfOk result (λ item. places_in item ≤ length words.now) }
+{
+    if reads(name, b"consume") {
+        framed_consume(Framing::Plain, words)
+    } else if reads(name, b"sconsume") {
+        framed_consume(Framing::UntilShort, words)
+    } else if reads(name, b"isend") {
+        let reader = Name::parse(b'r', one_word(words)?)?;
+        Ok(Item::IsEnd { reader })
+    } else if reads(name, b"endmsg") {
+        let reader = Name::parse(b'r', one_word(words)?)?;
+        Ok(Item::ConsumeEnd { reader })
+    } else {
+        reader_call(alloc, name, words)
+    }
+}
+
+/// A consumption: a reader, and how many of its unread bytes are taken as read
+fn framed_consume(framing: Framing, words: &[&[u8]]) -> Result<Item, LineError>
+    ensures value { Gives (λ i. i) result (framed_consume_of framing (texts words.now)) }
+    ensures few { IfOk result (λ item. places_in item ≤ length words.now) }
+{
+    let (reader, count) = two_words(words)?;
+    Ok(Item::Consume {
+        framing,
+        reader: Name::parse(b'r', reader)?,
+        count: Length::parse(count)?,
+    })
+}
+
+/// `reader r e N`, `inner e r`, `num r N`, `timeout r TIME`, or a further line
+#[tactic(auto, unfolding(crate::specs::ReaderCalls::reader_call_of))]
+fn reader_call(alloc: Global, name: &[u8], words: &[&[u8]]) -> Result<Item, LineError>
+    ensures value { Gives (λ i. i) result (reader_call_of name.now (texts words.now)) }
+    ensures few { IfOk result (λ item. places_in item ≤ length words.now) }
+{
+    if reads(name, b"reader") {
+        let (reader, endpoint, size) = three_words(words)?;
+        Ok(Item::Reader {
+            reader: Name::parse(b'r', reader)?,
+            endpoint: Name::parse(b'e', endpoint)?,
+            transfer_size: Length::parse(size)?,
+        })
+    } else if reads(name, b"inner") {
+        let (endpoint, reader) = two_words(words)?;
+        Ok(Item::IntoInner {
+            endpoint: Name::parse(b'e', endpoint)?,
+            reader: Name::parse(b'r', reader)?,
+        })
+    } else if reads(name, b"num") {
+        let (reader, count) = two_words(words)?;
+        Ok(Item::SetNumTransfers {
+            reader: Name::parse(b'r', reader)?,
+            count: number(MAX_TRANSFERS, count)? as u32,
+        })
+    } else if reads(name, b"timeout") {
+        let (reader, timeout) = two_words(words)?;
+        Ok(Item::SetReadTimeout {
+            reader: Name::parse(b'r', reader)?,
+            timeout: Timeout::parse(timeout)?,
+        })
+    } else {
+        control_call(alloc, name, words)
+    }
+}
