@@ -56,7 +56,7 @@ module _ (us : Bool) (timeout : ℕ) (P : Reading HostState → Type 0) (keeps :
       let begun = begin_turn host_calls w in
       turn-keeps (pending_of begun) begun further refl (begin-keeps w at_w) next
 
-  turned-keeps : (n : ℕ) (w : Reading HostState) → P w → P (turned_on n us timeout w).left
+  pub turned-keeps : (n : ℕ) (w : Reading HostState) → P w → P (turned_on n us timeout w).left
   turned-keeps zero w at_w = at_w
   turned-keeps (suc n) w at_w = turned-if-keeps (turns us w.reader) w (λ v. turned_on n us timeout v) at_w (λ v at_v. turned-keeps n v at_v)
 

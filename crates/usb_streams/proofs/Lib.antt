@@ -4,3 +4,5 @@ pub mod LinesGoOn
 pub mod CallAnswers
 pub mod FillKeeps
 pub mod CallsGoOn
+pub mod TicketsCome
+pub mod FramedCalls

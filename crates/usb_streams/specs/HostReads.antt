@@ -75,9 +75,9 @@ turned_if true until_short timeout w further =
     turn_on until_short timeout (begin_turn host_calls w) further
 
 -- turn after turn, until there is something to answer, nothing is pending, or a wait was in vain.
--- The number only ends the recursion
+-- The number only ends the recursion: it is never used up
 abbrev pub turned_on : ℕ → Bool → ℕ → Reading HostState → Answered
-turned_on zero until_short timeout w = stands_at w
+turned_on zero until_short timeout w = answered (Err TimedOut) w
 turned_on (suc n) until_short timeout w =
     turned_if (turns until_short w.reader) until_short timeout w
     (λ v. turned_on n until_short timeout v)

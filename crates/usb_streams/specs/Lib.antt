@@ -1,3 +1,5 @@
 pub mod HostReads
 pub mod Lent
 pub mod Laws
+pub mod Numbers
+pub mod Framed

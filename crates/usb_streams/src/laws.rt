@@ -1,5 +1,6 @@
 //! Laws of calls on a reader at a host. Each is the contract of a function that does nothing.
 
+ghost use Rattle.usb_streams.specs.Framed.{FramedFillFollows, FramedReadFollows, FramedSubmissionsFollow, EmptyReadLeavesEnd};
 ghost use Rattle.usb_streams.specs.Laws.{FillGoesOn, ReadGoesOn, SubmissionsGoOn};
 
 /// A call on a reader takes steps of the host's line from its front alone, and keeps what is open.
@@ -7,4 +8,14 @@ pub fn calls_go_on()
     ensures fill { FillGoesOn }
     ensures read { ReadGoesOn }
     ensures submissions { SubmissionsGoOn }
+{}
+
+/// A framed reader (one that ends at each short packet) that followed its stream does so behind a
+/// call until a short packet, with the bytes consumed that the call handed over. A read that gives
+/// no byte, and had room for one, leaves an end that stands.
+pub fn framed_calls_follow()
+    ensures fill { FramedFillFollows }
+    ensures read { FramedReadFollows }
+    ensures submissions { FramedSubmissionsFollow }
+    ensures empty { EmptyReadLeavesEnd }
 {}
