@@ -10,6 +10,7 @@ use crate::descriptors::{Question, expect_descriptor, sent};
 use crate::hosts::{acknowledgement, control_packet, new_host, packet, reap};
 use crate::readers::{Reading, expect_reading, reading_steps};
 use crate::transfers::{expect_other, expect_packet};
+use crate::writers::{Writing, expect_writing, writing_steps};
 use std::alloc::Global;
 use std::process::Abort;
 use std::test::Fail;
@@ -37,6 +38,8 @@ pub enum Case {
     Descriptor(Question),
     /// A reader is made of an endpoint, and used.
     Reading(Reading),
+    /// A writer is made of an endpoint, and used.
+    Writing(Writing),
 }
 
 /// Compares what is found at a new host.
@@ -57,6 +60,7 @@ fn expect_case(rt: &impl Abort, alloc: Global, host: &mut Host, case: Case) {
         Case::Control(control) => expect_control(rt, alloc, host, control),
         Case::Descriptor(question) => expect_descriptor(rt, alloc, host, question),
         Case::Reading(reading) => expect_reading(rt, alloc, host, reading),
+        Case::Writing(writing) => expect_writing(rt, alloc, host, writing),
     }
 }
 
@@ -72,6 +76,7 @@ fn steps_of(alloc: Global, case: Case) -> Result<Vec<KernelStep>, NoMemory>
         Case::Control(control) => control_steps(alloc, control.direction),
         Case::Descriptor(question) => one_step(alloc, control_packet(alloc, sent(question))?),
         Case::Reading(reading) => reading_steps(alloc, reading),
+        Case::Writing(writing) => writing_steps(alloc, writing),
     }
 }
 

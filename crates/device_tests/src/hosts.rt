@@ -13,7 +13,8 @@ use futures::task::Poll;
 use std::alloc::Global;
 use test_devices::{DEVICE, device, kernel_with};
 use usb_device::{
-    Bulk, Bus, Completion, Device, Endpoint, Error, Fail, Host, In, Interface, KernelStep, NoMemory,
+    Bulk, Bus, Completion, Device, Endpoint, Error, Fail, Host, In, Interface, KernelStep,
+    NoMemory, Out,
 };
 use usb_error::Message;
 use usb_kernel::Bytes;
@@ -96,6 +97,16 @@ pub fn open(alloc: Global, host: &mut Host) -> Result<Endpoint<Bulk, In>, Fail<E
 {
     let interface = claim(alloc, host)?;
     let opened = interface.endpoint(host, 0x81);
+    interface.close(host);
+    opened
+}
+
+/// Claims interface 0, opens its endpoint 0x02 and closes the interface's handle.
+pub fn open_output(alloc: Global, host: &mut Host) -> Result<Endpoint<Bulk, Out>, Fail<Error>>
+    ensures stands { IfOk result (Stands (bus_of host.new)) }
+{
+    let interface = claim(alloc, host)?;
+    let opened = interface.endpoint(host, 0x02);
     interface.close(host);
     opened
 }

@@ -1,6 +1,6 @@
 //! Tests of the host, of what is opened at it, and of transfers there: the crates `usb_host` and
 //! `usb_device`. And tests of readers there, and of their printed lines: the readers of either type
-//! of `usb_io`, `usb_streams` and `usb_stream_lines`.
+//! of `usb_io`, `usb_streams` and `usb_stream_lines`; and of writers there: `usb_writes`.
 //!
 //! What calls answer is asked by whole scripts too, of the crate `nusb_sim`.
 //!
@@ -21,3 +21,5 @@ mod hosts;
 mod readers;
 #[cfg(test)]
 mod transfers;
+#[cfg(test)]
+mod writers;

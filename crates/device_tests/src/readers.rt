@@ -10,12 +10,12 @@ ghost use Rattle.usb_host.specs.HostBus.{bus_of};
 ghost use Rattle.usb_io.specs.AnyReaders.{reader_of};
 
 use crate::cases::{Case, expect};
-use crate::hosts::{claim, go_on, open, packet, reap};
+use crate::hosts::{go_on, open, open_output, packet, reap};
 use futures::task::Poll;
 use std::alloc::Global;
 use std::process::Abort;
 use usb_device::{
-    AnyEndpoint, Bulk, Endpoint, Error, Fail, Host, In, KernelStep, NoMemory, Out, TransferError,
+    AnyEndpoint, Bulk, Endpoint, Error, Fail, Host, In, KernelStep, NoMemory, TransferError,
 };
 use usb_io::{AnyReader, ExpectedShortPacket, ReadFault};
 use usb_stream_lines::{
@@ -528,16 +528,6 @@ fn are_right(alloc: Global, host: &mut Host, reading: Reading) -> Result<bool, F
     let right = right_steps(host, &mut reader, steps);
     close(host, reader, is_double);
     Ok(right == steps.len())
-}
-
-/// Claims interface 0, opens its endpoint 0x02 and closes the interface's handle.
-fn open_output(alloc: Global, host: &mut Host) -> Result<Endpoint<Bulk, Out>, Fail<Error>>
-    ensures stands { IfOk result (Stands (bus_of host.new)) }
-{
-    let interface = claim(alloc, host)?;
-    let opened = interface.endpoint(host, 0x02);
-    interface.close(host);
-    opened
 }
 
 /// Whether no reader is made of an endpoint for output, which comes back.

@@ -21,15 +21,16 @@ use Rattle.usb_answers.specs.Submits.{submitted, with_submission}
 use Rattle.usb_answers.specs.Polls.{one_taken, taken_from}
 use Rattle.usb_answers.specs.Closes.{without_endpoint}
 use Rattle.usb_answers.specs.Futures.{with_future}
-use Rattle.usb_answers.specs.Ends.{endpoints_closed, futures_closed, all_closed}
+use Rattle.usb_answers.specs.Ends.{readers_closed, endpoints_closed, futures_closed, all_closed}
 use Rattle.usb_answers.specs.Output.{start}
 use Rattle.usb_answers.specs.Accounts.{Covered, IsAwaited, Accounted, StartIsAccounted, AnswerKeepsAccounts, CloseKeepsAccounts}
 use Rattle.usb_answers.specs.Served.{ClosedEndpoint}
 use Rattle.usb_names.proofs.NameLemmas.{named_of, free_place, named-change_same, named-change_other, named-freed_other, named-set, named-set_other}
-use Rattle.usb_answers.proofs.Does.{Quiet, Acts, without_future_of, goes, opens, submits, starts, controls, frees, ends, takes, closes}
+use Rattle.usb_answers.proofs.Does.{Quiet, Acts, SameTickets, moved, without_future_of, goes, opens, submits, fits, reads, starts, controls, frees, ends, takes, closes, moves, free-still}
 use Rattle.usb_answers.proofs.DeviceLines.{handles-quiet}
 use Rattle.usb_answers.proofs.EndpointLines.{closed-does}
 use Rattle.usb_answers.proofs.ControlLines.{future_closed_under-does}
+use Rattle.usb_answers.proofs.ReaderDoes.{reader_closed-does}
 use Rattle.usb_answers.proofs.EveryLine.{answer-does}
 
 -- the start
@@ -208,10 +209,33 @@ accounted-free state n f host here parts a =
       count = parts.count.count ∙ a.count ∙ sym parts.count.past;
     }
 
+-- an endpoint goes to another place, which was free
+accounted-move : (state : State) (from to : ℕ) (h g : Endpoint) → named state.endpoints from ≡ Some h → is_free state.endpoints to ≡ true → SameTickets h g → Accounted state → Accounted (moved state from to g)
+accounted-move state from to h g here free same a =
+    let mid = freed state.endpoints from in
+    let still = free-still state.endpoints from to h here free in
+    let all : pending h ≡ pending g = ap (λ (n : ℕ). drop n h.tickets) (sym same.taken) ∙ ap (λ (l : List ℕ). drop g.taken l) (sym same.tickets) in
+    let covered : (t key : ℕ) → Covered state.endpoints t key → Covered (set_name mid to g) t key = λ t key c. elim (cases_eq c.name from) [
+      | inl at ↦
+          let entry = covered-entry c from h here at in
+          record {
+            name = to;
+            entry = g;
+            at = named-set mid to g still;
+            key_is = same.key ∙ (sym (ap (λ (x : Endpoint). x.key) entry) ∙ c.key_is);
+            in_pending = subst (λ (l : List ℕ). Contains l t) all (subst (λ (x : Endpoint). Contains (pending x) t) entry c.in_pending);
+          }
+      | inr away ↦ covered-set mid to g t key still (record { name = c.name; entry = c.entry; at = named-freed_other state.endpoints from c.name away ∙ c.at; key_is = c.key_is; in_pending = c.in_pending })
+    ] in
+    record { held = λ t key own. either (covered t key) (λ w. w) (a.held t key own); count = a.count }
+
 -- so over each answer
 acts-accounted : {few : Type 0} {a : Answer} {state : State} {closed : List ClosedEndpoint} {handed : List ℕ} → few → Acts few a state closed handed → Accounted state → Accounted a.state
 acts-accounted few (goes quiet rest) acc = acts-accounted few rest (accounted-quiet quiet acc)
-acts-accounted {state} few (opens e x free none zero_ rest) acc = acts-accounted few rest (accounted-open state e x free acc)
+acts-accounted few (fits other rest) acc = acts-accounted few (rest few) acc
+acts-accounted {state} few (reads e t h above here front other rest) acc = acts-accounted few rest (accounted-take state e t h here front acc)
+acts-accounted {state} few (moves from to h g here free same read other quiet) acc = accounted-quiet quiet (accounted-move state from to h g here free same acc)
+acts-accounted {state} few (opens e x free none zero_ outside rest) acc = acts-accounted few rest (accounted-open state e x free acc)
 acts-accounted {state} few (submits e b h here within rest) acc = acts-accounted few rest (accounted-submit state e b h here (within few) acc)
 acts-accounted {state} few (starts n request timeout device free rest) acc = acts-accounted few rest (accounted-start_future state n request timeout device free acc)
 acts-accounted {state} few (controls host one adds rest) acc = acts-accounted few rest (accounted-control state host one (adds acc.count) acc)
@@ -224,6 +248,10 @@ pub accounted-answer : AnswerKeepsAccounts
 accounted-answer state item few a = acts-accounted few (answer-does state (λ e. []) item) a
 
 -- and over the closes at the end
+accounted-readers : (state : State) (n : ℕ) → Accounted state → Accounted (readers_closed state n)
+accounted-readers state zero a = a
+accounted-readers state (suc n) a = acts-accounted {few = Unit {0}} tt (reader_closed-does (readers_closed state n) n (λ e. [])) (accounted-readers state n a)
+
 accounted-endpoints : (state : State) (n : ℕ) → Accounted state → Accounted (endpoints_closed state n)
 accounted-endpoints state zero a = a
 accounted-endpoints state (suc n) a = acts-accounted {few = Unit {0}} tt (closed-does (endpoints_closed state n) n (λ e. [])) (accounted-endpoints state n a)
@@ -235,7 +263,8 @@ accounted-futures state (suc n) a = acts-accounted {few = Unit {0}} tt (future_c
 pub accounted-all_closed : CloseKeepsAccounts
 unfolding all_closed
 accounted-all_closed state a =
-    let mid = endpoints_closed state 64 in accounted-quiet (handles-quiet (futures_closed mid 64)) (accounted-futures mid 64 (accounted-endpoints state 64 a))
+    let read = readers_closed state 64 in
+    let mid = endpoints_closed read 64 in accounted-quiet (handles-quiet (futures_closed mid 64)) (accounted-futures mid 64 (accounted-endpoints read 64 (accounted-readers state 64 a)))
 
 -- where no name is open no ticket is held
 pub accounted-none : (state : State) → Accounted state → ((e : ℕ) → named state.endpoints e ≡ None) → ((n : ℕ) → named state.futures n ≡ None) → (t : ℕ) → owner_at state.host.tickets t ≡ None

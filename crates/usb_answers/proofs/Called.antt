@@ -1,10 +1,8 @@
 -- Calls on one endpoint of a session: what they keep.
-use Rattle.std.proofs.Common.{◌≡◌, ◌≢◌, ℕ, ◌<◌, ◌≤◌, arith, List, [], length, map, Option, Some, None, false, refl, ap, sym, ◌∙◌, subst, inl, inr, ◌⊎◌}
+use Rattle.std.proofs.Common.{◌≡◌, ◌≢◌, ℕ, ◌<◌, ◌≤◌, List, [], length, map, Option, Some, None, false, refl, ap, sym, ◌∙◌, subst, inl, inr, ◌⊎◌}
 use Rattle.std.specs.Option.{option_map}
 use Rattle.std.proofs.lemmas.Bool.{cases_eq}
 use Rattle.std.proofs.lemmas.Option.{none-some, same_Some}
-use Rattle.usb_endpoint.specs.declared.any_endpoint.AnyEndpoint.{AnyEndpoint}
-use Rattle.usb_endpoint.specs.AnyEndpoints.{state_of}
 use Rattle.usb_endpoint.specs.EndpointState.{EndpointState}
 use Rattle.usb_endpoint.specs.Handles.{Stands, KeepsOthers}
 use Rattle.usb_endpoint.proofs.Frames.{Stands-other}
@@ -18,7 +16,8 @@ use Rattle.usb_device.proofs.DeviceLemmas.{counts-stands}
 use Rattle.usb_device.proofs.HeldDevices.{held-goes}
 use Rattle.usb_device.proofs.StandLemmas.{StandsInterface-same}
 use Rattle.usb_names.specs.Names.{named, change_named, freed, set_name}
-use Rattle.usb_answers.specs.State.{State, Endpoint, kept}
+use Rattle.usb_answers.specs.BareReaders.{BareReader}
+use Rattle.usb_answers.specs.State.{State, Endpoint, Reader, kept}
 use Rattle.usb_answers.specs.SessionState.{SessionState, IsSound}
 use Rattle.usb_answers.specs.Relation.{Represents, session_of}
 use Rattle.usb_answers.proofs.Answering.{named_kept}
@@ -26,7 +25,7 @@ use Rattle.usb_answers.proofs.CountedNames.{counted-goes}
 use Rattle.usb_answers.proofs.CountedDevices.{devices-kept}
 use Rattle.usb_answers.proofs.NamedKeys.{OpensNone, named-goes, named-put, named-closed}
 use Rattle.usb_answers.proofs.FutureLemmas.{control_with, future-goes}
-use Rattle.usb_names.proofs.NameLemmas.{named-map, named-set, named-set_other, named-freed, named-freed_other, freed-free, length-freed, length-set_name, map-freed, map-set, map-change_named, put-changed, named-change_same, named-change_other}
+use Rattle.usb_names.proofs.NameLemmas.{named-map, named-set, named-set_other, named-freed, named-freed_other, freed-free, length-freed, length-set_name, map-freed, map-change_named, put-changed, named-change_same, named-change_other}
 
 -- what is kept between lines
 pub record KeepsSession (old new : HostState) : Type 0 where
@@ -71,25 +70,34 @@ differ-put s after e x y sound was put key c d g h isg ish apart =
       ]
     ]
 
+small-put : (s : SessionState) (after : List (Option EndpointState)) (e : ℕ) (x y : EndpointState) → IsSound s → named s.endpoints e ≡ Some x → after ≡ set_name (freed s.endpoints e) e y → y.maximum ≡ x.maximum → (d : ℕ) (h : EndpointState) → named after d ≡ Some h → h.maximum < 2048
+small-put s after e x y sound was put maximum d h is =
+    elim (names-put s.endpoints after e d x y h was put is) [
+      | inl here ↦ subst (λ (n : ℕ). n < 2048) (sym (ap (λ (z : EndpointState). z.maximum) here.1 ∙ maximum)) (sound.endpoints_small e x was)
+      | inr there ↦ sound.endpoints_small d h there.1
+    ]
+
 -- futures stand over a call on an endpoint
 futures-other : (s : SessionState) (now : HostState) (e : ℕ) (x : EndpointState) → IsSound s → named s.endpoints e ≡ Some x → KeepsSession s.host now → KeepsOthers (bus_of s.host) (bus_of now) x.key → (n : ℕ) (f : FutureState) → named s.futures n ≡ Some f → StandsFuture now f
 futures-other s now e x sound was keeps others n f is =
     future-goes s.host now f (λ t. Stands-other (bus_of s.host) (bus_of now) x.key (control_with f.key t) others (λ same. sound.futures_apart e n x f was is (sym same))) keeps.past (sound.futures_stand n f is)
 
 -- an endpoint was called and put back
-pub sound-put : (s : SessionState) (now : HostState) (after : List (Option EndpointState)) (e : ℕ) (x y : EndpointState) → IsSound s → named s.endpoints e ≡ Some x → after ≡ set_name (freed s.endpoints e) e y → KeepsSession s.host now → Stands (bus_of now) y → y.key ≡ x.key → KeepsOthers (bus_of s.host) (bus_of now) x.key → OpensNone s.host.endpoints now.endpoints → IsSound (record s { host = now; endpoints = after })
-sound-put s now after e x y sound was put keeps stands key others none =
+pub sound-put : (s : SessionState) (now : HostState) (after : List (Option EndpointState)) (e : ℕ) (x y : EndpointState) → IsSound s → named s.endpoints e ≡ Some x → after ≡ set_name (freed s.endpoints e) e y → KeepsSession s.host now → Stands (bus_of now) y → y.key ≡ x.key → y.maximum ≡ x.maximum → KeepsOthers (bus_of s.host) (bus_of now) x.key → OpensNone s.host.endpoints now.endpoints → IsSound (record s { host = now; endpoints = after })
+sound-put s now after e x y sound was put keeps stands key maximum others none =
     record {
       idle = keeps.idle;
       device_names = sound.device_names;
       interface_names = sound.interface_names;
       endpoint_names = ap (λ (l : List (Option EndpointState)). length l) put ∙ length-set_name (freed s.endpoints e) e y ∙ length-freed s.endpoints e ∙ sound.endpoint_names;
+      reader_names = sound.reader_names;
       devices_stand = λ d k is. counts-stands s.host now k keeps.devices (sound.devices_stand d k is);
       devices_counted = devices-kept s.host.devices now.devices s.devices (opened-counts s.host.devices now.devices keeps.devices) sound.devices_counted;
       devices_held = held-goes s.host now keeps.devices keeps.interfaces sound.devices_held;
       interfaces_stand = λ i f is. StandsInterface-same s.host now f keeps.interfaces (counts-there s.host.devices now.devices keeps.devices) (sound.interfaces_stand i f is);
       interfaces_counted = counted-goes s.host.interfaces now.interfaces s.interfaces keeps.interfaces sound.interfaces_counted;
       endpoints_stand = stands-put s now after e x y sound was put stands others;
+      endpoints_small = small-put s after e x y sound was put maximum;
       endpoints_differ = differ-put s after e x y sound was put key;
       keys_named = named-put s.host.endpoints now.endpoints s.endpoints after s.futures e x y none was put key sound.keys_named;
       future_names = sound.future_names;
@@ -110,12 +118,14 @@ sound-freed s now after e x sound was rest keeps others none closed =
       device_names = sound.device_names;
       interface_names = sound.interface_names;
       endpoint_names = ap (λ (l : List (Option EndpointState)). length l) rest ∙ length-freed s.endpoints e ∙ sound.endpoint_names;
+      reader_names = sound.reader_names;
       devices_stand = λ d k is. counts-stands s.host now k keeps.devices (sound.devices_stand d k is);
       devices_counted = devices-kept s.host.devices now.devices s.devices (opened-counts s.host.devices now.devices keeps.devices) sound.devices_counted;
       devices_held = held-goes s.host now keeps.devices keeps.interfaces sound.devices_held;
       interfaces_stand = λ i f is. StandsInterface-same s.host now f keeps.interfaces (counts-there s.host.devices now.devices keeps.devices) (sound.interfaces_stand i f is);
       interfaces_counted = counted-goes s.host.interfaces now.interfaces s.interfaces keeps.interfaces sound.interfaces_counted;
       endpoints_stand = λ d h is. let there = names-freed s.endpoints after e d h rest is in Stands-other (bus_of s.host) (bus_of now) x.key h others (sound.endpoints_differ d e h x there.1 was there.0) (sound.endpoints_stand d h there.1);
+      endpoints_small = λ d h is. sound.endpoints_small d h (names-freed s.endpoints after e d h rest is).1;
       endpoints_differ = λ c d g h isg ish apart. sound.endpoints_differ c d g h (names-freed s.endpoints after e c g rest isg).1 (names-freed s.endpoints after e d h rest ish).1 apart;
       keys_named = named-closed s.host.endpoints now.endpoints s.endpoints after s.futures e x none closed was rest sound.keys_named;
       future_names = sound.future_names;
@@ -123,6 +133,31 @@ sound-freed s now after e x sound was rest keeps others none closed =
       futures_stand = futures-other s now e x sound was keeps others;
       futures_differ = sound.futures_differ;
       futures_apart = λ d n h f ish isf. sound.futures_apart d n h f (names-freed s.endpoints after e d h rest ish).1 isf;
+    }
+
+-- what readers have beside their endpoints
+pub sound-readers : (s : SessionState) (after : List (Option BareReader)) → IsSound s → length after ≡ length s.readers → IsSound (record s { readers = after })
+sound-readers s after sound names =
+    record {
+      idle = sound.idle;
+      device_names = sound.device_names;
+      interface_names = sound.interface_names;
+      endpoint_names = sound.endpoint_names;
+      reader_names = names ∙ sound.reader_names;
+      devices_stand = sound.devices_stand;
+      devices_counted = sound.devices_counted;
+      devices_held = sound.devices_held;
+      interfaces_stand = sound.interfaces_stand;
+      interfaces_counted = sound.interfaces_counted;
+      endpoints_stand = sound.endpoints_stand;
+      endpoints_small = sound.endpoints_small;
+      endpoints_differ = sound.endpoints_differ;
+      keys_named = sound.keys_named;
+      future_names = sound.future_names;
+      futures_wait = sound.futures_wait;
+      futures_stand = sound.futures_stand;
+      futures_differ = sound.futures_differ;
+      futures_apart = sound.futures_apart;
     }
 
 -- a host that went on by itself
@@ -133,12 +168,14 @@ sound-host s now sound keeps stands none =
       device_names = sound.device_names;
       interface_names = sound.interface_names;
       endpoint_names = sound.endpoint_names;
+      reader_names = sound.reader_names;
       devices_stand = λ d k is. counts-stands s.host now k keeps.devices (sound.devices_stand d k is);
       devices_counted = devices-kept s.host.devices now.devices s.devices (opened-counts s.host.devices now.devices keeps.devices) sound.devices_counted;
       devices_held = held-goes s.host now keeps.devices keeps.interfaces sound.devices_held;
       interfaces_stand = λ i f is. StandsInterface-same s.host now f keeps.interfaces (counts-there s.host.devices now.devices keeps.devices) (sound.interfaces_stand i f is);
       interfaces_counted = counted-goes s.host.interfaces now.interfaces s.interfaces keeps.interfaces sound.interfaces_counted;
       endpoints_stand = λ e h is. stands h (sound.endpoints_stand e h is);
+      endpoints_small = sound.endpoints_small;
       endpoints_differ = sound.endpoints_differ;
       keys_named = named-goes s.host.endpoints now.endpoints s.endpoints s.futures none sound.keys_named;
       future_names = sound.future_names;
@@ -198,19 +235,15 @@ represents-freed s state now after e r rest =
       few = few-freed state e r.few;
     }
 
+-- what readers have beside their endpoints is another
+pub represents-readers : (s : SessionState) (state : State) (after : List (Option BareReader)) (readers : List (Option Reader)) → Represents s state → after ≡ map (option_map (λ (x : Reader). x.bare)) readers → Represents (record s { readers = after }) (record state { readers = readers })
+represents-readers s state after readers r same =
+    record {
+      is = ap (λ (v : SessionState). record v { readers = after }) r.is ∙ ap (λ (l : List (Option BareReader)). record (session_of state) { readers = l }) same;
+      few = r.few;
+    }
+
 -- only the host went on
 pub represents-host : (s : SessionState) (state : State) (now : HostState) → Represents s state → Represents (record s { host = now }) (record state { host = now })
 represents-host s state now r =
     record { is = ap (λ (v : SessionState). record v { host = now }) r.is; few = r.few }
-
--- the endpoints of a session as their calls see them
-pub taken-map : (es : List (Option AnyEndpoint)) (e : ℕ) (x : AnyEndpoint) → named es e ≡ Some x → named (map (option_map state_of) es) e ≡ Some (state_of x)
-taken-map es e x is = named-map state_of es e ∙ ap (option_map state_of) is
-
-pub put-map : (es mid after : List (Option AnyEndpoint)) (e : ℕ) (y : AnyEndpoint) → mid ≡ freed es e → after ≡ set_name mid e y → map (option_map state_of) after ≡ set_name (freed (map (option_map state_of) es) e) e (state_of y)
-put-map es mid after e y rest put =
-    ap (map (option_map state_of)) put ∙ map-set state_of mid e y
-    ∙ ap (λ l. set_name l e (state_of y)) (ap (map (option_map state_of)) rest ∙ map-freed state_of es e)
-
-pub freed-map : (es after : List (Option AnyEndpoint)) (e : ℕ) → after ≡ freed es e → map (option_map state_of) after ≡ freed (map (option_map state_of) es) e
-freed-map es after e rest = ap (map (option_map state_of)) rest ∙ map-freed state_of es e

@@ -26,14 +26,16 @@ use Rattle.usb_answers.specs.State.{State, Endpoint, kept}
 use Rattle.usb_answers.specs.Answer.{barred, ok_answer, if_open}
 use Rattle.usb_answers.specs.Closes.{closed, closed_at, close_answer, without_endpoint}
 use Rattle.usb_answers.specs.SessionState.{SessionState, IsSound}
-use Rattle.usb_answers.specs.SessionFacts.{made_of}
+use Rattle.usb_answers.specs.SessionFacts.{made_of, endpoints_with}
+use Rattle.usb_answers.specs.ReaderAt.{endpoint_place}
 use Rattle.usb_answers.specs.Relation.{Represents}
 use Rattle.usb_answers.specs.Answered.{Answered, Answers}
 use Rattle.usb_answers.proofs.Answering.{named_kept, none_kept, host_is, told-answered}
-use Rattle.usb_answers.proofs.Called.{KeepsSession, open_at, sound-freed, represents-freed, taken-map, freed-map}
+use Rattle.usb_answers.proofs.Called.{KeepsSession, OpenAt, open_at, sound-freed, represents-freed}
+use Rattle.usb_answers.proofs.OpenPlaces.{taken-map, freed-map}
 use Rattle.usb_answers.proofs.NamedKeys.{OpensNone, none-goes}
 use Rattle.usb_answers.proofs.SubmitCode.{line-all_discarded}
-use Rattle.usb_answers.proofs.TakenOut.{made_with, named-made, none_made, keeps-line}
+use Rattle.usb_answers.proofs.TakenOut.{made_with, places-made, named-made, none_made, keeps-line}
 use Rattle.usb_answers.proofs.OrderLemmas.{before-past, left-past}
 
 line-all_abandoned : (h : HostState) (ts : List ℕ) → LineGoesOn h (all_abandoned host_abandoned h ts)
@@ -75,12 +77,17 @@ none-closed h e k open_ =
 key-closed : (h : HostState) (e : EndpointState) → key_at (after_close host_discarded host_abandoned host_left h e).endpoints e.key ≡ false
 key-closed h e = left-key (before_left h e) e.key e.key ∙ rw (eq-eqb e.key e.key refl) refl
 
+pub after-sound : (i : Inside) (now : HostState) (after : List (Option EndpointState)) (p : ℕ) (z : EndpointState) → IsSound (made_of i) → named (made_of i).endpoints p ≡ Some z → after ≡ freed (made_of i).endpoints p → now ≡ after_close host_discarded host_abandoned host_left i.host z → KeepsOthers (bus_of i.host) (bus_of now) z.key → IsSound (record (made_of i) { host = now; endpoints = after })
+after-sound i now after p z sound was rest bus others =
+    sound-freed (made_of i) now after p z sound was rest (subst (KeepsSession i.host) (sym bus) (keeps-closed i.host z sound.idle)) others
+    (subst (λ (g : HostState). OpensNone i.host.endpoints g.endpoints) (sym bus) (none-closed i.host z))
+    (ap (λ (g : HostState). key_at g.endpoints z.key) bus ∙ key-closed i.host z)
+
 pub closed-sound : (i : Inside) (now : HostState) (mid : List (Option AnyEndpoint)) (n : ℕ) (x : AnyEndpoint) → IsSound (made_of i) → named i.endpoints.items n ≡ Some x → mid ≡ freed i.endpoints.items n → now ≡ after_close host_discarded host_abandoned host_left i.host (state_of x) → KeepsOthers (bus_of i.host) (bus_of now) (state_of x).key → IsSound (made_with i now mid)
 closed-sound i now mid n x sound was rest bus others =
-    sound-freed (made_of i) now (map (option_map state_of) mid) n (state_of x) sound (taken-map i.endpoints.items n x was) (freed-map i.endpoints.items mid n rest)
-    (subst (KeepsSession i.host) (sym bus) (keeps-closed i.host (state_of x) sound.idle)) others
-    (subst (λ (g : HostState). OpensNone i.host.endpoints g.endpoints) (sym bus) (none-closed i.host (state_of x)))
-    (ap (λ (g : HostState). key_at g.endpoints (state_of x).key) bus ∙ key-closed i.host (state_of x))
+    let places = places-made i sound in
+    after-sound i now (endpoints_with mid i.readers.items) (endpoint_place n) (state_of x) sound (taken-map i.endpoints.items i.readers.items n x places was)
+    (freed-map i.endpoints.items mid i.readers.items n places rest) bus others
 
 pub closed-spare : (h now : HostState) (e : EndpointState) → h.steps ≡ [] → now ≡ after_close host_discarded host_abandoned host_left h e → now.kernel.spare ≡ h.kernel.spare
 closed-spare h now e idle bus =
@@ -88,29 +95,35 @@ closed-spare h now e idle bus =
     let none : length before.front + length (before_left h e).steps ≡ 0 = sym (length-append before.front (before_left h e).steps) ∙ ap length (sym before.steps ∙ idle) in
     ap (λ (g : HostState). g.kernel.spare) bus ∙ (line-left (before_left h e) e.key).spare ∙ omega (arith, before.spare, none)
 
-pub freed-made : (i : Inside) (S : SessionState) (mid : List (Option AnyEndpoint)) (n : ℕ) → made_of i ≡ S → mid ≡ freed i.endpoints.items n → map (option_map state_of) mid ≡ freed S.endpoints n
-freed-made i S mid n view rest = freed-map i.endpoints.items mid n rest ∙ ap (λ (v : SessionState). freed v.endpoints n) view
+pub freed-made : (i : Inside) (S : SessionState) (mid : List (Option AnyEndpoint)) (n : ℕ) → IsSound (made_of i) → made_of i ≡ S → mid ≡ freed i.endpoints.items n → endpoints_with mid i.readers.items ≡ freed S.endpoints (endpoint_place n)
+freed-made i S mid n sound view rest =
+    freed-map i.endpoints.items mid i.readers.items n (places-made i sound) rest ∙ ap (λ (v : SessionState). freed v.endpoints (endpoint_place n)) view
 
-pub is_some-made : (i : Inside) (S : SessionState) (n : ℕ) (x : AnyEndpoint) → made_of i ≡ S → named i.endpoints.items n ≡ Some x → true ≡ is_some (named S.endpoints n)
-is_some-made i S n x view was = sym (ap is_some (named-made i S n x view was))
+pub is_some-made : (i : Inside) (S : SessionState) (n : ℕ) (x : AnyEndpoint) → IsSound (made_of i) → made_of i ≡ S → named i.endpoints.items n ≡ Some x → true ≡ is_some (named S.endpoints (endpoint_place n))
+is_some-made i S n x sound view was = sym (ap is_some (named-made i S n x sound view was))
 
-pub is_none-made : (i : Inside) (S : SessionState) (n : ℕ) → made_of i ≡ S → named i.endpoints.items n ≡ None → false ≡ is_some (named S.endpoints n)
-is_none-made i S n view none = sym (ap is_some (none_made i S n view none))
+pub is_none-made : (i : Inside) (S : SessionState) (n : ℕ) → IsSound (made_of i) → made_of i ≡ S → named i.endpoints.items n ≡ None → false ≡ is_some (named S.endpoints (endpoint_place n))
+is_none-made i S n sound view none = sym (ap is_some (none_made i S n sound view none))
 
-pub closed-represents : (i : Inside) (S : SessionState) (now : HostState) (mid : List (Option AnyEndpoint)) (n : ℕ) (x : AnyEndpoint) → made_of i ≡ S → named i.endpoints.items n ≡ Some x → mid ≡ freed i.endpoints.items n → now ≡ after_close host_discarded host_abandoned host_left i.host (state_of x) → (state : State) → Represents S state → Represents (made_with i now mid) (closed state n)
-unfolding closed
-closed-represents i S now mid n x view was rest bus state r =
+pub after-represents : (i : Inside) (S : SessionState) (now : HostState) (after : List (Option EndpointState)) (p : ℕ) (z : EndpointState) → made_of i ≡ S → after ≡ freed (made_of i).endpoints p → now ≡ after_close host_discarded host_abandoned host_left i.host z → (state : State) → Represents S state → (o : OpenAt state p z) → Represents (record (made_of i) { host = now; endpoints = after }) (record state { host = after_close host_discarded host_abandoned host_left state.host (kept o.entry); endpoints = freed state.endpoints p })
+after-represents i S now after p z view rest bus state r o =
     let s = subst (λ v. Represents v state) (sym view) r in
-    let o = open_at S state n (state_of x) r (named-made i S n x view was) in
-    rw o.is
-    (subst (λ (g : HostState). Represents (made_with i now mid) (record state { host = g; endpoints = freed state.endpoints n }))
-    (bus ∙ ap (λ (g : HostState). after_close host_discarded host_abandoned host_left g (state_of x)) (host_is (made_of i) state s) ∙ ap (after_close host_discarded host_abandoned host_left state.host) (sym o.same))
-    (represents-freed (made_of i) state now (map (option_map state_of) mid) n s (freed-map i.endpoints.items mid n rest)))
+    subst (λ (g : HostState). Represents (record (made_of i) { host = now; endpoints = after }) (record state { host = g; endpoints = freed state.endpoints p }))
+    (bus ∙ ap (λ (g : HostState). after_close host_discarded host_abandoned host_left g z) (host_is (made_of i) state s) ∙ ap (after_close host_discarded host_abandoned host_left state.host) (sym o.same))
+    (represents-freed (made_of i) state now after p s rest)
 
-pub nothing-closed : (i : Inside) (S : SessionState) (mid : List (Option AnyEndpoint)) (n : ℕ) → made_of i ≡ S → named i.endpoints.items n ≡ None → mid ≡ i.endpoints.items → (state : State) → Represents S state → Represents (made_with i i.host mid) (closed state n)
+pub closed-represents : (i : Inside) (S : SessionState) (now : HostState) (mid : List (Option AnyEndpoint)) (n : ℕ) (x : AnyEndpoint) → IsSound (made_of i) → made_of i ≡ S → named i.endpoints.items n ≡ Some x → mid ≡ freed i.endpoints.items n → now ≡ after_close host_discarded host_abandoned host_left i.host (state_of x) → (state : State) → Represents S state → Represents (made_with i now mid) (closed state (endpoint_place n))
 unfolding closed
-nothing-closed i S mid n view none rest state r =
-    rw (none_kept S state n r (none_made i S n view none))
+closed-represents i S now mid n x sound view was rest bus state r =
+    let p = endpoint_place n in
+    let o = open_at S state p (state_of x) r (named-made i S n x sound view was) in
+    rw o.is
+    (after-represents i S now (endpoints_with mid i.readers.items) p (state_of x) view (freed-map i.endpoints.items mid i.readers.items n (places-made i sound) rest) bus state r o)
+
+pub nothing-closed : (i : Inside) (S : SessionState) (mid : List (Option AnyEndpoint)) (n : ℕ) → IsSound (made_of i) → made_of i ≡ S → named i.endpoints.items n ≡ None → mid ≡ i.endpoints.items → (state : State) → Represents S state → Represents (made_with i i.host mid) (closed state (endpoint_place n))
+unfolding closed
+nothing-closed i S mid n sound view none rest state r =
+    rw (none_kept S state (endpoint_place n) r (none_made i S n sound view none))
     (subst (λ l. Represents (made_with i i.host l) state) (sym rest) (subst (λ v. Represents v state) (sym view) r))
 
 -- what a close answers
@@ -122,18 +135,20 @@ was_free : (s : SessionState) (state : State) (e : ℕ) (before after : List ℕ
 was_free s state e before after None some r is = told-answered s state before after condition_line r is
 was_free s state e before after (Some h) some r is = absurd (cc)
 
-pub close-answered : {E : Type 0} (S s : SessionState) (n e : ℕ) (before text : String Global) (result : Result Unit E) → n ≡ e → is_some (named S.endpoints n) ≡ true → ((state : State) → Represents S state → Represents s (closed state n)) → OnOk result (string_bytes text ≡ string_bytes before ++ ok_line) → Answers S s before text result (λ state. close_answer state e)
+pub close-answered : {E : Type 0} (S s : SessionState) (n e : ℕ) (before text : String Global) (result : Result Unit E) → n ≡ e → is_some (named S.endpoints (endpoint_place n)) ≡ true → ((state : State) → Represents S state → Represents s (closed state (endpoint_place n))) → OnOk result (string_bytes text ≡ string_bytes before ++ ok_line) → Answers S s before text result (λ state. close_answer state (endpoint_place e))
 unfolding close_answer closed
 close-answered S s n e before text (Err error) same some now is = tt
 close-answered S s n e before text (Ok done) same some now is =
     λ state r.
-    subst (λ m. Answered s (string_bytes before) (string_bytes text) (if_open (named state.endpoints m) (λ h. ok_answer (without_endpoint state m h)) (barred state))) same
-    (was_open s state n (string_bytes before) (string_bytes text) (named state.endpoints n) (sym (ap is_some (named_kept S state n r)) ∙ some) (now state r) is)
+    let p = endpoint_place n in
+    subst (λ m. Answered s (string_bytes before) (string_bytes text) (if_open (named state.endpoints (endpoint_place m)) (λ h. ok_answer (without_endpoint state (endpoint_place m) h)) (barred state))) same
+    (was_open s state p (string_bytes before) (string_bytes text) (named state.endpoints p) (sym (ap is_some (named_kept S state p r)) ∙ some) (now state r) is)
 
-pub close-barred : {E : Type 0} (S s : SessionState) (n e : ℕ) (before text : String Global) (result : Result Unit E) → n ≡ e → is_some (named S.endpoints n) ≡ false → ((state : State) → Represents S state → Represents s (closed state n)) → OnOk result (string_bytes text ≡ string_bytes before ++ condition_line) → Answers S s before text result (λ state. close_answer state e)
+pub close-barred : {E : Type 0} (S s : SessionState) (n e : ℕ) (before text : String Global) (result : Result Unit E) → n ≡ e → is_some (named S.endpoints (endpoint_place n)) ≡ false → ((state : State) → Represents S state → Represents s (closed state (endpoint_place n))) → OnOk result (string_bytes text ≡ string_bytes before ++ condition_line) → Answers S s before text result (λ state. close_answer state (endpoint_place e))
 unfolding close_answer closed
 close-barred S s n e before text (Err error) same some now is = tt
 close-barred S s n e before text (Ok done) same some now is =
     λ state r.
-    subst (λ m. Answered s (string_bytes before) (string_bytes text) (if_open (named state.endpoints m) (λ h. ok_answer (without_endpoint state m h)) (barred state))) same
-    (was_free s state n (string_bytes before) (string_bytes text) (named state.endpoints n) (sym (ap is_some (named_kept S state n r)) ∙ some) (now state r) is)
+    let p = endpoint_place n in
+    subst (λ m. Answered s (string_bytes before) (string_bytes text) (if_open (named state.endpoints (endpoint_place m)) (λ h. ok_answer (without_endpoint state (endpoint_place m) h)) (barred state))) same
+    (was_free s state p (string_bytes before) (string_bytes text) (named state.endpoints p) (sym (ap is_some (named_kept S state p r)) ∙ some) (now state r) is)

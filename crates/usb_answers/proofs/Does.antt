@@ -1,8 +1,9 @@
 -- What a line does.
-use Rattle.std.proofs.Common.{◌≡◌, ℕ, ◌≤◌, Bool, true, false, List, [], ◌∷◌, codes, length, Option, Some, None, Result, Ok, Err, refl, ap, sym, ◌∙◌, subst, slice_get}
+use Rattle.std.proofs.Common.{◌≡◌, ◌≢◌, ℕ, ◌≤◌, Bool, true, false, List, [], ◌∷◌, codes, length, Option, Some, None, Result, Ok, Err, refl, ap, sym, ◌∙◌, subst, slice_get}
 use Rattle.std.specs.Prelude.{nat_eq, if◌then◌else◌}
 use Rattle.std.specs.List.{starts_with}
 use Rattle.std.proofs.lemmas.Bool.{cond_both}
+use Rattle.std.proofs.lemmas.Option.{none-some}
 use Rattle.usb_xfer.specs.BufferState.{BufferState}
 use Rattle.usb_xfer.specs.declared.transfer.Completion.{Completion}
 use Rattle.usb_error.specs.ErrorState.{ErrorState}
@@ -17,7 +18,8 @@ use Rattle.usb_host.proofs.StartedLemmas.{Parts, AddsTaken}
 use Rattle.usb_device.specs.Futures.{FutureState}
 use Rattle.usb_lines.specs.Calls.{ok_line, condition_line, error_line, result_line}
 use Rattle.usb_lines.specs.Completions.{done_line}
-use Rattle.usb_names.specs.Names.{named, is_free, freed, set_name}
+use Rattle.usb_names.specs.Names.{named, is_free, is_free_place, freed, set_name, nothing}
+use Rattle.usb_names.proofs.NameLemmas.{named_of, free_place, slice_get-change_other}
 use Rattle.usb_answers.specs.State.{State, Endpoint, tickets_of, with_host}
 use Rattle.usb_answers.specs.Answer.{Answer, told, barred, ok_answer, error_answer, if_open}
 use Rattle.usb_answers.specs.Submits.{submitted}
@@ -47,17 +49,39 @@ CountsAlike h = length h.tickets ≡ length (tickets h.kernel.past)
 abbrev pub says_done : List ℕ → Bool
 says_done line = starts_with nat_eq line (codes "done")
 
+-- the endpoint of one place is at another, where nothing was
+abbrev pub moved : State → ℕ → ℕ → Endpoint → State
+moved state from to g = record state { endpoints = set_name (freed state.endpoints from) to g }
+
+-- these are two places, and the other is free then, too
+pub places-differ : (es : List (Option Endpoint)) (from to : ℕ) (h : Endpoint) → named es from ≡ Some h → is_free es to ≡ true → to ≢ from
+places-differ es from to h here free same = absurd (none-some h (sym (named_of es to None (free_place es to free)) ∙ (ap (named es) same ∙ here)))
+
+pub free-still : (es : List (Option Endpoint)) (from to : ℕ) (h : Endpoint) → named es from ≡ Some h → is_free es to ≡ true → is_free (freed es from) to ≡ true
+unfolding is_free freed
+free-still es from to h here free = ap is_free_place (slice_get-change_other nothing es from to (places-differ es from to h here free)) ∙ free
+
+-- an endpoint with the tickets of another
+pub record SameTickets (h g : Endpoint) : Type 0 where
+  pub key : g.key ≡ h.key
+  pub tickets : g.tickets ≡ h.tickets
+  pub taken : g.taken ≡ h.taken
+
 -- what an answer does from a state on, the endpoints that it closes, and the tickets of the control transfers that it hands in: the host goes
--- on, endpoints are opened and tickets submitted, a control transfer is handed in (`starts`: its future is opened; `controls`: it is awaited and
--- its ticket taken at once), and the host parts with the ticket of a future, whose name is free then; and then there is nothing more, or a ticket
--- is taken and its completion printed, or an endpoint is closed. `few` is what is asked of the state before the line: no more tickets of an
--- endpoint were taken than it has
+-- on, endpoints are opened (at no place of a reader) and tickets submitted, a reader takes a ticket (`reads`), a control transfer is handed in
+-- (`starts`: its future is opened; `controls`: it is awaited and its ticket taken at once), and the host parts with the ticket of a future,
+-- whose name is free then; and then there is nothing more, or a ticket is taken and its completion printed, or an endpoint is closed, or goes to
+-- another place (`moves`: from then on a reader was made of it; at the place of a reader it was before). `few` is what is asked of the state
+-- before the line: no more tickets of an endpoint were taken than it has. It may be used for all that is done (`fits`)
 pub data Acts (few : Type 0) (a : Answer) : State → List ClosedEndpoint → List ℕ → Type 0 where
   goes : {state next : State} {closed : List ClosedEndpoint} {handed : List ℕ} → Quiet state next → Acts few a next closed handed → Acts few a state closed handed
   opens : {state : State} {closed : List ClosedEndpoint} {handed : List ℕ} (e : ℕ) (x : Endpoint) → is_free state.endpoints e ≡ true → x.tickets ≡ [] → x.taken ≡ 0
-      → Acts few a (record state { endpoints = set_name state.endpoints e x }) closed handed → Acts few a state closed handed
+      → (64 ≤ e → 128 ≤ e) → Acts few a (record state { endpoints = set_name state.endpoints e x }) closed handed → Acts few a state closed handed
   submits : {state : State} {closed : List ClosedEndpoint} {handed : List ℕ} (e : ℕ) (b : BufferState) (h : Endpoint) → named state.endpoints e ≡ Some h
       → (few → h.taken ≤ length h.tickets) → Acts few a (submitted state e b h) closed handed → Acts few a state closed handed
+  fits : {state : State} {closed : List ClosedEndpoint} {handed : List ℕ} → says_done a.line ≡ false → (few → Acts few a state closed handed) → Acts few a state closed handed
+  reads : {state : State} {closed : List ClosedEndpoint} {handed : List ℕ} (e t : ℕ) (h : Endpoint) → 64 ≤ e → named state.endpoints e ≡ Some h → slice_get h.tickets h.taken ≡ Some t
+      → says_done a.line ≡ false → Acts few a (taken_from state e t) closed handed → Acts few a state closed handed
   starts : {state : State} {closed : List ClosedEndpoint} {handed : List ℕ} (n : ℕ) (request : ControlRequest) (timeout device : ℕ) → is_free state.futures n ≡ true
       → Acts few a (with_future state n request timeout device) closed handed → Acts few a state closed (tickets_of state ∷ handed)
   controls : {state : State} {closed : List ClosedEndpoint} {handed : List ℕ} (host : HostState) → CountsOneMore state.host host → (CountsAlike state.host → AddsTaken state.host host)
@@ -69,6 +93,8 @@ pub data Acts (few : Type 0) (a : Answer) : State → List ClosedEndpoint → Li
       → transfer_completion state.host.kernel.past t ≡ Some c → a.line ≡ done_line c → Quiet (taken_from state e t) a.state → Acts few a state [] []
   closes : {state : State} (e : ℕ) (h : Endpoint) (lines : List (List ℕ)) → named state.endpoints e ≡ Some h → says_done a.line ≡ false
       → Quiet (without_endpoint state e h) a.state → Acts few a state (record { endpoint = h; past = state.host.kernel.past; lines = lines } ∷ []) []
+  moves : {state : State} (from to : ℕ) (h g : Endpoint) → named state.endpoints from ≡ Some h → is_free state.endpoints to ≡ true → SameTickets h g
+      → ((64 ≤ from → h.was_read ≡ true) → g.was_read ≡ true) → says_done a.line ≡ false → Quiet (moved state from to g) a.state → Acts few a state [] []
 
 -- what the answer of a line does that closes no endpoint, and hands in no control transfer
 abbrev pub Does : State → Answer → Type 0
@@ -153,14 +179,17 @@ try-does call (Ok x) refused does = does x
 -- with the steps of its line
 pub rest-does : {few : Type 0} {a : Answer} {state : State} {closed : List ClosedEndpoint} {handed : List ℕ} → Acts few a state closed handed → Acts few (then_rested a) state closed handed
 rest-does (goes quiet rest) = goes quiet (rest-does rest)
-rest-does (opens e x free none zero_ rest) = opens e x free none zero_ (rest-does rest)
+rest-does (opens e x free none zero_ apart rest) = opens e x free none zero_ apart (rest-does rest)
 rest-does (submits e b h here few rest) = submits e b h here few (rest-does rest)
+rest-does (fits other rest) = fits other (λ few_. rest-does (rest few_))
+rest-does (reads e t h above here front other rest) = reads e t h above here front other (rest-does rest)
 rest-does (starts n request timeout device free rest) = starts n request timeout device free (rest-does rest)
 rest-does (controls host one adds rest) = controls host one adds (rest-does rest)
 rest-does (frees n f host here parts rest) = frees n f host here parts (rest-does rest)
 rest-does {a} (ends other quiet) = ends other (quiet-then quiet (quiet-rested a.state))
 rest-does {a} (takes e t h c here front came line quiet) = takes e t h c here front came line (quiet-then quiet (quiet-rested a.state))
 rest-does {a} (closes e h lines here other quiet) = closes e h lines here other (quiet-then quiet (quiet-rested a.state))
+rest-does {a} (moves from to h g here free same read other quiet) = moves from to h g here free same read other (quiet-then quiet (quiet-rested a.state))
 
 pub stepping-does : {X : Type 0} {state : State} {steps : List KernelStep} (o : Option X) (call : X → Answer) → ((x : X) → o ≡ Some x → Does (lent state steps) (call x)) → Does state (if_open o (λ x. then_rested (call x)) (barred (stepped_all state steps)))
 stepping-does {state} {steps} None call does = ends refl (quiet-stepped state steps)

@@ -1,10 +1,11 @@
 -- The end of a session: interfaces and devices are closed.
-use Rattle.std.proofs.Common.{true, false, ◌≡◌, ◌≢◌, ℕ, ◌<◌, ◌+◌, arith, suc, zero, List, [], ◌∷◌, ◌++◌, slice_get, length, map, Option, Some, None, refl, ap, sym, ◌∙◌, subst, inl, inr}
+use Rattle.std.proofs.Common.{true, false, ◌≡◌, ◌≢◌, ℕ, ◌<◌, ◌+◌, ◌-◌, arith, suc, zero, List, [], ◌∷◌, ◌++◌, slice_get, length, Option, Some, None, refl, ap, sym, ◌∙◌, subst, inl, inr}
 use Rattle.std.specs.Option.{option_map}
 use Rattle.std.proofs.lemmas.Bool.{cases_eq, cases_lt}
 use Rattle.std.proofs.lemmas.Option.{none-some}
 use Rattle.usb_endpoint.specs.declared.any_endpoint.AnyEndpoint.{AnyEndpoint}
 use Rattle.usb_endpoint.specs.AnyEndpoints.{state_of}
+use Rattle.usb_io.specs.declared.any_reader.AnyReader.{AnyReader}
 use Rattle.usb_host.specs.HostState.{HostState}
 use Rattle.usb_host.specs.HostBus.{owner_at}
 use Rattle.usb_host.specs.Handles.{device_closed, handle_closed}
@@ -32,15 +33,19 @@ use Rattle.usb_device.specs.HandleStates.{InterfaceState}
 use Rattle.usb_names.specs.Names.{named, freed}
 use Rattle.usb_answers.specs.State.{State, kept}
 use Rattle.usb_answers.specs.Closes.{closed}
-use Rattle.usb_answers.specs.Ends.{interface_closed, interfaces_closed, name_closed, devices_closed, endpoints_closed, futures_closed, all_closed, ended}
+use Rattle.usb_answers.specs.SessionFacts.{endpoint_of, endpoints_with}
+use Rattle.usb_answers.specs.ReaderAt.{endpoint_place, reader_place}
+use Rattle.usb_answers.specs.Readers.{reader_closed}
+use Rattle.usb_answers.specs.Ends.{interface_closed, interfaces_closed, name_closed, devices_closed, readers_closed, endpoints_closed, futures_closed, all_closed, ended}
 use Rattle.usb_answers.specs.SessionState.{SessionState, IsSound}
 use Rattle.usb_answers.specs.Relation.{Represents}
 use Rattle.usb_answers.specs.Accounts.{Accounted}
 use Rattle.usb_answers.proofs.AccountLemmas.{accounted-all_closed, accounted-none}
+use Rattle.usb_answers.proofs.OpenPlaces.{HasPlaces, named-endpoint, named-reader}
 use Rattle.usb_answers.proofs.CountedNames.{count-none, count-no_name}
 use Rattle.usb_answers.proofs.CountedDevices.{count-no_device}
 use Rattle.usb_answers.proofs.Answering.{named_kept, host_is}
-use Rattle.usb_names.proofs.NameLemmas.{named-map, named-freed, named-freed_other, named-past, freed-none, named_of, place_of}
+use Rattle.usb_names.proofs.NameLemmas.{named-freed, named-freed_other, named-past, freed-none, named_of, place_of}
 
 interface-represents : (s : SessionState) (state : State) (after : List (Option InterfaceState)) (i : ℕ) (f : InterfaceState) → Represents s state → named s.interfaces i ≡ Some f → after ≡ freed s.interfaces i → Represents (record s { host = handle_closed s.host f.key; interfaces = after }) (interface_closed state i)
 unfolding interface_closed
@@ -117,6 +122,19 @@ none-more xs after n rest none e below =
     lower : (a b : ℕ) → a ≢ b → a < b + 1 → a < b
     lower a b apart small = omega arith
 
+-- those of readers
+pub none-more_behind : {X : Type 0} (xs after : List (Option X)) (n : ℕ) → after ≡ freed xs (reader_place n) → ((r : ℕ) → r < n → named xs (reader_place r) ≡ None) → (r : ℕ) → r < n + 1 → named after (reader_place r) ≡ None
+none-more_behind xs after n rest none r below =
+    elim (cases_eq r n) [
+      | inl same ↦ ap (λ l. named l (reader_place r)) rest ∙ ap (λ m. named (freed xs (reader_place n)) (reader_place m)) same ∙ named-freed xs (reader_place n)
+      | inr apart ↦
+          let places : reader_place r ≢ reader_place n = λ same. apart (omega (arith, same)) in
+          ap (λ l. named l (reader_place r)) rest ∙ named-freed_other xs (reader_place n) (reader_place r) places ∙ none r (lower r n apart below)
+    ]
+  where
+    lower : (a b : ℕ) → a ≢ b → a < b + 1 → a < b
+    lower a b apart small = omega arith
+
 -- no name is open where none of the 64 is
 pub none-all : {X : Type 0} (xs : List (Option X)) → length xs ≡ 64 → ((n : ℕ) → n < 64 → named xs n ≡ None) → (n : ℕ) → named xs n ≡ None
 none-all xs all none n =
@@ -129,8 +147,28 @@ unmapped : {X Y : Type 0} (f : X → Y) (o : Option X) → option_map f o ≡ No
 unmapped f None none = refl
 unmapped f (Some x) none = absurd (none-some (f x) (sym none))
 
-pub none-endpoints : (es : List (Option AnyEndpoint)) → ((n : ℕ) → named (map (option_map state_of) es) n ≡ None) → (n : ℕ) → named es n ≡ None
-none-endpoints es none n = unmapped state_of (named es n) (sym (named-map state_of es n) ∙ none n)
+-- no place of an endpoint is open where none of a reader's is, and none of the others
+pub none-every : {X : Type 0} (xs : List (Option X)) → length xs ≡ 128 → ((r : ℕ) → r < 64 → named xs (reader_place r) ≡ None) → ((e : ℕ) → e < 64 → named xs e ≡ None) → (n : ℕ) → named xs n ≡ None
+none-every xs all readers endpoints n =
+    elim (cases_lt n 64) [
+      | inl within ↦ endpoints n within
+      | inr beyond ↦ elim (cases_lt n 128) [
+        | inl low ↦ let place : n ≡ reader_place (n - 64) = omega arith in ap (named xs) place ∙ readers (n - 64) (omega arith)
+        | inr past ↦ named-past xs n (omega arith)
+      ]
+    ]
+
+pub none-endpoints : (es : List (Option AnyEndpoint)) (rs : List (Option AnyReader)) → HasPlaces es rs → ((n : ℕ) → named (endpoints_with es rs) n ≡ None) → (n : ℕ) → named es n ≡ None
+none-endpoints es rs places none n = unmapped state_of (named es n) (sym (named-endpoint es rs places n) ∙ none (endpoint_place n))
+
+pub none-readers : (es : List (Option AnyEndpoint)) (rs : List (Option AnyReader)) → HasPlaces es rs → ((n : ℕ) → named (endpoints_with es rs) n ≡ None) → (n : ℕ) → named rs n ≡ None
+none-readers es rs places none n = unmapped endpoint_of (named rs n) (sym (named-reader es rs places n) ∙ none (reader_place n))
+
+-- the close of an endpoint leaves what stands behind the names
+pub same-behind : {X : Type 0} (xs after : List (Option X)) (n r : ℕ) → n < 64 → after ≡ freed xs n → named after (reader_place r) ≡ named xs (reader_place r)
+same-behind xs after n r below rest =
+    let apart : reader_place r ≢ n = λ same. absurd (omega (arith, below, same)) in
+    ap (λ l. named l (reader_place r)) rest ∙ named-freed_other xs n (reader_place r) apart
 
 -- all names but the last
 slice_get-front : {X : Type 0} (xs ys : List X) (n : ℕ) (x : X) → slice_get xs n ≡ Some x → slice_get (xs ++ ys) n ≡ Some x
@@ -151,13 +189,13 @@ named-last old front o x is at =
     named_of old (length front) o (ap (λ l. slice_get l (length front)) is ∙ slice_get-last front o) ∙ at
 
 -- the host of a session at the end
-pub end-host : (s : SessionState) (host now : HostState) (state : State) → s.host ≡ host → now ≡ finished host → Represents s (devices_closed (interfaces_closed (futures_closed (endpoints_closed state 64) 64) 64) 64) → now ≡ ended state
+pub end-host : (s : SessionState) (host now : HostState) (state : State) → s.host ≡ host → now ≡ finished host → Represents s (devices_closed (interfaces_closed (futures_closed (endpoints_closed (readers_closed state 64) 64) 64) 64) 64) → now ≡ ended state
 unfolding ended all_closed
 end-host s host now state here done r =
     done ∙ ap finished (sym here ∙ ap (λ (v : SessionState). v.host) r.is)
 
 -- all is closed, so no endpoint and no future holds a ticket, and each ticket of the host has its end
-pub end-ended : (s : SessionState) (before now : HostState) (state : State) → before ≡ s.host → ((e : ℕ) → named s.endpoints e ≡ None) → ((n : ℕ) → named s.futures n ≡ None) → Represents s (devices_closed (interfaces_closed (futures_closed (endpoints_closed state 64) 64) 64) 64) → Accounted state
+pub end-ended : (s : SessionState) (before now : HostState) (state : State) → before ≡ s.host → ((e : ℕ) → named s.endpoints e ≡ None) → ((n : ℕ) → named s.futures n ≡ None) → Represents s (devices_closed (interfaces_closed (futures_closed (endpoints_closed (readers_closed state 64) 64) 64) 64) 64) → Accounted state
     → (((t : ℕ) → owner_at before.tickets t ≡ None) → HasEnds now.tickets) → HasEnds now.tickets
 unfolding all_closed
 end-ended s before now state same none gone r a ends =
@@ -167,6 +205,9 @@ end-ended s before now state same none gone r a ends =
     ends (λ t. ap (λ (h : HostState). owner_at h.tickets t) (same ∙ host_is s last r) ∙ accounted-none last (accounted-all_closed state a) closed_all all_gone t)
 
 -- one name more is closed
+pub readers_closed-more : (state : State) (n : ℕ) → readers_closed state (n + 1) ≡ reader_closed (readers_closed state n) n
+readers_closed-more state n = let more : n + 1 ≡ suc n = omega arith in rw more refl
+
 pub endpoints_closed-more : (state : State) (n : ℕ) → endpoints_closed state (n + 1) ≡ closed (endpoints_closed state n) n
 endpoints_closed-more state n = let more : n + 1 ≡ suc n = omega arith in rw more refl
 

@@ -1,6 +1,8 @@
 -- Endpoints of claimed interfaces are opened.
-use Rattle.std.proofs.Common.{◌≡◌, ◌≢◌, ℕ, ◌<◌, ◌≤◌, arith, List, [], ◌∷◌, ◌++◌, length, map, Option, Some, None, Result, Ok, Err, true, false, refl, ap, sym, ◌∙◌, subst, slice_get, inl, inr}
+use Rattle.std.proofs.Common.{◌≡◌, ◌≢◌, ℕ, ◌<◌, ◌≤◌, arith, List, [], ◌∷◌, ◌++◌, length, map, Option, Some, None, Result, Ok, Err, Bool, true, false, refl, ap, sym, ◌∙◌, subst, slice_get, inl, inr}
+use Rattle.std.specs.Prelude.{not, ◌==◌, if◌then◌else◌}
 use Rattle.std.specs.Option.{option_map}
+use Rattle.std.proofs.Math.Nat.{mod-lt}
 use Rattle.usb_registry.specs.History.{value_at}
 use Rattle.usb_desc.specs.declared.types.Direction.{Direction}
 use Rattle.usb_desc.specs.declared.types.TransferType.{TransferType}
@@ -16,7 +18,11 @@ use Rattle.usb_host.specs.HostState.{HostState}
 use Rattle.usb_host.specs.HostBus.{bus_of}
 use Rattle.usb_device.specs.HandleStates.{InterfaceState}
 use Rattle.usb_device.specs.Futures.{FutureState}
-use Rattle.usb_host.specs.EndpointOpens.{host_asked, host_tries, with_endpoint, fresh_endpoint}
+use Rattle.usb_desc.specs.Fields.{direction_of_address, transfer_type, max_packet_size, max_packet_size_raw}
+use Rattle.usb_error.specs.Errors.{wrong_direction_error, wrong_type_error, no_packet_size_error, endpoint_in_use_error}
+use Rattle.usb_host.specs.Owners.{is_in_use}
+use Rattle.usb_host.specs.EndpointRefusals.{same_direction, is_type, endpoint_tried}
+use Rattle.usb_host.specs.EndpointOpens.{host_asked, host_tries, with_endpoint, fresh_endpoint, endpoint_in}
 use Rattle.usb_device.proofs.StandLemmas.{StandsInterface-same}
 use Rattle.usb_host.proofs.InterfaceFrames.{asked-is, asked-counts}
 use Rattle.usb_device.proofs.FreshKeys.{endpoint-within}
@@ -84,9 +90,30 @@ opened-spare h now key i address is = ap (λ (g : HostState). g.kernel.spare) is
 apart-next : (a b l : ℕ) → a < l → b ≡ l → a ≢ b
 apart-next a b l less is = λ same. absurd (omega (arith, less, is, same))
 
+-- the maximum packet size of an endpoint that may be opened is that of its descriptor, which has 11 bits
+tried-small : (o : Option (List ℕ)) (address : ℕ) (kind : TransferType) (direction : Direction) (used : Bool) (m : ℕ) → endpoint_tried o address kind direction used ≡ Ok m → m < 2048
+tried-small None address kind direction used m is = absurd (cc)
+tried-small (Some d) address kind direction used m is =
+    by (not (same_direction (direction_of_address address) direction)) (not (is_type (transfer_type d) kind)) (max_packet_size d == 0) used is
+  where
+    by : (a b c e : Bool) → (if a then Err wrong_direction_error else if b then Err wrong_type_error else if c then Err no_packet_size_error else if e then Err endpoint_in_use_error else Ok (max_packet_size d)) ≡ Ok m → m < 2048
+    by true b c e is = absurd (cc)
+    by false true c e is = absurd (cc)
+    by false false true e is = absurd (cc)
+    by false false false true is = absurd (cc)
+    by false false false false is =
+        let same : max_packet_size d ≡ m = cc in
+        let some : 0 < 2048 = omega arith in
+        subst (λ n. n < 2048) same (mod-lt (max_packet_size_raw d) some)
+
+pub maximum-small : (h : HostState) (i : ℕ) (c : ClaimedInterface) (address : ℕ) (kind : TransferType) (direction : Direction) (m : ℕ) → host_tries h i c address kind direction ≡ Ok m → m < 2048
+unfolding host_tries
+maximum-small h i c address kind direction m is =
+    tried-small (endpoint_in c address (value_at h.devices c.opened)) address kind direction (is_in_use h i address) m is
+
 -- a session in which one more endpoint is open
-pub endpoint-sound : (s : SessionState) (now : HostState) (after : List (Option EndpointState)) (e i address : ℕ) (y : EndpointState) (c : ClaimedInterface) → IsSound s → now ≡ with_endpoint (host_asked s.host c.opened) i address → y.key ≡ length s.host.endpoints → Stands (bus_of now) y → KeepsOthers (bus_of s.host) (bus_of now) y.key → is_free s.endpoints e ≡ true → after ≡ set_name s.endpoints e y → IsSound (record s { host = now; endpoints = after })
-endpoint-sound s now after e i address y c sound is key stands others free put =
+pub endpoint-sound : (s : SessionState) (now : HostState) (after : List (Option EndpointState)) (e i address : ℕ) (y : EndpointState) (c : ClaimedInterface) → IsSound s → now ≡ with_endpoint (host_asked s.host c.opened) i address → y.key ≡ length s.host.endpoints → y.maximum < 2048 → Stands (bus_of now) y → KeepsOthers (bus_of s.host) (bus_of now) y.key → is_free s.endpoints e ≡ true → after ≡ set_name s.endpoints e y → IsSound (record s { host = now; endpoints = after })
+endpoint-sound s now after e i address y c sound is key small stands others free put =
     let keeps = opened-keeps s.host now c.opened i address sound.idle is in
     let old : (d : ℕ) (g : EndpointState) → named s.endpoints d ≡ Some g → g.key ≢ y.key = λ d g at. apart-next g.key y.key (length s.host.endpoints) (endpoint-within s.host g (sound.endpoints_stand d g at)) key in
     let newer : (n : ℕ) (f : FutureState) → named s.futures n ≡ Some f → f.key ≢ y.key = λ n f at. apart-next f.key y.key (length s.host.endpoints) (future-within s.host f (sound.futures_wait n f at) (sound.futures_stand n f at)) key in
@@ -95,6 +122,7 @@ endpoint-sound s now after e i address y c sound is key stands others free put =
       device_names = sound.device_names;
       interface_names = sound.interface_names;
       endpoint_names = ap (λ (l : List (Option EndpointState)). length l) put ∙ length-set_name s.endpoints e y ∙ sound.endpoint_names;
+      reader_names = sound.reader_names;
       devices_stand = λ d k at. counts-stands s.host now k keeps.devices (sound.devices_stand d k at);
       devices_counted = devices-kept s.host.devices now.devices s.devices (opened-counts s.host.devices now.devices keeps.devices) sound.devices_counted;
       devices_held = held-goes s.host now keeps.devices keeps.interfaces sound.devices_held;
@@ -103,6 +131,10 @@ endpoint-sound s now after e i address y c sound is key stands others free put =
       endpoints_stand = λ d h at. elim (names-set s.endpoints after e d y h free put at) [
         | inl here ↦ subst (Stands (bus_of now)) (sym here.1) stands
         | inr there ↦ Stands-other (bus_of s.host) (bus_of now) y.key h others (old d h there.1) (sound.endpoints_stand d h there.1)
+      ];
+      endpoints_small = λ d h at. elim (names-set s.endpoints after e d y h free put at) [
+        | inl here ↦ subst (λ (z : EndpointState). z.maximum < 2048) (sym here.1) small
+        | inr there ↦ sound.endpoints_small d h there.1
       ];
       endpoints_differ = λ j k g h isg ish apart. elim (names-set s.endpoints after e j y g free put isg) [
         | inl herej ↦ elim (names-set s.endpoints after e k y h free put ish) [

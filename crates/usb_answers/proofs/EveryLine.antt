@@ -1,8 +1,10 @@
 -- What each line does.
-use Rattle.std.proofs.Common.{ℕ, List, [], true, false, refl}
+use Rattle.std.proofs.Common.{ℕ, ◌≤◌, arith, List, [], true, false, inl, inr, refl}
+use Rattle.std.proofs.lemmas.Bool.{cases_lt, lt-ltb, le-ltb}
 use Rattle.usb_script.specs.declared.item.Item.{Item}
 use Rattle.usb_script.specs.declared.item.Item.TheVariants as item
 use Rattle.usb_answers.specs.State.{State}
+use Rattle.usb_answers.specs.ReaderAt.{endpoint_place}
 use Rattle.usb_answers.specs.Buffers.{in_buffer, out_buffer}
 use Rattle.usb_answers.specs.Controls.{request_for, request_with}
 use Rattle.usb_answers.specs.Answers.{answer}
@@ -13,6 +15,15 @@ use Rattle.usb_answers.proofs.DeviceLines.{now-does, open-does, device_descripto
 use Rattle.usb_answers.proofs.TreeLines.{list-does, buses-does, probe-does, match-does, hotplug-does, open_path-does}
 use Rattle.usb_answers.proofs.ControlLines.{control_in-does, control_out-does, get_descriptor-does, languages-does, string-does, start-does, poll_future-does, wait_future-does, close_future-does}
 use Rattle.usb_answers.proofs.EndpointLines.{endpoint-does, submit-does, poll-does, wait-does, transfer-does, cancel-does, clear_halt-does, close-does, steps-does}
+use Rattle.usb_answers.proofs.ReaderDoes.{reader-does, inner-does, num-does, timeout-does, cancel_reader-does, close_reader-does, read-does, poll_read-does, fill-does, poll_fill-does, consume-does, is_end-does, consume_end-does}
+
+-- the place of an endpoint's name is none of a reader's
+place-outside : (e : ℕ) → 64 ≤ endpoint_place e → 128 ≤ endpoint_place e
+place-outside e =
+    elim (cases_lt e 64) [
+      | inl below ↦ rw (lt-ltb e 64 below) (λ above. absurd (omega arith))
+      | inr beyond ↦ rw (le-ltb e 64 beyond) (λ above. omega arith)
+    ]
 
 pub answer-does : (state : State) (lines : ℕ → List (List ℕ)) (line : Item) → Acts (TookFew state) (answer state line) state (closed_by state lines line) (control_ticket state line)
 unfolding answer
@@ -51,17 +62,30 @@ answer-does state lines (item.SetAltSetting i setting) = set_alt_setting-does st
 answer-does state lines (item.GetAltSetting i) = get_alt_setting-does state i
 answer-does state lines (item.InterfaceDescriptor i) = interface_descriptor-does state i
 answer-does state lines (item.Release i) = release-does state i
-answer-does state lines (item.Endpoint e i address kind) = endpoint-does state e i address _ _
-answer-does state lines (item.SubmitIn e n) = submit-does state _ e (in_buffer n)
-answer-does state lines (item.SubmitOut e bytes) = submit-does state _ e (out_buffer bytes)
-answer-does state lines (item.Pending e) = pending-does state e
-answer-does state lines (item.Poll e) = poll-does state e
-answer-does state lines (item.Wait e timeout steps) = wait-does state e timeout steps
-answer-does state lines (item.TransferIn e n timeout steps) = transfer-does state _ e (in_buffer n) timeout steps
-answer-does state lines (item.TransferOut e bytes timeout steps) = transfer-does state _ e (out_buffer bytes) timeout steps
-answer-does state lines (item.Cancel e) = cancel-does state e
-answer-does state lines (item.ClearHalt e) = clear_halt-does state e
-answer-does state lines (item.CloseEndpoint e) = close-does state e lines
+answer-does state lines (item.Endpoint e i address kind) = endpoint-does state (endpoint_place e) i address _ _ (place-outside e)
+answer-does state lines (item.SubmitIn e n) = submit-does state _ (endpoint_place e) (in_buffer n)
+answer-does state lines (item.SubmitOut e bytes) = submit-does state _ (endpoint_place e) (out_buffer bytes)
+answer-does state lines (item.Pending e) = pending-does state (endpoint_place e)
+answer-does state lines (item.Poll e) = poll-does state (endpoint_place e)
+answer-does state lines (item.Wait e timeout steps) = wait-does state (endpoint_place e) timeout steps
+answer-does state lines (item.TransferIn e n timeout steps) = transfer-does state _ (endpoint_place e) (in_buffer n) timeout steps
+answer-does state lines (item.TransferOut e bytes timeout steps) = transfer-does state _ (endpoint_place e) (out_buffer bytes) timeout steps
+answer-does state lines (item.Cancel e) = cancel-does state (endpoint_place e)
+answer-does state lines (item.ClearHalt e) = clear_halt-does state (endpoint_place e)
+answer-does state lines (item.CloseEndpoint e) = close-does state (endpoint_place e) lines
+answer-does state lines (item.Reader r e size) = reader-does state r (endpoint_place e) size
+answer-does state lines (item.IntoInner e r) = inner-does state (endpoint_place e) r
+answer-does state lines (item.SetNumTransfers r n) = num-does state r n
+answer-does state lines (item.SetReadTimeout r timeout) = timeout-does state r timeout
+answer-does state lines (item.CancelReader r) = cancel_reader-does state r
+answer-does state lines (item.CloseReader r) = close_reader-does state r lines
+answer-does state lines (item.Read framing r most steps) = read-does state framing r most steps
+answer-does state lines (item.PollRead framing r most) = poll_read-does state framing r most
+answer-does state lines (item.FillBuf framing r steps) = fill-does state framing r steps
+answer-does state lines (item.PollFillBuf framing r) = poll_fill-does state framing r
+answer-does state lines (item.Consume framing r n) = consume-does state framing r n
+answer-does state lines (item.IsEnd r) = is_end-does state r
+answer-does state lines (item.ConsumeEnd r) = consume_end-does state r
 answer-does state lines (item.ControlIn target setup wanted timeout steps) = control_in-does state target setup wanted timeout steps
 answer-does state lines (item.ControlOut target setup bytes timeout steps) = control_out-does state target setup bytes timeout steps
 answer-does state lines (item.GetDescriptor d kind index language timeout steps) = get_descriptor-does state d kind index language timeout steps

@@ -1,7 +1,7 @@
 -- The endpoints of a whole script.
-use Rattle.std.proofs.Common.{◌≡◌, ◌≢◌, ℕ, ◌<◌, ◌+◌, suc, zero, arith, List, [], ◌∷◌, ◌++◌, length, map, take, slice_get, Option, Some, None, refl, ap, sym, ◌∙◌, inl, inr}
+use Rattle.std.proofs.Common.{◌≡◌, ◌≢◌, ℕ, ◌<◌, ◌+◌, ◌-◌, suc, zero, arith, false, List, [], ◌∷◌, ◌++◌, length, map, take, slice_get, Option, Some, None, refl, ap, sym, ◌∙◌, inl, inr}
 use Rattle.std.specs.Prelude.{option_and_then, All, count_by, ◌==◌}
-use Rattle.std.proofs.lemmas.Bool.{cases_eq}
+use Rattle.std.proofs.lemmas.Bool.{cases_eq, cases_lt}
 use Rattle.std.proofs.lemmas.List.{length-replicate}
 use Rattle.std.proofs.lemmas.List.Elements.{All-append, All-nil, All-cons}
 use Rattle.std.proofs.lemmas.Option.{none-some}
@@ -11,7 +11,7 @@ use Rattle.usb_kernel.specs.Tickets.{tickets}
 use Rattle.usb_bus.specs.Completions.{transfer_completion}
 use Rattle.usb_lines.specs.Completions.{polled_line}
 use Rattle.usb_script.specs.declared.item.Item.{Item}
-use Rattle.usb_script.specs.declared.item.Item.TheVariants.{CloseEndpoint}
+use Rattle.usb_script.specs.declared.item.Item.TheVariants.{CloseEndpoint, CloseReader}
 use Rattle.usb_ledger.specs.declared.ends.TicketEnd.{TicketEnd}
 use Rattle.usb_ledger.specs.Entries.{HostTicket, HeldBy, Abandoned, Ended}
 use Rattle.usb_host.specs.HostState.{HostState}
@@ -24,13 +24,15 @@ use Rattle.usb_host.proofs.FollowLemmas.{on-finished}
 use Rattle.usb_device.specs.Futures.{FutureState}
 use Rattle.usb_names.specs.Names.{named, freed}
 use Rattle.usb_answers.specs.State.{State, Endpoint, tickets_of, with_host}
+use Rattle.usb_answers.specs.ReaderAt.{endpoint_place, reader_place}
+use Rattle.usb_answers.specs.Readers.{reader_closed_at, reader_closed}
 use Rattle.usb_answers.specs.Closes.{closed_at, closed}
 use Rattle.usb_answers.specs.Answers.{answer}
-use Rattle.usb_answers.specs.Ends.{endpoints_closed, future_closed_at, future_closed_under, futures_closed, interfaces_closed, devices_closed, all_closed, ended}
-use Rattle.usb_answers.specs.Output.{start, last_host, final_host}
+use Rattle.usb_answers.specs.Ends.{readers_closed, endpoints_closed, future_closed_at, future_closed_under, futures_closed, interfaces_closed, devices_closed, all_closed, ended}
+use Rattle.usb_answers.specs.Output.{start, behind, last_host, final_host}
 use Rattle.usb_answers.specs.Accounts.{Accounted}
-use Rattle.usb_answers.specs.Behind.{behind, GoesOnTo, ScriptsGoOn}
-use Rattle.usb_answers.specs.Served.{ClosedEndpoint, closed_endpoints, IsServedInOrder, EndpointsAreServedInOrder, ScriptsAreCounted, closed_as, tickets_of_all, closed_under, closed_by, closed_at_end, closed_endpoints_from, control_ticket, control_tickets_from, control_tickets, lines_behind}
+use Rattle.usb_answers.specs.Behind.{GoesOnTo, ScriptsGoOn}
+use Rattle.usb_answers.specs.Served.{ClosedEndpoint, closed_endpoints, IsServedInOrder, EndpointsAreServedInOrder, ScriptsAreCounted, closed_as, tickets_of_all, closed_under, closed_by, read_at_end, closed_at_end, closed_endpoints_from, control_ticket, control_tickets_from, control_tickets, lines_behind}
 use Rattle.usb_answers.specs.Fates.{fate_lines, fate_lines_from}
 use Rattle.usb_answers.specs.FinalFates.{FatesOfScripts}
 use Rattle.usb_answers.specs.Sums.{counts_of}
@@ -41,7 +43,7 @@ use Rattle.usb_answers.proofs.AccountLemmas.{accounted-start, accounted-answer}
 use Rattle.usb_names.proofs.NameLemmas.{named-freed, named-freed_other, named-replicate}
 use Rattle.usb_answers.proofs.TimesLemmas.{times, times-append, counts-times, among, among-within, tickets_in, ticket_in, times_open, times-none, times-replicate}
 use Rattle.usb_answers.proofs.OrderLemmas.{Leaves, LeavesTickets, goes-then, closed-few, closed-taken, closed-others}
-use Rattle.usb_answers.proofs.StepLemmas.{Inv, Step, Closes, closes-on, all-tickets, step-then, step-after, step-quiet, few-taken, answer-step, closed-step, future_closed-step}
+use Rattle.usb_answers.proofs.StepLemmas.{Inv, Step, Closes, closes-on, all-tickets, step-then, step-after, step-quiet, few-taken, answer-step, closed-step, reader_closed-step, future_closed-step}
 use Rattle.usb_answers.proofs.PrintLemmas.{Prints, prints-stay, taken_of, AllPrint, all-print}
 use Rattle.usb_answers.proofs.TakeLemmas.{answer-takes}
 
@@ -72,6 +74,48 @@ none-below state (suc k) n below = closed-none (endpoints_closed state k) k n (�
   where
     lower : (k n : ℕ) → n ≢ k → n < suc k → n < k
     lower k n apart small = omega arith
+
+-- before that it closes the readers
+readers-step : (state : State) (lines : ℕ → List (List ℕ)) (k : ℕ) → Inv state → Step state (readers_closed state k) (read_at_end state lines k) []
+readers-step state lines zero inv = step-quiet inv (quiet-same state)
+readers-step state lines (suc k) inv =
+    let first = readers-step state lines k inv in
+    step-then first (reader_closed-step (readers_closed state k) k lines first.inv)
+
+-- which closes an endpoint at the place of each
+reader_closed_at-endpoints : (state : State) (r : ℕ) (o : Option Endpoint) → (reader_closed_at state r o).endpoints ≡ (closed_at state (reader_place r) o).endpoints
+reader_closed_at-endpoints state r None = refl
+reader_closed_at-endpoints state r (Some h) = refl
+
+reader_closed-endpoints : (state : State) (r : ℕ) → (reader_closed state r).endpoints ≡ (closed state (reader_place r)).endpoints
+unfolding reader_closed closed
+reader_closed-endpoints state r = reader_closed_at-endpoints state r (named state.endpoints (reader_place r))
+
+readers-none : (state : State) (k r : ℕ) → r < k → named (readers_closed state k).endpoints (reader_place r) ≡ None
+readers-none state zero r below = absurd (omega arith)
+readers-none state (suc k) r below =
+    let mid = readers_closed state k in
+    ap (λ (l : List (Option Endpoint)). named l (reader_place r)) (reader_closed-endpoints mid k)
+    ∙ closed-none mid (reader_place k) (reader_place r) (λ apart. readers-none state k r (lower k r (λ same. apart (ap reader_place same)) below))
+  where
+    lower : (k n : ℕ) → n ≢ k → n < suc k → n < k
+    lower k n apart small = omega arith
+
+-- what is closed stays so
+none-stays : (state : State) (k n : ℕ) → named state.endpoints n ≡ None → named (endpoints_closed state k).endpoints n ≡ None
+none-stays state zero n none = none
+none-stays state (suc k) n none = closed-none (endpoints_closed state k) k n (λ apart. none-stays state k n none)
+
+-- so in the end no endpoint is open
+none-open : (state : State) (n : ℕ) → n < 128 → named (endpoints_closed (readers_closed state 64) 64).endpoints n ≡ None
+none-open state n below =
+    let mid = readers_closed state 64 in
+    elim (cases_lt n 64) [
+      | inl first ↦ none-below mid 64 n first
+      | inr beyond ↦
+          let at : reader_place (n - 64) ≡ n = omega (arith, beyond) in
+          none-stays mid 64 n (ap (named mid.endpoints) (sym at) ∙ readers-none state 64 (n - 64) (omega (arith, below, beyond)))
+    ]
 
 -- futures are closed, and endpoints stay
 futures-step : (state : State) (k : ℕ) → Inv state → Step state (futures_closed state k) [] []
@@ -119,8 +163,10 @@ record Runs (state : State) (lines : ℕ → List (List ℕ)) (items : List Item
 runs-end : (state : State) (lines : ℕ → List (List ℕ)) → Inv state → Runs state lines []
 unfolding ended all_closed
 runs-end state lines inv =
-    let mid = endpoints_closed state 64 in
-    let first = ends-step state lines 64 inv in
+    let read = readers_closed state 64 in
+    let mid = endpoints_closed read 64 in
+    let readers = readers-step state lines 64 inv in
+    let first = step-then readers (ends-step read lines 64 readers.inv) in
     let last = last-step mid first.inv in
     let all = step-after first last in
     record {
@@ -129,7 +175,7 @@ runs-end state lines inv =
       adds = λ t.
           let whole = all.adds t in
           let same = ap (times_open t) ((end-quiet (futures_closed mid 64)).endpoints ∙ futures-endpoints mid 64) in
-          let none = times-none tickets_in t mid.endpoints (λ n below. none-below state 64 n (omega (arith, first.inv.names))) in omega arith;
+          let none = times-none tickets_in t mid.endpoints (λ n below. none-open state n (omega (arith, below, first.inv.names))) in omega arith;
       count = all.inv.count;
     }
 
@@ -156,25 +202,26 @@ inv-start : (items : List Item) → Inv (start items)
 unfolding start
 inv-start items =
     record {
-      order = λ e h is. absurd (none-some h (sym (named-replicate 64 e) ∙ is));
-      once = λ t. let none = times-replicate tickets_in t 64 in let no_ = times-replicate ticket_in t 64 in omega arith;
+      order = λ e h is. absurd (none-some h (sym (named-replicate 128 e) ∙ is));
+      once = λ t. let none = times-replicate tickets_in t 128 in let no_ = times-replicate ticket_in t 64 in omega arith;
       waits = λ n f t is ticket. absurd (none-some f (sym (named-replicate 64 n) ∙ is));
       count = refl;
-      names = length-replicate {A = Option Endpoint} 64 None;
+      names = length-replicate {A = Option Endpoint} 128 None;
+      read = λ e h is above. absurd (none-some h (sym (named-replicate 128 e) ∙ is));
     }
 
 nothing-open : (items : List Item) (t : ℕ) → (times_open t (start items).endpoints ≡ 0) × (tickets_of (start items) ≡ 0)
 unfolding start
-nothing-open items t = (times-replicate tickets_in t 64, refl)
+nothing-open items t = (times-replicate tickets_in t 128, refl)
 
--- what was printed of the endpoints that are closed
+-- what was printed of the endpoints that are closed, and of which no reader was made
 abbrev Printed : List Event → ClosedEndpoint → Type 0
-Printed past c = Prints past (taken_of c.endpoint) c.lines
+Printed past c = c.endpoint.was_read ≡ false → Prints past (taken_of c.endpoint) c.lines
 
 printed-on : (old new : List Event) (xs : List ClosedEndpoint) → Extends old new → All (Printed old) xs → All (Printed new) xs
-printed-on old new xs extends all k d below = prints-stay old new _ _ extends (all k d below)
+printed-on old new xs extends all k d below = λ unread. prints-stay old new _ _ extends (all k d below unread)
 
-closed_as-printed : (past : List Event) (lines : List (List ℕ)) (o : Option Endpoint) → ((h : Endpoint) → o ≡ Some h → Prints past (taken_of h) lines) → All (Printed past) (closed_as past lines o)
+closed_as-printed : (past : List Event) (lines : List (List ℕ)) (o : Option Endpoint) → ((h : Endpoint) → o ≡ Some h → h.was_read ≡ false → Prints past (taken_of h) lines) → All (Printed past) (closed_as past lines o)
 closed_as-printed past lines None prints = All-nil (Printed past)
 closed_as-printed past lines (Some h) prints = All-cons (Printed past) (record { endpoint = h; past = past; lines = lines }) [] (prints h refl) (All-nil (Printed past))
 
@@ -182,7 +229,8 @@ closed_under-printed : (state : State) (lines : ℕ → List (List ℕ)) (e : �
 closed_under-printed state lines e prints = closed_as-printed state.host.kernel.past (lines e) (named state.endpoints e) (λ h is. prints e h is)
 
 closed_by-printed : (state : State) (lines : ℕ → List (List ℕ)) (item : Item) → AllPrint state lines → All (Printed state.host.kernel.past) (closed_by state lines item)
-closed_by-printed state lines (CloseEndpoint e) prints = closed_under-printed state lines e prints
+closed_by-printed state lines (CloseEndpoint e) prints = closed_under-printed state lines (endpoint_place e) prints
+closed_by-printed state lines (CloseReader r) prints = closed_under-printed state lines (reader_place r) prints
 closed_by-printed state lines item prints = All-nil (Printed state.host.kernel.past)
 
 -- a close leaves what was printed of others
@@ -199,8 +247,30 @@ unfolding closed
 closed-named state e d g is = closed_at-named state e d g (named state.endpoints e) is
 
 closed-prints : (state : State) (e : ℕ) (lines : ℕ → List (List ℕ)) → Inv state → AllPrint state lines → AllPrint (closed state e) lines
-closed-prints state e lines inv prints d g is =
-    prints-stay state.host.kernel.past (closed state e).host.kernel.past (taken_of g) (lines d) (closed-step state e lines inv).goes.past (prints d g (closed-named state e d g is))
+closed-prints state e lines inv prints d g is unread =
+    prints-stay state.host.kernel.past (closed state e).host.kernel.past (taken_of g) (lines d) (closed-step state e lines inv).goes.past (prints d g (closed-named state e d g is) unread)
+
+reader_closed-prints : (state : State) (r : ℕ) (lines : ℕ → List (List ℕ)) → Inv state → AllPrint state lines → AllPrint (reader_closed state r) lines
+reader_closed-prints state r lines inv prints d g is unread =
+    let was = closed-named state (reader_place r) d g (sym (ap (λ (l : List (Option Endpoint)). named l d) (reader_closed-endpoints state r)) ∙ is) in
+    prints-stay state.host.kernel.past (reader_closed state r).host.kernel.past (taken_of g) (lines d) (reader_closed-step state r lines inv).goes.past (prints d g was unread)
+
+record ReadersPrint (state : State) (lines : ℕ → List (List ℕ)) (k : ℕ) : Type 0 where
+  open_ : AllPrint (readers_closed state k) lines
+  shut : All (Printed (readers_closed state k).host.kernel.past) (read_at_end state lines k)
+
+readers-print : (state : State) (lines : ℕ → List (List ℕ)) (k : ℕ) → Inv state → AllPrint state lines → ReadersPrint state lines k
+readers-print state lines zero inv prints = record { open_ = prints; shut = All-nil (Printed state.host.kernel.past) }
+readers-print state lines (suc k) inv prints =
+    let before = readers-print state lines k inv prints in
+    let mid = readers_closed state k in
+    let now = (readers-step state lines k inv).inv in
+    let extends = (reader_closed-step mid k lines now).goes.past in
+    record {
+      open_ = reader_closed-prints mid k lines now before.open_;
+      shut = printed-on mid.host.kernel.past (reader_closed mid k).host.kernel.past (read_at_end state lines k ++ closed_under mid lines (reader_place k)) extends
+          (All-append (Printed mid.host.kernel.past) (read_at_end state lines k) (closed_under mid lines (reader_place k)) before.shut (closed_under-printed mid lines (reader_place k) before.open_));
+    }
 
 record EndPrints (state : State) (lines : ℕ → List (List ℕ)) (k : ℕ) : Type 0 where
   open_ : AllPrint (endpoints_closed state k) lines
@@ -222,19 +292,27 @@ ends-print state lines (suc k) inv prints =
 runs-print : (state : State) (lines : ℕ → List (List ℕ)) (items : List Item) → Inv state → AllPrint state lines → All (Printed (last_host state items).kernel.past) (closed_endpoints_from state lines items)
 unfolding ended all_closed
 runs-print state lines [] inv prints =
-    printed-on (endpoints_closed state 64).host.kernel.past (ended state).kernel.past (closed_at_end state lines 64) (last-step (endpoints_closed state 64) (ends-step state lines 64 inv).inv).goes.past
-    (ends-print state lines 64 inv prints).shut
+    let read = readers_closed state 64 in
+    let mid = endpoints_closed read 64 in
+    let readers = readers-step state lines 64 inv in
+    let now = readers-print state lines 64 inv prints in
+    let first = ends-step read lines 64 readers.inv in
+    let last = last-step mid first.inv in
+    let past = (ended state).kernel.past in
+    All-append (Printed past) (read_at_end state lines 64) (closed_at_end read lines 64)
+    (printed-on read.host.kernel.past past (read_at_end state lines 64) (step-after first last).goes.past now.shut)
+    (printed-on mid.host.kernel.past past (closed_at_end read lines 64) last.goes.past (ends-print read lines 64 readers.inv now.open_).shut)
 runs-print state lines (item ∷ items) inv prints =
     let a = answer state item in
     let over = answer-step state lines item inv in
     let last = (last_host a.state items).kernel.past in
     All-append (Printed last) (closed_by state lines item) (closed_endpoints_from a.state (lines_behind state a lines) items)
     (printed-on state.host.kernel.past last (closed_by state lines item) (runs state lines (item ∷ items) inv).goes.past (closed_by-printed state lines item prints))
-    (runs-print a.state (lines_behind state a lines) items over.inv (all-print state a lines over.goes.past prints (answer-takes state item (few-taken state inv))))
+    (runs-print a.state (lines_behind state a lines) items over.inv (all-print state a lines over.goes.past prints (answer-takes state item inv)))
 
 none-print : (items : List Item) (lines : ℕ → List (List ℕ)) → AllPrint (start items) lines
 unfolding start
-none-print items lines e h is = absurd (none-some h (sym (named-replicate 64 e) ∙ is))
+none-print items lines e h is unread = absurd (none-some h (sym (named-replicate 128 e) ∙ is))
 
 -- each ticket of the last host stands once
 handles-once : (state : State) (lines : ℕ → List (List ℕ)) (items : List Item) (t : ℕ) → times_open t state.endpoints ≡ 0 → tickets_of state ≡ 0 → Runs state lines items → t < length (last_host state items).tickets → count_by (λ u. u == t) (tickets_of_all (closed_endpoints_from state lines items) ++ control_tickets_from state items) ≡ 1
@@ -247,7 +325,7 @@ handles-once state lines items t none few run within =
     let parts = times-append t (tickets_of_all (closed_endpoints_from state lines items)) (control_tickets_from state items) in
     omega arith
 
-served-one : (last : HostState) (c : ClosedEndpoint) → HasEnds last.tickets → Closes last c → c.lines ≡ map (λ t. polled_line (transfer_completion last.kernel.past t)) (take c.endpoint.taken c.endpoint.tickets) → IsServedInOrder last c
+served-one : (last : HostState) (c : ClosedEndpoint) → HasEnds last.tickets → Closes last c → (c.endpoint.was_read ≡ false → c.lines ≡ map (λ t. polled_line (transfer_completion last.kernel.past t)) (take c.endpoint.taken c.endpoint.tickets)) → IsServedInOrder last c
 served-one last c ends closes printed =
     record {
       rising = closes.rising;
@@ -264,7 +342,7 @@ served-handles items ends =
     let run = runs (start items) lines items (inv-start items) in
     let prints = runs-print (start items) lines items (inv-start items) (none-print items lines) in
     record {
-      served = λ k d below. served-one (last_host (start items) items) _ ends (run.closes k d below) (prints k d below).are;
+      served = λ k d below. served-one (last_host (start items) items) _ ends (run.closes k d below) (λ unread. (prints k d below unread).are);
       once = λ t within. let none = nothing-open items t in handles-once (start items) lines items t none.0 none.1 run within;
     }
 

@@ -1,7 +1,6 @@
 -- Lines with steps of their own: the steps are lent, a call is made, and the rest of them is applied.
-use Rattle.std.proofs.Common.{◌≡◌, ℕ, ◌≤◌, ◌+◌, List, ◌++◌, length, map, Option, None, Result, Ok, Err, Bool, String, string_bytes, refl, ap, sym, ◌∙◌, subst}
+use Rattle.std.proofs.Common.{◌≡◌, ℕ, ◌≤◌, ◌+◌, List, ◌++◌, length, Option, None, Result, Ok, Err, Bool, String, string_bytes, refl, ap, sym, ◌∙◌, subst}
 use Rattle.std.specs.Prelude.{OnOk}
-use Rattle.std.specs.Option.{option_map}
 use Rattle.std.specs.declared.alloc.Global.{Global}
 use Rattle.usb_ledger.proofs.DeviceLemmas.{counts-same}
 use Rattle.usb_simulated.specs.declared.step.KernelStep.{KernelStep}
@@ -25,15 +24,17 @@ use Rattle.usb_answers.specs.State.{State, Endpoint, with_host}
 use Rattle.usb_answers.specs.Answer.{Answer, barred, if_open}
 use Rattle.usb_answers.specs.Steps.{lent, then_rested, stepped_all}
 use Rattle.usb_answers.specs.SessionState.{SessionState, IsSound}
-use Rattle.usb_answers.specs.SessionFacts.{made_of}
+use Rattle.usb_answers.specs.SessionFacts.{made_of, endpoints_with}
+use Rattle.usb_answers.specs.ReaderAt.{endpoint_place}
 use Rattle.usb_answers.specs.Relation.{Represents}
 use Rattle.usb_answers.specs.Answered.{Answered, Answers}
 use Rattle.usb_answers.specs.OpenCalls.{CallKeeps, CallAnswers, with_called}
 use Rattle.usb_answers.proofs.Answering.{told-answered, answered-none, answered-some, none_kept, host_is}
 use Rattle.usb_host.proofs.ClaimFrames.{goes-trans}
-use Rattle.usb_answers.proofs.Called.{KeepsSession, represents-host, sound-host, sound-put, taken-map, open_at}
+use Rattle.usb_answers.proofs.Called.{KeepsSession, represents-host, sound-host, sound-put, open_at}
+use Rattle.usb_answers.proofs.OpenPlaces.{taken-map}
 use Rattle.usb_answers.proofs.NamedKeys.{OpensNone, none-goes, none-then}
-use Rattle.usb_answers.proofs.TakenOut.{made_with, PutBack, named-made, none_made, made-put, made-called}
+use Rattle.usb_answers.proofs.TakenOut.{made_with, PutBack, places-made, named-made, none_made, made-put, made-called}
 
 abbrev lent_host : HostState → List KernelStep → HostState
 lent_host host steps = record host { steps = steps }
@@ -46,16 +47,16 @@ pub stands-lent : (host at : HostState) (steps : List KernelStep) (x : EndpointS
 stands-lent host at steps x is stands =
     subst (λ (h : HostState). Stands (bus_of h) x) (sym is) (record { key_is_open = stands.key_is_open; held = stands.held })
 
-stands-rested : (now : HostState) (x : EndpointState) → Stands (bus_of now) x → Stands (bus_of (host_rest now)) x
+pub stands-rested : (now : HostState) (x : EndpointState) → Stands (bus_of now) x → Stands (bus_of (host_rest now)) x
 stands-rested now x stands = Stands-later (bus_of now) (bus_of (host_rest now)) x stands (went-rest now).later
 
 -- over the line no step is left, and what is claimed stays
-keeps-lent : (host now : HostState) (steps : List KernelStep) → Extends host.kernel.past now.kernel.past → LineGoesOn (lent_host host steps) now → KeepsSession host (host_rest now)
+pub keeps-lent : (host now : HostState) (steps : List KernelStep) → Extends host.kernel.past now.kernel.past → LineGoesOn (lent_host host steps) now → KeepsSession host (host_rest now)
 keeps-lent host now steps past line =
     let rest = (went-rest now).line in
     record { idle = rest-steps now; past = extends-trans host.kernel.past now.kernel.past (host_rest now).kernel.past past (went-rest now).later.past; devices = counts-same host.devices (host_rest now).devices (rest.devices ∙ line.devices); interfaces = goes-trans host.interfaces now.interfaces (host_rest now).interfaces line.interfaces rest.interfaces }
 
-others-lent : (host now : HostState) (steps : List KernelStep) (key : ℕ) → KeepsOthers (bus_of (lent_host host steps)) (bus_of now) key → KeepsOthers (bus_of host) (bus_of (host_rest now)) key
+pub others-lent : (host now : HostState) (steps : List KernelStep) (key : ℕ) → KeepsOthers (bus_of (lent_host host steps)) (bus_of now) key → KeepsOthers (bus_of host) (bus_of (host_rest now)) key
 others-lent host now steps key others =
     let later = (went-rest now).later in
     record {
@@ -63,7 +64,7 @@ others-lent host now steps key others =
       keys = λ k apart is. ap (λ (f : ℕ → Bool). f k) later.keys ∙ others.keys k apart is;
     }
 
-none-lent : (host now : HostState) (steps : List KernelStep) → LineGoesOn (lent_host host steps) now → OpensNone host.endpoints (host_rest now).endpoints
+pub none-lent : (host now : HostState) (steps : List KernelStep) → LineGoesOn (lent_host host steps) now → OpensNone host.endpoints (host_rest now).endpoints
 none-lent host now steps line =
     none-then host.endpoints now.endpoints (host_rest now).endpoints (none-goes host.endpoints now.endpoints line.endpoints)
     (none-goes now.endpoints (host_rest now).endpoints (went-rest now).line.endpoints)
@@ -73,8 +74,8 @@ pub sound-lent : (i : Inside) (steps : List KernelStep) (at now last : HostState
 sound-lent i steps at now last after e x y sound is back keeps rest =
     let k = subst (λ (h : HostState). CallKeeps h now (state_of x) (state_of y)) is keeps in
     subst (λ (h : HostState). IsSound (made_with i h after)) (sym rest)
-    (sound-put (made_of i) (host_rest now) (map (option_map state_of) after) e (state_of x) (state_of y) sound (taken-map i.endpoints.items e x back.was) (made-put i after e x y back)
-    (keeps-lent i.host now steps k.past k.line) (stands-rested now (state_of y) k.stands) k.key (others-lent i.host now steps (state_of x).key k.others) (none-lent i.host now steps k.line))
+    (sound-put (made_of i) (host_rest now) (endpoints_with after i.readers.items) (endpoint_place e) (state_of x) (state_of y) sound (taken-map i.endpoints.items i.readers.items e x (places-made i sound) back.was) (made-put i after e x y sound back)
+    (keeps-lent i.host now steps k.past k.line) (stands-rested now (state_of y) k.stands) k.key k.maximum (others-lent i.host now steps (state_of x).key k.others) (none-lent i.host now steps k.line))
 
 -- its answer, and then the rest of the steps
 pub rested-answered : (s : SessionState) (now : HostState) (before after : List ℕ) (a : Answer) → s.host ≡ now → Answered s before after a → Answered (record s { host = host_rest now }) before after (then_rested a)
@@ -85,23 +86,24 @@ rested-answered s now before after a is answered =
       line = answered.line;
     }
 
-pub answers-lent : {E : Type 0} (i : Inside) (S : SessionState) (steps : List KernelStep) (at now last : HostState) (after : List (Option AnyEndpoint)) (n e : ℕ) (x y : AnyEndpoint) (before text : String Global) (result : Result Unit E) (call : State → ℕ → Endpoint → Answer) → made_of i ≡ S → at ≡ record i.host { steps = steps } → PutBack i.endpoints.items after n x y → n ≡ e → CallAnswers at now (state_of x) (state_of y) before text result call → last ≡ host_rest now → Answers S (made_with i last after) before text result (λ state. if_open (named state.endpoints e) (λ h. then_rested (call (lent state steps) e h)) (barred (stepped_all state steps)))
-answers-lent i S steps at now last after n e x y before text (Err error) call view is back same answers rest = tt
-answers-lent i S steps at now last after n e x y before text (Ok done) call view is back same answers rest =
+pub answers-lent : {E : Type 0} (i : Inside) (S : SessionState) (steps : List KernelStep) (at now last : HostState) (after : List (Option AnyEndpoint)) (n e : ℕ) (x y : AnyEndpoint) (before text : String Global) (result : Result Unit E) (call : State → ℕ → Endpoint → Answer) → IsSound (made_of i) → made_of i ≡ S → at ≡ record i.host { steps = steps } → PutBack i.endpoints.items after n x y → n ≡ e → CallAnswers at now (state_of x) (state_of y) before text result call → last ≡ host_rest now → Answers S (made_with i last after) before text result (λ state. if_open (named state.endpoints (endpoint_place e)) (λ h. then_rested (call (lent state steps) (endpoint_place e) h)) (barred (stepped_all state steps)))
+answers-lent i S steps at now last after n e x y before text (Err error) call sound view is back same answers rest = tt
+answers-lent i S steps at now last after n e x y before text (Ok done) call sound view is back same answers rest =
     λ state r.
     let b = string_bytes before in
     let t = string_bytes text in
-    let was = named-made i S n x view back.was in
-    let o = open_at S state n (state_of x) r was in
+    let p = endpoint_place n in
+    let was = named-made i S n x sound view back.was in
+    let o = open_at S state p (state_of x) r was in
     let host : at ≡ record S.host { steps = steps } = is ∙ ap (λ (v : SessionState). record v.host { steps = steps }) view in
     let lends : Represents (record S { host = at }) (lent state steps) =
     subst (λ (h : HostState). Represents (record S { host = at }) (with_host state h)) (host ∙ ap (λ (h : HostState). record h { steps = steps }) (host_is S state r)) (represents-host S state at r) in
-    let called : Answered (with_called S n now (state_of y)) b t (call (lent state steps) n o.entry) = answers (record S { host = at }) (lent state steps) n o.entry lends refl was o.is in
-    subst (λ m. Answered (made_with i last after) b t (if_open (named state.endpoints m) (λ h. then_rested (call (lent state steps) m h)) (barred (stepped_all state steps)))) same
-    (answered-some (made_with i last after) b t (named state.endpoints n) o.entry (λ h. then_rested (call (lent state steps) n h)) (barred (stepped_all state steps)) o.is
-    (subst (λ (h : HostState). Answered (made_with i h after) b t (then_rested (call (lent state steps) n o.entry))) (sym rest)
-    (rested-answered (made_with i now after) now b t (call (lent state steps) n o.entry) refl
-    (subst (λ s. Answered s b t (call (lent state steps) n o.entry)) (made-called i S now after n x y view back) called))))
+    let called : Answered (with_called S p now (state_of y)) b t (call (lent state steps) p o.entry) = answers (record S { host = at }) (lent state steps) p o.entry lends refl was o.is in
+    subst (λ m. Answered (made_with i last after) b t (if_open (named state.endpoints (endpoint_place m)) (λ h. then_rested (call (lent state steps) (endpoint_place m) h)) (barred (stepped_all state steps)))) same
+    (answered-some (made_with i last after) b t (named state.endpoints p) o.entry (λ h. then_rested (call (lent state steps) p h)) (barred (stepped_all state steps)) o.is
+    (subst (λ (h : HostState). Answered (made_with i h after) b t (then_rested (call (lent state steps) p o.entry))) (sym rest)
+    (rested-answered (made_with i now after) now b t (call (lent state steps) p o.entry) refl
+    (subst (λ s. Answered s b t (call (lent state steps) p o.entry)) (made-called i S now after n x y sound view back) called))))
 
 -- no endpoint was called
 pub sound-stepped : (i : Inside) (steps : List KernelStep) (at last : HostState) (mid : List (Option AnyEndpoint)) → IsSound (made_of i) → at ≡ record i.host { steps = steps } → last ≡ host_rest at → mid ≡ i.endpoints.items → IsSound (made_with i last mid)
@@ -120,15 +122,16 @@ steps-represent i S steps at last view is rest state r =
     (rest ∙ ap host_rest is ∙ ap (λ (h : HostState). host_rest (record h { steps = steps })) (host_is (made_of i) state here))
     (represents-host (made_of i) state last here)
 
-pub answers-stepped : {E : Type 0} (i : Inside) (S : SessionState) (steps : List KernelStep) (at last : HostState) (mid : List (Option AnyEndpoint)) (n e : ℕ) (before text : String Global) (result : Result Unit E) (call : State → Endpoint → Answer) → made_of i ≡ S → at ≡ record i.host { steps = steps } → last ≡ host_rest at → named i.endpoints.items n ≡ None → mid ≡ i.endpoints.items → n ≡ e → OnOk result (string_bytes text ≡ string_bytes before ++ condition_line) → Answers S (made_with i last mid) before text result (λ state. if_open (named state.endpoints e) (call state) (barred (stepped_all state steps)))
-answers-stepped i S steps at last mid n e before text (Err error) call view is rest none back same printed = tt
-answers-stepped i S steps at last mid n e before text (Ok done) call view is rest none back same printed =
+pub answers-stepped : {E : Type 0} (i : Inside) (S : SessionState) (steps : List KernelStep) (at last : HostState) (mid : List (Option AnyEndpoint)) (n e : ℕ) (before text : String Global) (result : Result Unit E) (call : State → Endpoint → Answer) → IsSound (made_of i) → made_of i ≡ S → at ≡ record i.host { steps = steps } → last ≡ host_rest at → named i.endpoints.items n ≡ None → mid ≡ i.endpoints.items → n ≡ e → OnOk result (string_bytes text ≡ string_bytes before ++ condition_line) → Answers S (made_with i last mid) before text result (λ state. if_open (named state.endpoints (endpoint_place e)) (call state) (barred (stepped_all state steps)))
+answers-stepped i S steps at last mid n e before text (Err error) call sound view is rest none back same printed = tt
+answers-stepped i S steps at last mid n e before text (Ok done) call sound view is rest none back same printed =
     λ state r.
+    let p = endpoint_place e in
     let b = string_bytes before in
     let t = string_bytes text in
-    subst (λ l. Answered (made_with i last l) b t (if_open (named state.endpoints e) (call state) (barred (stepped_all state steps)))) (sym back)
-    (answered-none (made_with i last i.endpoints.items) b t (named state.endpoints e) (call state) (barred (stepped_all state steps))
-    (none_kept S state e r (ap (named S.endpoints) (sym same) ∙ none_made i S n view none))
+    subst (λ l. Answered (made_with i last l) b t (if_open (named state.endpoints p) (call state) (barred (stepped_all state steps)))) (sym back)
+    (answered-none (made_with i last i.endpoints.items) b t (named state.endpoints p) (call state) (barred (stepped_all state steps))
+    (none_kept S state p r (ap (λ m. named S.endpoints (endpoint_place m)) (sym same) ∙ none_made i S n sound view none))
     (told-answered (made_with i last i.endpoints.items) (stepped_all state steps) b t condition_line (steps-represent i S steps at last view is rest state r) printed))
 
 -- each step of the line used a place

@@ -30,11 +30,18 @@ pub mod InterfaceHandles
 pub mod Interfaces
 pub mod Lent
 pub mod NamedKeys
+pub mod OpenPlaces
 pub mod OrderLemmas
 pub mod PlaceLemmas
 pub mod PollCode
 pub mod PrintLemmas
+pub mod ReaderCode
+pub mod ReaderLines
 pub mod Queue
+pub mod ReaderCalled
+pub mod ReaderCloses
+pub mod ReaderMoves
+pub mod ReaderDoes
 pub mod RunLemmas
 pub mod StepLemmas
 pub mod SubmitCode
@@ -48,3 +55,8 @@ pub mod WaitCode
 mod WorkedOutput
 pub mod TreeAnswers
 pub mod TreeLines
+pub mod FramedLines
+pub mod FramedReaders
+pub mod FramedEnds
+pub mod FramedBehind
+pub mod FramedScripts

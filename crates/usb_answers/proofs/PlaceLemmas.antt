@@ -4,6 +4,7 @@ use Rattle.usb_xfer.specs.declared.transfer.Completion.{Completion}
 use Rattle.usb_bus.specs.Completions.{transfer_completion}
 use Rattle.usb_lines.specs.Completions.{polled_line}
 use Rattle.usb_answers.specs.State.{State}
+use Rattle.usb_answers.specs.ReaderAt.{endpoint_place}
 use Rattle.usb_answers.specs.Polls.{took, poll_answer}
 use Rattle.usb_answers.specs.Answers.{answer}
 use Rattle.usb_answers.specs.Places.{PollsAnswerForTheirPlace}
@@ -14,4 +15,4 @@ took-line state e t (Some c) = refl
 
 pub polls-for_their_place : PollsAnswerForTheirPlace
 unfolding answer poll_answer
-polls-for_their_place state e h t is at = rw (is, at) (took-line state e t (transfer_completion state.host.kernel.past t))
+polls-for_their_place state e h t is at = rw (is, at) (took-line state (endpoint_place e) t (transfer_completion state.host.kernel.past t))

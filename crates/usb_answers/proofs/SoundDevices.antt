@@ -32,6 +32,7 @@ sound-device s now after sound steps interfaces bus names stand counted held =
       device_names = names ∙ sound.device_names;
       interface_names = sound.interface_names;
       endpoint_names = sound.endpoint_names;
+      reader_names = sound.reader_names;
       devices_stand = stand;
       devices_counted = counted;
       devices_held = held;
@@ -40,6 +41,7 @@ sound-device s now after sound steps interfaces bus names stand counted held =
           stands-held now f was.claim held (ap (λ (l : List (Option ClaimedInterface)). value_at l f.key) interfaces ∙ was.at) was.number was.open_handle;
       interfaces_counted = counted-same s.host.interfaces now.interfaces s.interfaces interfaces sound.interfaces_counted;
       endpoints_stand = λ e h at. subst (λ (b : BusState). Stands b h) (sym bus) (sound.endpoints_stand e h at);
+      endpoints_small = sound.endpoints_small;
       endpoints_differ = sound.endpoints_differ;
       keys_named = named-goes s.host.endpoints now.endpoints s.endpoints s.futures (none-bus s.host now bus) sound.keys_named;
       future_names = sound.future_names;

@@ -1,6 +1,7 @@
 -- What a call makes of the order of tickets and of their places.
 use Rattle.std.proofs.Common.{ℕ, zero, suc, arith, ◌≡◌, ◌<◌, ◌≢◌, ◌≤◌, ◌+◌, true, List, [], ◌∷◌, ◌++◌, length, drop, slice_get, Option, Some, None, inl, inr, refl, sym, ◌∙◌, ap, subst, append-nil}
 use Rattle.std.specs.Prelude.{All}
+use Rattle.std.specs.List.Sorted.{IsStrictlyIncreasing}
 use Rattle.std.specs.Option.{option_map}
 use Rattle.std.proofs.lemmas.Bool.{cases_eq}
 use Rattle.std.proofs.lemmas.Option.{none-some, same_Some}
@@ -26,14 +27,17 @@ use Rattle.usb_answers.specs.Polls.{one_taken, taken_from}
 use Rattle.usb_answers.specs.Submits.{submitted, with_submission}
 use Rattle.usb_answers.specs.Closes.{without_endpoint, closed}
 use Rattle.usb_answers.specs.Futures.{with_future}
+use Rattle.usb_answers.specs.ReaderAt.{reader_place}
+use Rattle.usb_answers.specs.Readers.{reader_closed}
 use Rattle.usb_answers.specs.Ends.{future_closed_under}
 use Rattle.usb_answers.specs.Answers.{answer}
 use Rattle.usb_answers.specs.Accounts.{TookFew}
 use Rattle.usb_answers.specs.Served.{ClosedEndpoint, tickets_of_all, closed_under, closed_by, control_ticket}
-use Rattle.usb_names.proofs.NameLemmas.{place_of, free_place, named-change_same, named-change_other, named-freed, named-freed_other, named-set, named-set_other, length-change, length-freed, length-set_name}
+use Rattle.usb_names.proofs.NameLemmas.{place_of, free_place, free-within, named-change_same, named-change_other, named-freed, named-freed_other, named-set, named-set_other, length-change, length-freed, length-set_name}
 use Rattle.usb_answers.proofs.TimesLemmas.{one, times, times-append, among, among-once, tickets_in, ticket_in, times_open, times_awaited, listed-once, listed-apart, open-change, open-one, open-two}
 use Rattle.usb_answers.proofs.OrderLemmas.{IsHeld, Stays, held-stays, stays-keeps, leaves-is, leaves-held, InOrder, order-few, order-stays, order-keeps, order-fresh, order-push, order-within, order-takes, front-held, front-stands, pending-all, stays-same, left_by, LeavesTickets, goes-keeps, goes-then, goes-taken, goes-left, IsClosed, closed-goes, closed-order, left-stays}
-use Rattle.usb_answers.proofs.Does.{Quiet, Acts, without_future_of, goes, opens, submits, starts, controls, frees, ends, takes, closes}
+use Rattle.usb_answers.proofs.Does.{Quiet, Acts, SameTickets, moved, without_future_of, goes, opens, submits, fits, reads, starts, controls, frees, ends, takes, closes, moves, free-still}
+use Rattle.usb_answers.proofs.ReaderDoes.{reader_closed-does}
 use Rattle.usb_answers.proofs.ControlLines.{future_closed_under-does}
 use Rattle.usb_answers.proofs.EndpointLines.{closed-does}
 use Rattle.usb_answers.proofs.EveryLine.{answer-does}
@@ -44,7 +48,8 @@ pub record Inv (state : State) : Type 0 where
   pub once : (t : ℕ) → times_open t state.endpoints + times_awaited t state.futures ≤ among t (tickets_of state)
   pub waits : (n : ℕ) (f : FutureState) (t : ℕ) → named state.futures n ≡ Some f → f.ticket ≡ Some t → IsHeld state.host t
   pub count : length state.host.tickets ≡ tickets_of state
-  pub names : length state.endpoints ≡ 64
+  pub names : length state.endpoints ≡ 128
+  pub read : (e : ℕ) (h : Endpoint) → named state.endpoints e ≡ Some h → 64 ≤ e → h.was_read ≡ true
 
 -- a change of the state, the endpoints that it closes, and the tickets of the control transfers that it hands in
 pub record Step (state next : State) (closed : List ClosedEndpoint) (handed : List ℕ) : Type 0 where
@@ -103,15 +108,16 @@ step-quiet {state} {next} inv quiet =
         waits = λ n f t is ticket. waits-keeps state next.host inv quiet.keeps n f t (ap (λ (l : List (Option FutureState)). named l n) (sym quiet.futures) ∙ is) ticket;
         count = quiet.count.count ∙ inv.count ∙ sym quiet.count.past;
         names = ap (λ (l : List (Option Endpoint)). length l) quiet.endpoints ∙ inv.names;
+        read = λ e h is above. inv.read e h (ap (λ (l : List (Option Endpoint)). named l e) (sym quiet.endpoints) ∙ is) above;
       };
       adds = λ t. let l = lists t in let b = below t in omega arith;
       closes = All-nil (Closes next.host);
     }
 
 -- an endpoint is opened
-step-open : (state : State) (e : ℕ) (x : Endpoint) → Inv state → is_free state.endpoints e ≡ true → x.tickets ≡ [] → x.taken ≡ 0 → Step state (record state { endpoints = set_name state.endpoints e x }) [] []
+pub step-open : (state : State) (e : ℕ) (x : Endpoint) → Inv state → is_free state.endpoints e ≡ true → x.tickets ≡ [] → x.taken ≡ 0 → (64 ≤ e → 128 ≤ e) → Step state (record state { endpoints = set_name state.endpoints e x }) [] []
 unfolding set_name
-step-open state e x inv free none zero_ =
+step-open state e x inv free none zero_ outside =
     let es = set_name state.endpoints e x in
     let lists : (t : ℕ) → times_open t es ≡ times_open t state.endpoints = λ t.
     let change = open-change tickets_in t (something x) state.endpoints e None (free_place state.endpoints e free) in
@@ -129,6 +135,12 @@ step-open state e x inv free none zero_ =
         waits = inv.waits;
         count = inv.count;
         names = length-set_name state.endpoints e x ∙ inv.names;
+        read = λ d h is above. elim (cases_eq d e) [
+          | inl here ↦
+              let within = free-within state.endpoints e free in
+              let beyond = outside (subst (λ n. 64 ≤ n) here above) in absurd (omega (arith, within, beyond, inv.names))
+          | inr apart ↦ inv.read d h (sym (named-set_other state.endpoints e d x apart) ∙ is) above
+        ];
       };
       adds = λ t. let l = lists t in omega arith;
       closes = All-nil (Closes state.host);
@@ -138,8 +150,21 @@ step-open state e x inv free none zero_ =
 changed : (f : Endpoint → Endpoint) (es : List (Option Endpoint)) (e : ℕ) (h g : Endpoint) → named es e ≡ Some h → named (change_named f es e) e ≡ Some g → f h ≡ g
 changed f es e h g here is = same_Some (f h) g (sym (named-change_same f es e ∙ ap (option_map f) here) ∙ is)
 
+-- where a reader was made of it one was before
+abbrev AllRead : List (Option Endpoint) → Type 0
+AllRead es = (e : ℕ) (h : Endpoint) → named es e ≡ Some h → 64 ≤ e → h.was_read ≡ true
+
+read-changed : (f : Endpoint → Endpoint) (es : List (Option Endpoint)) (e : ℕ) (h : Endpoint) → ((g : Endpoint) → (f g).was_read ≡ g.was_read) → named es e ≡ Some h → AllRead es → AllRead (change_named f es e)
+read-changed f es e h same here all d g is above =
+    elim (cases_eq d e) [
+      | inl at ↦
+          let entry : f h ≡ g = changed f es e h g here (ap (named (change_named f es e)) (sym at) ∙ is) in
+          ap (λ (x : Endpoint). x.was_read) (sym entry) ∙ (same h ∙ all d h (ap (named es) at ∙ here) above)
+      | inr apart ↦ all d g (sym (named-change_other f es e d apart) ∙ is) above
+    ]
+
 -- a ticket is submitted
-step-push : (state : State) (e : ℕ) (b : BufferState) (h : Endpoint) → Inv state → named state.endpoints e ≡ Some h → Step state (submitted state e b h) [] []
+pub step-push : (state : State) (e : ℕ) (b : BufferState) (h : Endpoint) → Inv state → named state.endpoints e ≡ Some h → Step state (submitted state e b h) [] []
 unfolding change_named
 step-push state e b h inv here =
     let n = tickets_of state in
@@ -166,6 +191,7 @@ step-push state e b h inv here =
         waits = waits-keeps state host inv adds.goes;
         count = count.count ∙ omega (arith, inv.count, many);
         names = length-change (option_map (with_submission n)) state.endpoints e ∙ inv.names;
+        read = read-changed (with_submission n) state.endpoints e h (λ g. refl) here inv.read;
       };
       adds = λ t. let l = lists t in let c = below t in omega arith;
       closes = All-nil (Closes host);
@@ -181,7 +207,7 @@ apart-two state d e g h t inv apart first second =
     let most = open-two tickets_in t state.endpoints d e g h apart first second in let all = inv.once t in let few = among-once t (tickets_of state) in omega arith
 
 -- the ticket at the place of those that were taken is taken
-step-take : (state : State) (e t : ℕ) (h : Endpoint) → Inv state → named state.endpoints e ≡ Some h → slice_get h.tickets h.taken ≡ Some t → Step state (taken_from state e t) [] []
+pub step-take : (state : State) (e t : ℕ) (h : Endpoint) → Inv state → named state.endpoints e ≡ Some h → slice_get h.tickets h.taken ≡ Some t → Step state (taken_from state e t) [] []
 unfolding change_named
 step-take state e t h inv here front =
     let host = host_taken state.host t in
@@ -211,6 +237,7 @@ step-take state e t h inv here front =
             let most = open-one tickets_in t state.endpoints e h here in absurd (omega arith)))) (inv.waits n f u is ticket);
         count = count.count ∙ inv.count ∙ sym count.past;
         names = length-change (option_map one_taken) state.endpoints e ∙ inv.names;
+        read = read-changed one_taken state.endpoints e h (λ g. refl) here inv.read;
       };
       adds = λ u. let l = lists u in let b = among-kept count u in omega arith;
       closes = All-nil (Closes host);
@@ -247,6 +274,10 @@ step-close state e h lines inv here =
             held-stays state.host host u (left-stays state.host (kept h) u (omega arith)) (inv.waits n f u is ticket);
         count = count.count ∙ inv.count ∙ sym count.past;
         names = length-freed state.endpoints e ∙ inv.names;
+        read = λ d g is above. elim (cases_eq d e) [
+          | inl same ↦ absurd (none-some g (sym (named-freed state.endpoints e) ∙ (ap (named es) (sym same) ∙ is)))
+          | inr apart ↦ inv.read d g (sym (named-freed_other state.endpoints e d apart) ∙ is) above
+        ];
       };
       adds = λ u. let l = lists u in let b = among-kept count u in let w = whole u in omega arith;
       closes = All-cons (Closes host) handle [] (closed-order state.host h (λ u. stands-once state e h u inv here) (inv.order e h here)) (All-nil (Closes host));
@@ -261,7 +292,7 @@ step-close state e h lines inv here =
     pending-few h u = times-drop h.taken h.tickets u
 
 -- a control transfer is handed in, and its future is open under a name
-step-start : (state : State) (n : ℕ) (request : ControlRequest) (timeout device : ℕ) → Inv state → is_free state.futures n ≡ true → Step state (with_future state n request timeout device) [] (tickets_of state ∷ [])
+pub step-start : (state : State) (n : ℕ) (request : ControlRequest) (timeout device : ℕ) → Inv state → is_free state.futures n ≡ true → Step state (with_future state n request timeout device) [] (tickets_of state ∷ [])
 unfolding set_name
 step-start state n request timeout device inv free =
     let m = tickets_of state in
@@ -289,13 +320,14 @@ step-start state n request timeout device inv free =
         ];
         count = count.count ∙ omega (arith, inv.count, many);
         names = inv.names;
+        read = inv.read;
       };
       adds = λ t. let c = below t in omega arith;
       closes = All-nil (Closes host);
     }
 
 -- it is awaited, and its ticket taken at once
-step-control : (state : State) (host : HostState) → Inv state → CountsOneMore state.host host → AddsTaken state.host host → Step state (with_host state host) [] (tickets_of state ∷ [])
+pub step-control : (state : State) (host : HostState) → Inv state → CountsOneMore state.host host → AddsTaken state.host host → Step state (with_host state host) [] (tickets_of state ∷ [])
 step-control state host inv count adds =
     let m = tickets_of state in
     let many : length (tickets host.kernel.past) ≡ suc m = omega (arith, count.past) in
@@ -308,6 +340,7 @@ step-control state host inv count adds =
         waits = waits-keeps state host inv adds.goes;
         count = count.count ∙ omega (arith, inv.count, many);
         names = inv.names;
+        read = inv.read;
       };
       adds = λ t. let c = below t in omega arith;
       closes = All-nil (Closes host);
@@ -326,7 +359,7 @@ goes-parts old new (Some t) held parts =
       ];
     }
 
-step-free : (state : State) (n : ℕ) (f : FutureState) (host : HostState) → Inv state → named state.futures n ≡ Some f → Parts state.host host f.ticket → Step state (without_future_of state host n) [] []
+pub step-free : (state : State) (n : ℕ) (f : FutureState) (host : HostState) → Inv state → named state.futures n ≡ Some f → Parts state.host host f.ticket → Step state (without_future_of state host n) [] []
 unfolding freed
 step-free state n f host inv here parts =
     let fs = freed state.futures n in
@@ -353,15 +386,67 @@ step-free state n f host inv here parts =
         ];
         count = parts.count.count ∙ inv.count ∙ sym parts.count.past;
         names = inv.names;
+        read = inv.read;
       };
       adds = λ u. let b = among-kept parts.count u in omega arith;
       closes = All-nil (Closes host);
     }
 
+-- an endpoint goes to another place, which was free
+order-same : (host : HostState) (h g : Endpoint) → SameTickets h g → InOrder host h → InOrder host g
+order-same host h g same i =
+    record {
+      front = i.front;
+      back = i.back;
+      tickets = same.tickets ∙ i.tickets;
+      count = same.taken ∙ i.count;
+      taken = i.taken;
+      held = i.held;
+      rising = subst IsStrictlyIncreasing (sym same.tickets) i.rising;
+    }
+
+step-move : (state : State) (from to : ℕ) (h g : Endpoint) → Inv state → named state.endpoints from ≡ Some h → is_free state.endpoints to ≡ true → SameTickets h g → ((64 ≤ from → h.was_read ≡ true) → g.was_read ≡ true) → Step state (moved state from to g) [] []
+unfolding set_name freed
+step-move state from to h g inv here free same read =
+    let mid = freed state.endpoints from in
+    let es = set_name mid to g in
+    let still = free-still state.endpoints from to h here free in
+    let lists : (u : ℕ) → times_open u es ≡ times_open u state.endpoints = λ u.
+    let first = open-change tickets_in u nothing state.endpoints from (Some h) (place_of state.endpoints from h here) in
+    let second = open-change tickets_in u (something g) mid to None (free_place mid to still) in
+    let all : times u g.tickets ≡ times u h.tickets = ap (times u) same.tickets in omega arith in
+    let others : (d : ℕ) (x : Endpoint) → d ≢ to → named es d ≡ Some x → named state.endpoints d ≡ Some x = λ d x apart is. elim (cases_eq d from) [
+      | inl at ↦ absurd (none-some x (sym (named-freed state.endpoints from) ∙ (ap (named mid) (sym at) ∙ (sym (named-set_other mid to d g apart) ∙ is))))
+      | inr away ↦ sym (named-freed_other state.endpoints from d away) ∙ (sym (named-set_other mid to d g apart) ∙ is)
+    ] in
+    let there : (d : ℕ) (x : Endpoint) → d ≡ to → named es d ≡ Some x → g ≡ x = λ d x at is. same_Some g x (sym (named-set mid to g still) ∙ (ap (named es) (sym at) ∙ is)) in
+    record {
+      goes = goes-keeps state.host state.host (on-same state.host);
+      inv = record {
+        order = λ d x is. elim (cases_eq d to) [
+          | inl at ↦ subst (λ (y : Endpoint). InOrder state.host y) (there d x at is) (order-same state.host h g same (inv.order from h here))
+          | inr apart ↦ inv.order d x (others d x apart is)
+        ];
+        once = λ t. let was = inv.once t in let l = lists t in omega arith;
+        waits = inv.waits;
+        count = inv.count;
+        names = length-set_name mid to g ∙ (length-freed state.endpoints from ∙ inv.names);
+        read = λ d x is above. elim (cases_eq d to) [
+          | inl at ↦ ap (λ (y : Endpoint). y.was_read) (sym (there d x at is)) ∙ read (inv.read from h here)
+          | inr apart ↦ inv.read d x (others d x apart is) above
+        ];
+      };
+      adds = λ t. let l = lists t in omega arith;
+      closes = All-nil (Closes state.host);
+    }
+
 -- so is what an answer does
 acts-step : {few : Type 0} {a : Answer} {state : State} {closed : List ClosedEndpoint} {handed : List ℕ} → few → Acts few a state closed handed → Inv state → Step state a.state closed handed
 acts-step few (goes quiet rest) inv = let first = step-quiet inv quiet in step-then first (acts-step few rest first.inv)
-acts-step {state} few (opens e x free none zero_ rest) inv = let first = step-open state e x inv free none zero_ in step-then first (acts-step few rest first.inv)
+acts-step few (fits other rest) inv = acts-step few (rest few) inv
+acts-step {state} few (reads e t h above here front other rest) inv = let first = step-take state e t h inv here front in step-then first (acts-step few rest first.inv)
+acts-step {state} few (moves from to h g here free same read other quiet) inv = let first = step-move state from to h g inv here free same read in step-after first (step-quiet first.inv quiet)
+acts-step {state} few (opens e x free none zero_ outside rest) inv = let first = step-open state e x inv free none zero_ outside in step-then first (acts-step few rest first.inv)
 acts-step {state} few (submits e b h here within rest) inv = let first = step-push state e b h inv here in step-then first (acts-step few rest first.inv)
 acts-step {state} few (starts n request timeout device free rest) inv = let first = step-start state n request timeout device inv free in step-then first (acts-step few rest first.inv)
 acts-step {state} few (controls host one adds rest) inv = let first = step-control state host inv one (adds inv.count) in step-then first (acts-step few rest first.inv)
@@ -381,3 +466,7 @@ closed-step state e lines inv = acts-step (few-taken state inv) (closed-does sta
 
 pub future_closed-step : (state : State) (n : ℕ) → Inv state → Step state (future_closed_under state n) [] []
 future_closed-step state n inv = acts-step {few = Unit {0}} tt (future_closed_under-does state n) inv
+
+-- and what the end does with readers
+pub reader_closed-step : (state : State) (r : ℕ) (lines : ℕ → List (List ℕ)) → Inv state → Step state (reader_closed state r) (closed_under state lines (reader_place r)) []
+reader_closed-step state r lines inv = acts-step (few-taken state inv) (reader_closed-does state r lines) inv

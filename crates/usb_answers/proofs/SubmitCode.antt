@@ -82,9 +82,9 @@ pub submit-past : (r : Result Unit BufferState) (host now : HostState) (x y : En
 submit-past (Ok done) host now x y b ok err = subst (λ (h : HostState). Extends host.kernel.past h.kernel.past) (sym ok) (past-entered host x b)
 submit-past (Err back) host now x y b ok err = subst (λ (h : HostState). Extends host.kernel.past h.kernel.past) (sym err.1) (extends-same host.kernel.past)
 
-pub submit-key : (r : Result Unit BufferState) (host now : HostState) (x y : EndpointState) (t : ℕ) → OnOk r (y ≡ record x { pending = x.pending ++ t ∷ [] }) → OnErr r ((y ≡ x) × (now ≡ host)) → y.key ≡ x.key
-submit-key (Ok done) host now x y t ok err = ap (λ (h : EndpointState). h.key) ok
-submit-key (Err back) host now x y t ok err = ap (λ (h : EndpointState). h.key) err.0
+pub submit-same : {X : Type 0} (f : EndpointState → X) (of_others : (z : EndpointState) (ts : List ℕ) → f (record z { pending = ts }) ≡ f z) (r : Result Unit BufferState) (host now : HostState) (x y : EndpointState) (t : ℕ) → OnOk r (y ≡ record x { pending = x.pending ++ t ∷ [] }) → OnErr r ((y ≡ x) × (now ≡ host)) → f y ≡ f x
+submit-same f of_others (Ok done) host now x y t ok err = ap f ok ∙ of_others x (x.pending ++ t ∷ [])
+submit-same f of_others (Err back) host now x y t ok err = ap f err.0
 
 -- what holds where a call was not refused
 pub ok-holds : {A B P : Type 0} (r : Result A B) (x : A) → r ≡ Ok x → OnOk r P → P

@@ -114,9 +114,9 @@ wait-past law (Some c) host now x y timeout w vain =
 wait-past law None host now x y timeout found w =
     past-waited host now (waits.front_of x.pending) timeout false (by_steps law w.looks host (waits.front_of x.pending) timeout (false, now) w.ended)
 
-pub wait-key : (o : Option Completion) (timeout : ℕ) (host now : HostState) (x y : EndpointState) → IfSome o (λ c. WaitedNext bus_of host_turned host_turn host_taken timeout host x c now y) → IfNone o (WaitedInVain bus_of host_turned host_turn timeout host x now y) → y.key ≡ x.key
-wait-key (Some c) timeout host now x y found vain = ap (λ (h : EndpointState). h.key) found.took.next_is
-wait-key None timeout host now x y found vain = ap (λ (h : EndpointState). h.key) vain.next_is
+pub wait-same : {X : Type 0} (f : EndpointState → X) (of_others : (z : EndpointState) (ts : List ℕ) → f (record z { pending = ts }) ≡ f z) (o : Option Completion) (timeout : ℕ) (host now : HostState) (x y : EndpointState) → IfSome o (λ c. WaitedNext bus_of host_turned host_turn host_taken timeout host x c now y) → IfNone o (WaitedInVain bus_of host_turned host_turn timeout host x now y) → f y ≡ f x
+wait-same f of_others (Some c) timeout host now x y found vain = ap f found.took.next_is ∙ of_others x found.took.others
+wait-same f of_others None timeout host now x y found vain = ap f vain.next_is
 
 -- a blocking transfer by the host and by what its calls see of the endpoint
 abbrev count_of : HostState → ℕ

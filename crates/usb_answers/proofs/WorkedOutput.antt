@@ -50,6 +50,7 @@ use Rattle.usb_lines.specs.Settings.{configuration_line, no_configuration_line, 
 use Rattle.usb_lines.specs.Descriptors.{endpoint_words, class_words as interface_words, setting_words, configuration_words, descriptors_line}
 use Rattle.usb_words.specs.declared.endpoint_kind.EndpointKind.TheVariants.{BulkIn, BulkOut, InterruptIn, InterruptOut}
 use Rattle.usb_words.specs.declared.control.Setup.{Setup}
+use Rattle.usb_words.specs.declared.framing.Framing.TheVariants.{Plain, UntilShort}
 use Rattle.usb_words.specs.declared.control.ControlTarget.TheVariants.{Device}
 use Rattle.usb_script.specs.declared.item.Item.{Item}
 use Rattle.usb_script.specs.declared.item.Item.TheVariants as item
@@ -72,6 +73,11 @@ use Rattle.usb_answers.specs.Configurations.{active_answer, speed_answer, set_co
 use Rattle.usb_answers.specs.Drivers.{detach_answer, attach_answer}
 use Rattle.usb_answers.specs.Settings.{set_alt_setting_answer, get_alt_setting_answer, interface_descriptor_answer}
 use Rattle.usb_answers.specs.Halts.{clear_halt_answer}
+use Rattle.usb_stream_lines.specs.Faults.{io_line}
+use Rattle.usb_stream_lines.specs.Reads.{read_line, buffer_line}
+use Rattle.usb_streams.specs.HostReads.{fill_came}
+use Rattle.usb_answers.specs.Readers.{reader_answer, inner_answer, num_answer, timeout_answer, cancel_reader_answer, close_reader_answer, reader_closed}
+use Rattle.usb_answers.specs.Reads.{read_answer, poll_read_answer, fill_answer, poll_fill_answer, consume_answer, is_end_answer, consume_end_answer}
 use Rattle.usb_answers.specs.Controls.{control_answer}
 use Rattle.usb_answers.specs.Futures.{start_answer, poll_future_answer, wait_future_answer}
 use Rattle.usb_answers.specs.Closes.{cancel_answer, close_answer, close_future_answer, close_device_answer, close_interface_answer, release_answer, closed}
@@ -83,7 +89,7 @@ use Rattle.usb_answers.specs.Served.{ClosedEndpoint, closed_endpoints, control_t
 
 -- all that an output unfolds
 unfoldable output_on_literals : ⊤
-unfolding output start answer control_answer start_answer poll_future_answer wait_future_answer close_future_answer future_closed_under host_started host_awaited timer_turned data_line failed_line languages_told string_told utf16_chars encode now_answer open_answer device_descriptor_answer descriptors_answer claim_answer endpoint_answer submit_answer pending_answer poll_answer wait_answer transfer_answer cancel_answer close_answer clone_device_answer clone_interface_answer active_answer speed_answer set_configuration_answer reset_answer detach_answer attach_answer set_alt_setting_answer get_alt_setting_answer interface_descriptor_answer clear_halt_answer close_device_answer close_interface_answer release_answer steps_answer stepped_all closed interface_closed name_closed all_closed ended fate_line fate_lines named is_free change_named freed set_name is_used_among is_owned_among claim_ended claim_of owner_gone settled endpoint_left endpoints_left device_changed called descriptors_tried open_tried host_opened open_key host_claimed host_asked endpoint_of_setting host_tries host_submitted host_refused host_discarded host_left host_ended host_taken host_abandoned came host_stepped host_reaped host_waited host_blocked handle_closed handle_cloned after_reset host_detached host_attached host_reset host_configured host_speed_asked speed_of_code alt_setting_set finished transfer_completion completion unreaped chain groups concatenated configurations interfaces_among hex_word error_line done_line count_line now_line ticket_line device_line class_words product_words string_words class_code endpoint_words interface_words setting_words configuration_words descriptors_line configuration_line no_configuration_line speed_line alt_setting_line digits encode_with
+unfolding output start answer reader_answer inner_answer num_answer timeout_answer cancel_reader_answer close_reader_answer reader_closed read_answer poll_read_answer fill_answer poll_fill_answer consume_answer is_end_answer consume_end_answer fill_came read_line buffer_line io_line control_answer start_answer poll_future_answer wait_future_answer close_future_answer future_closed_under host_started host_awaited timer_turned data_line failed_line languages_told string_told utf16_chars encode now_answer open_answer device_descriptor_answer descriptors_answer claim_answer endpoint_answer submit_answer pending_answer poll_answer wait_answer transfer_answer cancel_answer close_answer clone_device_answer clone_interface_answer active_answer speed_answer set_configuration_answer reset_answer detach_answer attach_answer set_alt_setting_answer get_alt_setting_answer interface_descriptor_answer clear_halt_answer close_device_answer close_interface_answer release_answer steps_answer stepped_all closed interface_closed name_closed all_closed ended fate_line fate_lines named is_free change_named freed set_name is_used_among is_owned_among claim_ended claim_of owner_gone settled endpoint_left endpoints_left device_changed called descriptors_tried open_tried host_opened open_key host_claimed host_asked endpoint_of_setting host_tries host_submitted host_refused host_discarded host_left host_ended host_taken host_abandoned came host_stepped host_reaped host_waited host_blocked handle_closed handle_cloned after_reset host_detached host_attached host_reset host_configured host_speed_asked speed_of_code alt_setting_set finished transfer_completion completion unreaped chain groups concatenated configurations interfaces_among hex_word error_line done_line count_line now_line ticket_line device_line class_words product_words string_words class_code endpoint_words interface_words setting_words configuration_words descriptors_line configuration_line no_configuration_line speed_line alt_setting_line digits encode_with
 output_on_literals = tt
 
 -- a line of a script, the item that it is, and the line that it is answered, which is empty where it has no answer
@@ -537,6 +543,61 @@ configurations_and_reset : IsWorkedOut
     []
 unfolding script_on_literals output_on_literals
 configurations_and_reset = (refl, refl)
+
+-- a reader of transfers of two packets, which ends at short packets: a message of a full and a short packet, and an empty one; then
+-- it keeps none pending, and a read of its own finds nothing more
+messages : IsWorkedOut
+    ((codes "device k0 1 6 2 7 1201000200000040aaaabbbb0001000000010902200001070080320904050002030000000705810304000a0705020304000a", item.Device 0 1 6 2 7 interrupt_bytes, [])
+    ∷ (codes "open d0 1 6", item.Open 0 1 6, codes "ok")
+    ∷ (codes "claim d0 5 i0", item.Claim 0 5 0, codes "ok")
+    ∷ (codes "endpoint e0 i0 81 int-in", item.Endpoint 0 0 129 InterruptIn, codes "ok")
+    ∷ (codes "reader r0 e0 5", item.Reader 0 0 5, codes "ok")
+    ∷ (codes "num r0 2", item.SetNumTransfers 0 2, codes "ok")
+    ∷ (codes "! pkt k0 81 11111111 ; pkt k0 81 2222", item.Steps (Packet 0 129 (17 ∷ 17 ∷ 17 ∷ 17 ∷ []) ∷ Packet 0 129 (34 ∷ 34 ∷ []) ∷ []), [])
+    ∷ (codes "sread r0 5", item.Read UntilShort 0 5 [], codes "read 5 1111111122")
+    ∷ (codes "isend r0", item.IsEnd 0, codes "end false")
+    ∷ (codes "pollsread r0 5", item.PollRead UntilShort 0 5, codes "read 1 22")
+    ∷ (codes "sread r0 5", item.Read UntilShort 0 5 [], codes "read 0 -")
+    ∷ (codes "endmsg r0", item.ConsumeEnd 0, codes "ok")
+    ∷ (codes "endmsg r0", item.ConsumeEnd 0, codes "expected short packet")
+    ∷ (codes "sfill r0 : pkt k0 81 -", item.FillBuf UntilShort 0 (Packet 0 129 [] ∷ []), codes "buf 0 -")
+    ∷ (codes "isend r0", item.IsEnd 0, codes "end true")
+    ∷ (codes "cancel r0", item.CancelReader 0, codes "ok")
+    ∷ (codes "read r0 4 : reap", item.Read Plain 0 4 (Reap None ∷ []), codes "read 0 -")
+    ∷ [])
+    (codes "ticket 0 k0 81 ok 6 taken"
+    ∷ codes "ticket 1 k0 81 ok 0 taken"
+    ∷ codes "ticket 2 k0 81 cancelled 0 taken" ∷ [])
+unfolding script_on_literals output_on_literals
+messages = (refl, refl)
+
+-- bytes that stand are lent and taken off, a read times out, a fault lasts, and the endpoint comes back; what is barred does nothing
+further_reads : IsWorkedOut
+    (with_endpoint
+    ((codes "reader r3 e0 64", item.Reader 3 0 64, codes "ok")
+    ∷ (codes "reader r3 e0 64", item.Reader 3 0 64, codes "condition")
+    ∷ (codes "fill r3 : pkt k0 81 010203", item.FillBuf Plain 3 (Packet 0 129 (1 ∷ 2 ∷ 3 ∷ []) ∷ []), codes "buf 3 010203")
+    ∷ (codes "consume r3 4", item.Consume Plain 3 4, codes "condition")
+    ∷ (codes "sconsume r3 1", item.Consume UntilShort 3 1, codes "ok")
+    ∷ (codes "read r3 1", item.Read Plain 3 1 [], codes "read 1 02")
+    ∷ (codes "consume r3 1", item.Consume Plain 3 1, codes "ok")
+    ∷ (codes "timeout r3 7", item.SetReadTimeout 3 7, codes "ok")
+    ∷ (codes "read r3 1 : clock 7", item.Read Plain 3 1 (Clock 7 ∷ []), codes "io TimedOut timeout waiting for read")
+    ∷ (codes "pollfill r3", item.PollFillBuf Plain 3, codes "pending")
+    ∷ (codes "num r3 65", item.SetNumTransfers 3 65, codes "condition")
+    ∷ (codes "read r3 1 : fail k0 81 32", item.Read Plain 3 1 (Fail 0 129 32 ∷ []), codes "io ConnectionReset endpoint stalled")
+    ∷ (codes "pollsread r3 1", item.PollRead UntilShort 3 1, codes "io ConnectionReset endpoint stalled")
+    ∷ (codes "inner e5 r3", item.IntoInner 5 3, codes "ok")
+    ∷ (codes "isend r3", item.IsEnd 3, codes "condition")
+    ∷ (codes "reader r0 e5 1", item.Reader 0 5 1, codes "ok")
+    ∷ (codes "num r0 2", item.SetNumTransfers 0 2, codes "ok")
+    ∷ (codes "close r0", item.CloseReader 0, codes "ok")
+    ∷ []))
+    (codes "ticket 0 k0 81 ok 3 taken"
+    ∷ codes "ticket 1 k0 81 stall 0 taken"
+    ∷ codes "ticket 2 k0 81 cancelled 0 reclaimed" ∷ [])
+unfolding script_on_literals output_on_literals
+further_reads = (refl, refl)
 
 -- a control transfer of the vendor's request 30 to the device, with no value and no index
 abbrev vendor_request : ℕ → Setup

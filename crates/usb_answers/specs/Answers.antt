@@ -2,9 +2,10 @@
 use Rattle.std.specs.Prelude.{true, false}
 use Rattle.usb_desc.specs.declared.types.Direction.TheVariants as direction
 use Rattle.usb_script.specs.declared.item.Item.{Item}
-use Rattle.usb_script.specs.declared.item.Item.TheVariants.{Device, Driver, Attribute, Denied, Child, Link, Entry, Root, Uevent, List, Buses, Probe, Match, Hotplug, OpenPath, Now, Open, DeviceDescriptor, Descriptors, CloneDevice, CloseDevice, ActiveConfiguration, Speed, SetConfiguration, Reset, DetachDriver, AttachDriver, Claim, DetachAndClaim, CloneInterface, CloseInterface, SetAltSetting, GetAltSetting, InterfaceDescriptor, Release, Endpoint, SubmitIn, SubmitOut, Pending, Poll, Wait, TransferIn, TransferOut, Cancel, ClearHalt, CloseEndpoint, ControlIn, ControlOut, GetDescriptor, SupportedLanguages, StringDescriptor, StartControlIn, StartControlOut, PollFuture, WaitFuture, CloseFuture, Steps}
+use Rattle.usb_script.specs.declared.item.Item.TheVariants.{Device, Driver, Attribute, Denied, Child, Link, Entry, Root, Uevent, List, Buses, Probe, Match, Hotplug, OpenPath, Now, Open, DeviceDescriptor, Descriptors, CloneDevice, CloseDevice, ActiveConfiguration, Speed, SetConfiguration, Reset, DetachDriver, AttachDriver, Claim, DetachAndClaim, CloneInterface, CloseInterface, SetAltSetting, GetAltSetting, InterfaceDescriptor, Release, Endpoint, SubmitIn, SubmitOut, Pending, Poll, Wait, TransferIn, TransferOut, Cancel, ClearHalt, CloseEndpoint, Reader, IntoInner, SetNumTransfers, SetReadTimeout, CancelReader, CloseReader, Read, PollRead, FillBuf, PollFillBuf, Consume, IsEnd, ConsumeEnd, ControlIn, ControlOut, GetDescriptor, SupportedLanguages, StringDescriptor, StartControlIn, StartControlOut, PollFuture, WaitFuture, CloseFuture, Steps}
 use Rattle.usb_words.specs.EndpointKinds.{transfer_type_of, direction_of}
 use Rattle.usb_answers.specs.State.{State}
+use Rattle.usb_answers.specs.ReaderAt.{endpoint_place}
 use Rattle.usb_answers.specs.Answer.{Answer, silent}
 use Rattle.usb_answers.specs.Now.{now_answer}
 use Rattle.usb_answers.specs.Opens.{open_answer, open_path_answer}
@@ -28,6 +29,8 @@ use Rattle.usb_answers.specs.Halts.{clear_halt_answer}
 use Rattle.usb_answers.specs.Closes.{cancel_answer, close_answer, close_future_answer, close_device_answer, close_interface_answer, release_answer}
 use Rattle.usb_answers.specs.Controls.{request_for, request_with, control_in_answer, control_out_answer, get_descriptor_answer, languages_answer, string_answer}
 use Rattle.usb_answers.specs.Futures.{start_answer, poll_future_answer, wait_future_answer}
+use Rattle.usb_answers.specs.Readers.{reader_answer, inner_answer, num_answer, timeout_answer, cancel_reader_answer, close_reader_answer}
+use Rattle.usb_answers.specs.Reads.{read_answer, poll_read_answer, fill_answer, poll_fill_answer, consume_answer, is_end_answer, consume_end_answer}
 use Rattle.usb_answers.specs.Steps.{steps_answer}
 
 -- a setup line took effect before the first call
@@ -67,17 +70,30 @@ answer state (SetAltSetting i setting) = set_alt_setting_answer state i setting
 answer state (GetAltSetting i) = get_alt_setting_answer state i
 answer state (InterfaceDescriptor i) = interface_descriptor_answer state i
 answer state (Release i) = release_answer state i
-answer state (Endpoint e i address kind) = endpoint_answer state e i address (transfer_type_of kind) (direction_of kind)
-answer state (SubmitIn e n) = submit_answer state direction.In e (in_buffer n)
-answer state (SubmitOut e bytes) = submit_answer state direction.Out e (out_buffer bytes)
-answer state (Pending e) = pending_answer state e
-answer state (Poll e) = poll_answer state e
-answer state (Wait e timeout steps) = wait_answer state e timeout steps
-answer state (TransferIn e n timeout steps) = transfer_answer state direction.In e (in_buffer n) timeout steps
-answer state (TransferOut e bytes timeout steps) = transfer_answer state direction.Out e (out_buffer bytes) timeout steps
-answer state (Cancel e) = cancel_answer state e
-answer state (ClearHalt e) = clear_halt_answer state e
-answer state (CloseEndpoint e) = close_answer state e
+answer state (Endpoint e i address kind) = endpoint_answer state (endpoint_place e) i address (transfer_type_of kind) (direction_of kind)
+answer state (SubmitIn e n) = submit_answer state direction.In (endpoint_place e) (in_buffer n)
+answer state (SubmitOut e bytes) = submit_answer state direction.Out (endpoint_place e) (out_buffer bytes)
+answer state (Pending e) = pending_answer state (endpoint_place e)
+answer state (Poll e) = poll_answer state (endpoint_place e)
+answer state (Wait e timeout steps) = wait_answer state (endpoint_place e) timeout steps
+answer state (TransferIn e n timeout steps) = transfer_answer state direction.In (endpoint_place e) (in_buffer n) timeout steps
+answer state (TransferOut e bytes timeout steps) = transfer_answer state direction.Out (endpoint_place e) (out_buffer bytes) timeout steps
+answer state (Cancel e) = cancel_answer state (endpoint_place e)
+answer state (ClearHalt e) = clear_halt_answer state (endpoint_place e)
+answer state (CloseEndpoint e) = close_answer state (endpoint_place e)
+answer state (Reader r e size) = reader_answer state r (endpoint_place e) size
+answer state (IntoInner e r) = inner_answer state (endpoint_place e) r
+answer state (SetNumTransfers r n) = num_answer state r n
+answer state (SetReadTimeout r timeout) = timeout_answer state r timeout
+answer state (CancelReader r) = cancel_reader_answer state r
+answer state (CloseReader r) = close_reader_answer state r
+answer state (Read framing r most steps) = read_answer state framing r most steps
+answer state (PollRead framing r most) = poll_read_answer state framing r most
+answer state (FillBuf framing r steps) = fill_answer state framing r steps
+answer state (PollFillBuf framing r) = poll_fill_answer state framing r
+answer state (Consume framing r n) = consume_answer state framing r n
+answer state (IsEnd r) = is_end_answer state r
+answer state (ConsumeEnd r) = consume_end_answer state r
 answer state (ControlIn target setup wanted timeout steps) = control_in_answer state target setup wanted timeout steps
 answer state (ControlOut target setup bytes timeout steps) = control_out_answer state target setup bytes timeout steps
 answer state (GetDescriptor d kind index language timeout steps) = get_descriptor_answer state d kind index language timeout steps

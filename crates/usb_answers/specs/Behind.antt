@@ -1,19 +1,13 @@
 -- How a script goes on.
-use Rattle.std.specs.Prelude.{List, [], ◌∷◌}
+use Rattle.std.specs.Prelude.{List}
 use Rattle.usb_kernel.specs.Extends.{Extends}
 use Rattle.usb_script.specs.declared.item.Item.{Item}
 use Rattle.usb_host.specs.HostState.{HostState}
 use Rattle.usb_device.specs.EndLaws.{KeepsEnds}
-use Rattle.usb_answers.specs.State.{State}
 use Rattle.usb_answers.specs.Answers.{answer}
 use Rattle.usb_answers.specs.Ends.{ended}
-use Rattle.usb_answers.specs.Output.{start}
+use Rattle.usb_answers.specs.Output.{start, behind}
 use Rattle.usb_answers.specs.Accounts.{Accounted}
-
--- the state behind these items
-abbrev pub behind : State → List Item → State
-behind state [] = state
-behind state (item ∷ items) = behind (answer state item).state items
 
 -- the journal goes on, and a ticket that has its end keeps it
 pub record GoesOnTo (old new : HostState) : Type 0 where

@@ -1,5 +1,5 @@
 -- `endpoint`: an endpoint of a claimed interface is opened. It is barred where the interface is not open, or the endpoint's name is in use.
-use Rattle.std.specs.Prelude.{ℕ, [], length, Result, Ok, Err, if◌then◌else◌}
+use Rattle.std.specs.Prelude.{ℕ, false, [], length, Result, Ok, Err, if◌then◌else◌}
 use Rattle.usb_desc.specs.declared.types.Direction.{Direction}
 use Rattle.usb_desc.specs.declared.types.TransferType.{TransferType}
 use Rattle.usb_error.specs.ErrorState.{ErrorState}
@@ -13,7 +13,7 @@ use Rattle.usb_answers.specs.Answer.{Answer, barred, ok_answer, error_answer, if
 -- an endpoint with no ticket, and the next key
 abbrev pub new_endpoint : HostState → ℕ → ℕ → TransferType → ℕ → Endpoint
 new_endpoint h device address kind maximum =
-    record { device = device; address = address; kind = kind; maximum = maximum; key = length h.endpoints; tickets = []; taken = 0 }
+    record { device = device; address = address; kind = kind; maximum = maximum; key = length h.endpoints; tickets = []; taken = 0; was_read = false }
 
 -- by what the host answers: the endpoint is open under its name, or the error is printed
 abbrev pub endpoint_as : State → ℕ → ℕ → TransferType → InterfaceAt → Result ℕ ErrorState → Answer

@@ -1,7 +1,7 @@
--- Which lines are calls on what is open or on the tree, and which of these are control transfers, or on interfaces and endpoints.
+-- Which lines are calls on what is open or on the tree, and which of these are control transfers, or on interfaces, endpoints and readers.
 use Rattle.std.specs.Prelude.{Bool, true, false}
 use Rattle.usb_script.specs.declared.item.Item.{Item}
-use Rattle.usb_script.specs.declared.item.Item.TheVariants.{Device, Driver, Attribute, Denied, Child, Link, Entry, Root, Uevent, List, Buses, Probe, Match, Hotplug, OpenPath, Now, CloneInterface, CloseInterface, SetAltSetting, GetAltSetting, InterfaceDescriptor, Release, Endpoint, SubmitIn, SubmitOut, Pending, Poll, Wait, TransferIn, TransferOut, Cancel, ClearHalt, CloseEndpoint, ControlIn, ControlOut, GetDescriptor, SupportedLanguages, StringDescriptor, StartControlIn, StartControlOut, PollFuture, WaitFuture, CloseFuture, Steps}
+use Rattle.usb_script.specs.declared.item.Item.TheVariants.{Device, Driver, Attribute, Denied, Child, Link, Entry, Root, Uevent, List, Buses, Probe, Match, Hotplug, OpenPath, Now, CloneInterface, CloseInterface, SetAltSetting, GetAltSetting, InterfaceDescriptor, Release, Endpoint, SubmitIn, SubmitOut, Pending, Poll, Wait, TransferIn, TransferOut, Cancel, ClearHalt, CloseEndpoint, Reader, IntoInner, SetNumTransfers, SetReadTimeout, CancelReader, CloseReader, Read, PollRead, FillBuf, PollFillBuf, Consume, IsEnd, ConsumeEnd, ControlIn, ControlOut, GetDescriptor, SupportedLanguages, StringDescriptor, StartControlIn, StartControlOut, PollFuture, WaitFuture, CloseFuture, Steps}
 
 -- those on an endpoint: they hand a transfer in, ask for one, wait, cancel, clear its halt or close
 abbrev pub is_of_endpoint : Item → Bool
@@ -16,6 +16,27 @@ is_of_endpoint (Cancel e) = true
 is_of_endpoint (ClearHalt e) = true
 is_of_endpoint (CloseEndpoint e) = true
 is_of_endpoint item = false
+
+-- those by which a reader is made of an endpoint, set, cancelled or closed
+abbrev pub sets_reader : Item → Bool
+sets_reader (Reader r e size) = true
+sets_reader (IntoInner e r) = true
+sets_reader (SetNumTransfers r n) = true
+sets_reader (SetReadTimeout r timeout) = true
+sets_reader (CancelReader r) = true
+sets_reader (CloseReader r) = true
+sets_reader item = false
+
+-- those on a reader: these, and those that read
+abbrev pub is_of_reader : Item → Bool
+is_of_reader (Read framing r most steps) = true
+is_of_reader (PollRead framing r most) = true
+is_of_reader (FillBuf framing r steps) = true
+is_of_reader (PollFillBuf framing r) = true
+is_of_reader (Consume framing r n) = true
+is_of_reader (IsEnd r) = true
+is_of_reader (ConsumeEnd r) = true
+is_of_reader item = sets_reader item
 
 -- those by which a device is asked for a descriptor
 abbrev pub asks_descriptor : Item → Bool
@@ -56,7 +77,7 @@ is_of_tree Hotplug = true
 is_of_tree (OpenPath d path) = true
 is_of_tree item = false
 
--- those on a device (`open` too), on an interface or on an endpoint, but for control transfers
+-- those on a device (`open` too), on an interface or on an endpoint, but for control transfers and readers
 abbrev pub is_of_handle : Item → Bool
 is_of_handle (Device k bus address speed configuration descriptors) = false
 is_of_handle (Driver k number) = false
@@ -83,6 +104,19 @@ is_of_handle (StartControlOut n target setup bytes timeout) = false
 is_of_handle (PollFuture n) = false
 is_of_handle (WaitFuture n steps) = false
 is_of_handle (CloseFuture n) = false
+is_of_handle (Reader r e size) = false
+is_of_handle (IntoInner e r) = false
+is_of_handle (SetNumTransfers r n) = false
+is_of_handle (SetReadTimeout r timeout) = false
+is_of_handle (CancelReader r) = false
+is_of_handle (CloseReader r) = false
+is_of_handle (Read framing r most steps) = false
+is_of_handle (PollRead framing r most) = false
+is_of_handle (FillBuf framing r steps) = false
+is_of_handle (PollFillBuf framing r) = false
+is_of_handle (Consume framing r n) = false
+is_of_handle (IsEnd r) = false
+is_of_handle (ConsumeEnd r) = false
 is_of_handle Now = false
 is_of_handle (Steps steps) = false
 is_of_handle item = true

@@ -1,3 +1,4 @@
+pub mod BareReaders
 pub mod State
 pub mod Answer
 pub mod OpenAt
@@ -24,6 +25,9 @@ pub mod Transfers
 pub mod Halts
 pub mod Closes
 pub mod Futures
+pub mod ReaderAt
+pub mod Readers
+pub mod Reads
 pub mod Ends
 pub mod Fates
 pub mod EndWords
@@ -34,6 +38,7 @@ pub mod SessionState
 pub mod Relation
 pub mod Answered
 pub mod OpenCalls
+pub mod ReaderCalls
 pub mod TargetCalls
 pub mod SessionFacts
 pub mod AnyOpened
@@ -43,3 +48,4 @@ pub mod FinalFates
 pub mod Places
 pub mod Served
 pub mod Behind
+pub mod Framed

@@ -15,14 +15,15 @@ use Rattle.usb_answers.specs.Relation.{Represents}
 use Rattle.usb_answers.specs.Answered.{Answered}
 
 -- what is open stays open, steps are taken from the front of the line alone, the journal goes on,
--- the endpoint stands under its key, and what endpoints of other keys hold has not ended; x is the
--- endpoint before the call, and y after it
+-- the endpoint stands under its key with its maximum packet size, and what endpoints of other keys
+-- hold has not ended; x is the endpoint before the call, and y after it
 pub record CallKeeps (old new : HostState) (x y : EndpointState) : Type 0 where
   pub line : LineGoesOn old new
   pub past : Extends old.kernel.past new.kernel.past
   pub stands : Stands (bus_of new) y
   pub others : KeepsOthers (bus_of old) (bus_of new) x.key
   pub key : y.key ≡ x.key
+  pub maximum : y.maximum ≡ x.maximum
 
 -- the session with the host and the endpoint that the call left
 abbrev pub with_called : SessionState → ℕ → HostState → EndpointState → SessionState

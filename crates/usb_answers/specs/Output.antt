@@ -53,7 +53,8 @@ start items =
       host = host_of (record { past = []; devices = map fresh_device (devices_of items); clock = 0; armed = []; spare = place_count items });
       devices = replicate 64 None;
       interfaces = replicate 64 None;
-      endpoints = replicate 64 None;
+      endpoints = replicate 128 None;
+      readers = replicate 64 None;
       futures = replicate 64 None;
       tree = tree_of items;
       packets = packets_of items;
@@ -63,6 +64,11 @@ start items =
 abbrev pub output_from : State → List Item → List ℕ
 output_from state [] = fate_lines (ended state)
 output_from state (item ∷ items) = (answer state item).line ++ output_from (answer state item).state items
+
+-- the state behind these items
+abbrev pub behind : State → List Item → State
+behind state [] = state
+behind state (item ∷ items) = behind (answer state item).state items
 
 -- the host after these items and the end of the session
 abbrev pub last_host : State → List Item → HostState

@@ -7,6 +7,7 @@ use Rattle.usb_script.specs.declared.item.Item.TheVariants.{Poll}
 use Rattle.usb_lines.specs.Completions.{done_line, polled_line}
 use Rattle.usb_names.specs.Names.{named}
 use Rattle.usb_answers.specs.State.{State, Endpoint}
+use Rattle.usb_answers.specs.ReaderAt.{endpoint_place}
 use Rattle.usb_answers.specs.Answer.{Answer}
 use Rattle.usb_answers.specs.Answers.{answer}
 use Rattle.usb_answers.specs.Served.{taken_under}
@@ -15,7 +16,7 @@ use Rattle.usb_answers.specs.Served.{taken_under}
 -- and `pending` exactly where it has none
 abbrev pub PollsAnswerForTheirPlace : Type 0
 PollsAnswerForTheirPlace =
-    (state : State) (e : ℕ) (h : Endpoint) (t : ℕ) → named state.endpoints e ≡ Some h → slice_get h.tickets h.taken ≡ Some t →
+    (state : State) (e : ℕ) (h : Endpoint) (t : ℕ) → named state.endpoints (endpoint_place e) ≡ Some h → slice_get h.tickets h.taken ≡ Some t →
     (answer state (Poll e)).line ≡ polled_line (transfer_completion state.host.kernel.past t)
 
 -- an answer takes a ticket from what is open under some name

@@ -3,9 +3,9 @@ use Rattle.std.specs.Prelude.{ℕ, ◌≡◌, ◌≤◌, Some, length, map}
 use Rattle.std.specs.Option.{option_map}
 use Rattle.usb_answers.specs.SessionState.{SessionState}
 use Rattle.usb_names.specs.Names.{named}
-use Rattle.usb_answers.specs.State.{State, Endpoint, kept}
+use Rattle.usb_answers.specs.State.{State, Endpoint, Reader, kept}
 
--- what a session keeps of a state: of each endpoint the tickets that were not taken
+-- what a session keeps of a state: of each endpoint the tickets that were not taken, and of each reader not what it consumed
 abbrev pub session_of : State → SessionState
 session_of state =
     record {
@@ -13,6 +13,7 @@ session_of state =
       devices = state.devices;
       interfaces = state.interfaces;
       endpoints = map (option_map kept) state.endpoints;
+      readers = map (option_map (λ (x : Reader). x.bare)) state.readers;
       futures = state.futures;
       tree = state.tree;
       packets = state.packets;

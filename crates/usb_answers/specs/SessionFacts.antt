@@ -1,31 +1,48 @@
 -- What is true of all sessions.
-use Rattle.std.specs.Prelude.{ℕ, List, Option, map}
+use Rattle.std.specs.Prelude.{ℕ, List, Option, map, ◌++◌}
 use Rattle.std.specs.Option.{option_map}
 use Rattle.usb_sysfs.specs.Tree.{Tree}
 use Rattle.usb_enum.specs.declared.hotplug.UdevPacket.{UdevPacket}
 use Rattle.usb_endpoint.specs.declared.any_endpoint.AnyEndpoint.{AnyEndpoint}
 use Rattle.usb_endpoint.specs.AnyEndpoints.{state_of}
+use Rattle.usb_endpoint.specs.EndpointState.{EndpointState}
 use Rattle.usb_host.specs.HostState.{HostState}
 use Rattle.usb_device.specs.HandleStates.{InterfaceState}
 use Rattle.usb_device.specs.Futures.{FutureState}
+use Rattle.usb_io.specs.declared.any_reader.AnyReader.{AnyReader}
+use Rattle.usb_io.specs.AnyReaders.{reader_of}
 use Rattle.usb_answers.specs.declared.session.Session.TheInside.{Inside}
+use Rattle.usb_answers.specs.BareReaders.{BareReader, bare_of}
 use Rattle.usb_answers.specs.SessionState.{SessionState, IsSound}
 
+-- the endpoint of a reader
+abbrev pub endpoint_of : AnyReader → EndpointState
+endpoint_of r = (reader_of r).endpoint
+
+-- and the rest of it
+abbrev pub bare_reader_of : AnyReader → BareReader
+bare_reader_of r = bare_of (reader_of r)
+
+-- the endpoints that are open, and behind them those of the readers
+abbrev pub endpoints_with : List (Option AnyEndpoint) → List (Option AnyReader) → List (Option EndpointState)
+endpoints_with endpoints readers = map (option_map state_of) endpoints ++ map (option_map endpoint_of) readers
+
 -- a session by its parts
-abbrev pub session_made : Tree → List UdevPacket → HostState → List (Option ℕ) → List (Option InterfaceState) → List (Option AnyEndpoint) → List (Option FutureState) → SessionState
-session_made tree packets host devices interfaces endpoints futures =
+abbrev pub session_made : Tree → List UdevPacket → HostState → List (Option ℕ) → List (Option InterfaceState) → List (Option AnyEndpoint) → List (Option AnyReader) → List (Option FutureState) → SessionState
+session_made tree packets host devices interfaces endpoints readers futures =
     record {
       host = host;
       devices = devices;
       interfaces = interfaces;
-      endpoints = map (option_map state_of) endpoints;
+      endpoints = endpoints_with endpoints readers;
+      readers = map (option_map bare_reader_of) readers;
       futures = futures;
       tree = tree;
       packets = packets;
     }
 
 abbrev pub made_of : Inside → SessionState
-made_of s = session_made s.tree s.watch s.host s.devices.items s.interfaces.items s.endpoints.items s.futures.items
+made_of s = session_made s.tree s.watch s.host s.devices.items s.interfaces.items s.endpoints.items s.readers.items s.futures.items
 
 abbrev pub IsSoundInside : Inside → Type 0
 IsSoundInside s = IsSound (made_of s)

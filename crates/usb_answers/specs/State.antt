@@ -1,5 +1,5 @@
 -- The state that answers depend on.
-use Rattle.std.specs.Prelude.{ℕ, List, Option, drop, length}
+use Rattle.std.specs.Prelude.{ℕ, Bool, List, Option, drop, length}
 use Rattle.usb_desc.specs.declared.types.TransferType.{TransferType}
 use Rattle.usb_kernel.specs.Tickets.{tickets}
 use Rattle.usb_sysfs.specs.Tree.{Tree}
@@ -8,8 +8,11 @@ use Rattle.usb_endpoint.specs.EndpointState.{EndpointState}
 use Rattle.usb_host.specs.HostState.{HostState}
 use Rattle.usb_device.specs.HandleStates.{InterfaceState}
 use Rattle.usb_device.specs.Futures.{FutureState}
+use Rattle.usb_io.specs.Streams.{Item}
+use Rattle.usb_answers.specs.BareReaders.{BareReader}
 
--- an open endpoint: where its submissions go, its tickets in the order of submission, and how many of them were taken
+-- an open endpoint: where its submissions go, its tickets in the order of submission, how many of them were taken, and
+-- whether a reader was made of it
 pub record Endpoint : Type 0 where
   pub device : ℕ
   pub address : ℕ
@@ -18,14 +21,25 @@ pub record Endpoint : Type 0 where
   pub key : ℕ
   pub tickets : List ℕ
   pub taken : ℕ
+  pub was_read : Bool
 
--- the host, and what is open by the number of its name: the keys of devices, the interfaces, the endpoints, and the
--- control transfers on their way (futures); the tree of attributes, and the packets of udev that are still to be looked at
+-- an open reader but for its endpoint. While it is framed (its endpoint had no ticket before, and it is read until short
+-- packets alone) also what it consumed: the bytes that reads handed over or `sconsume` took off, and the ends that
+-- `endmsg` did
+pub record Reader : Type 0 where
+  pub bare : BareReader
+  pub consumed : Option (List Item)
+
+-- the host, and what is open by the number of its name: the keys of devices, the interfaces, the endpoints, the readers, and
+-- the control transfers on their way (futures); the tree of attributes, and the packets of udev that are still to be looked
+-- at. The list of endpoints has those of the readers, too: behind the 64 with names of endpoints, by the numbers of the
+-- readers' names
 pub record State : Type 0 where
   pub host : HostState
   pub devices : List (Option ℕ)
   pub interfaces : List (Option InterfaceState)
   pub endpoints : List (Option Endpoint)
+  pub readers : List (Option Reader)
   pub futures : List (Option FutureState)
   pub tree : Tree
   pub packets : List UdevPacket

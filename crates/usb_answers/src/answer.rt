@@ -5,7 +5,7 @@ ghost use Rattle.usb_script.specs.ItemKinds.{places_in};
 ghost use Rattle.usb_answers.specs.State.{State};
 ghost use Rattle.usb_answers.specs.Answered.{Answers};
 ghost use Rattle.usb_answers.specs.Answers.{answer};
-ghost use Rattle.usb_answers.specs.Kinds.{is_of_endpoint, is_of_interface, is_of_handle, is_of_control, asks_descriptor, is_of_tree};
+ghost use Rattle.usb_answers.specs.Kinds.{is_of_endpoint, is_of_interface, is_of_handle, is_of_reader, sets_reader, is_of_control, asks_descriptor, is_of_tree};
 
 use crate::session::Session;
 use usb_desc::NoMemory;
@@ -81,7 +81,7 @@ impl Session {
     }
 
     /// The answer to a call on a device (`open` too), on an interface or on an endpoint, but for
-    /// control transfers.
+    /// control transfers and readers.
     #[tactic(auto, unfolding(crate::specs::Answers::answer))]
     fn answer_handle(&mut self, line: &mut String, item: Item) -> Result<(), NoMemory>
         requires kind { IsTrue (is_of_handle item) }
@@ -138,6 +138,72 @@ impl Session {
             Item::Hotplug => self.hotplug(line),
             Item::OpenPath { device, path } => self.open_path(line, device, &path),
             _ => unreachable!(),
+        }
+    }
+
+    /// The answer to a call by which a reader is made of an endpoint, set, cancelled or closed.
+    #[tactic(auto, unfolding(crate::specs::Answers::answer))]
+    fn answer_reader_setting(&mut self, line: &mut String, item: Item) -> Result<(), NoMemory>
+        requires kind { IsTrue (sets_reader item) }
+        requires spare { places_in item ≤ self.old.host.kernel.spare }
+        ensures answered { Answers self.old self.new line.old line.new result
+            (λ state. answer state item) }
+        ensures spare { OnOk result
+            (self.old.host.kernel.spare ≤ self.new.host.kernel.spare + places_in item) }
+    {
+        match item {
+            Item::Reader {
+                reader,
+                endpoint,
+                transfer_size,
+            } => self.reader(line, reader, endpoint, transfer_size),
+            Item::IntoInner { endpoint, reader } => self.inner(line, endpoint, reader),
+            Item::SetNumTransfers { reader, count } => self.set_num_transfers(line, reader, count),
+            Item::SetReadTimeout { reader, timeout } => {
+                self.set_read_timeout(line, reader, timeout)
+            }
+            Item::CancelReader { reader } => self.cancel_reader(line, reader),
+            Item::CloseReader { reader } => self.close_reader(line, reader),
+            _ => unreachable!(),
+        }
+    }
+
+    /// The answer to a call on a reader that is open.
+    #[tactic(auto, unfolding(crate::specs::Answers::answer))]
+    fn answer_reader(&mut self, line: &mut String, item: Item) -> Result<(), NoMemory>
+        requires kind { IsTrue (is_of_reader item) }
+        requires spare { places_in item ≤ self.old.host.kernel.spare }
+        ensures answered { Answers self.old self.new line.old line.new result
+            (λ state. answer state item) }
+        ensures spare { OnOk result
+            (self.old.host.kernel.spare ≤ self.new.host.kernel.spare + places_in item) }
+    {
+        match item {
+            Item::Read {
+                framing,
+                reader,
+                length,
+                steps,
+            } => self.read(line, framing, reader, length, steps),
+            Item::PollRead {
+                framing,
+                reader,
+                length,
+            } => self.poll_read(line, framing, reader, length),
+            Item::FillBuf {
+                framing,
+                reader,
+                steps,
+            } => self.fill_buf(line, framing, reader, steps),
+            Item::PollFillBuf { framing, reader } => self.poll_fill_buf(line, framing, reader),
+            Item::Consume {
+                framing,
+                reader,
+                count,
+            } => self.consume(line, framing, reader, count),
+            Item::IsEnd { reader } => self.is_end(line, reader),
+            Item::ConsumeEnd { reader } => self.consume_end(line, reader),
+            item => self.answer_reader_setting(line, item),
         }
     }
 
@@ -270,6 +336,19 @@ impl Session {
             | Item::PollFuture { .. }
             | Item::WaitFuture { .. }
             | Item::CloseFuture { .. } => self.answer_control(line, item),
+            Item::Reader { .. }
+            | Item::IntoInner { .. }
+            | Item::SetNumTransfers { .. }
+            | Item::SetReadTimeout { .. }
+            | Item::CancelReader { .. }
+            | Item::CloseReader { .. }
+            | Item::Read { .. }
+            | Item::PollRead { .. }
+            | Item::FillBuf { .. }
+            | Item::PollFillBuf { .. }
+            | Item::Consume { .. }
+            | Item::IsEnd { .. }
+            | Item::ConsumeEnd { .. } => self.answer_reader(line, item),
             item => self.answer_handle(line, item),
         }
     }

@@ -4,6 +4,7 @@ ghost use Rattle.std.specs.Prelude.{◌≡◌, is_some};
 ghost use Rattle.usb_endpoint.specs.Handles.{Stands};
 ghost use Rattle.usb_endpoint.specs.AnyEndpoints.{state_of};
 ghost use Rattle.usb_host.specs.HostBus.{bus_of};
+ghost use Rattle.usb_answers.specs.ReaderAt.{endpoint_place};
 ghost use Rattle.usb_answers.specs.State.{State};
 ghost use Rattle.usb_names.specs.Names.{named, freed};
 ghost use Rattle.usb_answers.specs.Answer.{ok_answer};
@@ -40,7 +41,7 @@ impl Session {
     /// `cancel`: the pending transfers of an endpoint are discarded, from the last to the first.
     pub(crate) fn cancel(&mut self, line: &mut String, name: Name) -> Result<(), NoMemory>
         ensures answered { Answers self.old self.new line.old line.new result
-            (λ state. cancel_answer state name) }
+            (λ state. cancel_answer state (endpoint_place name)) }
         ensures spare { self.new.host.kernel.spare ≡ self.old.host.kernel.spare }
     {
         let number = name.number();
@@ -54,10 +55,10 @@ impl Session {
 
     /// Closes what is open under the number of an endpoint's name, and says whether anything was.
     pub(crate) fn close_endpoint(&mut self, number: u8) -> bool
-        ensures was_open { result ≡ is_some (named self.old.endpoints number) }
+        ensures was_open { result ≡ is_some (named self.old.endpoints (endpoint_place number)) }
         ensures stands { (state : State) → Represents self.old state →
-            Represents self.new (closed state number) }
-        ensures freed { self.new.endpoints ≡ freed self.old.endpoints number }
+            Represents self.new (closed state (endpoint_place number)) }
+        ensures freed { self.new.endpoints ≡ freed self.old.endpoints (endpoint_place number) }
         ensures spare { self.new.host.kernel.spare ≡ self.old.host.kernel.spare }
     {
         let Some(endpoint) = take_at(&mut self.endpoints, number) else {
@@ -71,7 +72,7 @@ impl Session {
     /// open no more.
     pub(crate) fn close(&mut self, line: &mut String, name: Name) -> Result<(), NoMemory>
         ensures answered { Answers self.old self.new line.old line.new result
-            (λ state. close_answer state name) }
+            (λ state. close_answer state (endpoint_place name)) }
         ensures spare { self.new.host.kernel.spare ≡ self.old.host.kernel.spare }
     {
         if self.close_endpoint(name.number()) {

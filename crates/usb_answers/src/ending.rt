@@ -1,11 +1,13 @@
 //! The end of a session.
 
 ghost use Rattle.std.specs.Prelude.{◌≡◌, ◌<◌, ℕ, Some, None};
+ghost use Rattle.usb_kernel.specs.Legal.{IsLawful};
 ghost use Rattle.usb_host.specs.Finishes.{HasEnds, HasCompletions, KeepsNothing};
 ghost use Rattle.usb_registry.specs.History.{value_at};
 ghost use Rattle.usb_answers.specs.State.{State};
 ghost use Rattle.usb_names.specs.Names.{named, freed};
-ghost use Rattle.usb_answers.specs.Ends.{endpoints_closed, futures_closed, interfaces_closed, devices_closed, ended};
+ghost use Rattle.usb_answers.specs.ReaderAt.{reader_place};
+ghost use Rattle.usb_answers.specs.Ends.{readers_closed, endpoints_closed, futures_closed, interfaces_closed, devices_closed, ended};
 ghost use Rattle.usb_answers.specs.Relation.{Represents};
 ghost use Rattle.usb_answers.specs.Accounts.{Accounted};
 
@@ -14,11 +16,24 @@ use usb_device::Host;
 use usb_names::drop_names;
 
 impl Session {
+    /// Closes the readers by number.
+    fn close_readers(&mut self)
+        ensures stands { (state : State) → Represents self.old state →
+            Represents self.new (readers_closed state 64) }
+        ensures none { (r : ℕ) → r < 64 → named self.new.endpoints (reader_place r) ≡ None }
+    {
+        for name in 0..64 {
+            self.close_reader_at(name);
+        }
+    }
+
     /// Closes the endpoints by number.
     fn close_endpoints(&mut self)
         ensures stands { (state : State) → Represents self.old state →
             Represents self.new (endpoints_closed state 64) }
         ensures none { (e : ℕ) → e < 64 → named self.new.endpoints e ≡ None }
+        ensures readers { (r : ℕ) → named self.new.endpoints (reader_place r)
+            ≡ named self.old.endpoints (reader_place r) }
     {
         for name in 0..64 {
             self.close_endpoint(name);
@@ -64,19 +79,21 @@ impl Session {
         }
     }
 
-    /// Closes what is open, endpoints, then futures, then interfaces and then devices, each by number; and gives the host, at which all
-    /// tickets are discarded and then reaped, by number. Then each ticket has its completion and its end, and the host keeps
-    /// no open device, no claimed interface and no endpoint.
+    /// Closes what is open, readers, then endpoints, then futures, then interfaces and then devices, each by number; and gives the host,
+    /// at which all tickets are discarded and then reaped, by number. Then the journal is lawful, each ticket has its completion and
+    /// its end, and the host keeps no open device, no claimed interface and no endpoint.
     pub fn end(self) -> Host
         ensures host { (state : State) → Represents self state → result ≡ ended state }
         ensures ended { (state : State) → Represents self state → Accounted state →
             HasEnds result.tickets }
         ensures reaped { HasCompletions result.kernel.past }
+        ensures lawful { IsLawful result.kernel.past }
         ensures none_open { (d : ℕ) → value_at result.devices d ≡ None }
         ensures keeps_nothing { (state : State) → Represents self state → Accounted state →
             KeepsNothing result }
     {
         let mut session = self;
+        session.close_readers();
         session.close_endpoints();
         session.close_futures();
         session.close_interfaces();
@@ -86,16 +103,20 @@ impl Session {
             devices,
             interfaces,
             endpoints,
+            readers,
             futures,
             tree: _tree,
             watch: _watch,
         } = session;
         drop_names(futures);
         drop_names(endpoints);
+        drop_names(readers);
         drop_names(interfaces);
         drop_names(devices);
         host.finish();
         host.nothing_is_kept_that_has_gone();
+        // The contract of this call says that the journal is lawful.
+        let _ = host.kernel().journal();
         host
     }
 }

@@ -5,6 +5,7 @@ ghost use Rattle.usb_words.specs.EndpointKinds.{transfer_type_of, direction_of};
 ghost use Rattle.usb_endpoint.specs.Handles.{Stands, KeepsOthers};
 ghost use Rattle.usb_endpoint.specs.AnyEndpoints.{state_of};
 ghost use Rattle.usb_host.specs.HostBus.{bus_of};
+ghost use Rattle.usb_answers.specs.ReaderAt.{endpoint_place};
 ghost use Rattle.usb_device.specs.HandleStates.{StandsInterface};
 ghost use Rattle.usb_host.specs.EndpointOpens.{OpensEndpoint};
 ghost use Rattle.usb_error.specs.Outcomes.{result_map};
@@ -66,7 +67,7 @@ impl Session {
         kind: EndpointKind,
     ) -> Result<(), NoMemory>
         ensures answered { Answers self.old self.new line.old line.new result
-            (λ state. endpoint_answer state name interface address
+            (λ state. endpoint_answer state (endpoint_place name) interface address
             (transfer_type_of kind) (direction_of kind)) }
         ensures spare { self.new.host.kernel.spare ≡ self.old.host.kernel.spare }
     {

@@ -4,6 +4,7 @@ ghost use Rattle.std.specs.Prelude.{◌≡◌};
 ghost use Rattle.usb_endpoint.specs.Handles.{Stands};
 ghost use Rattle.usb_endpoint.specs.AnyEndpoints.{state_of};
 ghost use Rattle.usb_host.specs.HostBus.{bus_of};
+ghost use Rattle.usb_answers.specs.ReaderAt.{endpoint_place};
 ghost use Rattle.usb_answers.specs.State.{State};
 ghost use Rattle.usb_answers.specs.Halts.{halt_cleared, clear_halt_answer};
 ghost use Rattle.usb_answers.specs.Answered.{Answers};
@@ -35,7 +36,7 @@ impl Session {
     /// `halt`: the halt of an endpoint is cleared.
     pub(crate) fn clear_halt(&mut self, line: &mut String, name: Name) -> Result<(), NoMemory>
         ensures answered { Answers self.old self.new line.old line.new result
-            (λ state. clear_halt_answer state name) }
+            (λ state. clear_halt_answer state (endpoint_place name)) }
         ensures spare { self.new.host.kernel.spare ≡ self.old.host.kernel.spare }
     {
         let number = name.number();

@@ -4,6 +4,7 @@ ghost use Rattle.usb_answers.specs.Accounts.{StartIsAccounted, AnswerKeepsAccoun
 ghost use Rattle.usb_answers.specs.FinalFates.{FatesAreFinal, FatesOfScripts};
 ghost use Rattle.usb_answers.specs.Places.{PollsAnswerForTheirPlace, CompletionsAreTaken};
 ghost use Rattle.usb_answers.specs.Behind.{ScriptsGoOn};
+ghost use Rattle.usb_answers.specs.Framed.{FramedScriptsFollow};
 ghost use Rattle.usb_answers.specs.Served.{EndpointsAreServedInOrder, ScriptsAreCounted};
 
 /// What is held is pending at an endpoint that is open under a name, or is the ticket of a control
@@ -42,4 +43,10 @@ pub fn endpoints_are_served_in_order()
 /// a line prints is the last journal's. Behind any lines what is held is accounted for.
 pub fn scripts_go_on()
     ensures { ScriptsGoOn }
+{}
+
+/// What a framed reader consumed is, before the first line of a script and behind each, a prefix of
+/// its endpoint's stream, and a read until a short packet gives no byte only where an end is next.
+pub fn framed_readers_follow()
+    ensures framed { FramedScriptsFollow }
 {}

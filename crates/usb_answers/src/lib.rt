@@ -14,6 +14,7 @@ mod describing;
 mod ending;
 mod endpoints;
 mod fates;
+mod filling;
 mod halting;
 mod laws;
 mod listing;
@@ -21,6 +22,9 @@ mod now;
 mod opening;
 mod polling;
 mod probing;
+mod reader_names;
+mod reader_settings;
+mod reading;
 mod requesting;
 mod session;
 mod settings;
@@ -33,7 +37,8 @@ mod watching;
 
 pub use fates::{tickets, write_fate};
 pub use laws::{
-    each_ticket_is_accounted_for, endpoints_are_served_in_order, fates_are_final, scripts_go_on,
+    each_ticket_is_accounted_for, endpoints_are_served_in_order, fates_are_final,
+    framed_readers_follow, scripts_go_on,
 };
 pub use session::Session;
 pub use summary::Summary;

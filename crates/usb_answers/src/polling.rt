@@ -4,6 +4,7 @@ ghost use Rattle.std.specs.Prelude.{◌≡◌, slice_get};
 ghost use Rattle.usb_endpoint.specs.Handles.{Stands};
 ghost use Rattle.usb_endpoint.specs.AnyEndpoints.{state_of};
 ghost use Rattle.usb_host.specs.HostBus.{bus_of};
+ghost use Rattle.usb_answers.specs.ReaderAt.{endpoint_place};
 ghost use Rattle.usb_answers.specs.Pending.{pending_answer};
 ghost use Rattle.usb_answers.specs.Polls.{polled, poll_answer};
 ghost use Rattle.usb_answers.specs.Answered.{Answers};
@@ -38,7 +39,7 @@ impl Session {
     /// `pending`: how many transfers of an endpoint are pending.
     pub(crate) fn pending(&self, line: &mut String, name: Name) -> Result<(), NoMemory>
         ensures answered { Answers self.now self.now line.old line.new result
-            (λ state. pending_answer state name) }
+            (λ state. pending_answer state (endpoint_place name)) }
     {
         match open_at(&self.endpoints, name.number()) {
             Some(endpoint) => write_count(line, endpoint.pending()),
@@ -49,7 +50,7 @@ impl Session {
     /// `poll`: the oldest pending transfer of an endpoint is taken, where it is reaped.
     pub(crate) fn poll(&mut self, line: &mut String, name: Name) -> Result<(), NoMemory>
         ensures answered { Answers self.old self.new line.old line.new result
-            (λ state. poll_answer state name) }
+            (λ state. poll_answer state (endpoint_place name)) }
         ensures spare { self.new.host.kernel.spare ≡ self.old.host.kernel.spare }
     {
         let number = name.number();

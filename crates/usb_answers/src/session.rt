@@ -12,13 +12,14 @@ use usb_desc::NoMemory;
 use usb_device::{Device, Host, Interface, TransferFuture};
 use usb_endpoint::AnyEndpoint;
 use usb_enum::{AttrTree, HotplugWatch, watch_devices};
+use usb_io::AnyReader;
 use usb_kernel::{Bytes, Kernel, SimDevice};
 use usb_names::{drop_names, no_names};
 use usb_script::Item;
 use usb_setup::{packets_of, tree_of};
 
-/// A host, what is open under each name (devices, claimed interfaces, endpoints and control
-/// transfers on their way), the tree of attributes, and the packets of udev that are left.
+/// A host, what is open under each name (devices, claimed interfaces, endpoints, readers and
+/// control transfers on their way), the tree of attributes, and the packets of udev that are left.
 ///
 /// It can't be dropped: `end` has to spend it.
 pub struct Session {
@@ -26,6 +27,7 @@ pub struct Session {
     pub(crate) devices: Vec<Option<Device>>,
     pub(crate) interfaces: Vec<Option<Interface>>,
     pub(crate) endpoints: Vec<Option<AnyEndpoint>>,
+    pub(crate) readers: Vec<Option<AnyReader>>,
     pub(crate) futures: Vec<Option<TransferFuture>>,
     pub(crate) tree: AttrTree,
     pub(crate) watch: HotplugWatch,
@@ -34,8 +36,8 @@ pub struct Session {
 impl Model for Session {
     ghost use Rattle.std.specs.Prelude.{map};
     ghost use Rattle.std.specs.Option.{option_map};
-    ghost use Rattle.usb_endpoint.specs.AnyEndpoints.{state_of};
     ghost use Rattle.usb_answers.specs.SessionState.{SessionState};
+    ghost use Rattle.usb_answers.specs.SessionFacts.{endpoints_with, bare_reader_of, IsSoundInside};
 
     ghost Value = { SessionState };
 
@@ -43,13 +45,12 @@ impl Model for Session {
       host = s.host;
       devices = s.devices.items;
       interfaces = s.interfaces.items;
-      endpoints = map (option_map state_of) s.endpoints.items;
+      endpoints = endpoints_with s.endpoints.items s.readers.items;
+      readers = map (option_map bare_reader_of) s.readers.items;
       futures = s.futures.items;
       tree = s.tree;
       packets = s.watch;
     } };
-
-    ghost use Rattle.usb_answers.specs.SessionFacts.{IsSoundInside};
 
     ghost invariant = { IsSoundInside };
 }
@@ -145,7 +146,23 @@ struct Names {
     devices: Vec<Option<Device>>,
     interfaces: Vec<Option<Interface>>,
     endpoints: Vec<Option<AnyEndpoint>>,
+    readers: Vec<Option<AnyReader>>,
     futures: Vec<Option<TransferFuture>>,
+}
+
+/// Names of two kinds under which nothing is open.
+fn two_names<A, B>(alloc: Global) -> Result<(Vec<Option<A>>, Vec<Option<B>>), NoMemory>
+    ensures first { IfOk result (λ n. n.0.items ≡ replicate 64 None) }
+    ensures second { IfOk result (λ n. n.1.items ≡ replicate 64 None) }
+{
+    let first = no_names(alloc)?;
+    match no_names(alloc) {
+        Ok(second) => Ok((first, second)),
+        Err(error) => {
+            drop_names(first);
+            Err(error)
+        }
+    }
 }
 
 /// Names of each kind under which nothing is open.
@@ -153,17 +170,11 @@ fn all_names(alloc: Global) -> Result<Names, NoMemory>
     ensures devices { IfOk result (λ n. n.devices.items ≡ replicate 64 None) }
     ensures interfaces { IfOk result (λ n. n.interfaces.items ≡ replicate 64 None) }
     ensures endpoints { IfOk result (λ n. n.endpoints.items ≡ replicate 64 None) }
+    ensures readers { IfOk result (λ n. n.readers.items ≡ replicate 64 None) }
     ensures futures { IfOk result (λ n. n.futures.items ≡ replicate 64 None) }
 {
-    let devices = no_names(alloc)?;
-    let interfaces = match no_names(alloc) {
-        Ok(names) => names,
-        Err(error) => {
-            drop_names(devices);
-            return Err(error);
-        }
-    };
-    let endpoints = match no_names(alloc) {
+    let (devices, interfaces) = two_names(alloc)?;
+    let (endpoints, readers) = match two_names(alloc) {
         Ok(names) => names,
         Err(error) => {
             drop_names(devices);
@@ -177,6 +188,7 @@ fn all_names(alloc: Global) -> Result<Names, NoMemory>
             drop_names(devices);
             drop_names(interfaces);
             drop_names(endpoints);
+            drop_names(readers);
             return Err(error);
         }
     };
@@ -184,6 +196,7 @@ fn all_names(alloc: Global) -> Result<Names, NoMemory>
         devices,
         interfaces,
         endpoints,
+        readers,
         futures,
     })
 }
@@ -196,29 +209,22 @@ impl Session {
         ensures spare { IfOk result (λ s. s.host.kernel.spare ≡ places) }
     {
         let host = host_with(alloc, items, places)?;
+        let tree = tree_of(alloc, items)?;
         let packets = packets_of(alloc, items)?;
         let names = all_names(alloc)?;
         let Names {
             devices,
             interfaces,
             endpoints,
+            readers,
             futures,
         } = names;
-        let tree = match tree_of(alloc, items) {
-            Ok(tree) => tree,
-            Err(error) => {
-                drop_names(devices);
-                drop_names(interfaces);
-                drop_names(endpoints);
-                drop_names(futures);
-                return Err(error);
-            }
-        };
         Ok(Session {
             host,
             devices,
             interfaces,
             endpoints,
+            readers,
             futures,
             tree,
             watch: watch_devices(alloc, packets),

@@ -5,6 +5,7 @@ ghost use Rattle.usb_desc.specs.declared.types.Direction.{Direction};
 ghost use Rattle.usb_endpoint.specs.Handles.{Stands};
 ghost use Rattle.usb_endpoint.specs.AnyEndpoints.{state_of};
 ghost use Rattle.usb_host.specs.HostBus.{bus_of};
+ghost use Rattle.usb_answers.specs.ReaderAt.{endpoint_place};
 ghost use Rattle.usb_answers.specs.Buffers.{in_buffer, out_buffer};
 ghost use Rattle.usb_answers.specs.Submits.{has_direction, bars_submission, submit_on, submit_answer};
 ghost use Rattle.usb_answers.specs.Answered.{Answers};
@@ -21,7 +22,7 @@ use usb_script::{Data, Length, Name};
 use usb_xfer::Buffer;
 
 /// How many transfers of an endpoint may be pending.
-const MOST_PENDING: usize = 64;
+pub const MOST_PENDING: usize = 64;
 
 /// How many tickets may be unreaped.
 pub const MOST_UNREAPED: usize = 1024;
@@ -75,7 +76,7 @@ impl Session {
         buffer: Buffer,
     ) -> Result<(), NoMemory>
         ensures answered { Answers self.old self.new line.old line.new result
-            (λ state. submit_answer state direction name buffer) }
+            (λ state. submit_answer state direction (endpoint_place name) buffer) }
         ensures spare { self.new.host.kernel.spare ≡ self.old.host.kernel.spare }
     {
         let number = name.number();
@@ -95,7 +96,7 @@ impl Session {
         length: Length,
     ) -> Result<(), NoMemory>
         ensures answered { Answers self.old self.new line.old line.new result
-            (λ state. submit_answer state Direction.In name (in_buffer length)) }
+            (λ state. submit_answer state Direction.In (endpoint_place name) (in_buffer length)) }
         ensures spare { self.new.host.kernel.spare ≡ self.old.host.kernel.spare }
     {
         let buffer = in_buffer(*line.allocator(), length)?;
@@ -110,7 +111,7 @@ impl Session {
         bytes: Data,
     ) -> Result<(), NoMemory>
         ensures answered { Answers self.old self.new line.old line.new result
-            (λ state. submit_answer state Direction.Out name (out_buffer bytes)) }
+            (λ state. submit_answer state Direction.Out (endpoint_place name) (out_buffer bytes)) }
         ensures spare { self.new.host.kernel.spare ≡ self.old.host.kernel.spare }
     {
         self.submit(line, Direction::Out, name, out_buffer(bytes))

@@ -5,6 +5,7 @@ ghost use Rattle.usb_desc.specs.declared.types.Direction.{Direction};
 ghost use Rattle.usb_endpoint.specs.Handles.{Stands};
 ghost use Rattle.usb_endpoint.specs.AnyEndpoints.{state_of};
 ghost use Rattle.usb_host.specs.HostBus.{bus_of};
+ghost use Rattle.usb_answers.specs.ReaderAt.{endpoint_place};
 ghost use Rattle.usb_answers.specs.Buffers.{in_buffer, out_buffer};
 ghost use Rattle.usb_answers.specs.Transfers.{bars_transfer, transfer_on, transfer_answer};
 ghost use Rattle.usb_answers.specs.Answered.{Answers};
@@ -68,7 +69,7 @@ impl Session {
     ) -> Result<(), NoMemory>
         requires room { length steps ≤ self.old.host.kernel.spare }
         ensures answered { Answers self.old self.new line.old line.new result
-            (λ state. transfer_answer state direction name buffer timeout steps) }
+            (λ state. transfer_answer state direction (endpoint_place name) buffer timeout steps) }
         ensures spare { self.new.host.kernel.spare + length steps ≡ self.old.host.kernel.spare }
     {
         let number = name.number();
@@ -103,7 +104,8 @@ impl Session {
     ) -> Result<(), NoMemory>
         requires room { length steps ≤ self.old.host.kernel.spare }
         ensures answered { Answers self.old self.new line.old line.new result
-            (λ state. transfer_answer state Direction.In name (in_buffer bytes) timeout steps) }
+            (λ state. transfer_answer state Direction.In (endpoint_place name) (in_buffer bytes)
+            timeout steps) }
         ensures spare { OnOk result
             (self.new.host.kernel.spare + length steps ≡ self.old.host.kernel.spare) }
     {
@@ -122,7 +124,8 @@ impl Session {
     ) -> Result<(), NoMemory>
         requires room { length steps ≤ self.old.host.kernel.spare }
         ensures answered { Answers self.old self.new line.old line.new result
-            (λ state. transfer_answer state Direction.Out name (out_buffer bytes) timeout steps) }
+            (λ state. transfer_answer state Direction.Out (endpoint_place name) (out_buffer bytes)
+            timeout steps) }
         ensures spare { self.new.host.kernel.spare + length steps ≡ self.old.host.kernel.spare }
     {
         let buffer = out_buffer(bytes);

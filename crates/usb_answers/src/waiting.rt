@@ -4,6 +4,7 @@ ghost use Rattle.std.specs.Prelude.{◌≡◌, ◌≤◌, ◌+◌, length, slice
 ghost use Rattle.usb_endpoint.specs.Handles.{Stands};
 ghost use Rattle.usb_endpoint.specs.AnyEndpoints.{state_of};
 ghost use Rattle.usb_host.specs.HostBus.{bus_of};
+ghost use Rattle.usb_answers.specs.ReaderAt.{endpoint_place};
 ghost use Rattle.usb_answers.specs.Waits.{waited, wait_answer};
 ghost use Rattle.usb_answers.specs.Answered.{Answers};
 ghost use Rattle.usb_answers.specs.OpenCalls.{CallKeeps, CallAnswers};
@@ -50,7 +51,7 @@ impl Session {
     ) -> Result<(), NoMemory>
         requires room { length steps ≤ self.old.host.kernel.spare }
         ensures answered { Answers self.old self.new line.old line.new result
-            (λ state. wait_answer state name timeout steps) }
+            (λ state. wait_answer state (endpoint_place name) timeout steps) }
         ensures spare { self.new.host.kernel.spare + length steps ≡ self.old.host.kernel.spare }
     {
         let number = name.number();

@@ -15,6 +15,7 @@ returns-clause-keeps c = record {
   stands = c.cancel_all.ensures.stands;
   others = c.cancel_all.ensures.others;
   key = ap (λ (h : EndpointState). h.key) c.cancel_all.ensures.rest;
+  maximum = ap (λ (h : EndpointState). h.maximum) c.cancel_all.ensures.rest;
 }
 
 pub returns-clause-answered : goal.returns-clause-answered

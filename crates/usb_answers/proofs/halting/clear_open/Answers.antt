@@ -16,6 +16,7 @@ returns-clause-keeps c =
       stands = c.clear_halt.ensures.stands;
       others = c.clear_halt.ensures.others;
       key = ap (λ (h : EndpointState). h.key) c.clear_halt.ensures.rest;
+      maximum = ap (λ (h : EndpointState). h.maximum) c.clear_halt.ensures.rest;
     }
 
 pub returns-clause-answered : goal.returns-clause-answered

@@ -17,6 +17,7 @@ returns-in-Ready-clause-keeps c = record {
   stands = c.poll_next_complete.ensures.stands;
   others = c.poll_next_complete.ensures.others;
   key = ap (λ (h : EndpointState). h.key) c.in-Ready.ensures.ready.next_is;
+  maximum = ap (λ (h : EndpointState). h.maximum) c.in-Ready.ensures.ready.next_is;
 }
 
 pub returns-in-Ready-clause-answered : goal.returns-in-Ready-clause-answered

@@ -4,19 +4,19 @@ use Rattle.usb_names.proofs.NameLemmas.{named-replicate}
 use Rattle.usb_answers.proofs.session.all_names.Goals as goal
 
 pub drop_names-requires : goal.drop_names-requires
-drop_names-requires c = record { none = λ n. ap (λ l. named l n) c.in_ok-devices.ensures.empty ∙ named-replicate 64 n }
+drop_names-requires c = record { none = λ n. ap (λ l. named l n) c.in_ok-devices.ensures.first ∙ named-replicate 64 n }
+
+pub drop_names-requires-in-Err : goal.drop_names-requires-in-Err
+drop_names-requires-in-Err c = record { none = λ n. ap (λ l. named l n) c.in_ok-devices.ensures.second ∙ named-replicate 64 n }
 
 pub drop_names-requires-in-Err-no_names : goal.drop_names-requires-in-Err-no_names
-drop_names-requires-in-Err-no_names c = record { none = λ n. ap (λ l. named l n) c.in_ok-devices.ensures.empty ∙ named-replicate 64 n }
+drop_names-requires-in-Err-no_names c = record { none = λ n. ap (λ l. named l n) c.in_ok-devices.ensures.first ∙ named-replicate 64 n }
 
 pub drop_names-requires-in-Err-no_names-2 : goal.drop_names-requires-in-Err-no_names-2
-drop_names-requires-in-Err-no_names-2 c = record { none = λ n. ap (λ l. named l n) c.in-Ok.ensures.empty ∙ named-replicate 64 n }
+drop_names-requires-in-Err-no_names-2 c = record { none = λ n. ap (λ l. named l n) c.in_ok-devices.ensures.second ∙ named-replicate 64 n }
 
-pub drop_names-requires-in-Err-no_names-2-2 : goal.drop_names-requires-in-Err-no_names-2-2
-drop_names-requires-in-Err-no_names-2-2 c = record { none = λ n. ap (λ l. named l n) c.in_ok-devices.ensures.empty ∙ named-replicate 64 n }
+pub drop_names-requires-in-Err-no_names-3 : goal.drop_names-requires-in-Err-no_names-3
+drop_names-requires-in-Err-no_names-3 c = record { none = λ n. ap (λ l. named l n) c.in-Ok.ensures.first ∙ named-replicate 64 n }
 
-pub drop_names-requires-in-Err-no_names-2-3 : goal.drop_names-requires-in-Err-no_names-2-3
-drop_names-requires-in-Err-no_names-2-3 c = record { none = λ n. ap (λ l. named l n) c.in-Ok.ensures.empty ∙ named-replicate 64 n }
-
-pub drop_names-requires-in-Err-no_names-2-4 : goal.drop_names-requires-in-Err-no_names-2-4
-drop_names-requires-in-Err-no_names-2-4 c = record { none = λ n. ap (λ l. named l n) c.in-Ok-no_names.ensures.empty ∙ named-replicate 64 n }
+pub drop_names-requires-in-Err-no_names-4 : goal.drop_names-requires-in-Err-no_names-4
+drop_names-requires-in-Err-no_names-4 c = record { none = λ n. ap (λ l. named l n) c.in-Ok.ensures.second ∙ named-replicate 64 n }

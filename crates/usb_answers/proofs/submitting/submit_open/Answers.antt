@@ -1,7 +1,8 @@
-use Rattle.std.proofs.Common.{sym, ◌∙◌, length}
+use Rattle.std.proofs.Common.{refl, sym, ◌∙◌, length}
+use Rattle.usb_endpoint.specs.EndpointState.{EndpointState}
 use Rattle.usb_kernel.specs.Tickets.{tickets}
 use Rattle.usb_endpoint.specs.AnyEndpoints.{state_of}
-use Rattle.usb_answers.proofs.SubmitCode.{submit-barred, submit-made, submit-line, submit-past, submit-key, ok-holds}
+use Rattle.usb_answers.proofs.SubmitCode.{submit-barred, submit-made, submit-line, submit-past, submit-same, ok-holds}
 use Rattle.usb_answers.proofs.submitting.submit_open.Goals as goal
 use Rattle.usb_answers.proofs.submitting.submit_open.Goals.{in-Ok, in-Err}
 
@@ -19,7 +20,8 @@ returns-clause-keeps c =
       past = submit-past c.submit.result c.args.host.now c.submit.new.bus x y c.args.buffer c.submit.ensures.bus c.submit.ensures.err;
       stands = c.submit.ensures.stands;
       others = c.submit.ensures.others;
-      key = submit-key c.submit.result c.args.host.now c.submit.new.bus x y (length (tickets c.args.host.now.kernel.past)) c.submit.ensures.pending c.submit.ensures.err;
+      key = submit-same (λ (z : EndpointState). z.key) (λ z ts. refl) c.submit.result c.args.host.now c.submit.new.bus x y (length (tickets c.args.host.now.kernel.past)) c.submit.ensures.pending c.submit.ensures.err;
+      maximum = submit-same (λ (z : EndpointState). z.maximum) (λ z ts. refl) c.submit.result c.args.host.now c.submit.new.bus x y (length (tickets c.args.host.now.kernel.past)) c.submit.ensures.pending c.submit.ensures.err;
     }
 
 pub returns-clause-answered : goal.returns-clause-answered

@@ -24,6 +24,7 @@ returns-in-Ok-clause-keeps c = record {
   stands = c.transfer_blocking-tried.ensures.stands;
   others = c.transfer_blocking-tried.ensures.others;
   key = ap (λ (h : EndpointState). h.key) c.transfer_blocking-tried.ensures.rest;
+  maximum = ap (λ (h : EndpointState). h.maximum) c.transfer_blocking-tried.ensures.rest;
 }
 
 pub returns-in-Ok-clause-answered : goal.returns-in-Ok-clause-answered
@@ -42,4 +43,5 @@ returns-clause-keeps c = record {
   stands = c.transfer_blocking-tried.ensures.stands;
   others = c.transfer_blocking-tried.ensures.others;
   key = ap (λ (h : EndpointState). h.key) c.transfer_blocking-tried.ensures.rest;
+  maximum = ap (λ (h : EndpointState). h.maximum) c.transfer_blocking-tried.ensures.rest;
 }

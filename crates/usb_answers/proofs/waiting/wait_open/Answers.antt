@@ -1,8 +1,9 @@
-use Rattle.std.proofs.Common.{ap, length, ◌∙◌, subst}
+use Rattle.std.proofs.Common.{ap, length, refl, ◌∙◌, subst}
+use Rattle.usb_endpoint.specs.EndpointState.{EndpointState}
 use Rattle.usb_endpoint.specs.AnyEndpoints.{state_of}
 use Rattle.usb_answers.specs.OpenCalls.{CallAnswers}
 use Rattle.usb_answers.proofs.PollCode.{nothing_pending}
-use Rattle.usb_answers.proofs.WaitCode.{wait, wait-barred, wait-answers, wait-line, wait-past, wait-key}
+use Rattle.usb_answers.proofs.WaitCode.{wait, wait-barred, wait-answers, wait-line, wait-past, wait-same}
 use Rattle.usb_answers.proofs.waiting.wait_open.Goals as goal
 
 pub returns-then-pending-eq0-clause-answered : goal.returns-then-pending-eq0-clause-answered
@@ -19,7 +20,8 @@ returns-clause-keeps c =
       past = wait-past c.wait_is_by_steps.ensures c.wait_next_complete-done.result c.args.host.now c.wait_next_complete-done.new.bus x y c.nanoseconds.result c.wait_next_complete-done.ensures.found c.wait_next_complete-done.ensures.ended;
       stands = c.wait_next_complete-done.ensures.stands;
       others = c.wait_next_complete-done.ensures.others;
-      key = wait-key c.wait_next_complete-done.result c.nanoseconds.result c.args.host.now c.wait_next_complete-done.new.bus x y c.wait_next_complete-done.ensures.found c.wait_next_complete-done.ensures.ended;
+      key = wait-same (λ (z : EndpointState). z.key) (λ z ts. refl) c.wait_next_complete-done.result c.nanoseconds.result c.args.host.now c.wait_next_complete-done.new.bus x y c.wait_next_complete-done.ensures.found c.wait_next_complete-done.ensures.ended;
+      maximum = wait-same (λ (z : EndpointState). z.maximum) (λ z ts. refl) c.wait_next_complete-done.result c.nanoseconds.result c.args.host.now c.wait_next_complete-done.new.bus x y c.wait_next_complete-done.ensures.found c.wait_next_complete-done.ensures.ended;
     }
 
 pub returns-clause-answered : goal.returns-clause-answered

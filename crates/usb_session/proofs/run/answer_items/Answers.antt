@@ -1,9 +1,11 @@
 use Rattle.std.proofs.Common.{arith, subst}
 use Rattle.std.proofs.lemmas.Result.{err_from_is_err_and}
+use Rattle.usb_kernel.specs.Legal.{IsLawful}
 use Rattle.usb_host.specs.HostState.{HostState}
 use Rattle.usb_host.specs.Finishes.{HasEnds, HasCompletions, KeepsNothing}
 use Rattle.usb_answers.specs.Output.{output}
 use Rattle.usb_answers.proofs.HandleLemmas.{served-handles, final-counted, fates-of_scripts}
+use Rattle.usb_answers.proofs.FramedScripts.{framed-scripts}
 use Rattle.usb_session.proofs.RunLemmas.{running-none, answered-end, answered-cut, answered-sum, host-final, host-ended, host-nothing}
 use Rattle.usb_session.proofs.run.answer_items.Goals as goal
 
@@ -59,3 +61,9 @@ returns-clause-fates g c =
     (subst (λ (h : HostState). HasEnds h.tickets) final
     (host-ended c.answer_each-answered.new.session c.end-host.result c.args.items.items c.in_ok-calls.ensures.ok c.end-host.ensures.ended))
     (subst (λ (h : HostState). HasCompletions h.kernel.past) final c.end-host.ensures.reaped)
+
+pub returns-clause-framed : goal.returns-clause-framed
+returns-clause-framed g c =
+    framed-scripts c.args.items.items
+    (subst (λ (h : HostState). IsLawful h.kernel.past)
+    (host-final c.answer_each-answered.new.session c.end-host.result c.args.items.items c.in_ok-calls.ensures.ok c.end-host.ensures.host) c.end-host.ensures.lawful)

@@ -18,7 +18,7 @@ invariant_of-self c = subst (λ l. IsSound (made_with c.self.inside c.self.insid
 pub returns-in_default-clause-answered : goal.returns-in_default-clause-answered
 unfolding cancel_answer
 returns-in_default-clause-answered c =
-    answers-none c.self.inside _ _ _ _ c.args.line.now c.write_condition.new.out _ (λ state h. ok_answer (cancelled state h)) c.self.view_is (sym c.take_at.ensures.taken ∙ c.in_default.is) (same c) c.number-number.ensures.value c.write_condition.ensures.text
+    answers-none c.self.inside _ _ _ _ c.args.line.now c.write_condition.new.out _ (λ state h. ok_answer (cancelled state h)) c.self.invariant c.self.view_is (sym c.take_at.ensures.taken ∙ c.in_default.is) (same c) c.number-number.ensures.value c.write_condition.ensures.text
 
 pub cancel_open-cancelled-requires : goal.cancel_open-cancelled-requires
 cancel_open-cancelled-requires c = record { stands = stands-made c.self.inside _ _ _ c.self.invariant c.take_at.ensures.taken c.in-Some.is }
@@ -32,4 +32,4 @@ invariant_of-self-2 c = sound-called c.self.inside _ _ _ _ _ c.self.invariant (b
 pub returns-clause-answered : goal.returns-clause-answered
 unfolding cancel_answer
 returns-clause-answered c =
-    answers-called c.self.inside _ _ _ _ _ _ _ c.args.line.now c.cancel_open-cancelled.new.line _ (λ state e h. ok_answer (cancelled state h)) c.self.view_is (back c) c.number-number.ensures.value c.cancel_open-cancelled.ensures.answered
+    answers-called c.self.inside _ _ _ _ _ _ _ c.args.line.now c.cancel_open-cancelled.new.line _ (λ state e h. ok_answer (cancelled state h)) c.self.invariant c.self.view_is (back c) c.number-number.ensures.value c.cancel_open-cancelled.ensures.answered

@@ -17,7 +17,7 @@ invariant_of-self c = subst (λ l. IsSound (made_with c.self.inside c.self.insid
 pub returns-in_default-clause-answered : goal.returns-in_default-clause-answered
 unfolding clear_halt_answer
 returns-in_default-clause-answered c =
-    answers-none c.self.inside _ _ _ _ c.args.line.now c.write_condition.new.out _ (λ state h. halt_cleared state h) c.self.view_is (sym c.take_at.ensures.taken ∙ c.in_default.is) (same c) c.number-number.ensures.value c.write_condition.ensures.text
+    answers-none c.self.inside _ _ _ _ c.args.line.now c.write_condition.new.out _ (λ state h. halt_cleared state h) c.self.invariant c.self.view_is (sym c.take_at.ensures.taken ∙ c.in_default.is) (same c) c.number-number.ensures.value c.write_condition.ensures.text
 
 pub clear_open-cleared-requires : goal.clear_open-cleared-requires
 clear_open-cleared-requires c = record { stands = stands-made c.self.inside _ _ _ c.self.invariant c.take_at.ensures.taken c.in-Some.is }
@@ -31,4 +31,4 @@ invariant_of-self-2 c = sound-called c.self.inside _ _ _ _ _ c.self.invariant (b
 pub returns-clause-answered : goal.returns-clause-answered
 unfolding clear_halt_answer
 returns-clause-answered c =
-    answers-called c.self.inside _ _ _ _ _ _ _ c.args.line.now c.clear_open-cleared.new.line _ (λ state e h. halt_cleared state h) c.self.view_is (back c) c.number-number.ensures.value c.clear_open-cleared.ensures.answered
+    answers-called c.self.inside _ _ _ _ _ _ _ c.args.line.now c.clear_open-cleared.new.line _ (λ state e h. halt_cleared state h) c.self.invariant c.self.view_is (back c) c.number-number.ensures.value c.clear_open-cleared.ensures.answered

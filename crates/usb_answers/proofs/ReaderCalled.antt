@@ -1,0 +1,194 @@
+-- Calls on readers as the code makes them: a reader is taken out of its name, called and put back.
+use Rattle.std.proofs.Common.{◌≡◌, ℕ, ◌≤◌, List, ◌++◌, length, map, Option, Some, None, Result, Ok, Err, refl, ap, sym, ◌∙◌, subst, String, string_bytes}
+use Rattle.std.specs.Prelude.{OnOk}
+use Rattle.std.specs.Option.{option_map}
+use Rattle.std.specs.declared.alloc.Global.{Global}
+use Rattle.std.proofs.lemmas.List.{length-map}
+use Rattle.std.proofs.lemmas.Option.{none-some, same_Some}
+use Rattle.usb_simulated.specs.declared.step.KernelStep.{KernelStep}
+use Rattle.usb_endpoint.specs.EndpointState.{EndpointState}
+use Rattle.usb_endpoint.specs.Handles.{Stands}
+use Rattle.usb_host.specs.HostState.{HostState}
+use Rattle.usb_host.specs.HostBus.{bus_of}
+use Rattle.usb_host.specs.HostTurns.{host_rest}
+use Rattle.usb_io.specs.declared.any_reader.AnyReader.{AnyReader}
+use Rattle.usb_io.specs.AnyReaders.{reader_of}
+use Rattle.usb_io.specs.Readers.{ReaderState}
+use Rattle.usb_lines.specs.Calls.{condition_line}
+use Rattle.usb_answers.specs.declared.session.Session.TheInside.{Inside}
+use Rattle.usb_names.specs.Names.{named, change_named}
+use Rattle.usb_names.proofs.NameLemmas.{named-map, length-freed, length-set_name, map-change_named, put-changed}
+use Rattle.usb_answers.specs.BareReaders.{BareReader, bare_of, reader_with}
+use Rattle.usb_answers.specs.State.{State, Reader, with_host}
+use Rattle.usb_answers.specs.ReaderAt.{ReaderAt, reader_place, reader_at}
+use Rattle.usb_answers.specs.Answer.{Answer, barred, if_open}
+use Rattle.usb_answers.specs.Steps.{lent, then_rested, stepped_all}
+use Rattle.usb_answers.specs.SessionState.{SessionState, IsSound}
+use Rattle.usb_answers.specs.SessionFacts.{session_made, made_of, endpoint_of, bare_reader_of, endpoints_with}
+use Rattle.usb_answers.specs.Relation.{Represents}
+use Rattle.usb_answers.specs.Answered.{Answered, Answers}
+use Rattle.usb_answers.specs.OpenCalls.{CallKeeps}
+use Rattle.usb_answers.specs.ReaderCalls.{HasReader, ReaderAnswers, with_reader_called}
+use Rattle.usb_answers.proofs.Answering.{told-answered, answered-none, answered-some, host_is}
+use Rattle.usb_answers.proofs.Called.{OpenAt, open_at, sound-put, sound-readers, represents-host}
+use Rattle.usb_answers.proofs.NamedKeys.{none-goes}
+use Rattle.usb_answers.proofs.OpenPlaces.{taken-reader, put-reader_map}
+use Rattle.usb_answers.proofs.TakenOut.{PutBack, places-made, keeps-line}
+use Rattle.usb_answers.proofs.Lent.{keeps-lent, stands-rested, others-lent, none-lent, rested-answered, sound-stepped, steps-represent}
+
+-- a session with another host and other readers
+abbrev pub made_reading : Inside → HostState → List (Option AnyReader) → SessionState
+made_reading i host readers = session_made i.tree i.watch host i.devices.items i.interfaces.items i.endpoints.items readers i.futures.items
+
+-- a reader that is open under a name stands in the host with its endpoint
+pub stands-reader : (i : Inside) (r : ℕ) (x : AnyReader) (taken : Option AnyReader) → IsSound (made_of i) → taken ≡ named i.readers.items r → taken ≡ Some x → Stands (bus_of i.host) (endpoint_of x)
+stands-reader i r x taken sound was is = sound.endpoints_stand (reader_place r) (endpoint_of x) (taken-reader i.endpoints.items i.readers.items r x (places-made i sound) (sym was ∙ is))
+
+-- the session has it under this name
+pub reader-made : (i : Inside) (S : SessionState) (r : ℕ) (x : AnyReader) → IsSound (made_of i) → made_of i ≡ S → named i.readers.items r ≡ Some x → named S.endpoints (reader_place r) ≡ Some (endpoint_of x)
+reader-made i S r x sound view was = sym (ap (λ (v : SessionState). named v.endpoints (reader_place r)) view) ∙ taken-reader i.endpoints.items i.readers.items r x (places-made i sound) was
+
+pub bare-made : (i : Inside) (S : SessionState) (r : ℕ) (x : AnyReader) → made_of i ≡ S → named i.readers.items r ≡ Some x → named S.readers r ≡ Some (bare_reader_of x)
+bare-made i S r x view was = sym (ap (λ (v : SessionState). named v.readers r) view) ∙ named-map bare_reader_of i.readers.items r ∙ ap (option_map bare_reader_of) was
+
+-- the readers as they are put back
+length-put : (rs after : List (Option AnyReader)) (r : ℕ) (x y : AnyReader) → PutBack rs after r x y → length after ≡ length rs
+length-put rs after r x y back = ap (λ (l : List (Option AnyReader)). length l) back.put ∙ length-set_name _ r y ∙ length-freed rs r
+
+pub bare-put : (rs after : List (Option AnyReader)) (r : ℕ) (x y : AnyReader) → PutBack rs after r x y → map (option_map bare_reader_of) after ≡ change_named (λ b. bare_reader_of y) (map (option_map bare_reader_of) rs) r
+bare-put rs after r x y back =
+    ap (map (option_map bare_reader_of)) (back.put ∙ put-changed (λ z. y) rs r x y back.was refl)
+    ∙ map-change_named bare_reader_of (λ z. y) (λ b. bare_reader_of y) rs r (λ z is. refl)
+
+bare-length : (i : Inside) (after : List (Option AnyReader)) (r : ℕ) (x y : AnyReader) → PutBack i.readers.items after r x y → length (map (option_map bare_reader_of) after) ≡ length (made_of i).readers
+bare-length i after r x y back =
+    length-map after (option_map bare_reader_of) ∙ length-put i.readers.items after r x y back ∙ sym (length-map i.readers.items (option_map bare_reader_of))
+
+-- a session is sound once a reader was called and put back
+pub sound-reader_called : (i : Inside) (now : HostState) (after : List (Option AnyReader)) (r : ℕ) (x y : AnyReader) → IsSound (made_of i) → PutBack i.readers.items after r x y → CallKeeps i.host now (endpoint_of x) (endpoint_of y) → IsSound (made_reading i now after)
+sound-reader_called i now after r x y sound back keeps =
+    let places = places-made i sound in
+    sound-readers (record (made_of i) { host = now; endpoints = endpoints_with i.endpoints.items after }) (map (option_map bare_reader_of) after)
+    (sound-put (made_of i) now (endpoints_with i.endpoints.items after) (reader_place r) (endpoint_of x) (endpoint_of y) sound (taken-reader i.endpoints.items i.readers.items r x places back.was)
+    (put-reader_map i.endpoints.items i.readers.items after r y places back.put) (keeps-line i.host now sound.idle keeps.past keeps.line) keeps.stands keeps.key keeps.maximum keeps.others
+    (none-goes i.host.endpoints now.endpoints keeps.line.endpoints))
+    (bare-length i after r x y back)
+
+-- and is the one that the call left
+pub made-reader_called : (i : Inside) (S : SessionState) (now : HostState) (after : List (Option AnyReader)) (r : ℕ) (x y : AnyReader) → IsSound (made_of i) → made_of i ≡ S → PutBack i.readers.items after r x y → with_reader_called S r now (reader_of y) ≡ made_reading i now after
+made-reader_called i S now after r x y sound view back =
+    let places = places-made i sound in
+    ap (λ (v : SessionState). with_reader_called v r now (reader_of y)) (sym view)
+    ∙ ap (λ (l : List (Option EndpointState)). record (made_of i) { host = now; endpoints = l; readers = change_named (λ b. bare_reader_of y) (made_of i).readers r })
+    (sym (put-reader_map i.endpoints.items i.readers.items after r y places back.put ∙ put-changed (λ z. endpoint_of y) (made_of i).endpoints (reader_place r) (endpoint_of x) (endpoint_of y) (taken-reader i.endpoints.items i.readers.items r x places back.was) refl))
+    ∙ ap (λ (l : List (Option BareReader)). record (made_of i) { host = now; endpoints = endpoints_with i.endpoints.items after; readers = l }) (sym (bare-put i.readers.items after r x y back))
+
+-- the reader of a state under a name at which the session has one
+pub record ReaderOpen (s : SessionState) (state : State) (r : ℕ) (x : ReaderState) : Type 0 where
+  pub at : ReaderAt
+  pub has : HasReader s state r x at
+  pub here : named state.endpoints (reader_place r) ≡ Some at.endpoint
+  pub few : at.endpoint.taken ≤ length at.endpoint.tickets
+
+pub readers_kept : (s : SessionState) (state : State) (r : ℕ) → Represents s state → named s.readers r ≡ option_map (λ (x : Reader). x.bare) (named state.readers r)
+readers_kept s state r is = ap (λ (v : SessionState). named v.readers r) is.is ∙ named-map (λ (x : Reader). x.bare) state.readers r
+
+reader_by : (s : SessionState) (state : State) (r : ℕ) (x : ReaderState) (h : OpenAt state (reader_place r) x.endpoint) (o : Option Reader) → named state.readers r ≡ o → option_map (λ (y : Reader). y.bare) o ≡ Some (bare_of x) → named s.endpoints (reader_place r) ≡ Some x.endpoint → named s.readers r ≡ Some (bare_of x) → ReaderOpen s state r x
+reader_by s state r x h None there is endpoint bare = absurd (none-some (bare_of x) is)
+reader_by s state r x h (Some y) there is endpoint bare =
+    record {
+      at = record { reader = y; endpoint = h.entry };
+      has = record {
+        endpoint = endpoint;
+        reader = bare;
+        is = rw (there, h.is) refl;
+        same = ap (λ (e : EndpointState). reader_with e y.bare) h.same ∙ ap (reader_with x.endpoint) (same_Some y.bare (bare_of x) is);
+      };
+      here = h.is;
+      few = h.few;
+    }
+
+pub has_reader : (s : SessionState) (state : State) (r : ℕ) (x : ReaderState) → Represents s state → named s.endpoints (reader_place r) ≡ Some x.endpoint → named s.readers r ≡ Some (bare_of x) → ReaderOpen s state r x
+has_reader s state r x is endpoint bare =
+    reader_by s state r x (open_at s state (reader_place r) x.endpoint is endpoint) (named state.readers r) refl (sym (readers_kept s state r is) ∙ bare) endpoint bare
+
+-- what a call on a reader answers
+pub answers-reader_called : {E : Type 0} (i : Inside) (S : SessionState) (now : HostState) (after : List (Option AnyReader)) (n r : ℕ) (x y : AnyReader) (before text : String Global) (result : Result Unit E) (call : State → ℕ → ReaderAt → Answer) → IsSound (made_of i) → made_of i ≡ S → PutBack i.readers.items after n x y → n ≡ r → ReaderAnswers i.host now (reader_of x) (reader_of y) before text result call → Answers S (made_reading i now after) before text result (λ state. if_open (reader_at state r) (call state r) (barred state))
+answers-reader_called i S now after n r x y before text (Err error) call sound view back same answers = tt
+answers-reader_called i S now after n r x y before text (Ok done) call sound view back same answers =
+    λ state is.
+    let o = has_reader S state n (reader_of x) is (reader-made i S n x sound view back.was) (bare-made i S n x view back.was) in
+    subst (λ m. Answered (made_reading i now after) (string_bytes before) (string_bytes text) (if_open (reader_at state m) (call state m) (barred state))) same
+    (answered-some (made_reading i now after) (string_bytes before) (string_bytes text) (reader_at state n) o.at (call state n) (barred state) o.has.is
+    (subst (λ s. Answered s (string_bytes before) (string_bytes text) (call state n o.at)) (made-reader_called i S now after n x y sound view back)
+    (answers S state n o.at is (sym (ap (λ (v : SessionState). v.host) view)) o.has)))
+
+-- nothing is open under the name
+bare_none : (o : Option Reader) → option_map (λ (y : Reader). y.bare) o ≡ None → o ≡ None
+bare_none None is = refl
+bare_none (Some y) is = absurd (cc)
+
+no_bare : (i : Inside) (S : SessionState) (n : ℕ) → made_of i ≡ S → named i.readers.items n ≡ None → named S.readers n ≡ None
+no_bare i S n view none = sym (ap (λ (v : SessionState). named v.readers n) view) ∙ named-map bare_reader_of i.readers.items n ∙ ap (option_map bare_reader_of) none
+
+pub no_reader : (i : Inside) (S : SessionState) (n : ℕ) → made_of i ≡ S → named i.readers.items n ≡ None → (state : State) → Represents S state → named state.readers n ≡ None
+no_reader i S n view none state is = bare_none (named state.readers n) (sym (readers_kept S state n is) ∙ no_bare i S n view none)
+
+pub no_reader_at : (i : Inside) (S : SessionState) (n r : ℕ) → made_of i ≡ S → named i.readers.items n ≡ None → n ≡ r → (state : State) → Represents S state → reader_at state r ≡ None
+no_reader_at i S n r view none same state is =
+    let none_there : named state.readers r ≡ None = ap (named state.readers) (sym same) ∙ no_reader i S n view none state is in
+    rw none_there refl
+
+pub answers-no_reader : {E : Type 0} (i : Inside) (S : SessionState) (mid : List (Option AnyReader)) (n r : ℕ) (before text : String Global) (result : Result Unit E) (call : State → ReaderAt → Answer) → made_of i ≡ S → named i.readers.items n ≡ None → mid ≡ i.readers.items → n ≡ r → OnOk result (string_bytes text ≡ string_bytes before ++ condition_line) → Answers S (made_reading i i.host mid) before text result (λ state. if_open (reader_at state r) (call state) (barred state))
+answers-no_reader i S mid n r before text (Err error) call view none rest same printed = tt
+answers-no_reader i S mid n r before text (Ok done) call view none rest same printed =
+    λ state is.
+    subst (λ l. Answered (made_reading i i.host l) (string_bytes before) (string_bytes text) (if_open (reader_at state r) (call state) (barred state))) (sym rest)
+    (subst (λ s. Answered s (string_bytes before) (string_bytes text) (if_open (reader_at state r) (call state) (barred state))) (sym view)
+    (answered-none S (string_bytes before) (string_bytes text) (reader_at state r) (call state) (barred state) (no_reader_at i S n r view none same state is)
+    (told-answered S state (string_bytes before) (string_bytes text) condition_line is printed)))
+
+-- a line with steps of its own: the steps are lent, a reader is called, and the rest of them is applied
+pub sound-reader_lent : (i : Inside) (steps : List KernelStep) (at now last : HostState) (after : List (Option AnyReader)) (r : ℕ) (x y : AnyReader) → IsSound (made_of i) → at ≡ record i.host { steps = steps } → PutBack i.readers.items after r x y → CallKeeps at now (endpoint_of x) (endpoint_of y) → last ≡ host_rest now → IsSound (made_reading i last after)
+sound-reader_lent i steps at now last after r x y sound is back keeps rest =
+    let places = places-made i sound in
+    let k = subst (λ (h : HostState). CallKeeps h now (endpoint_of x) (endpoint_of y)) is keeps in
+    subst (λ (h : HostState). IsSound (made_reading i h after)) (sym rest)
+    (sound-readers (record (made_of i) { host = host_rest now; endpoints = endpoints_with i.endpoints.items after }) (map (option_map bare_reader_of) after)
+    (sound-put (made_of i) (host_rest now) (endpoints_with i.endpoints.items after) (reader_place r) (endpoint_of x) (endpoint_of y) sound (taken-reader i.endpoints.items i.readers.items r x places back.was)
+    (put-reader_map i.endpoints.items i.readers.items after r y places back.put) (keeps-lent i.host now steps k.past k.line) (stands-rested now (endpoint_of y) k.stands) k.key k.maximum
+    (others-lent i.host now steps (endpoint_of x).key k.others) (none-lent i.host now steps k.line))
+    (bare-length i after r x y back))
+
+pub answers-reader_lent : {E : Type 0} (i : Inside) (S : SessionState) (steps : List KernelStep) (at now last : HostState) (after : List (Option AnyReader)) (n r : ℕ) (x y : AnyReader) (before text : String Global) (result : Result Unit E) (call : State → ℕ → ReaderAt → Answer) → IsSound (made_of i) → made_of i ≡ S → at ≡ record i.host { steps = steps } → PutBack i.readers.items after n x y → n ≡ r → ReaderAnswers at now (reader_of x) (reader_of y) before text result call → last ≡ host_rest now → Answers S (made_reading i last after) before text result (λ state. if_open (reader_at state r) (λ x. then_rested (call (lent state steps) r x)) (barred (stepped_all state steps)))
+answers-reader_lent i S steps at now last after n r x y before text (Err error) call sound view is back same answers rest = tt
+answers-reader_lent i S steps at now last after n r x y before text (Ok done) call sound view is back same answers rest =
+    λ state stands.
+    let b = string_bytes before in
+    let t = string_bytes text in
+    let o = has_reader S state n (reader_of x) stands (reader-made i S n x sound view back.was) (bare-made i S n x view back.was) in
+    let host : at ≡ record S.host { steps = steps } = is ∙ ap (λ (v : SessionState). record v.host { steps = steps }) view in
+    let lends : Represents (record S { host = at }) (lent state steps) =
+    subst (λ (h : HostState). Represents (record S { host = at }) (with_host state h)) (host ∙ ap (λ (h : HostState). record h { steps = steps }) (host_is S state stands)) (represents-host S state at stands) in
+    let called : Answered (with_reader_called S n now (reader_of y)) b t (call (lent state steps) n o.at) =
+    answers (record S { host = at }) (lent state steps) n o.at lends refl (record { endpoint = o.has.endpoint; reader = o.has.reader; is = o.has.is; same = o.has.same }) in
+    subst (λ m. Answered (made_reading i last after) b t (if_open (reader_at state m) (λ x. then_rested (call (lent state steps) m x)) (barred (stepped_all state steps)))) same
+    (answered-some (made_reading i last after) b t (reader_at state n) o.at (λ x. then_rested (call (lent state steps) n x)) (barred (stepped_all state steps)) o.has.is
+    (subst (λ (h : HostState). Answered (made_reading i h after) b t (then_rested (call (lent state steps) n o.at))) (sym rest)
+    (rested-answered (made_reading i now after) now b t (call (lent state steps) n o.at) refl
+    (subst (λ s. Answered s b t (call (lent state steps) n o.at)) (made-reader_called i S now after n x y sound view back) called))))
+
+-- no reader was called
+pub sound-reader_stepped : (i : Inside) (steps : List KernelStep) (at last : HostState) (mid : List (Option AnyReader)) → IsSound (made_of i) → at ≡ record i.host { steps = steps } → last ≡ host_rest at → mid ≡ i.readers.items → IsSound (made_reading i last mid)
+sound-reader_stepped i steps at last mid sound is rest none =
+    subst (λ l. IsSound (made_reading i last l)) (sym none) (sound-stepped i steps at last i.endpoints.items sound is rest refl)
+
+pub answers-reader_stepped : {E : Type 0} (i : Inside) (S : SessionState) (steps : List KernelStep) (at last : HostState) (mid : List (Option AnyReader)) (n r : ℕ) (before text : String Global) (result : Result Unit E) (call : State → ReaderAt → Answer) → made_of i ≡ S → at ≡ record i.host { steps = steps } → last ≡ host_rest at → named i.readers.items n ≡ None → mid ≡ i.readers.items → n ≡ r → OnOk result (string_bytes text ≡ string_bytes before ++ condition_line) → Answers S (made_reading i last mid) before text result (λ state. if_open (reader_at state r) (call state) (barred (stepped_all state steps)))
+answers-reader_stepped i S steps at last mid n r before text (Err error) call view is rest none back same printed = tt
+answers-reader_stepped i S steps at last mid n r before text (Ok done) call view is rest none back same printed =
+    λ state stands.
+    let b = string_bytes before in
+    let t = string_bytes text in
+    subst (λ l. Answered (made_reading i last l) b t (if_open (reader_at state r) (call state) (barred (stepped_all state steps)))) (sym back)
+    (answered-none (made_reading i last i.readers.items) b t (reader_at state r) (call state) (barred (stepped_all state steps)) (no_reader_at i S n r view none same state stands)
+    (told-answered (made_reading i last i.readers.items) (stepped_all state steps) b t condition_line (steps-represent i S steps at last view is rest state stands) printed))

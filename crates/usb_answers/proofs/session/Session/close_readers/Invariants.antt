@@ -1,0 +1,13 @@
+use Rattle.std.proofs.Common.{◌≡◌, ◌<◌, ℕ, None}
+use Rattle.usb_answers.specs.State.{State}
+use Rattle.usb_names.specs.Names.{named}
+use Rattle.usb_answers.specs.ReaderAt.{reader_place}
+use Rattle.usb_answers.specs.Ends.{readers_closed}
+use Rattle.usb_answers.specs.Relation.{Represents}
+use Rattle.usb_answers.proofs.session.Session.close_readers.Given as goal
+
+abbrev pub invariant-loop-name : goal.invariant-loop-name
+invariant-loop-name l = record {
+  stands : (state : State) → Represents l.initial.self state → Represents l.self (readers_closed state l.name);
+  none : (r : ℕ) → r < l.name → named l.self.endpoints (reader_place r) ≡ None;
+}

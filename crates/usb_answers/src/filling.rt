@@ -1,0 +1,170 @@
+//! `fill`, `sfill`, `pollfill` and `pollsfill`: the bytes that stand in a reader are shown.
+
+ghost use Rattle.std.specs.Prelude.{◌≡◌, ◌≤◌, ◌+◌, length};
+ghost use Rattle.std.specs.Borrow.{sem};
+ghost use Rattle.std.specs.Io.BufRead.{Rests};
+ghost use Rattle.usb_endpoint.specs.Handles.{Stands};
+ghost use Rattle.usb_host.specs.HostBus.{bus_of};
+ghost use Rattle.usb_host.specs.HostFrames.{LineGoesOn};
+ghost use Rattle.usb_io.specs.AnyReaders.{reader_of};
+ghost use Rattle.usb_io.specs.Reads.{reading, GoesAlong, KeepsSettings};
+ghost use Rattle.usb_io.specs.contracts.any_reader.AnyReader.{the_row};
+ghost use Rattle.usb_streams.specs.HostReads.{fill_came};
+ghost use Rattle.usb_streams.specs.Lent.{FilledAs, PollFilledAs};
+ghost use Rattle.usb_answers.specs.Reads.{is_until_short, fill_on, fill_answer, poll_fill_on, poll_fill_answer};
+ghost use Rattle.usb_answers.specs.Answered.{Answers};
+ghost use Rattle.usb_answers.specs.OpenCalls.{CallKeeps};
+ghost use Rattle.usb_answers.specs.ReaderCalls.{ReaderAnswers};
+
+use crate::reading::bars_read;
+use crate::session::Session;
+use futures::task::Poll;
+use usb_desc::{Fail, NoMemory};
+use usb_device::Host;
+use usb_io::{AnyReader, ReadFault};
+use usb_lines::{write_condition, write_pending};
+use usb_names::{put_at, take_at};
+use usb_script::{Framing, Name, Steps};
+use usb_stream_lines::{write_buffer, write_read_fault};
+
+/// The bytes that stand in a reader, by the call of this framing.
+fn fill_bytes<'a>(
+    reader: &'a mut AnyReader,
+    host: &mut Host,
+    framing: Framing,
+) -> Result<&'a [u8], Fail<ReadFault>>
+    requires stands { Stands (bus_of host.old) (reader_of reader.old).endpoint }
+    ensures* lent { sem 𝓛
+        (Rests the_row reader.entry
+        (λ new. FilledAs (fill_came (is_until_short framing) (reader_of reader.old).timeout
+        (reading host.old (reader_of reader.old))) result (reading host.new (reader_of new))
+        × LineGoesOn host.old host.new
+        × GoesAlong (bus_of host.old) (bus_of host.new) (reader_of reader.old) (reader_of new)
+        × KeepsSettings (reader_of reader.old) (reader_of new))) }
+{
+    match framing {
+        Framing::Plain => usb_streams::fill_buf(reader, host),
+        Framing::UntilShort => usb_streams::fill_until_short(reader, host),
+    }
+}
+
+/// Shows the bytes that stand in a reader that is open.
+fn fill_open(
+    reader: &mut AnyReader,
+    host: &mut Host,
+    line: &mut String,
+    framing: Framing,
+) -> Result<(), NoMemory>
+    requires stands { Stands (bus_of host.old) (reader_of reader.old).endpoint }
+    ensures keeps { CallKeeps host.old host.new (reader_of reader.old).endpoint
+        (reader_of reader.new).endpoint }
+    ensures answered { ReaderAnswers host.old host.new (reader_of reader.old)
+        (reader_of reader.new) line.old line.new result
+        (λ state r at. fill_on state framing r at) }
+{
+    if bars_read(host, framing, reader) {
+        return write_condition(line);
+    }
+    let alloc = *line.allocator();
+    match fill_bytes(reader, host, framing) {
+        Ok(bytes) => write_buffer(line, bytes),
+        Err(Fail::Cause(fault)) => write_read_fault(alloc, line, fault),
+        Err(Fail::Memory) => Err(NoMemory),
+    }
+}
+
+/// The bytes that stand in a reader, by the call of this framing that does not wait.
+fn poll_fill_bytes<'a>(
+    reader: &'a mut AnyReader,
+    host: &mut Host,
+    framing: Framing,
+) -> Poll<Result<&'a [u8], Fail<ReadFault>>>
+    requires stands { Stands (bus_of host.old) (reader_of reader.old).endpoint }
+    ensures* lent { sem 𝓛
+        (Rests the_row reader.entry
+        (λ new. PollFilledAs (fill_came (is_until_short framing) 0
+        (reading host.old (reader_of reader.old))) result (reading host.new (reader_of new))
+        × LineGoesOn host.old host.new
+        × GoesAlong (bus_of host.old) (bus_of host.new) (reader_of reader.old) (reader_of new)
+        × KeepsSettings (reader_of reader.old) (reader_of new))) }
+{
+    match framing {
+        Framing::Plain => usb_streams::poll_fill_buf(reader, host),
+        Framing::UntilShort => usb_streams::poll_fill_until_short(reader, host),
+    }
+}
+
+/// Shows the bytes that stand in a reader that is open, with no wait.
+fn poll_fill_open(
+    reader: &mut AnyReader,
+    host: &mut Host,
+    line: &mut String,
+    framing: Framing,
+) -> Result<(), NoMemory>
+    requires stands { Stands (bus_of host.old) (reader_of reader.old).endpoint }
+    ensures keeps { CallKeeps host.old host.new (reader_of reader.old).endpoint
+        (reader_of reader.new).endpoint }
+    ensures answered { ReaderAnswers host.old host.new (reader_of reader.old)
+        (reader_of reader.new) line.old line.new result
+        (λ state r at. poll_fill_on state framing r at) }
+{
+    if bars_read(host, framing, reader) {
+        return write_condition(line);
+    }
+    let alloc = *line.allocator();
+    match poll_fill_bytes(reader, host, framing) {
+        Poll::Ready(Ok(bytes)) => write_buffer(line, bytes),
+        Poll::Ready(Err(Fail::Cause(fault))) => write_read_fault(alloc, line, fault),
+        Poll::Ready(Err(Fail::Memory)) => Err(NoMemory),
+        Poll::Pending => write_pending(line),
+    }
+}
+
+impl Session {
+    /// `fill` and `sfill`: the bytes that stand in a reader are shown, with a wait where there are
+    /// none. The steps are applied meanwhile, and those that are left right after it.
+    pub(crate) fn fill_buf(
+        &mut self,
+        line: &mut String,
+        framing: Framing,
+        name: Name,
+        steps: Steps,
+    ) -> Result<(), NoMemory>
+        requires room { length steps ≤ self.old.host.kernel.spare }
+        ensures answered { Answers self.old self.new line.old line.new result
+            (λ state. fill_answer state framing name steps) }
+        ensures spare { self.new.host.kernel.spare + length steps ≡ self.old.host.kernel.spare }
+    {
+        let number = name.number();
+        self.host.lend_steps(steps.into_vec());
+        let Some(mut reader) = take_at(&mut self.readers, number) else {
+            self.host.rest();
+            return write_condition(line);
+        };
+        let filled = fill_open(&mut reader, &mut self.host, line, framing);
+        put_at(&mut self.readers, number, reader);
+        self.host.rest();
+        filled
+    }
+
+    /// `pollfill` and `pollsfill`: the bytes that stand in a reader are shown, of those that are
+    /// there.
+    pub(crate) fn poll_fill_buf(
+        &mut self,
+        line: &mut String,
+        framing: Framing,
+        name: Name,
+    ) -> Result<(), NoMemory>
+        ensures answered { Answers self.old self.new line.old line.new result
+            (λ state. poll_fill_answer state framing name) }
+        ensures spare { self.new.host.kernel.spare ≡ self.old.host.kernel.spare }
+    {
+        let number = name.number();
+        let Some(mut reader) = take_at(&mut self.readers, number) else {
+            return write_condition(line);
+        };
+        let filled = poll_fill_open(&mut reader, &mut self.host, line, framing);
+        put_at(&mut self.readers, number, reader);
+        filled
+    }
+}

@@ -1,0 +1,234 @@
+//! `num`, `timeout` and `cancel` of a reader, and what it does without the host: `consume`,
+//! `sconsume`, `isend` and `endmsg`.
+
+ghost use Rattle.std.specs.Prelude.{◌≡◌, ◌≤◌, ◌-◌, ◌||◌, nat_lt, length};
+ghost use Rattle.usb_endpoint.specs.Handles.{Stands};
+ghost use Rattle.usb_host.specs.HostState.{HostState};
+ghost use Rattle.usb_host.specs.HostBus.{bus_of};
+ghost use Rattle.usb_io.specs.AnyReaders.{reader_of};
+ghost use Rattle.usb_io.specs.Readers.{with_read};
+ghost use Rattle.usb_answers.specs.Readers.{bars_need, num_on, num_answer, timeout_on, timeout_answer, cancel_reader_on, cancel_reader_answer};
+ghost use Rattle.usb_answers.specs.Reads.{consume_on, consume_answer, is_end_answer, consume_end_on, consume_end_answer};
+ghost use Rattle.usb_answers.specs.Answered.{Answers};
+ghost use Rattle.usb_answers.specs.OpenCalls.{CallKeeps};
+ghost use Rattle.usb_answers.specs.ReaderCalls.{ReaderAnswers};
+
+use crate::reading::bars_need;
+use crate::session::Session;
+use crate::submitting::MOST_PENDING;
+use usb_desc::NoMemory;
+use usb_device::Host;
+use usb_io::AnyReader;
+use usb_lines::{write_condition, write_ok};
+use usb_names::{open_at, put_at, take_at};
+use usb_script::{Framing, Length, Name, Timeout};
+use usb_stream_lines::{write_consumed_end, write_is_end};
+
+/// Whether a number of transfers can't be set: it is too large, or the submissions that are missing
+/// of one less are barred.
+fn bars_count(host: &Host, reader: &AnyReader, count: usize) -> bool
+    ensures barred { result ≡ (nat_lt 64 count || bars_need host.now.kernel.past
+        (length (reader_of reader.now).endpoint.pending)
+        (count - 1 - length (reader_of reader.now).endpoint.pending)) }
+{
+    let pending = reader.pending();
+    let need = count.saturating_sub(1).saturating_sub(pending);
+    count > MOST_PENDING || bars_need(host, pending, need)
+}
+
+/// Sets how many transfers of a reader that is open are to be pending.
+fn num_open(
+    reader: &mut AnyReader,
+    host: &mut Host,
+    line: &mut String,
+    count: u32,
+) -> Result<(), NoMemory>
+    requires stands { Stands (bus_of host.old) (reader_of reader.old).endpoint }
+    ensures keeps { CallKeeps host.old host.new (reader_of reader.old).endpoint
+        (reader_of reader.new).endpoint }
+    ensures answered { ReaderAnswers host.old host.new (reader_of reader.old)
+        (reader_of reader.new) line.old line.new result
+        (λ state r at. num_on state r count at) }
+{
+    let count = count as usize;
+    if bars_count(host, reader, count) {
+        return write_condition(line);
+    }
+    usb_streams::set_num_transfers(reader, host, count)?;
+    write_ok(line)
+}
+
+/// Sets the timeout of the waits of a reader that is open.
+fn timeout_open(reader: &mut AnyReader, line: &mut String, timeout: Timeout) -> Result<(), NoMemory>
+    ensures endpoint { (reader_of reader.new).endpoint ≡ (reader_of reader.old).endpoint }
+    ensures answered { (host : HostState) → ReaderAnswers host host (reader_of reader.old)
+        (reader_of reader.new) line.old line.new result
+        (λ state r at. timeout_on state r timeout) }
+{
+    reader.set_read_timeout(timeout.nanoseconds());
+    write_ok(line)
+}
+
+/// Discards the pending transfers of a reader that is open, which keeps none pending from then on.
+fn cancel_reader_open(
+    reader: &mut AnyReader,
+    host: &mut Host,
+    line: &mut String,
+) -> Result<(), NoMemory>
+    requires stands { Stands (bus_of host.old) (reader_of reader.old).endpoint }
+    ensures keeps { CallKeeps host.old host.new (reader_of reader.old).endpoint
+        (reader_of reader.new).endpoint }
+    ensures answered { ReaderAnswers host.old host.new (reader_of reader.old)
+        (reader_of reader.new) line.old line.new result
+        (λ state r at. cancel_reader_on state r at) }
+{
+    reader.cancel_all(host);
+    write_ok(line)
+}
+
+/// Takes bytes off, by the call of this framing.
+fn take_off(reader: &mut AnyReader, framing: Framing, count: usize)
+    requires within { count ≤ length (reader_of reader.old).unread }
+    ensures read { reader_of reader.new ≡ with_read count (reader_of reader.old) }
+{
+    match framing {
+        Framing::Plain => reader.consume(count),
+        Framing::UntilShort => reader.consume_until_short(count),
+    }
+}
+
+/// Takes bytes off a reader that is open, of those that stand.
+fn consume_open(
+    reader: &mut AnyReader,
+    line: &mut String,
+    framing: Framing,
+    count: Length,
+) -> Result<(), NoMemory>
+    ensures endpoint { (reader_of reader.new).endpoint ≡ (reader_of reader.old).endpoint }
+    ensures answered { (host : HostState) → ReaderAnswers host host (reader_of reader.old)
+        (reader_of reader.new) line.old line.new result
+        (λ state r at. consume_on state framing r count at) }
+{
+    let count = count.bytes() as usize;
+    if count > reader.available() {
+        return write_condition(line);
+    }
+    take_off(reader, framing, count);
+    write_ok(line)
+}
+
+/// Takes the end off a reader that is open, where it is next.
+fn consume_end_open(reader: &mut AnyReader, line: &mut String) -> Result<(), NoMemory>
+    ensures endpoint { (reader_of reader.new).endpoint ≡ (reader_of reader.old).endpoint }
+    ensures answered { (host : HostState) → ReaderAnswers host host (reader_of reader.old)
+        (reader_of reader.new) line.old line.new result
+        (λ state r at. consume_end_on state r at) }
+{
+    let answer = reader.consume_end();
+    write_consumed_end(line, &answer)
+}
+
+impl Session {
+    /// `num`: how many transfers of a reader are to be pending is set, and as many are handed in as
+    /// are missing of one less.
+    pub(crate) fn set_num_transfers(
+        &mut self,
+        line: &mut String,
+        name: Name,
+        count: u32,
+    ) -> Result<(), NoMemory>
+        ensures answered { Answers self.old self.new line.old line.new result
+            (λ state. num_answer state name count) }
+        ensures spare { self.new.host.kernel.spare ≡ self.old.host.kernel.spare }
+    {
+        let number = name.number();
+        let Some(mut reader) = take_at(&mut self.readers, number) else {
+            return write_condition(line);
+        };
+        let set = num_open(&mut reader, &mut self.host, line, count);
+        put_at(&mut self.readers, number, reader);
+        set
+    }
+
+    /// `timeout`: the timeout of the waits of a reader is set.
+    pub(crate) fn set_read_timeout(
+        &mut self,
+        line: &mut String,
+        name: Name,
+        timeout: Timeout,
+    ) -> Result<(), NoMemory>
+        ensures answered { Answers self.old self.new line.old line.new result
+            (λ state. timeout_answer state name timeout) }
+        ensures spare { self.new.host.kernel.spare ≡ self.old.host.kernel.spare }
+    {
+        let number = name.number();
+        let Some(mut reader) = take_at(&mut self.readers, number) else {
+            return write_condition(line);
+        };
+        let set = timeout_open(&mut reader, line, timeout);
+        put_at(&mut self.readers, number, reader);
+        set
+    }
+
+    /// `cancel`: the pending transfers of a reader are discarded, from the last to the first.
+    pub(crate) fn cancel_reader(&mut self, line: &mut String, name: Name) -> Result<(), NoMemory>
+        ensures answered { Answers self.old self.new line.old line.new result
+            (λ state. cancel_reader_answer state name) }
+        ensures spare { self.new.host.kernel.spare ≡ self.old.host.kernel.spare }
+    {
+        let number = name.number();
+        let Some(mut reader) = take_at(&mut self.readers, number) else {
+            return write_condition(line);
+        };
+        let cancelled = cancel_reader_open(&mut reader, &mut self.host, line);
+        put_at(&mut self.readers, number, reader);
+        cancelled
+    }
+
+    /// `consume` and `sconsume`: so many of the bytes that stand in a reader are taken off.
+    pub(crate) fn consume(
+        &mut self,
+        line: &mut String,
+        framing: Framing,
+        name: Name,
+        count: Length,
+    ) -> Result<(), NoMemory>
+        ensures answered { Answers self.old self.new line.old line.new result
+            (λ state. consume_answer state framing name count) }
+        ensures spare { self.new.host.kernel.spare ≡ self.old.host.kernel.spare }
+    {
+        let number = name.number();
+        let Some(mut reader) = take_at(&mut self.readers, number) else {
+            return write_condition(line);
+        };
+        let consumed = consume_open(&mut reader, line, framing, count);
+        put_at(&mut self.readers, number, reader);
+        consumed
+    }
+
+    /// `isend`: whether the end of a message is next in a reader.
+    pub(crate) fn is_end(&self, line: &mut String, name: Name) -> Result<(), NoMemory>
+        ensures answered { Answers self.now self.now line.old line.new result
+            (λ state. is_end_answer state name) }
+    {
+        match open_at(&self.readers, name.number()) {
+            Some(reader) => write_is_end(line, reader.is_end()),
+            None => write_condition(line),
+        }
+    }
+
+    /// `endmsg`: the end of a message is taken off a reader, where it is next.
+    pub(crate) fn consume_end(&mut self, line: &mut String, name: Name) -> Result<(), NoMemory>
+        ensures answered { Answers self.old self.new line.old line.new result
+            (λ state. consume_end_answer state name) }
+        ensures spare { self.new.host.kernel.spare ≡ self.old.host.kernel.spare }
+    {
+        let number = name.number();
+        let Some(mut reader) = take_at(&mut self.readers, number) else {
+            return write_condition(line);
+        };
+        let consumed = consume_end_open(&mut reader, line);
+        put_at(&mut self.readers, number, reader);
+        consumed
+    }
+}

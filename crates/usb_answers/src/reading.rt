@@ -1,0 +1,239 @@
+//! `read`, `sread`, `pollread` and `pollsread`: bytes are read from a reader.
+
+ghost use Rattle.std.specs.Prelude.{◌≡◌, ◌≤◌, ◌+◌, take, length, Ok, Err, IfOk, IfErr};
+ghost use Rattle.usb_endpoint.specs.Handles.{Stands};
+ghost use Rattle.usb_endpoint.specs.Polls.{IfReady, IfPending};
+ghost use Rattle.usb_host.specs.HostBus.{bus_of};
+ghost use Rattle.usb_host.specs.HostFrames.{LineGoesOn};
+ghost use Rattle.usb_io.specs.AnyReaders.{reader_of};
+ghost use Rattle.usb_io.specs.Answers.{IsInTime};
+ghost use Rattle.usb_io.specs.Readers.{turns};
+ghost use Rattle.usb_io.specs.Reads.{reading, GoesAlong};
+ghost use Rattle.usb_streams.specs.HostReads.{read_came, answered, FailedAs};
+ghost use Rattle.usb_answers.specs.Readers.{bars_need};
+ghost use Rattle.usb_answers.specs.Reads.{is_until_short, need_of, read_on, read_answer, poll_read_on, poll_read_answer};
+ghost use Rattle.usb_answers.specs.Answered.{Answers};
+ghost use Rattle.usb_answers.specs.OpenCalls.{CallKeeps};
+ghost use Rattle.usb_answers.specs.ReaderCalls.{ReaderAnswers};
+
+use crate::session::Session;
+use crate::submitting::{MOST_PENDING, MOST_UNREAPED};
+use futures::task::Poll;
+use usb_desc::{Fail, NoMemory};
+use usb_device::Host;
+use usb_io::{AnyReader, ReadFault};
+use usb_lines::{write_condition, write_pending};
+use usb_names::{put_at, take_at};
+use usb_script::{Framing, Name, ReadLength, Steps};
+use usb_stream_lines::{write_read, write_read_fault};
+
+/// Whether so many submissions are barred, where so many transfers of a reader are pending: too many
+/// would be, or too many tickets unreaped.
+pub fn bars_need(host: &Host, pending: usize, need: usize) -> bool
+    ensures barred { result ≡ bars_need host.now.kernel.past pending need }
+{
+    pending.saturating_add(need) > MOST_PENDING
+        || host.kernel().unreaped().saturating_add(need) > MOST_UNREAPED
+}
+
+/// Whether a call stops at a short packet.
+fn is_until_short(framing: Framing) -> bool
+    ensures value { result ≡ is_until_short framing }
+{
+    match framing {
+        Framing::Plain => false,
+        Framing::UntilShort => true,
+    }
+}
+
+/// Whether a call on a reader turns: no byte stands and no error lasts, and where it stops at a
+/// short packet no end stands.
+fn turns(reader: &AnyReader, framing: Framing) -> bool
+    ensures value { result ≡ turns (is_until_short framing) (reader_of reader.now) }
+{
+    reader.available() == 0 && !reader.has_error() && !(is_until_short(framing) && reader.has_end())
+}
+
+/// How many submissions a call on a reader may need.
+fn need_of(reader: &AnyReader, framing: Framing) -> usize
+    ensures value { result ≡ need_of framing (reader_of reader.now) }
+{
+    if turns(reader, framing) {
+        reader.num_transfers().saturating_sub(reader.pending())
+    } else {
+        0
+    }
+}
+
+/// Whether a call on a reader is barred: the submissions that it may need are.
+pub fn bars_read(host: &Host, framing: Framing, reader: &AnyReader) -> bool
+    ensures barred { result ≡ bars_need host.now.kernel.past
+        (length (reader_of reader.now).endpoint.pending) (need_of framing (reader_of reader.now)) }
+{
+    bars_need(host, reader.pending(), need_of(reader, framing))
+}
+
+/// Reads as many bytes as fit, by the call of this framing.
+fn read_bytes(
+    reader: &mut AnyReader,
+    host: &mut Host,
+    framing: Framing,
+    dest: &mut [u8],
+) -> Result<usize, Fail<ReadFault>>
+    requires stands { Stands (bus_of host.old) (reader_of reader.old).endpoint }
+    ensures few { IfOk result (λ n. n ≤ length dest.old) }
+    ensures read { IfOk result
+        (λ n. read_came (is_until_short framing) (reader_of reader.old).timeout (length dest.old)
+        (reading host.old (reader_of reader.old))
+        ≡ answered (Ok (take n dest.new)) (reading host.new (reader_of reader.new))) }
+    ensures failed { IfErr result
+        (λ e. FailedAs (read_came (is_until_short framing) (reader_of reader.old).timeout
+        (length dest.old) (reading host.old (reader_of reader.old))) e
+        (reading host.new (reader_of reader.new))) }
+    ensures line { LineGoesOn host.old host.new }
+    ensures goes { GoesAlong (bus_of host.old) (bus_of host.new) (reader_of reader.old)
+        (reader_of reader.new) }
+{
+    match framing {
+        Framing::Plain => usb_streams::read(reader, host, dest),
+        Framing::UntilShort => usb_streams::read_until_short(reader, host, dest),
+    }
+}
+
+/// Reads from a reader that is open.
+fn read_open(
+    reader: &mut AnyReader,
+    host: &mut Host,
+    line: &mut String,
+    framing: Framing,
+    most: ReadLength,
+) -> Result<(), NoMemory>
+    requires stands { Stands (bus_of host.old) (reader_of reader.old).endpoint }
+    ensures keeps { CallKeeps host.old host.new (reader_of reader.old).endpoint
+        (reader_of reader.new).endpoint }
+    ensures answered { ReaderAnswers host.old host.new (reader_of reader.old)
+        (reader_of reader.new) line.old line.new result
+        (λ state r at. read_on state framing r most at) }
+{
+    if bars_read(host, framing, reader) {
+        return write_condition(line);
+    }
+    let alloc = *line.allocator();
+    let mut bytes = vec![in alloc; 0; most.bytes() as usize]?;
+    match read_bytes(reader, host, framing, &mut bytes) {
+        Ok(count) => write_read(line, &bytes[..count]),
+        Err(Fail::Cause(fault)) => write_read_fault(alloc, line, fault),
+        Err(Fail::Memory) => Err(NoMemory),
+    }
+}
+
+/// Reads as many bytes as fit, by the call of this framing that does not wait.
+fn poll_bytes(
+    reader: &mut AnyReader,
+    host: &mut Host,
+    framing: Framing,
+    dest: &mut [u8],
+) -> Poll<Result<usize, Fail<ReadFault>>>
+    requires stands { Stands (bus_of host.old) (reader_of reader.old).endpoint }
+    ensures few { IfReady result (λ r. IfOk r (λ n. n ≤ length dest.old)) }
+    ensures read { IfReady result
+        (λ r. IfOk r (λ n. read_came (is_until_short framing) 0 (length dest.old)
+        (reading host.old (reader_of reader.old))
+        ≡ answered (Ok (take n dest.new)) (reading host.new (reader_of reader.new)))) }
+    ensures failed { IfReady result
+        (λ r. IfErr r
+        (λ e. FailedAs (read_came (is_until_short framing) 0 (length dest.old)
+        (reading host.old (reader_of reader.old))) e (reading host.new (reader_of reader.new)))) }
+    ensures in_time { IfReady result (λ r. IfErr r IsInTime) }
+    ensures pending { IfPending result
+        (read_came (is_until_short framing) 0 (length dest.old)
+        (reading host.old (reader_of reader.old))
+        ≡ answered (Err ReadFault.TimedOut) (reading host.new (reader_of reader.new))) }
+    ensures line { LineGoesOn host.old host.new }
+    ensures goes { GoesAlong (bus_of host.old) (bus_of host.new) (reader_of reader.old)
+        (reader_of reader.new) }
+{
+    match framing {
+        Framing::Plain => usb_streams::poll_read(reader, host, dest),
+        Framing::UntilShort => usb_streams::poll_read_until_short(reader, host, dest),
+    }
+}
+
+/// Reads from a reader that is open, with no wait.
+fn poll_read_open(
+    reader: &mut AnyReader,
+    host: &mut Host,
+    line: &mut String,
+    framing: Framing,
+    most: ReadLength,
+) -> Result<(), NoMemory>
+    requires stands { Stands (bus_of host.old) (reader_of reader.old).endpoint }
+    ensures keeps { CallKeeps host.old host.new (reader_of reader.old).endpoint
+        (reader_of reader.new).endpoint }
+    ensures answered { ReaderAnswers host.old host.new (reader_of reader.old)
+        (reader_of reader.new) line.old line.new result
+        (λ state r at. poll_read_on state framing r most at) }
+{
+    if bars_read(host, framing, reader) {
+        return write_condition(line);
+    }
+    let alloc = *line.allocator();
+    let mut bytes = vec![in alloc; 0; most.bytes() as usize]?;
+    match poll_bytes(reader, host, framing, &mut bytes) {
+        Poll::Ready(Ok(count)) => write_read(line, &bytes[..count]),
+        Poll::Ready(Err(Fail::Cause(fault))) => write_read_fault(alloc, line, fault),
+        Poll::Ready(Err(Fail::Memory)) => Err(NoMemory),
+        Poll::Pending => write_pending(line),
+    }
+}
+
+impl Session {
+    /// `read` and `sread`: at most so many bytes are read from a reader, with a wait where there are
+    /// none. The steps are applied meanwhile, and those that are left right after it.
+    pub(crate) fn read(
+        &mut self,
+        line: &mut String,
+        framing: Framing,
+        name: Name,
+        most: ReadLength,
+        steps: Steps,
+    ) -> Result<(), NoMemory>
+        requires room { length steps ≤ self.old.host.kernel.spare }
+        ensures answered { Answers self.old self.new line.old line.new result
+            (λ state. read_answer state framing name most steps) }
+        ensures spare { self.new.host.kernel.spare + length steps ≡ self.old.host.kernel.spare }
+    {
+        let number = name.number();
+        self.host.lend_steps(steps.into_vec());
+        let Some(mut reader) = take_at(&mut self.readers, number) else {
+            self.host.rest();
+            return write_condition(line);
+        };
+        let read = read_open(&mut reader, &mut self.host, line, framing, most);
+        put_at(&mut self.readers, number, reader);
+        self.host.rest();
+        read
+    }
+
+    /// `pollread` and `pollsread`: at most so many bytes are read from a reader, of those that are
+    /// there.
+    pub(crate) fn poll_read(
+        &mut self,
+        line: &mut String,
+        framing: Framing,
+        name: Name,
+        most: ReadLength,
+    ) -> Result<(), NoMemory>
+        ensures answered { Answers self.old self.new line.old line.new result
+            (λ state. poll_read_answer state framing name most) }
+        ensures spare { self.new.host.kernel.spare ≡ self.old.host.kernel.spare }
+    {
+        let number = name.number();
+        let Some(mut reader) = take_at(&mut self.readers, number) else {
+            return write_condition(line);
+        };
+        let read = poll_read_open(&mut reader, &mut self.host, line, framing, most);
+        put_at(&mut self.readers, number, reader);
+        read
+    }
+}

@@ -1,0 +1,4 @@
+pub mod DrainsCome
+pub mod WritesKeep
+pub mod CallsGoOn
+pub mod CallAnswers

@@ -1,0 +1,3 @@
+pub mod AnyWriters
+pub mod HostWrites
+pub mod Laws
