@@ -239,6 +239,29 @@ def futures(_size):
         yield f"fin f0 d0 {CONTROL} 64 1000\nfwait f0\n"
 
 
+def messages(transfer_size, reads):
+    """Messages of 130 bytes in three packets, each read by so many reads until a short packet, with 8 transfers in flight."""
+    yield f"{IN}reader r0 e0 {transfer_size}\nnum r0 8\n"
+    packets = f"! pkt k0 81 {'5a' * 64} ; pkt k0 81 {'a5' * 64} ; pkt k0 81 2233\n"
+    yield from itertools.repeat(packets + "sread r0 200\n" * reads + "endmsg r0\n")
+
+
+def framed64(_size):
+    """messages of three packets, read until short packets by transfers of 64 bytes, again and again"""
+    yield from messages(64, 3)
+
+
+def framed4096(_size):
+    """the same by transfers of 4096 bytes"""
+    yield from messages(4096, 1)
+
+
+def bytewise(_size):
+    """a reader's bytes that are read one by one, again and again"""
+    yield f"{IN}reader r0 e0 512\nnum r0 2\n"
+    yield from itertools.repeat(f"! pkt k0 81 {'5a' * 63}\n" + "read r0 1\n" * 63)
+
+
 def comments(_size):
     """comments"""
     yield OPENED
@@ -249,7 +272,8 @@ KINDS = {
     kind.__name__: kind
     for kind in (
         polls, cycles, behind, flight, cancels, waits, refused, armed, submitout, steps, claims, closes, owners, openings,
-        refusals, descriptors, printed, attributes, again, matches, packets, control, futures, comments,
+        refusals, descriptors, printed, attributes, again, matches, packets, control, futures, framed64, framed4096,
+        bytewise, comments,
     )
 }
 

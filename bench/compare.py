@@ -6,12 +6,12 @@ usage: bench/compare.py PROGRAM OTHER [COUNT [SEED]]
 In one script in five most calls are about a tree of attributes and packets of udev: the folders of a hub, of devices and of
 interfaces, some of whose attributes are missing, denied or damaged. Each other script has a few simulated devices, and then
 calls and steps over few names, so that names collide, endpoints are busy, tickets are reaped in any order and devices are
-pulled out while transfers are open. In a third of the scripts most calls are control transfers, with deadlines that pass while
-they wait, in another third transfers of endpoints; in the others most are about owners: claims, clones, closes, kernel drivers,
-configurations and alternate settings. In about a third of the scripts no refusal is armed. One in ten has a malformed line.
+pulled out while transfers are open. In a quarter of the scripts most calls are control transfers, with deadlines that pass while
+they wait, in another reads of readers, in a third transfers of endpoints; in the others most are about owners: claims, clones,
+closes, kernel drivers, configurations and alternate settings. In about a third of the scripts no refusal is armed. One in ten has a malformed line.
 Some scripts print the descriptors of damaged devices.
 At the end stand the kinds of lines and steps of docs/SCRIPT.md, the answers and the statuses that didn't occur, and of the
-calls about owners and of control transfers each answer that didn't: those that a script can have without an armed refusal are
+calls about owners, of control transfers and of reads each answer that didn't: those that a script can have without an armed refusal are
 counted there alone.
 """
 import collections
@@ -25,6 +25,7 @@ LANGUAGE = pathlib.Path(__file__).parent.parent / "docs/SCRIPT.md"
 ANSWERS = [
     "ok", "condition", "error", "device", "desc", "count", "pending", "none", "done", "now", "ticket", "config", "noconfig", "speed",
     "alt", "if", "list", "buses", "info", "sysfs", "match", "connected", "disconnected", "data", "failed", "langs", "string",
+    "read", "buf", "io", "end", "expected",
 ]
 STATUSES = ["ok", "cancelled", "stall", "disconnected", "fault", "invalid", "unknown"]
 ENDS = ["taken", "dropped", "reclaimed"]
@@ -36,6 +37,11 @@ NO_ENDPOINT = "error NotFound specified endpoint does not exist on this interfac
 SETTING_IN_USE = "error Busy can't change alternate setting while endpoints are in use"
 FAILED = [f"failed {it}" for it in ("cancelled", "stall", "disconnected", "fault", "invalid", "unknown")]
 UNTOLD = ["failed invalid-descriptor", *FAILED]
+TIMED_OUT, ENDED_EARLY = "io TimedOut timeout waiting for read", "io UnexpectedEof ended without short packet"
+FAULTS = [
+    "io ConnectionReset endpoint stalled", "io ConnectionAborted device disconnected", "io Other hardware fault or protocol violation",
+    "io InvalidInput invalid or unsupported argument", "io Other unknown",
+]
 UNKNOWN_CONFIGURATION = "noconfig no descriptor found for active configuration 7"
 
 # by call the answers that it gives without an armed refusal, and those that want one
@@ -87,6 +93,24 @@ OF_CALLS = {
     "langs": (["langs", *UNTOLD], []),
     "string": (["string", *UNTOLD], []),
     "close f": (["ok"], []),
+    "reader": (["ok"], []),
+    "inner": (["ok"], []),
+    "num": (["ok"], []),
+    "timeout": (["ok"], []),
+    "cancel r": (["ok"], []),
+    "close r": (["ok"], []),
+    "read": (["read", "read 0 -", *FAULTS, TIMED_OUT], []),
+    "sread": (["read", "read 0 -", *FAULTS, TIMED_OUT, ENDED_EARLY], []),
+    "pollread": (["read", "read 0 -", *FAULTS, "pending"], []),
+    "pollsread": (["read", "read 0 -", *FAULTS, "pending", ENDED_EARLY], []),
+    "fill": (["buf", "buf 0 -", *FAULTS, TIMED_OUT], []),
+    "sfill": (["buf", "buf 0 -", *FAULTS, TIMED_OUT, ENDED_EARLY], []),
+    "pollfill": (["buf", "buf 0 -", *FAULTS, "pending"], []),
+    "pollsfill": (["buf", "buf 0 -", *FAULTS, "pending", ENDED_EARLY], []),
+    "consume": (["ok"], []),
+    "sconsume": (["ok"], []),
+    "isend": (["end true", "end false"], []),
+    "endmsg": (["ok", "expected short packet"], []),
 }
 
 CONFIGURATIONS = [
@@ -327,6 +351,73 @@ def control_call(r):
     ])()
 
 
+def reader_step(r):
+    k = name(r, "k", 2)
+    return r.choice([
+        lambda: f"pkt k0 81 {hexes(r, [0, 1, 5, 8, 63, 64, 64, 64])}",
+        lambda: f"pkt k0 81 {hexes(r, [0, 1, 5, 8, 63, 64, 64, 64])}",
+        lambda: f"pkt k0 81 {hexes(r, [64, 65])}",
+        lambda: f"fail k0 81 {r.choice(FAILURES)}" if r.random() < 0.6 else "reap",
+        lambda: f"refuse k0 submit {r.choice(FAILURES)}" if r.random() < 0.5 else "reap",
+        lambda: f"clock {r.randrange(4000)}",
+        lambda: "timer",
+        lambda: "reap",
+        lambda: f"reap {r.randrange(12)}",
+        lambda: f"unplug {k}" if r.random() < 0.1 else "reap",
+    ])()
+
+
+def reader_steps(r):
+    return " ; ".join(reader_step(r) for _ in range(r.randint(1, 4)))
+
+
+def reader_own(r):
+    return f" : {reader_steps(r)}" if r.random() < 0.7 else ""
+
+
+def reading_call(r):
+    """A call that reads, of either kind."""
+    x, short, most = name(r, "r", 3), r.choice(["", "s", "s"]), r.choice([1, 2, 5, 64, 64, 200, 65536])
+    return r.choice([
+        lambda: f"{short}read {x} {most}{reader_own(r)}",
+        lambda: f"{short}read {x} {most}{reader_own(r)}",
+        lambda: f"poll{short}read {x} {most}",
+        lambda: f"{short}fill {x}{reader_own(r)}",
+        lambda: f"poll{short}fill {x}",
+        lambda: f"{short}consume {x} {r.choice([0, 1, 5, 64, 65536])}",
+        lambda: f"isend {x}",
+        lambda: f"endmsg {x}",
+        lambda: f"endmsg {x}",
+    ])()
+
+
+def reader_call(r):
+    e, x = name(r, "e", 3), name(r, "r", 3)
+    if r.random() < 0.7:
+        return reading_call(r)
+    return r.choice([
+        lambda: f"reader {x} {e} {r.choice([0, 1, 64, 65, 128, 512, 65536])}",
+        lambda: f"reader {x} e0 64",
+        lambda: f"endpoint {e} i0 {r.choice(['81 bulk-in', '81 int-in', '82 bulk-in', '02 bulk-out'])}",
+        lambda: f"inner {e} {x}" if r.random() < 0.5 else f"timeout {x} {timeout(r)}",
+        lambda: f"num {x} {r.choice([0, 1, 2, 2, 3, 8, 64, 65])}",
+        lambda: f"num {x} {r.choice([1, 2, 4])}",
+        lambda: f"cancel {x}\n! reap ; reap ; reap\n{r.choice(['read', 'pollread'])} {x} 8\n{r.choice(['', 'poll'])}{r.choice(['', 's'])}fill {x}",
+        lambda: f"cancel {x}",
+        lambda: f"close {x}" if r.random() < 0.6 else f"num {x} 2",
+        lambda: transfer_call(r),
+    ])()
+
+
+def lines_of_readers(r):
+    """Setup lines and the first calls of a script in which most calls read."""
+    kind = r.randrange(2)
+    lines = [f"device k0 1 6 3 1 {DEVICE.format(0, 1)}{CONFIGURATIONS[kind]}", "open d0 1 6", "claim d0 0 i0"]
+    lines += [f"endpoint e0 i0 81 {['bulk-in', 'int-in'][kind]}", f"endpoint e1 i0 {['02 bulk-out', '01 int-out'][kind]}"]
+    lines += ["submitin e0 64"] * (r.random() < 0.2)
+    return lines + [f"reader r0 e0 {r.choice([8, 64, 64, 128, 512])}", f"num r0 {r.choice([1, 1, 2, 4])}"]
+
+
 CONTROLLER = "/sys/devices/pci0"
 HUB = f"{CONTROLLER}/usb1"
 FOLDERS = [HUB, f"{HUB}/1-6", f"{HUB}/1-7", "/sys/none", "/"]
@@ -505,6 +596,9 @@ MALFORMED = [
     "fin d0 vendor device 30 0000 0000 64 1", "fpoll f0 : reap", "fpoll e0", "fwait f0 :", "fwait f0 5", "close f0 : reap", "close f064",
     "getdesc d0 256 0 0000 1", "getdesc i0 1 0 0000 1", "langs d0", "langs i0 1", "string d0 0 0409 1", "string d0 1 409 1",
     "detachclaim d0 0", "detach i0 0", "attach d0", "alt i0 256", "alt i0", "getalt d0", "ifdesc i64", "release d0", "halt i0",
+    "reader r0 e0", "reader e0 r0 64", "reader r0 e0 65537", "inner r0 e0", "num r0", "num e0 1", "timeout r0", "cancel i0",
+    "read r0 0", "read r0 65537", "read e0 1", "sread r0", "pollread r0 1 : reap", "fill r0 1", "pollfill r0 : reap",
+    "sconsume r0", "consume r0 1 : reap", "isend e0", "endmsg r0 1", "close r64",
 ]
 
 
@@ -530,6 +624,9 @@ def script(seed):
     if r.random() < 0.35:
         call = lambda: (control_call if r.random() < 0.85 else owner_call if r.random() < 0.3 else transfer_call)(r)
         return script_of(r, lines_of_controls(r), call, 60, control_steps)
+    if r.random() < 0.4:
+        call = lambda: (reader_call if r.random() < 0.95 else owner_call)(r)
+        return script_of(r, lines_of_readers(r), call, 80, reader_steps)
     is_of_owners = r.random() < 0.5
     lines = (lines_of_owners if is_of_owners else lines_of_transfers)(r)
     call = lambda: (owner_call if is_of_owners == (r.random() < 0.9) else transfer_call)(r)
@@ -578,13 +675,14 @@ def kinds_of_script(text):
 
 def kind_of_call(words):
     """Its word, and where that doesn't tell the call the letter of its name."""
-    return f"{words[0]} {words[1][0]}" if words[0] in ("clone", "close") else words[0]
+    return f"{words[0]} {words[1][0]}" if words[0] in ("clone", "close", "cancel") else words[0]
 
 
 def kind_of_answer(call, line):
     """The answer without a number that a script can choose, and without the descriptors behind the first words."""
     if call == "ifdesc":
         return " ".join(line.split()[:2])
+    line = re.sub(r"^(read|buf) [1-9].*$|^(io Other unknown) .*$", lambda found: found[1] or found[2], line)
     line = re.sub(r"^(data|langs|string) .*$|^langs$", lambda found: found[0].split()[0], line)
     return re.sub(r"^(error Other failed .*) \(errno [0-9]+\)$|^(failed unknown):[0-9]+$", lambda found: found[1] or found[2], line)
 

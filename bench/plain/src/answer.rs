@@ -4,6 +4,7 @@ use crate::control::Received;
 use crate::descriptors::{DeviceDescriptor, configurations};
 use crate::host::{Completion, End};
 use crate::kernel::{Device, Outcome, SettingPlace, Ticket, Transfer};
+use crate::reader::ReadFailure;
 use crate::refusal::Refusal;
 use crate::text::{Show, Text};
 use crate::tree::{BadAttribute, BusInfo, DeviceInfo, InterfaceInfo};
@@ -36,6 +37,14 @@ pub enum Answer {
     InvalidDescriptor,
     Languages(Vec<u16>),
     Text(String),
+    /// The bytes that a read took.
+    Read(Vec<u8>),
+    /// The bytes that stand.
+    Filled(Vec<u8>),
+    NotRead(ReadFailure),
+    IsEnd(bool),
+    /// No end is next.
+    NoEnd,
     /// Nanoseconds.
     Now(u64),
     Devices(Vec<DeviceInfo>),
@@ -78,6 +87,12 @@ impl Show for Answer {
                     .fold(text, |text, it| text.word(" ").hex(&it.to_be_bytes()))
             }
             Answer::Text(string) => bytes_or_dash(text.word("string "), string.as_bytes()),
+            Answer::Read(bytes) => counted(text.word("read "), bytes),
+            Answer::Filled(bytes) => counted(text.word("buf "), bytes),
+            Answer::NotRead(failure) => text.word("io ").show(failure),
+            Answer::IsEnd(true) => text.word("end true"),
+            Answer::IsEnd(false) => text.word("end false"),
+            Answer::NoEnd => text.word("expected short packet"),
             Answer::Now(clock) => text.word("now ").number(*clock),
             Answer::Devices(devices) => show_devices(text, devices),
             Answer::Buses(buses) => show_buses(text, buses),
@@ -126,6 +141,11 @@ fn bytes_or_dash<'a>(text: &'a mut Text, bytes: &[u8]) -> &'a mut Text {
         [] => text.word("-"),
         _ => text.hex(bytes),
     }
+}
+
+/// How many bytes there are, and which.
+fn counted<'a>(text: &'a mut Text, bytes: &[u8]) -> &'a mut Text {
+    bytes_or_dash(text.number(bytes.len() as u64).word(" "), bytes)
 }
 
 fn string<'a>(text: &'a mut Text, string: &Option<String>) -> &'a mut Text {

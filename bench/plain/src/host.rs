@@ -336,6 +336,15 @@ impl Host {
         self.endpoints[endpoint].pending.len()
     }
 
+    pub fn direction(&self, endpoint: EndpointKey) -> Direction {
+        Direction::of_address(self.endpoints[endpoint].address)
+    }
+
+    /// The maximum packet size of an endpoint.
+    pub fn maximum(&self, endpoint: EndpointKey) -> usize {
+        self.endpoints[endpoint].maximum
+    }
+
     /// Whether a transfer may be handed in at all.
     pub fn has_free_ticket(&self) -> bool {
         self.kernel.unreaped < MOST_UNREAPED
@@ -344,7 +353,7 @@ impl Host {
     /// Whether the endpoint has the direction of a transfer, and there is room for it.
     fn has_room(&self, key: EndpointKey, data: &Data) -> bool {
         let endpoint = &self.endpoints[key];
-        Direction::of_address(endpoint.address) == data.direction()
+        self.direction(key) == data.direction()
             && endpoint.pending.len() < MOST_PENDING
             && self.has_free_ticket()
     }

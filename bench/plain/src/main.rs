@@ -12,6 +12,7 @@ mod host;
 mod kernel;
 mod live;
 mod names;
+mod reader;
 mod refusal;
 mod script;
 mod session;

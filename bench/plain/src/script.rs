@@ -8,6 +8,7 @@ use crate::hex;
 use crate::host::Data;
 use crate::kernel::{Device, KernelCall, Step};
 use crate::names::Name;
+use crate::reader::Framing;
 use crate::tree::{Selector, Tree};
 use std::collections::VecDeque;
 
@@ -53,6 +54,12 @@ pub enum Call {
     CloseFuture(Name),
     /// Of an open device.
     Ask(Name, Question, Patience),
+    /// Of an open endpoint, with this transfer size.
+    OpenReader(Name, Name, usize),
+    /// The endpoint's name, and the reader's.
+    IntoInner(Name, Name),
+    /// A call on a reader.
+    Reader(Name, ReaderCall),
 }
 
 /// A control transfer.
@@ -126,6 +133,21 @@ pub enum EndpointCall {
     Cancel,
     ClearHalt,
     Close,
+}
+
+pub enum ReaderCall {
+    SetDepth(usize),
+    SetTime(u64),
+    Cancel,
+    Close,
+    /// At most so many bytes.
+    Read(Framing, usize, Vec<Step>),
+    PollRead(Framing, usize),
+    Fill(Framing, Vec<Step>),
+    PollFill(Framing),
+    Consume(usize),
+    IsEnd,
+    ConsumeEnd,
 }
 
 /// How long a call waits, in nanoseconds, and the steps that are taken meanwhile.
@@ -337,6 +359,41 @@ fn endpoint_call(verb: &[u8], rest: &[&[u8]]) -> Option<EndpointCall> {
     })
 }
 
+fn read_length(word: &[u8]) -> Option<usize> {
+    length(word).filter(|length| *length > 0)
+}
+
+/// A call that reads, where `s` before its name makes it stop at a short packet.
+fn reading_call(verb: &[u8], rest: &[&[u8]], framing: Framing) -> Option<ReaderCall> {
+    Some(match (verb, rest) {
+        (b"read", [most, rest @ ..]) => {
+            ReaderCall::Read(framing, read_length(most)?, own_steps(rest)?)
+        }
+        (b"fill", rest) => ReaderCall::Fill(framing, own_steps(rest)?),
+        (b"consume", [count]) => ReaderCall::Consume(length(count)?),
+        _ => return None,
+    })
+}
+
+/// A call on a reader, without the reader's name.
+fn reader_call(verb: &[u8], rest: &[&[u8]]) -> Option<ReaderCall> {
+    use Framing::{Plain, UntilShort};
+    Some(match (verb, rest) {
+        (b"num", [count]) => ReaderCall::SetDepth(length(count)?),
+        (b"timeout", [word]) => ReaderCall::SetTime(time(word)?),
+        (b"cancel", []) => ReaderCall::Cancel,
+        (b"close", []) => ReaderCall::Close,
+        (b"pollread", [most]) => ReaderCall::PollRead(Plain, read_length(most)?),
+        (b"pollsread", [most]) => ReaderCall::PollRead(UntilShort, read_length(most)?),
+        (b"pollfill", []) => ReaderCall::PollFill(Plain),
+        (b"pollsfill", []) => ReaderCall::PollFill(UntilShort),
+        (b"isend", []) => ReaderCall::IsEnd,
+        (b"endmsg", []) => ReaderCall::ConsumeEnd,
+        ([b's', verb @ ..], rest) => reading_call(verb, rest, UntilShort)?,
+        (verb, rest) => reading_call(verb, rest, Plain)?,
+    })
+}
+
 fn target(word: &[u8]) -> Option<Target> {
     match name(word, b'd') {
         Some(device) => Some(Target::Device(device)),
@@ -437,6 +494,7 @@ fn call_on(verb: &[u8], word: &[u8], rest: &[&[u8]]) -> Option<Call> {
         b'i' => Call::Interface(name(word, b'i')?, interface_call(verb, rest)?),
         b'e' => Call::Endpoint(name(word, b'e')?, endpoint_call(verb, rest)?),
         b'f' => future_call(name(word, b'f')?, verb, rest)?,
+        b'r' => Call::Reader(name(word, b'r')?, reader_call(verb, rest)?),
         _ => return None,
     })
 }
@@ -559,6 +617,8 @@ fn call(words: &[&[u8]]) -> Option<Call> {
                 direction,
             })
         }
+        [b"reader", r, e, n] => Call::OpenReader(name(r, b'r')?, name(e, b'e')?, length(n)?),
+        [b"inner", e, r] => Call::IntoInner(name(e, b'e')?, name(r, b'r')?),
         [b"ctlin", ref words @ ..] => control_call(words, control_in)?,
         [b"ctlout", ref words @ ..] => control_call(words, control_out)?,
         [b"fin", f, ref words @ ..] => start_call(f, words, control_in)?,

@@ -2,13 +2,15 @@
 
 use crate::answer::{Answer, TicketEnd};
 use crate::control::{Future, Question, Received, units};
+use crate::descriptors::Direction;
 use crate::host::{Data, EndpointKey, Fate, Host, InterfaceKey, OpenDevice, Steps};
 use crate::kernel::{Device, Step};
 use crate::names::{Name, Names};
+use crate::reader::{Framing, ReadFailure, Reader};
 use crate::refusal::Refusal;
 use crate::script::{
     Call, Claim, Control, DeviceCall, EndpointCall, InterfaceCall, Line, Open, OpenEndpoint,
-    Patience, SecondHandle, Target,
+    Patience, ReaderCall, SecondHandle, Target,
 };
 use crate::tree::{DeviceInfo, Tree};
 use crate::udev::{self, Notice};
@@ -20,6 +22,7 @@ pub struct Session {
     devices: Names<OpenDevice>,
     interfaces: Names<InterfaceKey>,
     endpoints: Names<EndpointKey>,
+    readers: Names<Reader>,
     futures: Names<Future>,
     tree: Tree,
     packets: VecDeque<(u32, Vec<u8>)>,
@@ -124,6 +127,9 @@ impl Session {
                 Some(Answer::Ok)
             }
             Call::Ask(name, question, patience) => self.ask(name, question, patience),
+            Call::OpenReader(name, endpoint, size) => self.open_reader(name, endpoint, size),
+            Call::IntoInner(endpoint, name) => self.into_inner(endpoint, name),
+            Call::Reader(name, call) => self.reader_call(name, call),
         }
     }
 
@@ -323,6 +329,95 @@ impl Session {
         }
     }
 
+    fn open_reader(&mut self, name: Name, endpoint: Name, size: usize) -> Option<Answer> {
+        let place = self.readers.vacant(name)?;
+        let key = *self.endpoints.get(endpoint)?;
+        if self.host.direction(key) != Direction::In {
+            return None;
+        }
+        *place = Some(Reader::new(key, self.host.maximum(key), size));
+        self.endpoints.take(endpoint);
+        Some(Answer::Ok)
+    }
+
+    fn into_inner(&mut self, endpoint: Name, name: Name) -> Option<Answer> {
+        let place = self.endpoints.vacant(endpoint)?;
+        *place = Some(self.readers.take(name)?.endpoint);
+        Some(Answer::Ok)
+    }
+
+    fn reader_call(&mut self, name: Name, call: ReaderCall) -> Option<Answer> {
+        match call {
+            ReaderCall::Read(framing, most, steps) => {
+                self.read(name, framing, Some(most), None, steps)
+            }
+            ReaderCall::PollRead(framing, most) => {
+                self.read(name, framing, Some(most), Some(0), Vec::new())
+            }
+            ReaderCall::Fill(framing, steps) => self.read(name, framing, None, None, steps),
+            ReaderCall::PollFill(framing) => self.read(name, framing, None, Some(0), Vec::new()),
+            call => self.set_reader(name, call),
+        }
+    }
+
+    /// A call that reads, and takes at most so many bytes off, where it takes any. One that has a
+    /// time of its own is a poll.
+    fn read(
+        &mut self,
+        name: Name,
+        framing: Framing,
+        most: Option<usize>,
+        time: Option<u64>,
+        steps: Vec<Step>,
+    ) -> Option<Answer> {
+        let mut steps = steps.into_iter();
+        let (reader, host) = (self.readers.get_mut(name), &mut self.host);
+        let reader = reader.filter(|reader| host.may_read(reader, framing));
+        let answer = reader.map(|reader| {
+            let waits = time.unwrap_or(reader.time);
+            let bytes = match host.fill(reader, framing, waits, &mut steps) {
+                Ok(bytes) => bytes[..most.unwrap_or(bytes.len()).min(bytes.len())].to_vec(),
+                Err(ReadFailure::TimedOut) if time.is_some() => return Answer::Pending,
+                Err(failure) => return Answer::NotRead(failure),
+            };
+            if most.is_none() {
+                return Answer::Filled(bytes);
+            }
+            reader.consume(bytes.len());
+            Answer::Read(bytes)
+        });
+        self.take_steps(steps);
+        answer
+    }
+
+    fn set_reader(&mut self, name: Name, call: ReaderCall) -> Option<Answer> {
+        if let ReaderCall::Close = call {
+            self.host.close_endpoint(self.readers.take(name)?.endpoint);
+            return Some(Answer::Ok);
+        }
+        let reader = self.readers.get_mut(name)?;
+        match call {
+            ReaderCall::SetDepth(depth) => self.host.set_depth(reader, depth)?,
+            ReaderCall::SetTime(time) => reader.time = time,
+            ReaderCall::Cancel => self.host.cancel_reader(reader),
+            ReaderCall::Consume(count) => {
+                if count > reader.available() {
+                    return None;
+                }
+                reader.consume(count);
+            }
+            ReaderCall::IsEnd => return Some(Answer::IsEnd(reader.is_end())),
+            ReaderCall::ConsumeEnd => {
+                return Some(match reader.consume_end() {
+                    Some(()) => Answer::Ok,
+                    None => Answer::NoEnd,
+                });
+            }
+            _ => return None,
+        }
+        Some(Answer::Ok)
+    }
+
     /// Makes a call that waits. The steps that are left are taken right after it.
     fn with_steps<A>(
         &mut self,
@@ -335,9 +430,12 @@ impl Session {
         answer
     }
 
-    /// Closes the endpoints, the futures and then the interfaces, and ends each ticket. Of a device
+    /// Closes the readers, the endpoints, the futures and then the interfaces, and ends each ticket. Of a device
     /// nothing is left to close.
     pub fn finish(&mut self) {
+        for (_, reader) in self.readers.iter() {
+            self.host.close_endpoint(reader.endpoint);
+        }
         for (_, endpoint) in self.endpoints.iter() {
             self.host.close_endpoint(*endpoint);
         }

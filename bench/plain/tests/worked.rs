@@ -50,6 +50,11 @@ fn controls() {
 }
 
 #[test]
+fn readers() {
+    check(include_str!("worked/readers.txt"));
+}
+
+#[test]
 fn first_script_of_the_language() {
     let script = include_bytes!("../../../crates/nusb_sim/stdin");
     let output = include_str!("../../../crates/nusb_sim/stdout");

@@ -7,6 +7,7 @@ mod endpoints;
 mod enumeration;
 mod lines;
 mod live;
+mod readers;
 mod steps;
 
 use std::alloc::{AllocError, Global};
