@@ -9,7 +9,7 @@ ghost use Rattle.usb_endpoint.specs.Handles.{Stands};
 use crate::cases::{Case, expect};
 use futures::task::Poll;
 use std::alloc::Global;
-use std::io::{self, ErrorKind, Read};
+use std::io::{self, BufRead, ErrorKind, Read};
 use std::process::Abort;
 use std::test::Fail;
 use usb_bus::KernelBus;
@@ -189,6 +189,22 @@ fn read_by_std(bus: &mut KernelBus, reader: &mut EndpointRead<Bulk>) -> Outcome
     told_by_std(count, dest[0])
 }
 
+fn lent_by_std(filled: io::Result<&[u8]>) -> Outcome {
+    match filled {
+        Ok(bytes) => lent(Ok(bytes)),
+        Err(error) => told_by_std(Err(error), 0),
+    }
+}
+
+/// The bytes that stand, lent by std's trait.
+fn fill_by_std(bus: &mut KernelBus, reader: &mut EndpointRead<Bulk>) -> Outcome
+    requires stands { Stands (bus_of bus.old) reader.old.endpoint }
+    ensures stands { Stands (bus_of bus.new) reader.new.endpoint }
+{
+    let mut reader = reader.on(bus);
+    lent_by_std(reader.fill_buf())
+}
+
 /// A step with a reader, and what it gives.
 #[derive(Clone, Copy)]
 pub enum Step {
@@ -222,6 +238,10 @@ pub enum Step {
     Consume(usize),
     /// A read by std's trait.
     ReadByStd(Outcome),
+    /// The bytes that stand are lent by std's trait.
+    FillByStd(Outcome),
+    /// So many bytes are taken off by std's trait.
+    ConsumeByStd(usize),
     /// Whether a message's end comes next.
     IsEnd(bool),
     /// The end of a message is taken, if it comes next.
@@ -234,7 +254,7 @@ pub enum Step {
 
 /// Joined reads, reads that stop at short packets, an error that comes after its bytes and lasts,
 /// and looks.
-const CASES: [(&str, &[Step]); 7] = [
+const CASES: [(&str, &[Step]); 8] = [
     (
         "plain reads join transfers and give up in time",
         &[
@@ -345,6 +365,24 @@ const CASES: [(&str, &[Step]); 7] = [
             Step::ReadByStd(Outcome::Stall),
         ],
     ),
+    (
+        "std's fill lends what stands until it is consumed",
+        &[
+            Step::Transfers(2),
+            Step::Packet(&[1, 2, 3, 4]),
+            Step::Packet(&[5]),
+            Step::FillByStd(Outcome::Bytes(5, 1)),
+            Step::ConsumeByStd(2),
+            Step::FillByStd(Outcome::Bytes(3, 3)),
+            Step::ConsumeByStd(4),
+            Step::NoTime,
+            Step::FillByStd(Outcome::TimedOut),
+            Step::Stall,
+            Step::Reap,
+            Step::FillByStd(Outcome::Stall),
+            Step::Read(Outcome::Stall),
+        ],
+    ),
 ];
 
 #[test]
@@ -427,6 +465,11 @@ fn is_so(alloc: Global, bus: &mut KernelBus, reader: &mut EndpointRead<Bulk>, st
             true
         }
         Step::ReadByStd(outcome) => read_by_std(bus, reader) == outcome,
+        Step::FillByStd(outcome) => fill_by_std(bus, reader) == outcome,
+        Step::ConsumeByStd(count) => {
+            reader.on(bus).consume(count);
+            true
+        }
         Step::IsEnd(is_end) => reader.until_short_packet().is_end() == is_end,
         Step::ConsumeEnd(is_end) => reader.until_short_packet().consume_end().is_ok() == is_end,
         Step::Pending(pending) => reader.pending() == pending,

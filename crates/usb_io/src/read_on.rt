@@ -100,7 +100,7 @@ pub(crate) fn transfer_error(error: TransferError) -> io::Error
 }
 
 /// The error of std's for a read that failed.
-fn std_error(fail: Fail<ReadFault>) -> io::Error
+pub(crate) fn std_error(fail: Fail<ReadFault>) -> io::Error
     ensures kind { error_kind result ≡ std_kind fail }
 {
     match fail {

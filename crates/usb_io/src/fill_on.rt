@@ -1,0 +1,167 @@
+//! The bytes that a reader on its bus lends, by std's trait.
+
+ghost use Rattle.std.specs.Borrow.{sem};
+ghost use Rattle.std.specs.Io.BufRead.{Rests, DropsConsumable};
+ghost use mir.Syntax.{named};
+ghost use Rattle.std.specs.Prelude.{◌≡◌, IfOk, OnErr, None, [], false};
+ghost use Rattle.usb_io.specs.Answers.{answer as answer_of};
+ghost use Rattle.usb_io.specs.Lent.{Filled, StdFilled};
+ghost use Rattle.usb_io.specs.Readers.{with_read};
+ghost use Rattle.usb_io.specs.Reads.{reading, bus_calls, GoesAlong, KeepsSettings, CameTo, TurnedShort};
+ghost use Rattle.usb_io.specs.Slices.{IfOkBytes};
+ghost use Rattle.usb_io.specs.contracts.read_on.ReadOn.{the_row};
+
+use crate::fault::ReadFault;
+use crate::read_on::{ReadOn, std_error};
+use crate::turned::Turned;
+use std::io::{self, BufRead};
+use usb_bus::Bus;
+use usb_desc::{Fail, NoMemory};
+use usb_xfer::{Bulk, BulkOrInterrupt, Interrupt};
+
+impl<'a, T: BulkOrInterrupt, B: Bus> ReadOn<'a, T, B> {
+    /// Turns, as a read does.
+    fn turn(&mut self) -> Result<Turned, NoMemory>
+        ensures same_reader { self.new.reader.ghost_name ≡ self.old.reader.ghost_name }
+        ensures same_bus { self.new.bus.ghost_name ≡ self.old.bus.ghost_name }
+        ensures came { IfOk result
+            (λ o. CameTo (bus_calls B.state B.submitted B.refused B.turned B.turn_of B.taken)
+            false self.old.reader.now.timeout
+            (reading self.old.bus.now self.old.reader.now)
+            (reading self.new.bus.now self.new.reader.now) o) }
+        ensures err { OnErr result
+            (TurnedShort (bus_calls B.state B.submitted B.refused B.turned B.turn_of B.taken)
+            false self.old.reader.now.timeout
+            (reading self.old.bus.now self.old.reader.now)
+            (reading self.new.bus.now self.new.reader.now)) }
+        ensures goes { GoesAlong (B.state self.old.bus.now) (B.state self.new.bus.now)
+            self.old.reader.now self.new.reader.now }
+        ensures settings { KeepsSettings self.old.reader.now self.new.reader.now }
+    {
+        let timeout = self.reader.read_timeout();
+        self.reader.turn(&mut *self.bus, false, timeout)
+    }
+
+    /// What a read answers once it has turned.
+    fn answer(&self, turned: Turned) -> Result<&[u8], ReadFault>
+        ensures answer { IfOkBytes result (answer_of false turned self.now.reader.now) }
+    {
+        self.reader.answer(turned, false)
+    }
+
+    /// The bytes that stand, after turns where there are none.
+    fn fill_some(&mut self) -> Result<&[u8], Fail<ReadFault>>
+        ensures* lent { sem 𝓛
+            (Rests (the_row (record { mir = named 0; lft = [] }) T.row B.row _ _ _) self.entry
+            (λ new. (new.reader.ghost_name ≡ self.old.reader.ghost_name)
+            × (new.bus.ghost_name ≡ self.old.bus.ghost_name)
+            × Filled (bus_calls B.state B.submitted B.refused B.turned B.turn_of B.taken)
+            false self.old.reader.now.timeout
+            (reading self.old.bus.now self.old.reader.now)
+            (reading new.bus.now new.reader.now) result
+            × GoesAlong (B.state self.old.bus.now) (B.state new.bus.now) self.old.reader.now
+            new.reader.now
+            × KeepsSettings self.old.reader.now new.reader.now)) }
+    {
+        let turned = match self.turn() {
+            Ok(turned) => turned,
+            Err(_) => return Err(Fail::Memory),
+        };
+        match self.answer(turned) {
+            Ok(bytes) => Ok(bytes),
+            Err(fault) => Err(Fail::Cause(fault)),
+        }
+    }
+
+    /// The same, with an error of std's.
+    fn fill_std(&mut self) -> io::Result<&[u8]>
+        ensures* lent { sem 𝓛
+            (Rests (the_row (record { mir = named 0; lft = [] }) T.row B.row _ _ _) self.entry
+            (λ new. (new.reader.ghost_name ≡ self.old.reader.ghost_name)
+            × (new.bus.ghost_name ≡ self.old.bus.ghost_name)
+            × StdFilled (bus_calls B.state B.submitted B.refused B.turned B.turn_of B.taken)
+            false self.old.reader.now.timeout
+            (reading self.old.bus.now self.old.reader.now)
+            (reading new.bus.now new.reader.now) result
+            × GoesAlong (B.state self.old.bus.now) (B.state new.bus.now) self.old.reader.now
+            new.reader.now
+            × KeepsSettings self.old.reader.now new.reader.now)) }
+    {
+        match self.fill_some() {
+            Ok(bytes) => Ok(bytes),
+            Err(fail) => Err(std_error(fail)),
+        }
+    }
+
+    /// Takes bytes off, up to those that stand.
+    fn consume_most(&mut self, n: usize)
+        ensures same_reader { self.new.reader.ghost_name ≡ self.old.reader.ghost_name }
+        ensures same_bus { self.new.bus.ghost_name ≡ self.old.bus.ghost_name }
+        ensures read { self.new.reader.now ≡ with_read n self.old.reader.now }
+        ensures kept { self.new.bus.now ≡ self.old.bus.now }
+    {
+        self.reader.consume_most(n);
+    }
+}
+
+impl<'a, B: Bus> BufRead for ReadOn<'a, Bulk, B> {
+    ghost use Rattle.usb_xfer.specs.contracts.marker.Bulk.{the_row as kind_row};
+
+    fn fill_buf(&mut self) -> io::Result<&[u8]>
+        ensures* after_borrow { sem 𝓛
+            (Rests (the_row (record { mir = named 1; lft = [] }) kind_row B.row _ _ _)
+            self.entry
+            (λ new. (new.reader.ghost_name ≡ self.old.reader.ghost_name)
+            × (new.bus.ghost_name ≡ self.old.bus.ghost_name)
+            × StdFilled (bus_calls B.state B.submitted B.refused B.turned B.turn_of B.taken)
+            false self.old.reader.now.timeout
+            (reading self.old.bus.now self.old.reader.now)
+            (reading new.bus.now new.reader.now) result
+            × GoesAlong (B.state self.old.bus.now) (B.state new.bus.now) self.old.reader.now
+            new.reader.now
+            × KeepsSettings self.old.reader.now new.reader.now)) }
+    {
+        self.fill_std()
+    }
+
+    fn consume(&mut self, amount: usize)
+        ensures bytes { DropsConsumable None None None amount }
+        ensures same_reader { self.new.reader.ghost_name ≡ self.old.reader.ghost_name }
+        ensures same_bus { self.new.bus.ghost_name ≡ self.old.bus.ghost_name }
+        ensures read { self.new.reader.now ≡ with_read amount self.old.reader.now }
+        ensures kept { self.new.bus.now ≡ self.old.bus.now }
+    {
+        self.consume_most(amount)
+    }
+}
+
+impl<'a, B: Bus> BufRead for ReadOn<'a, Interrupt, B> {
+    ghost use Rattle.usb_xfer.specs.contracts.marker.Interrupt.{the_row as kind_row};
+
+    fn fill_buf(&mut self) -> io::Result<&[u8]>
+        ensures* after_borrow { sem 𝓛
+            (Rests (the_row (record { mir = named 1; lft = [] }) kind_row B.row _ _ _)
+            self.entry
+            (λ new. (new.reader.ghost_name ≡ self.old.reader.ghost_name)
+            × (new.bus.ghost_name ≡ self.old.bus.ghost_name)
+            × StdFilled (bus_calls B.state B.submitted B.refused B.turned B.turn_of B.taken)
+            false self.old.reader.now.timeout
+            (reading self.old.bus.now self.old.reader.now)
+            (reading new.bus.now new.reader.now) result
+            × GoesAlong (B.state self.old.bus.now) (B.state new.bus.now) self.old.reader.now
+            new.reader.now
+            × KeepsSettings self.old.reader.now new.reader.now)) }
+    {
+        self.fill_std()
+    }
+
+    fn consume(&mut self, amount: usize)
+        ensures bytes { DropsConsumable None None None amount }
+        ensures same_reader { self.new.reader.ghost_name ≡ self.old.reader.ghost_name }
+        ensures same_bus { self.new.bus.ghost_name ≡ self.old.bus.ghost_name }
+        ensures read { self.new.reader.now ≡ with_read amount self.old.reader.now }
+        ensures kept { self.new.bus.now ≡ self.old.bus.now }
+    {
+        self.consume_most(amount)
+    }
+}
