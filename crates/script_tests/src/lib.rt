@@ -17,3 +17,5 @@ mod scripts;
 mod steps;
 #[cfg(test)]
 mod tree;
+#[cfg(test)]
+mod writers;

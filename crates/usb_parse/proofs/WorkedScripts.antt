@@ -5,7 +5,7 @@ use Rattle.usb_desc.specs.declared.control.Recipient.TheVariants as recipient
 use Rattle.usb_words.specs.declared.control.ControlTarget.TheVariants as target
 use Rattle.usb_words.specs.declared.endpoint_kind.EndpointKind.TheVariants.{BulkIn, BulkOut, InterruptIn, InterruptOut}
 use Rattle.usb_words.specs.declared.framing.Framing.TheVariants.{Plain, UntilShort}
-use Rattle.usb_script.specs.declared.item.Item.TheVariants.{Device, Driver, Now, Open, DeviceDescriptor, Descriptors, CloneDevice, CloseDevice, ActiveConfiguration, Speed, SetConfiguration, Reset, DetachDriver, AttachDriver, Claim, DetachAndClaim, CloneInterface, CloseInterface, SetAltSetting, GetAltSetting, InterfaceDescriptor, Release, Endpoint, SubmitIn, SubmitOut, Pending, Poll, Wait, TransferIn, TransferOut, Cancel, ClearHalt, CloseEndpoint, Reader, IntoInner, SetNumTransfers, SetReadTimeout, CancelReader, CloseReader, PollRead, FillBuf, PollFillBuf, Consume, IsEnd, ConsumeEnd, ControlIn, ControlOut, StartControlIn, StartControlOut, PollFuture, WaitFuture, GetDescriptor, SupportedLanguages, StringDescriptor, CloseFuture, Steps}
+use Rattle.usb_script.specs.declared.item.Item.TheVariants.{Device, Driver, Now, Open, DeviceDescriptor, Descriptors, CloneDevice, CloseDevice, ActiveConfiguration, Speed, SetConfiguration, Reset, DetachDriver, AttachDriver, Claim, DetachAndClaim, CloneInterface, CloseInterface, SetAltSetting, GetAltSetting, InterfaceDescriptor, Release, Endpoint, SubmitIn, SubmitOut, Pending, Poll, Wait, TransferIn, TransferOut, Cancel, ClearHalt, CloseEndpoint, Reader, IntoInner, SetNumTransfers, SetReadTimeout, CancelReader, CloseReader, PollRead, FillBuf, PollFillBuf, Consume, IsEnd, ConsumeEnd, Writer, WriterIntoInner, SetWriterTransfers, SetWriteTimeout, CloseWriter, Write, PollWrite, Submit, SubmitEnd, Flush, PollFlush, FlushEnd, PollFlushEnd, ControlIn, ControlOut, StartControlIn, StartControlOut, PollFuture, WaitFuture, GetDescriptor, SupportedLanguages, StringDescriptor, CloseFuture, Steps}
 use Rattle.usb_script.specs.declared.item.Item.TheVariants as item
 use Rattle.usb_parse.specs.declared.error.SessionError.TheVariants.{Malformed}
 use Rattle.usb_script.specs.declared.reading.Reading.TheVariants.{Skipped, Read}
@@ -367,6 +367,68 @@ read_of_65537_bytes = refl
 poll_with_steps : reading_of (codes "pollread r0 5 : reap") ≡ None
 unfolding script_on_literals
 poll_with_steps = refl
+
+-- each line of writers with its fields
+each_writer_line :
+    script_of (
+    codes "writer w1 e2 3" ++ 10 ∷ []
+    ++ codes "inner e4 w5" ++ 10 ∷ []
+    ++ codes "num w6 65536" ++ 10 ∷ []
+    ++ codes "timeout w7 8" ++ 10 ∷ []
+    ++ codes "close w9" ++ 10 ∷ []
+    ++ codes "write w10 0b0C" ++ 10 ∷ []
+    ++ codes "write w13 - : reap ; timer" ++ 10 ∷ []
+    ++ codes "pollwrite w14 0F" ++ 10 ∷ []
+    ++ codes "wsubmit w16" ++ 10 ∷ []
+    ++ codes "wend w17" ++ 10 ∷ []
+    ++ codes "flush w18 : reap 19" ++ 10 ∷ []
+    ++ codes "pollflush w20" ++ 10 ∷ []
+    ++ codes "flushend w21 : timer ; reap" ++ 10 ∷ []
+    ++ codes "pollflushend w22" ++ 10 ∷ []
+    )
+    ≡ Ok (
+    Writer 1 2 3
+    ∷ WriterIntoInner 4 5
+    ∷ SetWriterTransfers 6 65536
+    ∷ SetWriteTimeout 7 8
+    ∷ CloseWriter 9
+    ∷ Write 10 (11 ∷ 12 ∷ []) []
+    ∷ Write 13 [] (Reap None ∷ Timer ∷ [])
+    ∷ PollWrite 14 (15 ∷ [])
+    ∷ Submit 16
+    ∷ SubmitEnd 17
+    ∷ Flush 18 (Reap (Some 19) ∷ [])
+    ∷ PollFlush 20
+    ∷ FlushEnd 21 (Timer ∷ Reap None ∷ [])
+    ∷ PollFlushEnd 22
+    ∷ []
+    )
+unfolding script_on_literals
+each_writer_line = refl
+
+transfers_up_to_65537 : reading_of (codes "num w0 65537") ≡ None
+unfolding script_on_literals
+transfers_up_to_65537 = refl
+
+write_of_half_a_byte : reading_of (codes "write w0 0") ≡ None
+unfolding script_on_literals
+write_of_half_a_byte = refl
+
+end_without_a_writer : reading_of (codes "wend") ≡ None
+unfolding script_on_literals
+end_without_a_writer = refl
+
+end_with_steps : reading_of (codes "wend w0 : reap") ≡ None
+unfolding script_on_literals
+end_with_steps = refl
+
+close_of_w64 : reading_of (codes "close w64") ≡ None
+unfolding script_on_literals
+close_of_w64 = refl
+
+flush_with_a_word : reading_of (codes "flush w0 x") ≡ None
+unfolding script_on_literals
+flush_with_a_word = refl
 
 -- each step with its fields
 each_step : reading_of (codes "! pkt k18 93 1415 ; ack k16 17 ; fail k19 20 21 ; unplug k22 ; clock 23 ; timer ; reap 24 ; reap ; refuse k25 submit 26")

@@ -3,10 +3,10 @@ use Rattle.std.specs.Prelude.{List, codes, Option, None, if◌then◌else◌}
 use Rattle.std.specs.Option.{option_or}
 use Rattle.std.specs.Str.{bytes_eq}
 use Rattle.usb_script.specs.declared.item.Item.{Item}
-use Rattle.usb_script.specs.declared.item.Item.TheVariants.{Now, Open, DeviceDescriptor, Descriptors, CloneDevice, CloseDevice, ActiveConfiguration, Speed, SetConfiguration, Reset, DetachDriver, AttachDriver, Claim, DetachAndClaim, CloneInterface, CloseInterface, SetAltSetting, GetAltSetting, InterfaceDescriptor, Release, Endpoint, CloseEndpoint, CloseReader, CloseFuture}
+use Rattle.usb_script.specs.declared.item.Item.TheVariants.{Now, Open, DeviceDescriptor, Descriptors, CloneDevice, CloseDevice, ActiveConfiguration, Speed, SetConfiguration, Reset, DetachDriver, AttachDriver, Claim, DetachAndClaim, CloneInterface, CloseInterface, SetAltSetting, GetAltSetting, InterfaceDescriptor, Release, Endpoint, CloseEndpoint, CloseReader, CloseWriter, CloseFuture}
 use Rattle.usb_words.specs.Words.{number_of, name_of, hex_byte_of, kind_of}
 use Rattle.usb_words.specs.Fields.{Word, none, one, two, three, four}
-use Rattle.usb_words.specs.Letters.{device_letter, interface_letter, endpoint_letter, reader_letter, future_letter}
+use Rattle.usb_words.specs.Letters.{device_letter, interface_letter, endpoint_letter, reader_letter, writer_letter, future_letter}
 
 -- `endpoint e i HH KIND`, `alt i B`, `getalt i`, `ifdesc i`, `release i`
 unfoldable pub interface_call_of : Word → List Word → Option Item
@@ -25,7 +25,8 @@ clone_of words =
     (two CloneDevice (name_of device_letter) (name_of device_letter) words)
     (two CloneInterface (name_of interface_letter) (name_of interface_letter) words)
 
--- the name of a device, or else of an interface, of an endpoint, of a reader, or of a control transfer on its way
+-- the name of a device, or else of an interface, of an endpoint, of a reader, of a writer, or of a control transfer on
+-- its way
 unfoldable pub close_of : List Word → Option Item
 close_of words =
     option_or
@@ -34,9 +35,11 @@ close_of words =
     (one CloseInterface (name_of interface_letter) words)
     (option_or
     (one CloseEndpoint (name_of endpoint_letter) words)
-    (option_or (one CloseReader (name_of reader_letter) words) (one CloseFuture (name_of future_letter) words))))
+    (option_or
+    (one CloseReader (name_of reader_letter) words)
+    (option_or (one CloseWriter (name_of writer_letter) words) (one CloseFuture (name_of future_letter) words)))))
 
--- `clone d d`, `clone i i`, `close d`, `close i`, `close e`, `close r`, `close f`
+-- `clone d d`, `clone i i`, `close d`, `close i`, `close e`, `close r`, `close w`, `close f`
 unfoldable pub name_call_of : Word → List Word → Option Item
 name_call_of name words =
     if bytes_eq name (codes "clone") then clone_of words

@@ -2,7 +2,7 @@
 use Rattle.std.specs.Prelude.{ℕ, Bool, true, false, not, ◌&&◌, List, length}
 use Rattle.std.specs.List.{sum_by}
 use Rattle.usb_script.specs.declared.item.Item.{Item}
-use Rattle.usb_script.specs.declared.item.Item.TheVariants.{Device, Driver, Attribute, Denied, Child, Link, Entry, Root, Uevent, Reset, Wait, TransferIn, TransferOut, Read, FillBuf, ControlIn, ControlOut, WaitFuture, GetDescriptor, SupportedLanguages, StringDescriptor, Steps}
+use Rattle.usb_script.specs.declared.item.Item.TheVariants.{Device, Driver, Attribute, Denied, Child, Link, Entry, Root, Uevent, Reset, Wait, TransferIn, TransferOut, Read, FillBuf, Write, Flush, FlushEnd, ControlIn, ControlOut, WaitFuture, GetDescriptor, SupportedLanguages, StringDescriptor, Steps}
 use Rattle.usb_script.specs.declared.reading.Reading.{Reading}
 use Rattle.usb_script.specs.declared.reading.Reading.TheVariants as reading
 
@@ -36,6 +36,9 @@ places_in (TransferIn endpoint wanted timeout steps) = length steps
 places_in (TransferOut endpoint bytes timeout steps) = length steps
 places_in (Read framing reader wanted steps) = length steps
 places_in (FillBuf framing reader steps) = length steps
+places_in (Write writer bytes steps) = length steps
+places_in (Flush writer steps) = length steps
+places_in (FlushEnd writer steps) = length steps
 places_in (ControlIn target setup wanted timeout steps) = length steps
 places_in (ControlOut target setup bytes timeout steps) = length steps
 places_in (WaitFuture future steps) = length steps

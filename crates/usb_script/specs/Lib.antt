@@ -7,3 +7,4 @@ pub mod ReaderCalls
 pub mod TreeLines
 pub mod Waits
 pub mod WithSteps
+pub mod WriterCalls

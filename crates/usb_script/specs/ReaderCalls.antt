@@ -1,25 +1,48 @@
--- Calls on readers by their first word: the fields behind it. Those that read come first.
+-- Calls on readers by their first word, and those that have a like on writers: the fields behind it. Those that read
+-- come first.
 use Rattle.std.specs.Prelude.{List, codes, Option, if◌then◌else◌}
+use Rattle.std.specs.Option.{option_or}
 use Rattle.std.specs.Str.{bytes_eq}
 use Rattle.usb_script.specs.declared.item.Item.{Item}
-use Rattle.usb_script.specs.declared.item.Item.TheVariants.{Reader, IntoInner, SetNumTransfers, SetReadTimeout, Read, PollRead, FillBuf, PollFillBuf, Consume, IsEnd, ConsumeEnd}
+use Rattle.usb_script.specs.declared.item.Item.TheVariants.{Reader, IntoInner, SetNumTransfers, SetReadTimeout, Read, PollRead, FillBuf, PollFillBuf, Consume, IsEnd, ConsumeEnd, WriterIntoInner, SetWriterTransfers, SetWriteTimeout}
 use Rattle.usb_words.specs.declared.framing.Framing.{Framing}
 use Rattle.usb_words.specs.declared.framing.Framing.TheVariants.{Plain, UntilShort}
 use Rattle.usb_words.specs.Words.{number_of, time_of, name_of, read_length_of}
 use Rattle.usb_words.specs.Fields.{Word, one, two, three}
-use Rattle.usb_words.specs.Letters.{endpoint_letter, reader_letter}
-use Rattle.usb_script.specs.ControlLines.{control_call_of}
+use Rattle.usb_words.specs.Letters.{endpoint_letter, reader_letter, writer_letter}
+use Rattle.usb_script.specs.WriterCalls.{write_call_of}
 use Rattle.usb_script.specs.WithSteps.{one_with_steps, two_with_steps}
 
--- `reader r e N`, `inner e r`, `num r N`, `timeout r TIME`
+-- the name for the endpoint, and that of a reader, or else of a writer
+unfoldable pub inner_of : List Word → Option Item
+inner_of words =
+    option_or
+    (two IntoInner (name_of endpoint_letter) (name_of reader_letter) words)
+    (two WriterIntoInner (name_of endpoint_letter) (name_of writer_letter) words)
+
+-- the name of a reader, or else of a writer, and a number of transfers
+unfoldable pub num_of : List Word → Option Item
+num_of words =
+    option_or
+    (two SetNumTransfers (name_of reader_letter) (number_of 65536) words)
+    (two SetWriterTransfers (name_of writer_letter) (number_of 65536) words)
+
+-- the name of a reader, or else of a writer, and a time
+unfoldable pub timeout_of : List Word → Option Item
+timeout_of words =
+    option_or
+    (two SetReadTimeout (name_of reader_letter) time_of words)
+    (two SetWriteTimeout (name_of writer_letter) time_of words)
+
+-- `reader r e N`, `inner e r`, `inner e w`, `num r N`, `num w N`, `timeout r TIME`, `timeout w TIME`
 unfoldable pub reader_call_of : Word → List Word → Option Item
 reader_call_of name words =
     if bytes_eq name (codes "reader")
     then three Reader (name_of reader_letter) (name_of endpoint_letter) (number_of 65536) words
-    else if bytes_eq name (codes "inner") then two IntoInner (name_of endpoint_letter) (name_of reader_letter) words
-    else if bytes_eq name (codes "num") then two SetNumTransfers (name_of reader_letter) (number_of 65536) words
-    else if bytes_eq name (codes "timeout") then two SetReadTimeout (name_of reader_letter) time_of words
-    else control_call_of name words
+    else if bytes_eq name (codes "inner") then inner_of words
+    else if bytes_eq name (codes "num") then num_of words
+    else if bytes_eq name (codes "timeout") then timeout_of words
+    else write_call_of name words
 
 -- a reader, and how many of its unread bytes are taken as read
 abbrev pub framed_consume_of : Framing → List Word → Option Item

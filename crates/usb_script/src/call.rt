@@ -102,7 +102,8 @@ fn claim_call(name: &[u8], words: &[&[u8]]) -> Result<Item, LineError>
     }
 }
 
-/// `clone d d`, `clone i i`, `close d`, `close i`, `close e`, `close r`, `close f`, or a further call
+/// `clone d d`, `clone i i`, `close d`, `close i`, `close e`, `close r`, `close w`, `close f`, or a
+/// further call
 #[tactic(auto, unfolding(crate::specs::Calls::name_call_of))]
 fn name_call(name: &[u8], words: &[&[u8]]) -> Result<Item, LineError>
     ensures value { Gives (λ i. i) result (name_call_of name.now (texts words.now)) }
@@ -133,8 +134,8 @@ fn clone_call(words: &[&[u8]]) -> Result<Item, LineError>
     })
 }
 
-/// `close` of a device, or else of an interface, an endpoint, a reader, or a control transfer on
-/// its way
+/// `close` of a device, or else of an interface, an endpoint, a reader, a writer, or a control
+/// transfer on its way
 #[tactic(auto, unfolding(crate::specs::Calls::close_of))]
 fn close_call(words: &[&[u8]]) -> Result<Item, LineError>
     ensures value { Gives (λ i. i) result (close_of (texts words.now)) }
@@ -152,6 +153,9 @@ fn close_call(words: &[&[u8]]) -> Result<Item, LineError>
     }
     if let Some(reader) = Name::spelled(b'r', word) {
         return Ok(Item::CloseReader { reader });
+    }
+    if let Some(writer) = Name::spelled(b'w', word) {
+        return Ok(Item::CloseWriter { writer });
     }
     let future = Name::parse(b'f', word)?;
     Ok(Item::CloseFuture { future })

@@ -322,6 +322,76 @@ pub enum Item {
     ConsumeEnd {
         reader: Name,
     },
+    /// `writer w e N`: makes a writer of the endpoint, whose transfers hold this many bytes at
+    /// least.
+    Writer {
+        writer: Name,
+        endpoint: Name,
+        transfer_size: Length,
+    },
+    /// `inner e w`: takes the endpoint back out of the writer, under this name.
+    WriterIntoInner {
+        endpoint: Name,
+        writer: Name,
+    },
+    /// `num w N`: sets how many transfers of the writer may be pending before a write waits.
+    SetWriterTransfers {
+        writer: Name,
+        count: u32,
+    },
+    /// `timeout w TIME`: sets for how long the calls on the writer wait.
+    SetWriteTimeout {
+        writer: Name,
+        timeout: Timeout,
+    },
+    /// `close w`: closes the writer with its endpoint.
+    CloseWriter {
+        writer: Name,
+    },
+    /// `write w BYTES : STEP ; ..`: accepts as many of these bytes as fit, and waits where none
+    /// fits.
+    Write {
+        writer: Name,
+        bytes: Data,
+        /// What happens while it waits.
+        steps: Steps,
+    },
+    /// `pollwrite w BYTES`: accepts as many of these bytes as fit, and does not wait.
+    PollWrite {
+        writer: Name,
+        bytes: Data,
+    },
+    /// `wsubmit w`: submits the bytes that were accepted.
+    Submit {
+        writer: Name,
+    },
+    /// `wend w`: submits the bytes that were accepted, and ends the message.
+    SubmitEnd {
+        writer: Name,
+    },
+    /// `flush w : STEP ; ..`: submits the bytes that were accepted, and waits for all that is
+    /// pending.
+    Flush {
+        writer: Name,
+        /// What happens while it waits.
+        steps: Steps,
+    },
+    /// `pollflush w`: submits the bytes that were accepted, and does not wait.
+    PollFlush {
+        writer: Name,
+    },
+    /// `flushend w : STEP ; ..`: submits the bytes that were accepted, ends the message, and waits
+    /// for all that is pending.
+    FlushEnd {
+        writer: Name,
+        /// What happens while it waits.
+        steps: Steps,
+    },
+    /// `pollflushend w`: submits the bytes that were accepted, ends the message, and does not
+    /// wait.
+    PollFlushEnd {
+        writer: Name,
+    },
     /// `ctlin X CTL N TIME : STEP ; ..`: makes a control transfer that wants this many bytes, and
     /// waits for it. USB 2.0, section 9.3.
     ControlIn {
@@ -441,6 +511,9 @@ impl Item {
             | Item::TransferOut { steps, .. }
             | Item::Read { steps, .. }
             | Item::FillBuf { steps, .. }
+            | Item::Write { steps, .. }
+            | Item::Flush { steps, .. }
+            | Item::FlushEnd { steps, .. }
             | Item::ControlIn { steps, .. }
             | Item::ControlOut { steps, .. }
             | Item::WaitFuture { steps, .. }

@@ -10,6 +10,7 @@ mod reader_call;
 mod reading;
 mod tree_line;
 mod wait;
+mod writer_call;
 
 pub use item::Item;
 pub use line::read_line;

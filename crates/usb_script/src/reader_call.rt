@@ -1,13 +1,14 @@
-//! Calls on readers, of which some may have steps of their own, by their first word.
+//! Calls on readers, of which some may have steps of their own, by their first word, and those that
+//! have a like on writers.
 
 ghost use Rattle.std.specs.Prelude.{◌≤◌, length, IfOk};
 ghost use Rattle.usb_words.specs.Fields.{texts};
 ghost use Rattle.usb_words.specs.Outcome.{Gives};
-ghost use Rattle.usb_script.specs.ReaderCalls.{read_call_of, framed_read_of, framed_fill_of, poll_call_of, framed_poll_read_of, framed_poll_fill_of, consume_call_of, framed_consume_of, reader_call_of};
+ghost use Rattle.usb_script.specs.ReaderCalls.{read_call_of, framed_read_of, framed_fill_of, poll_call_of, framed_poll_read_of, framed_poll_fill_of, consume_call_of, framed_consume_of, inner_of, num_of, timeout_of, reader_call_of};
 ghost use Rattle.usb_script.specs.ItemKinds.{places_in};
 
-use crate::control_call::control_call;
 use crate::item::Item;
+use crate::writer_call::write_call;
 use std::alloc::Global;
 use usb_steps::own_steps;
 use usb_words::{
@@ -15,7 +16,7 @@ use usb_words::{
     three_words, two_and_more, two_words,
 };
 
-/// The most transfers that a line asks a reader to keep pending.
+/// The most transfers that a line asks a reader or a writer to have pending.
 const MAX_TRANSFERS: u64 = 65536;
 
 /// `read r R`, `sread r R`, `fill r`, `sfill r`, and steps, or a further line
@@ -139,7 +140,8 @@ fn framed_consume(framing: Framing, words: &[&[u8]]) -> Result<Item, LineError>
     })
 }
 
-/// `reader r e N`, `inner e r`, `num r N`, `timeout r TIME`, or a further line
+/// `reader r e N`, `inner e r`, `inner e w`, `num r N`, `num w N`, `timeout r TIME`,
+/// `timeout w TIME`, or a further line
 #[tactic(auto, unfolding(crate::specs::ReaderCalls::reader_call_of))]
 fn reader_call(alloc: Global, name: &[u8], words: &[&[u8]]) -> Result<Item, LineError>
     ensures value { Gives (λ i. i) result (reader_call_of name.now (texts words.now)) }
@@ -153,24 +155,57 @@ fn reader_call(alloc: Global, name: &[u8], words: &[&[u8]]) -> Result<Item, Line
             transfer_size: Length::parse(size)?,
         })
     } else if reads(name, b"inner") {
-        let (endpoint, reader) = two_words(words)?;
-        Ok(Item::IntoInner {
-            endpoint: Name::parse(b'e', endpoint)?,
-            reader: Name::parse(b'r', reader)?,
-        })
+        inner_call(words)
     } else if reads(name, b"num") {
-        let (reader, count) = two_words(words)?;
-        Ok(Item::SetNumTransfers {
-            reader: Name::parse(b'r', reader)?,
-            count: number(MAX_TRANSFERS, count)? as u32,
-        })
+        num_call(words)
     } else if reads(name, b"timeout") {
-        let (reader, timeout) = two_words(words)?;
-        Ok(Item::SetReadTimeout {
-            reader: Name::parse(b'r', reader)?,
-            timeout: Timeout::parse(timeout)?,
-        })
+        timeout_call(words)
     } else {
-        control_call(alloc, name, words)
+        write_call(alloc, name, words)
     }
+}
+
+/// `inner` of a reader, or else of a writer: the name for the endpoint stands first
+#[tactic(auto, unfolding(crate::specs::ReaderCalls::inner_of))]
+fn inner_call(words: &[&[u8]]) -> Result<Item, LineError>
+    ensures value { Gives (λ i. i) result (inner_of (texts words.now)) }
+    ensures few { IfOk result (λ item. places_in item ≤ length words.now) }
+{
+    let (endpoint, word) = two_words(words)?;
+    let endpoint = Name::parse(b'e', endpoint)?;
+    if let Some(reader) = Name::spelled(b'r', word) {
+        return Ok(Item::IntoInner { endpoint, reader });
+    }
+    let writer = Name::parse(b'w', word)?;
+    Ok(Item::WriterIntoInner { endpoint, writer })
+}
+
+/// `num` of a reader's transfers, or else of a writer's
+#[tactic(auto, unfolding(crate::specs::ReaderCalls::num_of))]
+fn num_call(words: &[&[u8]]) -> Result<Item, LineError>
+    ensures value { Gives (λ i. i) result (num_of (texts words.now)) }
+    ensures few { IfOk result (λ item. places_in item ≤ length words.now) }
+{
+    let (word, count) = two_words(words)?;
+    let count = number(MAX_TRANSFERS, count)? as u32;
+    if let Some(reader) = Name::spelled(b'r', word) {
+        return Ok(Item::SetNumTransfers { reader, count });
+    }
+    let writer = Name::parse(b'w', word)?;
+    Ok(Item::SetWriterTransfers { writer, count })
+}
+
+/// `timeout` of the calls on a reader, or else on a writer
+#[tactic(auto, unfolding(crate::specs::ReaderCalls::timeout_of))]
+fn timeout_call(words: &[&[u8]]) -> Result<Item, LineError>
+    ensures value { Gives (λ i. i) result (timeout_of (texts words.now)) }
+    ensures few { IfOk result (λ item. places_in item ≤ length words.now) }
+{
+    let (word, timeout) = two_words(words)?;
+    let timeout = Timeout::parse(timeout)?;
+    if let Some(reader) = Name::spelled(b'r', word) {
+        return Ok(Item::SetReadTimeout { reader, timeout });
+    }
+    let writer = Name::parse(b'w', word)?;
+    Ok(Item::SetWriteTimeout { writer, timeout })
 }

@@ -24,3 +24,7 @@ future_letter = 102
 -- r: a reader of an endpoint
 abbrev pub reader_letter : ℕ
 reader_letter = 114
+
+-- w: a writer of an endpoint
+abbrev pub writer_letter : ℕ
+writer_letter = 119
