@@ -11,6 +11,7 @@ use crate::hosts::{acknowledgement, control_packet, new_host, packet, reap};
 use crate::readers::{Reading, expect_reading, reading_steps};
 use crate::transfers::{expect_other, expect_packet};
 use crate::writers::{Writing, expect_writing, writing_steps};
+use crate::written_lines::expect_written_lines;
 use std::alloc::Global;
 use std::process::Abort;
 use std::test::Fail;
@@ -40,6 +41,8 @@ pub enum Case {
     Reading(Reading),
     /// A writer is made of an endpoint, and used.
     Writing(Writing),
+    /// A writer's calls print their lines, and one of its transfers stalls.
+    WrittenLines,
 }
 
 /// Compares what is found at a new host.
@@ -61,6 +64,7 @@ fn expect_case(rt: &impl Abort, alloc: Global, host: &mut Host, case: Case) {
         Case::Descriptor(question) => expect_descriptor(rt, alloc, host, question),
         Case::Reading(reading) => expect_reading(rt, alloc, host, reading),
         Case::Writing(writing) => expect_writing(rt, alloc, host, writing),
+        Case::WrittenLines => expect_written_lines(rt, alloc, host),
     }
 }
 
@@ -77,6 +81,7 @@ fn steps_of(alloc: Global, case: Case) -> Result<Vec<KernelStep>, NoMemory>
         Case::Descriptor(question) => one_step(alloc, control_packet(alloc, sent(question))?),
         Case::Reading(reading) => reading_steps(alloc, reading),
         Case::Writing(writing) => writing_steps(alloc, writing),
+        Case::WrittenLines => writing_steps(alloc, Writing::Stall),
     }
 }
 

@@ -1,6 +1,7 @@
 //! Tests of the host, of what is opened at it, and of transfers there: the crates `usb_host` and
 //! `usb_device`. And tests of readers there, and of their printed lines: the readers of either type
-//! of `usb_io`, `usb_streams` and `usb_stream_lines`; and of writers there: `usb_writes`.
+//! of `usb_io`, `usb_streams` and `usb_stream_lines`; and of writers there, and of their printed
+//! lines: `usb_writes` and `usb_writer_lines`.
 //!
 //! What calls answer is asked by whole scripts too, of the crate `nusb_sim`.
 //!
@@ -23,3 +24,5 @@ mod readers;
 mod transfers;
 #[cfg(test)]
 mod writers;
+#[cfg(test)]
+mod written_lines;

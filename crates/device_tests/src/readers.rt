@@ -599,7 +599,7 @@ const FAULT_LINES: &str = "io Other hardware fault or protocol violation\n\
     io TimedOut timeout waiting for read\n\
     io UnexpectedEof ended without short packet\n";
 
-fn is_text(text: Result<String, NoMemory>, expected: &str) -> bool {
+pub fn is_text(text: Result<String, NoMemory>, expected: &str) -> bool {
     match text {
         Ok(text) => text.as_str() == expected,
         Err(_) => false,

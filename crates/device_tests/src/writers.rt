@@ -337,7 +337,7 @@ fn right_steps(host: &mut Host, writer: &mut AnyWriter, steps: &[Step]) -> usize
 }
 
 /// A writer of endpoint 0x02, of transfers of two packets.
-fn new_writer(host: &mut Host, endpoint: Endpoint<Bulk, Out>) -> Result<AnyWriter, NoMemory>
+pub fn new_writer(host: &mut Host, endpoint: Endpoint<Bulk, Out>) -> Result<AnyWriter, NoMemory>
     requires stands { Stands (bus_of host.old) endpoint }
     ensures stands { IfOk result (λ w. Stands (bus_of host.new) (writer_of w).endpoint) }
 {

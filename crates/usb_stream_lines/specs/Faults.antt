@@ -4,7 +4,8 @@ use Rattle.usb_error.specs.declared.io_kind.IoKind.{IoKind}
 use Rattle.usb_error.specs.declared.io_kind.IoKind.TheVariants.{Interrupted, ConnectionReset, ConnectionAborted, NotConnected, InvalidInput, InvalidData, PermissionDenied, NotFound, Unsupported, TimedOut, UnexpectedEof, Other}
 use Rattle.usb_error.specs.FaultState.{FaultState}
 use Rattle.usb_io.specs.declared.fault.ReadFault.{ReadFault}
-use Rattle.usb_io.specs.StreamFaults.{read_fault}
+use Rattle.usb_io.specs.declared.fault.WriteFault.{WriteFault}
+use Rattle.usb_io.specs.StreamFaults.{read_fault, write_fault}
 use Rattle.usb_lines.specs.Words.{line_of}
 
 -- the name of a kind
@@ -29,3 +30,7 @@ io_line fault = line_of (codes "io") (kind_name fault.kind ∷ fault.text ∷ []
 -- why a read failed
 abbrev pub read_fault_line : ReadFault → List ℕ
 read_fault_line fault = io_line (read_fault fault)
+
+-- why a write or a flush failed
+abbrev pub write_fault_line : WriteFault → List ℕ
+write_fault_line fault = io_line (write_fault fault)

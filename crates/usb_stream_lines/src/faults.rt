@@ -1,12 +1,12 @@
 //! The lines of faults.
 
 ghost use Rattle.std.specs.Prelude.{◌≡◌, ◌++◌, OnOk, string_bytes};
-ghost use Rattle.usb_stream_lines.specs.Faults.{kind_name, io_line, read_fault_line};
+ghost use Rattle.usb_stream_lines.specs.Faults.{kind_name, io_line, read_fault_line, write_fault_line};
 
 use std::alloc::Global;
 use usb_desc::NoMemory;
 use usb_error::{IoFault, IoKind};
-use usb_io::ReadFault;
+use usb_io::{ReadFault, WriteFault};
 use usb_lines::{end_line, push_space};
 
 /// The name of a kind.
@@ -45,6 +45,15 @@ pub fn write_io_fault(out: &mut String, fault: &IoFault) -> Result<(), NoMemory>
 pub fn write_read_fault(alloc: Global, out: &mut String, fault: ReadFault) -> Result<(), NoMemory>
     ensures text { OnOk result
         (string_bytes out.new ≡ string_bytes out.old ++ read_fault_line fault) }
+{
+    let fault = fault.to_io_fault(alloc)?;
+    write_io_fault(out, &fault)
+}
+
+/// Appends why a write or a flush failed.
+pub fn write_write_fault(alloc: Global, out: &mut String, fault: WriteFault) -> Result<(), NoMemory>
+    ensures text { OnOk result
+        (string_bytes out.new ≡ string_bytes out.old ++ write_fault_line fault) }
 {
     let fault = fault.to_io_fault(alloc)?;
     write_io_fault(out, &fault)

@@ -5,20 +5,24 @@ use Rattle.futures.specs.declared.task.Poll.{Poll}
 use Rattle.futures.specs.declared.task.Poll.TheVariants.{Ready, Pending}
 use Rattle.usb_desc.specs.declared.error.Fail.{Fail}
 use Rattle.usb_desc.specs.declared.error.Fail.TheVariants.{Cause, Memory}
+use Rattle.usb_kernel.specs.Extends.{Extends}
+use Rattle.usb_kernel.proofs.Extends.{extends-same}
+use Rattle.usb_endpoint.specs.EndpointState.{EndpointState}
 use Rattle.usb_endpoint.specs.Polls.{IfReady, IfPending}
 use Rattle.usb_host.specs.HostState.{HostState}
 use Rattle.usb_host.specs.HostFrames.{LineGoesOn}
 use Rattle.usb_io.specs.Answers.{FailsBy}
 use Rattle.usb_io.specs.Fronts.{DrainedAll, DrainFault}
-use Rattle.usb_io.specs.Writers.{Writing, not_begun, out_buffer, EndShort}
-use Rattle.usb_io.specs.WriteAnswers.{accepts, Wrote, IsWriteError, WritePending, IsWrittenInTime, begun_end, PolledEnd, PolledEndFailed, PolledEndShort, IsPollEndError}
+use Rattle.usb_io.specs.Writers.{WriterState, Writing, not_begun, out_buffer, EndShort}
+use Rattle.usb_io.specs.WriteAnswers.{accepts, AcceptsNone, Wrote, IsWriteError, WritePending, flush_start, end_start, Flushed, IsFlushError, FlushPending, FlushedEnd, IsFlushEndError, IsWrittenInTime, begun_end, PolledEnd, PolledEndFailed, PolledEndShort, IsPollEndError, EndPending}
 use Rattle.usb_io.specs.declared.fault.WriteFault.{WriteFault}
 use Rattle.usb_io.specs.declared.fault.WriteFault.TheVariants.{Transfer, TimedOut}
 use Rattle.usb_streams.specs.HostReads.{host_calls}
-use Rattle.usb_writes.specs.HostWrites.{Answered, Drained, answered, drained, accepting_of, write_came, poll_flush_end_came, ending_of, FailsAs, WriteFails, PollFlushEndFails, SubmitEndShort}
+use Rattle.usb_streams.proofs.LinesGoOn.{line-same}
+use Rattle.usb_writes.specs.HostWrites.{Answered, Drained, answered, drained, accepting_of, write_drained, write_came, flush_came, flush_end_came, poll_flush_end_came, ending_of, submit_came, submit_end_came, FailsAs, WriteShort, WriteFails, PollFlushEndFails, SubmitEndShort}
 use Rattle.usb_writes.specs.Laws.{CallGoesOn}
 use Rattle.usb_writes.proofs.DrainsCome.{drain-all, drain-fault}
-use Rattle.usb_writes.proofs.CallsGoOn.{call-same, call-trans, call-not_begun, call-send, call-write_drained, write_goes_on}
+use Rattle.usb_writes.proofs.CallsGoOn.{call-same, call-trans, call-not_begun, call-send, call-write_drained, write_goes_on, flush_goes_on, flush_end_goes_on, poll_flush_end_goes_on, submit_goes_on, submit_end_goes_on}
 
 -- what calls answer
 abbrev Count : Type 0
@@ -32,13 +36,40 @@ pub if-ready : {R : Type 0} {P Q : R → Type 0} (p : Poll R) → ((r : R) → P
 if-ready (Ready r) further at = further r at
 if-ready Pending further at = tt
 
--- the line went on to what a function says, and so it did where that is what is left
-line-left : {A : Type 0} (a : Answered A) (r : Result A WriteFault) (old new : Writing HostState) → a ≡ answered r new → CallGoesOn old a.left → LineGoesOn old.bus new.bus
-line-left a r old new is goes = subst (λ (b : Answered _). LineGoesOn old.bus b.left.bus) is goes.line
+-- a call goes on to what a function says, and so it does where that is what is left
+call-left : {A : Type 0} (a : Answered A) (r : Result A WriteFault) (old new : Writing HostState) → a ≡ answered r new → CallGoesOn old a.left → CallGoesOn old new
+call-left a r old new is goes = subst (λ (b : Answered _). CallGoesOn old b.left) is goes
 
-line-failed : {A : Type 0} (a : Answered A) (short : Type 0) (old new : Writing HostState) (e : Fail WriteFault) → (short → LineGoesOn old.bus new.bus) → FailsAs a short new e → CallGoesOn old a.left → LineGoesOn old.bus new.bus
-line-failed a short old new (Cause f) none fails goes = line-left a (Err f) old new fails goes
-line-failed a short old new Memory none fails goes = none fails
+call-failed : {A : Type 0} (a : Answered A) (short : Type 0) (old new : Writing HostState) (e : Fail WriteFault) → (short → CallGoesOn old new) → FailsAs a short new e → CallGoesOn old a.left → CallGoesOn old new
+call-failed a short old new (Cause f) none fails goes = call-left a (Err f) old new fails goes
+call-failed a short old new Memory none fails goes = none fails
+
+-- what a lack of memory leaves: no byte is accepted; nothing is submitted; or an end is without its
+-- empty transfer
+call-accepts_none : (old new : Writing HostState) → AcceptsNone old new → CallGoesOn old new
+call-accepts_none old new none =
+    let same : new.writer.endpoint ≡ old.writer.endpoint = ap (λ (r : WriterState). r.endpoint) none.rest in
+    record {
+      line = subst (LineGoesOn old.bus) (sym none.bus) (line-same old.bus);
+      past = subst (λ (h : HostState). Extends old.bus.kernel.past h.kernel.past) (sym none.bus) (extends-same old.bus.kernel.past);
+      settings = record {
+        n = ap (λ (r : WriterState). r.n) none.rest;
+        size = ap (λ (r : WriterState). r.size) none.rest;
+        timeout = ap (λ (r : WriterState). r.timeout) none.rest;
+        endpoint = same ∙ ap (λ (e : EndpointState). record old.writer.endpoint { pending = e.pending }) (sym same);
+      };
+    }
+
+call-unbegun : (old new : Writing HostState) → new ≡ not_begun old → CallGoesOn old new
+call-unbegun old new is = subst (CallGoesOn old) (sym is) (call-not_begun old)
+
+call-short : (o : Option (List ℕ)) (old new : Writing HostState) → EndShort host_calls o old new → CallGoesOn old new
+call-short None old new is = subst (CallGoesOn old) (sym is) (call-same old)
+call-short (Some bytes) old new (inl is) = subst (CallGoesOn old) (sym is) (call-same old)
+call-short (Some bytes) old new (inr h) = subst (CallGoesOn old) (sym h.1) (call-send old (out_buffer old.writer.size bytes))
+
+call-end_short : (old new : Writing HostState) → SubmitEndShort old new → CallGoesOn old new
+call-end_short old new short = call-trans old (not_begun old) new (call-not_begun old) (call-short old.writer.buffer (not_begun old) new short)
 
 -- a write
 module _ (timeout : ℕ) (src : List ℕ) (old new : Writing HostState) where
@@ -56,11 +87,15 @@ module _ (timeout : ℕ) (src : List ℕ) (old new : Writing HostState) where
       let is = drain-all false timeout (not_begun old) h.mid h.came in
       record { drained = ap (λ (d : Drained). d.answer) is; none = rw is h.none }
 
-  pub write-line : (r : Count) → IfOk r (λ n. write_came timeout src old ≡ answered (Ok n) new) → IfErr r (WriteFails timeout src old new) → LineGoesOn old.bus new.bus
-  write-line (Ok n) gives fails = line-left (write_came timeout src old) (Ok n) old new gives (write_goes_on timeout src old)
-  write-line (Err e) gives fails =
-      line-failed (write_came timeout src old) _ old new e
-      (λ short. subst (λ (h : HostState). LineGoesOn old.bus h) (sym short.none.bus) (call-write_drained timeout old).line) fails (write_goes_on timeout src old)
+  write-went : (r : Count) → IfOk r (λ n. write_came timeout src old ≡ answered (Ok n) new) → IfErr r (WriteFails timeout src old new) → CallGoesOn old new
+  write-went (Ok n) gives fails = call-left (write_came timeout src old) (Ok n) old new gives (write_goes_on timeout src old)
+  write-went (Err e) gives fails =
+      let left = (write_drained timeout old).left in
+      call-failed (write_came timeout src old) (WriteShort timeout old new) old new e
+      (λ short. call-trans old left new (call-write_drained timeout old) (call-accepts_none left new short.none)) fails (write_goes_on timeout src old)
+
+  pub write-goes : (r : Count) → IfOk r (Wrote host_calls timeout src old new) → IfErr r (IsWriteError host_calls timeout old new) → CallGoesOn old new
+  write-goes r wrote failed = write-went r (write-gives r wrote) (write-fails r failed)
 
 -- a poll of one
 module _ (src : List ℕ) (old new : Writing HostState) where
@@ -68,9 +103,9 @@ module _ (src : List ℕ) (old new : Writing HostState) where
   poll_write-waits (Ready r) h = tt
   poll_write-waits Pending h = ap (λ (d : Drained). accepting_of src d) (drain-fault false 0 (not_begun old) new TimedOut h)
 
-  pub poll_write-line : (p : Poll Count) → IfReady p (λ r. IfOk r (λ n. write_came 0 src old ≡ answered (Ok n) new)) → IfReady p (λ r. IfErr r (WriteFails 0 src old new)) → IfPending p (write_came 0 src old ≡ answered (Err TimedOut) new) → LineGoesOn old.bus new.bus
-  poll_write-line (Ready r) gives fails waits = write-line 0 src old new r gives fails
-  poll_write-line Pending gives fails waits = line-left (write_came 0 src old) (Err TimedOut) old new waits (write_goes_on 0 src old)
+  pub poll_write-goes : (p : Poll Count) → IfReady p (λ r. IfOk r (Wrote host_calls 0 src old new)) → IfReady p (λ r. IfErr r (IsWriteError host_calls 0 old new)) → IfPending p (WritePending host_calls old new) → CallGoesOn old new
+  poll_write-goes (Ready r) wrote failed waits = write-goes 0 src old new r wrote failed
+  poll_write-goes Pending wrote failed waits = call-left (write_came 0 src old) (Err TimedOut) old new (poll_write-waits Pending waits) (write_goes_on 0 src old)
 
 -- calls that take all that is pending from here (start) on
 module _ (timeout : ℕ) (start new : Writing HostState) where
@@ -87,35 +122,35 @@ module _ (timeout : ℕ) (start new : Writing HostState) where
   drain-waits (Ready r) h = tt
   drain-waits Pending h = drain-fault true timeout start new TimedOut h
 
--- of a call that gives nothing, the line goes on as the function (a) says
-module _ (a : Drained) (short : Type 0) (old new : Writing HostState) (none : short → LineGoesOn old.bus new.bus) (goes : CallGoesOn old a.left) where
-  pub done-line : (r : Done) → OnOk r (a ≡ answered (Ok tt) new) → IfErr r (FailsAs a short new) → LineGoesOn old.bus new.bus
-  done-line (Ok u) gives fails = line-left a (Ok tt) old new gives goes
-  done-line (Err e) gives fails = line-failed a short old new e none fails goes
+-- a call that gives nothing goes on as the function (a) says
+done-went : (a : Drained) (short : Type 0) (old new : Writing HostState) → (short → CallGoesOn old new) → CallGoesOn old a.left → (r : Done) → OnOk r (a ≡ answered (Ok tt) new) → IfErr r (FailsAs a short new) → CallGoesOn old new
+done-went a short old new none goes (Ok u) gives fails = call-left a (Ok tt) old new gives goes
+done-went a short old new none goes (Err e) gives fails = call-failed a short old new e none fails goes
 
-  pub poll_done-line : (p : Poll Done) → IfReady p (λ r. OnOk r (a ≡ answered (Ok tt) new)) → IfReady p (λ r. IfErr r (FailsAs a short new)) → IfPending p (a ≡ answered (Err TimedOut) new) → LineGoesOn old.bus new.bus
-  poll_done-line (Ready r) gives fails waits = done-line r gives fails
-  poll_done-line Pending gives fails waits = line-left a (Err TimedOut) old new waits goes
+pub flush-goes : (timeout : ℕ) (old new : Writing HostState) (r : Done) → OnOk r (Flushed host_calls timeout old new) → IfErr r (IsFlushError host_calls timeout old new) → CallGoesOn old new
+flush-goes timeout old new r flushed failed =
+    let start = flush_start host_calls old in
+    let short : Type 0 = new ≡ not_begun old in
+    done-went (flush_came timeout old) short old new (call-unbegun old new) (flush_goes_on timeout old) r (drain-gives timeout start new r flushed) (drain-fails timeout start new short r failed)
 
--- what a lack of memory leaves
-pub line-none : (old new : Writing HostState) → new ≡ not_begun old → LineGoesOn old.bus new.bus
-line-none old new is = subst (λ (w : Writing HostState). LineGoesOn old.bus w.bus) (sym is) (call-not_begun old).line
+pub poll_flush-goes : (old new : Writing HostState) (p : Poll Done) → IfReady p (λ r. OnOk r (Flushed host_calls 0 old new)) → IfReady p (λ r. IfErr r (IsFlushError host_calls 0 old new)) → IfPending p (FlushPending host_calls old new) → CallGoesOn old new
+poll_flush-goes old new (Ready r) flushed failed waits = flush-goes 0 old new r flushed failed
+poll_flush-goes old new Pending flushed failed waits = call-left (flush_came 0 old) (Err TimedOut) old new (drain-waits 0 (flush_start host_calls old) new Pending waits) (flush_goes_on 0 old)
 
-line-short : (o : Option (List ℕ)) (old new : Writing HostState) → EndShort host_calls o old new → CallGoesOn old new
-line-short None old new is = subst (CallGoesOn old) (sym is) (call-same old)
-line-short (Some bytes) old new (inl is) = subst (CallGoesOn old) (sym is) (call-same old)
-line-short (Some bytes) old new (inr h) = subst (CallGoesOn old) (sym h.1) (call-send old (out_buffer old.writer.size bytes))
-
-pub line-end_short : (old new : Writing HostState) → SubmitEndShort old new → LineGoesOn old.bus new.bus
-line-end_short old new short = (call-trans old (not_begun old) new (call-not_begun old) (line-short old.writer.buffer (not_begun old) new short)).line
-
-pub line-poll_short : (old new : Writing HostState) → PolledEndShort host_calls old new → LineGoesOn old.bus new.bus
-line-poll_short old new h = (line-short old.writer.buffer old new h.short).line
+pub flush_end-goes : (timeout : ℕ) (old new : Writing HostState) (r : Done) → OnOk r (FlushedEnd host_calls timeout old new) → IfErr r (IsFlushEndError host_calls timeout old new) → CallGoesOn old new
+flush_end-goes timeout old new r flushed failed =
+    let start = end_start host_calls old in
+    let short = SubmitEndShort old new in
+    done-went (flush_end_came timeout old) short old new (call-end_short old new) (flush_end_goes_on timeout old) r (drain-gives timeout start new r flushed) (drain-fails timeout start new short r failed)
 
 -- submissions
-pub submit-line : {E : Type 0} (r : Result (Unit {0}) E) (old new there : Writing HostState) (short : Type 0) → (short → LineGoesOn old.bus new.bus) → CallGoesOn old there → OnOk r (new ≡ there) → OnErr r short → LineGoesOn old.bus new.bus
-submit-line (Ok u) old new there short none goes ok err = subst (λ (w : Writing HostState). LineGoesOn old.bus w.bus) (sym ok) goes.line
-submit-line (Err e) old new there short none goes ok err = none err
+pub submit-goes : {E : Type 0} (r : Result (Unit {0}) E) (old new : Writing HostState) → OnOk r (new ≡ submit_came old) → OnErr r (new ≡ not_begun old) → CallGoesOn old new
+submit-goes (Ok u) old new ok err = subst (CallGoesOn old) (sym ok) (submit_goes_on old)
+submit-goes (Err e) old new ok err = call-unbegun old new err
+
+pub submit_end-goes : {E : Type 0} (r : Result (Unit {0}) E) (old new : Writing HostState) → OnOk r (new ≡ submit_end_came old) → OnErr r (SubmitEndShort old new) → CallGoesOn old new
+submit_end-goes (Ok u) old new ok err = subst (CallGoesOn old) (sym ok) (submit_end_goes_on old)
+submit_end-goes (Err e) old new ok err = call-end_short old new err
 
 -- polls of a flush to an end
 module _ (old new : Writing HostState) where
@@ -143,3 +178,8 @@ module _ (old new : Writing HostState) where
   pub poll_end-waits : (p : Poll Done) → IfPending p (DrainFault host_calls true 0 (begun_end host_calls old) new TimedOut) → IfPending p (poll_flush_end_came old ≡ answered (Err TimedOut) new)
   poll_end-waits (Ready r) h = tt
   poll_end-waits Pending h = ap (λ (d : Drained). ending_of d) (drain-fault true 0 (begun_end host_calls old) new TimedOut h)
+
+  pub poll_end-goes : (p : Poll Done) → IfReady p (λ r. OnOk r (PolledEnd host_calls old new)) → IfReady p (λ r. IfErr r IsWrittenInTime) → IfReady p (λ r. IfErr r (IsPollEndError host_calls old new)) → IfPending p (EndPending host_calls old new) → CallGoesOn old new
+  poll_end-goes (Ready r) flushed in_time failed waits =
+      done-went (poll_flush_end_came old) (PolledEndShort host_calls old new) old new (λ h. call-short old.writer.buffer old new h.short) (poll_flush_end_goes_on old) r (poll_end-gives r flushed) (poll_end-fails r in_time failed)
+  poll_end-goes Pending flushed in_time failed waits = call-left (poll_flush_end_came old) (Err TimedOut) old new (poll_end-waits Pending waits) (poll_flush_end_goes_on old)

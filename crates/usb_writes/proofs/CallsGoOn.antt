@@ -41,7 +41,7 @@ call-trans a b c first second =
       };
     }
 
-call-set : (w : Writing HostState) (buffer : Option (List ℕ)) (begun : Bool) → CallGoesOn w (with_set buffer begun w)
+pub call-set : (w : Writing HostState) (buffer : Option (List ℕ)) (begun : Bool) → CallGoesOn w (with_set buffer begun w)
 call-set w buffer begun = record { line = line-same w.bus; past = extends-same w.bus.kernel.past; settings = record { n = refl; size = refl; timeout = refl; endpoint = refl } }
 
 pub call-not_begun : (w : Writing HostState) → CallGoesOn w (not_begun w)
@@ -59,10 +59,10 @@ call-send w b =
       settings = record { n = refl; size = refl; timeout = refl; endpoint = refl };
     }
 
-call-waited : (w : Writing HostState) (front timeout : ℕ) → CallGoesOn w (writing (host_waited w.bus front timeout).1 w.writer)
+pub call-waited : (w : Writing HostState) (front timeout : ℕ) → CallGoesOn w (writing (host_waited w.bus front timeout).1 w.writer)
 call-waited w front timeout = let went = went-waited w.bus front timeout in record { line = went.line; past = went.later.past; settings = keeps-same w.writer }
 
-call-taken : (w : Writing HostState) (front : ℕ) (others : List ℕ) (c : Completion) → CallGoesOn w (writing (host_taken w.bus front) (with_taken c others w.writer))
+pub call-taken : (w : Writing HostState) (front : ℕ) (others : List ℕ) (c : Completion) → CallGoesOn w (writing (host_taken w.bus front) (with_taken c others w.writer))
 call-taken w front others c =
     record {
       line = line-keeps w.bus (host_taken w.bus front) (keeps-taken w.bus front);

@@ -1,3 +1,4 @@
 pub mod AnyWriters
 pub mod HostWrites
 pub mod Laws
+pub mod Told

@@ -1,6 +1,7 @@
 //! Submissions and flushes of a writer at a host.
 
 ghost use Rattle.std.specs.Prelude.{◌≡◌, ◌+◌, ◌≤◌, false, length, Ok, Err, IfErr, OnOk, OnErr};
+ghost use Rattle.usb_kernel.specs.Extends.{Extends};
 ghost use Rattle.usb_endpoint.specs.Handles.{Stands, KeepsOthers};
 ghost use Rattle.usb_endpoint.specs.Polls.{IfReady, IfPending};
 ghost use Rattle.usb_host.specs.HostBus.{bus_of};
@@ -30,6 +31,7 @@ pub fn submit(writer: &mut AnyWriter, host: &mut Host) -> Result<(), NoMemory>
         (writing host.new (writer_of writer.new)
         ≡ not_begun (writing host.old (writer_of writer.old))) }
     ensures line { LineGoesOn host.old host.new }
+    ensures past { Extends host.old.kernel.past host.new.kernel.past }
     ensures settings { KeepsWriter (writer_of writer.old) (writer_of writer.new) }
     ensures stands { Stands (bus_of host.new) (writer_of writer.new).endpoint }
     ensures others { KeepsOthers (bus_of host.old) (bus_of host.new)
@@ -56,6 +58,7 @@ pub fn submit_end(writer: &mut AnyWriter, host: &mut Host) -> Result<(), NoMemor
         (SubmitEndShort (writing host.old (writer_of writer.old))
         (writing host.new (writer_of writer.new))) }
     ensures line { LineGoesOn host.old host.new }
+    ensures past { Extends host.old.kernel.past host.new.kernel.past }
     ensures settings { KeepsWriter (writer_of writer.old) (writer_of writer.new) }
     ensures stands { Stands (bus_of host.new) (writer_of writer.new).endpoint }
     ensures others { KeepsOthers (bus_of host.old) (bus_of host.new)
@@ -80,6 +83,7 @@ pub fn flush(writer: &mut AnyWriter, host: &mut Host) -> Result<(), Fail<WriteFa
         (FlushFails (writer_of writer.old).timeout (writing host.old (writer_of writer.old))
         (writing host.new (writer_of writer.new))) }
     ensures line { LineGoesOn host.old host.new }
+    ensures past { Extends host.old.kernel.past host.new.kernel.past }
     ensures settings { KeepsWriter (writer_of writer.old) (writer_of writer.new) }
     ensures stands { Stands (bus_of host.new) (writer_of writer.new).endpoint }
     ensures others { KeepsOthers (bus_of host.old) (bus_of host.new)
@@ -104,6 +108,7 @@ pub fn poll_flush(writer: &mut AnyWriter, host: &mut Host) -> Poll<Result<(), Fa
         (flush_came 0 (writing host.old (writer_of writer.old))
         ≡ answered (Err WriteFault.TimedOut) (writing host.new (writer_of writer.new))) }
     ensures line { LineGoesOn host.old host.new }
+    ensures past { Extends host.old.kernel.past host.new.kernel.past }
     ensures settings { KeepsWriter (writer_of writer.old) (writer_of writer.new) }
     ensures stands { Stands (bus_of host.new) (writer_of writer.new).endpoint }
     ensures others { KeepsOthers (bus_of host.old) (bus_of host.new)
@@ -130,6 +135,7 @@ pub fn flush_end(writer: &mut AnyWriter, host: &mut Host) -> Result<(), Fail<Wri
         (FlushEndFails (writer_of writer.old).timeout
         (writing host.old (writer_of writer.old)) (writing host.new (writer_of writer.new))) }
     ensures line { LineGoesOn host.old host.new }
+    ensures past { Extends host.old.kernel.past host.new.kernel.past }
     ensures settings { KeepsWriter (writer_of writer.old) (writer_of writer.new) }
     ensures stands { Stands (bus_of host.new) (writer_of writer.new).endpoint }
     ensures others { KeepsOthers (bus_of host.old) (bus_of host.new)
@@ -158,6 +164,7 @@ pub fn poll_flush_end(writer: &mut AnyWriter, host: &mut Host) -> Poll<Result<()
         (poll_flush_end_came (writing host.old (writer_of writer.old))
         ≡ answered (Err WriteFault.TimedOut) (writing host.new (writer_of writer.new))) }
     ensures line { LineGoesOn host.old host.new }
+    ensures past { Extends host.old.kernel.past host.new.kernel.past }
     ensures settings { KeepsWriter (writer_of writer.old) (writer_of writer.new) }
     ensures stands { Stands (bus_of host.new) (writer_of writer.new).endpoint }
     ensures others { KeepsOthers (bus_of host.old) (bus_of host.new)

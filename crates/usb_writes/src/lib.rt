@@ -9,5 +9,5 @@ mod writes;
 
 pub use any_writer::AnyWriter;
 pub use flushes::{flush, flush_end, poll_flush, poll_flush_end, submit, submit_end};
-pub use laws::calls_go_on;
+pub use laws::{calls_go_on, calls_tell};
 pub use writes::{poll_write, write};

@@ -1,6 +1,7 @@
 //! Writes of a writer at a host.
 
 ghost use Rattle.std.specs.Prelude.{◌≡◌, Ok, Err, IfOk, IfErr};
+ghost use Rattle.usb_kernel.specs.Extends.{Extends};
 ghost use Rattle.usb_endpoint.specs.Handles.{Stands, KeepsOthers};
 ghost use Rattle.usb_endpoint.specs.Polls.{IfReady, IfPending};
 ghost use Rattle.usb_host.specs.HostBus.{bus_of};
@@ -34,6 +35,7 @@ pub fn write(writer: &mut AnyWriter, host: &mut Host, src: &[u8]) -> Result<usiz
         (WriteFails (writer_of writer.old).timeout src.now
         (writing host.old (writer_of writer.old)) (writing host.new (writer_of writer.new))) }
     ensures line { LineGoesOn host.old host.new }
+    ensures past { Extends host.old.kernel.past host.new.kernel.past }
     ensures settings { KeepsWriter (writer_of writer.old) (writer_of writer.new) }
     ensures stands { Stands (bus_of host.new) (writer_of writer.new).endpoint }
     ensures others { KeepsOthers (bus_of host.old) (bus_of host.new)
@@ -62,6 +64,7 @@ pub fn poll_write(
         (write_came 0 src.now (writing host.old (writer_of writer.old))
         ≡ answered (Err WriteFault.TimedOut) (writing host.new (writer_of writer.new))) }
     ensures line { LineGoesOn host.old host.new }
+    ensures past { Extends host.old.kernel.past host.new.kernel.past }
     ensures settings { KeepsWriter (writer_of writer.old) (writer_of writer.new) }
     ensures stands { Stands (bus_of host.new) (writer_of writer.new).endpoint }
     ensures others { KeepsOthers (bus_of host.old) (bus_of host.new)

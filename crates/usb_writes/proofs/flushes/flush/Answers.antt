@@ -1,8 +1,6 @@
 use Rattle.usb_streams.specs.HostReads.{host_calls}
 use Rattle.usb_io.specs.WriteAnswers.{flush_start}
-use Rattle.usb_writes.specs.HostWrites.{flush_came}
-use Rattle.usb_writes.proofs.CallAnswers.{drain-gives, drain-fails, done-line, line-none}
-use Rattle.usb_writes.proofs.CallsGoOn.{flush_goes_on}
+use Rattle.usb_writes.proofs.CallAnswers.{drain-gives, drain-fails, flush-goes}
 use Rattle.usb_io.specs.Writers.{writing}
 use Rattle.usb_writes.specs.AnyWriters.{writer_of}
 use Rattle.usb_writes.proofs.flushes.flush.Goals as goal
@@ -14,6 +12,7 @@ pub returns-clause-failed : goal.returns-clause-failed
 returns-clause-failed c = drain-fails (writer_of c.args.writer.now).timeout (flush_start host_calls (writing c.args.host.now (writer_of c.args.writer.now))) (writing c.flush.new.bus (writer_of c.flush.new.self)) _ c.flush.result c.flush.ensures.failed
 
 pub returns-clause-line : goal.returns-clause-line
-returns-clause-line c = let gives = drain-gives (writer_of c.args.writer.now).timeout (flush_start host_calls (writing c.args.host.now (writer_of c.args.writer.now))) (writing c.flush.new.bus (writer_of c.flush.new.self)) c.flush.result c.flush.ensures.ok in
-    let fails = drain-fails (writer_of c.args.writer.now).timeout (flush_start host_calls (writing c.args.host.now (writer_of c.args.writer.now))) (writing c.flush.new.bus (writer_of c.flush.new.self)) _ c.flush.result c.flush.ensures.failed in
-    done-line (flush_came (writer_of c.args.writer.now).timeout (writing c.args.host.now (writer_of c.args.writer.now))) _ (writing c.args.host.now (writer_of c.args.writer.now)) (writing c.flush.new.bus (writer_of c.flush.new.self)) (line-none (writing c.args.host.now (writer_of c.args.writer.now)) (writing c.flush.new.bus (writer_of c.flush.new.self))) (flush_goes_on (writer_of c.args.writer.now).timeout (writing c.args.host.now (writer_of c.args.writer.now))) c.flush.result gives fails
+returns-clause-line c = (flush-goes (writer_of c.args.writer.now).timeout (writing c.args.host.now (writer_of c.args.writer.now)) (writing c.flush.new.bus (writer_of c.flush.new.self)) c.flush.result c.flush.ensures.ok c.flush.ensures.failed).line
+
+pub returns-clause-past : goal.returns-clause-past
+returns-clause-past c = (flush-goes (writer_of c.args.writer.now).timeout (writing c.args.host.now (writer_of c.args.writer.now)) (writing c.flush.new.bus (writer_of c.flush.new.self)) c.flush.result c.flush.ensures.ok c.flush.ensures.failed).past

@@ -1,8 +1,6 @@
 use Rattle.usb_streams.specs.HostReads.{host_calls}
 use Rattle.usb_io.specs.WriteAnswers.{flush_start}
-use Rattle.usb_writes.specs.HostWrites.{flush_came}
-use Rattle.usb_writes.proofs.CallAnswers.{if-ready, drain-gives, drain-fails, drain-waits, poll_done-line, line-none}
-use Rattle.usb_writes.proofs.CallsGoOn.{flush_goes_on}
+use Rattle.usb_writes.proofs.CallAnswers.{if-ready, drain-gives, drain-fails, drain-waits, poll_flush-goes}
 use Rattle.usb_io.specs.Writers.{writing}
 use Rattle.usb_writes.specs.AnyWriters.{writer_of}
 use Rattle.usb_writes.proofs.flushes.poll_flush.Goals as goal
@@ -17,7 +15,7 @@ pub returns-clause-pending : goal.returns-clause-pending
 returns-clause-pending c = drain-waits 0 (flush_start host_calls (writing c.args.host.now (writer_of c.args.writer.now))) (writing c.poll_flush.new.bus (writer_of c.poll_flush.new.self)) c.poll_flush.result c.poll_flush.ensures.pending
 
 pub returns-clause-line : goal.returns-clause-line
-returns-clause-line c = let gives = if-ready c.poll_flush.result (λ r. drain-gives 0 (flush_start host_calls (writing c.args.host.now (writer_of c.args.writer.now))) (writing c.poll_flush.new.bus (writer_of c.poll_flush.new.self)) r) c.poll_flush.ensures.ok in
-    let fails = if-ready c.poll_flush.result (λ r. drain-fails 0 (flush_start host_calls (writing c.args.host.now (writer_of c.args.writer.now))) (writing c.poll_flush.new.bus (writer_of c.poll_flush.new.self)) _ r) c.poll_flush.ensures.failed in
-    let waits = drain-waits 0 (flush_start host_calls (writing c.args.host.now (writer_of c.args.writer.now))) (writing c.poll_flush.new.bus (writer_of c.poll_flush.new.self)) c.poll_flush.result c.poll_flush.ensures.pending in
-    poll_done-line (flush_came 0 (writing c.args.host.now (writer_of c.args.writer.now))) _ (writing c.args.host.now (writer_of c.args.writer.now)) (writing c.poll_flush.new.bus (writer_of c.poll_flush.new.self)) (line-none (writing c.args.host.now (writer_of c.args.writer.now)) (writing c.poll_flush.new.bus (writer_of c.poll_flush.new.self))) (flush_goes_on 0 (writing c.args.host.now (writer_of c.args.writer.now))) c.poll_flush.result gives fails waits
+returns-clause-line c = (poll_flush-goes (writing c.args.host.now (writer_of c.args.writer.now)) (writing c.poll_flush.new.bus (writer_of c.poll_flush.new.self)) c.poll_flush.result c.poll_flush.ensures.ok c.poll_flush.ensures.failed c.poll_flush.ensures.pending).line
+
+pub returns-clause-past : goal.returns-clause-past
+returns-clause-past c = (poll_flush-goes (writing c.args.host.now (writer_of c.args.writer.now)) (writing c.poll_flush.new.bus (writer_of c.poll_flush.new.self)) c.poll_flush.result c.poll_flush.ensures.ok c.poll_flush.ensures.failed c.poll_flush.ensures.pending).past

@@ -1,4 +1,4 @@
-use Rattle.usb_writes.proofs.CallAnswers.{if-ready, write-gives, write-fails, poll_write-waits, poll_write-line}
+use Rattle.usb_writes.proofs.CallAnswers.{if-ready, write-gives, write-fails, poll_write-waits, poll_write-goes}
 use Rattle.usb_io.specs.Writers.{writing}
 use Rattle.usb_writes.specs.AnyWriters.{writer_of}
 use Rattle.usb_writes.proofs.writes.poll_write.Goals as goal
@@ -13,7 +13,7 @@ pub returns-clause-pending : goal.returns-clause-pending
 returns-clause-pending c = poll_write-waits c.args.src.now (writing c.args.host.now (writer_of c.args.writer.now)) (writing c.poll_write.new.bus (writer_of c.poll_write.new.self)) c.poll_write.result c.poll_write.ensures.pending
 
 pub returns-clause-line : goal.returns-clause-line
-returns-clause-line c = let gives = if-ready c.poll_write.result (λ r. write-gives 0 c.args.src.now (writing c.args.host.now (writer_of c.args.writer.now)) (writing c.poll_write.new.bus (writer_of c.poll_write.new.self)) r) c.poll_write.ensures.wrote in
-    let fails = if-ready c.poll_write.result (λ r. write-fails 0 c.args.src.now (writing c.args.host.now (writer_of c.args.writer.now)) (writing c.poll_write.new.bus (writer_of c.poll_write.new.self)) r) c.poll_write.ensures.failed in
-    let waits = poll_write-waits c.args.src.now (writing c.args.host.now (writer_of c.args.writer.now)) (writing c.poll_write.new.bus (writer_of c.poll_write.new.self)) c.poll_write.result c.poll_write.ensures.pending in
-    poll_write-line c.args.src.now (writing c.args.host.now (writer_of c.args.writer.now)) (writing c.poll_write.new.bus (writer_of c.poll_write.new.self)) c.poll_write.result gives fails waits
+returns-clause-line c = (poll_write-goes c.args.src.now (writing c.args.host.now (writer_of c.args.writer.now)) (writing c.poll_write.new.bus (writer_of c.poll_write.new.self)) c.poll_write.result c.poll_write.ensures.wrote c.poll_write.ensures.failed c.poll_write.ensures.pending).line
+
+pub returns-clause-past : goal.returns-clause-past
+returns-clause-past c = (poll_write-goes c.args.src.now (writing c.args.host.now (writer_of c.args.writer.now)) (writing c.poll_write.new.bus (writer_of c.poll_write.new.self)) c.poll_write.result c.poll_write.ensures.wrote c.poll_write.ensures.failed c.poll_write.ensures.pending).past

@@ -1,0 +1,123 @@
+//! The lines of flushes: what stands is submitted, and all that is pending is taken.
+
+ghost use Rattle.std.specs.Prelude.{◌≡◌};
+ghost use Rattle.usb_endpoint.specs.Handles.{Stands};
+ghost use Rattle.usb_host.specs.HostBus.{bus_of};
+ghost use Rattle.usb_io.specs.Writers.{writing};
+ghost use Rattle.usb_writes.specs.AnyWriters.{writer_of};
+ghost use Rattle.usb_writes.specs.HostWrites.{flush_came, flush_end_came, poll_flush_end_came};
+ghost use Rattle.usb_writer_lines.specs.Needs.{bars_call, flush_need, finish_need, poll_finish_need};
+ghost use Rattle.usb_writer_lines.specs.Printed.{flushed_line, polled, Prints, CallKeeps};
+
+use crate::needs::{bars_call, flush_need, poll_finish_need};
+use futures::task::Poll;
+use usb_desc::{Fail, NoMemory};
+use usb_device::Host;
+use usb_lines::{write_condition, write_ok, write_pending};
+use usb_stream_lines::write_write_fault;
+use usb_writes::AnyWriter;
+
+/// Flushes, and waits for what is pending: `ok`, or the first fault.
+pub fn flush(writer: &mut AnyWriter, host: &mut Host, line: &mut String) -> Result<(), NoMemory>
+    requires stands { Stands (bus_of host.old) (writer_of writer.old).endpoint }
+    ensures printed { Prints
+        (bars_call (writing host.old (writer_of writer.old)) (flush_need (writer_of writer.old)))
+        flushed_line
+        (flush_came (writer_of writer.old).timeout
+        (writing host.old (writer_of writer.old)))
+        line.old line.new
+        (writing host.old (writer_of writer.old)) (writing host.new (writer_of writer.new)) result }
+    ensures keeps { CallKeeps
+        (writing host.old (writer_of writer.old)) (writing host.new (writer_of writer.new)) }
+{
+    if bars_call(host, writer, flush_need(writer)) {
+        return write_condition(line);
+    }
+    let alloc = *line.allocator();
+    match usb_writes::flush(writer, host) {
+        Ok(()) => write_ok(line),
+        Err(Fail::Cause(fault)) => write_write_fault(alloc, line, fault),
+        Err(Fail::Memory) => Err(NoMemory),
+    }
+}
+
+/// Flushes, and does not wait: `pending` where something is.
+pub fn poll_flush(
+    writer: &mut AnyWriter,
+    host: &mut Host,
+    line: &mut String,
+) -> Result<(), NoMemory>
+    requires stands { Stands (bus_of host.old) (writer_of writer.old).endpoint }
+    ensures printed { Prints
+        (bars_call (writing host.old (writer_of writer.old)) (flush_need (writer_of writer.old)))
+        (polled flushed_line)
+        (flush_came 0 (writing host.old (writer_of writer.old)))
+        line.old line.new
+        (writing host.old (writer_of writer.old)) (writing host.new (writer_of writer.new)) result }
+    ensures keeps { CallKeeps
+        (writing host.old (writer_of writer.old)) (writing host.new (writer_of writer.new)) }
+{
+    if bars_call(host, writer, flush_need(writer)) {
+        return write_condition(line);
+    }
+    let alloc = *line.allocator();
+    match usb_writes::poll_flush(writer, host) {
+        Poll::Ready(Ok(())) => write_ok(line),
+        Poll::Ready(Err(Fail::Cause(fault))) => write_write_fault(alloc, line, fault),
+        Poll::Ready(Err(Fail::Memory)) => Err(NoMemory),
+        Poll::Pending => write_pending(line),
+    }
+}
+
+/// Ends a message, and waits for what is pending: `ok`, or the first fault.
+pub fn flush_end(writer: &mut AnyWriter, host: &mut Host, line: &mut String) -> Result<(), NoMemory>
+    requires stands { Stands (bus_of host.old) (writer_of writer.old).endpoint }
+    ensures printed { Prints
+        (bars_call (writing host.old (writer_of writer.old)) (finish_need (writer_of writer.old)))
+        flushed_line
+        (flush_end_came (writer_of writer.old).timeout
+        (writing host.old (writer_of writer.old)))
+        line.old line.new
+        (writing host.old (writer_of writer.old)) (writing host.new (writer_of writer.new)) result }
+    ensures keeps { CallKeeps
+        (writing host.old (writer_of writer.old)) (writing host.new (writer_of writer.new)) }
+{
+    if bars_call(host, writer, writer.end_need()) {
+        return write_condition(line);
+    }
+    let alloc = *line.allocator();
+    match usb_writes::flush_end(writer, host) {
+        Ok(()) => write_ok(line),
+        Err(Fail::Cause(fault)) => write_write_fault(alloc, line, fault),
+        Err(Fail::Memory) => Err(NoMemory),
+    }
+}
+
+/// Ends a message where no end has begun, and does not wait: `pending` where something is.
+pub fn poll_flush_end(
+    writer: &mut AnyWriter,
+    host: &mut Host,
+    line: &mut String,
+) -> Result<(), NoMemory>
+    requires stands { Stands (bus_of host.old) (writer_of writer.old).endpoint }
+    ensures printed { Prints
+        (bars_call (writing host.old (writer_of writer.old))
+        (poll_finish_need (writer_of writer.old)))
+        (polled flushed_line)
+        (poll_flush_end_came (writing host.old (writer_of writer.old)))
+        line.old line.new
+        (writing host.old (writer_of writer.old)) (writing host.new (writer_of writer.new)) result }
+    ensures keeps { CallKeeps
+        (writing host.old (writer_of writer.old)) (writing host.new (writer_of writer.new)) }
+{
+    if bars_call(host, writer, poll_finish_need(writer)) {
+        return write_condition(line);
+    }
+    let alloc = *line.allocator();
+    match usb_writes::poll_flush_end(writer, host) {
+        Poll::Ready(Ok(())) => write_ok(line),
+        Poll::Ready(Err(Fail::Cause(fault))) => write_write_fault(alloc, line, fault),
+        Poll::Ready(Err(Fail::Memory)) => Err(NoMemory),
+        Poll::Pending => write_pending(line),
+    }
+}

@@ -1,0 +1,58 @@
+//! The lines of submissions, which wait for nothing.
+
+ghost use Rattle.std.specs.Prelude.{◌≡◌};
+ghost use Rattle.usb_endpoint.specs.Handles.{Stands};
+ghost use Rattle.usb_host.specs.HostBus.{bus_of};
+ghost use Rattle.usb_io.specs.Writers.{writing};
+ghost use Rattle.usb_writes.specs.AnyWriters.{writer_of};
+ghost use Rattle.usb_writes.specs.HostWrites.{submit_came, submit_end_came};
+ghost use Rattle.usb_writer_lines.specs.Needs.{bars_call, flush_need, finish_need};
+ghost use Rattle.usb_writer_lines.specs.Printed.{flushed_line, submitted_to, Prints, CallKeeps};
+
+use crate::needs::{bars_call, flush_need};
+use usb_desc::NoMemory;
+use usb_device::Host;
+use usb_lines::{write_condition, write_ok};
+use usb_writes::AnyWriter;
+
+/// Submits the bytes that stand, if any do: `ok`.
+pub fn submit(writer: &mut AnyWriter, host: &mut Host, line: &mut String) -> Result<(), NoMemory>
+    requires stands { Stands (bus_of host.old) (writer_of writer.old).endpoint }
+    ensures printed { Prints
+        (bars_call (writing host.old (writer_of writer.old)) (flush_need (writer_of writer.old)))
+        flushed_line
+        (submitted_to (submit_came (writing host.old (writer_of writer.old))))
+        line.old line.new
+        (writing host.old (writer_of writer.old)) (writing host.new (writer_of writer.new)) result }
+    ensures keeps { CallKeeps
+        (writing host.old (writer_of writer.old)) (writing host.new (writer_of writer.new)) }
+{
+    if bars_call(host, writer, flush_need(writer)) {
+        return write_condition(line);
+    }
+    usb_writes::submit(writer, host)?;
+    write_ok(line)
+}
+
+/// Ends a message: `ok`.
+pub fn submit_end(
+    writer: &mut AnyWriter,
+    host: &mut Host,
+    line: &mut String,
+) -> Result<(), NoMemory>
+    requires stands { Stands (bus_of host.old) (writer_of writer.old).endpoint }
+    ensures printed { Prints
+        (bars_call (writing host.old (writer_of writer.old)) (finish_need (writer_of writer.old)))
+        flushed_line
+        (submitted_to (submit_end_came (writing host.old (writer_of writer.old))))
+        line.old line.new
+        (writing host.old (writer_of writer.old)) (writing host.new (writer_of writer.new)) result }
+    ensures keeps { CallKeeps
+        (writing host.old (writer_of writer.old)) (writing host.new (writer_of writer.new)) }
+{
+    if bars_call(host, writer, writer.end_need()) {
+        return write_condition(line);
+    }
+    usb_writes::submit_end(writer, host)?;
+    write_ok(line)
+}

@@ -1,0 +1,77 @@
+//! The lines of writes: how many bytes a writer accepts.
+
+ghost use Rattle.std.specs.Prelude.{◌≡◌};
+ghost use Rattle.usb_endpoint.specs.Handles.{Stands};
+ghost use Rattle.usb_host.specs.HostBus.{bus_of};
+ghost use Rattle.usb_io.specs.Writers.{writing};
+ghost use Rattle.usb_writes.specs.AnyWriters.{writer_of};
+ghost use Rattle.usb_writes.specs.HostWrites.{write_came};
+ghost use Rattle.usb_writer_lines.specs.Needs.{bars_call, write_need};
+ghost use Rattle.usb_writer_lines.specs.Printed.{written_line, polled, Prints, CallKeeps};
+
+use crate::needs::{bars_call, write_need};
+use futures::task::Poll;
+use usb_desc::{Fail, NoMemory};
+use usb_device::Host;
+use usb_lines::{write_condition, write_pending};
+use usb_stream_lines::{write_write_fault, write_wrote};
+use usb_writes::AnyWriter;
+
+/// Writes bytes, of which the writer accepts what fits, and waits where no buffer is free:
+/// `wrote N`, or the fault.
+pub fn write(
+    writer: &mut AnyWriter,
+    host: &mut Host,
+    line: &mut String,
+    bytes: &[u8],
+) -> Result<(), NoMemory>
+    requires stands { Stands (bus_of host.old) (writer_of writer.old).endpoint }
+    ensures printed { Prints
+        (bars_call (writing host.old (writer_of writer.old)) (write_need (writer_of writer.old)))
+        written_line
+        (write_came (writer_of writer.old).timeout bytes.now
+        (writing host.old (writer_of writer.old)))
+        line.old line.new
+        (writing host.old (writer_of writer.old)) (writing host.new (writer_of writer.new)) result }
+    ensures keeps { CallKeeps
+        (writing host.old (writer_of writer.old)) (writing host.new (writer_of writer.new)) }
+{
+    if bars_call(host, writer, write_need(writer)) {
+        return write_condition(line);
+    }
+    let alloc = *line.allocator();
+    match usb_writes::write(writer, host, bytes) {
+        Ok(count) => write_wrote(line, count),
+        Err(Fail::Cause(fault)) => write_write_fault(alloc, line, fault),
+        Err(Fail::Memory) => Err(NoMemory),
+    }
+}
+
+/// Writes bytes, and does not wait: `pending` where no buffer is free.
+pub fn poll_write(
+    writer: &mut AnyWriter,
+    host: &mut Host,
+    line: &mut String,
+    bytes: &[u8],
+) -> Result<(), NoMemory>
+    requires stands { Stands (bus_of host.old) (writer_of writer.old).endpoint }
+    ensures printed { Prints
+        (bars_call (writing host.old (writer_of writer.old)) (write_need (writer_of writer.old)))
+        (polled written_line)
+        (write_came 0 bytes.now (writing host.old (writer_of writer.old)))
+        line.old line.new
+        (writing host.old (writer_of writer.old)) (writing host.new (writer_of writer.new)) result }
+    ensures keeps { CallKeeps
+        (writing host.old (writer_of writer.old)) (writing host.new (writer_of writer.new)) }
+{
+    if bars_call(host, writer, write_need(writer)) {
+        return write_condition(line);
+    }
+    let alloc = *line.allocator();
+    match usb_writes::poll_write(writer, host, bytes) {
+        Poll::Ready(Ok(count)) => write_wrote(line, count),
+        Poll::Ready(Err(Fail::Cause(fault))) => write_write_fault(alloc, line, fault),
+        Poll::Ready(Err(Fail::Memory)) => Err(NoMemory),
+        Poll::Pending => write_pending(line),
+    }
+}
