@@ -21,7 +21,7 @@ use Rattle.usb_answers.specs.Submits.{submitted, with_submission}
 use Rattle.usb_answers.specs.Polls.{one_taken, taken_from}
 use Rattle.usb_answers.specs.Closes.{without_endpoint}
 use Rattle.usb_answers.specs.Futures.{with_future}
-use Rattle.usb_answers.specs.Ends.{readers_closed, endpoints_closed, futures_closed, all_closed}
+use Rattle.usb_answers.specs.Ends.{readers_closed, writers_closed, endpoints_closed, futures_closed, all_closed}
 use Rattle.usb_answers.specs.Output.{start}
 use Rattle.usb_answers.specs.Accounts.{Covered, IsAwaited, Accounted, StartIsAccounted, AnswerKeepsAccounts, CloseKeepsAccounts}
 use Rattle.usb_answers.specs.Served.{ClosedEndpoint}
@@ -31,6 +31,7 @@ use Rattle.usb_answers.proofs.DeviceLines.{handles-quiet}
 use Rattle.usb_answers.proofs.EndpointLines.{closed-does}
 use Rattle.usb_answers.proofs.ControlLines.{future_closed_under-does}
 use Rattle.usb_answers.proofs.ReaderDoes.{reader_closed-does}
+use Rattle.usb_answers.proofs.WriterDoes.{writer_closed-does}
 use Rattle.usb_answers.proofs.EveryLine.{answer-does}
 
 -- the start
@@ -252,6 +253,10 @@ accounted-readers : (state : State) (n : ℕ) → Accounted state → Accounted 
 accounted-readers state zero a = a
 accounted-readers state (suc n) a = acts-accounted {few = Unit {0}} tt (reader_closed-does (readers_closed state n) n (λ e. [])) (accounted-readers state n a)
 
+accounted-writers : (state : State) (n : ℕ) → Accounted state → Accounted (writers_closed state n)
+accounted-writers state zero a = a
+accounted-writers state (suc n) a = acts-accounted {few = Unit {0}} tt (writer_closed-does (writers_closed state n) n (λ e. [])) (accounted-writers state n a)
+
 accounted-endpoints : (state : State) (n : ℕ) → Accounted state → Accounted (endpoints_closed state n)
 accounted-endpoints state zero a = a
 accounted-endpoints state (suc n) a = acts-accounted {few = Unit {0}} tt (closed-does (endpoints_closed state n) n (λ e. [])) (accounted-endpoints state n a)
@@ -264,7 +269,9 @@ pub accounted-all_closed : CloseKeepsAccounts
 unfolding all_closed
 accounted-all_closed state a =
     let read = readers_closed state 64 in
-    let mid = endpoints_closed read 64 in accounted-quiet (handles-quiet (futures_closed mid 64)) (accounted-futures mid 64 (accounted-endpoints read 64 (accounted-readers state 64 a)))
+    let written = writers_closed read 64 in
+    let mid = endpoints_closed written 64 in
+    accounted-quiet (handles-quiet (futures_closed mid 64)) (accounted-futures mid 64 (accounted-endpoints written 64 (accounted-writers read 64 (accounted-readers state 64 a))))
 
 -- where no name is open no ticket is held
 pub accounted-none : (state : State) → Accounted state → ((e : ℕ) → named state.endpoints e ≡ None) → ((n : ℕ) → named state.futures n ≡ None) → (t : ℕ) → owner_at state.host.tickets t ≡ None

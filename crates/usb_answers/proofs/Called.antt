@@ -17,7 +17,8 @@ use Rattle.usb_device.proofs.HeldDevices.{held-goes}
 use Rattle.usb_device.proofs.StandLemmas.{StandsInterface-same}
 use Rattle.usb_names.specs.Names.{named, change_named, freed, set_name}
 use Rattle.usb_answers.specs.BareReaders.{BareReader}
-use Rattle.usb_answers.specs.State.{State, Endpoint, Reader, kept}
+use Rattle.usb_answers.specs.BareWriters.{BareWriter}
+use Rattle.usb_answers.specs.State.{State, Endpoint, Reader, Writer, kept}
 use Rattle.usb_answers.specs.SessionState.{SessionState, IsSound}
 use Rattle.usb_answers.specs.Relation.{Represents, session_of}
 use Rattle.usb_answers.proofs.Answering.{named_kept}
@@ -91,6 +92,7 @@ sound-put s now after e x y sound was put keeps stands key maximum others none =
       interface_names = sound.interface_names;
       endpoint_names = ap (λ (l : List (Option EndpointState)). length l) put ∙ length-set_name (freed s.endpoints e) e y ∙ length-freed s.endpoints e ∙ sound.endpoint_names;
       reader_names = sound.reader_names;
+      writer_names = sound.writer_names;
       devices_stand = λ d k is. counts-stands s.host now k keeps.devices (sound.devices_stand d k is);
       devices_counted = devices-kept s.host.devices now.devices s.devices (opened-counts s.host.devices now.devices keeps.devices) sound.devices_counted;
       devices_held = held-goes s.host now keeps.devices keeps.interfaces sound.devices_held;
@@ -119,6 +121,7 @@ sound-freed s now after e x sound was rest keeps others none closed =
       interface_names = sound.interface_names;
       endpoint_names = ap (λ (l : List (Option EndpointState)). length l) rest ∙ length-freed s.endpoints e ∙ sound.endpoint_names;
       reader_names = sound.reader_names;
+      writer_names = sound.writer_names;
       devices_stand = λ d k is. counts-stands s.host now k keeps.devices (sound.devices_stand d k is);
       devices_counted = devices-kept s.host.devices now.devices s.devices (opened-counts s.host.devices now.devices keeps.devices) sound.devices_counted;
       devices_held = held-goes s.host now keeps.devices keeps.interfaces sound.devices_held;
@@ -144,6 +147,33 @@ sound-readers s after sound names =
       interface_names = sound.interface_names;
       endpoint_names = sound.endpoint_names;
       reader_names = names ∙ sound.reader_names;
+      writer_names = sound.writer_names;
+      devices_stand = sound.devices_stand;
+      devices_counted = sound.devices_counted;
+      devices_held = sound.devices_held;
+      interfaces_stand = sound.interfaces_stand;
+      interfaces_counted = sound.interfaces_counted;
+      endpoints_stand = sound.endpoints_stand;
+      endpoints_small = sound.endpoints_small;
+      endpoints_differ = sound.endpoints_differ;
+      keys_named = sound.keys_named;
+      future_names = sound.future_names;
+      futures_wait = sound.futures_wait;
+      futures_stand = sound.futures_stand;
+      futures_differ = sound.futures_differ;
+      futures_apart = sound.futures_apart;
+    }
+
+-- and what writers have
+pub sound-writers : (s : SessionState) (after : List (Option BareWriter)) → IsSound s → length after ≡ length s.writers → IsSound (record s { writers = after })
+sound-writers s after sound names =
+    record {
+      idle = sound.idle;
+      device_names = sound.device_names;
+      interface_names = sound.interface_names;
+      endpoint_names = sound.endpoint_names;
+      reader_names = sound.reader_names;
+      writer_names = names ∙ sound.writer_names;
       devices_stand = sound.devices_stand;
       devices_counted = sound.devices_counted;
       devices_held = sound.devices_held;
@@ -169,6 +199,7 @@ sound-host s now sound keeps stands none =
       interface_names = sound.interface_names;
       endpoint_names = sound.endpoint_names;
       reader_names = sound.reader_names;
+      writer_names = sound.writer_names;
       devices_stand = λ d k is. counts-stands s.host now k keeps.devices (sound.devices_stand d k is);
       devices_counted = devices-kept s.host.devices now.devices s.devices (opened-counts s.host.devices now.devices keeps.devices) sound.devices_counted;
       devices_held = held-goes s.host now keeps.devices keeps.interfaces sound.devices_held;
@@ -240,6 +271,14 @@ pub represents-readers : (s : SessionState) (state : State) (after : List (Optio
 represents-readers s state after readers r same =
     record {
       is = ap (λ (v : SessionState). record v { readers = after }) r.is ∙ ap (λ (l : List (Option BareReader)). record (session_of state) { readers = l }) same;
+      few = r.few;
+    }
+
+-- and what writers have
+pub represents-writers : (s : SessionState) (state : State) (after : List (Option BareWriter)) (writers : List (Option Writer)) → Represents s state → after ≡ map (option_map (λ (x : Writer). x.bare)) writers → Represents (record s { writers = after }) (record state { writers = writers })
+represents-writers s state after writers r same =
+    record {
+      is = ap (λ (v : SessionState). record v { writers = after }) r.is ∙ ap (λ (l : List (Option BareWriter)). record (session_of state) { writers = l }) same;
       few = r.few;
     }
 

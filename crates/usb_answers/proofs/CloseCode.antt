@@ -32,7 +32,7 @@ use Rattle.usb_answers.specs.Relation.{Represents}
 use Rattle.usb_answers.specs.Answered.{Answered, Answers}
 use Rattle.usb_answers.proofs.Answering.{named_kept, none_kept, host_is, told-answered}
 use Rattle.usb_answers.proofs.Called.{KeepsSession, OpenAt, open_at, sound-freed, represents-freed}
-use Rattle.usb_answers.proofs.OpenPlaces.{taken-map, freed-map}
+use Rattle.usb_answers.proofs.OpenPlaces.{taken-endpoint, freed-endpoint_after}
 use Rattle.usb_answers.proofs.NamedKeys.{OpensNone, none-goes}
 use Rattle.usb_answers.proofs.SubmitCode.{line-all_discarded}
 use Rattle.usb_answers.proofs.TakenOut.{made_with, places-made, named-made, none_made, keeps-line}
@@ -86,8 +86,8 @@ after-sound i now after p z sound was rest bus others =
 pub closed-sound : (i : Inside) (now : HostState) (mid : List (Option AnyEndpoint)) (n : ℕ) (x : AnyEndpoint) → IsSound (made_of i) → named i.endpoints.items n ≡ Some x → mid ≡ freed i.endpoints.items n → now ≡ after_close host_discarded host_abandoned host_left i.host (state_of x) → KeepsOthers (bus_of i.host) (bus_of now) (state_of x).key → IsSound (made_with i now mid)
 closed-sound i now mid n x sound was rest bus others =
     let places = places-made i sound in
-    after-sound i now (endpoints_with mid i.readers.items) (endpoint_place n) (state_of x) sound (taken-map i.endpoints.items i.readers.items n x places was)
-    (freed-map i.endpoints.items mid i.readers.items n places rest) bus others
+    after-sound i now (endpoints_with mid i.readers.items i.writers.items) (endpoint_place n) (state_of x) sound (taken-endpoint i.endpoints.items i.readers.items i.writers.items places n x was)
+    (freed-endpoint_after i.endpoints.items i.readers.items i.writers.items places n mid rest) bus others
 
 pub closed-spare : (h now : HostState) (e : EndpointState) → h.steps ≡ [] → now ≡ after_close host_discarded host_abandoned host_left h e → now.kernel.spare ≡ h.kernel.spare
 closed-spare h now e idle bus =
@@ -95,9 +95,9 @@ closed-spare h now e idle bus =
     let none : length before.front + length (before_left h e).steps ≡ 0 = sym (length-append before.front (before_left h e).steps) ∙ ap length (sym before.steps ∙ idle) in
     ap (λ (g : HostState). g.kernel.spare) bus ∙ (line-left (before_left h e) e.key).spare ∙ omega (arith, before.spare, none)
 
-pub freed-made : (i : Inside) (S : SessionState) (mid : List (Option AnyEndpoint)) (n : ℕ) → IsSound (made_of i) → made_of i ≡ S → mid ≡ freed i.endpoints.items n → endpoints_with mid i.readers.items ≡ freed S.endpoints (endpoint_place n)
+pub freed-made : (i : Inside) (S : SessionState) (mid : List (Option AnyEndpoint)) (n : ℕ) → IsSound (made_of i) → made_of i ≡ S → mid ≡ freed i.endpoints.items n → endpoints_with mid i.readers.items i.writers.items ≡ freed S.endpoints (endpoint_place n)
 freed-made i S mid n sound view rest =
-    freed-map i.endpoints.items mid i.readers.items n (places-made i sound) rest ∙ ap (λ (v : SessionState). freed v.endpoints (endpoint_place n)) view
+    freed-endpoint_after i.endpoints.items i.readers.items i.writers.items (places-made i sound) n mid rest ∙ ap (λ (v : SessionState). freed v.endpoints (endpoint_place n)) view
 
 pub is_some-made : (i : Inside) (S : SessionState) (n : ℕ) (x : AnyEndpoint) → IsSound (made_of i) → made_of i ≡ S → named i.endpoints.items n ≡ Some x → true ≡ is_some (named S.endpoints (endpoint_place n))
 is_some-made i S n x sound view was = sym (ap is_some (named-made i S n x sound view was))
@@ -118,7 +118,7 @@ closed-represents i S now mid n x sound view was rest bus state r =
     let p = endpoint_place n in
     let o = open_at S state p (state_of x) r (named-made i S n x sound view was) in
     rw o.is
-    (after-represents i S now (endpoints_with mid i.readers.items) p (state_of x) view (freed-map i.endpoints.items mid i.readers.items n (places-made i sound) rest) bus state r o)
+    (after-represents i S now (endpoints_with mid i.readers.items i.writers.items) p (state_of x) view (freed-endpoint_after i.endpoints.items i.readers.items i.writers.items (places-made i sound) n mid rest) bus state r o)
 
 pub nothing-closed : (i : Inside) (S : SessionState) (mid : List (Option AnyEndpoint)) (n : ℕ) → IsSound (made_of i) → made_of i ≡ S → named i.endpoints.items n ≡ None → mid ≡ i.endpoints.items → (state : State) → Represents S state → Represents (made_with i i.host mid) (closed state (endpoint_place n))
 unfolding closed

@@ -68,15 +68,15 @@ pub record SameTickets (h g : Endpoint) : Type 0 where
   pub taken : g.taken ≡ h.taken
 
 -- what an answer does from a state on, the endpoints that it closes, and the tickets of the control transfers that it hands in: the host goes
--- on, endpoints are opened (at no place of a reader) and tickets submitted, a reader takes a ticket (`reads`), a control transfer is handed in
--- (`starts`: its future is opened; `controls`: it is awaited and its ticket taken at once), and the host parts with the ticket of a future,
+-- on, endpoints are opened (at no place of a reader or a writer) and tickets submitted, a reader or a writer takes a ticket (`reads`), a control
+-- transfer is handed in (`starts`: its future is opened; `controls`: it is awaited and its ticket taken at once), and the host parts with the ticket of a future,
 -- whose name is free then; and then there is nothing more, or a ticket is taken and its completion printed, or an endpoint is closed, or goes to
--- another place (`moves`: from then on a reader was made of it; at the place of a reader it was before). `few` is what is asked of the state
+-- another place (`moves`: from then on a reader or a writer was made of it; at the place of one it was before). `few` is what is asked of the state
 -- before the line: no more tickets of an endpoint were taken than it has. It may be used for all that is done (`fits`)
 pub data Acts (few : Type 0) (a : Answer) : State → List ClosedEndpoint → List ℕ → Type 0 where
   goes : {state next : State} {closed : List ClosedEndpoint} {handed : List ℕ} → Quiet state next → Acts few a next closed handed → Acts few a state closed handed
   opens : {state : State} {closed : List ClosedEndpoint} {handed : List ℕ} (e : ℕ) (x : Endpoint) → is_free state.endpoints e ≡ true → x.tickets ≡ [] → x.taken ≡ 0
-      → (64 ≤ e → 128 ≤ e) → Acts few a (record state { endpoints = set_name state.endpoints e x }) closed handed → Acts few a state closed handed
+      → (64 ≤ e → 192 ≤ e) → Acts few a (record state { endpoints = set_name state.endpoints e x }) closed handed → Acts few a state closed handed
   submits : {state : State} {closed : List ClosedEndpoint} {handed : List ℕ} (e : ℕ) (b : BufferState) (h : Endpoint) → named state.endpoints e ≡ Some h
       → (few → h.taken ≤ length h.tickets) → Acts few a (submitted state e b h) closed handed → Acts few a state closed handed
   fits : {state : State} {closed : List ClosedEndpoint} {handed : List ℕ} → says_done a.line ≡ false → (few → Acts few a state closed handed) → Acts few a state closed handed
@@ -94,7 +94,7 @@ pub data Acts (few : Type 0) (a : Answer) : State → List ClosedEndpoint → Li
   closes : {state : State} (e : ℕ) (h : Endpoint) (lines : List (List ℕ)) → named state.endpoints e ≡ Some h → says_done a.line ≡ false
       → Quiet (without_endpoint state e h) a.state → Acts few a state (record { endpoint = h; past = state.host.kernel.past; lines = lines } ∷ []) []
   moves : {state : State} (from to : ℕ) (h g : Endpoint) → named state.endpoints from ≡ Some h → is_free state.endpoints to ≡ true → SameTickets h g
-      → ((64 ≤ from → h.was_read ≡ true) → g.was_read ≡ true) → says_done a.line ≡ false → Quiet (moved state from to g) a.state → Acts few a state [] []
+      → ((64 ≤ from → h.was_streamed ≡ true) → g.was_streamed ≡ true) → says_done a.line ≡ false → Quiet (moved state from to g) a.state → Acts few a state [] []
 
 -- what the answer of a line does that closes no endpoint, and hands in no control transfer
 abbrev pub Does : State → Answer → Type 0

@@ -1,17 +1,19 @@
 -- The end of a session: interfaces and devices are closed.
-use Rattle.std.proofs.Common.{true, false, ◌≡◌, ◌≢◌, ℕ, ◌<◌, ◌+◌, ◌-◌, arith, suc, zero, List, [], ◌∷◌, ◌++◌, slice_get, length, Option, Some, None, refl, ap, sym, ◌∙◌, subst, inl, inr}
+use Rattle.std.proofs.Common.{Bool, true, false, ◌≡◌, ◌≢◌, ℕ, ◌<◌, ◌≤◌, ◌+◌, ◌-◌, arith, suc, zero, List, [], ◌∷◌, ◌++◌, slice_get, length, Option, Some, None, refl, ap, sym, ◌∙◌, subst, inl, inr}
 use Rattle.std.specs.Option.{option_map}
 use Rattle.std.proofs.lemmas.Bool.{cases_eq, cases_lt}
-use Rattle.std.proofs.lemmas.Option.{none-some}
+use Rattle.std.proofs.lemmas.Bool.Decides.{nat_tests}
+use Rattle.std.proofs.lemmas.Option.{none-some, same_Some}
 use Rattle.usb_endpoint.specs.declared.any_endpoint.AnyEndpoint.{AnyEndpoint}
 use Rattle.usb_endpoint.specs.AnyEndpoints.{state_of}
 use Rattle.usb_io.specs.declared.any_reader.AnyReader.{AnyReader}
+use Rattle.usb_writes.specs.declared.any_writer.AnyWriter.{AnyWriter}
 use Rattle.usb_host.specs.HostState.{HostState}
 use Rattle.usb_host.specs.HostBus.{owner_at}
 use Rattle.usb_host.specs.Handles.{device_closed, handle_closed}
 use Rattle.usb_ledger.specs.Devices.{is_held}
 use Rattle.usb_device.specs.DeviceLaws.{holds_at}
-use Rattle.std.specs.Prelude.{option_and_then}
+use Rattle.std.specs.Prelude.{option_and_then, nat_le, if◌then◌else◌}
 use Rattle.usb_ledger.specs.Entries.{ClaimedInterface}
 use Rattle.usb_ledger.specs.declared.opened.OpenDevice.{OpenDevice}
 use Rattle.usb_ledger.specs.Kept.{EachIsOwned, EachLives}
@@ -30,18 +32,21 @@ use Rattle.usb_kernel.specs.Tickets.{tickets}
 use Rattle.std.specs.List.{count_by}
 use Rattle.usb_host.specs.Finishes.{discarded_below, reaped_below, finished, HasEnds, KeepsNothing}
 use Rattle.usb_device.specs.HandleStates.{InterfaceState}
+use Rattle.usb_words.specs.Words.{at_most}
 use Rattle.usb_names.specs.Names.{named, freed}
 use Rattle.usb_answers.specs.State.{State, kept}
 use Rattle.usb_answers.specs.Closes.{closed}
-use Rattle.usb_answers.specs.SessionFacts.{endpoint_of, endpoints_with}
+use Rattle.usb_answers.specs.SessionFacts.{endpoint_of, writer_endpoint, endpoints_with}
 use Rattle.usb_answers.specs.ReaderAt.{endpoint_place, reader_place}
+use Rattle.usb_answers.specs.WriterAt.{writer_place}
 use Rattle.usb_answers.specs.Readers.{reader_closed}
-use Rattle.usb_answers.specs.Ends.{interface_closed, interfaces_closed, name_closed, devices_closed, readers_closed, endpoints_closed, futures_closed, all_closed, ended}
+use Rattle.usb_answers.specs.Writers.{writer_closed}
+use Rattle.usb_answers.specs.Ends.{interface_closed, interfaces_closed, name_closed, devices_closed, readers_closed, writers_closed, endpoints_closed, futures_closed, all_closed, ended}
 use Rattle.usb_answers.specs.SessionState.{SessionState, IsSound}
 use Rattle.usb_answers.specs.Relation.{Represents}
 use Rattle.usb_answers.specs.Accounts.{Accounted}
 use Rattle.usb_answers.proofs.AccountLemmas.{accounted-all_closed, accounted-none}
-use Rattle.usb_answers.proofs.OpenPlaces.{HasPlaces, named-endpoint, named-reader}
+use Rattle.usb_answers.proofs.OpenPlaces.{HasPlaces, named-endpoint, named-reader, named-writer}
 use Rattle.usb_answers.proofs.CountedNames.{count-none, count-no_name}
 use Rattle.usb_answers.proofs.CountedDevices.{count-no_device}
 use Rattle.usb_answers.proofs.Answering.{named_kept, host_is}
@@ -122,14 +127,14 @@ none-more xs after n rest none e below =
     lower : (a b : ℕ) → a ≢ b → a < b + 1 → a < b
     lower a b apart small = omega arith
 
--- those of readers
-pub none-more_behind : {X : Type 0} (xs after : List (Option X)) (n : ℕ) → after ≡ freed xs (reader_place n) → ((r : ℕ) → r < n → named xs (reader_place r) ≡ None) → (r : ℕ) → r < n + 1 → named after (reader_place r) ≡ None
-none-more_behind xs after n rest none r below =
+-- those whose places stand behind the first k
+pub none-more_behind : {X : Type 0} (k : ℕ) (xs after : List (Option X)) (n : ℕ) → after ≡ freed xs (k + n) → ((r : ℕ) → r < n → named xs (k + r) ≡ None) → (r : ℕ) → r < n + 1 → named after (k + r) ≡ None
+none-more_behind k xs after n rest none r below =
     elim (cases_eq r n) [
-      | inl same ↦ ap (λ l. named l (reader_place r)) rest ∙ ap (λ m. named (freed xs (reader_place n)) (reader_place m)) same ∙ named-freed xs (reader_place n)
+      | inl same ↦ ap (λ l. named l (k + r)) rest ∙ ap (λ m. named (freed xs (k + n)) (k + m)) same ∙ named-freed xs (k + n)
       | inr apart ↦
-          let places : reader_place r ≢ reader_place n = λ same. apart (omega (arith, same)) in
-          ap (λ l. named l (reader_place r)) rest ∙ named-freed_other xs (reader_place n) (reader_place r) places ∙ none r (lower r n apart below)
+          let places : k + r ≢ k + n = λ same. apart (omega (arith, same)) in
+          ap (λ l. named l (k + r)) rest ∙ named-freed_other xs (k + n) (k + r) places ∙ none r (lower r n apart below)
     ]
   where
     lower : (a b : ℕ) → a ≢ b → a < b + 1 → a < b
@@ -147,28 +152,54 @@ unmapped : {X Y : Type 0} (f : X → Y) (o : Option X) → option_map f o ≡ No
 unmapped f None none = refl
 unmapped f (Some x) none = absurd (none-some (f x) (sym none))
 
--- no place of an endpoint is open where none of a reader's is, and none of the others
-pub none-every : {X : Type 0} (xs : List (Option X)) → length xs ≡ 128 → ((r : ℕ) → r < 64 → named xs (reader_place r) ≡ None) → ((e : ℕ) → e < 64 → named xs e ≡ None) → (n : ℕ) → named xs n ≡ None
-none-every xs all readers endpoints n =
+-- no place of an endpoint is open where none of a reader's is, none of a writer's, and none of the others
+none-every : {X : Type 0} (xs : List (Option X)) → length xs ≡ 192 → ((r : ℕ) → r < 64 → named xs (reader_place r) ≡ None) → ((w : ℕ) → w < 64 → named xs (writer_place w) ≡ None) → ((e : ℕ) → e < 64 → named xs e ≡ None) → (n : ℕ) → named xs n ≡ None
+none-every xs all readers writers endpoints n =
     elim (cases_lt n 64) [
       | inl within ↦ endpoints n within
       | inr beyond ↦ elim (cases_lt n 128) [
         | inl low ↦ let place : n ≡ reader_place (n - 64) = omega arith in ap (named xs) place ∙ readers (n - 64) (omega arith)
-        | inr past ↦ named-past xs n (omega arith)
+        | inr behind ↦ elim (cases_lt n 192) [
+          | inl last ↦ let place : n ≡ writer_place (n - 128) = omega arith in ap (named xs) place ∙ writers (n - 128) (omega arith)
+          | inr past ↦ named-past xs n (omega arith)
+        ]
       ]
     ]
 
-pub none-endpoints : (es : List (Option AnyEndpoint)) (rs : List (Option AnyReader)) → HasPlaces es rs → ((n : ℕ) → named (endpoints_with es rs) n ≡ None) → (n : ℕ) → named es n ≡ None
-none-endpoints es rs places none n = unmapped state_of (named es n) (sym (named-endpoint es rs places n) ∙ none (endpoint_place n))
+-- so it is once readers were closed (read), then writers (written) and then the others (closed)
+pub none-closed : {X : Type 0} (read written closed_ last : List (Option X)) → length last ≡ 192 → ((r : ℕ) → r < 64 → named read (reader_place r) ≡ None) → ((r : ℕ) → r < 64 → named written (reader_place r) ≡ named read (reader_place r)) → ((w : ℕ) → w < 64 → named written (writer_place w) ≡ None)
+    → ((e : ℕ) → 64 ≤ e → named closed_ e ≡ named written e) → ((e : ℕ) → e < 64 → named closed_ e ≡ None) → ((e : ℕ) → named last e ≡ named closed_ e) → (n : ℕ) → named last n ≡ None
+none-closed read written closed_ last all readers kept_ writers streams endpoints same =
+    none-every last all
+    (λ r below. same (reader_place r) ∙ streams (reader_place r) (omega arith) ∙ kept_ r below ∙ readers r below)
+    (λ w below. same (writer_place w) ∙ streams (writer_place w) (omega arith) ∙ writers w below)
+    (λ e below. same e ∙ endpoints e below)
 
-pub none-readers : (es : List (Option AnyEndpoint)) (rs : List (Option AnyReader)) → HasPlaces es rs → ((n : ℕ) → named (endpoints_with es rs) n ≡ None) → (n : ℕ) → named rs n ≡ None
-none-readers es rs places none n = unmapped endpoint_of (named rs n) (sym (named-reader es rs places n) ∙ none (reader_place n))
+-- then no name of an endpoint is open, none of a reader and none of a writer
+module _ (es : List (Option AnyEndpoint)) (rs : List (Option AnyReader)) (ws : List (Option AnyWriter)) (places : HasPlaces es rs ws) (none : (n : ℕ) → named (endpoints_with es rs ws) n ≡ None) where
+  pub none-endpoints : (n : ℕ) → named es n ≡ None
+  none-endpoints n = unmapped state_of (named es n) (sym (named-endpoint es rs ws places n) ∙ none (endpoint_place n))
 
--- the close of an endpoint leaves what stands behind the names
-pub same-behind : {X : Type 0} (xs after : List (Option X)) (n r : ℕ) → n < 64 → after ≡ freed xs n → named after (reader_place r) ≡ named xs (reader_place r)
-same-behind xs after n r below rest =
-    let apart : reader_place r ≢ n = λ same. absurd (omega (arith, below, same)) in
-    ap (λ l. named l (reader_place r)) rest ∙ named-freed_other xs n (reader_place r) apart
+  pub none-readers : (n : ℕ) → named rs n ≡ None
+  none-readers = none-all rs places.readers (λ r below. unmapped endpoint_of (named rs r) (sym (named-reader es rs ws places r below) ∙ none (reader_place r)))
+
+  pub none-writers : (n : ℕ) → named ws n ≡ None
+  none-writers n = unmapped writer_endpoint (named ws n) (sym (named-writer es rs ws places n) ∙ none (writer_place n))
+
+-- the close of what stands at one place leaves what stands at another
+pub same-apart : {X : Type 0} (xs after : List (Option X)) (n m : ℕ) → m ≢ n → after ≡ freed xs n → named after m ≡ named xs m
+same-apart xs after n m apart rest = ap (λ l. named l m) rest ∙ named-freed_other xs n m apart
+
+-- a number below 64 is a name's
+pub is_name : (n m : ℕ) → at_most 63 n ≡ Some m → m ≡ n
+is_name n m is = by (nat_le n 63) is
+  where
+    by : (b : Bool) → (if b then Some n else None) ≡ Some m → m ≡ n
+    by true is = sym (same_Some n m is)
+    by false is = absurd (none-some m is)
+
+pub no_name : (n : ℕ) → n < 64 → at_most 63 n ≡ None → ⊥
+no_name n below is = let few : nat_le n 63 ≡ true = grind (arith, nat_tests) in none-some n (sym is ∙ ap (λ (b : Bool). if b then Some n else None) few)
 
 -- all names but the last
 slice_get-front : {X : Type 0} (xs ys : List X) (n : ℕ) (x : X) → slice_get xs n ≡ Some x → slice_get (xs ++ ys) n ≡ Some x
@@ -189,13 +220,13 @@ named-last old front o x is at =
     named_of old (length front) o (ap (λ l. slice_get l (length front)) is ∙ slice_get-last front o) ∙ at
 
 -- the host of a session at the end
-pub end-host : (s : SessionState) (host now : HostState) (state : State) → s.host ≡ host → now ≡ finished host → Represents s (devices_closed (interfaces_closed (futures_closed (endpoints_closed (readers_closed state 64) 64) 64) 64) 64) → now ≡ ended state
+pub end-host : (s : SessionState) (host now : HostState) (state : State) → s.host ≡ host → now ≡ finished host → Represents s (devices_closed (interfaces_closed (futures_closed (endpoints_closed (writers_closed (readers_closed state 64) 64) 64) 64) 64) 64) → now ≡ ended state
 unfolding ended all_closed
 end-host s host now state here done r =
     done ∙ ap finished (sym here ∙ ap (λ (v : SessionState). v.host) r.is)
 
 -- all is closed, so no endpoint and no future holds a ticket, and each ticket of the host has its end
-pub end-ended : (s : SessionState) (before now : HostState) (state : State) → before ≡ s.host → ((e : ℕ) → named s.endpoints e ≡ None) → ((n : ℕ) → named s.futures n ≡ None) → Represents s (devices_closed (interfaces_closed (futures_closed (endpoints_closed (readers_closed state 64) 64) 64) 64) 64) → Accounted state
+pub end-ended : (s : SessionState) (before now : HostState) (state : State) → before ≡ s.host → ((e : ℕ) → named s.endpoints e ≡ None) → ((n : ℕ) → named s.futures n ≡ None) → Represents s (devices_closed (interfaces_closed (futures_closed (endpoints_closed (writers_closed (readers_closed state 64) 64) 64) 64) 64) 64) → Accounted state
     → (((t : ℕ) → owner_at before.tickets t ≡ None) → HasEnds now.tickets) → HasEnds now.tickets
 unfolding all_closed
 end-ended s before now state same none gone r a ends =
@@ -207,6 +238,9 @@ end-ended s before now state same none gone r a ends =
 -- one name more is closed
 pub readers_closed-more : (state : State) (n : ℕ) → readers_closed state (n + 1) ≡ reader_closed (readers_closed state n) n
 readers_closed-more state n = let more : n + 1 ≡ suc n = omega arith in rw more refl
+
+pub writers_closed-more : (state : State) (n : ℕ) → writers_closed state (n + 1) ≡ writer_closed (writers_closed state n) n
+writers_closed-more state n = let more : n + 1 ≡ suc n = omega arith in rw more refl
 
 pub endpoints_closed-more : (state : State) (n : ℕ) → endpoints_closed state (n + 1) ≡ closed (endpoints_closed state n) n
 endpoints_closed-more state n = let more : n + 1 ≡ suc n = omega arith in rw more refl

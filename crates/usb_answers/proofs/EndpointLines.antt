@@ -44,13 +44,13 @@ use Rattle.usb_answers.proofs.Does.{Quiet, Acts, Does, says_done, goes, opens, s
 use Rattle.usb_answers.proofs.DeviceHosts.{halt-aside}
 
 -- an endpoint is opened
-endpoint_as-does : (state : State) (e address : ℕ) (kind : TransferType) (x : InterfaceAt) (tried : Result ℕ ErrorState) → is_free state.endpoints e ≡ true → (64 ≤ e → 128 ≤ e) → Does state (endpoint_as state e address kind x tried)
+endpoint_as-does : (state : State) (e address : ℕ) (kind : TransferType) (x : InterfaceAt) (tried : Result ℕ ErrorState) → is_free state.endpoints e ≡ true → (64 ≤ e → 192 ≤ e) → Does state (endpoint_as state e address kind x tried)
 endpoint_as-does state e address kind x tried free outside =
     try-does (endpoint_as state e address kind x) tried (λ error. refl) (λ maximum.
     goes (quiet-aside state (with_host state (with_endpoint state.host x.handle.key address)) refl refl refl refl)
     (opens e (new_endpoint state.host x.claimed.device address kind maximum) free refl refl outside (ok-does _)))
 
-pub endpoint-does : (state : State) (e i address : ℕ) (kind : TransferType) (direction : Direction) → (64 ≤ e → 128 ≤ e) → Does state (endpoint_answer state e i address kind direction)
+pub endpoint-does : (state : State) (e i address : ℕ) (kind : TransferType) (direction : Direction) → (64 ≤ e → 192 ≤ e) → Does state (endpoint_answer state e i address kind direction)
 unfolding endpoint_answer
 endpoint-does state e i address kind direction outside =
     call-does (interface_at state i) _ (λ x is.

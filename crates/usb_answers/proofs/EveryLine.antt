@@ -16,9 +16,10 @@ use Rattle.usb_answers.proofs.TreeLines.{list-does, buses-does, probe-does, matc
 use Rattle.usb_answers.proofs.ControlLines.{control_in-does, control_out-does, get_descriptor-does, languages-does, string-does, start-does, poll_future-does, wait_future-does, close_future-does}
 use Rattle.usb_answers.proofs.EndpointLines.{endpoint-does, submit-does, poll-does, wait-does, transfer-does, cancel-does, clear_halt-does, close-does, steps-does}
 use Rattle.usb_answers.proofs.ReaderDoes.{reader-does, inner-does, num-does, timeout-does, cancel_reader-does, close_reader-does, read-does, poll_read-does, fill-does, poll_fill-does, consume-does, is_end-does, consume_end-does}
+use Rattle.usb_answers.proofs.WriterDoes.{writer-does, writer_inner-does, writer_num-does, write_timeout-does, close_writer-does, write-does, poll_write-does, submit_buffer-does, submit_end-does, flush-does, poll_flush-does, flush_end-does, poll_flush_end-does}
 
--- the place of an endpoint's name is none of a reader's
-place-outside : (e : ℕ) → 64 ≤ endpoint_place e → 128 ≤ endpoint_place e
+-- the place of an endpoint's name is none of a reader's or a writer's
+place-outside : (e : ℕ) → 64 ≤ endpoint_place e → 192 ≤ endpoint_place e
 place-outside e =
     elim (cases_lt e 64) [
       | inl below ↦ rw (lt-ltb e 64 below) (λ above. absurd (omega arith))
@@ -86,6 +87,19 @@ answer-does state lines (item.PollFillBuf framing r) = poll_fill-does state fram
 answer-does state lines (item.Consume framing r n) = consume-does state framing r n
 answer-does state lines (item.IsEnd r) = is_end-does state r
 answer-does state lines (item.ConsumeEnd r) = consume_end-does state r
+answer-does state lines (item.Writer w e size) = writer-does state w (endpoint_place e) size
+answer-does state lines (item.WriterIntoInner e w) = writer_inner-does state (endpoint_place e) w
+answer-does state lines (item.SetWriterTransfers w n) = writer_num-does state w n
+answer-does state lines (item.SetWriteTimeout w timeout) = write_timeout-does state w timeout
+answer-does state lines (item.CloseWriter w) = close_writer-does state w lines
+answer-does state lines (item.Write w bytes steps) = write-does state w bytes steps
+answer-does state lines (item.PollWrite w bytes) = poll_write-does state w bytes
+answer-does state lines (item.Submit w) = submit_buffer-does state w
+answer-does state lines (item.SubmitEnd w) = submit_end-does state w
+answer-does state lines (item.Flush w steps) = flush-does state w steps
+answer-does state lines (item.PollFlush w) = poll_flush-does state w
+answer-does state lines (item.FlushEnd w steps) = flush_end-does state w steps
+answer-does state lines (item.PollFlushEnd w) = poll_flush_end-does state w
 answer-does state lines (item.ControlIn target setup wanted timeout steps) = control_in-does state target setup wanted timeout steps
 answer-does state lines (item.ControlOut target setup bytes timeout steps) = control_out-does state target setup bytes timeout steps
 answer-does state lines (item.GetDescriptor d kind index language timeout steps) = get_descriptor-does state d kind index language timeout steps

@@ -1,5 +1,5 @@
 -- Framed readers follow their streams behind the lines of a script.
-use Rattle.std.proofs.Common.{◌≡◌, ◌∙◌, List, [], ◌∷◌, ◌++◌, append-nil, append_assoc, Option, None, true, false, refl, sym, subst}
+use Rattle.std.proofs.Common.{◌≡◌, ◌∙◌, List, [], ◌∷◌, ◌++◌, append-nil, append_assoc, Option, None, false, refl, sym, subst}
 use Rattle.std.proofs.lemmas.List.{length-replicate}
 use Rattle.std.proofs.lemmas.Option.{none-some}
 use Rattle.usb_kernel.specs.declared.event.Event.{Event}
@@ -10,71 +10,27 @@ use Rattle.usb_host.specs.HostState.{HostState}
 use Rattle.usb_streams.proofs.FramedCalls.{lawful-before}
 use Rattle.usb_script.specs.declared.item.Item.{Item}
 use Rattle.usb_script.specs.declared.item.Item.TheVariants as item
-use Rattle.usb_words.specs.EndpointKinds.{transfer_type_of, direction_of}
 use Rattle.usb_words.specs.declared.framing.Framing.TheVariants.{UntilShort}
 use Rattle.usb_names.proofs.NameLemmas.{named-replicate}
 use Rattle.usb_answers.specs.State.{State, Reader}
 use Rattle.usb_answers.specs.ReaderAt.{endpoint_place}
-use Rattle.usb_answers.specs.Buffers.{in_buffer, out_buffer}
-use Rattle.usb_answers.specs.Controls.{request_for, request_with}
 use Rattle.usb_answers.specs.Answers.{answer}
+use Rattle.usb_answers.specs.Kinds.{is_of_reader}
 use Rattle.usb_answers.specs.Ends.{ended}
 use Rattle.usb_answers.specs.Output.{start, behind, last_host, final_host}
 use Rattle.usb_answers.specs.Behind.{ScriptsGoOn}
 use Rattle.usb_answers.specs.Framed.{EmptyReadIsEnd, FramedScriptsFollow}
-use Rattle.usb_answers.proofs.FramedLines.{place-apart, list-leaves, buses-leaves, probe-leaves, match-leaves, hotplug-leaves, open-leaves, open_path-leaves, now-leaves, device_descriptor-leaves, descriptors-leaves, clone_device-leaves, close_device-leaves, active-leaves, speed-leaves, set_configuration-leaves, reset-leaves, detach-leaves, attach-leaves, claim-leaves, clone_interface-leaves, close_interface-leaves, release-leaves, set_alt_setting-leaves, get_alt_setting-leaves, interface_descriptor-leaves, endpoint-leaves, submit-leaves, pending-leaves, poll-leaves, wait-leaves, transfer-leaves, cancel-leaves, clear_halt-leaves, close-leaves, control-leaves, start-leaves, poll_future-leaves, wait_future-leaves, close_future-leaves, steps-leaves}
+use Rattle.usb_answers.proofs.OtherLines.{place-apart}
+use Rattle.usb_answers.proofs.WritersLeave.{leaves-readers}
 use Rattle.usb_answers.proofs.FramedReaders.{FramedFollow, parts-of, leaves-follow, reader-follow, inner-follow, num-follow, timeout-follow, cancel_reader-follow, close_reader-follow, read-follow, poll_read-follow, fill-follow, poll_fill-follow, consume-follow, consume_end-follow, is_end-follow}
 use Rattle.usb_answers.proofs.FramedEnds.{read-ends, poll_read-ends, prefix-at, end-at}
 
 -- over each line
+others-follow : (state : State) (line : Item) → is_of_reader line ≡ false → Extends state.host.kernel.past (answer state line).state.host.kernel.past → FramedFollow state → FramedFollow (answer state line).state
+others-follow state line other extends f = leaves-follow state (answer state line) extends (leaves-readers state line other) f
+
 answer-follow : (state : State) (line : Item) → Extends state.host.kernel.past (answer state line).state.host.kernel.past → IsLawful (answer state line).state.host.kernel.past → FramedFollow state → FramedFollow (answer state line).state
 unfolding answer
-answer-follow state (item.Device k bus address speed configuration descriptors) extends lawful f = f
-answer-follow state (item.Driver k number) extends lawful f = f
-answer-follow state (item.Attribute path name value) extends lawful f = f
-answer-follow state (item.Denied path name errno) extends lawful f = f
-answer-follow state (item.Child path name) extends lawful f = f
-answer-follow state (item.Link path name target) extends lawful f = f
-answer-follow state (item.Entry name path) extends lawful f = f
-answer-follow state (item.Root errno) extends lawful f = f
-answer-follow state (item.Uevent groups bytes) extends lawful f = f
-answer-follow state item.List extends lawful f = leaves-follow state _ extends (list-leaves state) f
-answer-follow state item.Buses extends lawful f = leaves-follow state _ extends (buses-leaves state) f
-answer-follow state (item.Probe path) extends lawful f = leaves-follow state _ extends (probe-leaves state path) f
-answer-follow state (item.Match path selector) extends lawful f = leaves-follow state _ extends (match-leaves state path selector) f
-answer-follow state item.Hotplug extends lawful f = leaves-follow state _ extends (hotplug-leaves state) f
-answer-follow state (item.OpenPath d path) extends lawful f = leaves-follow state _ extends (open_path-leaves state d path) f
-answer-follow state item.Now extends lawful f = leaves-follow state _ extends (now-leaves state) f
-answer-follow state (item.Open d bus address) extends lawful f = leaves-follow state _ extends (open-leaves state d bus address) f
-answer-follow state (item.DeviceDescriptor d) extends lawful f = leaves-follow state _ extends (device_descriptor-leaves state d) f
-answer-follow state (item.Descriptors d) extends lawful f = leaves-follow state _ extends (descriptors-leaves state d) f
-answer-follow state (item.CloneDevice name d) extends lawful f = leaves-follow state _ extends (clone_device-leaves state name d) f
-answer-follow state (item.CloseDevice d) extends lawful f = leaves-follow state _ extends (close_device-leaves state d) f
-answer-follow state (item.ActiveConfiguration d) extends lawful f = leaves-follow state _ extends (active-leaves state d) f
-answer-follow state (item.Speed d) extends lawful f = leaves-follow state _ extends (speed-leaves state d) f
-answer-follow state (item.SetConfiguration d value) extends lawful f = leaves-follow state _ extends (set_configuration-leaves state d value) f
-answer-follow state (item.Reset d) extends lawful f = leaves-follow state _ extends (reset-leaves state d) f
-answer-follow state (item.DetachDriver d number) extends lawful f = leaves-follow state _ extends (detach-leaves state d number) f
-answer-follow state (item.AttachDriver d number) extends lawful f = leaves-follow state _ extends (attach-leaves state d number) f
-answer-follow state (item.Claim d number i) extends lawful f = leaves-follow state _ extends (claim-leaves state d number i false) f
-answer-follow state (item.DetachAndClaim d number i) extends lawful f = leaves-follow state _ extends (claim-leaves state d number i true) f
-answer-follow state (item.CloneInterface name i) extends lawful f = leaves-follow state _ extends (clone_interface-leaves state name i) f
-answer-follow state (item.CloseInterface i) extends lawful f = leaves-follow state _ extends (close_interface-leaves state i) f
-answer-follow state (item.SetAltSetting i setting) extends lawful f = leaves-follow state _ extends (set_alt_setting-leaves state i setting) f
-answer-follow state (item.GetAltSetting i) extends lawful f = leaves-follow state _ extends (get_alt_setting-leaves state i) f
-answer-follow state (item.InterfaceDescriptor i) extends lawful f = leaves-follow state _ extends (interface_descriptor-leaves state i) f
-answer-follow state (item.Release i) extends lawful f = leaves-follow state _ extends (release-leaves state i) f
-answer-follow state (item.Endpoint e i address kind) extends lawful f = leaves-follow state _ extends (endpoint-leaves state (endpoint_place e) i address (transfer_type_of kind) (direction_of kind) (place-apart e)) f
-answer-follow state (item.SubmitIn e n) extends lawful f = leaves-follow state _ extends (submit-leaves state _ (endpoint_place e) (in_buffer n) (place-apart e)) f
-answer-follow state (item.SubmitOut e bytes) extends lawful f = leaves-follow state _ extends (submit-leaves state _ (endpoint_place e) (out_buffer bytes) (place-apart e)) f
-answer-follow state (item.Pending e) extends lawful f = leaves-follow state _ extends (pending-leaves state (endpoint_place e)) f
-answer-follow state (item.Poll e) extends lawful f = leaves-follow state _ extends (poll-leaves state (endpoint_place e) (place-apart e)) f
-answer-follow state (item.Wait e timeout steps) extends lawful f = leaves-follow state _ extends (wait-leaves state (endpoint_place e) timeout steps (place-apart e)) f
-answer-follow state (item.TransferIn e n timeout steps) extends lawful f = leaves-follow state _ extends (transfer-leaves state _ (endpoint_place e) (in_buffer n) timeout steps (place-apart e)) f
-answer-follow state (item.TransferOut e bytes timeout steps) extends lawful f = leaves-follow state _ extends (transfer-leaves state _ (endpoint_place e) (out_buffer bytes) timeout steps (place-apart e)) f
-answer-follow state (item.Cancel e) extends lawful f = leaves-follow state _ extends (cancel-leaves state (endpoint_place e)) f
-answer-follow state (item.ClearHalt e) extends lawful f = leaves-follow state _ extends (clear_halt-leaves state (endpoint_place e)) f
-answer-follow state (item.CloseEndpoint e) extends lawful f = leaves-follow state _ extends (close-leaves state (endpoint_place e) (place-apart e)) f
 answer-follow state (item.Reader r e size) extends lawful f = reader-follow state r (endpoint_place e) size (place-apart e) f
 answer-follow state (item.IntoInner e r) extends lawful f = inner-follow state (endpoint_place e) r (place-apart e) f
 answer-follow state (item.SetNumTransfers r n) extends lawful f = num-follow state r n lawful f
@@ -88,17 +44,7 @@ answer-follow state (item.PollFillBuf framing r) extends lawful f = poll_fill-fo
 answer-follow state (item.Consume framing r n) extends lawful f = consume-follow state framing r n f
 answer-follow state (item.IsEnd r) extends lawful f = is_end-follow state r f
 answer-follow state (item.ConsumeEnd r) extends lawful f = consume_end-follow state r f
-answer-follow state (item.ControlIn target setup wanted timeout steps) extends lawful f = leaves-follow state _ extends (control-leaves _ _ state target steps) f
-answer-follow state (item.ControlOut target setup bytes timeout steps) extends lawful f = leaves-follow state _ extends (control-leaves _ _ state target steps) f
-answer-follow state (item.GetDescriptor d kind index language timeout steps) extends lawful f = leaves-follow state _ extends (control-leaves _ _ state _ steps) f
-answer-follow state (item.SupportedLanguages d timeout steps) extends lawful f = leaves-follow state _ extends (control-leaves _ _ state _ steps) f
-answer-follow state (item.StringDescriptor d index language timeout steps) extends lawful f = leaves-follow state _ extends (control-leaves _ _ state _ steps) f
-answer-follow state (item.StartControlIn n target setup wanted timeout) extends lawful f = leaves-follow state _ extends (start-leaves state n target (request_for setup wanted) timeout) f
-answer-follow state (item.StartControlOut n target setup bytes timeout) extends lawful f = leaves-follow state _ extends (start-leaves state n target (request_with setup bytes) timeout) f
-answer-follow state (item.PollFuture n) extends lawful f = leaves-follow state _ extends (poll_future-leaves state n) f
-answer-follow state (item.WaitFuture n steps) extends lawful f = leaves-follow state _ extends (wait_future-leaves state n steps) f
-answer-follow state (item.CloseFuture n) extends lawful f = leaves-follow state _ extends (close_future-leaves state n) f
-answer-follow state (item.Steps steps) extends lawful f = leaves-follow state _ extends (steps-leaves state steps) f
+answer-follow state line extends lawful f = others-follow state line refl extends f
 
 -- a line that reads until a short packet
 empty-is-end : (state : State) (line : Item) → FramedFollow (answer state line).state → EmptyReadIsEnd state line
@@ -118,7 +64,7 @@ start-follow items =
       each = λ r x consumed at is. absurd (none-some x.reader (sym (named-replicate {X = Reader} 64 r) ∙ (parts-of (start items) r x at).reader));
     }
 
-behind-push : (state : State) (before : List Item) (line : Item) → behind state (before ++ line ∷ []) ≡ (answer (behind state before) line).state
+pub behind-push : (state : State) (before : List Item) (line : Item) → behind state (before ++ line ∷ []) ≡ (answer (behind state before) line).state
 behind-push state [] line = refl
 behind-push state (first ∷ before) line = behind-push (answer state first).state before line
 

@@ -1,8 +1,8 @@
 -- What lines on readers keep of framed ones.
-use Rattle.std.proofs.Common.{◌≡◌, ◌≢◌, ◌∙◌, ℕ, zero, suc, ◌+◌, ◌-◌, ◌<◌, ◌≤◌, arith, Bool, true, List, [], ◌∷◌, ◌++◌, length, take, drop, map, append-nil, append_assoc, length-append, take-append-drop, Option, Some, None, Result, Ok, Err, refl, ap, sym, subst, inl, inr}
+use Rattle.std.proofs.Common.{◌≡◌, ◌≢◌, ◌∙◌, ℕ, ◌-◌, ◌<◌, ◌≤◌, Bool, true, List, [], ◌∷◌, ◌++◌, length, take, drop, map, append-nil, Option, Some, None, Result, Ok, Err, refl, ap, sym, subst, inl, inr}
 use Rattle.std.specs.Prelude.{nat_lt, nat_le, ◌||◌, option_and_then, if◌then◌else◌}
 use Rattle.std.specs.Option.{option_map}
-use Rattle.std.proofs.lemmas.Bool.{cond_both, cases_lt, cases_eq, cases_Bool, and_parts, leb-true}
+use Rattle.std.proofs.lemmas.Bool.{cond_both, cases_eq, cases_Bool, and_parts, leb-true}
 use Rattle.std.proofs.lemmas.Option.{none-some, same_Some}
 use Rattle.usb_desc.specs.declared.types.Direction.TheVariants.{In, Out}
 use Rattle.usb_kernel.specs.declared.event.Event.{Event}
@@ -31,17 +31,19 @@ use Rattle.usb_streams.proofs.FramedCalls.{lawful-before, follows-as, framed_fil
 use Rattle.usb_stream_lines.specs.Reads.{read_line, buffer_line, is_end_line, consumed_end_line}
 use Rattle.usb_words.specs.declared.framing.Framing.{Framing}
 use Rattle.usb_words.specs.declared.framing.Framing.TheVariants.{Plain, UntilShort}
-use Rattle.usb_names.specs.Names.{named, is_free, freed, change_named, nothing}
-use Rattle.usb_names.proofs.NameLemmas.{slice_get-change_other, length-change, length-freed, length-set_name, named-past, named-change_same, named-change_other, named-freed, named-freed_other, named-set, named-set_other, free-within}
+use Rattle.usb_names.specs.Names.{named, is_free, freed, change_named}
+use Rattle.usb_names.proofs.NameLemmas.{length-freed, length-set_name, named-change_same, named-change_other, named-freed, named-freed_other, named-set, named-set_other}
 use Rattle.usb_answers.specs.BareReaders.{bare_of, reader_with}
 use Rattle.usb_answers.specs.State.{State, Endpoint, Reader, pending, kept, tickets_of, with_host}
 use Rattle.usb_answers.specs.ReaderAt.{ReaderAt, reader_place, reader_at, state_of_reader}
 use Rattle.usb_answers.specs.Answer.{Answer, told, barred, ok_answer, if_open}
 use Rattle.usb_answers.specs.Submits.{has_direction}
-use Rattle.usb_answers.specs.Readers.{nothing_consumed, as_read, with_reader, is_free_reader, reader_on, reader_answer, without_reader, inner_answer, read_endpoint, called, bars_need, with_count, num_on, num_answer, with_timeout, timeout_answer, with_none, cancel_reader_answer, closed_reader, close_reader_answer}
+use Rattle.usb_answers.specs.Readers.{nothing_consumed, as_streamed, with_reader, is_free_reader, reader_on, reader_answer, without_reader, inner_answer, called_endpoint, called, with_count, num_on, num_answer, with_timeout, timeout_answer, with_none, cancel_reader_answer, closed_reader, close_reader_answer}
+use Rattle.usb_writer_lines.specs.Needs.{bars_need}
 use Rattle.usb_answers.specs.Reads.{is_until_short, consumed_with, bytes_given, bars_read, given_line, polled_given_line, read_as, filled_as, read_on, read_answer, poll_read_on, poll_read_answer, fill_on, fill_answer, poll_fill_on, poll_fill_answer, read_off, consume_on, consume_answer, is_end_answer, consume_end_on, consume_end_answer}
 use Rattle.usb_answers.specs.Steps.{lent, rested, then_rested, stepped_all}
-use Rattle.usb_answers.proofs.FramedLines.{Leaves, IsApart}
+use Rattle.usb_answers.proofs.OtherLines.{IsApart}
+use Rattle.usb_answers.proofs.StreamPlaces.{small-name, free-small, reader-streamed, readers-apart, LeavesReaders, length-changed, free-freed, drop-nothing, take-nothing, called-parts}
 
 -- what a framed reader consumed, and which of its endpoint's tickets were taken
 abbrev pub history_of : Endpoint → List Item → History
@@ -79,18 +81,11 @@ open-at state r y h reader endpoint = rw (reader, endpoint) refl
 same-at : (old new : State) (r : ℕ) → named new.readers r ≡ named old.readers r → named new.endpoints (reader_place r) ≡ named old.endpoints (reader_place r) → reader_at new r ≡ reader_at old r
 same-at old new r reader endpoint = rw (reader, endpoint) refl
 
-small-name : (xs : List (Option Reader)) (n : ℕ) (x : Reader) → named xs n ≡ Some x → length xs ≡ 64 → n < 64
-small-name xs n x is all =
-    elim (cases_lt n 64) [
-      | inl below ↦ below
-      | inr beyond ↦ absurd (none-some x (sym (named-past xs n (omega (arith, all, beyond))) ∙ is))
-    ]
-
 at-later : (old new : List Event) (x : ReaderAt) (consumed : List Item) → Extends old new → FollowsAt old x consumed → FollowsAt new x consumed
 at-later old new x consumed extends f = record { input = f.input; follows = later_follows old new (state_of_reader x) (history_of x.endpoint consumed) extends f.follows }
 
 -- lines that leave the readers
-pub leaves-follow : (state : State) (a : Answer) → Extends state.host.kernel.past a.state.host.kernel.past → Leaves state a → FramedFollow state → FramedFollow a.state
+pub leaves-follow : (state : State) (a : Answer) → Extends state.host.kernel.past a.state.host.kernel.past → LeavesReaders state a.state → FramedFollow state → FramedFollow a.state
 leaves-follow state a extends leaves f =
     let names : length a.state.readers ≡ 64 = ap (λ (rs : List (Option Reader)). length rs) leaves.readers ∙ f.names in
     record {
@@ -122,22 +117,7 @@ changes-follow old new r extends c f =
       ];
     }
 
-places-apart : (s r : ℕ) → s ≢ r → reader_place s ≢ reader_place r
-places-apart s r apart same = apart (omega (arith, same))
-
-length-changed : {X : Type 0} (f : X → X) (xs : List (Option X)) (n : ℕ) → length (change_named f xs n) ≡ length xs
-unfolding change_named
-length-changed f xs n = length-change (option_map f) xs n
-
 -- `reader`
-drop-nothing : (n : ℕ) → drop {A = ℕ} n [] ≡ []
-drop-nothing zero = refl
-drop-nothing (suc n) = refl
-
-take-nothing : (n : ℕ) → take {A = ℕ} n [] ≡ []
-take-nothing zero = refl
-take-nothing (suc n) = refl
-
 nothing-is : (ts : List ℕ) (consumed : List Item) → nothing_consumed ts ≡ Some consumed → (ts ≡ []) × (consumed ≡ [])
 nothing-is [] consumed is = (refl, sym (same_Some [] consumed is))
 nothing-is (t ∷ ts) consumed is = absurd (none-some consumed is)
@@ -145,16 +125,12 @@ nothing-is (t ∷ ts) consumed is = absurd (none-some consumed is)
 input-of : (h : Endpoint) → has_direction In (kept h) ≡ true → 128 ≤ h.address
 input-of h is = elim (cases_Bool (nat_le 128 h.address)) [ inl below ↦ leb-true 128 h.address below | inr other ↦ absurd (let e : same_direction Out In ≡ true = rw other at is in cc) ]
 
-free-freed : (xs : List (Option Endpoint)) (p n : ℕ) → n ≢ p → is_free xs n ≡ true → is_free (freed xs p) n ≡ true
-unfolding is_free freed
-free-freed xs p n apart free = rw (slice_get-change_other nothing xs p n apart) free
-
 abbrev new_reader : Endpoint → ℕ → Reader
 new_reader h size = record { bare = bare_of (fresh_reader (kept h) size); consumed = nothing_consumed h.tickets }
 
-fresh-at : (past : List Event) (h : Endpoint) (size : ℕ) (consumed : List Item) → 128 ≤ h.address → nothing_consumed h.tickets ≡ Some consumed → FollowsAt past (at_of (new_reader h size) (as_read h)) consumed
+fresh-at : (past : List Event) (h : Endpoint) (size : ℕ) (consumed : List Item) → 128 ≤ h.address → nothing_consumed h.tickets ≡ Some consumed → FollowsAt past (at_of (new_reader h size) (as_streamed h)) consumed
 fresh-at past h size consumed input is =
-    let x = at_of (new_reader h size) (as_read h) in
+    let x = at_of (new_reader h size) (as_streamed h) in
     let none = nothing-is h.tickets consumed is in
     record {
       input = input;
@@ -172,16 +148,13 @@ with_reader-changes state r p size h apart small free place input =
     record {
       names = length-set_name state.readers r y;
       readers = λ s other. named-set_other state.readers r s y other;
-      endpoints = λ s below other. named-set_other (freed state.endpoints p) (reader_place r) (reader_place s) (as_read h) (places-apart s r other) ∙ named-freed_other state.endpoints p (reader_place s) (apart s below);
+      endpoints = λ s below other. named-set_other (freed state.endpoints p) (reader_place r) (reader_place s) (as_streamed h) (readers-apart s r other) ∙ named-freed_other state.endpoints p (reader_place s) (apart (reader_place s) (reader-streamed s below));
       here = λ x consumed parts is.
           let reader : x.reader ≡ y = same_Some x.reader y (sym parts.reader ∙ named-set state.readers r y free) in
-          let endpoint : x.endpoint ≡ as_read h = same_Some x.endpoint (as_read h) (sym parts.endpoint ∙ named-set (freed state.endpoints p) (reader_place r) (as_read h) (free-freed state.endpoints p (reader_place r) (apart r small) place)) in
-          subst (λ (z : ReaderAt). FollowsAt state.host.kernel.past z consumed) (same-both x y (as_read h) reader endpoint)
+          let endpoint : x.endpoint ≡ as_streamed h = same_Some x.endpoint (as_streamed h) (sym parts.endpoint ∙ named-set (freed state.endpoints p) (reader_place r) (as_streamed h) (free-freed state.endpoints p (reader_place r) (apart (reader_place r) (reader-streamed r small)) place)) in
+          subst (λ (z : ReaderAt). FollowsAt state.host.kernel.past z consumed) (same-both x y (as_streamed h) reader endpoint)
           (fresh-at state.host.kernel.past h size consumed input (sym (ap (λ (z : Reader). z.consumed) reader) ∙ is));
     }
-
-free-small : (xs : List (Option Reader)) (n : ℕ) → is_free xs n ≡ true → length xs ≡ 64 → n < 64
-free-small xs n free all = let within = free-within xs n free in omega (arith, all, within)
 
 pub reader-follow : (state : State) (r p size : ℕ) → IsApart p → FramedFollow state → FramedFollow (reader_answer state r p size).state
 unfolding reader_answer
@@ -205,7 +178,7 @@ without_reader-changes state p r x apart =
     record {
       names = length-freed state.readers r;
       readers = λ s other. named-freed_other state.readers r s other;
-      endpoints = λ s below other. named-set_other (freed state.endpoints (reader_place r)) p (reader_place s) x.endpoint (apart s below) ∙ named-freed_other state.endpoints (reader_place r) (reader_place s) (places-apart s r other);
+      endpoints = λ s below other. named-set_other (freed state.endpoints (reader_place r)) p (reader_place s) x.endpoint (apart (reader_place s) (reader-streamed s below)) ∙ named-freed_other state.endpoints (reader_place r) (reader_place s) (readers-apart s r other);
       here = λ y consumed parts is. absurd (none-some y.reader (sym (named-freed state.readers r) ∙ parts.reader));
     }
 
@@ -220,19 +193,9 @@ inner-follow state p r apart f = by (reader_at state r)
         (λ yes_. changes-follow state (without_reader state p r x) r (extends-same state.host.kernel.past) (without_reader-changes state p r x apart) f)
         (λ no_. f)
 
--- behind a call of a reader: the parts of a list by the length of the last
-split-front : (front back : List ℕ) → (take (length front) (front ++ back) ≡ front) × (drop (length front) (front ++ back) ≡ back)
-split-front [] back = (refl, refl)
-split-front (x ∷ front) back = let s = split-front front back in (ap (λ (l : List ℕ). x ∷ l) s.0, s.1)
-
-split-back : (front back all : List ℕ) → all ≡ front ++ back → (take (length all - length back) all ≡ front) × (drop (length all - length back) all ≡ back)
-split-back front back all is =
-    let s = split-front front back in
-    let count : length all - length back ≡ length front = omega (arith, ap (λ (l : List ℕ). length l) is, length-append front back) in
-    (ap (λ (n : ℕ). take n all) count ∙ ap (take (length front)) is ∙ s.0, ap (λ (n : ℕ). drop n all) count ∙ ap (drop (length front)) is ∙ s.1)
-
+-- behind a call of a reader
 abbrev called_at : State → ReaderAt → Option (List Item) → Reading HostState → ReaderAt
-called_at state x consumed w = at_of (record { bare = bare_of w.reader; consumed = consumed }) (read_endpoint (tickets_of state) (tickets_of (with_host state w.bus)) w.reader.endpoint.pending x.endpoint)
+called_at state x consumed w = at_of (record { bare = bare_of w.reader; consumed = consumed }) (called_endpoint (tickets_of state) (tickets_of (with_host state w.bus)) w.reader.endpoint.pending x.endpoint)
 
 called-follows : (state : State) (x : ReaderAt) (r0 : ReaderState) (w : Reading HostState) (before : List Item) (bytes : List ℕ) (now : Option (List Item)) → r0.endpoint ≡ kept x.endpoint → w.reader.endpoint ≡ record r0.endpoint { pending = w.reader.endpoint.pending } → 128 ≤ x.endpoint.address
     → GoesOnToFollow (reading state.host r0) w (history_of x.endpoint before) bytes → FollowsAt w.bus.kernel.past (called_at state x now w) (before ++ map Byte bytes)
@@ -242,9 +205,7 @@ called-follows state x r0 w before bytes now same rest input g =
     let back = w.reader.endpoint.pending in
     let numbers = numbers_from (tickets_of state) (tickets_of (with_host state w.bus) - tickets_of state) in
     let came : drop k ts ++ numbers ≡ g.taken ++ back = ap (λ (e : EndpointState). e.pending ++ numbers) (sym same) ∙ g.came in
-    let whole : ts ++ numbers ≡ (take k ts ++ g.taken) ++ back =
-    ap (λ (l : List ℕ). l ++ numbers) (sym (take-append-drop k ts)) ∙ append_assoc (take k ts) (drop k ts) numbers ∙ ap (λ (l : List ℕ). take k ts ++ l) came ∙ sym (append_assoc (take k ts) g.taken back) in
-    let parts = split-back (take k ts ++ g.taken) back (ts ++ numbers) whole in
+    let parts = called-parts k ts numbers g.taken back came in
     let x' = called_at state x now w in
     let endpoint : w.reader.endpoint ≡ kept x'.endpoint = rest ∙ ap (λ (e : EndpointState). record e { pending = back }) same ∙ ap (λ (l : List ℕ). record (kept x.endpoint) { pending = l }) (sym parts.1) in
     let reader : w.reader ≡ state_of_reader x' = ap (λ (e : EndpointState). reader_with e (bare_of w.reader)) endpoint in
@@ -258,11 +219,11 @@ called-follows state x r0 w before bytes now same rest input g =
 called-changes : (state : State) (r : ℕ) (x : ReaderAt) (now : Option (List Item)) (w : Reading HostState) → Parts state r x → ((consumed : List Item) → now ≡ Some consumed → FollowsAt w.bus.kernel.past (called_at state x now w) consumed) → Changes state (called state r now w) r
 called-changes state r x now w was here =
     let change : Reader → Reader = λ y. record { bare = bare_of w.reader; consumed = now } in
-    let change_ : Endpoint → Endpoint = read_endpoint (tickets_of state) (tickets_of (with_host state w.bus)) w.reader.endpoint.pending in
+    let change_ : Endpoint → Endpoint = called_endpoint (tickets_of state) (tickets_of (with_host state w.bus)) w.reader.endpoint.pending in
     record {
       names = length-changed change state.readers r;
       readers = λ s other. named-change_other change state.readers r s other;
-      endpoints = λ s below other. named-change_other change_ state.endpoints (reader_place r) (reader_place s) (places-apart s r other);
+      endpoints = λ s below other. named-change_other change_ state.endpoints (reader_place r) (reader_place s) (readers-apart s r other);
       here = λ y consumed parts is.
           let reader : y.reader ≡ change x.reader = same_Some y.reader (change x.reader) (sym parts.reader ∙ named-change_same change state.readers r ∙ ap (option_map change) was.reader) in
           let endpoint : y.endpoint ≡ change_ x.endpoint = same_Some y.endpoint (change_ x.endpoint) (sym parts.endpoint ∙ named-change_same change_ state.endpoints (reader_place r) ∙ ap (option_map change_) was.endpoint) in
@@ -358,7 +319,7 @@ closed_reader-changes state r h =
     record {
       names = length-freed state.readers r;
       readers = λ s other. named-freed_other state.readers r s other;
-      endpoints = λ s below other. named-freed_other state.endpoints (reader_place r) (reader_place s) (places-apart s r other);
+      endpoints = λ s below other. named-freed_other state.endpoints (reader_place r) (reader_place s) (readers-apart s r other);
       here = λ x consumed parts is. absurd (none-some x.reader (sym (named-freed state.readers r) ∙ parts.reader));
     }
 

@@ -103,6 +103,7 @@ sound-future_freed s now after n x sound was rest leaves =
       interface_names = sound.interface_names;
       endpoint_names = sound.endpoint_names;
       reader_names = sound.reader_names;
+      writer_names = sound.writer_names;
       devices_stand = λ d k is. counts-stands s.host now k keeps.devices (sound.devices_stand d k is);
       devices_counted = devices-kept s.host.devices now.devices s.devices (opened-counts s.host.devices now.devices keeps.devices) sound.devices_counted;
       devices_held = held-goes s.host now keeps.devices keeps.interfaces sound.devices_held;
@@ -133,6 +134,7 @@ sound-future_opened s now after n x h sound free put key some stands keeps other
       interface_names = sound.interface_names;
       endpoint_names = sound.endpoint_names;
       reader_names = sound.reader_names;
+      writer_names = sound.writer_names;
       devices_stand = λ d k is. counts-stands s.host now k keeps.devices (sound.devices_stand d k is);
       devices_counted = devices-kept s.host.devices now.devices s.devices (opened-counts s.host.devices now.devices keeps.devices) sound.devices_counted;
       devices_held = held-goes s.host now keeps.devices keeps.interfaces sound.devices_held;

@@ -11,7 +11,7 @@ use Rattle.usb_kernel.specs.Tickets.{tickets}
 use Rattle.usb_bus.specs.Completions.{transfer_completion}
 use Rattle.usb_lines.specs.Completions.{polled_line}
 use Rattle.usb_script.specs.declared.item.Item.{Item}
-use Rattle.usb_script.specs.declared.item.Item.TheVariants.{CloseEndpoint, CloseReader}
+use Rattle.usb_script.specs.declared.item.Item.TheVariants.{CloseEndpoint, CloseReader, CloseWriter}
 use Rattle.usb_ledger.specs.declared.ends.TicketEnd.{TicketEnd}
 use Rattle.usb_ledger.specs.Entries.{HostTicket, HeldBy, Abandoned, Ended}
 use Rattle.usb_host.specs.HostState.{HostState}
@@ -25,14 +25,16 @@ use Rattle.usb_device.specs.Futures.{FutureState}
 use Rattle.usb_names.specs.Names.{named, freed}
 use Rattle.usb_answers.specs.State.{State, Endpoint, tickets_of, with_host}
 use Rattle.usb_answers.specs.ReaderAt.{endpoint_place, reader_place}
+use Rattle.usb_answers.specs.WriterAt.{writer_place}
 use Rattle.usb_answers.specs.Readers.{reader_closed_at, reader_closed}
+use Rattle.usb_answers.specs.Writers.{writer_closed_at, writer_closed}
 use Rattle.usb_answers.specs.Closes.{closed_at, closed}
 use Rattle.usb_answers.specs.Answers.{answer}
-use Rattle.usb_answers.specs.Ends.{readers_closed, endpoints_closed, future_closed_at, future_closed_under, futures_closed, interfaces_closed, devices_closed, all_closed, ended}
+use Rattle.usb_answers.specs.Ends.{readers_closed, writers_closed, endpoints_closed, future_closed_at, future_closed_under, futures_closed, interfaces_closed, devices_closed, all_closed, ended}
 use Rattle.usb_answers.specs.Output.{start, behind, last_host, final_host}
 use Rattle.usb_answers.specs.Accounts.{Accounted}
 use Rattle.usb_answers.specs.Behind.{GoesOnTo, ScriptsGoOn}
-use Rattle.usb_answers.specs.Served.{ClosedEndpoint, closed_endpoints, IsServedInOrder, EndpointsAreServedInOrder, ScriptsAreCounted, closed_as, tickets_of_all, closed_under, closed_by, read_at_end, closed_at_end, closed_endpoints_from, control_ticket, control_tickets_from, control_tickets, lines_behind}
+use Rattle.usb_answers.specs.Served.{ClosedEndpoint, closed_endpoints, IsServedInOrder, EndpointsAreServedInOrder, ScriptsAreCounted, closed_as, tickets_of_all, closed_under, closed_by, read_at_end, written_at_end, closed_at_end, closed_endpoints_from, control_ticket, control_tickets_from, control_tickets, lines_behind}
 use Rattle.usb_answers.specs.Fates.{fate_lines, fate_lines_from}
 use Rattle.usb_answers.specs.FinalFates.{FatesOfScripts}
 use Rattle.usb_answers.specs.Sums.{counts_of}
@@ -43,7 +45,7 @@ use Rattle.usb_answers.proofs.AccountLemmas.{accounted-start, accounted-answer}
 use Rattle.usb_names.proofs.NameLemmas.{named-freed, named-freed_other, named-replicate}
 use Rattle.usb_answers.proofs.TimesLemmas.{times, times-append, counts-times, among, among-within, tickets_in, ticket_in, times_open, times-none, times-replicate}
 use Rattle.usb_answers.proofs.OrderLemmas.{Leaves, LeavesTickets, goes-then, closed-few, closed-taken, closed-others}
-use Rattle.usb_answers.proofs.StepLemmas.{Inv, Step, Closes, closes-on, all-tickets, step-then, step-after, step-quiet, few-taken, answer-step, closed-step, reader_closed-step, future_closed-step}
+use Rattle.usb_answers.proofs.StepLemmas.{Inv, Step, Closes, closes-on, all-tickets, step-then, step-after, step-quiet, few-taken, answer-step, closed-step, reader_closed-step, writer_closed-step, future_closed-step}
 use Rattle.usb_answers.proofs.PrintLemmas.{Prints, prints-stay, taken_of, AllPrint, all-print}
 use Rattle.usb_answers.proofs.TakeLemmas.{answer-takes}
 
@@ -101,20 +103,57 @@ readers-none state (suc k) r below =
     lower : (k n : ℕ) → n ≢ k → n < suc k → n < k
     lower k n apart small = omega arith
 
+-- then it closes the writers
+writers-step : (state : State) (lines : ℕ → List (List ℕ)) (k : ℕ) → Inv state → Step state (writers_closed state k) (written_at_end state lines k) []
+writers-step state lines zero inv = step-quiet inv (quiet-same state)
+writers-step state lines (suc k) inv =
+    let first = writers-step state lines k inv in
+    step-then first (writer_closed-step (writers_closed state k) k lines first.inv)
+
+writer_closed_at-endpoints : (state : State) (w : ℕ) (o : Option Endpoint) → (writer_closed_at state w o).endpoints ≡ (closed_at state (writer_place w) o).endpoints
+writer_closed_at-endpoints state w None = refl
+writer_closed_at-endpoints state w (Some h) = refl
+
+writer_closed-endpoints : (state : State) (w : ℕ) → (writer_closed state w).endpoints ≡ (closed state (writer_place w)).endpoints
+unfolding writer_closed closed
+writer_closed-endpoints state w = writer_closed_at-endpoints state w (named state.endpoints (writer_place w))
+
+writers-none : (state : State) (k w : ℕ) → w < k → named (writers_closed state k).endpoints (writer_place w) ≡ None
+writers-none state zero w below = absurd (omega arith)
+writers-none state (suc k) w below =
+    let mid = writers_closed state k in
+    ap (λ (l : List (Option Endpoint)). named l (writer_place w)) (writer_closed-endpoints mid k)
+    ∙ closed-none mid (writer_place k) (writer_place w) (λ apart. writers-none state k w (lower k w (λ same. apart (ap writer_place same)) below))
+  where
+    lower : (k n : ℕ) → n ≢ k → n < suc k → n < k
+    lower k n apart small = omega arith
+
 -- what is closed stays so
+writers-stay : (state : State) (k n : ℕ) → named state.endpoints n ≡ None → named (writers_closed state k).endpoints n ≡ None
+writers-stay state zero n none = none
+writers-stay state (suc k) n none =
+    let mid = writers_closed state k in
+    ap (λ (l : List (Option Endpoint)). named l n) (writer_closed-endpoints mid k) ∙ closed-none mid (writer_place k) n (λ apart. writers-stay state k n none)
+
 none-stays : (state : State) (k n : ℕ) → named state.endpoints n ≡ None → named (endpoints_closed state k).endpoints n ≡ None
 none-stays state zero n none = none
 none-stays state (suc k) n none = closed-none (endpoints_closed state k) k n (λ apart. none-stays state k n none)
 
 -- so in the end no endpoint is open
-none-open : (state : State) (n : ℕ) → n < 128 → named (endpoints_closed (readers_closed state 64) 64).endpoints n ≡ None
+none-open : (state : State) (n : ℕ) → n < 192 → named (endpoints_closed (writers_closed (readers_closed state 64) 64) 64).endpoints n ≡ None
 none-open state n below =
-    let mid = readers_closed state 64 in
+    let read = readers_closed state 64 in
+    let written = writers_closed read 64 in
     elim (cases_lt n 64) [
-      | inl first ↦ none-below mid 64 n first
-      | inr beyond ↦
-          let at : reader_place (n - 64) ≡ n = omega (arith, beyond) in
-          none-stays mid 64 n (ap (named mid.endpoints) (sym at) ∙ readers-none state 64 (n - 64) (omega (arith, below, beyond)))
+      | inl first ↦ none-below written 64 n first
+      | inr beyond ↦ elim (cases_lt n 128) [
+        | inl low ↦
+            let at : reader_place (n - 64) ≡ n = omega (arith, beyond) in
+            none-stays written 64 n (writers-stay read 64 n (ap (named read.endpoints) (sym at) ∙ readers-none state 64 (n - 64) (omega (arith, low, beyond))))
+        | inr high ↦
+            let at : writer_place (n - 128) ≡ n = omega (arith, high) in
+            none-stays written 64 n (ap (named written.endpoints) (sym at) ∙ writers-none read 64 (n - 128) (omega (arith, below, high)))
+      ]
     ]
 
 -- futures are closed, and endpoints stay
@@ -164,9 +203,11 @@ runs-end : (state : State) (lines : ℕ → List (List ℕ)) → Inv state → R
 unfolding ended all_closed
 runs-end state lines inv =
     let read = readers_closed state 64 in
-    let mid = endpoints_closed read 64 in
+    let written = writers_closed read 64 in
+    let mid = endpoints_closed written 64 in
     let readers = readers-step state lines 64 inv in
-    let first = step-then readers (ends-step read lines 64 readers.inv) in
+    let streams = step-then readers (writers-step read lines 64 readers.inv) in
+    let first = step-then streams (ends-step written lines 64 streams.inv) in
     let last = last-step mid first.inv in
     let all = step-after first last in
     record {
@@ -202,26 +243,26 @@ inv-start : (items : List Item) → Inv (start items)
 unfolding start
 inv-start items =
     record {
-      order = λ e h is. absurd (none-some h (sym (named-replicate 128 e) ∙ is));
-      once = λ t. let none = times-replicate tickets_in t 128 in let no_ = times-replicate ticket_in t 64 in omega arith;
+      order = λ e h is. absurd (none-some h (sym (named-replicate 192 e) ∙ is));
+      once = λ t. let none = times-replicate tickets_in t 192 in let no_ = times-replicate ticket_in t 64 in omega arith;
       waits = λ n f t is ticket. absurd (none-some f (sym (named-replicate 64 n) ∙ is));
       count = refl;
-      names = length-replicate {A = Option Endpoint} 128 None;
-      read = λ e h is above. absurd (none-some h (sym (named-replicate 128 e) ∙ is));
+      names = length-replicate {A = Option Endpoint} 192 None;
+      read = λ e h is above. absurd (none-some h (sym (named-replicate 192 e) ∙ is));
     }
 
 nothing-open : (items : List Item) (t : ℕ) → (times_open t (start items).endpoints ≡ 0) × (tickets_of (start items) ≡ 0)
 unfolding start
-nothing-open items t = (times-replicate tickets_in t 128, refl)
+nothing-open items t = (times-replicate tickets_in t 192, refl)
 
--- what was printed of the endpoints that are closed, and of which no reader was made
+-- what was printed of the endpoints that are closed, and of which no reader or writer was made
 abbrev Printed : List Event → ClosedEndpoint → Type 0
-Printed past c = c.endpoint.was_read ≡ false → Prints past (taken_of c.endpoint) c.lines
+Printed past c = c.endpoint.was_streamed ≡ false → Prints past (taken_of c.endpoint) c.lines
 
 printed-on : (old new : List Event) (xs : List ClosedEndpoint) → Extends old new → All (Printed old) xs → All (Printed new) xs
 printed-on old new xs extends all k d below = λ unread. prints-stay old new _ _ extends (all k d below unread)
 
-closed_as-printed : (past : List Event) (lines : List (List ℕ)) (o : Option Endpoint) → ((h : Endpoint) → o ≡ Some h → h.was_read ≡ false → Prints past (taken_of h) lines) → All (Printed past) (closed_as past lines o)
+closed_as-printed : (past : List Event) (lines : List (List ℕ)) (o : Option Endpoint) → ((h : Endpoint) → o ≡ Some h → h.was_streamed ≡ false → Prints past (taken_of h) lines) → All (Printed past) (closed_as past lines o)
 closed_as-printed past lines None prints = All-nil (Printed past)
 closed_as-printed past lines (Some h) prints = All-cons (Printed past) (record { endpoint = h; past = past; lines = lines }) [] (prints h refl) (All-nil (Printed past))
 
@@ -231,6 +272,7 @@ closed_under-printed state lines e prints = closed_as-printed state.host.kernel.
 closed_by-printed : (state : State) (lines : ℕ → List (List ℕ)) (item : Item) → AllPrint state lines → All (Printed state.host.kernel.past) (closed_by state lines item)
 closed_by-printed state lines (CloseEndpoint e) prints = closed_under-printed state lines (endpoint_place e) prints
 closed_by-printed state lines (CloseReader r) prints = closed_under-printed state lines (reader_place r) prints
+closed_by-printed state lines (CloseWriter w) prints = closed_under-printed state lines (writer_place w) prints
 closed_by-printed state lines item prints = All-nil (Printed state.host.kernel.past)
 
 -- a close leaves what was printed of others
@@ -246,62 +288,71 @@ closed-named : (state : State) (e d : ℕ) (g : Endpoint) → named (closed stat
 unfolding closed
 closed-named state e d g is = closed_at-named state e d g (named state.endpoints e) is
 
-closed-prints : (state : State) (e : ℕ) (lines : ℕ → List (List ℕ)) → Inv state → AllPrint state lines → AllPrint (closed state e) lines
-closed-prints state e lines inv prints d g is unread =
-    prints-stay state.host.kernel.past (closed state e).host.kernel.past (taken_of g) (lines d) (closed-step state e lines inv).goes.past (prints d g (closed-named state e d g is) unread)
+closed-prints : (state next : State) (e : ℕ) (lines : ℕ → List (List ℕ)) → next.endpoints ≡ (closed state e).endpoints → Extends state.host.kernel.past next.host.kernel.past → AllPrint state lines → AllPrint next lines
+closed-prints state next e lines same extends prints d g is unread =
+    let was = closed-named state e d g (sym (ap (λ (l : List (Option Endpoint)). named l d) same) ∙ is) in
+    prints-stay state.host.kernel.past next.host.kernel.past (taken_of g) (lines d) extends (prints d g was unread)
 
-reader_closed-prints : (state : State) (r : ℕ) (lines : ℕ → List (List ℕ)) → Inv state → AllPrint state lines → AllPrint (reader_closed state r) lines
-reader_closed-prints state r lines inv prints d g is unread =
-    let was = closed-named state (reader_place r) d g (sym (ap (λ (l : List (Option Endpoint)). named l d) (reader_closed-endpoints state r)) ∙ is) in
-    prints-stay state.host.kernel.past (reader_closed state r).host.kernel.past (taken_of g) (lines d) (reader_closed-step state r lines inv).goes.past (prints d g was unread)
+-- and one more is closed
+closed-printed : (state next : State) (e : ℕ) (lines : ℕ → List (List ℕ)) (before : List ClosedEndpoint) → Extends state.host.kernel.past next.host.kernel.past → AllPrint state lines → All (Printed state.host.kernel.past) before
+    → All (Printed next.host.kernel.past) (before ++ closed_under state lines e)
+closed-printed state next e lines before extends prints shut =
+    let past = state.host.kernel.past in
+    printed-on past next.host.kernel.past (before ++ closed_under state lines e) extends (All-append (Printed past) before (closed_under state lines e) shut (closed_under-printed state lines e prints))
 
-record ReadersPrint (state : State) (lines : ℕ → List (List ℕ)) (k : ℕ) : Type 0 where
-  open_ : AllPrint (readers_closed state k) lines
-  shut : All (Printed (readers_closed state k).host.kernel.past) (read_at_end state lines k)
+-- what was printed of those that are open, and of those that are closed
+record EndPrints (state : State) (lines : ℕ → List (List ℕ)) (shut : List ClosedEndpoint) : Type 0 where
+  open_ : AllPrint state lines
+  shut_ : All (Printed state.host.kernel.past) shut
 
-readers-print : (state : State) (lines : ℕ → List (List ℕ)) (k : ℕ) → Inv state → AllPrint state lines → ReadersPrint state lines k
-readers-print state lines zero inv prints = record { open_ = prints; shut = All-nil (Printed state.host.kernel.past) }
+prints-same : (state : State) (lines : ℕ → List (List ℕ)) → AllPrint state lines → EndPrints state lines []
+prints-same state lines prints = record { open_ = prints; shut_ = All-nil (Printed state.host.kernel.past) }
+
+prints-then : {state next : State} {lines : ℕ → List (List ℕ)} {before : List ClosedEndpoint} (e : ℕ) → next.endpoints ≡ (closed state e).endpoints → Extends state.host.kernel.past next.host.kernel.past → EndPrints state lines before
+    → EndPrints next lines (before ++ closed_under state lines e)
+prints-then {state} {next} {lines} {before} e same extends p =
+    record {
+      open_ = closed-prints state next e lines same extends p.open_;
+      shut_ = closed-printed state next e lines before extends p.open_ p.shut_;
+    }
+
+readers-print : (state : State) (lines : ℕ → List (List ℕ)) (k : ℕ) → Inv state → AllPrint state lines → EndPrints (readers_closed state k) lines (read_at_end state lines k)
+readers-print state lines zero inv prints = prints-same state lines prints
 readers-print state lines (suc k) inv prints =
-    let before = readers-print state lines k inv prints in
     let mid = readers_closed state k in
-    let now = (readers-step state lines k inv).inv in
-    let extends = (reader_closed-step mid k lines now).goes.past in
-    record {
-      open_ = reader_closed-prints mid k lines now before.open_;
-      shut = printed-on mid.host.kernel.past (reader_closed mid k).host.kernel.past (read_at_end state lines k ++ closed_under mid lines (reader_place k)) extends
-          (All-append (Printed mid.host.kernel.past) (read_at_end state lines k) (closed_under mid lines (reader_place k)) before.shut (closed_under-printed mid lines (reader_place k) before.open_));
-    }
+    prints-then (reader_place k) (reader_closed-endpoints mid k) (reader_closed-step mid k lines (readers-step state lines k inv).inv).goes.past (readers-print state lines k inv prints)
 
-record EndPrints (state : State) (lines : ℕ → List (List ℕ)) (k : ℕ) : Type 0 where
-  open_ : AllPrint (endpoints_closed state k) lines
-  shut : All (Printed (endpoints_closed state k).host.kernel.past) (closed_at_end state lines k)
+writers-print : (state : State) (lines : ℕ → List (List ℕ)) (k : ℕ) → Inv state → AllPrint state lines → EndPrints (writers_closed state k) lines (written_at_end state lines k)
+writers-print state lines zero inv prints = prints-same state lines prints
+writers-print state lines (suc k) inv prints =
+    let mid = writers_closed state k in
+    prints-then (writer_place k) (writer_closed-endpoints mid k) (writer_closed-step mid k lines (writers-step state lines k inv).inv).goes.past (writers-print state lines k inv prints)
 
-ends-print : (state : State) (lines : ℕ → List (List ℕ)) (k : ℕ) → Inv state → AllPrint state lines → EndPrints state lines k
-ends-print state lines zero inv prints = record { open_ = prints; shut = All-nil (Printed state.host.kernel.past) }
+ends-print : (state : State) (lines : ℕ → List (List ℕ)) (k : ℕ) → Inv state → AllPrint state lines → EndPrints (endpoints_closed state k) lines (closed_at_end state lines k)
+ends-print state lines zero inv prints = prints-same state lines prints
 ends-print state lines (suc k) inv prints =
-    let before = ends-print state lines k inv prints in
     let mid = endpoints_closed state k in
-    let now = (ends-step state lines k inv).inv in
-    let extends = (closed-step mid k lines now).goes.past in
-    record {
-      open_ = closed-prints mid k lines now before.open_;
-      shut = printed-on mid.host.kernel.past (closed mid k).host.kernel.past (closed_at_end state lines k ++ closed_under mid lines k) extends
-          (All-append (Printed mid.host.kernel.past) (closed_at_end state lines k) (closed_under mid lines k) before.shut (closed_under-printed mid lines k before.open_));
-    }
+    prints-then k refl (closed-step mid k lines (ends-step state lines k inv).inv).goes.past (ends-print state lines k inv prints)
 
 runs-print : (state : State) (lines : ℕ → List (List ℕ)) (items : List Item) → Inv state → AllPrint state lines → All (Printed (last_host state items).kernel.past) (closed_endpoints_from state lines items)
 unfolding ended all_closed
 runs-print state lines [] inv prints =
     let read = readers_closed state 64 in
-    let mid = endpoints_closed read 64 in
+    let written = writers_closed read 64 in
+    let mid = endpoints_closed written 64 in
     let readers = readers-step state lines 64 inv in
-    let now = readers-print state lines 64 inv prints in
-    let first = ends-step read lines 64 readers.inv in
-    let last = last-step mid first.inv in
+    let writers = writers-step read lines 64 readers.inv in
+    let ends = ends-step written lines 64 writers.inv in
+    let last = last-step mid ends.inv in
+    let first = readers-print state lines 64 inv prints in
+    let second = writers-print read lines 64 readers.inv first.open_ in
+    let third = ends-print written lines 64 writers.inv second.open_ in
     let past = (ended state).kernel.past in
-    All-append (Printed past) (read_at_end state lines 64) (closed_at_end read lines 64)
-    (printed-on read.host.kernel.past past (read_at_end state lines 64) (step-after first last).goes.past now.shut)
-    (printed-on mid.host.kernel.past past (closed_at_end read lines 64) last.goes.past (ends-print read lines 64 readers.inv now.open_).shut)
+    All-append (Printed past) (read_at_end state lines 64 ++ written_at_end read lines 64) (closed_at_end written lines 64)
+    (All-append (Printed past) (read_at_end state lines 64) (written_at_end read lines 64)
+    (printed-on read.host.kernel.past past (read_at_end state lines 64) (step-after (step-then writers ends) last).goes.past first.shut_)
+    (printed-on written.host.kernel.past past (written_at_end read lines 64) (step-after ends last).goes.past second.shut_))
+    (printed-on mid.host.kernel.past past (closed_at_end written lines 64) last.goes.past third.shut_)
 runs-print state lines (item ∷ items) inv prints =
     let a = answer state item in
     let over = answer-step state lines item inv in
@@ -312,7 +363,7 @@ runs-print state lines (item ∷ items) inv prints =
 
 none-print : (items : List Item) (lines : ℕ → List (List ℕ)) → AllPrint (start items) lines
 unfolding start
-none-print items lines e h is unread = absurd (none-some h (sym (named-replicate 128 e) ∙ is))
+none-print items lines e h is unread = absurd (none-some h (sym (named-replicate 192 e) ∙ is))
 
 -- each ticket of the last host stands once
 handles-once : (state : State) (lines : ℕ → List (List ℕ)) (items : List Item) (t : ℕ) → times_open t state.endpoints ≡ 0 → tickets_of state ≡ 0 → Runs state lines items → t < length (last_host state items).tickets → count_by (λ u. u == t) (tickets_of_all (closed_endpoints_from state lines items) ++ control_tickets_from state items) ≡ 1
@@ -325,7 +376,7 @@ handles-once state lines items t none few run within =
     let parts = times-append t (tickets_of_all (closed_endpoints_from state lines items)) (control_tickets_from state items) in
     omega arith
 
-served-one : (last : HostState) (c : ClosedEndpoint) → HasEnds last.tickets → Closes last c → (c.endpoint.was_read ≡ false → c.lines ≡ map (λ t. polled_line (transfer_completion last.kernel.past t)) (take c.endpoint.taken c.endpoint.tickets)) → IsServedInOrder last c
+served-one : (last : HostState) (c : ClosedEndpoint) → HasEnds last.tickets → Closes last c → (c.endpoint.was_streamed ≡ false → c.lines ≡ map (λ t. polled_line (transfer_completion last.kernel.past t)) (take c.endpoint.taken c.endpoint.tickets)) → IsServedInOrder last c
 served-one last c ends closes printed =
     record {
       rising = closes.rising;

@@ -1,5 +1,5 @@
 -- Lines with steps of their own: the steps are lent, a call is made, and the rest of them is applied.
-use Rattle.std.proofs.Common.{◌≡◌, ℕ, ◌≤◌, ◌+◌, List, ◌++◌, length, Option, None, Result, Ok, Err, Bool, String, string_bytes, refl, ap, sym, ◌∙◌, subst}
+use Rattle.std.proofs.Common.{◌≡◌, ℕ, ◌≤◌, ◌+◌, List, ◌++◌, length, Option, Some, None, Result, Ok, Err, Bool, String, string_bytes, refl, ap, sym, ◌∙◌, subst}
 use Rattle.std.specs.Prelude.{OnOk}
 use Rattle.std.specs.declared.alloc.Global.{Global}
 use Rattle.usb_ledger.proofs.DeviceLemmas.{counts-same}
@@ -19,7 +19,7 @@ use Rattle.usb_host.proofs.CallFrames.{keeps-open}
 use Rattle.usb_host.proofs.WaitFrames.{went-rest, rest-steps, rest-spare, line-keeps}
 use Rattle.usb_lines.specs.Calls.{condition_line}
 use Rattle.usb_answers.specs.declared.session.Session.TheInside.{Inside}
-use Rattle.usb_names.specs.Names.{named}
+use Rattle.usb_names.specs.Names.{named, freed, set_name}
 use Rattle.usb_answers.specs.State.{State, Endpoint, with_host}
 use Rattle.usb_answers.specs.Answer.{Answer, barred, if_open}
 use Rattle.usb_answers.specs.Steps.{lent, then_rested, stepped_all}
@@ -32,7 +32,7 @@ use Rattle.usb_answers.specs.OpenCalls.{CallKeeps, CallAnswers, with_called}
 use Rattle.usb_answers.proofs.Answering.{told-answered, answered-none, answered-some, none_kept, host_is}
 use Rattle.usb_host.proofs.ClaimFrames.{goes-trans}
 use Rattle.usb_answers.proofs.Called.{KeepsSession, represents-host, sound-host, sound-put, open_at}
-use Rattle.usb_answers.proofs.OpenPlaces.{taken-map}
+use Rattle.usb_answers.proofs.OpenPlaces.{taken-endpoint}
 use Rattle.usb_answers.proofs.NamedKeys.{OpensNone, none-goes, none-then}
 use Rattle.usb_answers.proofs.TakenOut.{made_with, PutBack, places-made, named-made, none_made, made-put, made-called}
 
@@ -69,13 +69,25 @@ none-lent host now steps line =
     none-then host.endpoints now.endpoints (host_rest now).endpoints (none-goes host.endpoints now.endpoints line.endpoints)
     (none-goes now.endpoints (host_rest now).endpoints (went-rest now).line.endpoints)
 
--- an endpoint was called between
+-- what stands at a place was called between
+pub sound-lent_at : (i : Inside) (steps : List KernelStep) (at now last : HostState) (after : List (Option EndpointState)) (p : ℕ) (x y : EndpointState) → IsSound (made_of i) → at ≡ record i.host { steps = steps } → named (made_of i).endpoints p ≡ Some x → after ≡ set_name (freed (made_of i).endpoints p) p y → CallKeeps at now x y → last ≡ host_rest now → IsSound (record (made_of i) { host = last; endpoints = after })
+sound-lent_at i steps at now last after p x y sound is was put keeps rest =
+    let k = subst (λ (h : HostState). CallKeeps h now x y) is keeps in
+    subst (λ (h : HostState). IsSound (record (made_of i) { host = h; endpoints = after })) (sym rest)
+    (sound-put (made_of i) (host_rest now) after p x y sound was put
+    (keeps-lent i.host now steps k.past k.line) (stands-rested now y k.stands) k.key k.maximum (others-lent i.host now steps x.key k.others) (none-lent i.host now steps k.line))
+
+-- an endpoint was
 pub sound-lent : (i : Inside) (steps : List KernelStep) (at now last : HostState) (after : List (Option AnyEndpoint)) (e : ℕ) (x y : AnyEndpoint) → IsSound (made_of i) → at ≡ record i.host { steps = steps } → PutBack i.endpoints.items after e x y → CallKeeps at now (state_of x) (state_of y) → last ≡ host_rest now → IsSound (made_with i last after)
 sound-lent i steps at now last after e x y sound is back keeps rest =
-    let k = subst (λ (h : HostState). CallKeeps h now (state_of x) (state_of y)) is keeps in
-    subst (λ (h : HostState). IsSound (made_with i h after)) (sym rest)
-    (sound-put (made_of i) (host_rest now) (endpoints_with after i.readers.items) (endpoint_place e) (state_of x) (state_of y) sound (taken-map i.endpoints.items i.readers.items e x (places-made i sound) back.was) (made-put i after e x y sound back)
-    (keeps-lent i.host now steps k.past k.line) (stands-rested now (state_of y) k.stands) k.key k.maximum (others-lent i.host now steps (state_of x).key k.others) (none-lent i.host now steps k.line))
+    sound-lent_at i steps at now last (endpoints_with after i.readers.items i.writers.items) (endpoint_place e) (state_of x) (state_of y) sound is
+    (taken-endpoint i.endpoints.items i.readers.items i.writers.items (places-made i sound) e x back.was) (made-put i after e x y sound back) keeps rest
+
+-- the session to which the steps are lent
+pub represents-lent : (i : Inside) (S : SessionState) (steps : List KernelStep) (at : HostState) → made_of i ≡ S → at ≡ record i.host { steps = steps } → (state : State) → Represents S state → Represents (record S { host = at }) (lent state steps)
+represents-lent i S steps at view is state r =
+    let host : at ≡ record S.host { steps = steps } = is ∙ ap (λ (v : SessionState). record v.host { steps = steps }) view in
+    subst (λ (h : HostState). Represents (record S { host = at }) (with_host state h)) (host ∙ ap (λ (h : HostState). record h { steps = steps }) (host_is S state r)) (represents-host S state at r)
 
 -- its answer, and then the rest of the steps
 pub rested-answered : (s : SessionState) (now : HostState) (before after : List ℕ) (a : Answer) → s.host ≡ now → Answered s before after a → Answered (record s { host = host_rest now }) before after (then_rested a)
@@ -95,9 +107,7 @@ answers-lent i S steps at now last after n e x y before text (Ok done) call soun
     let p = endpoint_place n in
     let was = named-made i S n x sound view back.was in
     let o = open_at S state p (state_of x) r was in
-    let host : at ≡ record S.host { steps = steps } = is ∙ ap (λ (v : SessionState). record v.host { steps = steps }) view in
-    let lends : Represents (record S { host = at }) (lent state steps) =
-    subst (λ (h : HostState). Represents (record S { host = at }) (with_host state h)) (host ∙ ap (λ (h : HostState). record h { steps = steps }) (host_is S state r)) (represents-host S state at r) in
+    let lends = represents-lent i S steps at view is state r in
     let called : Answered (with_called S p now (state_of y)) b t (call (lent state steps) p o.entry) = answers (record S { host = at }) (lent state steps) p o.entry lends refl was o.is in
     subst (λ m. Answered (made_with i last after) b t (if_open (named state.endpoints (endpoint_place m)) (λ h. then_rested (call (lent state steps) (endpoint_place m) h)) (barred (stepped_all state steps)))) same
     (answered-some (made_with i last after) b t (named state.endpoints p) o.entry (λ h. then_rested (call (lent state steps) p h)) (barred (stepped_all state steps)) o.is

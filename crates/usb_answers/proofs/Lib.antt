@@ -1,6 +1,7 @@
 pub mod AccountLemmas
 pub mod Answering
 pub mod Called
+pub mod CallLeads
 pub mod CloseCode
 pub mod ControlLines
 pub mod CountedNames
@@ -52,11 +53,24 @@ pub mod TakeLemmas
 pub mod TakenOut
 pub mod TimesLemmas
 pub mod WaitCode
+pub mod WriterDoes
 mod WorkedOutput
 pub mod TreeAnswers
 pub mod TreeLines
-pub mod FramedLines
+pub mod OtherLines
+pub mod StreamPlaces
+pub mod WritersLeave
 pub mod FramedReaders
 pub mod FramedEnds
 pub mod FramedBehind
 pub mod FramedScripts
+pub mod WriterCalled
+pub mod WriterCode
+pub mod Moves
+pub mod WriterMoves
+pub mod WriterCloses
+pub mod WriterLines
+pub mod ReadersLeave
+pub mod WrittenWriters
+pub mod WrittenBehind
+pub mod WrittenLaw

@@ -1,22 +1,25 @@
--- Endpoints and readers of the code, and their places in a session.
+-- Endpoints, readers and writers of the code, and their places in a session.
 use Rattle.std.proofs.Common.{◌≡◌, ℕ, ◌<◌, ◌≤◌, ◌+◌, arith, List, ◌++◌, length, length-append, map, Option, Some, Bool, true, false, refl, ap, sym, ◌∙◌, slice_get}
 use Rattle.std.specs.Prelude.{nat_lt, if◌then◌else◌}
 use Rattle.std.specs.Option.{option_map}
 use Rattle.std.proofs.lemmas.Bool.Decides.{nat_tests}
 use Rattle.std.proofs.lemmas.List.{length-map}
-use Rattle.std.proofs.lemmas.Option.{slice_get_past}
+use Rattle.std.proofs.lemmas.Option.{slice_get_past, slice_get_within}
 use Rattle.usb_endpoint.specs.declared.any_endpoint.AnyEndpoint.{AnyEndpoint}
 use Rattle.usb_endpoint.specs.AnyEndpoints.{state_of}
 use Rattle.usb_io.specs.declared.any_reader.AnyReader.{AnyReader}
+use Rattle.usb_writes.specs.declared.any_writer.AnyWriter.{AnyWriter}
 use Rattle.usb_names.specs.Names.{named, flat, is_free, is_free_place, change_at, freed, nothing, set_name, something}
-use Rattle.usb_names.proofs.NameLemmas.{slice_get-left, change-left, change-beyond, named-map, named-right, length-freed, is_free-map, is_free-right, map-freed, freed-right, map-set, set-right}
+use Rattle.usb_names.proofs.NameLemmas.{place_of, slice_get-left, slice_get-right, change-left, change-right, change-beyond, named-map, length-freed, is_free-map, map-freed, map-set}
 use Rattle.usb_answers.specs.ReaderAt.{endpoint_place, reader_place}
-use Rattle.usb_answers.specs.SessionFacts.{endpoint_of, endpoints_with}
+use Rattle.usb_answers.specs.WriterAt.{writer_place}
+use Rattle.usb_answers.specs.SessionFacts.{endpoint_of, writer_endpoint, endpoints_with}
 
--- there are 64 names of endpoints, and of readers
-pub record HasPlaces {X Y : Type 0} (es : List X) (rs : List Y) : Type 0 where
+-- there are 64 names of endpoints, of readers and of writers
+pub record HasPlaces {X Y Z : Type 0} (es : List X) (rs : List Y) (ws : List Z) : Type 0 where
   pub endpoints : length es ≡ 64
   pub readers : length rs ≡ 64
+  pub writers : length ws ≡ 64
 
 below-64 : (e : ℕ) → nat_lt e 64 ≡ true → e < 64
 below-64 e is = grind (arith, nat_tests)
@@ -28,105 +31,160 @@ beyond-64 e is = grind (arith, nat_tests)
 pub own_place : (e : ℕ) → e < 64 → endpoint_place e ≡ e
 own_place e below = by (nat_lt e 64) refl
   where
-    by : (b : Bool) → nat_lt e 64 ≡ b → (if b then e else 64 + e) ≡ e
+    by : (b : Bool) → nat_lt e 64 ≡ b → (if b then e else 128 + e) ≡ e
     by true is = refl
     by false is = let beyond = beyond-64 e is in absurd (omega (arith, beyond, below))
 
--- at its place stands what is open under it
-slice_get-place : {X : Type 0} (es rs : List X) (e : ℕ) → HasPlaces es rs → slice_get (es ++ rs) (endpoint_place e) ≡ slice_get es e
-slice_get-place es rs e places = by (nat_lt e 64) refl
+-- what is open under a name of a list is open under one of its numbers
+pub within-64 : {X : Type 0} (xs : List (Option X)) (n : ℕ) (x : X) → length xs ≡ 64 → named xs n ≡ Some x → n < 64
+within-64 xs n x size is = let within = slice_get_within xs n (Some x) (place_of xs n x is) in omega (arith, within, size)
+
+-- the place at which what is open under the name n of 64 names stands, where those stand among others: it is read there, and
+-- changed there
+pub record IsPlace {X : Type 0} (whole : List X → List X) (n p : ℕ) : Type 0 where
+  pub read : (names : List X) → length names ≡ 64 → slice_get (whole names) p ≡ slice_get names n
+  pub change : (f : X → X) (names : List X) → length names ≡ 64 → change_at f (whole names) p ≡ whole (change_at f names n)
+
+-- that of an endpoint
+place-endpoint : {X : Type 0} (rs ws : List X) (e : ℕ) → length rs ≡ 64 → length ws ≡ 64 → IsPlace (λ names. names ++ (rs ++ ws)) e (endpoint_place e)
+place-endpoint {X} rs ws e readers writers = by (nat_lt e 64) refl
   where
-    by : (b : Bool) → nat_lt e 64 ≡ b → slice_get (es ++ rs) (if b then e else 64 + e) ≡ slice_get es e
-    by true is = let below = below-64 e is in slice_get-left es rs e (omega (arith, below, places.endpoints))
-    by false is =
-        let beyond = beyond-64 e is in
-        slice_get_past (es ++ rs) (64 + e) (omega (arith, beyond, length-append es rs, places.endpoints, places.readers))
-        ∙ sym (slice_get_past es e (omega (arith, beyond, places.endpoints)))
+    past : (names : List X) → length names ≡ 64 → 64 ≤ e → length (names ++ (rs ++ ws)) ≤ 128 + e
+    past names size beyond = let all = length-append names (rs ++ ws) in let both = length-append rs ws in omega (arith, beyond, all, both, readers, writers, size)
 
-change-place : {X : Type 0} (f : X → X) (es rs : List X) (e : ℕ) → HasPlaces es rs → change_at f (es ++ rs) (endpoint_place e) ≡ change_at f es e ++ rs
-change-place f es rs e places = by (nat_lt e 64) refl
-  where
-    by : (b : Bool) → nat_lt e 64 ≡ b → change_at f (es ++ rs) (if b then e else 64 + e) ≡ change_at f es e ++ rs
-    by true is = let below = below-64 e is in change-left f es rs e (omega (arith, below, places.endpoints))
-    by false is =
-        let beyond = beyond-64 e is in
-        change-beyond f (es ++ rs) (64 + e) (omega (arith, beyond, length-append es rs, places.endpoints, places.readers))
-        ∙ sym (ap (λ l. l ++ rs) (change-beyond f es e (omega (arith, beyond, places.endpoints))))
+    by : (b : Bool) → nat_lt e 64 ≡ b → IsPlace (λ names. names ++ (rs ++ ws)) e (if b then e else 128 + e)
+    by true is = let below = below-64 e is in record {
+      read = λ names size. slice_get-left names (rs ++ ws) e (omega (arith, below, size));
+      change = λ f names size. change-left f names (rs ++ ws) e (omega (arith, below, size));
+    }
+    by false is = let beyond = beyond-64 e is in record {
+      read = λ names size. slice_get_past (names ++ (rs ++ ws)) (128 + e) (past names size beyond) ∙ sym (slice_get_past names e (omega (arith, beyond, size)));
+      change = λ f names size.
+          change-beyond f (names ++ (rs ++ ws)) (128 + e) (past names size beyond)
+          ∙ sym (ap (λ l. l ++ (rs ++ ws)) (change-beyond f names e (omega (arith, beyond, size))));
+    }
 
-named-place : {X : Type 0} (es rs : List (Option X)) (e : ℕ) → HasPlaces es rs → named (es ++ rs) (endpoint_place e) ≡ named es e
-unfolding named
-named-place es rs e places = ap flat (slice_get-place es rs e places)
+-- of a reader's
+place-reader : {X : Type 0} (es ws : List X) (r : ℕ) → length es ≡ 64 → r < 64 → IsPlace (λ names. es ++ (names ++ ws)) r (reader_place r)
+place-reader es ws r endpoints below =
+    let place : reader_place r ≡ length es + r = omega (arith, endpoints) in
+    record {
+      read = λ names size. slice_get-right es (names ++ ws) r (reader_place r) place ∙ slice_get-left names ws r (omega (arith, below, size));
+      change = λ f names size. change-right f es (names ++ ws) r (reader_place r) place ∙ ap (λ l. es ++ l) (change-left f names ws r (omega (arith, below, size)));
+    }
 
-is_free-place : {X : Type 0} (es rs : List (Option X)) (e : ℕ) → HasPlaces es rs → is_free (es ++ rs) (endpoint_place e) ≡ is_free es e
-unfolding is_free
-is_free-place es rs e places = ap is_free_place (slice_get-place es rs e places)
+-- and of a writer's
+place-writer : {X : Type 0} (es rs : List X) (w : ℕ) → length es ≡ 64 → length rs ≡ 64 → IsPlace (λ names. es ++ (rs ++ names)) w (writer_place w)
+place-writer es rs w endpoints readers =
+    let place : writer_place w ≡ length es + (64 + w) = omega (arith, endpoints) in
+    let behind : 64 + w ≡ length rs + w = omega (arith, readers) in
+    record {
+      read = λ names size. slice_get-right es (rs ++ names) (64 + w) (writer_place w) place ∙ slice_get-right rs names w (64 + w) behind;
+      change = λ f names size. change-right f es (rs ++ names) (64 + w) (writer_place w) place ∙ ap (λ l. es ++ l) (change-right f rs names w (64 + w) behind);
+    }
 
-freed-place : {X : Type 0} (es rs : List (Option X)) (e : ℕ) → HasPlaces es rs → freed (es ++ rs) (endpoint_place e) ≡ freed es e ++ rs
-unfolding freed
-freed-place es rs e places = change-place nothing es rs e places
+-- what is open under the name, and under the place
+module _ {A X : Type 0} (v : A → X) (whole : List (Option X) → List (Option X)) (n p : ℕ) (at : IsPlace whole n p) (xs : List (Option A)) (size : length xs ≡ 64) where
+  seen : length (map (option_map v) xs) ≡ 64
+  seen = length-map xs (option_map v) ∙ size
 
-set-place : {X : Type 0} (es rs : List (Option X)) (e : ℕ) (x : X) → HasPlaces es rs → set_name (es ++ rs) (endpoint_place e) x ≡ set_name es e x ++ rs
-unfolding set_name
-set-place es rs e x places = change-place (something x) es rs e places
+  named-place : named (whole (map (option_map v) xs)) p ≡ option_map v (named xs n)
+  unfolding named
+  named-place = ap flat (at.read (map (option_map v) xs) seen) ∙ named-map v xs n
 
--- the endpoints and the readers of the code
-module _ (es : List (Option AnyEndpoint)) (rs : List (Option AnyReader)) (places : HasPlaces es rs) where
-  seen : HasPlaces (map (option_map state_of) es) (map (option_map endpoint_of) rs)
-  seen = record { endpoints = length-map es (option_map state_of) ∙ places.endpoints; readers = length-map rs (option_map endpoint_of) ∙ places.readers }
+  free-place : is_free (whole (map (option_map v) xs)) p ≡ is_free xs n
+  unfolding is_free
+  free-place = ap is_free_place (at.read (map (option_map v) xs) seen) ∙ is_free-map v xs n
 
-  pub named-endpoint : (e : ℕ) → named (endpoints_with es rs) (endpoint_place e) ≡ option_map state_of (named es e)
-  named-endpoint e = named-place (map (option_map state_of) es) (map (option_map endpoint_of) rs) e seen ∙ named-map state_of es e
+  freed-place : whole (map (option_map v) (freed xs n)) ≡ freed (whole (map (option_map v) xs)) p
+  unfolding freed
+  freed-place = ap whole (map-freed v xs n) ∙ sym (at.change nothing (map (option_map v) xs) seen)
 
-  pub free-endpoint : (e : ℕ) → is_free (endpoints_with es rs) (endpoint_place e) ≡ is_free es e
-  free-endpoint e = is_free-place (map (option_map state_of) es) (map (option_map endpoint_of) rs) e seen ∙ is_free-map state_of es e
+  set-place : (x : A) → whole (map (option_map v) (set_name xs n x)) ≡ set_name (whole (map (option_map v) xs)) p (v x)
+  unfolding set_name
+  set-place x = ap whole (map-set v xs n x) ∙ sym (at.change (something (v x)) (map (option_map v) xs) seen)
 
-  pub freed-endpoint : (e : ℕ) → endpoints_with (freed es e) rs ≡ freed (endpoints_with es rs) (endpoint_place e)
-  freed-endpoint e =
-      ap (λ l. l ++ map (option_map endpoint_of) rs) (map-freed state_of es e) ∙ sym (freed-place (map (option_map state_of) es) (map (option_map endpoint_of) rs) e seen)
+-- it is taken out there, and put back
+put-place : {A X : Type 0} (v : A → X) (whole : List (Option X) → List (Option X)) (n p : ℕ) (at : IsPlace whole n p) (xs after : List (Option A)) (y : A) → length xs ≡ 64 → after ≡ set_name (freed xs n) n y → whole (map (option_map v) after) ≡ set_name (freed (whole (map (option_map v) xs)) p) p (v y)
+put-place v whole n p at xs after y size put =
+    ap (λ l. whole (map (option_map v) l)) put ∙ set-place v whole n p at (freed xs n) (length-freed xs n ∙ size) y
+    ∙ ap (λ l. set_name l p (v y)) (freed-place v whole n p at xs size)
 
-  pub set-endpoint : (e : ℕ) (x : AnyEndpoint) → endpoints_with (set_name es e x) rs ≡ set_name (endpoints_with es rs) (endpoint_place e) (state_of x)
-  set-endpoint e x =
-      ap (λ l. l ++ map (option_map endpoint_of) rs) (map-set state_of es e x) ∙ sym (set-place (map (option_map state_of) es) (map (option_map endpoint_of) rs) e (state_of x) seen)
+-- the endpoints, the readers and the writers of the code
+module _ (es : List (Option AnyEndpoint)) (rs : List (Option AnyReader)) (ws : List (Option AnyWriter)) (places : HasPlaces es rs ws) where
+  at-endpoint : (e : ℕ) → IsPlace (λ names. names ++ (map (option_map endpoint_of) rs ++ map (option_map writer_endpoint) ws)) e (endpoint_place e)
+  at-endpoint e =
+      place-endpoint (map (option_map endpoint_of) rs) (map (option_map writer_endpoint) ws) e (length-map rs (option_map endpoint_of) ∙ places.readers) (length-map ws (option_map writer_endpoint) ∙ places.writers)
 
-  behind : (r : ℕ) → reader_place r ≡ length (map (option_map state_of) es) + r
-  behind r = ap (λ n. n + r) (sym seen.endpoints)
+  pub named-endpoint : (e : ℕ) → named (endpoints_with es rs ws) (endpoint_place e) ≡ option_map state_of (named es e)
+  named-endpoint e = named-place state_of _ e (endpoint_place e) (at-endpoint e) es places.endpoints
 
-  pub named-reader : (r : ℕ) → named (endpoints_with es rs) (reader_place r) ≡ option_map endpoint_of (named rs r)
-  named-reader r = named-right (map (option_map state_of) es) (map (option_map endpoint_of) rs) r (reader_place r) (behind r) ∙ named-map endpoint_of rs r
+  pub free-endpoint : (e : ℕ) → is_free (endpoints_with es rs ws) (endpoint_place e) ≡ is_free es e
+  free-endpoint e = free-place state_of _ e (endpoint_place e) (at-endpoint e) es places.endpoints
 
-  pub free-reader : (r : ℕ) → is_free (endpoints_with es rs) (reader_place r) ≡ is_free rs r
-  free-reader r = is_free-right (map (option_map state_of) es) (map (option_map endpoint_of) rs) r (reader_place r) (behind r) ∙ is_free-map endpoint_of rs r
+  pub freed-endpoint : (e : ℕ) → endpoints_with (freed es e) rs ws ≡ freed (endpoints_with es rs ws) (endpoint_place e)
+  freed-endpoint e = freed-place state_of _ e (endpoint_place e) (at-endpoint e) es places.endpoints
 
-  pub freed-reader : (r : ℕ) → endpoints_with es (freed rs r) ≡ freed (endpoints_with es rs) (reader_place r)
-  freed-reader r =
-      ap (λ l. map (option_map state_of) es ++ l) (map-freed endpoint_of rs r)
-      ∙ sym (freed-right (map (option_map state_of) es) (map (option_map endpoint_of) rs) r (reader_place r) (behind r))
+  pub set-endpoint : (e : ℕ) (x : AnyEndpoint) → endpoints_with (set_name es e x) rs ws ≡ set_name (endpoints_with es rs ws) (endpoint_place e) (state_of x)
+  set-endpoint e x = set-place state_of _ e (endpoint_place e) (at-endpoint e) es places.endpoints x
 
-  pub set-reader : (r : ℕ) (x : AnyReader) → endpoints_with es (set_name rs r x) ≡ set_name (endpoints_with es rs) (reader_place r) (endpoint_of x)
-  set-reader r x =
-      ap (λ l. map (option_map state_of) es ++ l) (map-set endpoint_of rs r x)
-      ∙ sym (set-right (map (option_map state_of) es) (map (option_map endpoint_of) rs) r (reader_place r) (endpoint_of x) (behind r))
+  -- an endpoint is taken out and put back
+  pub taken-endpoint : (e : ℕ) (x : AnyEndpoint) → named es e ≡ Some x → named (endpoints_with es rs ws) (endpoint_place e) ≡ Some (state_of x)
+  taken-endpoint e x is = named-endpoint e ∙ ap (option_map state_of) is
 
--- the endpoints of a session as their calls see them, of which one is taken out and put back
-pub taken-map : (es : List (Option AnyEndpoint)) (rs : List (Option AnyReader)) (e : ℕ) (x : AnyEndpoint) → HasPlaces es rs → named es e ≡ Some x → named (endpoints_with es rs) (endpoint_place e) ≡ Some (state_of x)
-taken-map es rs e x places is = named-endpoint es rs places e ∙ ap (option_map state_of) is
+  pub freed-endpoint_after : (e : ℕ) (after : List (Option AnyEndpoint)) → after ≡ freed es e → endpoints_with after rs ws ≡ freed (endpoints_with es rs ws) (endpoint_place e)
+  freed-endpoint_after e after rest = ap (λ l. endpoints_with l rs ws) rest ∙ freed-endpoint e
 
-pub freed-map : (es after : List (Option AnyEndpoint)) (rs : List (Option AnyReader)) (e : ℕ) → HasPlaces es rs → after ≡ freed es e → endpoints_with after rs ≡ freed (endpoints_with es rs) (endpoint_place e)
-freed-map es after rs e places rest = ap (λ l. endpoints_with l rs) rest ∙ freed-endpoint es rs places e
+  pub put-endpoint : (e : ℕ) (after : List (Option AnyEndpoint)) (y : AnyEndpoint) → after ≡ set_name (freed es e) e y → endpoints_with after rs ws ≡ set_name (freed (endpoints_with es rs ws) (endpoint_place e)) (endpoint_place e) (state_of y)
+  put-endpoint e after y put = put-place state_of _ e (endpoint_place e) (at-endpoint e) es after y places.endpoints put
 
-pub put-map : (es after : List (Option AnyEndpoint)) (rs : List (Option AnyReader)) (e : ℕ) (y : AnyEndpoint) → HasPlaces es rs → after ≡ set_name (freed es e) e y → endpoints_with after rs ≡ set_name (freed (endpoints_with es rs) (endpoint_place e)) (endpoint_place e) (state_of y)
-put-map es after rs e y places put =
-    ap (λ l. endpoints_with l rs) put ∙ set-endpoint (freed es e) rs (record { endpoints = length-freed es e ∙ places.endpoints; readers = places.readers }) e y
-    ∙ ap (λ l. set_name l (endpoint_place e) (state_of y)) (freed-endpoint es rs places e)
+  -- a reader, whose name has one of the 64 numbers
+  at-reader : (r : ℕ) → r < 64 → IsPlace (λ names. map (option_map state_of) es ++ (names ++ map (option_map writer_endpoint) ws)) r (reader_place r)
+  at-reader r below = place-reader (map (option_map state_of) es) (map (option_map writer_endpoint) ws) r (length-map es (option_map state_of) ∙ places.endpoints) below
 
--- and those of readers
-pub taken-reader : (es : List (Option AnyEndpoint)) (rs : List (Option AnyReader)) (r : ℕ) (x : AnyReader) → HasPlaces es rs → named rs r ≡ Some x → named (endpoints_with es rs) (reader_place r) ≡ Some (endpoint_of x)
-taken-reader es rs r x places is = named-reader es rs places r ∙ ap (option_map endpoint_of) is
+  pub named-reader : (r : ℕ) → r < 64 → named (endpoints_with es rs ws) (reader_place r) ≡ option_map endpoint_of (named rs r)
+  named-reader r below = named-place endpoint_of _ r (reader_place r) (at-reader r below) rs places.readers
 
-pub freed-reader_map : (es : List (Option AnyEndpoint)) (rs after : List (Option AnyReader)) (r : ℕ) → HasPlaces es rs → after ≡ freed rs r → endpoints_with es after ≡ freed (endpoints_with es rs) (reader_place r)
-freed-reader_map es rs after r places rest = ap (endpoints_with es) rest ∙ freed-reader es rs places r
+  pub free-reader : (r : ℕ) → r < 64 → is_free (endpoints_with es rs ws) (reader_place r) ≡ is_free rs r
+  free-reader r below = free-place endpoint_of _ r (reader_place r) (at-reader r below) rs places.readers
 
-pub put-reader_map : (es : List (Option AnyEndpoint)) (rs after : List (Option AnyReader)) (r : ℕ) (y : AnyReader) → HasPlaces es rs → after ≡ set_name (freed rs r) r y → endpoints_with es after ≡ set_name (freed (endpoints_with es rs) (reader_place r)) (reader_place r) (endpoint_of y)
-put-reader_map es rs after r y places put =
-    ap (endpoints_with es) put ∙ set-reader es (freed rs r) (record { endpoints = places.endpoints; readers = length-freed rs r ∙ places.readers }) r y
-    ∙ ap (λ l. set_name l (reader_place r) (endpoint_of y)) (freed-reader es rs places r)
+  pub freed-reader : (r : ℕ) → r < 64 → endpoints_with es (freed rs r) ws ≡ freed (endpoints_with es rs ws) (reader_place r)
+  freed-reader r below = freed-place endpoint_of _ r (reader_place r) (at-reader r below) rs places.readers
+
+  pub set-reader : (r : ℕ) (x : AnyReader) → r < 64 → endpoints_with es (set_name rs r x) ws ≡ set_name (endpoints_with es rs ws) (reader_place r) (endpoint_of x)
+  set-reader r x below = set-place endpoint_of _ r (reader_place r) (at-reader r below) rs places.readers x
+
+  pub taken-reader : (r : ℕ) (x : AnyReader) → named rs r ≡ Some x → named (endpoints_with es rs ws) (reader_place r) ≡ Some (endpoint_of x)
+  taken-reader r x is = named-reader r (within-64 rs r x places.readers is) ∙ ap (option_map endpoint_of) is
+
+  pub freed-reader_after : (r : ℕ) (after : List (Option AnyReader)) → r < 64 → after ≡ freed rs r → endpoints_with es after ws ≡ freed (endpoints_with es rs ws) (reader_place r)
+  freed-reader_after r after below rest = ap (λ l. endpoints_with es l ws) rest ∙ freed-reader r below
+
+  pub put-reader : (r : ℕ) (after : List (Option AnyReader)) (y : AnyReader) → r < 64 → after ≡ set_name (freed rs r) r y → endpoints_with es after ws ≡ set_name (freed (endpoints_with es rs ws) (reader_place r)) (reader_place r) (endpoint_of y)
+  put-reader r after y below put = put-place endpoint_of _ r (reader_place r) (at-reader r below) rs after y places.readers put
+
+  -- a writer
+  at-writer : (w : ℕ) → IsPlace (λ names. map (option_map state_of) es ++ (map (option_map endpoint_of) rs ++ names)) w (writer_place w)
+  at-writer w =
+      place-writer (map (option_map state_of) es) (map (option_map endpoint_of) rs) w (length-map es (option_map state_of) ∙ places.endpoints) (length-map rs (option_map endpoint_of) ∙ places.readers)
+
+  pub named-writer : (w : ℕ) → named (endpoints_with es rs ws) (writer_place w) ≡ option_map writer_endpoint (named ws w)
+  named-writer w = named-place writer_endpoint _ w (writer_place w) (at-writer w) ws places.writers
+
+  pub free-writer : (w : ℕ) → is_free (endpoints_with es rs ws) (writer_place w) ≡ is_free ws w
+  free-writer w = free-place writer_endpoint _ w (writer_place w) (at-writer w) ws places.writers
+
+  pub freed-writer : (w : ℕ) → endpoints_with es rs (freed ws w) ≡ freed (endpoints_with es rs ws) (writer_place w)
+  freed-writer w = freed-place writer_endpoint _ w (writer_place w) (at-writer w) ws places.writers
+
+  pub set-writer : (w : ℕ) (x : AnyWriter) → endpoints_with es rs (set_name ws w x) ≡ set_name (endpoints_with es rs ws) (writer_place w) (writer_endpoint x)
+  set-writer w x = set-place writer_endpoint _ w (writer_place w) (at-writer w) ws places.writers x
+
+  pub taken-writer : (w : ℕ) (x : AnyWriter) → named ws w ≡ Some x → named (endpoints_with es rs ws) (writer_place w) ≡ Some (writer_endpoint x)
+  taken-writer w x is = named-writer w ∙ ap (option_map writer_endpoint) is
+
+  pub freed-writer_after : (w : ℕ) (after : List (Option AnyWriter)) → after ≡ freed ws w → endpoints_with es rs after ≡ freed (endpoints_with es rs ws) (writer_place w)
+  freed-writer_after w after rest = ap (endpoints_with es rs) rest ∙ freed-writer w
+
+  pub put-writer : (w : ℕ) (after : List (Option AnyWriter)) (y : AnyWriter) → after ≡ set_name (freed ws w) w y → endpoints_with es rs after ≡ set_name (freed (endpoints_with es rs ws) (writer_place w)) (writer_place w) (writer_endpoint y)
+  put-writer w after y put = put-place writer_endpoint _ w (writer_place w) (at-writer w) ws after y places.writers put

@@ -16,7 +16,7 @@ use Rattle.usb_lines.specs.Completions.{done_line, polled_line}
 use Rattle.usb_names.specs.Names.{named}
 use Rattle.usb_answers.specs.State.{State, Endpoint}
 use Rattle.usb_answers.specs.Answer.{Answer}
-use Rattle.usb_answers.specs.Served.{taken_under, was_read_under, lines_behind}
+use Rattle.usb_answers.specs.Served.{taken_under, was_streamed_under, lines_behind}
 
 -- the line of a ticket's completion
 abbrev pub line_in : List Event → ℕ → List ℕ
@@ -73,20 +73,20 @@ abbrev pub taken_in : Option Endpoint → List ℕ
 taken_in None = []
 taken_in (Some h) = taken_of h
 
--- of what is open under a name now, and of which no reader was made, an answer took no ticket more; or it took one, and printed its completion
+-- of what is open under a name now, and of which no reader or writer was made, an answer took no ticket more; or it took one, and printed its completion
 pub data Takes (state : State) (a : Answer) (e : ℕ) (g : Endpoint) : Type 0 where
-  none : was_read_under state e ≡ false → g.taken ≡ taken_under state e → taken_of g ≡ taken_in (named state.endpoints e) → Takes state a e g
-  next : (t : ℕ) (c : Completion) → was_read_under state e ≡ false → g.taken ≡ suc (taken_under state e) → taken_of g ≡ taken_in (named state.endpoints e) ++ t ∷ [] → transfer_completion a.state.host.kernel.past t ≡ Some c → a.line ≡ done_line c → Takes state a e g
+  none : was_streamed_under state e ≡ false → g.taken ≡ taken_under state e → taken_of g ≡ taken_in (named state.endpoints e) → Takes state a e g
+  next : (t : ℕ) (c : Completion) → was_streamed_under state e ≡ false → g.taken ≡ suc (taken_under state e) → taken_of g ≡ taken_in (named state.endpoints e) ++ t ∷ [] → transfer_completion a.state.host.kernel.past t ≡ Some c → a.line ≡ done_line c → Takes state a e g
 
--- the lines of all that is open, and of which no reader was made
+-- the lines of all that is open, and of which no reader or writer was made
 abbrev pub AllPrint : State → (ℕ → List (List ℕ)) → Type 0
-AllPrint state lines = (e : ℕ) (h : Endpoint) → named state.endpoints e ≡ Some h → h.was_read ≡ false → Prints state.host.kernel.past (taken_of h) (lines e)
+AllPrint state lines = (e : ℕ) (h : Endpoint) → named state.endpoints e ≡ Some h → h.was_streamed ≡ false → Prints state.host.kernel.past (taken_of h) (lines e)
 
 pub count-under : (state : State) (e : ℕ) (h : Endpoint) → named state.endpoints e ≡ Some h → taken_under state e ≡ h.taken
 count-under state e h is = ap (λ (o : Option Endpoint). option_map_or (λ (x : Endpoint). x.taken) o 0) is
 
-pub read-under : (state : State) (e : ℕ) (h : Endpoint) → named state.endpoints e ≡ Some h → was_read_under state e ≡ h.was_read
-read-under state e h is = ap (λ (o : Option Endpoint). option_map_or (λ (x : Endpoint). x.was_read) o false) is
+pub read-under : (state : State) (e : ℕ) (h : Endpoint) → named state.endpoints e ≡ Some h → was_streamed_under state e ≡ h.was_streamed
+read-under state e h is = ap (λ (o : Option Endpoint). option_map_or (λ (x : Endpoint). x.was_streamed) o false) is
 
 prints-none : (past : List Event) → Prints past [] []
 prints-none past = record { came = All-nil (HasCame past); are = refl }
@@ -104,7 +104,7 @@ not_more n m same = grind (arith, nat_tests)
 pub one_more : (n m : ℕ) → m ≡ suc n → nat_lt n m ≡ true
 one_more n m more = grind (arith, nat_tests)
 
-one-prints : (state : State) (a : Answer) (lines : ℕ → List (List ℕ)) (e : ℕ) (g : Endpoint) → Extends state.host.kernel.past a.state.host.kernel.past → named a.state.endpoints e ≡ Some g → g.was_read ≡ false → AllPrint state lines → Takes state a e g → Prints a.state.host.kernel.past (taken_of g) (lines_behind state a lines e)
+one-prints : (state : State) (a : Answer) (lines : ℕ → List (List ℕ)) (e : ℕ) (g : Endpoint) → Extends state.host.kernel.past a.state.host.kernel.past → named a.state.endpoints e ≡ Some g → g.was_streamed ≡ false → AllPrint state lines → Takes state a e g → Prints a.state.host.kernel.past (taken_of g) (lines_behind state a lines e)
 one-prints state a lines e g extends is unread all takes = by takes
   where
     past : List Event
@@ -116,13 +116,13 @@ one-prints state a lines e g extends is unread all takes = by takes
     printed : List (List ℕ)
     printed = if is_none (named state.endpoints e) then [] else lines e
 
-    before : was_read_under state e ≡ false → Prints past was printed
+    before : was_streamed_under state e ≡ false → Prints past was printed
     before none_read = prints-stay state.host.kernel.past past was printed extends (prints-in state.host.kernel.past (lines e) (named state.endpoints e) (λ h at. all e h at (sym (read-under state e h at) ∙ none_read)))
 
     now : taken_under a.state e ≡ g.taken
     now = count-under a.state e g is
 
-    unread_now : was_read_under a.state e ≡ false
+    unread_now : was_streamed_under a.state e ≡ false
     unread_now = read-under a.state e g is ∙ unread
 
     by : Takes state a e g → Prints past (taken_of g) (lines_behind state a lines e)
@@ -134,5 +134,5 @@ one-prints state a lines e g extends is unread all takes = by takes
         prints-are past (was ++ t ∷ []) (taken_of g) (printed ++ a.line ∷ []) (lines_behind state a lines e) same (rw (more, unread_now) refl)
         (prints-more past was t printed a.line (record { completion = c; is = came }) (line ∙ ap polled_line (sym came)) (before none_read))
 
-pub all-print : (state : State) (a : Answer) (lines : ℕ → List (List ℕ)) → Extends state.host.kernel.past a.state.host.kernel.past → AllPrint state lines → ((e : ℕ) (g : Endpoint) → named a.state.endpoints e ≡ Some g → g.was_read ≡ false → Takes state a e g) → AllPrint a.state (lines_behind state a lines)
+pub all-print : (state : State) (a : Answer) (lines : ℕ → List (List ℕ)) → Extends state.host.kernel.past a.state.host.kernel.past → AllPrint state lines → ((e : ℕ) (g : Endpoint) → named a.state.endpoints e ≡ Some g → g.was_streamed ≡ false → Takes state a e g) → AllPrint a.state (lines_behind state a lines)
 all-print state a lines extends all takes e g is unread = one-prints state a lines e g extends is unread all (takes e g is unread)

@@ -3,7 +3,6 @@ use Rattle.std.proofs.Common.{◌≡◌, ℕ, ◌≤◌, List, ◌++◌, length,
 use Rattle.std.specs.Prelude.{OnOk}
 use Rattle.std.specs.Option.{option_map}
 use Rattle.std.specs.declared.alloc.Global.{Global}
-use Rattle.std.proofs.lemmas.List.{length-map}
 use Rattle.std.proofs.lemmas.Option.{none-some, same_Some}
 use Rattle.usb_simulated.specs.declared.step.KernelStep.{KernelStep}
 use Rattle.usb_endpoint.specs.EndpointState.{EndpointState}
@@ -16,10 +15,10 @@ use Rattle.usb_io.specs.AnyReaders.{reader_of}
 use Rattle.usb_io.specs.Readers.{ReaderState}
 use Rattle.usb_lines.specs.Calls.{condition_line}
 use Rattle.usb_answers.specs.declared.session.Session.TheInside.{Inside}
-use Rattle.usb_names.specs.Names.{named, change_named}
-use Rattle.usb_names.proofs.NameLemmas.{named-map, length-freed, length-set_name, map-change_named, put-changed}
+use Rattle.usb_names.specs.Names.{named, freed, set_name, change_named}
+use Rattle.usb_names.proofs.NameLemmas.{named-map, put-changed}
 use Rattle.usb_answers.specs.BareReaders.{BareReader, bare_of, reader_with}
-use Rattle.usb_answers.specs.State.{State, Reader, with_host}
+use Rattle.usb_answers.specs.State.{State, Reader}
 use Rattle.usb_answers.specs.ReaderAt.{ReaderAt, reader_place, reader_at}
 use Rattle.usb_answers.specs.Answer.{Answer, barred, if_open}
 use Rattle.usb_answers.specs.Steps.{lent, then_rested, stepped_all}
@@ -29,59 +28,48 @@ use Rattle.usb_answers.specs.Relation.{Represents}
 use Rattle.usb_answers.specs.Answered.{Answered, Answers}
 use Rattle.usb_answers.specs.OpenCalls.{CallKeeps}
 use Rattle.usb_answers.specs.ReaderCalls.{HasReader, ReaderAnswers, with_reader_called}
-use Rattle.usb_answers.proofs.Answering.{told-answered, answered-none, answered-some, host_is}
-use Rattle.usb_answers.proofs.Called.{OpenAt, open_at, sound-put, sound-readers, represents-host}
-use Rattle.usb_answers.proofs.NamedKeys.{none-goes}
-use Rattle.usb_answers.proofs.OpenPlaces.{taken-reader, put-reader_map}
-use Rattle.usb_answers.proofs.TakenOut.{PutBack, places-made, keeps-line}
-use Rattle.usb_answers.proofs.Lent.{keeps-lent, stands-rested, others-lent, none-lent, rested-answered, sound-stepped, steps-represent}
+use Rattle.usb_answers.proofs.Answering.{told-answered, answered-none, answered-some}
+use Rattle.usb_answers.proofs.Called.{OpenAt, open_at, sound-readers}
+use Rattle.usb_answers.proofs.OpenPlaces.{within-64, taken-reader, put-reader}
+use Rattle.usb_answers.proofs.TakenOut.{PutBack, map-put, map-length, places-made, sound-called_at}
+use Rattle.usb_answers.proofs.Lent.{sound-lent_at, represents-lent, rested-answered, sound-stepped, steps-represent}
 
 -- a session with another host and other readers
 abbrev pub made_reading : Inside → HostState → List (Option AnyReader) → SessionState
-made_reading i host readers = session_made i.tree i.watch host i.devices.items i.interfaces.items i.endpoints.items readers i.futures.items
+made_reading i host readers = session_made i.tree i.watch host i.devices.items i.interfaces.items i.endpoints.items readers i.writers.items i.futures.items
 
 -- a reader that is open under a name stands in the host with its endpoint
 pub stands-reader : (i : Inside) (r : ℕ) (x : AnyReader) (taken : Option AnyReader) → IsSound (made_of i) → taken ≡ named i.readers.items r → taken ≡ Some x → Stands (bus_of i.host) (endpoint_of x)
-stands-reader i r x taken sound was is = sound.endpoints_stand (reader_place r) (endpoint_of x) (taken-reader i.endpoints.items i.readers.items r x (places-made i sound) (sym was ∙ is))
+stands-reader i r x taken sound was is = sound.endpoints_stand (reader_place r) (endpoint_of x) (taken-reader i.endpoints.items i.readers.items i.writers.items (places-made i sound) r x (sym was ∙ is))
 
 -- the session has it under this name
 pub reader-made : (i : Inside) (S : SessionState) (r : ℕ) (x : AnyReader) → IsSound (made_of i) → made_of i ≡ S → named i.readers.items r ≡ Some x → named S.endpoints (reader_place r) ≡ Some (endpoint_of x)
-reader-made i S r x sound view was = sym (ap (λ (v : SessionState). named v.endpoints (reader_place r)) view) ∙ taken-reader i.endpoints.items i.readers.items r x (places-made i sound) was
+reader-made i S r x sound view was = sym (ap (λ (v : SessionState). named v.endpoints (reader_place r)) view) ∙ taken-reader i.endpoints.items i.readers.items i.writers.items (places-made i sound) r x was
 
 pub bare-made : (i : Inside) (S : SessionState) (r : ℕ) (x : AnyReader) → made_of i ≡ S → named i.readers.items r ≡ Some x → named S.readers r ≡ Some (bare_reader_of x)
 bare-made i S r x view was = sym (ap (λ (v : SessionState). named v.readers r) view) ∙ named-map bare_reader_of i.readers.items r ∙ ap (option_map bare_reader_of) was
 
--- the readers as they are put back
-length-put : (rs after : List (Option AnyReader)) (r : ℕ) (x y : AnyReader) → PutBack rs after r x y → length after ≡ length rs
-length-put rs after r x y back = ap (λ (l : List (Option AnyReader)). length l) back.put ∙ length-set_name _ r y ∙ length-freed rs r
-
-pub bare-put : (rs after : List (Option AnyReader)) (r : ℕ) (x y : AnyReader) → PutBack rs after r x y → map (option_map bare_reader_of) after ≡ change_named (λ b. bare_reader_of y) (map (option_map bare_reader_of) rs) r
-bare-put rs after r x y back =
-    ap (map (option_map bare_reader_of)) (back.put ∙ put-changed (λ z. y) rs r x y back.was refl)
-    ∙ map-change_named bare_reader_of (λ z. y) (λ b. bare_reader_of y) rs r (λ z is. refl)
-
-bare-length : (i : Inside) (after : List (Option AnyReader)) (r : ℕ) (x y : AnyReader) → PutBack i.readers.items after r x y → length (map (option_map bare_reader_of) after) ≡ length (made_of i).readers
-bare-length i after r x y back =
-    length-map after (option_map bare_reader_of) ∙ length-put i.readers.items after r x y back ∙ sym (length-map i.readers.items (option_map bare_reader_of))
+-- it stands at its place again
+reader-put : (i : Inside) (after : List (Option AnyReader)) (r : ℕ) (x y : AnyReader) → IsSound (made_of i) → PutBack i.readers.items after r x y → endpoints_with i.endpoints.items after i.writers.items ≡ set_name (freed (made_of i).endpoints (reader_place r)) (reader_place r) (endpoint_of y)
+reader-put i after r x y sound back =
+    let places = places-made i sound in
+    put-reader i.endpoints.items i.readers.items i.writers.items places r after y (within-64 i.readers.items r x places.readers back.was) back.put
 
 -- a session is sound once a reader was called and put back
 pub sound-reader_called : (i : Inside) (now : HostState) (after : List (Option AnyReader)) (r : ℕ) (x y : AnyReader) → IsSound (made_of i) → PutBack i.readers.items after r x y → CallKeeps i.host now (endpoint_of x) (endpoint_of y) → IsSound (made_reading i now after)
 sound-reader_called i now after r x y sound back keeps =
-    let places = places-made i sound in
-    sound-readers (record (made_of i) { host = now; endpoints = endpoints_with i.endpoints.items after }) (map (option_map bare_reader_of) after)
-    (sound-put (made_of i) now (endpoints_with i.endpoints.items after) (reader_place r) (endpoint_of x) (endpoint_of y) sound (taken-reader i.endpoints.items i.readers.items r x places back.was)
-    (put-reader_map i.endpoints.items i.readers.items after r y places back.put) (keeps-line i.host now sound.idle keeps.past keeps.line) keeps.stands keeps.key keeps.maximum keeps.others
-    (none-goes i.host.endpoints now.endpoints keeps.line.endpoints))
-    (bare-length i after r x y back)
+    let endpoints = endpoints_with i.endpoints.items after i.writers.items in
+    sound-readers (record (made_of i) { host = now; endpoints = endpoints }) (map (option_map bare_reader_of) after)
+    (sound-called_at i now endpoints (reader_place r) (endpoint_of x) (endpoint_of y) sound (reader-made i (made_of i) r x sound refl back.was) (reader-put i after r x y sound back) keeps)
+    (map-length bare_reader_of i.readers.items after r x y back)
 
 -- and is the one that the call left
 pub made-reader_called : (i : Inside) (S : SessionState) (now : HostState) (after : List (Option AnyReader)) (r : ℕ) (x y : AnyReader) → IsSound (made_of i) → made_of i ≡ S → PutBack i.readers.items after r x y → with_reader_called S r now (reader_of y) ≡ made_reading i now after
 made-reader_called i S now after r x y sound view back =
-    let places = places-made i sound in
     ap (λ (v : SessionState). with_reader_called v r now (reader_of y)) (sym view)
     ∙ ap (λ (l : List (Option EndpointState)). record (made_of i) { host = now; endpoints = l; readers = change_named (λ b. bare_reader_of y) (made_of i).readers r })
-    (sym (put-reader_map i.endpoints.items i.readers.items after r y places back.put ∙ put-changed (λ z. endpoint_of y) (made_of i).endpoints (reader_place r) (endpoint_of x) (endpoint_of y) (taken-reader i.endpoints.items i.readers.items r x places back.was) refl))
-    ∙ ap (λ (l : List (Option BareReader)). record (made_of i) { host = now; endpoints = endpoints_with i.endpoints.items after; readers = l }) (sym (bare-put i.readers.items after r x y back))
+    (sym (reader-put i after r x y sound back ∙ put-changed (λ z. endpoint_of y) (made_of i).endpoints (reader_place r) (endpoint_of x) (endpoint_of y) (reader-made i (made_of i) r x sound refl back.was) refl))
+    ∙ ap (λ (l : List (Option BareReader)). record (made_of i) { host = now; endpoints = endpoints_with i.endpoints.items after i.writers.items; readers = l }) (sym (map-put bare_reader_of i.readers.items after r x y back))
 
 -- the reader of a state under a name at which the session has one
 pub record ReaderOpen (s : SessionState) (state : State) (r : ℕ) (x : ReaderState) : Type 0 where
@@ -151,14 +139,10 @@ answers-no_reader i S mid n r before text (Ok done) call view none rest same pri
 -- a line with steps of its own: the steps are lent, a reader is called, and the rest of them is applied
 pub sound-reader_lent : (i : Inside) (steps : List KernelStep) (at now last : HostState) (after : List (Option AnyReader)) (r : ℕ) (x y : AnyReader) → IsSound (made_of i) → at ≡ record i.host { steps = steps } → PutBack i.readers.items after r x y → CallKeeps at now (endpoint_of x) (endpoint_of y) → last ≡ host_rest now → IsSound (made_reading i last after)
 sound-reader_lent i steps at now last after r x y sound is back keeps rest =
-    let places = places-made i sound in
-    let k = subst (λ (h : HostState). CallKeeps h now (endpoint_of x) (endpoint_of y)) is keeps in
-    subst (λ (h : HostState). IsSound (made_reading i h after)) (sym rest)
-    (sound-readers (record (made_of i) { host = host_rest now; endpoints = endpoints_with i.endpoints.items after }) (map (option_map bare_reader_of) after)
-    (sound-put (made_of i) (host_rest now) (endpoints_with i.endpoints.items after) (reader_place r) (endpoint_of x) (endpoint_of y) sound (taken-reader i.endpoints.items i.readers.items r x places back.was)
-    (put-reader_map i.endpoints.items i.readers.items after r y places back.put) (keeps-lent i.host now steps k.past k.line) (stands-rested now (endpoint_of y) k.stands) k.key k.maximum
-    (others-lent i.host now steps (endpoint_of x).key k.others) (none-lent i.host now steps k.line))
-    (bare-length i after r x y back))
+    let endpoints = endpoints_with i.endpoints.items after i.writers.items in
+    sound-readers (record (made_of i) { host = last; endpoints = endpoints }) (map (option_map bare_reader_of) after)
+    (sound-lent_at i steps at now last endpoints (reader_place r) (endpoint_of x) (endpoint_of y) sound is (reader-made i (made_of i) r x sound refl back.was) (reader-put i after r x y sound back) keeps rest)
+    (map-length bare_reader_of i.readers.items after r x y back)
 
 pub answers-reader_lent : {E : Type 0} (i : Inside) (S : SessionState) (steps : List KernelStep) (at now last : HostState) (after : List (Option AnyReader)) (n r : ℕ) (x y : AnyReader) (before text : String Global) (result : Result Unit E) (call : State → ℕ → ReaderAt → Answer) → IsSound (made_of i) → made_of i ≡ S → at ≡ record i.host { steps = steps } → PutBack i.readers.items after n x y → n ≡ r → ReaderAnswers at now (reader_of x) (reader_of y) before text result call → last ≡ host_rest now → Answers S (made_reading i last after) before text result (λ state. if_open (reader_at state r) (λ x. then_rested (call (lent state steps) r x)) (barred (stepped_all state steps)))
 answers-reader_lent i S steps at now last after n r x y before text (Err error) call sound view is back same answers rest = tt
@@ -167,9 +151,7 @@ answers-reader_lent i S steps at now last after n r x y before text (Ok done) ca
     let b = string_bytes before in
     let t = string_bytes text in
     let o = has_reader S state n (reader_of x) stands (reader-made i S n x sound view back.was) (bare-made i S n x view back.was) in
-    let host : at ≡ record S.host { steps = steps } = is ∙ ap (λ (v : SessionState). record v.host { steps = steps }) view in
-    let lends : Represents (record S { host = at }) (lent state steps) =
-    subst (λ (h : HostState). Represents (record S { host = at }) (with_host state h)) (host ∙ ap (λ (h : HostState). record h { steps = steps }) (host_is S state stands)) (represents-host S state at stands) in
+    let lends = represents-lent i S steps at view is state stands in
     let called : Answered (with_reader_called S n now (reader_of y)) b t (call (lent state steps) n o.at) =
     answers (record S { host = at }) (lent state steps) n o.at lends refl (record { endpoint = o.has.endpoint; reader = o.has.reader; is = o.has.is; same = o.has.same }) in
     subst (λ m. Answered (made_reading i last after) b t (if_open (reader_at state m) (λ x. then_rested (call (lent state steps) m x)) (barred (stepped_all state steps)))) same

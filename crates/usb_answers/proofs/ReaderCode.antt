@@ -34,7 +34,8 @@ use Rattle.usb_names.proofs.NameLemmas.{map-change_named, put-changed, put-back}
 use Rattle.usb_answers.specs.State.{State, Endpoint, Reader, kept, pending}
 use Rattle.usb_answers.specs.BareReaders.{BareReader, bare_of}
 use Rattle.usb_answers.specs.ReaderAt.{ReaderAt, reader_place, reader_at, state_of_reader}
-use Rattle.usb_answers.specs.Readers.{read_endpoint, called, bars_need, with_count, num_on, with_timeout, timeout_on, with_none, cancel_reader_on}
+use Rattle.usb_answers.specs.Readers.{called_endpoint, called, with_count, num_on, with_timeout, timeout_on, with_none, cancel_reader_on}
+use Rattle.usb_writer_lines.specs.Needs.{bars_need}
 use Rattle.usb_answers.specs.Reads.{need_of, bars_read, consumed_with, is_until_short, bytes_given, given_line, polled_given_line, read_on, poll_read_on, fill_on, poll_fill_on, read_off, consume_on, consume_end_on}
 use Rattle.usb_answers.specs.Answer.{Answer, told, barred, ok_answer}
 use Rattle.usb_answers.specs.Answered.{Answered}
@@ -152,12 +153,12 @@ reader-off old now x y before text (Ok done) line call same printed comes =
     (represents-off s state r now x y at c.change rep has same c.bare) printed)
 
 -- the tickets of an endpoint behind a call of its reader, of which the last are pending
-drop-last : (front last : List ℕ) → drop (length (front ++ last) - length last) (front ++ last) ≡ last
+pub drop-last : (front last : List ℕ) → drop (length (front ++ last) - length last) (front ++ last) ≡ last
 drop-last front last =
     let both = length-append front last in
     drop_at front last (length (front ++ last) - length last) (omega (arith, both))
 
-tickets-read : (h : Endpoint) (pending_was taken now numbers : List ℕ) → pending h ≡ pending_was → pending_was ++ numbers ≡ taken ++ now → h.tickets ++ numbers ≡ (take h.taken h.tickets ++ taken) ++ now
+pub tickets-read : (h : Endpoint) (pending_was taken now numbers : List ℕ) → pending h ≡ pending_was → pending_was ++ numbers ≡ taken ++ now → h.tickets ++ numbers ≡ (take h.taken h.tickets ++ taken) ++ now
 tickets-read h pending_was taken now numbers was came =
     ap (λ (l : List ℕ). l ++ numbers) (sym (take-append-drop h.taken h.tickets))
     ∙ append_assoc (take h.taken h.tickets) (pending h) numbers
@@ -166,7 +167,7 @@ tickets-read h pending_was taken now numbers was came =
     ∙ sym (append_assoc (take h.taken h.tickets) taken now)
 
 kept-read : (old new : HostState) (x y : ReaderState) (h : Endpoint) → TicketsCame (reading old x) (reading new y) → y.endpoint ≡ record x.endpoint { pending = y.endpoint.pending } → kept h ≡ x.endpoint
-    → kept (read_endpoint (length (tickets old.kernel.past)) (length (tickets new.kernel.past)) y.endpoint.pending h) ≡ y.endpoint
+    → kept (called_endpoint (length (tickets old.kernel.past)) (length (tickets new.kernel.past)) y.endpoint.pending h) ≡ y.endpoint
 kept-read old new x y h came rest same =
     let numbers = numbers_from (length (tickets old.kernel.past)) (length (tickets new.kernel.past) - length (tickets old.kernel.past)) in
     let last = y.endpoint.pending in
@@ -187,10 +188,10 @@ module _ (old new : HostState) (x y : ReaderState) (came : TicketsCame (reading 
   represents-called s state r at consumed rep host_was has =
       let host : old ≡ state.host = sym host_was ∙ host_is s state rep in
       let count = length (tickets state.host.kernel.past) in
-      let kept_is : kept (read_endpoint count (length (tickets new.kernel.past)) y.endpoint.pending at.endpoint) ≡ y.endpoint =
-      ap (λ (h : HostState). kept (read_endpoint (length (tickets h.kernel.past)) (length (tickets new.kernel.past)) y.endpoint.pending at.endpoint)) (sym host)
+      let kept_is : kept (called_endpoint count (length (tickets new.kernel.past)) y.endpoint.pending at.endpoint) ≡ y.endpoint =
+      ap (λ (h : HostState). kept (called_endpoint (length (tickets h.kernel.past)) (length (tickets new.kernel.past)) y.endpoint.pending at.endpoint)) (sym host)
       ∙ kept-read old new x y at.endpoint came rest (ap (λ (z : ReaderState). z.endpoint) has.same) in
-      represents-reader s state r new x y at (read_endpoint count (length (tickets new.kernel.past)) y.endpoint.pending) (λ z. record { bare = bare_of y; consumed = consumed }) rep has kept_is (omega arith) refl
+      represents-reader s state r new x y at (called_endpoint count (length (tickets new.kernel.past)) y.endpoint.pending) (λ z. record { bare = bare_of y; consumed = consumed }) rep has kept_is (omega arith) refl
 
   -- a call goes on to what it left
   pub reader-called : {E : Type 0} (before text : String Global) (result : Result Unit E) (line : List ℕ) (call : State → ℕ → ReaderAt → Answer) → OnOk result (string_bytes text ≡ string_bytes before ++ line)

@@ -24,11 +24,13 @@ use Rattle.usb_script.specs.declared.item.Item.{Item}
 use Rattle.usb_script.specs.ItemKinds.{place_count}
 use Rattle.usb_names.specs.Names.{named}
 use Rattle.usb_io.specs.declared.any_reader.AnyReader.{AnyReader}
+use Rattle.usb_writes.specs.declared.any_writer.AnyWriter.{AnyWriter}
 use Rattle.usb_answers.specs.BareReaders.{BareReader}
-use Rattle.usb_answers.specs.State.{Endpoint, Reader, kept}
+use Rattle.usb_answers.specs.BareWriters.{BareWriter}
+use Rattle.usb_answers.specs.State.{Endpoint, Reader, Writer, kept}
 use Rattle.usb_answers.specs.Output.{devices_of, start}
 use Rattle.usb_answers.specs.SessionState.{SessionState, IsSound}
-use Rattle.usb_answers.specs.SessionFacts.{session_made, endpoint_of, bare_reader_of, endpoints_with}
+use Rattle.usb_answers.specs.SessionFacts.{session_made, endpoint_of, bare_reader_of, writer_endpoint, bare_writer_of, endpoints_with}
 use Rattle.usb_answers.specs.Relation.{Represents, session_of}
 use Rattle.usb_names.proofs.NameLemmas.{named-replicate, map-replicate}
 
@@ -49,7 +51,7 @@ nobody {X} n e x is = none-some x (sym (named-replicate n e) ∙ is)
 
 -- a session with nothing open
 abbrev pub empty_session : Tree → List UdevPacket → HostState → SessionState
-empty_session t p host = record { host = host; devices = replicate 64 None; interfaces = replicate 64 None; endpoints = replicate 128 None; readers = replicate 64 None; futures = replicate 64 None; tree = t; packets = p }
+empty_session t p host = record { host = host; devices = replicate 64 None; interfaces = replicate 64 None; endpoints = replicate 192 None; readers = replicate 64 None; writers = replicate 64 None; futures = replicate 64 None; tree = t; packets = p }
 
 empty-sound : (t : Tree) (p : List UdevPacket) (host : HostState) → host.steps ≡ [] → host.interfaces ≡ [] → host.devices ≡ [] → host.endpoints ≡ [] → IsSound (empty_session t p host)
 empty-sound t p host idle none nothing closed =
@@ -57,8 +59,9 @@ empty-sound t p host idle none nothing closed =
       idle = idle;
       device_names = length-replicate {A = Option ℕ} 64 None;
       interface_names = length-replicate {A = Option InterfaceState} 64 None;
-      endpoint_names = length-replicate {A = Option EndpointState} 128 None;
+      endpoint_names = length-replicate {A = Option EndpointState} 192 None;
       reader_names = length-replicate {A = Option BareReader} 64 None;
+      writer_names = length-replicate {A = Option BareWriter} 64 None;
       devices_stand = λ d key is. absurd (nobody 64 d key is);
       devices_counted = λ key o at. absurd (none-some o (sym (ap (λ ds. value_at ds key) nothing) ∙ at));
       devices_held = record {
@@ -68,9 +71,9 @@ empty-sound t p host idle none nothing closed =
       };
       interfaces_stand = λ i f is. absurd (nobody 64 i f is);
       interfaces_counted = λ key c at. absurd (none-some c (sym (ap (λ (l : List (Option ClaimedInterface)). value_at l key) none) ∙ at));
-      endpoints_stand = λ e h is. absurd (nobody 128 e h is);
-      endpoints_small = λ e h is. absurd (nobody 128 e h is);
-      endpoints_differ = λ d e g h isg ish apart. absurd (nobody 128 d g isg);
+      endpoints_stand = λ e h is. absurd (nobody 192 e h is);
+      endpoints_small = λ e h is. absurd (nobody 192 e h is);
+      endpoints_differ = λ d e g h isg ish apart. absurd (nobody 192 d g isg);
       keys_named = λ key open_. let no_ : false ≡ true = sym (ap (λ (es : List (Option HostEndpoint)). key_at es key) closed) ∙ open_ in absurd (cc);
       future_names = length-replicate {A = Option FutureState} 64 None;
       futures_wait = λ n f is. absurd (nobody 64 n f is);
@@ -79,18 +82,23 @@ empty-sound t p host idle none nothing closed =
       futures_apart = λ e n h f ish isf. absurd (nobody 64 n f isf);
     }
 
-none-places : (es : List (Option AnyEndpoint)) (rs : List (Option AnyReader)) → es ≡ replicate 64 None → rs ≡ replicate 64 None → endpoints_with es rs ≡ replicate 128 None
-none-places es rs e q =
-    ap (λ (l : List (Option AnyEndpoint)). endpoints_with l rs) e ∙ ap (λ (l : List (Option AnyReader)). endpoints_with (replicate 64 None) l) q
-    ∙ ap (λ (l : List (Option EndpointState)). l ++ map (option_map endpoint_of) (replicate 64 None)) (sym (map-replicate state_of 64))
-    ∙ ap (λ (l : List (Option EndpointState)). replicate 64 None ++ l) (sym (map-replicate endpoint_of 64))
-    ∙ replicate-append-replicate 64 64 None
+none-places : (es : List (Option AnyEndpoint)) (rs : List (Option AnyReader)) (ws : List (Option AnyWriter)) → es ≡ replicate 64 None → rs ≡ replicate 64 None → ws ≡ replicate 64 None → endpoints_with es rs ws ≡ replicate 192 None
+none-places es rs ws e q w =
+    let none_read : map (option_map endpoint_of) rs ≡ replicate 64 None = ap (map (option_map endpoint_of)) q ∙ sym (map-replicate endpoint_of 64) in
+    let none_written : map (option_map writer_endpoint) ws ≡ replicate 64 None = ap (map (option_map writer_endpoint)) w ∙ sym (map-replicate writer_endpoint 64) in
+    let none : map (option_map state_of) es ≡ replicate 64 None = ap (map (option_map state_of)) e ∙ sym (map-replicate state_of 64) in
+    ap (λ (l : List (Option EndpointState)). l ++ (map (option_map endpoint_of) rs ++ map (option_map writer_endpoint) ws)) none
+    ∙ ap (λ (l : List (Option EndpointState)). replicate 64 None ++ (l ++ map (option_map writer_endpoint) ws)) none_read
+    ∙ ap (λ (l : List (Option EndpointState)). replicate 64 None ++ (replicate 64 None ++ l)) none_written
+    ∙ ap (λ (l : List (Option EndpointState)). replicate 64 None ++ l) (replicate-append-replicate 64 64 None)
+    ∙ replicate-append-replicate 64 128 None
 
-made-empty : (t : Tree) (p : List UdevPacket) (host : HostState) (ds : List (Option ℕ)) (is : List (Option InterfaceState)) (es : List (Option AnyEndpoint)) (rs : List (Option AnyReader)) (fs : List (Option FutureState)) → ds ≡ replicate 64 None → is ≡ replicate 64 None → es ≡ replicate 64 None → rs ≡ replicate 64 None → fs ≡ replicate 64 None → session_made t p host ds is es rs fs ≡ empty_session t p host
-made-empty t p host ds is es rs fs d i e q f =
-    ap (λ (l : List (Option ℕ)). session_made t p host l is es rs fs) d ∙ ap (λ (l : List (Option InterfaceState)). session_made t p host (replicate 64 None) l es rs fs) i
-    ∙ ap (λ (l : List (Option EndpointState)). record (empty_session t p host) { endpoints = l; readers = map (option_map bare_reader_of) rs; futures = fs }) (none-places es rs e q)
-    ∙ ap (λ (l : List (Option BareReader)). record (empty_session t p host) { readers = l; futures = fs }) (ap (map (option_map bare_reader_of)) q ∙ sym (map-replicate bare_reader_of 64))
+made-empty : (t : Tree) (p : List UdevPacket) (host : HostState) (ds : List (Option ℕ)) (is : List (Option InterfaceState)) (es : List (Option AnyEndpoint)) (rs : List (Option AnyReader)) (ws : List (Option AnyWriter)) (fs : List (Option FutureState)) → ds ≡ replicate 64 None → is ≡ replicate 64 None → es ≡ replicate 64 None → rs ≡ replicate 64 None → ws ≡ replicate 64 None → fs ≡ replicate 64 None → session_made t p host ds is es rs ws fs ≡ empty_session t p host
+made-empty t p host ds is es rs ws fs d i e q w f =
+    ap (λ (l : List (Option ℕ)). session_made t p host l is es rs ws fs) d ∙ ap (λ (l : List (Option InterfaceState)). session_made t p host (replicate 64 None) l es rs ws fs) i
+    ∙ ap (λ (l : List (Option EndpointState)). record (empty_session t p host) { endpoints = l; readers = map (option_map bare_reader_of) rs; writers = map (option_map bare_writer_of) ws; futures = fs }) (none-places es rs ws e q w)
+    ∙ ap (λ (l : List (Option BareReader)). record (empty_session t p host) { readers = l; writers = map (option_map bare_writer_of) ws; futures = fs }) (ap (map (option_map bare_reader_of)) q ∙ sym (map-replicate bare_reader_of 64))
+    ∙ ap (λ (l : List (Option BareWriter)). record (empty_session t p host) { writers = l; futures = fs }) (ap (map (option_map bare_writer_of)) w ∙ sym (map-replicate bare_writer_of 64))
     ∙ ap (λ (l : List (Option FutureState)). record (empty_session t p host) { futures = l }) f
 
 start-steps : (items : List Item) → (start items).host.steps ≡ []
@@ -109,25 +117,26 @@ start-endpoints : (items : List Item) → (start items).host.endpoints ≡ []
 unfolding start
 start-endpoints items = refl
 
-pub sound-start : (items : List Item) (t : Tree) (p : List UdevPacket) (host : HostState) (ds : List (Option ℕ)) (is : List (Option InterfaceState)) (es : List (Option AnyEndpoint)) (rs : List (Option AnyReader)) (fs : List (Option FutureState)) → host ≡ (start items).host → ds ≡ replicate 64 None → is ≡ replicate 64 None → es ≡ replicate 64 None → rs ≡ replicate 64 None → fs ≡ replicate 64 None → IsSound (session_made t p host ds is es rs fs)
-sound-start items t p host ds is es rs fs start_ d i e q f =
-    subst IsSound (sym (made-empty t p host ds is es rs fs d i e q f)) (empty-sound t p host (ap (λ (h : HostState). h.steps) start_ ∙ start-steps items) (ap (λ (h : HostState). h.interfaces) start_ ∙ start-interfaces items) (ap (λ (h : HostState). h.devices) start_ ∙ start-devices items) (ap (λ (h : HostState). h.endpoints) start_ ∙ start-endpoints items))
+pub sound-start : (items : List Item) (t : Tree) (p : List UdevPacket) (host : HostState) (ds : List (Option ℕ)) (is : List (Option InterfaceState)) (es : List (Option AnyEndpoint)) (rs : List (Option AnyReader)) (ws : List (Option AnyWriter)) (fs : List (Option FutureState)) → host ≡ (start items).host → ds ≡ replicate 64 None → is ≡ replicate 64 None → es ≡ replicate 64 None → rs ≡ replicate 64 None → ws ≡ replicate 64 None → fs ≡ replicate 64 None → IsSound (session_made t p host ds is es rs ws fs)
+sound-start items t p host ds is es rs ws fs start_ d i e q w f =
+    subst IsSound (sym (made-empty t p host ds is es rs ws fs d i e q w f)) (empty-sound t p host (ap (λ (h : HostState). h.steps) start_ ∙ start-steps items) (ap (λ (h : HostState). h.interfaces) start_ ∙ start-interfaces items) (ap (λ (h : HostState). h.devices) start_ ∙ start-devices items) (ap (λ (h : HostState). h.endpoints) start_ ∙ start-endpoints items))
 
 empty-start : (items : List Item) → empty_session (tree_of items) (packets_of items) (start items).host ≡ session_of (start items)
 unfolding start
 empty-start items =
-    ap (λ (l : List (Option EndpointState)). record (empty_session (tree_of items) (packets_of items) (start items).host) { endpoints = l }) (map-replicate kept 128)
-    ∙ ap (λ (l : List (Option BareReader)). record (empty_session (tree_of items) (packets_of items) (start items).host) { endpoints = map (option_map kept) (replicate 128 None); readers = l }) (map-replicate (λ (x : Reader). x.bare) 64)
+    ap (λ (l : List (Option EndpointState)). record (empty_session (tree_of items) (packets_of items) (start items).host) { endpoints = l }) (map-replicate kept 192)
+    ∙ ap (λ (l : List (Option BareReader)). record (empty_session (tree_of items) (packets_of items) (start items).host) { endpoints = map (option_map kept) (replicate 192 None); readers = l }) (map-replicate (λ (x : Reader). x.bare) 64)
+    ∙ ap (λ (l : List (Option BareWriter)). record (empty_session (tree_of items) (packets_of items) (start items).host) { endpoints = map (option_map kept) (replicate 192 None); readers = map (option_map (λ (x : Reader). x.bare)) (replicate 64 None); writers = l }) (map-replicate (λ (x : Writer). x.bare) 64)
 
 few-start : (items : List Item) (e : ℕ) (h : Endpoint) → named (start items).endpoints e ≡ Some h → h.taken ≤ length h.tickets
 unfolding start
-few-start items e h is = absurd (nobody 128 e h is)
+few-start items e h is = absurd (nobody 192 e h is)
 
-pub represents-start : (items : List Item) (t : Tree) (p : List UdevPacket) (host : HostState) (ds : List (Option ℕ)) (is : List (Option InterfaceState)) (es : List (Option AnyEndpoint)) (rs : List (Option AnyReader)) (fs : List (Option FutureState)) → host ≡ (start items).host → ds ≡ replicate 64 None → is ≡ replicate 64 None → es ≡ replicate 64 None → rs ≡ replicate 64 None → fs ≡ replicate 64 None → t ≡ tree_of items → p ≡ packets_of items → Represents (session_made t p host ds is es rs fs) (start items)
-represents-start items t p host ds is es rs fs start_ d i e q f known left =
+pub represents-start : (items : List Item) (t : Tree) (p : List UdevPacket) (host : HostState) (ds : List (Option ℕ)) (is : List (Option InterfaceState)) (es : List (Option AnyEndpoint)) (rs : List (Option AnyReader)) (ws : List (Option AnyWriter)) (fs : List (Option FutureState)) → host ≡ (start items).host → ds ≡ replicate 64 None → is ≡ replicate 64 None → es ≡ replicate 64 None → rs ≡ replicate 64 None → ws ≡ replicate 64 None → fs ≡ replicate 64 None → t ≡ tree_of items → p ≡ packets_of items → Represents (session_made t p host ds is es rs ws fs) (start items)
+represents-start items t p host ds is es rs ws fs start_ d i e q w f known left =
     record {
       is =
-          made-empty t p host ds is es rs fs d i e q f ∙ ap (empty_session t p) start_ ∙ ap (λ s. empty_session s p (start items).host) known
+          made-empty t p host ds is es rs ws fs d i e q w f ∙ ap (empty_session t p) start_ ∙ ap (λ s. empty_session s p (start items).host) known
           ∙ ap (λ l. empty_session (tree_of items) l (start items).host) left ∙ empty-start items;
       few = few-start items;
     }

@@ -33,6 +33,7 @@ sound-device s now after sound steps interfaces bus names stand counted held =
       interface_names = sound.interface_names;
       endpoint_names = sound.endpoint_names;
       reader_names = sound.reader_names;
+      writer_names = sound.writer_names;
       devices_stand = stand;
       devices_counted = counted;
       devices_held = held;

@@ -28,7 +28,9 @@ use Rattle.usb_answers.specs.Submits.{submitted, with_submission}
 use Rattle.usb_answers.specs.Closes.{without_endpoint, closed}
 use Rattle.usb_answers.specs.Futures.{with_future}
 use Rattle.usb_answers.specs.ReaderAt.{reader_place}
+use Rattle.usb_answers.specs.WriterAt.{writer_place}
 use Rattle.usb_answers.specs.Readers.{reader_closed}
+use Rattle.usb_answers.specs.Writers.{writer_closed}
 use Rattle.usb_answers.specs.Ends.{future_closed_under}
 use Rattle.usb_answers.specs.Answers.{answer}
 use Rattle.usb_answers.specs.Accounts.{TookFew}
@@ -38,6 +40,7 @@ use Rattle.usb_answers.proofs.TimesLemmas.{one, times, times-append, among, amon
 use Rattle.usb_answers.proofs.OrderLemmas.{IsHeld, Stays, held-stays, stays-keeps, leaves-is, leaves-held, InOrder, order-few, order-stays, order-keeps, order-fresh, order-push, order-within, order-takes, front-held, front-stands, pending-all, stays-same, left_by, LeavesTickets, goes-keeps, goes-then, goes-taken, goes-left, IsClosed, closed-goes, closed-order, left-stays}
 use Rattle.usb_answers.proofs.Does.{Quiet, Acts, SameTickets, moved, without_future_of, goes, opens, submits, fits, reads, starts, controls, frees, ends, takes, closes, moves, free-still}
 use Rattle.usb_answers.proofs.ReaderDoes.{reader_closed-does}
+use Rattle.usb_answers.proofs.WriterDoes.{writer_closed-does}
 use Rattle.usb_answers.proofs.ControlLines.{future_closed_under-does}
 use Rattle.usb_answers.proofs.EndpointLines.{closed-does}
 use Rattle.usb_answers.proofs.EveryLine.{answer-does}
@@ -48,8 +51,8 @@ pub record Inv (state : State) : Type 0 where
   pub once : (t : ℕ) → times_open t state.endpoints + times_awaited t state.futures ≤ among t (tickets_of state)
   pub waits : (n : ℕ) (f : FutureState) (t : ℕ) → named state.futures n ≡ Some f → f.ticket ≡ Some t → IsHeld state.host t
   pub count : length state.host.tickets ≡ tickets_of state
-  pub names : length state.endpoints ≡ 128
-  pub read : (e : ℕ) (h : Endpoint) → named state.endpoints e ≡ Some h → 64 ≤ e → h.was_read ≡ true
+  pub names : length state.endpoints ≡ 192
+  pub read : (e : ℕ) (h : Endpoint) → named state.endpoints e ≡ Some h → 64 ≤ e → h.was_streamed ≡ true
 
 -- a change of the state, the endpoints that it closes, and the tickets of the control transfers that it hands in
 pub record Step (state next : State) (closed : List ClosedEndpoint) (handed : List ℕ) : Type 0 where
@@ -115,7 +118,7 @@ step-quiet {state} {next} inv quiet =
     }
 
 -- an endpoint is opened
-pub step-open : (state : State) (e : ℕ) (x : Endpoint) → Inv state → is_free state.endpoints e ≡ true → x.tickets ≡ [] → x.taken ≡ 0 → (64 ≤ e → 128 ≤ e) → Step state (record state { endpoints = set_name state.endpoints e x }) [] []
+pub step-open : (state : State) (e : ℕ) (x : Endpoint) → Inv state → is_free state.endpoints e ≡ true → x.tickets ≡ [] → x.taken ≡ 0 → (64 ≤ e → 192 ≤ e) → Step state (record state { endpoints = set_name state.endpoints e x }) [] []
 unfolding set_name
 step-open state e x inv free none zero_ outside =
     let es = set_name state.endpoints e x in
@@ -150,16 +153,16 @@ step-open state e x inv free none zero_ outside =
 changed : (f : Endpoint → Endpoint) (es : List (Option Endpoint)) (e : ℕ) (h g : Endpoint) → named es e ≡ Some h → named (change_named f es e) e ≡ Some g → f h ≡ g
 changed f es e h g here is = same_Some (f h) g (sym (named-change_same f es e ∙ ap (option_map f) here) ∙ is)
 
--- where a reader was made of it one was before
+-- where a reader or a writer was made of it one was before
 abbrev AllRead : List (Option Endpoint) → Type 0
-AllRead es = (e : ℕ) (h : Endpoint) → named es e ≡ Some h → 64 ≤ e → h.was_read ≡ true
+AllRead es = (e : ℕ) (h : Endpoint) → named es e ≡ Some h → 64 ≤ e → h.was_streamed ≡ true
 
-read-changed : (f : Endpoint → Endpoint) (es : List (Option Endpoint)) (e : ℕ) (h : Endpoint) → ((g : Endpoint) → (f g).was_read ≡ g.was_read) → named es e ≡ Some h → AllRead es → AllRead (change_named f es e)
+read-changed : (f : Endpoint → Endpoint) (es : List (Option Endpoint)) (e : ℕ) (h : Endpoint) → ((g : Endpoint) → (f g).was_streamed ≡ g.was_streamed) → named es e ≡ Some h → AllRead es → AllRead (change_named f es e)
 read-changed f es e h same here all d g is above =
     elim (cases_eq d e) [
       | inl at ↦
           let entry : f h ≡ g = changed f es e h g here (ap (named (change_named f es e)) (sym at) ∙ is) in
-          ap (λ (x : Endpoint). x.was_read) (sym entry) ∙ (same h ∙ all d h (ap (named es) at ∙ here) above)
+          ap (λ (x : Endpoint). x.was_streamed) (sym entry) ∙ (same h ∙ all d h (ap (named es) at ∙ here) above)
       | inr apart ↦ all d g (sym (named-change_other f es e d apart) ∙ is) above
     ]
 
@@ -405,7 +408,7 @@ order-same host h g same i =
       rising = subst IsStrictlyIncreasing (sym same.tickets) i.rising;
     }
 
-step-move : (state : State) (from to : ℕ) (h g : Endpoint) → Inv state → named state.endpoints from ≡ Some h → is_free state.endpoints to ≡ true → SameTickets h g → ((64 ≤ from → h.was_read ≡ true) → g.was_read ≡ true) → Step state (moved state from to g) [] []
+step-move : (state : State) (from to : ℕ) (h g : Endpoint) → Inv state → named state.endpoints from ≡ Some h → is_free state.endpoints to ≡ true → SameTickets h g → ((64 ≤ from → h.was_streamed ≡ true) → g.was_streamed ≡ true) → Step state (moved state from to g) [] []
 unfolding set_name freed
 step-move state from to h g inv here free same read =
     let mid = freed state.endpoints from in
@@ -432,7 +435,7 @@ step-move state from to h g inv here free same read =
         count = inv.count;
         names = length-set_name mid to g ∙ (length-freed state.endpoints from ∙ inv.names);
         read = λ d x is above. elim (cases_eq d to) [
-          | inl at ↦ ap (λ (y : Endpoint). y.was_read) (sym (there d x at is)) ∙ read (inv.read from h here)
+          | inl at ↦ ap (λ (y : Endpoint). y.was_streamed) (sym (there d x at is)) ∙ read (inv.read from h here)
           | inr apart ↦ inv.read d x (others d x apart is) above
         ];
       };
@@ -467,6 +470,9 @@ closed-step state e lines inv = acts-step (few-taken state inv) (closed-does sta
 pub future_closed-step : (state : State) (n : ℕ) → Inv state → Step state (future_closed_under state n) [] []
 future_closed-step state n inv = acts-step {few = Unit {0}} tt (future_closed_under-does state n) inv
 
--- and what the end does with readers
+-- and what the end does with readers and writers
 pub reader_closed-step : (state : State) (r : ℕ) (lines : ℕ → List (List ℕ)) → Inv state → Step state (reader_closed state r) (closed_under state lines (reader_place r)) []
 reader_closed-step state r lines inv = acts-step (few-taken state inv) (reader_closed-does state r lines) inv
+
+pub writer_closed-step : (state : State) (w : ℕ) (lines : ℕ → List (List ℕ)) → Inv state → Step state (writer_closed state w) (closed_under state lines (writer_place w)) []
+writer_closed-step state w lines inv = acts-step (few-taken state inv) (writer_closed-does state w lines) inv

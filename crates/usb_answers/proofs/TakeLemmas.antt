@@ -19,7 +19,7 @@ use Rattle.usb_answers.specs.Polls.{one_taken, taken_from}
 use Rattle.usb_answers.specs.Closes.{without_endpoint}
 use Rattle.usb_answers.specs.Futures.{with_future}
 use Rattle.usb_answers.specs.Answers.{answer}
-use Rattle.usb_answers.specs.Served.{ClosedEndpoint, taken_under, was_read_under}
+use Rattle.usb_answers.specs.Served.{ClosedEndpoint, taken_under, was_streamed_under}
 use Rattle.usb_answers.specs.Places.{TakesOne, CompletionsAreTaken}
 use Rattle.usb_names.proofs.NameLemmas.{named_of, free_place, named-change_same, named-change_other, named-freed, named-freed_other, named-set, named-set_other}
 use Rattle.usb_answers.proofs.Does.{Quiet, Acts, moved, without_future_of, says_done, goes, opens, submits, fits, reads, starts, controls, frees, ends, takes, closes, moves, free-still}
@@ -32,11 +32,11 @@ abbrev taken_by : Option Endpoint → ℕ
 taken_by o = option_map_or (λ (h : Endpoint). h.taken) o 0
 
 abbrev read_by : Option Endpoint → Bool
-read_by o = option_map_or (λ (h : Endpoint). h.was_read) o false
+read_by o = option_map_or (λ (h : Endpoint). h.was_streamed) o false
 
--- of what is open under a name no ticket more was taken, and a reader that was made of it was so before
+-- of what is open under a name no ticket more was taken, and a reader or writer that was made of it was so before
 record TakesNone (few : Type 0) (old new : State) (e : ℕ) : Type 0 where
-  read : was_read_under new e ≡ false → was_read_under old e ≡ false
+  read : was_streamed_under new e ≡ false → was_streamed_under old e ≡ false
   count : taken_under new e ≡ taken_under old e
   tickets : few → taken_in (named new.endpoints e) ≡ taken_in (named old.endpoints e)
 
@@ -80,7 +80,7 @@ takes-before : {few : Type 0} {old new : State} {a : Answer} {e : ℕ} {g : Endp
 takes-before few before (none none_read count same) = none (before.read none_read) (count ∙ before.count) (same ∙ before.tickets few)
 takes-before few before (next t c none_read count same came line) = next t c (before.read none_read) (count ∙ ap suc before.count) (same ∙ ap (λ l. l ++ t ∷ []) (before.tickets few)) came line
 
-takes-none : {few : Type 0} (state : State) (a : Answer) (e : ℕ) (g : Endpoint) → few → TakesNone few state a.state e → named a.state.endpoints e ≡ Some g → g.was_read ≡ false → Takes state a e g
+takes-none : {few : Type 0} (state : State) (a : Answer) (e : ℕ) (g : Endpoint) → few → TakesNone few state a.state e → named a.state.endpoints e ≡ Some g → g.was_streamed ≡ false → Takes state a e g
 takes-none state a e g few before is unread = none (before.read (read-under a.state e g is ∙ unread)) (sym (count-under a.state e g is) ∙ before.count) (sym (ap taken_in is) ∙ before.tickets few)
 
 -- a ticket is taken
@@ -89,19 +89,19 @@ take-one n [] t at = absurd (none-some t at)
 take-one zero (x ∷ xs) t at = ap (λ y. y ∷ []) (same_Some x t at)
 take-one (suc n) (x ∷ xs) t at = ap (λ l. x ∷ l) (take-one n xs t at)
 
-takes-next : (state : State) (a : Answer) (e t : ℕ) (h g : Endpoint) (c : Completion) → named state.endpoints e ≡ Some h → slice_get h.tickets h.taken ≡ Some t → transfer_completion state.host.kernel.past t ≡ Some c → a.line ≡ done_line c → Quiet (taken_from state e t) a.state → named a.state.endpoints e ≡ Some g → g.was_read ≡ false → Takes state a e g
+takes-next : (state : State) (a : Answer) (e t : ℕ) (h g : Endpoint) (c : Completion) → named state.endpoints e ≡ Some h → slice_get h.tickets h.taken ≡ Some t → transfer_completion state.host.kernel.past t ≡ Some c → a.line ≡ done_line c → Quiet (taken_from state e t) a.state → named a.state.endpoints e ≡ Some g → g.was_streamed ≡ false → Takes state a e g
 takes-next state a e t h g c here front came line quiet is unread =
     let more : h.taken + 1 ≡ suc h.taken = omega arith in
     let entry : one_taken h ≡ g = same_Some (one_taken h) g (sym (named-change_same one_taken state.endpoints e ∙ ap (option_map one_taken) here) ∙ (sym (ap (λ (l : List (Option Endpoint)). named l e) quiet.endpoints) ∙ is)) in
-    next t c (read-under state e h here ∙ (ap (λ (x : Endpoint). x.was_read) entry ∙ unread)) (ap (λ (x : Endpoint). x.taken) (sym entry) ∙ (more ∙ ap suc (sym (count-under state e h here))))
+    next t c (read-under state e h here ∙ (ap (λ (x : Endpoint). x.was_streamed) entry ∙ unread)) (ap (λ (x : Endpoint). x.taken) (sym entry) ∙ (more ∙ ap suc (sym (count-under state e h here))))
     (ap (λ (x : Endpoint). taken_of x) (sym entry) ∙ (ap (λ n. take n h.tickets) more ∙ (take-one h.taken h.tickets t front ∙ ap (λ l. l ++ t ∷ []) (sym (ap taken_in here)))))
     (transfer-stays state.host.kernel.past a.state.host.kernel.past t c (subst (λ p. Extends p a.state.host.kernel.past) (taken-past state.host t) quiet.keeps.past) came) line
 
--- so it is of the endpoint at the place of a reader
-both-reads : (g : Endpoint) → g.was_read ≡ true → g.was_read ≡ false → ⊥
+-- so it is of the endpoint at the place of a reader or a writer
+both-reads : (g : Endpoint) → g.was_streamed ≡ true → g.was_streamed ≡ false → ⊥
 both-reads g yes_ no_ = let wrong : true ≡ false = sym yes_ ∙ no_ in cc
 
-acts-takes : {few : Type 0} {a : Answer} {state : State} {closed : List ClosedEndpoint} {handed : List ℕ} → few → Inv a.state → Acts few a state closed handed → Inv state → (d : ℕ) (g : Endpoint) → named a.state.endpoints d ≡ Some g → g.was_read ≡ false → Takes state a d g
+acts-takes : {few : Type 0} {a : Answer} {state : State} {closed : List ClosedEndpoint} {handed : List ℕ} → few → Inv a.state → Acts few a state closed handed → Inv state → (d : ℕ) (g : Endpoint) → named a.state.endpoints d ≡ Some g → g.was_streamed ≡ false → Takes state a d g
 acts-takes few last (goes quiet rest) inv d g is unread = takes-before few (none-quiet d quiet) (acts-takes few last rest (step-quiet inv quiet).inv d g is unread)
 acts-takes {state} few last (opens e x free empty zero_ outside rest) inv d g is unread = takes-before few (none-opened state e x free zero_ d) (acts-takes few last rest (step-open state e x inv free empty zero_ outside).inv d g is unread)
 acts-takes {state} few last (submits e b h here within rest) inv d g is unread = takes-before few (none-submitted state e b h here within d) (acts-takes few last rest (step-push state e b h inv here).inv d g is unread)
@@ -136,7 +136,7 @@ acts-takes {a} {state} few last (moves from to h x here free same_tickets read o
     elim (cases_eq d to) [
       | inl same ↦
           let entry : x ≡ g = same_Some x g (sym (named-set mid to x (free-still state.endpoints from to h here free)) ∙ (ap (named (set_name mid to x)) (sym same) ∙ now)) in
-          absurd (both-reads g (ap (λ (y : Endpoint). y.was_read) (sym entry) ∙ read (inv.read from h here)) unread)
+          absurd (both-reads g (ap (λ (y : Endpoint). y.was_streamed) (sym entry) ∙ read (inv.read from h here)) unread)
       | inr apart ↦
           let there = named-set_other mid to d x apart in
           elim (cases_eq d from) [
@@ -145,7 +145,7 @@ acts-takes {a} {state} few last (moves from to h x here free same_tickets read o
           ]
     ]
 
-pub answer-takes : (state : State) (item : Item) → Inv state → (e : ℕ) (g : Endpoint) → named (answer state item).state.endpoints e ≡ Some g → g.was_read ≡ false → Takes state (answer state item) e g
+pub answer-takes : (state : State) (item : Item) → Inv state → (e : ℕ) (g : Endpoint) → named (answer state item).state.endpoints e ≡ Some g → g.was_streamed ≡ false → Takes state (answer state item) e g
 answer-takes state item inv = acts-takes (few-taken state inv) (answer-step state (λ e. []) item inv).inv (answer-does state (λ e. []) item) inv
 
 -- a line with a completion is printed only where a ticket is taken

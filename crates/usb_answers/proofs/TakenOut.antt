@@ -16,34 +16,37 @@ use Rattle.usb_host.specs.HostBus.{bus_of}
 use Rattle.usb_host.specs.HostFrames.{LineGoesOn}
 use Rattle.usb_lines.specs.Calls.{condition_line}
 use Rattle.usb_answers.specs.declared.session.Session.TheInside.{Inside}
-use Rattle.usb_names.specs.Names.{named, freed, set_name, is_free}
+use Rattle.usb_names.specs.Names.{named, change_named, freed, set_name, is_free}
 use Rattle.usb_answers.specs.State.{State, Endpoint}
 use Rattle.usb_answers.specs.Answer.{Answer, barred, if_open}
 use Rattle.usb_answers.specs.SessionState.{SessionState, IsSound}
-use Rattle.usb_answers.specs.SessionFacts.{session_made, made_of, endpoint_of, bare_reader_of, endpoints_with}
+use Rattle.usb_answers.specs.SessionFacts.{session_made, made_of, endpoint_of, bare_reader_of, writer_endpoint, bare_writer_of, endpoints_with}
 use Rattle.usb_answers.specs.ReaderAt.{endpoint_place}
 use Rattle.usb_answers.specs.Answered.{Answered, Answers}
 use Rattle.usb_answers.specs.OpenCalls.{CallKeeps, CallAnswers, with_called}
 use Rattle.usb_answers.proofs.Answering.{told-answered, answered-none, answered-some, none_kept}
-use Rattle.usb_names.proofs.NameLemmas.{freed-none, freed-free, put-changed}
+use Rattle.usb_names.proofs.NameLemmas.{freed-none, freed-free, length-freed, length-set_name, map-change_named, put-changed}
 use Rattle.usb_answers.proofs.Called.{KeepsSession, open_at, sound-put}
-use Rattle.usb_answers.proofs.OpenPlaces.{HasPlaces, named-endpoint, taken-map, put-map}
+use Rattle.usb_answers.proofs.OpenPlaces.{HasPlaces, named-endpoint, taken-endpoint, put-endpoint}
 use Rattle.usb_answers.proofs.NamedKeys.{none-goes}
 
 -- a session with another host and other endpoints
 abbrev pub made_with : Inside → HostState → List (Option AnyEndpoint) → SessionState
-made_with i host endpoints = session_made i.tree i.watch host i.devices.items i.interfaces.items endpoints i.readers.items i.futures.items
+made_with i host endpoints = session_made i.tree i.watch host i.devices.items i.interfaces.items endpoints i.readers.items i.writers.items i.futures.items
 
--- a session has 64 names of endpoints, and of readers
-pub places-made : (i : Inside) → IsSound (made_of i) → HasPlaces i.endpoints.items i.readers.items
+-- a session has 64 names of endpoints, of readers and of writers
+pub places-made : (i : Inside) → IsSound (made_of i) → HasPlaces i.endpoints.items i.readers.items i.writers.items
 places-made i sound =
     let es = map (option_map state_of) i.endpoints.items in
     let rs = map (option_map endpoint_of) i.readers.items in
+    let ws = map (option_map writer_endpoint) i.writers.items in
     let readers : length i.readers.items ≡ 64 = sym (length-map i.readers.items (option_map bare_reader_of)) ∙ sound.reader_names in
-    let all : length es + length rs ≡ 128 = sym (length-append es rs) ∙ sound.endpoint_names in
+    let writers : length i.writers.items ≡ 64 = sym (length-map i.writers.items (option_map bare_writer_of)) ∙ sound.writer_names in
+    let all : length es + (length rs + length ws) ≡ 192 = ap (λ n. length es + n) (sym (length-append rs ws)) ∙ sym (length-append es (rs ++ ws)) ∙ sound.endpoint_names in
     let endpoints : length es ≡ length i.endpoints.items = length-map i.endpoints.items (option_map state_of) in
     let behind : length rs ≡ length i.readers.items = length-map i.readers.items (option_map endpoint_of) in
-    record { endpoints = omega (arith, readers, all, endpoints, behind); readers = readers }
+    let last : length ws ≡ length i.writers.items = length-map i.writers.items (option_map writer_endpoint) in
+    record { endpoints = omega (arith, readers, writers, all, endpoints, behind, last); readers = readers; writers = writers }
 
 -- what was open was taken out of its name, and put back as it was left
 pub record PutBack {X : Type 0} (es after : List (Option X)) (e : ℕ) (x y : X) : Type 0 where
@@ -57,13 +60,25 @@ put_back es mid after e x y taken was is rest put = record { was = sym was ∙ i
 pub free_again : {X : Type 0} (es mid : List (Option X)) (e : ℕ) (x : X) (taken : Option X) → taken ≡ named es e → taken ≡ Some x → mid ≡ freed es e → is_free mid e ≡ true
 free_again es mid e x taken was is rest = ap (λ l. is_free l e) rest ∙ freed-free es e x (sym was ∙ is)
 
+pub length-put : {X : Type 0} (es after : List (Option X)) (e : ℕ) (x y : X) → PutBack es after e x y → length after ≡ length es
+length-put {X} es after e x y back = ap (λ (l : List (Option X)). length l) back.put ∙ length-set_name (freed es e) e y ∙ length-freed es e
+
+-- of each a part is seen
+pub map-put : {X Y : Type 0} (v : X → Y) (es after : List (Option X)) (e : ℕ) (x y : X) → PutBack es after e x y → map (option_map v) after ≡ change_named (λ b. v y) (map (option_map v) es) e
+map-put v es after e x y back =
+    ap (map (option_map v)) (back.put ∙ put-changed (λ z. y) es e x y back.was refl)
+    ∙ map-change_named v (λ z. y) (λ b. v y) es e (λ z is. refl)
+
+pub map-length : {X Y : Type 0} (v : X → Y) (es after : List (Option X)) (e : ℕ) (x y : X) → PutBack es after e x y → length (map (option_map v) after) ≡ length (map (option_map v) es)
+map-length v es after e x y back = length-map after (option_map v) ∙ length-put es after e x y back ∙ sym (length-map es (option_map v))
+
 -- what is open under a name of the session
 pub named-made : (i : Inside) (S : SessionState) (e : ℕ) (x : AnyEndpoint) → IsSound (made_of i) → made_of i ≡ S → named i.endpoints.items e ≡ Some x → named S.endpoints (endpoint_place e) ≡ Some (state_of x)
-named-made i S e x sound view was = sym (ap (λ (v : SessionState). named v.endpoints (endpoint_place e)) view) ∙ taken-map i.endpoints.items i.readers.items e x (places-made i sound) was
+named-made i S e x sound view was = sym (ap (λ (v : SessionState). named v.endpoints (endpoint_place e)) view) ∙ taken-endpoint i.endpoints.items i.readers.items i.writers.items (places-made i sound) e x was
 
 -- and stands in the host
 pub stands-made : (i : Inside) (e : ℕ) (x : AnyEndpoint) (taken : Option AnyEndpoint) → IsSound (made_of i) → taken ≡ named i.endpoints.items e → taken ≡ Some x → Stands (bus_of i.host) (state_of x)
-stands-made i e x taken sound was is = sound.endpoints_stand (endpoint_place e) (state_of x) (taken-map i.endpoints.items i.readers.items e x (places-made i sound) (sym was ∙ is))
+stands-made i e x taken sound was is = sound.endpoints_stand (endpoint_place e) (state_of x) (taken-endpoint i.endpoints.items i.readers.items i.writers.items (places-made i sound) e x (sym was ∙ is))
 
 no_front : (front rest : List KernelStep) → [] ≡ front ++ rest → rest ≡ []
 no_front [] rest is = sym is
@@ -74,20 +89,24 @@ pub keeps-line : (old new : HostState) → old.steps ≡ [] → Extends old.kern
 keeps-line old new idle past line =
     record { idle = no_front line.front new.steps (sym idle ∙ line.steps); past = past; devices = counts-same old.devices new.devices line.devices; interfaces = line.interfaces }
 
-pub made-put : (i : Inside) (after : List (Option AnyEndpoint)) (e : ℕ) (x y : AnyEndpoint) → IsSound (made_of i) → PutBack i.endpoints.items after e x y → endpoints_with after i.readers.items ≡ set_name (freed (made_of i).endpoints (endpoint_place e)) (endpoint_place e) (state_of y)
-made-put i after e x y sound back = put-map i.endpoints.items after i.readers.items e y (places-made i sound) back.put
+-- a session is sound once what stands at a place was called and put back
+pub sound-called_at : (i : Inside) (now : HostState) (after : List (Option EndpointState)) (p : ℕ) (x y : EndpointState) → IsSound (made_of i) → named (made_of i).endpoints p ≡ Some x → after ≡ set_name (freed (made_of i).endpoints p) p y → CallKeeps i.host now x y → IsSound (record (made_of i) { host = now; endpoints = after })
+sound-called_at i now after p x y sound was put keeps =
+    sound-put (made_of i) now after p x y sound was put (keeps-line i.host now sound.idle keeps.past keeps.line) keeps.stands keeps.key keeps.maximum keeps.others
+    (none-goes i.host.endpoints now.endpoints keeps.line.endpoints)
+
+pub made-put : (i : Inside) (after : List (Option AnyEndpoint)) (e : ℕ) (x y : AnyEndpoint) → IsSound (made_of i) → PutBack i.endpoints.items after e x y → endpoints_with after i.readers.items i.writers.items ≡ set_name (freed (made_of i).endpoints (endpoint_place e)) (endpoint_place e) (state_of y)
+made-put i after e x y sound back = put-endpoint i.endpoints.items i.readers.items i.writers.items (places-made i sound) e after y back.put
 
 pub sound-called : (i : Inside) (now : HostState) (after : List (Option AnyEndpoint)) (e : ℕ) (x y : AnyEndpoint) → IsSound (made_of i) → PutBack i.endpoints.items after e x y → CallKeeps i.host now (state_of x) (state_of y) → IsSound (made_with i now after)
 sound-called i now after e x y sound back keeps =
-    sound-put (made_of i) now (endpoints_with after i.readers.items) (endpoint_place e) (state_of x) (state_of y) sound (taken-map i.endpoints.items i.readers.items e x (places-made i sound) back.was) (made-put i after e x y sound back)
-    (keeps-line i.host now sound.idle keeps.past keeps.line) keeps.stands keeps.key keeps.maximum keeps.others
-    (none-goes i.host.endpoints now.endpoints keeps.line.endpoints)
+    sound-called_at i now (endpoints_with after i.readers.items i.writers.items) (endpoint_place e) (state_of x) (state_of y) sound (taken-endpoint i.endpoints.items i.readers.items i.writers.items (places-made i sound) e x back.was) (made-put i after e x y sound back) keeps
 
 pub made-called : (i : Inside) (S : SessionState) (now : HostState) (after : List (Option AnyEndpoint)) (e : ℕ) (x y : AnyEndpoint) → IsSound (made_of i) → made_of i ≡ S → PutBack i.endpoints.items after e x y → with_called S (endpoint_place e) now (state_of y) ≡ made_with i now after
 made-called i S now after e x y sound view back =
     ap (λ (v : SessionState). with_called v (endpoint_place e) now (state_of y)) (sym view)
     ∙ ap (λ (l : List (Option EndpointState)). record (made_of i) { host = now; endpoints = l })
-    (sym (made-put i after e x y sound back ∙ put-changed (λ z. state_of y) (made_of i).endpoints (endpoint_place e) (state_of x) (state_of y) (taken-map i.endpoints.items i.readers.items e x (places-made i sound) back.was) refl))
+    (sym (made-put i after e x y sound back ∙ put-changed (λ z. state_of y) (made_of i).endpoints (endpoint_place e) (state_of x) (state_of y) (taken-endpoint i.endpoints.items i.readers.items i.writers.items (places-made i sound) e x back.was) refl))
 
 pub answers-called : {E : Type 0} (i : Inside) (S : SessionState) (now : HostState) (after : List (Option AnyEndpoint)) (n e : ℕ) (x y : AnyEndpoint) (before text : String Global) (result : Result Unit E) (call : State → ℕ → Endpoint → Answer) → IsSound (made_of i) → made_of i ≡ S → PutBack i.endpoints.items after n x y → n ≡ e → CallAnswers i.host now (state_of x) (state_of y) before text result call → Answers S (made_with i now after) before text result (λ state. if_open (named state.endpoints (endpoint_place e)) (call state (endpoint_place e)) (barred state))
 answers-called i S now after n e x y before text (Err error) call sound view back same answers = tt
@@ -107,7 +126,7 @@ same-none es mid n taken was none rest = rest ∙ freed-none es n (sym was ∙ n
 
 pub none_made : (i : Inside) (S : SessionState) (n : ℕ) → IsSound (made_of i) → made_of i ≡ S → named i.endpoints.items n ≡ None → named S.endpoints (endpoint_place n) ≡ None
 none_made i S n sound view none =
-    sym (ap (λ (v : SessionState). named v.endpoints (endpoint_place n)) view) ∙ named-endpoint i.endpoints.items i.readers.items (places-made i sound) n ∙ ap (option_map state_of) none
+    sym (ap (λ (v : SessionState). named v.endpoints (endpoint_place n)) view) ∙ named-endpoint i.endpoints.items i.readers.items i.writers.items (places-made i sound) n ∙ ap (option_map state_of) none
 
 pub answers-none : {E : Type 0} (i : Inside) (S : SessionState) (mid : List (Option AnyEndpoint)) (n e : ℕ) (before text : String Global) (result : Result Unit E) (call : State → Endpoint → Answer) → IsSound (made_of i) → made_of i ≡ S → named i.endpoints.items n ≡ None → mid ≡ i.endpoints.items → n ≡ e → OnOk result (string_bytes text ≡ string_bytes before ++ condition_line) → Answers S (made_with i i.host mid) before text result (λ state. if_open (named state.endpoints (endpoint_place e)) (call state) (barred state))
 answers-none i S mid n e before text (Err error) call sound view none rest same is = tt

@@ -1,7 +1,7 @@
 -- Whole scripts and what is written for them, computed by the definitions alone. The answers were worked out by hand from the description of the script language.
 use lib.Utf8.{encode}
-use Rattle.std.proofs.Common.{◌≡◌, ℕ, List, [], ◌∷◌, ◌++◌, codes, Some, None, Ok, refl}
-use Rattle.std.specs.Fmt.{digits}
+use Rattle.std.proofs.Common.{◌≡◌, ℕ, List, [], ◌∷◌, ◌++◌, codes, Option, Some, None, Ok, refl}
+use Rattle.std.specs.Fmt.{digits, decimal}
 use Rattle.std.specs.Prelude.{⊤, true, false, map, flat_map, replicate}
 use Rattle.std.specs.Char.Utf16.{utf16_chars}
 use Rattle.hex.specs.Hex.{encode_with}
@@ -75,9 +75,16 @@ use Rattle.usb_answers.specs.Settings.{set_alt_setting_answer, get_alt_setting_a
 use Rattle.usb_answers.specs.Halts.{clear_halt_answer}
 use Rattle.usb_stream_lines.specs.Faults.{io_line}
 use Rattle.usb_stream_lines.specs.Reads.{read_line, buffer_line}
+use Rattle.usb_stream_lines.specs.Writes.{wrote_line}
 use Rattle.usb_streams.specs.HostReads.{fill_came}
+use Rattle.usb_streams.specs.Numbers.{numbers_from}
+use Rattle.usb_writes.specs.HostWrites.{drained}
+use Rattle.usb_writer_lines.specs.Needs.{bars_need, write_need, flush_need, finish_need}
+use Rattle.usb_io.specs.Writers.{WriterState}
 use Rattle.usb_answers.specs.Readers.{reader_answer, inner_answer, num_answer, timeout_answer, cancel_reader_answer, close_reader_answer, reader_closed}
 use Rattle.usb_answers.specs.Reads.{read_answer, poll_read_answer, fill_answer, poll_fill_answer, consume_answer, is_end_answer, consume_end_answer}
+use Rattle.usb_answers.specs.Writers.{writer_answer, writer_inner_answer, writer_num_answer, write_timeout_answer, close_writer_answer, writer_closed}
+use Rattle.usb_answers.specs.Writes.{write_answer, poll_write_answer, submit_buffer_answer, submit_end_answer, flush_answer, poll_flush_answer, flush_end_answer, poll_flush_end_answer}
 use Rattle.usb_answers.specs.Controls.{control_answer}
 use Rattle.usb_answers.specs.Futures.{start_answer, poll_future_answer, wait_future_answer}
 use Rattle.usb_answers.specs.Closes.{cancel_answer, close_answer, close_future_answer, close_device_answer, close_interface_answer, release_answer, closed}
@@ -89,7 +96,7 @@ use Rattle.usb_answers.specs.Served.{ClosedEndpoint, closed_endpoints, control_t
 
 -- all that an output unfolds
 unfoldable output_on_literals : ⊤
-unfolding output start answer reader_answer inner_answer num_answer timeout_answer cancel_reader_answer close_reader_answer reader_closed read_answer poll_read_answer fill_answer poll_fill_answer consume_answer is_end_answer consume_end_answer fill_came read_line buffer_line io_line control_answer start_answer poll_future_answer wait_future_answer close_future_answer future_closed_under host_started host_awaited timer_turned data_line failed_line languages_told string_told utf16_chars encode now_answer open_answer device_descriptor_answer descriptors_answer claim_answer endpoint_answer submit_answer pending_answer poll_answer wait_answer transfer_answer cancel_answer close_answer clone_device_answer clone_interface_answer active_answer speed_answer set_configuration_answer reset_answer detach_answer attach_answer set_alt_setting_answer get_alt_setting_answer interface_descriptor_answer clear_halt_answer close_device_answer close_interface_answer release_answer steps_answer stepped_all closed interface_closed name_closed all_closed ended fate_line fate_lines named is_free change_named freed set_name is_used_among is_owned_among claim_ended claim_of owner_gone settled endpoint_left endpoints_left device_changed called descriptors_tried open_tried host_opened open_key host_claimed host_asked endpoint_of_setting host_tries host_submitted host_refused host_discarded host_left host_ended host_taken host_abandoned came host_stepped host_reaped host_waited host_blocked handle_closed handle_cloned after_reset host_detached host_attached host_reset host_configured host_speed_asked speed_of_code alt_setting_set finished transfer_completion completion unreaped chain groups concatenated configurations interfaces_among hex_word error_line done_line count_line now_line ticket_line device_line class_words product_words string_words class_code endpoint_words interface_words setting_words configuration_words descriptors_line configuration_line no_configuration_line speed_line alt_setting_line digits encode_with
+unfolding output start answer reader_answer inner_answer num_answer timeout_answer cancel_reader_answer close_reader_answer reader_closed read_answer poll_read_answer fill_answer poll_fill_answer consume_answer is_end_answer consume_end_answer fill_came read_line buffer_line io_line writer_answer writer_inner_answer writer_num_answer write_timeout_answer close_writer_answer writer_closed write_answer poll_write_answer submit_buffer_answer submit_end_answer flush_answer poll_flush_answer flush_end_answer poll_flush_end_answer drained wrote_line control_answer start_answer poll_future_answer wait_future_answer close_future_answer future_closed_under host_started host_awaited timer_turned data_line failed_line languages_told string_told utf16_chars encode now_answer open_answer device_descriptor_answer descriptors_answer claim_answer endpoint_answer submit_answer pending_answer poll_answer wait_answer transfer_answer cancel_answer close_answer clone_device_answer clone_interface_answer active_answer speed_answer set_configuration_answer reset_answer detach_answer attach_answer set_alt_setting_answer get_alt_setting_answer interface_descriptor_answer clear_halt_answer close_device_answer close_interface_answer release_answer steps_answer stepped_all closed interface_closed name_closed all_closed ended fate_line fate_lines named is_free change_named freed set_name is_used_among is_owned_among claim_ended claim_of owner_gone settled endpoint_left endpoints_left device_changed called descriptors_tried open_tried host_opened open_key host_claimed host_asked endpoint_of_setting host_tries host_submitted host_refused host_discarded host_left host_ended host_taken host_abandoned came host_stepped host_reaped host_waited host_blocked handle_closed handle_cloned after_reset host_detached host_attached host_reset host_configured host_speed_asked speed_of_code alt_setting_set finished transfer_completion completion unreaped chain groups concatenated configurations interfaces_among hex_word error_line done_line count_line now_line ticket_line device_line class_words product_words string_words class_code endpoint_words interface_words setting_words configuration_words descriptors_line configuration_line no_configuration_line speed_line alt_setting_line digits encode_with
 output_on_literals = tt
 
 -- a line of a script, the item that it is, and the line that it is answered, which is empty where it has no answer
@@ -599,6 +606,149 @@ further_reads : IsWorkedOut
 unfolding script_on_literals output_on_literals
 further_reads = (refl, refl)
 
+-- its endpoint 02 is opened before these lines
+abbrev with_out_endpoint : List Line → List Line
+with_out_endpoint lines =
+    bulk_device
+    ∷ (codes "open d0 1 6", item.Open 0 1 6, codes "ok")
+    ∷ (codes "claim d0 0 i0", item.Claim 0 0 0, codes "ok")
+    ∷ (codes "endpoint e0 i0 02 bulk-out", item.Endpoint 0 0 2 BulkOut, codes "ok")
+    ∷ lines
+
+-- a writer of transfers of two packets: an empty message; one of two full packets, which an empty transfer ends; and one that ends with a
+-- short packet, whose flush is too early by an acknowledgement
+ends_of_messages : IsWorkedOut
+    (with_out_endpoint
+    ((codes "writer w0 e0 128", item.Writer 0 0 128, codes "ok")
+    ∷ (codes "wend w0", item.SubmitEnd 0, codes "ok")
+    ∷ (codes "! ack k0 02", item.Steps (Ack 0 2 ∷ []), [])
+    ∷ (codes "write w0 " ++ replicate 256 49, item.Write 0 (replicate 128 17) [], codes "wrote 128")
+    ∷ (codes "wend w0", item.SubmitEnd 0, codes "ok")
+    ∷ (codes "flush w0 : ack k0 02 ; ack k0 02 ; ack k0 02", item.Flush 0 (Ack 0 2 ∷ Ack 0 2 ∷ Ack 0 2 ∷ []), codes "ok")
+    ∷ (codes "write w0 " ++ replicate 200 50, item.Write 0 (replicate 100 34) [], codes "wrote 100")
+    ∷ (codes "wend w0", item.SubmitEnd 0, codes "ok")
+    ∷ (codes "flush w0 : ack k0 02", item.Flush 0 (Ack 0 2 ∷ []), codes "io TimedOut write timeout")
+    ∷ (codes "flush w0 : ack k0 02", item.Flush 0 (Ack 0 2 ∷ []), codes "ok")
+    ∷ []))
+    (codes "ticket 0 k0 02 ok 0 taken"
+    ∷ codes "ticket 1 k0 02 ok 128 taken"
+    ∷ codes "ticket 2 k0 02 ok 0 taken"
+    ∷ codes "ticket 3 k0 02 ok 100 taken" ∷ [])
+unfolding script_on_literals output_on_literals
+ends_of_messages = (refl, refl)
+
+-- a failed transfer is told once
+told_once : IsWorkedOut
+    (with_out_endpoint
+    ((codes "writer w0 e0 64", item.Writer 0 0 64, codes "ok")
+    ∷ (codes "write w0 111111", item.Write 0 (17 ∷ 17 ∷ 17 ∷ []) [], codes "wrote 3")
+    ∷ (codes "flush w0 : fail k0 02 32", item.Flush 0 (Fail 0 2 32 ∷ []), codes "io ConnectionReset endpoint stalled")
+    ∷ (codes "flush w0", item.Flush 0 [], codes "ok")
+    ∷ []))
+    (codes "ticket 0 k0 02 stall 0 taken" ∷ [])
+unfolding script_on_literals output_on_literals
+told_once = (refl, refl)
+
+-- a writer and a reader that are polled: an end is submitted by the first of the polls to it alone
+polled_messages : IsWorkedOut
+    (with_out_endpoint
+    ((codes "writer w0 e0 64", item.Writer 0 0 64, codes "ok")
+    ∷ (codes "pollwrite w0 0102", item.PollWrite 0 (1 ∷ 2 ∷ []), codes "wrote 2")
+    ∷ (codes "pollflushend w0", item.PollFlushEnd 0, codes "pending")
+    ∷ (codes "! ack k0 02 ; reap", item.Steps (Ack 0 2 ∷ Reap None ∷ []), [])
+    ∷ (codes "pollflushend w0", item.PollFlushEnd 0, codes "ok")
+    ∷ (codes "endpoint e1 i0 81 bulk-in", item.Endpoint 1 0 129 BulkIn, codes "ok")
+    ∷ (codes "reader r0 e1 64", item.Reader 0 1 64, codes "ok")
+    ∷ (codes "pollread r0 5", item.PollRead Plain 0 5, codes "pending")
+    ∷ (codes "! pkt k0 81 0a ; reap", item.Steps (Packet 0 129 (10 ∷ []) ∷ Reap None ∷ []), [])
+    ∷ (codes "pollsread r0 5", item.PollRead UntilShort 0 5, codes "read 1 0a")
+    ∷ (codes "pollsread r0 5", item.PollRead UntilShort 0 5, codes "read 0 -")
+    ∷ (codes "pollread r0 5", item.PollRead Plain 0 5, codes "pending")
+    ∷ []))
+    (codes "ticket 0 k0 02 ok 2 taken"
+    ∷ codes "ticket 1 k0 81 ok 1 taken"
+    ∷ codes "ticket 2 k0 81 cancelled 0 reclaimed" ∷ [])
+unfolding script_on_literals output_on_literals
+polled_messages = (refl, refl)
+
+-- a buffer that is filled, submitted, waited for and used again; and a message of a whole packet
+messages_out : IsWorkedOut
+    (with_out_endpoint
+    ((codes "writer w0 e0 128", item.Writer 0 0 128, codes "ok")
+    ∷ (codes "write w0 " ++ replicate 128 50, item.Write 0 (replicate 64 34) [], codes "wrote 64")
+    ∷ (codes "write w0 " ++ replicate 128 50 ++ codes "2233", item.Write 0 (replicate 64 34 ++ 34 ∷ 51 ∷ []) [], codes "wrote 64")
+    ∷ (codes "write w0 2233 : ack k0 02 ; ack k0 02", item.Write 0 (34 ∷ 51 ∷ []) (Ack 0 2 ∷ Ack 0 2 ∷ []), codes "wrote 2")
+    ∷ (codes "wend w0", item.SubmitEnd 0, codes "ok")
+    ∷ (codes "flush w0 : ack k0 02", item.Flush 0 (Ack 0 2 ∷ []), codes "ok")
+    ∷ (codes "write w0 " ++ replicate 128 50, item.Write 0 (replicate 64 34) [], codes "wrote 64")
+    ∷ (codes "flushend w0 : ack k0 02 ; ack k0 02", item.FlushEnd 0 (Ack 0 2 ∷ Ack 0 2 ∷ []), codes "ok")
+    ∷ (codes "flush w0", item.Flush 0 [], codes "ok")
+    ∷ []))
+    (codes "ticket 0 k0 02 ok 128 taken"
+    ∷ codes "ticket 1 k0 02 ok 2 taken"
+    ∷ codes "ticket 2 k0 02 ok 64 taken"
+    ∷ codes "ticket 3 k0 02 ok 0 taken" ∷ [])
+unfolding script_on_literals output_on_literals
+messages_out = (refl, refl)
+
+-- what is set of a writer; a write that is too early by a poll, by its time and not at all; flushes that are polled; and the endpoint comes
+-- back, and is closed as that of another writer. What is barred does nothing
+further_writes : IsWorkedOut
+    (with_out_endpoint
+    ((codes "endpoint e1 i0 81 bulk-in", item.Endpoint 1 0 129 BulkIn, codes "ok")
+    ∷ (codes "writer w1 e1 64", item.Writer 1 1 64, codes "condition")
+    ∷ (codes "writer w3 e0 64", item.Writer 3 0 64, codes "ok")
+    ∷ (codes "writer w1 e0 64", item.Writer 1 0 64, codes "condition")
+    ∷ (codes "num w3 0", item.SetWriterTransfers 3 0, codes "condition")
+    ∷ (codes "num w3 65", item.SetWriterTransfers 3 65, codes "condition")
+    ∷ (codes "num w3 2", item.SetWriterTransfers 3 2, codes "ok")
+    ∷ (codes "timeout w3 7", item.SetWriteTimeout 3 7, codes "ok")
+    ∷ (codes "write w3 010203", item.Write 3 (1 ∷ 2 ∷ 3 ∷ []) [], codes "wrote 3")
+    ∷ (codes "wsubmit w3", item.Submit 3, codes "ok")
+    ∷ (codes "wsubmit w3", item.Submit 3, codes "ok")
+    ∷ (codes "pollwrite w3 " ++ replicate 128 50, item.PollWrite 3 (replicate 64 34), codes "wrote 64")
+    ∷ (codes "pollwrite w3 04", item.PollWrite 3 (4 ∷ []), codes "pending")
+    ∷ (codes "write w3 04 : clock 7", item.Write 3 (4 ∷ []) (Clock 7 ∷ []), codes "io TimedOut write timeout")
+    ∷ (codes "write w3 04 : ack k0 02", item.Write 3 (4 ∷ []) (Ack 0 2 ∷ []), codes "wrote 1")
+    ∷ (codes "pollflush w3", item.PollFlush 3, codes "pending")
+    ∷ (codes "! ack k0 02 ; ack k0 02", item.Steps (Ack 0 2 ∷ Ack 0 2 ∷ []), [])
+    ∷ (codes "pollflush w3", item.PollFlush 3, codes "pending")
+    ∷ (codes "! reap ; reap", item.Steps (Reap None ∷ Reap None ∷ []), [])
+    ∷ (codes "pollflush w3", item.PollFlush 3, codes "ok")
+    ∷ (codes "inner e5 w3", item.WriterIntoInner 5 3, codes "ok")
+    ∷ (codes "wend w3", item.SubmitEnd 3, codes "condition")
+    ∷ (codes "writer w0 e5 1", item.Writer 0 5 1, codes "ok")
+    ∷ (codes "pollflushend w0", item.PollFlushEnd 0, codes "pending")
+    ∷ (codes "close w0", item.CloseWriter 0, codes "ok")
+    ∷ (codes "flushend w0", item.FlushEnd 0 [], codes "condition")
+    ∷ []))
+    (codes "ticket 0 k0 02 ok 3 taken"
+    ∷ codes "ticket 1 k0 02 ok 64 taken"
+    ∷ codes "ticket 2 k0 02 ok 1 taken"
+    ∷ codes "ticket 3 k0 02 cancelled 0 reclaimed" ∷ [])
+unfolding script_on_literals output_on_literals
+further_writes = (refl, refl)
+
+-- where 63 transfers are pending, and a whole packet stands, an end is barred, which may need two; and where 64 are, one that needs one. A
+-- write is not, since it waits first
+full_writer : IsWorkedOut
+    (with_out_endpoint
+    ((codes "writer w0 e0 128", item.Writer 0 0 128, codes "ok")
+    ∷ (codes "num w0 64", item.SetWriterTransfers 0 64, codes "ok")
+    ∷ replicate 63 (codes "wend w0", item.SubmitEnd 0, codes "ok")
+    ++ (codes "write w0 " ++ replicate 128 50, item.Write 0 (replicate 64 34) [], codes "wrote 64")
+    ∷ (codes "wend w0", item.SubmitEnd 0, codes "condition")
+    ∷ (codes "flushend w0", item.FlushEnd 0 [], codes "condition")
+    ∷ (codes "pollflushend w0", item.PollFlushEnd 0, codes "condition")
+    ∷ (codes "wsubmit w0", item.Submit 0, codes "ok")
+    ∷ (codes "wend w0", item.SubmitEnd 0, codes "condition")
+    ∷ (codes "pollflush w0", item.PollFlush 0, codes "pending")
+    ∷ (codes "pollwrite w0 01", item.PollWrite 0 (1 ∷ []), codes "pending")
+    ∷ []))
+    (map (λ t. codes "ticket " ++ decimal t ++ codes " k0 02 cancelled 0 reclaimed") (numbers_from 0 64))
+unfolding script_on_literals output_on_literals
+full_writer = (refl, refl)
+
 -- a control transfer of the vendor's request 30 to the device, with no value and no index
 abbrev vendor_request : ℕ → Setup
 vendor_request request = record { control_type = Vendor; recipient = recipient.Device; request = request; value = 0; index = 0 }
@@ -712,3 +862,32 @@ not_full = refl
 
 full : bars_submission [] In (endpoint_with 64) ≡ true
 full = refl
+
+-- so are calls of a writer that may need one or two
+none_needed : bars_need [] 64 0 ≡ false
+unfolding unreaped
+none_needed = refl
+
+one_needed : (bars_need [] 63 1 ≡ false) × (bars_need [] 64 1 ≡ true)
+unfolding unreaped
+one_needed = (refl, refl)
+
+two_needed : (bars_need [] 62 2 ≡ false) × (bars_need [] 63 2 ≡ true)
+unfolding unreaped
+two_needed = (refl, refl)
+
+-- a writer of transfers of two packets, of which two may be pending, with so many pending, and with this buffer
+abbrev writer_at_two : ℕ → Option (List ℕ) → WriterState
+writer_at_two pending buffer = record { endpoint = record (endpoint_with pending) { address = 2 }; n = 2; size = 128; timeout = 0; buffer = buffer; begun = false }
+
+-- where a buffer stands, or less are pending than may be, a write may need one
+needs_of_writes : (write_need (writer_at_two 1 None) ≡ 1) × (write_need (writer_at_two 2 None) ≡ 0) × (write_need (writer_at_two 2 (Some [])) ≡ 1)
+needs_of_writes = (refl, refl, refl)
+
+-- what flushes needs one where bytes stand
+needs_of_flushes : (flush_need (writer_at_two 0 None) ≡ 0) × (flush_need (writer_at_two 0 (Some [])) ≡ 0) × (flush_need (writer_at_two 0 (Some (1 ∷ []))) ≡ 1)
+needs_of_flushes = (refl, refl, refl)
+
+-- an end needs one, and behind whole packets two
+needs_of_ends : (finish_need (writer_at_two 0 None) ≡ 1) × (finish_need (writer_at_two 0 (Some [])) ≡ 1) × (finish_need (writer_at_two 0 (Some (replicate 63 0))) ≡ 1) × (finish_need (writer_at_two 0 (Some (replicate 64 0))) ≡ 2)
+needs_of_ends = (refl, refl, refl, refl)

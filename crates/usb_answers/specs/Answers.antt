@@ -2,7 +2,7 @@
 use Rattle.std.specs.Prelude.{true, false}
 use Rattle.usb_desc.specs.declared.types.Direction.TheVariants as direction
 use Rattle.usb_script.specs.declared.item.Item.{Item}
-use Rattle.usb_script.specs.declared.item.Item.TheVariants.{Device, Driver, Attribute, Denied, Child, Link, Entry, Root, Uevent, List, Buses, Probe, Match, Hotplug, OpenPath, Now, Open, DeviceDescriptor, Descriptors, CloneDevice, CloseDevice, ActiveConfiguration, Speed, SetConfiguration, Reset, DetachDriver, AttachDriver, Claim, DetachAndClaim, CloneInterface, CloseInterface, SetAltSetting, GetAltSetting, InterfaceDescriptor, Release, Endpoint, SubmitIn, SubmitOut, Pending, Poll, Wait, TransferIn, TransferOut, Cancel, ClearHalt, CloseEndpoint, Reader, IntoInner, SetNumTransfers, SetReadTimeout, CancelReader, CloseReader, Read, PollRead, FillBuf, PollFillBuf, Consume, IsEnd, ConsumeEnd, ControlIn, ControlOut, GetDescriptor, SupportedLanguages, StringDescriptor, StartControlIn, StartControlOut, PollFuture, WaitFuture, CloseFuture, Steps}
+use Rattle.usb_script.specs.declared.item.Item.TheVariants.{Device, Driver, Attribute, Denied, Child, Link, Entry, Root, Uevent, List, Buses, Probe, Match, Hotplug, OpenPath, Now, Open, DeviceDescriptor, Descriptors, CloneDevice, CloseDevice, ActiveConfiguration, Speed, SetConfiguration, Reset, DetachDriver, AttachDriver, Claim, DetachAndClaim, CloneInterface, CloseInterface, SetAltSetting, GetAltSetting, InterfaceDescriptor, Release, Endpoint, SubmitIn, SubmitOut, Pending, Poll, Wait, TransferIn, TransferOut, Cancel, ClearHalt, CloseEndpoint, Reader, IntoInner, SetNumTransfers, SetReadTimeout, CancelReader, CloseReader, Read, PollRead, FillBuf, PollFillBuf, Consume, IsEnd, ConsumeEnd, Writer, WriterIntoInner, SetWriterTransfers, SetWriteTimeout, CloseWriter, Write, PollWrite, Submit, SubmitEnd, Flush, PollFlush, FlushEnd, PollFlushEnd, ControlIn, ControlOut, GetDescriptor, SupportedLanguages, StringDescriptor, StartControlIn, StartControlOut, PollFuture, WaitFuture, CloseFuture, Steps}
 use Rattle.usb_words.specs.EndpointKinds.{transfer_type_of, direction_of}
 use Rattle.usb_answers.specs.State.{State}
 use Rattle.usb_answers.specs.ReaderAt.{endpoint_place}
@@ -31,6 +31,8 @@ use Rattle.usb_answers.specs.Controls.{request_for, request_with, control_in_ans
 use Rattle.usb_answers.specs.Futures.{start_answer, poll_future_answer, wait_future_answer}
 use Rattle.usb_answers.specs.Readers.{reader_answer, inner_answer, num_answer, timeout_answer, cancel_reader_answer, close_reader_answer}
 use Rattle.usb_answers.specs.Reads.{read_answer, poll_read_answer, fill_answer, poll_fill_answer, consume_answer, is_end_answer, consume_end_answer}
+use Rattle.usb_answers.specs.Writers.{writer_answer, writer_inner_answer, writer_num_answer, write_timeout_answer, close_writer_answer}
+use Rattle.usb_answers.specs.Writes.{write_answer, poll_write_answer, submit_buffer_answer, submit_end_answer, flush_answer, poll_flush_answer, flush_end_answer, poll_flush_end_answer}
 use Rattle.usb_answers.specs.Steps.{steps_answer}
 
 -- a setup line took effect before the first call
@@ -94,6 +96,19 @@ answer state (PollFillBuf framing r) = poll_fill_answer state framing r
 answer state (Consume framing r n) = consume_answer state framing r n
 answer state (IsEnd r) = is_end_answer state r
 answer state (ConsumeEnd r) = consume_end_answer state r
+answer state (Writer w e size) = writer_answer state w (endpoint_place e) size
+answer state (WriterIntoInner e w) = writer_inner_answer state (endpoint_place e) w
+answer state (SetWriterTransfers w n) = writer_num_answer state w n
+answer state (SetWriteTimeout w timeout) = write_timeout_answer state w timeout
+answer state (CloseWriter w) = close_writer_answer state w
+answer state (Write w bytes steps) = write_answer state w bytes steps
+answer state (PollWrite w bytes) = poll_write_answer state w bytes
+answer state (Submit w) = submit_buffer_answer state w
+answer state (SubmitEnd w) = submit_end_answer state w
+answer state (Flush w steps) = flush_answer state w steps
+answer state (PollFlush w) = poll_flush_answer state w
+answer state (FlushEnd w steps) = flush_end_answer state w steps
+answer state (PollFlushEnd w) = poll_flush_end_answer state w
 answer state (ControlIn target setup wanted timeout steps) = control_in_answer state target setup wanted timeout steps
 answer state (ControlOut target setup bytes timeout steps) = control_out_answer state target setup bytes timeout steps
 answer state (GetDescriptor d kind index language timeout steps) = get_descriptor_answer state d kind index language timeout steps

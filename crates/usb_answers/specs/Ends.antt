@@ -1,4 +1,4 @@
--- The end of a session: what is open is closed, readers by number, then endpoints, then futures, then interfaces and then devices, each by number;
+-- The end of a session: what is open is closed, readers by number, then writers, then endpoints, then futures, then interfaces and then devices, each by number;
 -- then the tickets are discarded by number, and reaped by number.
 use Rattle.std.specs.Prelude.{ℕ, zero, suc, Option, Some, None}
 use Rattle.usb_host.specs.HostState.{HostState}
@@ -9,11 +9,17 @@ use Rattle.usb_names.specs.Names.{named}
 use Rattle.usb_answers.specs.State.{State}
 use Rattle.usb_answers.specs.Closes.{closed, without_future, without_interface, without_device}
 use Rattle.usb_answers.specs.Readers.{reader_closed}
+use Rattle.usb_answers.specs.Writers.{writer_closed}
 
 -- the readers of the names below k are closed, in order
 abbrev pub readers_closed : State → ℕ → State
 readers_closed state zero = state
 readers_closed state (suc k) = reader_closed (readers_closed state k) k
+
+-- the writers of the names below k are closed, in order
+abbrev pub writers_closed : State → ℕ → State
+writers_closed state zero = state
+writers_closed state (suc k) = writer_closed (writers_closed state k) k
 
 -- the endpoints of the names below k are closed, in order
 abbrev pub endpoints_closed : State → ℕ → State
@@ -63,9 +69,9 @@ abbrev pub devices_closed : State → ℕ → State
 devices_closed state zero = state
 devices_closed state (suc k) = name_closed (devices_closed state k) k
 
--- all readers, then all endpoints, all futures, all interfaces and then all devices are closed
+-- all readers and writers, then all endpoints, all futures, all interfaces and then all devices are closed
 unfoldable pub all_closed : State → State
-all_closed state = devices_closed (interfaces_closed (futures_closed (endpoints_closed (readers_closed state 64) 64) 64) 64) 64
+all_closed state = devices_closed (interfaces_closed (futures_closed (endpoints_closed (writers_closed (readers_closed state 64) 64) 64) 64) 64) 64
 
 -- the host at the end of the session
 unfoldable pub ended : State → HostState

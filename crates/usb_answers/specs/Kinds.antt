@@ -1,7 +1,7 @@
--- Which lines are calls on what is open or on the tree, and which of these are control transfers, or on interfaces, endpoints and readers.
+-- Which lines are calls on what is open or on the tree, and which of these are control transfers, or on interfaces, endpoints, readers and writers.
 use Rattle.std.specs.Prelude.{Bool, true, false}
 use Rattle.usb_script.specs.declared.item.Item.{Item}
-use Rattle.usb_script.specs.declared.item.Item.TheVariants.{Device, Driver, Attribute, Denied, Child, Link, Entry, Root, Uevent, List, Buses, Probe, Match, Hotplug, OpenPath, Now, CloneInterface, CloseInterface, SetAltSetting, GetAltSetting, InterfaceDescriptor, Release, Endpoint, SubmitIn, SubmitOut, Pending, Poll, Wait, TransferIn, TransferOut, Cancel, ClearHalt, CloseEndpoint, Reader, IntoInner, SetNumTransfers, SetReadTimeout, CancelReader, CloseReader, Read, PollRead, FillBuf, PollFillBuf, Consume, IsEnd, ConsumeEnd, ControlIn, ControlOut, GetDescriptor, SupportedLanguages, StringDescriptor, StartControlIn, StartControlOut, PollFuture, WaitFuture, CloseFuture, Steps}
+use Rattle.usb_script.specs.declared.item.Item.TheVariants.{Device, Driver, Attribute, Denied, Child, Link, Entry, Root, Uevent, List, Buses, Probe, Match, Hotplug, OpenPath, Now, CloneInterface, CloseInterface, SetAltSetting, GetAltSetting, InterfaceDescriptor, Release, Endpoint, SubmitIn, SubmitOut, Pending, Poll, Wait, TransferIn, TransferOut, Cancel, ClearHalt, CloseEndpoint, Reader, IntoInner, SetNumTransfers, SetReadTimeout, CancelReader, CloseReader, Read, PollRead, FillBuf, PollFillBuf, Consume, IsEnd, ConsumeEnd, Writer, WriterIntoInner, SetWriterTransfers, SetWriteTimeout, CloseWriter, Write, PollWrite, Submit, SubmitEnd, Flush, PollFlush, FlushEnd, PollFlushEnd, ControlIn, ControlOut, GetDescriptor, SupportedLanguages, StringDescriptor, StartControlIn, StartControlOut, PollFuture, WaitFuture, CloseFuture, Steps}
 
 -- those on an endpoint: they hand a transfer in, ask for one, wait, cancel, clear its halt or close
 abbrev pub is_of_endpoint : Item → Bool
@@ -37,6 +37,27 @@ is_of_reader (Consume framing r n) = true
 is_of_reader (IsEnd r) = true
 is_of_reader (ConsumeEnd r) = true
 is_of_reader item = sets_reader item
+
+-- those by which a writer is made of an endpoint, set or closed
+abbrev pub sets_writer : Item → Bool
+sets_writer (Writer w e size) = true
+sets_writer (WriterIntoInner e w) = true
+sets_writer (SetWriterTransfers w n) = true
+sets_writer (SetWriteTimeout w timeout) = true
+sets_writer (CloseWriter w) = true
+sets_writer item = false
+
+-- those on a writer: these, and those that submit or take transfers
+abbrev pub is_of_writer : Item → Bool
+is_of_writer (Write w bytes steps) = true
+is_of_writer (PollWrite w bytes) = true
+is_of_writer (Submit w) = true
+is_of_writer (SubmitEnd w) = true
+is_of_writer (Flush w steps) = true
+is_of_writer (PollFlush w) = true
+is_of_writer (FlushEnd w steps) = true
+is_of_writer (PollFlushEnd w) = true
+is_of_writer item = sets_writer item
 
 -- those by which a device is asked for a descriptor
 abbrev pub asks_descriptor : Item → Bool
@@ -77,7 +98,7 @@ is_of_tree Hotplug = true
 is_of_tree (OpenPath d path) = true
 is_of_tree item = false
 
--- those on a device (`open` too), on an interface or on an endpoint, but for control transfers and readers
+-- those on a device (`open` too), on an interface or on an endpoint, but for control transfers, readers and writers
 abbrev pub is_of_handle : Item → Bool
 is_of_handle (Device k bus address speed configuration descriptors) = false
 is_of_handle (Driver k number) = false
@@ -117,6 +138,19 @@ is_of_handle (PollFillBuf framing r) = false
 is_of_handle (Consume framing r n) = false
 is_of_handle (IsEnd r) = false
 is_of_handle (ConsumeEnd r) = false
+is_of_handle (Writer w e size) = false
+is_of_handle (WriterIntoInner e w) = false
+is_of_handle (SetWriterTransfers w n) = false
+is_of_handle (SetWriteTimeout w timeout) = false
+is_of_handle (CloseWriter w) = false
+is_of_handle (Write w bytes steps) = false
+is_of_handle (PollWrite w bytes) = false
+is_of_handle (Submit w) = false
+is_of_handle (SubmitEnd w) = false
+is_of_handle (Flush w steps) = false
+is_of_handle (PollFlush w) = false
+is_of_handle (FlushEnd w steps) = false
+is_of_handle (PollFlushEnd w) = false
 is_of_handle Now = false
 is_of_handle (Steps steps) = false
 is_of_handle item = true

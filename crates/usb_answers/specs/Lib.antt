@@ -1,4 +1,5 @@
 pub mod BareReaders
+pub mod BareWriters
 pub mod State
 pub mod Answer
 pub mod OpenAt
@@ -28,6 +29,9 @@ pub mod Futures
 pub mod ReaderAt
 pub mod Readers
 pub mod Reads
+pub mod WriterAt
+pub mod Writers
+pub mod Writes
 pub mod Ends
 pub mod Fates
 pub mod EndWords
@@ -49,3 +53,4 @@ pub mod Places
 pub mod Served
 pub mod Behind
 pub mod Framed
+pub mod WrittenScripts

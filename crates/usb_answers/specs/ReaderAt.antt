@@ -1,4 +1,4 @@
--- Where endpoints and readers stand in a state, and what is open under a name of a reader.
+-- Where endpoints and readers stand in a state, and what is open under a name of a reader. (Of writers it is WriterAt.antt.)
 use Rattle.std.specs.Prelude.{ℕ, ◌+◌, nat_lt, Option, option_and_then, if◌then◌else◌}
 use Rattle.std.specs.Option.{option_map}
 use Rattle.usb_io.specs.Readers.{ReaderState}
@@ -9,7 +9,7 @@ use Rattle.usb_answers.specs.State.{State, Endpoint, Reader, kept}
 -- the place of an endpoint's name among the endpoints that are open: the 64 names come first. (A number that is no name has a
 -- place behind all of them, where nothing is)
 abbrev pub endpoint_place : ℕ → ℕ
-endpoint_place e = if nat_lt e 64 then e else 64 + e
+endpoint_place e = if nat_lt e 64 then e else 128 + e
 
 -- the place of a reader's endpoint: behind the names of endpoints
 abbrev pub reader_place : ℕ → ℕ

@@ -2,8 +2,6 @@
 -- the endpoint isn't, or the reader's name is in use).
 use Rattle.std.specs.Prelude.{ℕ, ◌+◌, ◌-◌, ◌||◌, ◌&&◌, nat_lt, Bool, true, List, [], ◌++◌, length, Option, Some, None, if◌then◌else◌}
 use Rattle.usb_desc.specs.declared.types.Direction.TheVariants.{In}
-use Rattle.usb_kernel.specs.declared.event.Event.{Event}
-use Rattle.usb_kernel.specs.Info.{unreaped}
 use Rattle.usb_endpoint.specs.Closes.{all_discarded, after_close}
 use Rattle.usb_host.specs.HostState.{HostState}
 use Rattle.usb_host.specs.HostCalls.{host_discarded, host_left}
@@ -14,6 +12,7 @@ use Rattle.usb_io.specs.Streams.{Item}
 use Rattle.usb_streams.specs.HostReads.{host_calls}
 use Rattle.usb_streams.specs.Numbers.{numbers_from}
 use Rattle.usb_names.specs.Names.{named, is_free, freed, set_name, change_named}
+use Rattle.usb_writer_lines.specs.Needs.{bars_need}
 use Rattle.usb_answers.specs.State.{State, Endpoint, Reader, kept, pending, tickets_of, with_host}
 use Rattle.usb_answers.specs.BareReaders.{bare_of}
 use Rattle.usb_answers.specs.ReaderAt.{ReaderAt, reader_place, reader_at, state_of_reader}
@@ -25,15 +24,15 @@ abbrev pub nothing_consumed : List ℕ → Option (List Item)
 nothing_consumed [] = Some []
 nothing_consumed tickets = None
 
--- an endpoint of which a reader was made
-abbrev pub as_read : Endpoint → Endpoint
-as_read h = record h { was_read = true }
+-- an endpoint of which a reader or a writer was made
+abbrev pub as_streamed : Endpoint → Endpoint
+as_streamed h = record h { was_streamed = true }
 
 -- an endpoint becomes a reader's, and its name is free
 abbrev pub with_reader : State → ℕ → ℕ → ℕ → Endpoint → State
 with_reader state r e size h =
     record state {
-      endpoints = set_name (freed state.endpoints e) (reader_place r) (as_read h);
+      endpoints = set_name (freed state.endpoints e) (reader_place r) (as_streamed h);
       readers = set_name state.readers r (record { bare = bare_of (fresh_reader (kept h) size); consumed = nothing_consumed h.tickets });
     }
 
@@ -64,10 +63,10 @@ unfoldable pub inner_answer : State → ℕ → ℕ → Answer
 inner_answer state e r =
     if_open (reader_at state r) (λ x. if is_free state.endpoints e then ok_answer (without_reader state e r x) else barred state) (barred state)
 
--- an endpoint behind a call of its reader: each ticket that came to the journal is one of its tickets (from `old` many to
+-- an endpoint behind a call of its reader or writer: each ticket that came to the journal is one of its tickets (from `old` many to
 -- `new` many), and those that are not pending were taken
-abbrev pub read_endpoint : ℕ → ℕ → List ℕ → Endpoint → Endpoint
-read_endpoint old new pending h =
+abbrev pub called_endpoint : ℕ → ℕ → List ℕ → Endpoint → Endpoint
+called_endpoint old new pending h =
     record h {
       tickets = h.tickets ++ numbers_from old (new - old);
       taken = length (h.tickets ++ numbers_from old (new - old)) - length pending;
@@ -78,14 +77,9 @@ abbrev pub called : State → ℕ → Option (List Item) → Reading HostState �
 called state r consumed w =
     record state {
       host = w.bus;
-      endpoints = change_named (read_endpoint (tickets_of state) (tickets_of (with_host state w.bus)) w.reader.endpoint.pending) state.endpoints (reader_place r);
+      endpoints = change_named (called_endpoint (tickets_of state) (tickets_of (with_host state w.bus)) w.reader.endpoint.pending) state.endpoints (reader_place r);
       readers = change_named (λ x. record { bare = bare_of w.reader; consumed = consumed }) state.readers r;
     }
-
--- whether so many submissions are barred, where so many transfers are pending: where more than 64 would be, or more than
--- 1,024 tickets would be unreaped
-abbrev pub bars_need : List Event → ℕ → ℕ → Bool
-bars_need past pending need = nat_lt 64 (pending + need) || nat_lt 1024 (unreaped past + need)
 
 -- a reader of which so many transfers are to be pending
 abbrev pub with_count : ℕ → ReaderState → ReaderState

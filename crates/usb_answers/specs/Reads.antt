@@ -18,7 +18,8 @@ use Rattle.usb_names.specs.Names.{change_named}
 use Rattle.usb_answers.specs.State.{State, pending}
 use Rattle.usb_answers.specs.BareReaders.{bare_of}
 use Rattle.usb_answers.specs.ReaderAt.{ReaderAt, reader_at, state_of_reader}
-use Rattle.usb_answers.specs.Readers.{called, bars_need}
+use Rattle.usb_answers.specs.Readers.{called}
+use Rattle.usb_writer_lines.specs.Needs.{bars_need}
 use Rattle.usb_answers.specs.Answer.{Answer, told, barred, ok_answer, if_open}
 use Rattle.usb_answers.specs.Steps.{lent, then_rested, stepped_all}
 

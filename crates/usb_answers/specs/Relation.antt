@@ -3,9 +3,10 @@ use Rattle.std.specs.Prelude.{ℕ, ◌≡◌, ◌≤◌, Some, length, map}
 use Rattle.std.specs.Option.{option_map}
 use Rattle.usb_answers.specs.SessionState.{SessionState}
 use Rattle.usb_names.specs.Names.{named}
-use Rattle.usb_answers.specs.State.{State, Endpoint, Reader, kept}
+use Rattle.usb_answers.specs.State.{State, Endpoint, Reader, Writer, kept}
 
--- what a session keeps of a state: of each endpoint the tickets that were not taken, and of each reader not what it consumed
+-- what a session keeps of a state: of each endpoint the tickets that were not taken, of each reader not what it consumed, and of each
+-- writer not its calls
 abbrev pub session_of : State → SessionState
 session_of state =
     record {
@@ -14,6 +15,7 @@ session_of state =
       interfaces = state.interfaces;
       endpoints = map (option_map kept) state.endpoints;
       readers = map (option_map (λ (x : Reader). x.bare)) state.readers;
+      writers = map (option_map (λ (x : Writer). x.bare)) state.writers;
       futures = state.futures;
       tree = state.tree;
       packets = state.packets;

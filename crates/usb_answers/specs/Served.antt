@@ -8,7 +8,7 @@ use Rattle.usb_kernel.specs.Completions.{completion}
 use Rattle.usb_kernel.specs.Tickets.{tickets}
 use Rattle.usb_bus.specs.Completions.{transfer_completion}
 use Rattle.usb_script.specs.declared.item.Item.{Item}
-use Rattle.usb_script.specs.declared.item.Item.TheVariants.{CloseEndpoint, CloseReader}
+use Rattle.usb_script.specs.declared.item.Item.TheVariants.{CloseEndpoint, CloseReader, CloseWriter}
 use Rattle.usb_ledger.specs.declared.ends.TicketEnd.{TicketEnd}
 use Rattle.usb_ledger.specs.declared.ends.TicketEnd.TheVariants.{Taken, Dropped, Reclaimed}
 use Rattle.usb_host.specs.HostState.{HostState}
@@ -18,10 +18,11 @@ use Rattle.usb_lines.specs.Completions.{polled_line}
 use Rattle.usb_names.specs.Names.{named}
 use Rattle.usb_answers.specs.State.{State, Endpoint, tickets_of}
 use Rattle.usb_answers.specs.ReaderAt.{endpoint_place, reader_place}
+use Rattle.usb_answers.specs.WriterAt.{writer_place}
 use Rattle.usb_answers.specs.Kinds.{is_of_control}
 use Rattle.usb_answers.specs.Answer.{Answer}
 use Rattle.usb_answers.specs.Answers.{answer}
-use Rattle.usb_answers.specs.Ends.{readers_closed, endpoints_closed}
+use Rattle.usb_answers.specs.Ends.{readers_closed, writers_closed, endpoints_closed}
 use Rattle.usb_answers.specs.Output.{start, final_host}
 
 -- a closed endpoint: the endpoint as it is when it is closed, the journal right before that, and the lines that
@@ -35,13 +36,13 @@ pub record ClosedEndpoint : Type 0 where
 abbrev pub taken_under : State → ℕ → ℕ
 taken_under state e = option_map_or (λ (h : Endpoint). h.taken) (named state.endpoints e) 0
 
--- whether a reader was made of the endpoint that is open under a name
-abbrev pub was_read_under : State → ℕ → Bool
-was_read_under state e = option_map_or (λ (h : Endpoint). h.was_read) (named state.endpoints e) false
+-- whether a reader or a writer was made of the endpoint that is open under a name
+abbrev pub was_streamed_under : State → ℕ → Bool
+was_streamed_under state e = option_map_or (λ (h : Endpoint). h.was_streamed) (named state.endpoints e) false
 
--- the line of an answer, where the answer takes a ticket of what is open under a name, and no reader was made of that
+-- the line of an answer, where the answer takes a ticket of what is open under a name, of which no reader or writer was made
 abbrev pub line_taking : State → Answer → ℕ → List (List ℕ)
-line_taking state a e = if nat_lt (taken_under state e) (taken_under a.state e) && not (was_read_under a.state e) then a.line ∷ [] else []
+line_taking state a e = if nat_lt (taken_under state e) (taken_under a.state e) && not (was_streamed_under a.state e) then a.line ∷ [] else []
 
 -- for each name the lines that printed completions of the endpoint that is open under it, with that
 -- of this answer; `lines` has those before it
@@ -57,16 +58,22 @@ closed_as past lines (Some e) = record { endpoint = e; past = past; lines = line
 abbrev pub closed_under : State → (ℕ → List (List ℕ)) → ℕ → List ClosedEndpoint
 closed_under state lines e = closed_as state.host.kernel.past (lines e) (named state.endpoints e)
 
--- the endpoint that an item closes, which may be a reader's
+-- the endpoint that an item closes, which may be a reader's or a writer's
 abbrev pub closed_by : State → (ℕ → List (List ℕ)) → Item → List ClosedEndpoint
 closed_by state lines (CloseEndpoint e) = closed_under state lines (endpoint_place e)
 closed_by state lines (CloseReader r) = closed_under state lines (reader_place r)
+closed_by state lines (CloseWriter w) = closed_under state lines (writer_place w)
 closed_by state lines item = []
 
 -- those of readers that the end of the session closes, of the names below k in order
 abbrev pub read_at_end : State → (ℕ → List (List ℕ)) → ℕ → List ClosedEndpoint
 read_at_end state lines zero = []
 read_at_end state lines (suc k) = read_at_end state lines k ++ closed_under (readers_closed state k) lines (reader_place k)
+
+-- then those of writers
+abbrev pub written_at_end : State → (ℕ → List (List ℕ)) → ℕ → List ClosedEndpoint
+written_at_end state lines zero = []
+written_at_end state lines (suc k) = written_at_end state lines k ++ closed_under (writers_closed state k) lines (writer_place k)
 
 -- and then those that have names of their own
 abbrev pub closed_at_end : State → (ℕ → List (List ℕ)) → ℕ → List ClosedEndpoint
@@ -75,7 +82,8 @@ closed_at_end state lines (suc k) = closed_at_end state lines k ++ closed_under 
 
 -- the endpoints that these items close, and then the end of the session
 abbrev pub closed_endpoints_from : State → (ℕ → List (List ℕ)) → List Item → List ClosedEndpoint
-closed_endpoints_from state lines [] = read_at_end state lines 64 ++ closed_at_end (readers_closed state 64) lines 64
+closed_endpoints_from state lines [] =
+    read_at_end state lines 64 ++ written_at_end (readers_closed state 64) lines 64 ++ closed_at_end (writers_closed (readers_closed state 64) 64) lines 64
 closed_endpoints_from state lines (item ∷ items) = closed_by state lines item ++ closed_endpoints_from (answer state item).state (lines_behind state (answer state item) lines) items
 
 -- each endpoint that a script opens, as it is when it is closed
@@ -100,14 +108,14 @@ abbrev pub end_given_up : List Event → ℕ → TicketEnd
 end_given_up past t = if is_some (completion past t) then Dropped else Reclaimed
 
 -- An endpoint's tickets are in the order of their submission (`rising`). The first of them, `taken`
--- many, were taken: these have the end `Taken`, and where no reader was made of it the lines that
--- were printed are those of their completions by the last journal, in this order (`printed`; a wait
--- prints the same line as a poll, and a reader prints bytes). The others were given up at the close,
+-- many, were taken: these have the end `Taken`, and where no reader or writer was made of it the
+-- lines that were printed are those of their completions by the last journal, in this order
+-- (`printed`; a wait prints the same line as a poll, but a reader prints bytes, and a writer counts). The others were given up at the close,
 -- with the end that comes of that (`others`)
 pub record IsServedInOrder (last : HostState) (h : ClosedEndpoint) : Type 0 where
   pub rising : IsStrictlyIncreasing h.endpoint.tickets
   pub few : h.endpoint.taken ≤ length h.endpoint.tickets
-  pub printed : h.endpoint.was_read ≡ false → h.lines ≡ map (λ t. polled_line (transfer_completion last.kernel.past t)) (take h.endpoint.taken h.endpoint.tickets)
+  pub printed : h.endpoint.was_streamed ≡ false → h.lines ≡ map (λ t. polled_line (transfer_completion last.kernel.past t)) (take h.endpoint.taken h.endpoint.tickets)
   pub taken : All (λ t. end_at last.tickets t ≡ Some Taken) (take h.endpoint.taken h.endpoint.tickets)
   pub others : All (λ t. end_at last.tickets t ≡ Some (end_given_up h.past t)) (drop h.endpoint.taken h.endpoint.tickets)
 

@@ -11,8 +11,11 @@ use Rattle.usb_device.specs.HandleStates.{InterfaceState}
 use Rattle.usb_device.specs.Futures.{FutureState}
 use Rattle.usb_io.specs.declared.any_reader.AnyReader.{AnyReader}
 use Rattle.usb_io.specs.AnyReaders.{reader_of}
+use Rattle.usb_writes.specs.declared.any_writer.AnyWriter.{AnyWriter}
+use Rattle.usb_writes.specs.AnyWriters.{writer_of}
 use Rattle.usb_answers.specs.declared.session.Session.TheInside.{Inside}
 use Rattle.usb_answers.specs.BareReaders.{BareReader, bare_of}
+use Rattle.usb_answers.specs.BareWriters.{BareWriter, bare_writer}
 use Rattle.usb_answers.specs.SessionState.{SessionState, IsSound}
 
 -- the endpoint of a reader
@@ -23,26 +26,36 @@ endpoint_of r = (reader_of r).endpoint
 abbrev pub bare_reader_of : AnyReader → BareReader
 bare_reader_of r = bare_of (reader_of r)
 
--- the endpoints that are open, and behind them those of the readers
-abbrev pub endpoints_with : List (Option AnyEndpoint) → List (Option AnyReader) → List (Option EndpointState)
-endpoints_with endpoints readers = map (option_map state_of) endpoints ++ map (option_map endpoint_of) readers
+-- the endpoint of a writer
+abbrev pub writer_endpoint : AnyWriter → EndpointState
+writer_endpoint w = (writer_of w).endpoint
+
+-- and the rest of it
+abbrev pub bare_writer_of : AnyWriter → BareWriter
+bare_writer_of w = bare_writer (writer_of w)
+
+-- the endpoints that are open, and behind them those of the readers, and then those of the writers
+abbrev pub endpoints_with : List (Option AnyEndpoint) → List (Option AnyReader) → List (Option AnyWriter) → List (Option EndpointState)
+endpoints_with endpoints readers writers =
+    map (option_map state_of) endpoints ++ (map (option_map endpoint_of) readers ++ map (option_map writer_endpoint) writers)
 
 -- a session by its parts
-abbrev pub session_made : Tree → List UdevPacket → HostState → List (Option ℕ) → List (Option InterfaceState) → List (Option AnyEndpoint) → List (Option AnyReader) → List (Option FutureState) → SessionState
-session_made tree packets host devices interfaces endpoints readers futures =
+abbrev pub session_made : Tree → List UdevPacket → HostState → List (Option ℕ) → List (Option InterfaceState) → List (Option AnyEndpoint) → List (Option AnyReader) → List (Option AnyWriter) → List (Option FutureState) → SessionState
+session_made tree packets host devices interfaces endpoints readers writers futures =
     record {
       host = host;
       devices = devices;
       interfaces = interfaces;
-      endpoints = endpoints_with endpoints readers;
+      endpoints = endpoints_with endpoints readers writers;
       readers = map (option_map bare_reader_of) readers;
+      writers = map (option_map bare_writer_of) writers;
       futures = futures;
       tree = tree;
       packets = packets;
     }
 
 abbrev pub made_of : Inside → SessionState
-made_of s = session_made s.tree s.watch s.host s.devices.items s.interfaces.items s.endpoints.items s.readers.items s.futures.items
+made_of s = session_made s.tree s.watch s.host s.devices.items s.interfaces.items s.endpoints.items s.readers.items s.writers.items s.futures.items
 
 abbrev pub IsSoundInside : Inside → Type 0
 IsSoundInside s = IsSound (made_of s)

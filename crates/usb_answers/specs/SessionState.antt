@@ -15,16 +15,18 @@ use Rattle.usb_device.specs.Futures.{FutureState, StandsFuture}
 use Rattle.usb_device.specs.DeviceLaws.{DevicesAreHeld}
 use Rattle.usb_names.specs.Names.{named}
 use Rattle.usb_answers.specs.BareReaders.{BareReader}
+use Rattle.usb_answers.specs.BareWriters.{BareWriter}
 
 -- the host, and what is open by the number of its name: the keys of devices, the interfaces, the endpoints as their calls see them (those
--- of readers behind the 64 others), the readers but for their endpoints, and the futures; the tree of attributes, and the packets of udev
--- that are left
+-- of readers behind the 64 others, and then those of writers), the readers and the writers but for their endpoints, and the futures; the
+-- tree of attributes, and the packets of udev that are left
 pub record SessionState : Type 0 where
   pub host : HostState
   pub devices : List (Option ℕ)
   pub interfaces : List (Option InterfaceState)
   pub endpoints : List (Option EndpointState)
   pub readers : List (Option BareReader)
+  pub writers : List (Option BareWriter)
   pub futures : List (Option FutureState)
   pub tree : Tree
   pub packets : List UdevPacket
@@ -57,7 +59,7 @@ abbrev pub KeysAreNamed : List (Option HostEndpoint) → List (Option EndpointSt
 KeysAreNamed opened endpoints futures =
     (key : ℕ) → key_at opened key ≡ true → IsNamed endpoint_key endpoints key ⊎ IsNamed future_key futures key
 
--- between calls no step is left; there are 64 names of each kind, and so 128 places for endpoints, whose maximum packet size has 11 bits; what is open under a name stands in the host; a device and an interface have as many open handles as there
+-- between calls no step is left; there are 64 names of each kind, and so 192 places for endpoints, whose maximum packet size has 11 bits; what is open under a name stands in the host; a device and an interface have as many open handles as there
 -- are names of them; each device that the host keeps is held; no endpoint and no future is open under two names, and no two of them have one key;
 -- a future that is open under a name still has its ticket; and each endpoint that is open at the host is open under a name, or is a future's.
 -- (In `endpoints_differ` d and e are places of endpoints, and in `futures_differ` m and n of names of futures)
@@ -65,8 +67,9 @@ pub record IsSound (s : SessionState) : Type 0 where
   pub idle : s.host.steps ≡ []
   pub device_names : length s.devices ≡ 64
   pub interface_names : length s.interfaces ≡ 64
-  pub endpoint_names : length s.endpoints ≡ 128
+  pub endpoint_names : length s.endpoints ≡ 192
   pub reader_names : length s.readers ≡ 64
+  pub writer_names : length s.writers ≡ 64
   pub future_names : length s.futures ≡ 64
   pub devices_stand : (d key : ℕ) → named s.devices d ≡ Some key → StandsDevice s.host key
   pub devices_counted : (key : ℕ) (o : OpenDevice) → value_at s.host.devices key ≡ Some o → count_by (is_device_of key) s.devices ≡ o.handles

@@ -9,10 +9,12 @@ use Rattle.usb_host.specs.HostState.{HostState}
 use Rattle.usb_device.specs.HandleStates.{InterfaceState}
 use Rattle.usb_device.specs.Futures.{FutureState}
 use Rattle.usb_io.specs.Streams.{Item}
+use Rattle.usb_writes.specs.Told.{WriterCalls}
 use Rattle.usb_answers.specs.BareReaders.{BareReader}
+use Rattle.usb_answers.specs.BareWriters.{BareWriter}
 
 -- an open endpoint: where its submissions go, its tickets in the order of submission, how many of them were taken, and
--- whether a reader was made of it
+-- whether a reader or a writer was made of it
 pub record Endpoint : Type 0 where
   pub device : ℕ
   pub address : ℕ
@@ -21,7 +23,7 @@ pub record Endpoint : Type 0 where
   pub key : ℕ
   pub tickets : List ℕ
   pub taken : ℕ
-  pub was_read : Bool
+  pub was_streamed : Bool
 
 -- an open reader but for its endpoint. While it is framed (its endpoint had no ticket before, and it is read until short
 -- packets alone) also what it consumed: the bytes that reads handed over or `sconsume` took off, and the ends that
@@ -30,16 +32,23 @@ pub record Reader : Type 0 where
   pub bare : BareReader
   pub consumed : Option (List Item)
 
--- the host, and what is open by the number of its name: the keys of devices, the interfaces, the endpoints, the readers, and
--- the control transfers on their way (futures); the tree of attributes, and the packets of udev that are still to be looked
--- at. The list of endpoints has those of the readers, too: behind the 64 with names of endpoints, by the numbers of the
--- readers' names
+-- an open writer but for its endpoint. While it alone used its endpoint (which had no ticket before) also its accepted calls,
+-- and the failed transfers that its calls answered
+pub record Writer : Type 0 where
+  pub bare : BareWriter
+  pub calls : Option WriterCalls
+
+-- the host, and what is open by the number of its name: the keys of devices, the interfaces, the endpoints, the readers, the
+-- writers, and the control transfers on their way (futures); the tree of attributes, and the packets of udev that are still
+-- to be looked at. The list of endpoints has those of the readers and writers, too: behind the 64 with names of endpoints
+-- those of readers and then those of writers, by the numbers of their names
 pub record State : Type 0 where
   pub host : HostState
   pub devices : List (Option ℕ)
   pub interfaces : List (Option InterfaceState)
   pub endpoints : List (Option Endpoint)
   pub readers : List (Option Reader)
+  pub writers : List (Option Writer)
   pub futures : List (Option FutureState)
   pub tree : Tree
   pub packets : List UdevPacket

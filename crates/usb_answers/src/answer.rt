@@ -5,7 +5,7 @@ ghost use Rattle.usb_script.specs.ItemKinds.{places_in};
 ghost use Rattle.usb_answers.specs.State.{State};
 ghost use Rattle.usb_answers.specs.Answered.{Answers};
 ghost use Rattle.usb_answers.specs.Answers.{answer};
-ghost use Rattle.usb_answers.specs.Kinds.{is_of_endpoint, is_of_interface, is_of_handle, is_of_reader, sets_reader, is_of_control, asks_descriptor, is_of_tree};
+ghost use Rattle.usb_answers.specs.Kinds.{is_of_endpoint, is_of_interface, is_of_handle, is_of_reader, sets_reader, is_of_writer, sets_writer, is_of_control, asks_descriptor, is_of_tree};
 
 use crate::session::Session;
 use usb_desc::NoMemory;
@@ -207,6 +207,61 @@ impl Session {
         }
     }
 
+    /// The answer to a call by which a writer is made of an endpoint, set or closed.
+    #[tactic(auto, unfolding(crate::specs::Answers::answer))]
+    fn answer_writer_setting(&mut self, line: &mut String, item: Item) -> Result<(), NoMemory>
+        requires kind { IsTrue (sets_writer item) }
+        requires spare { places_in item ≤ self.old.host.kernel.spare }
+        ensures answered { Answers self.old self.new line.old line.new result
+            (λ state. answer state item) }
+        ensures spare { OnOk result
+            (self.old.host.kernel.spare ≤ self.new.host.kernel.spare + places_in item) }
+    {
+        match item {
+            Item::Writer {
+                writer,
+                endpoint,
+                transfer_size,
+            } => self.writer(line, writer, endpoint, transfer_size),
+            Item::WriterIntoInner { endpoint, writer } => self.writer_inner(line, endpoint, writer),
+            Item::SetWriterTransfers { writer, count } => {
+                self.set_writer_transfers(line, writer, count)
+            }
+            Item::SetWriteTimeout { writer, timeout } => {
+                self.set_write_timeout(line, writer, timeout)
+            }
+            Item::CloseWriter { writer } => self.close_writer(line, writer),
+            _ => unreachable!(),
+        }
+    }
+
+    /// The answer to a call on a writer that is open.
+    #[tactic(auto, unfolding(crate::specs::Answers::answer))]
+    fn answer_writer(&mut self, line: &mut String, item: Item) -> Result<(), NoMemory>
+        requires kind { IsTrue (is_of_writer item) }
+        requires spare { places_in item ≤ self.old.host.kernel.spare }
+        ensures answered { Answers self.old self.new line.old line.new result
+            (λ state. answer state item) }
+        ensures spare { OnOk result
+            (self.old.host.kernel.spare ≤ self.new.host.kernel.spare + places_in item) }
+    {
+        match item {
+            Item::Write {
+                writer,
+                bytes,
+                steps,
+            } => self.write(line, writer, &bytes, steps),
+            Item::PollWrite { writer, bytes } => self.poll_write(line, writer, &bytes),
+            Item::Submit { writer } => self.submit_buffer(line, writer),
+            Item::SubmitEnd { writer } => self.submit_end(line, writer),
+            Item::Flush { writer, steps } => self.flush(line, writer, steps),
+            Item::PollFlush { writer } => self.poll_flush(line, writer),
+            Item::FlushEnd { writer, steps } => self.flush_end(line, writer, steps),
+            Item::PollFlushEnd { writer } => self.poll_flush_end(line, writer),
+            item => self.answer_writer_setting(line, item),
+        }
+    }
+
     /// The answer to a request for a descriptor.
     #[tactic(auto, unfolding(crate::specs::Answers::answer))]
     fn answer_request(&mut self, line: &mut String, item: Item) -> Result<(), NoMemory>
@@ -349,6 +404,19 @@ impl Session {
             | Item::Consume { .. }
             | Item::IsEnd { .. }
             | Item::ConsumeEnd { .. } => self.answer_reader(line, item),
+            Item::Writer { .. }
+            | Item::WriterIntoInner { .. }
+            | Item::SetWriterTransfers { .. }
+            | Item::SetWriteTimeout { .. }
+            | Item::CloseWriter { .. }
+            | Item::Write { .. }
+            | Item::PollWrite { .. }
+            | Item::Submit { .. }
+            | Item::SubmitEnd { .. }
+            | Item::Flush { .. }
+            | Item::PollFlush { .. }
+            | Item::FlushEnd { .. }
+            | Item::PollFlushEnd { .. } => self.answer_writer(line, item),
             item => self.answer_handle(line, item),
         }
     }

@@ -11,12 +11,12 @@ ghost use Rattle.usb_answers.specs.Answered.{Answers};
 ghost use Rattle.usb_answers.specs.TargetCalls.{DevicesStand, InterfacesStand, KeepsHandles, TargetAnswers, number_of_target, as_tried};
 
 use crate::session::Session;
-use crate::submitting::MOST_UNREAPED;
 use usb_desc::{Fail, NoMemory};
 use usb_device::{Device, Host, Interface};
 use usb_lines::{write_condition, write_received, write_sent};
 use usb_names::open_at;
 use usb_script::{ControlData, ControlTarget, Setup, Steps, Timeout};
+use usb_writer_lines::MOST_UNREAPED;
 
 /// Whether a control transfer is barred: too many tickets are unreaped.
 pub fn bars_control(host: &Host) -> bool

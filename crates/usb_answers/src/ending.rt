@@ -1,19 +1,21 @@
 //! The end of a session.
 
-ghost use Rattle.std.specs.Prelude.{◌≡◌, ◌<◌, ℕ, Some, None};
+ghost use Rattle.std.specs.Prelude.{◌≡◌, ◌<◌, ◌≤◌, ℕ, Some, None};
 ghost use Rattle.usb_kernel.specs.Legal.{IsLawful};
 ghost use Rattle.usb_host.specs.Finishes.{HasEnds, HasCompletions, KeepsNothing};
 ghost use Rattle.usb_registry.specs.History.{value_at};
 ghost use Rattle.usb_answers.specs.State.{State};
 ghost use Rattle.usb_names.specs.Names.{named, freed};
 ghost use Rattle.usb_answers.specs.ReaderAt.{reader_place};
-ghost use Rattle.usb_answers.specs.Ends.{readers_closed, endpoints_closed, futures_closed, interfaces_closed, devices_closed, ended};
+ghost use Rattle.usb_answers.specs.WriterAt.{writer_place};
+ghost use Rattle.usb_answers.specs.Ends.{readers_closed, writers_closed, endpoints_closed, futures_closed, interfaces_closed, devices_closed, ended};
 ghost use Rattle.usb_answers.specs.Relation.{Represents};
 ghost use Rattle.usb_answers.specs.Accounts.{Accounted};
 
 use crate::session::Session;
 use usb_device::Host;
 use usb_names::drop_names;
+use usb_script::Name;
 
 impl Session {
     /// Closes the readers by number.
@@ -22,8 +24,27 @@ impl Session {
             Represents self.new (readers_closed state 64) }
         ensures none { (r : ℕ) → r < 64 → named self.new.endpoints (reader_place r) ≡ None }
     {
-        for name in 0..64 {
+        for number in 0..64 {
+            let Some(name) = Name::new(number) else {
+                unreachable!()
+            };
             self.close_reader_at(name);
+        }
+    }
+
+    /// Closes the writers by number.
+    fn close_writers(&mut self)
+        ensures stands { (state : State) → Represents self.old state →
+            Represents self.new (writers_closed state 64) }
+        ensures none { (w : ℕ) → w < 64 → named self.new.endpoints (writer_place w) ≡ None }
+        ensures readers { (r : ℕ) → r < 64 → named self.new.endpoints (reader_place r)
+            ≡ named self.old.endpoints (reader_place r) }
+    {
+        for number in 0..64 {
+            let Some(name) = Name::new(number) else {
+                unreachable!()
+            };
+            self.close_writer_at(name);
         }
     }
 
@@ -32,8 +53,8 @@ impl Session {
         ensures stands { (state : State) → Represents self.old state →
             Represents self.new (endpoints_closed state 64) }
         ensures none { (e : ℕ) → e < 64 → named self.new.endpoints e ≡ None }
-        ensures readers { (r : ℕ) → named self.new.endpoints (reader_place r)
-            ≡ named self.old.endpoints (reader_place r) }
+        ensures streams { (e : ℕ) → 64 ≤ e → named self.new.endpoints e
+            ≡ named self.old.endpoints e }
     {
         for name in 0..64 {
             self.close_endpoint(name);
@@ -79,7 +100,7 @@ impl Session {
         }
     }
 
-    /// Closes what is open, readers, then endpoints, then futures, then interfaces and then devices, each by number; and gives the host,
+    /// Closes what is open, readers, then writers, then endpoints, then futures, then interfaces and then devices, each by number; and gives the host,
     /// at which all tickets are discarded and then reaped, by number. Then the journal is lawful, each ticket has its completion and
     /// its end, and the host keeps no open device, no claimed interface and no endpoint.
     pub fn end(self) -> Host
@@ -94,6 +115,7 @@ impl Session {
     {
         let mut session = self;
         session.close_readers();
+        session.close_writers();
         session.close_endpoints();
         session.close_futures();
         session.close_interfaces();
@@ -104,6 +126,7 @@ impl Session {
             interfaces,
             endpoints,
             readers,
+            writers,
             futures,
             tree: _tree,
             watch: _watch,
@@ -111,6 +134,7 @@ impl Session {
         drop_names(futures);
         drop_names(endpoints);
         drop_names(readers);
+        drop_names(writers);
         drop_names(interfaces);
         drop_names(devices);
         host.finish();

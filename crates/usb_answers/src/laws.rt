@@ -5,6 +5,7 @@ ghost use Rattle.usb_answers.specs.FinalFates.{FatesAreFinal, FatesOfScripts};
 ghost use Rattle.usb_answers.specs.Places.{PollsAnswerForTheirPlace, CompletionsAreTaken};
 ghost use Rattle.usb_answers.specs.Behind.{ScriptsGoOn};
 ghost use Rattle.usb_answers.specs.Framed.{FramedScriptsFollow};
+ghost use Rattle.usb_answers.specs.WrittenScripts.{ScriptsAreWritten};
 ghost use Rattle.usb_answers.specs.Served.{EndpointsAreServedInOrder, ScriptsAreCounted};
 
 /// What is held is pending at an endpoint that is open under a name, or is the ticket of a control
@@ -49,4 +50,11 @@ pub fn scripts_go_on()
 /// its endpoint's stream, and a read until a short packet gives no byte only where an end is next.
 pub fn framed_readers_follow()
     ensures framed { FramedScriptsFollow }
+{}
+
+/// The tickets of the endpoint of a writer that alone used it carry, before the first line of a
+/// script and behind each, the transfers of the writer's accepted calls, in order; and each failed
+/// transfer that a call took is that call's error.
+pub fn writers_tell()
+    ensures written { ScriptsAreWritten }
 {}

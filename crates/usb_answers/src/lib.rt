@@ -15,6 +15,7 @@ mod ending;
 mod endpoints;
 mod fates;
 mod filling;
+mod flushing;
 mod halting;
 mod laws;
 mod listing;
@@ -34,11 +35,14 @@ mod summary;
 mod transferring;
 mod waiting;
 mod watching;
+mod writer_names;
+mod writer_settings;
+mod writing;
 
 pub use fates::{tickets, write_fate};
 pub use laws::{
     each_ticket_is_accounted_for, endpoints_are_served_in_order, fates_are_final,
-    framed_readers_follow, scripts_go_on,
+    framed_readers_follow, scripts_go_on, writers_tell,
 };
 pub use session::Session;
 pub use summary::Summary;

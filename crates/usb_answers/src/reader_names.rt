@@ -74,15 +74,15 @@ impl Session {
         write_ok(line)
     }
 
-    /// Closes what is open under the number of a reader's name, and says whether anything was.
-    pub(crate) fn close_reader_at(&mut self, number: u8) -> bool
-        ensures was_open { result ≡ is_some (named self.old.endpoints (reader_place number)) }
+    /// Closes what is open under a reader's name, and says whether anything was.
+    pub(crate) fn close_reader_at(&mut self, name: Name) -> bool
+        ensures was_open { result ≡ is_some (named self.old.endpoints (reader_place name)) }
         ensures stands { (state : State) → Represents self.old state →
-            Represents self.new (reader_closed state number) }
-        ensures freed { self.new.endpoints ≡ freed self.old.endpoints (reader_place number) }
+            Represents self.new (reader_closed state name) }
+        ensures freed { self.new.endpoints ≡ freed self.old.endpoints (reader_place name) }
         ensures spare { self.new.host.kernel.spare ≡ self.old.host.kernel.spare }
     {
-        let Some(reader) = take_at(&mut self.readers, number) else {
+        let Some(reader) = take_at(&mut self.readers, name.number()) else {
             return false;
         };
         reader.close(&mut self.host);
@@ -95,7 +95,7 @@ impl Session {
             (λ state. close_reader_answer state name) }
         ensures spare { self.new.host.kernel.spare ≡ self.old.host.kernel.spare }
     {
-        if self.close_reader_at(name.number()) {
+        if self.close_reader_at(name) {
             write_ok(line)
         } else {
             write_condition(line)

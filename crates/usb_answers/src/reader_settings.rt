@@ -7,15 +7,14 @@ ghost use Rattle.usb_host.specs.HostState.{HostState};
 ghost use Rattle.usb_host.specs.HostBus.{bus_of};
 ghost use Rattle.usb_io.specs.AnyReaders.{reader_of};
 ghost use Rattle.usb_io.specs.Readers.{with_read};
-ghost use Rattle.usb_answers.specs.Readers.{bars_need, num_on, num_answer, timeout_on, timeout_answer, cancel_reader_on, cancel_reader_answer};
+ghost use Rattle.usb_writer_lines.specs.Needs.{bars_need};
+ghost use Rattle.usb_answers.specs.Readers.{num_on, num_answer, timeout_on, timeout_answer, cancel_reader_on, cancel_reader_answer};
 ghost use Rattle.usb_answers.specs.Reads.{consume_on, consume_answer, is_end_answer, consume_end_on, consume_end_answer};
 ghost use Rattle.usb_answers.specs.Answered.{Answers};
 ghost use Rattle.usb_answers.specs.OpenCalls.{CallKeeps};
 ghost use Rattle.usb_answers.specs.ReaderCalls.{ReaderAnswers};
 
-use crate::reading::bars_need;
 use crate::session::Session;
-use crate::submitting::MOST_PENDING;
 use usb_desc::NoMemory;
 use usb_device::Host;
 use usb_io::AnyReader;
@@ -23,6 +22,7 @@ use usb_lines::{write_condition, write_ok};
 use usb_names::{open_at, put_at, take_at};
 use usb_script::{Framing, Length, Name, Timeout};
 use usb_stream_lines::{write_consumed_end, write_is_end};
+use usb_writer_lines::{MOST_PENDING, bars_need};
 
 /// Whether a number of transfers can't be set: it is too large, or the submissions that are missing
 /// of one less are barred.

@@ -10,14 +10,13 @@ ghost use Rattle.usb_io.specs.Answers.{IsInTime};
 ghost use Rattle.usb_io.specs.Readers.{turns};
 ghost use Rattle.usb_io.specs.Reads.{reading, GoesAlong};
 ghost use Rattle.usb_streams.specs.HostReads.{read_came, answered, FailedAs};
-ghost use Rattle.usb_answers.specs.Readers.{bars_need};
+ghost use Rattle.usb_writer_lines.specs.Needs.{bars_need};
 ghost use Rattle.usb_answers.specs.Reads.{is_until_short, need_of, read_on, read_answer, poll_read_on, poll_read_answer};
 ghost use Rattle.usb_answers.specs.Answered.{Answers};
 ghost use Rattle.usb_answers.specs.OpenCalls.{CallKeeps};
 ghost use Rattle.usb_answers.specs.ReaderCalls.{ReaderAnswers};
 
 use crate::session::Session;
-use crate::submitting::{MOST_PENDING, MOST_UNREAPED};
 use futures::task::Poll;
 use usb_desc::{Fail, NoMemory};
 use usb_device::Host;
@@ -26,15 +25,7 @@ use usb_lines::{write_condition, write_pending};
 use usb_names::{put_at, take_at};
 use usb_script::{Framing, Name, ReadLength, Steps};
 use usb_stream_lines::{write_read, write_read_fault};
-
-/// Whether so many submissions are barred, where so many transfers of a reader are pending: too many
-/// would be, or too many tickets unreaped.
-pub fn bars_need(host: &Host, pending: usize, need: usize) -> bool
-    ensures barred { result ≡ bars_need host.now.kernel.past pending need }
-{
-    pending.saturating_add(need) > MOST_PENDING
-        || host.kernel().unreaped().saturating_add(need) > MOST_UNREAPED
-}
+use usb_writer_lines::bars_need;
 
 /// Whether a call stops at a short packet.
 fn is_until_short(framing: Framing) -> bool

@@ -17,9 +17,10 @@ use usb_kernel::{Bytes, Kernel, SimDevice};
 use usb_names::{drop_names, no_names};
 use usb_script::Item;
 use usb_setup::{packets_of, tree_of};
+use usb_writes::AnyWriter;
 
-/// A host, what is open under each name (devices, claimed interfaces, endpoints, readers and
-/// control transfers on their way), the tree of attributes, and the packets of udev that are left.
+/// A host, what is open under each name (devices, claimed interfaces, endpoints, readers,
+/// writers and control transfers on their way), the tree of attributes, and the packets of udev that are left.
 ///
 /// It can't be dropped: `end` has to spend it.
 pub struct Session {
@@ -28,6 +29,7 @@ pub struct Session {
     pub(crate) interfaces: Vec<Option<Interface>>,
     pub(crate) endpoints: Vec<Option<AnyEndpoint>>,
     pub(crate) readers: Vec<Option<AnyReader>>,
+    pub(crate) writers: Vec<Option<AnyWriter>>,
     pub(crate) futures: Vec<Option<TransferFuture>>,
     pub(crate) tree: AttrTree,
     pub(crate) watch: HotplugWatch,
@@ -37,7 +39,7 @@ impl Model for Session {
     ghost use Rattle.std.specs.Prelude.{map};
     ghost use Rattle.std.specs.Option.{option_map};
     ghost use Rattle.usb_answers.specs.SessionState.{SessionState};
-    ghost use Rattle.usb_answers.specs.SessionFacts.{endpoints_with, bare_reader_of, IsSoundInside};
+    ghost use Rattle.usb_answers.specs.SessionFacts.{endpoints_with, bare_reader_of, bare_writer_of, IsSoundInside};
 
     ghost Value = { SessionState };
 
@@ -45,8 +47,9 @@ impl Model for Session {
       host = s.host;
       devices = s.devices.items;
       interfaces = s.interfaces.items;
-      endpoints = endpoints_with s.endpoints.items s.readers.items;
+      endpoints = endpoints_with s.endpoints.items s.readers.items s.writers.items;
       readers = map (option_map bare_reader_of) s.readers.items;
+      writers = map (option_map bare_writer_of) s.writers.items;
       futures = s.futures.items;
       tree = s.tree;
       packets = s.watch;
@@ -147,6 +150,7 @@ struct Names {
     interfaces: Vec<Option<Interface>>,
     endpoints: Vec<Option<AnyEndpoint>>,
     readers: Vec<Option<AnyReader>>,
+    writers: Vec<Option<AnyWriter>>,
     futures: Vec<Option<TransferFuture>>,
 }
 
@@ -171,6 +175,7 @@ fn all_names(alloc: Global) -> Result<Names, NoMemory>
     ensures interfaces { IfOk result (λ n. n.interfaces.items ≡ replicate 64 None) }
     ensures endpoints { IfOk result (λ n. n.endpoints.items ≡ replicate 64 None) }
     ensures readers { IfOk result (λ n. n.readers.items ≡ replicate 64 None) }
+    ensures writers { IfOk result (λ n. n.writers.items ≡ replicate 64 None) }
     ensures futures { IfOk result (λ n. n.futures.items ≡ replicate 64 None) }
 {
     let (devices, interfaces) = two_names(alloc)?;
@@ -182,7 +187,7 @@ fn all_names(alloc: Global) -> Result<Names, NoMemory>
             return Err(error);
         }
     };
-    let futures = match no_names(alloc) {
+    let (writers, futures) = match two_names(alloc) {
         Ok(names) => names,
         Err(error) => {
             drop_names(devices);
@@ -197,6 +202,7 @@ fn all_names(alloc: Global) -> Result<Names, NoMemory>
         interfaces,
         endpoints,
         readers,
+        writers,
         futures,
     })
 }
@@ -217,6 +223,7 @@ impl Session {
             interfaces,
             endpoints,
             readers,
+            writers,
             futures,
         } = names;
         Ok(Session {
@@ -225,6 +232,7 @@ impl Session {
             interfaces,
             endpoints,
             readers,
+            writers,
             futures,
             tree,
             watch: watch_devices(alloc, packets),

@@ -19,13 +19,8 @@ use usb_endpoint::AnyEndpoint;
 use usb_lines::{write_condition, write_ok};
 use usb_names::{put_at, take_at};
 use usb_script::{Data, Length, Name};
+use usb_writer_lines::{MOST_PENDING, MOST_UNREAPED};
 use usb_xfer::Buffer;
-
-/// How many transfers of an endpoint may be pending.
-pub const MOST_PENDING: usize = 64;
-
-/// How many tickets may be unreaped.
-pub const MOST_UNREAPED: usize = 1024;
 
 /// Whether an endpoint has this direction.
 pub fn has_direction(endpoint: &AnyEndpoint, direction: Direction) -> bool

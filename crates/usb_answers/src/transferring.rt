@@ -13,13 +13,14 @@ ghost use Rattle.usb_answers.specs.OpenCalls.{CallKeeps, CallAnswers};
 
 use crate::buffers::{in_buffer, out_buffer};
 use crate::session::Session;
-use crate::submitting::{MOST_UNREAPED, has_direction};
+use crate::submitting::has_direction;
 use usb_desc::{Direction, NoMemory};
 use usb_device::{Host, blocking_is_by_steps};
 use usb_endpoint::AnyEndpoint;
 use usb_lines::{write_condition, write_waited};
 use usb_names::{put_at, take_at};
 use usb_script::{Data, Length, Name, Steps, Timeout};
+use usb_writer_lines::MOST_UNREAPED;
 use usb_xfer::Buffer;
 
 /// Whether a blocking transfer is barred: the endpoint has the other direction, a transfer of it is

@@ -13,6 +13,7 @@ ghost use Rattle.usb_answers.specs.Sums.{sum_of};
 ghost use Rattle.usb_answers.specs.Served.{IsCounted, EndpointsAreServed};
 ghost use Rattle.usb_answers.specs.FinalFates.{HasFinalFates};
 ghost use Rattle.usb_answers.specs.Framed.{FramedReadersFollow};
+ghost use Rattle.usb_answers.specs.WrittenScripts.{WritersAreTold};
 ghost use Rattle.usb_answers.specs.Relation.{Represents};
 ghost use Rattle.usb_session.specs.Running.{AllAnswered};
 ghost use Rattle.usb_session.specs.Causes.{Rose, WrotePrefix, FailedLast, TookAtMost, IsWritingError};
@@ -115,6 +116,7 @@ fn answer_items<K: Sink>(
     ensures served { IfOk result (λ _. EndpointsAreServed items.items) }
     ensures fates { IfOk result (λ _. HasFinalFates items.items) }
     ensures framed { IfOk result (λ _. FramedReadersFollow items.items) }
+    ensures told { IfOk result (λ _. WritersAreTold items.items) }
     ensures err { OnErr result
         (WrotePrefix (K.written sink.old) (K.written sink.new) (output items.items)) }
     ensures cause { IsErrOf result SessionError.WriteFault →

@@ -1,7 +1,7 @@
 use Rattle.std.proofs.Common.{◌≡◌, refl, sym}
 use Rattle.std.specs.Prelude.{IsTrue, string_bytes}
 use Rattle.std.proofs.lemmas.List.{append-nil}
-use Rattle.usb_script.specs.declared.item.Item.TheVariants.{Device, Driver, Attribute, Denied, Child, Link, Entry, Root, Uevent, List, Buses, Probe, Match, Hotplug, OpenPath, Now, Open, DeviceDescriptor, Descriptors, CloneDevice, CloseDevice, ActiveConfiguration, Speed, SetConfiguration, Reset, DetachDriver, AttachDriver, Claim, DetachAndClaim, CloneInterface, CloseInterface, SetAltSetting, GetAltSetting, InterfaceDescriptor, Release, Endpoint, SubmitIn, SubmitOut, Pending, Poll, Wait, TransferIn, TransferOut, Cancel, ClearHalt, CloseEndpoint, Reader, IntoInner, SetNumTransfers, SetReadTimeout, CancelReader, CloseReader, Read, PollRead, FillBuf, PollFillBuf, Consume, IsEnd, ConsumeEnd, ControlIn, ControlOut, GetDescriptor, SupportedLanguages, StringDescriptor, StartControlIn, StartControlOut, PollFuture, WaitFuture, CloseFuture, Steps}
+use Rattle.usb_script.specs.declared.item.Item.TheVariants.{Device, Driver, Attribute, Denied, Child, Link, Entry, Root, Uevent, List, Buses, Probe, Match, Hotplug, OpenPath, Now, Open, DeviceDescriptor, Descriptors, CloneDevice, CloseDevice, ActiveConfiguration, Speed, SetConfiguration, Reset, DetachDriver, AttachDriver, Claim, DetachAndClaim, CloneInterface, CloseInterface, SetAltSetting, GetAltSetting, InterfaceDescriptor, Release, Endpoint, SubmitIn, SubmitOut, Pending, Poll, Wait, TransferIn, TransferOut, Cancel, ClearHalt, CloseEndpoint, Reader, IntoInner, SetNumTransfers, SetReadTimeout, CancelReader, CloseReader, Read, PollRead, FillBuf, PollFillBuf, Consume, IsEnd, ConsumeEnd, Writer, WriterIntoInner, SetWriterTransfers, SetWriteTimeout, CloseWriter, Write, PollWrite, Submit, SubmitEnd, Flush, PollFlush, FlushEnd, PollFlushEnd, ControlIn, ControlOut, GetDescriptor, SupportedLanguages, StringDescriptor, StartControlIn, StartControlOut, PollFuture, WaitFuture, CloseFuture, Steps}
 use Rattle.usb_answers.specs.Kinds.{is_of_handle}
 use Rattle.usb_answers.specs.Steps.{steps_answer}
 use Rattle.usb_answers.specs.Answers.{answer}
@@ -74,6 +74,19 @@ answer_handle-requires-clause-kind c =
       | Consume framing r n ↦ λ is. absurd (c.in_default.not-Consume framing r n is)
       | IsEnd r ↦ λ is. absurd (c.in_default.not-IsEnd r is)
       | ConsumeEnd r ↦ λ is. absurd (c.in_default.not-ConsumeEnd r is)
+      | Writer w e size ↦ λ is. absurd (c.in_default.not-Writer w e size is)
+      | WriterIntoInner e w ↦ λ is. absurd (c.in_default.not-WriterIntoInner e w is)
+      | SetWriterTransfers w n ↦ λ is. absurd (c.in_default.not-SetWriterTransfers w n is)
+      | SetWriteTimeout w timeout ↦ λ is. absurd (c.in_default.not-SetWriteTimeout w timeout is)
+      | CloseWriter w ↦ λ is. absurd (c.in_default.not-CloseWriter w is)
+      | Write w bytes steps ↦ λ is. absurd (c.in_default.not-Write w bytes steps is)
+      | PollWrite w bytes ↦ λ is. absurd (c.in_default.not-PollWrite w bytes is)
+      | Submit w ↦ λ is. absurd (c.in_default.not-Submit w is)
+      | SubmitEnd w ↦ λ is. absurd (c.in_default.not-SubmitEnd w is)
+      | Flush w steps ↦ λ is. absurd (c.in_default.not-Flush w steps is)
+      | PollFlush w ↦ λ is. absurd (c.in_default.not-PollFlush w is)
+      | FlushEnd w steps ↦ λ is. absurd (c.in_default.not-FlushEnd w steps is)
+      | PollFlushEnd w ↦ λ is. absurd (c.in_default.not-PollFlushEnd w is)
       | ControlIn target setup wanted timeout steps ↦ λ is. absurd (c.in_default.not-ControlIn target setup wanted timeout steps is)
       | ControlOut target setup bytes timeout steps ↦ λ is. absurd (c.in_default.not-ControlOut target setup bytes timeout steps is)
       | GetDescriptor d kind index language timeout steps ↦ λ is. absurd (c.in_default.not-GetDescriptor d kind index language timeout steps is)

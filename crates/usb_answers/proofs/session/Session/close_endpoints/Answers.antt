@@ -5,7 +5,7 @@ use Rattle.usb_answers.specs.Closes.{closed}
 use Rattle.usb_answers.specs.Ends.{endpoints_closed}
 use Rattle.usb_answers.specs.Relation.{Represents}
 use Rattle.usb_answers.proofs.OpenPlaces.{own_place}
-use Rattle.usb_answers.proofs.EndLemmas.{none-more, same-behind, endpoints_closed-more}
+use Rattle.usb_answers.proofs.EndLemmas.{none-more, same-apart, endpoints_closed-more}
 use Rattle.usb_answers.proofs.session.Session.close_endpoints.Goals as goal
 
 pub loop-name-preserved : goal.loop-name-preserved
@@ -22,5 +22,5 @@ loop-name-preserved c =
           (subst (λ p. Represents c.close_endpoint.new.self (closed (endpoints_closed state name) p)) place
           (c.close_endpoint.ensures.stands (endpoints_closed state name) (c.loop-name.invariant.stands state r)));
       none = none-more before after name rest c.loop-name.invariant.none;
-      readers = λ r. same-behind before after name r below rest ∙ c.loop-name.invariant.readers r;
+      streams = λ e behind. same-apart before after name e (λ same. absurd (omega (arith, below, behind, same))) rest ∙ c.loop-name.invariant.streams e behind;
     }

@@ -6,8 +6,8 @@ use Rattle.usb_answers.specs.Ends.{readers_closed}
 use Rattle.usb_answers.specs.Relation.{Represents}
 use Rattle.usb_answers.proofs.session.Session.close_readers.Given as goal
 
-abbrev pub invariant-loop-name : goal.invariant-loop-name
-invariant-loop-name l = record {
-  stands : (state : State) → Represents l.initial.self state → Represents l.self (readers_closed state l.name);
-  none : (r : ℕ) → r < l.name → named l.self.endpoints (reader_place r) ≡ None;
+abbrev pub invariant-loop-number : goal.invariant-loop-number
+invariant-loop-number l = record {
+  stands : (state : State) → Represents l.initial.self state → Represents l.self (readers_closed state l.number);
+  none : (r : ℕ) → r < l.number → named l.self.endpoints (reader_place r) ≡ None;
 }

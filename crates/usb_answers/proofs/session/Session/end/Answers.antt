@@ -2,14 +2,13 @@ use Rattle.std.proofs.Common.{◌≡◌, ◌∙◌, ℕ, None, ap, sym, refl}
 use Rattle.usb_host.specs.Finishes.{HasEnds, KeepsNothing}
 use Rattle.usb_names.specs.Names.{named}
 use Rattle.usb_answers.specs.State.{State}
-use Rattle.usb_answers.specs.Ends.{readers_closed, endpoints_closed, futures_closed, interfaces_closed, devices_closed}
+use Rattle.usb_answers.specs.Ends.{readers_closed, writers_closed, endpoints_closed, futures_closed, interfaces_closed, devices_closed}
 use Rattle.usb_answers.specs.Relation.{Represents}
 use Rattle.usb_answers.specs.Accounts.{Accounted}
 use Rattle.usb_answers.specs.SessionState.{SessionState}
 use Rattle.usb_answers.specs.SessionFacts.{made_of}
-use Rattle.usb_answers.specs.ReaderAt.{reader_place}
 use Rattle.usb_answers.proofs.TakenOut.{places-made}
-use Rattle.usb_answers.proofs.EndLemmas.{none-all, none-every, none-endpoints, none-readers, end-host, end-ended, end-none, end-empty}
+use Rattle.usb_answers.proofs.EndLemmas.{none-all, none-closed, none-endpoints, none-readers, none-writers, end-host, end-ended, end-none, end-empty}
 use Rattle.usb_answers.proofs.session.Session.end.Goals as goal
 
 pub drop_names-requires : goal.drop_names-requires
@@ -21,37 +20,37 @@ drop_names-requires c = record {
 
 pub drop_names-requires-2 : goal.drop_names-requires-2
 drop_names-requires-2 c = record {
-  none =
-      none-endpoints c.session.inside.endpoints.items c.session.inside.readers.items (places-made c.session.inside c.session.invariant)
-      (none-every (made_of c.session.inside).endpoints c.session.invariant.endpoint_names
-      (λ r below. left (reader_place r) ∙ c.close_endpoints.ensures.readers r ∙ c.close_readers.ensures.none r below)
-      (λ n below. left n ∙ c.close_endpoints.ensures.none n below));
+  none = none-endpoints c.session.inside.endpoints.items c.session.inside.readers.items c.session.inside.writers.items (places-made c.session.inside c.session.invariant)
+      (none-closed c.close_readers.new.self.endpoints c.close_writers.new.self.endpoints c.close_endpoints.new.self.endpoints (made_of c.session.inside).endpoints c.session.invariant.endpoint_names
+      c.close_readers.ensures.none c.close_writers.ensures.readers c.close_writers.ensures.none c.close_endpoints.ensures.streams c.close_endpoints.ensures.none
+      (λ n. ap (λ (v : SessionState). named v.endpoints n) c.session.view_is ∙ ap (λ l. named l n) (c.close_devices.ensures.endpoints ∙ c.close_interfaces.ensures.endpoints ∙ c.close_futures.ensures.endpoints)));
 }
-  where
-    left : (n : ℕ) → named (made_of c.session.inside).endpoints n ≡ named c.close_endpoints.new.self.endpoints n
-    left n = ap (λ (v : SessionState). named v.endpoints n) c.session.view_is ∙ ap (λ l. named l n) (c.close_devices.ensures.endpoints ∙ c.close_interfaces.ensures.endpoints ∙ c.close_futures.ensures.endpoints)
 
 pub drop_names-requires-3 : goal.drop_names-requires-3
 drop_names-requires-3 c = record {
-  none =
-      none-readers c.session.inside.endpoints.items c.session.inside.readers.items (places-made c.session.inside c.session.invariant)
-      (none-every (made_of c.session.inside).endpoints c.session.invariant.endpoint_names
-      (λ r below. left (reader_place r) ∙ c.close_endpoints.ensures.readers r ∙ c.close_readers.ensures.none r below)
-      (λ n below. left n ∙ c.close_endpoints.ensures.none n below));
+  none = none-readers c.session.inside.endpoints.items c.session.inside.readers.items c.session.inside.writers.items (places-made c.session.inside c.session.invariant)
+      (none-closed c.close_readers.new.self.endpoints c.close_writers.new.self.endpoints c.close_endpoints.new.self.endpoints (made_of c.session.inside).endpoints c.session.invariant.endpoint_names
+      c.close_readers.ensures.none c.close_writers.ensures.readers c.close_writers.ensures.none c.close_endpoints.ensures.streams c.close_endpoints.ensures.none
+      (λ n. ap (λ (v : SessionState). named v.endpoints n) c.session.view_is ∙ ap (λ l. named l n) (c.close_devices.ensures.endpoints ∙ c.close_interfaces.ensures.endpoints ∙ c.close_futures.ensures.endpoints)));
 }
-  where
-    left : (n : ℕ) → named (made_of c.session.inside).endpoints n ≡ named c.close_endpoints.new.self.endpoints n
-    left n = ap (λ (v : SessionState). named v.endpoints n) c.session.view_is ∙ ap (λ l. named l n) (c.close_devices.ensures.endpoints ∙ c.close_interfaces.ensures.endpoints ∙ c.close_futures.ensures.endpoints)
 
 pub drop_names-requires-4 : goal.drop_names-requires-4
 drop_names-requires-4 c = record {
+  none = none-writers c.session.inside.endpoints.items c.session.inside.readers.items c.session.inside.writers.items (places-made c.session.inside c.session.invariant)
+      (none-closed c.close_readers.new.self.endpoints c.close_writers.new.self.endpoints c.close_endpoints.new.self.endpoints (made_of c.session.inside).endpoints c.session.invariant.endpoint_names
+      c.close_readers.ensures.none c.close_writers.ensures.readers c.close_writers.ensures.none c.close_endpoints.ensures.streams c.close_endpoints.ensures.none
+      (λ n. ap (λ (v : SessionState). named v.endpoints n) c.session.view_is ∙ ap (λ l. named l n) (c.close_devices.ensures.endpoints ∙ c.close_interfaces.ensures.endpoints ∙ c.close_futures.ensures.endpoints)));
+}
+
+pub drop_names-requires-5 : goal.drop_names-requires-5
+drop_names-requires-5 c = record {
   none =
       none-all c.session.inside.interfaces.items c.session.invariant.interface_names
       (λ n below. ap (λ (v : SessionState). named v.interfaces n) c.session.view_is ∙ ap (λ l. named l n) c.close_devices.ensures.interfaces ∙ c.close_interfaces.ensures.none n below);
 }
 
-pub drop_names-requires-5 : goal.drop_names-requires-5
-drop_names-requires-5 c = record {
+pub drop_names-requires-6 : goal.drop_names-requires-6
+drop_names-requires-6 c = record {
   none =
       none-all c.session.inside.devices.items c.session.invariant.device_names
       (λ n below. ap (λ (v : SessionState). named v.devices n) c.session.view_is ∙ c.close_devices.ensures.none n below);
@@ -68,22 +67,21 @@ returns c =
     let no_interfaces : (i : ℕ) → named s.interfaces i ≡ None =
     none-all s.interfaces c.session.invariant.interface_names
     (λ n below. ap (λ (v : SessionState). named v.interfaces n) c.session.view_is ∙ ap (λ l. named l n) c.close_devices.ensures.interfaces ∙ c.close_interfaces.ensures.none n below) in
-    let left : (n : ℕ) → named s.endpoints n ≡ named c.close_endpoints.new.self.endpoints n =
-    λ n. ap (λ (v : SessionState). named v.endpoints n) c.session.view_is ∙ ap (λ l. named l n) (c.close_devices.ensures.endpoints ∙ c.close_interfaces.ensures.endpoints ∙ c.close_futures.ensures.endpoints) in
     let no_endpoints : (e : ℕ) → named s.endpoints e ≡ None =
-    none-every s.endpoints c.session.invariant.endpoint_names
-    (λ r below. left (reader_place r) ∙ c.close_endpoints.ensures.readers r ∙ c.close_readers.ensures.none r below)
-    (λ n below. left n ∙ c.close_endpoints.ensures.none n below) in
+    none-closed c.close_readers.new.self.endpoints c.close_writers.new.self.endpoints c.close_endpoints.new.self.endpoints s.endpoints c.session.invariant.endpoint_names
+    c.close_readers.ensures.none c.close_writers.ensures.readers c.close_writers.ensures.none c.close_endpoints.ensures.streams c.close_endpoints.ensures.none
+    (λ n. ap (λ (v : SessionState). named v.endpoints n) c.session.view_is ∙ ap (λ l. named l n) (c.close_devices.ensures.endpoints ∙ c.close_interfaces.ensures.endpoints ∙ c.close_futures.ensures.endpoints)) in
     let no_futures : (n : ℕ) → named s.futures n ≡ None =
     none-all s.futures c.session.invariant.future_names
     (λ n below. ap (λ (v : SessionState). named v.futures n) c.session.view_is ∙ ap (λ l. named l n) (c.close_devices.ensures.futures ∙ c.close_interfaces.ensures.futures) ∙ c.close_futures.ensures.none n below) in
-    let stands : (state : State) → Represents c.args.self state → Represents c.close_devices.new.self (devices_closed (interfaces_closed (futures_closed (endpoints_closed (readers_closed state 64) 64) 64) 64) 64) =
+    let stands : (state : State) → Represents c.args.self state → Represents c.close_devices.new.self (devices_closed (interfaces_closed (futures_closed (endpoints_closed (writers_closed (readers_closed state 64) 64) 64) 64) 64) 64) =
     λ state r.
     let read = readers_closed state 64 in
-    let closed = endpoints_closed read 64 in
+    let written = writers_closed read 64 in
+    let closed = endpoints_closed written 64 in
     c.close_devices.ensures.stands (interfaces_closed (futures_closed closed 64) 64)
     (c.close_interfaces.ensures.stands (futures_closed closed 64)
-    (c.close_futures.ensures.stands closed (c.close_endpoints.ensures.stands read (c.close_readers.ensures.stands state r)))) in
+    (c.close_futures.ensures.stands closed (c.close_endpoints.ensures.stands written (c.close_writers.ensures.stands read (c.close_readers.ensures.stands state r))))) in
     let ends : (state : State) → Represents c.args.self state → Accounted state → HasEnds now.tickets =
     λ state r a. end-ended c.close_devices.new.self before now state (ap (λ (v : SessionState). v.host) c.session.view_is)
     (λ n. sym (ap (λ (v : SessionState). named v.endpoints n) c.session.view_is) ∙ no_endpoints n)

@@ -8,9 +8,10 @@ use Rattle.usb_answers.specs.ReaderAt.{endpoint_place}
 use Rattle.usb_answers.specs.Readers.{reader_answer}
 use Rattle.usb_answers.specs.SessionState.{IsSound}
 use Rattle.usb_answers.proofs.Answering.{Gives, answers, answers-same}
-use Rattle.usb_answers.proofs.OpenPlaces.{taken-map}
+use Rattle.usb_answers.proofs.OpenPlaces.{taken-endpoint}
 use Rattle.usb_answers.proofs.TakenOut.{free_again, places-made, same-none}
-use Rattle.usb_answers.proofs.ReaderMoves.{both-same, made-sound, reader-gives, reader-used, reader-none, reader-out, rounded-small, put_same}
+use Rattle.usb_answers.proofs.Moves.{rounded-small, put_same}
+use Rattle.usb_answers.proofs.ReaderMoves.{both-same, made-sound, reader-gives, reader-used, reader-none, reader-out}
 use Rattle.usb_answers.proofs.session.Session.reader.Goals as goal
 
 -- the reader's name is in use
@@ -36,7 +37,7 @@ new-requires c = record {
   small =
       rounded-small (state_of c.in-Some.endpoint).maximum c.bytes.result
       (c.self.invariant.endpoints_small (endpoint_place c.number-number.result) (state_of c.in-Some.endpoint)
-      (taken-map c.self.inside.endpoints.items c.self.inside.readers.items c.number-number.result c.in-Some.endpoint (places-made c.self.inside c.self.invariant) (sym c.take_at.ensures.taken ∙ c.in-Some.is)))
+      (taken-endpoint c.self.inside.endpoints.items c.self.inside.readers.items c.self.inside.writers.items (places-made c.self.inside c.self.invariant) c.number-number.result c.in-Some.endpoint (sym c.take_at.ensures.taken ∙ c.in-Some.is)))
       c.bytes.ensures.small;
 }
 

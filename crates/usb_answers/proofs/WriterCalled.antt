@@ -1,0 +1,221 @@
+-- Calls on writers as the code makes them: a writer is taken out of its name, called and put back.
+use Rattle.std.proofs.Common.{◌≡◌, ℕ, ◌≤◌, List, ◌++◌, length, map, Option, Some, None, Result, Ok, Err, refl, ap, sym, ◌∙◌, subst, String, string_bytes}
+use Rattle.std.specs.Prelude.{OnOk}
+use Rattle.std.specs.Option.{option_map}
+use Rattle.std.specs.declared.alloc.Global.{Global}
+use Rattle.std.proofs.lemmas.Option.{none-some, same_Some}
+use Rattle.usb_simulated.specs.declared.step.KernelStep.{KernelStep}
+use Rattle.usb_endpoint.specs.EndpointState.{EndpointState}
+use Rattle.usb_endpoint.specs.Handles.{Stands}
+use Rattle.usb_host.specs.HostState.{HostState}
+use Rattle.usb_host.specs.HostBus.{bus_of}
+use Rattle.usb_host.specs.HostTurns.{host_rest}
+use Rattle.usb_io.specs.Writers.{WriterState, Writing}
+use Rattle.usb_writes.specs.declared.any_writer.AnyWriter.{AnyWriter}
+use Rattle.usb_writes.specs.AnyWriters.{writer_of}
+use Rattle.usb_writer_lines.specs.Printed.{CallKeeps as WriterKeeps}
+use Rattle.usb_lines.specs.Calls.{condition_line}
+use Rattle.usb_answers.specs.declared.session.Session.TheInside.{Inside}
+use Rattle.usb_names.specs.Names.{named, freed, set_name, change_named}
+use Rattle.usb_names.proofs.NameLemmas.{named-map, put-changed}
+use Rattle.usb_answers.specs.BareWriters.{BareWriter, bare_writer, writer_with}
+use Rattle.usb_answers.specs.State.{State, Writer}
+use Rattle.usb_answers.specs.WriterAt.{WriterAt, writer_place, writer_at, state_of_writer}
+use Rattle.usb_answers.specs.Answer.{Answer, barred, if_open}
+use Rattle.usb_answers.specs.Steps.{lent, then_rested, stepped_all}
+use Rattle.usb_answers.specs.SessionState.{SessionState, IsSound}
+use Rattle.usb_answers.specs.SessionFacts.{session_made, made_of, writer_endpoint, bare_writer_of, endpoints_with}
+use Rattle.usb_answers.specs.Relation.{Represents}
+use Rattle.usb_answers.specs.Answered.{Answered, Answers}
+use Rattle.usb_answers.specs.OpenCalls.{CallKeeps}
+use Rattle.usb_answers.proofs.Answering.{told-answered, answered-none, answered-some}
+use Rattle.usb_answers.proofs.Called.{open_at, sound-writers}
+use Rattle.usb_answers.proofs.OpenPlaces.{taken-writer, put-writer}
+use Rattle.usb_answers.proofs.TakenOut.{PutBack, map-put, map-length, places-made, sound-called_at}
+use Rattle.usb_answers.proofs.Lent.{sound-lent_at, represents-lent, rested-answered, sound-stepped, steps-represent}
+
+-- the session with the host and the writer that a call left
+abbrev pub with_writer_called : SessionState → ℕ → HostState → WriterState → SessionState
+with_writer_called s w host y =
+    record s {
+      host = host;
+      endpoints = change_named (λ x. y.endpoint) s.endpoints (writer_place w);
+      writers = change_named (λ x. bare_writer y) s.writers w;
+    }
+
+-- a session has this writer open under a name, and so has the state that it stands for
+pub record HasWriter (s : SessionState) (state : State) (w : ℕ) (x : WriterState) (at : WriterAt) : Type 0 where
+  pub endpoint : named s.endpoints (writer_place w) ≡ Some x.endpoint
+  pub writer : named s.writers w ≡ Some (bare_writer x)
+  pub is : writer_at state w ≡ Some at
+  pub same : state_of_writer at ≡ x
+
+-- in whatever session the writer is open it goes to the state behind the answer, whose line is
+-- printed; of want of memory nothing is said. x is the writer before the call, and y after it
+abbrev pub WriterAnswers : {E : Type 0} → HostState → HostState → WriterState → WriterState → String Global → String Global → Result Unit E → (State → ℕ → WriterAt → Answer) → Type 0
+WriterAnswers old new x y before after result call =
+    OnOk result
+    ((s : SessionState) (state : State) (w : ℕ) (at : WriterAt) → Represents s state → s.host ≡ old → HasWriter s state w x at →
+    Answered (with_writer_called s w new y) (string_bytes before) (string_bytes after) (call state w at))
+
+-- what a call on a writer keeps, by its endpoint
+pub keeps-writer : (old new : Writing HostState) → WriterKeeps old new → CallKeeps old.bus new.bus old.writer.endpoint new.writer.endpoint
+keeps-writer old new keeps =
+    record {
+      line = keeps.line;
+      past = keeps.past;
+      stands = keeps.stands;
+      others = keeps.others;
+      key = ap (λ (h : EndpointState). h.key) keeps.settings.endpoint;
+      maximum = ap (λ (h : EndpointState). h.maximum) keeps.settings.endpoint;
+    }
+
+-- a session with another host and other writers
+abbrev pub made_writing : Inside → HostState → List (Option AnyWriter) → SessionState
+made_writing i host writers = session_made i.tree i.watch host i.devices.items i.interfaces.items i.endpoints.items i.readers.items writers i.futures.items
+
+-- a writer that is open under a name stands in the host with its endpoint
+pub stands-writer : (i : Inside) (w : ℕ) (x : AnyWriter) (taken : Option AnyWriter) → IsSound (made_of i) → taken ≡ named i.writers.items w → taken ≡ Some x → Stands (bus_of i.host) (writer_endpoint x)
+stands-writer i w x taken sound was is = sound.endpoints_stand (writer_place w) (writer_endpoint x) (taken-writer i.endpoints.items i.readers.items i.writers.items (places-made i sound) w x (sym was ∙ is))
+
+-- the session has it under this name
+pub writer-made : (i : Inside) (S : SessionState) (w : ℕ) (x : AnyWriter) → IsSound (made_of i) → made_of i ≡ S → named i.writers.items w ≡ Some x → named S.endpoints (writer_place w) ≡ Some (writer_endpoint x)
+writer-made i S w x sound view was = sym (ap (λ (v : SessionState). named v.endpoints (writer_place w)) view) ∙ taken-writer i.endpoints.items i.readers.items i.writers.items (places-made i sound) w x was
+
+pub bare-made : (i : Inside) (S : SessionState) (w : ℕ) (x : AnyWriter) → made_of i ≡ S → named i.writers.items w ≡ Some x → named S.writers w ≡ Some (bare_writer_of x)
+bare-made i S w x view was = sym (ap (λ (v : SessionState). named v.writers w) view) ∙ named-map bare_writer_of i.writers.items w ∙ ap (option_map bare_writer_of) was
+
+-- it stands at its place again
+pub writer-put : (i : Inside) (after : List (Option AnyWriter)) (w : ℕ) (x y : AnyWriter) → IsSound (made_of i) → PutBack i.writers.items after w x y → endpoints_with i.endpoints.items i.readers.items after ≡ set_name (freed (made_of i).endpoints (writer_place w)) (writer_place w) (writer_endpoint y)
+writer-put i after w x y sound back =
+    put-writer i.endpoints.items i.readers.items i.writers.items (places-made i sound) w after y back.put
+
+-- a session is sound once a writer was called and put back
+pub sound-writer_called : (i : Inside) (now : HostState) (after : List (Option AnyWriter)) (w : ℕ) (x y : AnyWriter) → IsSound (made_of i) → PutBack i.writers.items after w x y → CallKeeps i.host now (writer_endpoint x) (writer_endpoint y) → IsSound (made_writing i now after)
+sound-writer_called i now after w x y sound back keeps =
+    let endpoints = endpoints_with i.endpoints.items i.readers.items after in
+    sound-writers (record (made_of i) { host = now; endpoints = endpoints }) (map (option_map bare_writer_of) after)
+    (sound-called_at i now endpoints (writer_place w) (writer_endpoint x) (writer_endpoint y) sound (writer-made i (made_of i) w x sound refl back.was) (writer-put i after w x y sound back) keeps)
+    (map-length bare_writer_of i.writers.items after w x y back)
+
+-- and is the one that the call left
+pub made-writer_called : (i : Inside) (S : SessionState) (now : HostState) (after : List (Option AnyWriter)) (w : ℕ) (x y : AnyWriter) → IsSound (made_of i) → made_of i ≡ S → PutBack i.writers.items after w x y → with_writer_called S w now (writer_of y) ≡ made_writing i now after
+made-writer_called i S now after w x y sound view back =
+    ap (λ (v : SessionState). with_writer_called v w now (writer_of y)) (sym view)
+    ∙ ap (λ (l : List (Option EndpointState)). record (made_of i) { host = now; endpoints = l; writers = change_named (λ b. bare_writer_of y) (made_of i).writers w })
+    (sym (writer-put i after w x y sound back ∙ put-changed (λ z. writer_endpoint y) (made_of i).endpoints (writer_place w) (writer_endpoint x) (writer_endpoint y) (writer-made i (made_of i) w x sound refl back.was) refl))
+    ∙ ap (λ (l : List (Option BareWriter)). record (made_of i) { host = now; endpoints = endpoints_with i.endpoints.items i.readers.items after; writers = l }) (sym (map-put bare_writer_of i.writers.items after w x y back))
+
+-- the writer of a state under a name at which the session has one
+pub record WriterOpen (s : SessionState) (state : State) (w : ℕ) (x : WriterState) : Type 0 where
+  pub at : WriterAt
+  pub has : HasWriter s state w x at
+  pub here : named state.endpoints (writer_place w) ≡ Some at.endpoint
+  pub few : at.endpoint.taken ≤ length at.endpoint.tickets
+
+pub writers_kept : (s : SessionState) (state : State) (w : ℕ) → Represents s state → named s.writers w ≡ option_map (λ (x : Writer). x.bare) (named state.writers w)
+writers_kept s state w is = ap (λ (v : SessionState). named v.writers w) is.is ∙ named-map (λ (x : Writer). x.bare) state.writers w
+
+-- a writer of the state, of which the session has the rest
+pub record WriterThere (state : State) (w : ℕ) (b : BareWriter) : Type 0 where
+  pub writer : Writer
+  pub at : named state.writers w ≡ Some writer
+  pub bare : writer.bare ≡ b
+
+there_by : (state : State) (w : ℕ) (b : BareWriter) (o : Option Writer) → named state.writers w ≡ o → option_map (λ (y : Writer). y.bare) o ≡ Some b → WriterThere state w b
+there_by state w b None there is = absurd (none-some b is)
+there_by state w b (Some y) there is = record { writer = y; at = there; bare = same_Some y.bare b is }
+
+pub writer_there : (s : SessionState) (state : State) (w : ℕ) (b : BareWriter) → Represents s state → named s.writers w ≡ Some b → WriterThere state w b
+writer_there s state w b r bare = there_by state w b (named state.writers w) refl (sym (writers_kept s state w r) ∙ bare)
+
+pub has_writer : (s : SessionState) (state : State) (w : ℕ) (x : WriterState) → Represents s state → named s.endpoints (writer_place w) ≡ Some x.endpoint → named s.writers w ≡ Some (bare_writer x) → WriterOpen s state w x
+has_writer s state w x is endpoint bare =
+    let h = open_at s state (writer_place w) x.endpoint is endpoint in
+    let y = writer_there s state w (bare_writer x) is bare in
+    record {
+      at = record { writer = y.writer; endpoint = h.entry };
+      has = record {
+        endpoint = endpoint;
+        writer = bare;
+        is = rw (y.at, h.is) refl;
+        same = ap (λ (e : EndpointState). writer_with e y.writer.bare) h.same ∙ ap (writer_with x.endpoint) y.bare;
+      };
+      here = h.is;
+      few = h.few;
+    }
+
+-- what a call on a writer answers
+pub answers-writer_called : {E : Type 0} (i : Inside) (S : SessionState) (now : HostState) (after : List (Option AnyWriter)) (n w : ℕ) (x y : AnyWriter) (before text : String Global) (result : Result Unit E) (call : State → ℕ → WriterAt → Answer) → IsSound (made_of i) → made_of i ≡ S → PutBack i.writers.items after n x y → n ≡ w → WriterAnswers i.host now (writer_of x) (writer_of y) before text result call → Answers S (made_writing i now after) before text result (λ state. if_open (writer_at state w) (call state w) (barred state))
+answers-writer_called i S now after n w x y before text (Err error) call sound view back same answers = tt
+answers-writer_called i S now after n w x y before text (Ok done) call sound view back same answers =
+    λ state is.
+    let o = has_writer S state n (writer_of x) is (writer-made i S n x sound view back.was) (bare-made i S n x view back.was) in
+    subst (λ m. Answered (made_writing i now after) (string_bytes before) (string_bytes text) (if_open (writer_at state m) (call state m) (barred state))) same
+    (answered-some (made_writing i now after) (string_bytes before) (string_bytes text) (writer_at state n) o.at (call state n) (barred state) o.has.is
+    (subst (λ s. Answered s (string_bytes before) (string_bytes text) (call state n o.at)) (made-writer_called i S now after n x y sound view back)
+    (answers S state n o.at is (sym (ap (λ (v : SessionState). v.host) view)) o.has)))
+
+-- nothing is open under the name
+bare_none : (o : Option Writer) → option_map (λ (y : Writer). y.bare) o ≡ None → o ≡ None
+bare_none None is = refl
+bare_none (Some y) is = absurd (cc)
+
+no_bare : (i : Inside) (S : SessionState) (n : ℕ) → made_of i ≡ S → named i.writers.items n ≡ None → named S.writers n ≡ None
+no_bare i S n view none = sym (ap (λ (v : SessionState). named v.writers n) view) ∙ named-map bare_writer_of i.writers.items n ∙ ap (option_map bare_writer_of) none
+
+pub no_writer : (i : Inside) (S : SessionState) (n : ℕ) → made_of i ≡ S → named i.writers.items n ≡ None → (state : State) → Represents S state → named state.writers n ≡ None
+no_writer i S n view none state is = bare_none (named state.writers n) (sym (writers_kept S state n is) ∙ no_bare i S n view none)
+
+pub no_writer_at : (i : Inside) (S : SessionState) (n w : ℕ) → made_of i ≡ S → named i.writers.items n ≡ None → n ≡ w → (state : State) → Represents S state → writer_at state w ≡ None
+no_writer_at i S n w view none same state is =
+    let none_there : named state.writers w ≡ None = ap (named state.writers) (sym same) ∙ no_writer i S n view none state is in
+    rw none_there refl
+
+pub answers-no_writer : {E : Type 0} (i : Inside) (S : SessionState) (mid : List (Option AnyWriter)) (n w : ℕ) (before text : String Global) (result : Result Unit E) (call : State → WriterAt → Answer) → made_of i ≡ S → named i.writers.items n ≡ None → mid ≡ i.writers.items → n ≡ w → OnOk result (string_bytes text ≡ string_bytes before ++ condition_line) → Answers S (made_writing i i.host mid) before text result (λ state. if_open (writer_at state w) (call state) (barred state))
+answers-no_writer i S mid n w before text (Err error) call view none rest same printed = tt
+answers-no_writer i S mid n w before text (Ok done) call view none rest same printed =
+    λ state is.
+    subst (λ l. Answered (made_writing i i.host l) (string_bytes before) (string_bytes text) (if_open (writer_at state w) (call state) (barred state))) (sym rest)
+    (subst (λ s. Answered s (string_bytes before) (string_bytes text) (if_open (writer_at state w) (call state) (barred state))) (sym view)
+    (answered-none S (string_bytes before) (string_bytes text) (writer_at state w) (call state) (barred state) (no_writer_at i S n w view none same state is)
+    (told-answered S state (string_bytes before) (string_bytes text) condition_line is printed)))
+
+-- a line with steps of its own: the steps are lent, a writer is called, and the rest of them is applied
+pub sound-writer_lent : (i : Inside) (steps : List KernelStep) (at now last : HostState) (after : List (Option AnyWriter)) (w : ℕ) (x y : AnyWriter) → IsSound (made_of i) → at ≡ record i.host { steps = steps } → PutBack i.writers.items after w x y → CallKeeps at now (writer_endpoint x) (writer_endpoint y) → last ≡ host_rest now → IsSound (made_writing i last after)
+sound-writer_lent i steps at now last after w x y sound is back keeps rest =
+    let endpoints = endpoints_with i.endpoints.items i.readers.items after in
+    sound-writers (record (made_of i) { host = last; endpoints = endpoints }) (map (option_map bare_writer_of) after)
+    (sound-lent_at i steps at now last endpoints (writer_place w) (writer_endpoint x) (writer_endpoint y) sound is (writer-made i (made_of i) w x sound refl back.was) (writer-put i after w x y sound back) keeps rest)
+    (map-length bare_writer_of i.writers.items after w x y back)
+
+pub answers-writer_lent : {E : Type 0} (i : Inside) (S : SessionState) (steps : List KernelStep) (at now last : HostState) (after : List (Option AnyWriter)) (n w : ℕ) (x y : AnyWriter) (before text : String Global) (result : Result Unit E) (call : State → ℕ → WriterAt → Answer) → IsSound (made_of i) → made_of i ≡ S → at ≡ record i.host { steps = steps } → PutBack i.writers.items after n x y → n ≡ w → WriterAnswers at now (writer_of x) (writer_of y) before text result call → last ≡ host_rest now → Answers S (made_writing i last after) before text result (λ state. if_open (writer_at state w) (λ x. then_rested (call (lent state steps) w x)) (barred (stepped_all state steps)))
+answers-writer_lent i S steps at now last after n w x y before text (Err error) call sound view is back same answers rest = tt
+answers-writer_lent i S steps at now last after n w x y before text (Ok done) call sound view is back same answers rest =
+    λ state stands.
+    let b = string_bytes before in
+    let t = string_bytes text in
+    let o = has_writer S state n (writer_of x) stands (writer-made i S n x sound view back.was) (bare-made i S n x view back.was) in
+    let lends = represents-lent i S steps at view is state stands in
+    let called : Answered (with_writer_called S n now (writer_of y)) b t (call (lent state steps) n o.at) =
+    answers (record S { host = at }) (lent state steps) n o.at lends refl (record { endpoint = o.has.endpoint; writer = o.has.writer; is = o.has.is; same = o.has.same }) in
+    subst (λ m. Answered (made_writing i last after) b t (if_open (writer_at state m) (λ x. then_rested (call (lent state steps) m x)) (barred (stepped_all state steps)))) same
+    (answered-some (made_writing i last after) b t (writer_at state n) o.at (λ x. then_rested (call (lent state steps) n x)) (barred (stepped_all state steps)) o.has.is
+    (subst (λ (h : HostState). Answered (made_writing i h after) b t (then_rested (call (lent state steps) n o.at))) (sym rest)
+    (rested-answered (made_writing i now after) now b t (call (lent state steps) n o.at) refl
+    (subst (λ s. Answered s b t (call (lent state steps) n o.at)) (made-writer_called i S now after n x y sound view back) called))))
+
+-- no writer was called
+pub sound-writer_stepped : (i : Inside) (steps : List KernelStep) (at last : HostState) (mid : List (Option AnyWriter)) → IsSound (made_of i) → at ≡ record i.host { steps = steps } → last ≡ host_rest at → mid ≡ i.writers.items → IsSound (made_writing i last mid)
+sound-writer_stepped i steps at last mid sound is rest none =
+    subst (λ l. IsSound (made_writing i last l)) (sym none) (sound-stepped i steps at last i.endpoints.items sound is rest refl)
+
+pub answers-writer_stepped : {E : Type 0} (i : Inside) (S : SessionState) (steps : List KernelStep) (at last : HostState) (mid : List (Option AnyWriter)) (n w : ℕ) (before text : String Global) (result : Result Unit E) (call : State → WriterAt → Answer) → made_of i ≡ S → at ≡ record i.host { steps = steps } → last ≡ host_rest at → named i.writers.items n ≡ None → mid ≡ i.writers.items → n ≡ w → OnOk result (string_bytes text ≡ string_bytes before ++ condition_line) → Answers S (made_writing i last mid) before text result (λ state. if_open (writer_at state w) (call state) (barred (stepped_all state steps)))
+answers-writer_stepped i S steps at last mid n w before text (Err error) call view is rest none back same printed = tt
+answers-writer_stepped i S steps at last mid n w before text (Ok done) call view is rest none back same printed =
+    λ state stands.
+    let b = string_bytes before in
+    let t = string_bytes text in
+    subst (λ l. Answered (made_writing i last l) b t (if_open (writer_at state w) (call state) (barred (stepped_all state steps)))) (sym back)
+    (answered-none (made_writing i last i.writers.items) b t (writer_at state w) (call state) (barred (stepped_all state steps)) (no_writer_at i S n w view none same state stands)
+    (told-answered (made_writing i last i.writers.items) (stepped_all state steps) b t condition_line (steps-represent i S steps at last view is rest state stands) printed))

@@ -1,0 +1,233 @@
+-- What calls on an open writer answer.
+use Rattle.std.proofs.Common.{◌≡◌, ℕ, ◌≤◌, ◌+◌, ◌-◌, suc, arith, Bool, true, false, cond, List, [], ◌∷◌, ◌++◌, length, map, take, drop, Option, Some, None, Result, Ok, Err, refl, ap, sym, ◌∙◌, subst, String, string_bytes}
+use Rattle.std.specs.Prelude.{option_and_then}
+use Rattle.std.specs.Option.{option_map}
+use Rattle.std.specs.declared.alloc.Global.{Global}
+use Rattle.std.proofs.lemmas.Option.{none-some, same_Some}
+use Rattle.std.proofs.lemmas.List.{append_assoc, append-nil}
+use Rattle.usb_xfer.specs.BufferState.{BufferState}
+use Rattle.usb_kernel.specs.Tickets.{tickets}
+use Rattle.usb_endpoint.specs.EndpointState.{EndpointState}
+use Rattle.usb_host.specs.HostState.{HostState}
+use Rattle.usb_host.specs.HostWaits.{host_waited}
+use Rattle.usb_host.specs.TicketEnds.{host_taken}
+use Rattle.usb_host.proofs.CountLemmas.{entered-count, waited-count, taken-count}
+use Rattle.usb_io.specs.Writers.{WriterState, Writing, writing, send, with_taken}
+use Rattle.usb_io.specs.Writes.{Call}
+use Rattle.usb_io.specs.Carried.{written_calls}
+use Rattle.usb_io.specs.declared.fault.WriteFault.{WriteFault}
+use Rattle.usb_streams.specs.HostReads.{host_calls}
+use Rattle.usb_streams.specs.Numbers.{numbers_from}
+use Rattle.usb_writes.specs.HostWrites.{Answered as Given, write_came, flush_came, flush_end_came, poll_flush_end_came, submit_came, submit_end_came}
+use Rattle.usb_writes.specs.Told.{WriterCalls, with_calls, failures_of, count_of}
+use Rattle.usb_writes.proofs.WritesKeep.{Keeps, write-keeps, flush-keeps, flush_end-keeps, poll_flush_end-keeps, submit-keeps, submit_end-keeps}
+use Rattle.usb_writer_lines.specs.Needs.{bars_call, write_need}
+use Rattle.usb_writer_lines.specs.Printed.{Prints, CameTo}
+use Rattle.usb_names.specs.Names.{named, change_named, set_name, freed}
+use Rattle.usb_names.proofs.NameLemmas.{map-change_named, put-changed, put-back}
+use Rattle.usb_answers.specs.State.{State, Endpoint, Writer, kept, pending, tickets_of, with_host}
+use Rattle.usb_answers.specs.BareWriters.{BareWriter, bare_writer}
+use Rattle.usb_answers.specs.WriterAt.{WriterAt, writer_place, writer_at, state_of_writer, writing_at}
+use Rattle.usb_answers.specs.Readers.{called_endpoint}
+use Rattle.usb_answers.specs.Writes.{writer_called, called_as}
+use Rattle.usb_answers.specs.Answer.{Answer, told, barred}
+use Rattle.usb_answers.specs.Answered.{Answered}
+use Rattle.usb_answers.specs.SessionState.{SessionState}
+use Rattle.usb_answers.specs.Relation.{Represents, session_of}
+use Rattle.usb_answers.proofs.Answering.{host_is, told-answered}
+use Rattle.usb_answers.proofs.Called.{OpenAt, represents-put}
+use Rattle.usb_answers.proofs.ReaderCode.{drop-last, tickets-read}
+use Rattle.usb_answers.proofs.WriterCalled.{HasWriter, WriterAnswers, with_writer_called}
+
+-- behind a call of a writer: of the tickets that were pending, and behind them each that came to the journal, the first were taken, and
+-- the others are pending; the rest of its endpoint is as it was
+pub record Follows (old new : Writing HostState) : Type 0 where
+  pub taken : List ℕ
+  pub more : count_of old ≤ count_of new
+  pub same : old.writer.endpoint.pending ++ numbers_from (count_of old) (count_of new - count_of old) ≡ taken ++ new.writer.endpoint.pending
+  pub rest : new.writer.endpoint ≡ record old.writer.endpoint { pending = new.writer.endpoint.pending }
+
+follows-same : (w : Writing HostState) → Follows w w
+follows-same w =
+    let none : count_of w - count_of w ≡ 0 = omega arith in
+    record {
+      taken = [];
+      more = omega arith;
+      same = ap (λ (n : ℕ). w.writer.endpoint.pending ++ numbers_from (count_of w) n) none ∙ append-nil w.writer.endpoint.pending;
+      rest = refl;
+    }
+
+-- a submission appends the next ticket
+follows-sent : (old w : Writing HostState) (b : BufferState) → Follows old w → Follows old (send host_calls b w)
+follows-sent old w b came =
+    let v = send host_calls b w in
+    let was = old.writer.endpoint.pending in
+    let one = (entered-count w.bus w.writer.endpoint b).past in
+    let more = came.more in
+    let next : count_of v - count_of old ≡ suc (count_of w - count_of old) = omega (arith, one, more) in
+    let last : count_of old + (count_of w - count_of old) ≡ count_of w = omega (arith, more) in
+    record {
+      taken = came.taken;
+      more = omega (arith, one, more);
+      same =
+          ap (λ (n : ℕ). was ++ numbers_from (count_of old) n) next
+          ∙ sym (append_assoc was (numbers_from (count_of old) (count_of w - count_of old)) ((count_of old + (count_of w - count_of old)) ∷ []))
+          ∙ ap (λ (n : ℕ). was ++ numbers_from (count_of old) (count_of w - count_of old) ++ (n ∷ [])) last
+          ∙ ap (λ (l : List ℕ). l ++ (count_of w ∷ [])) came.same
+          ∙ append_assoc came.taken w.writer.endpoint.pending (count_of w ∷ []);
+      rest = ap (λ (z : EndpointState). record z { pending = v.writer.endpoint.pending }) came.rest;
+    }
+
+-- what leaves the number of tickets as it was, and takes so many of the pending ones
+follows-on : (old w v : Writing HostState) (front : List ℕ) → count_of v ≡ count_of w → w.writer.endpoint.pending ≡ front ++ v.writer.endpoint.pending → v.writer.endpoint ≡ record w.writer.endpoint { pending = v.writer.endpoint.pending }
+    → Follows old w → Follows old v
+follows-on old w v front same was rest came =
+    let more = came.more in
+    record {
+      taken = came.taken ++ front;
+      more = omega (arith, same, more);
+      same =
+          ap (λ (n : ℕ). old.writer.endpoint.pending ++ numbers_from (count_of old) (n - count_of old)) same
+          ∙ came.same
+          ∙ ap (λ (l : List ℕ). came.taken ++ l) was
+          ∙ sym (append_assoc came.taken front v.writer.endpoint.pending);
+      rest = rest ∙ ap (λ (z : EndpointState). record z { pending = v.writer.endpoint.pending }) came.rest;
+    }
+
+follows-kept : (old : Writing HostState) → Keeps (Follows old)
+follows-kept old = record {
+  set = λ w buffer begun came. record { taken = came.taken; more = came.more; same = came.same; rest = came.rest };
+  submission = follows-sent old;
+  wait = λ w timeout front others was came. follows-on old w (writing (host_waited w.bus front timeout).1 w.writer) [] (waited-count w.bus front timeout).past refl refl came;
+  taking = λ w front others c was here came. follows-on old w (writing (host_taken w.bus front) (with_taken c others w.writer)) (front ∷ []) (taken-count w.bus front).past was refl came;
+}
+
+-- each call
+pub write-follows : (timeout : ℕ) (src : List ℕ) (w : Writing HostState) → Follows w (write_came timeout src w).left
+write-follows timeout src w = write-keeps (Follows w) (follows-kept w) timeout src w (follows-same w)
+
+pub flush-follows : (timeout : ℕ) (w : Writing HostState) → Follows w (flush_came timeout w).left
+flush-follows timeout w = flush-keeps (Follows w) (follows-kept w) timeout w (follows-same w)
+
+pub flush_end-follows : (timeout : ℕ) (w : Writing HostState) → Follows w (flush_end_came timeout w).left
+flush_end-follows timeout w = flush_end-keeps (Follows w) (follows-kept w) timeout w (follows-same w)
+
+pub poll_flush_end-follows : (w : Writing HostState) → Follows w (poll_flush_end_came w).left
+poll_flush_end-follows w = poll_flush_end-keeps (Follows w) (follows-kept w) w (follows-same w)
+
+pub submit-follows : (w : Writing HostState) → Follows w (submit_came w)
+submit-follows w = submit-keeps (Follows w) (follows-kept w) w (follows-same w)
+
+pub submit_end-follows : (w : Writing HostState) → Follows w (submit_end_came w)
+submit_end-follows w = submit_end-keeps (Follows w) (follows-kept w) w (follows-same w)
+
+-- the endpoint behind a call
+kept-called : (old new : Writing HostState) (h : Endpoint) → Follows old new → kept h ≡ old.writer.endpoint
+    → kept (called_endpoint (count_of old) (count_of new) new.writer.endpoint.pending h) ≡ new.writer.endpoint
+kept-called old new h came same =
+    let numbers = numbers_from (count_of old) (count_of new - count_of old) in
+    let last = new.writer.endpoint.pending in
+    let all = tickets-read h old.writer.endpoint.pending came.taken last numbers (ap (λ (z : EndpointState). z.pending) same) came.same in
+    let pending_is : drop (length (h.tickets ++ numbers) - length last) (h.tickets ++ numbers) ≡ last =
+    ap (λ (l : List ℕ). drop (length l - length last) l) all ∙ drop-last (take h.taken h.tickets ++ came.taken) last in
+    ap (λ (l : List ℕ). record (kept h) { pending = l }) pending_is
+    ∙ ap (λ (z : EndpointState). record z { pending = last }) same
+    ∙ sym came.rest
+
+-- a writer that is open, and its endpoint
+both_of : (o : Option Writer) (p : Option Endpoint) (at : WriterAt) → option_and_then (λ (x : Writer). option_map (λ h. record { writer = x; endpoint = h }) p) o ≡ Some at → (o ≡ Some at.writer) × (p ≡ Some at.endpoint)
+both_of None p at is = absurd (none-some at is)
+both_of (Some x) None at is = absurd (none-some at is)
+both_of (Some x) (Some h) at is =
+    let same = same_Some (record { writer = x; endpoint = h }) at is in
+    (ap (λ (z : WriterAt). Some z.writer) same, ap (λ (z : WriterAt). Some z.endpoint) same)
+
+both_at : (state : State) (w : ℕ) (at : WriterAt) → writer_at state w ≡ Some at → (named state.writers w ≡ Some at.writer) × (named state.endpoints (writer_place w) ≡ Some at.endpoint)
+both_at state w at is = both_of (named state.writers w) (named state.endpoints (writer_place w)) at is
+
+-- the writers of a session, of which one was called
+writers-called : (s : SessionState) (state : State) (w : ℕ) (y : WriterState) (at : WriterAt) (g : Writer → Writer) → Represents s state → named state.writers w ≡ Some at.writer → (g at.writer).bare ≡ bare_writer y
+    → change_named (λ z. bare_writer y) s.writers w ≡ map (option_map (λ (z : Writer). z.bare)) (change_named g state.writers w)
+writers-called s state w y at g rep was bare =
+    ap (λ (v : SessionState). change_named (λ z. bare_writer y) v.writers w) rep.is
+    ∙ sym (map-change_named (λ (z : Writer). z.bare) g (λ z. bare_writer y) state.writers w (λ z is. ap (λ (v : Writer). (g v).bare) (same_Some z at.writer (sym is ∙ was)) ∙ bare))
+
+-- a writer was called and put back
+represents-writer : (s : SessionState) (state : State) (w : ℕ) (host : HostState) (x y : WriterState) (at : WriterAt) (f : Endpoint → Endpoint) (g : Writer → Writer) → Represents s state → HasWriter s state w x at
+    → kept (f at.endpoint) ≡ y.endpoint → (f at.endpoint).taken ≤ length (f at.endpoint).tickets → (g at.writer).bare ≡ bare_writer y
+    → Represents (with_writer_called s w host y) (record state { host = host; endpoints = change_named f state.endpoints (writer_place w); writers = change_named g state.writers w })
+represents-writer s state w host x y at f g rep has same few bare =
+    let both = both_at state w at has.is in
+    let o : OpenAt state (writer_place w) x.endpoint =
+    record { entry = at.endpoint; is = both.1; same = ap (λ (z : WriterState). z.endpoint) has.same; few = rep.few (writer_place w) at.endpoint both.1 } in
+    let after = change_named (λ (z : EndpointState). y.endpoint) s.endpoints (writer_place w) in
+    let put =
+    represents-put s state host after f (writer_place w) x.endpoint y.endpoint o rep
+    (sym (put-changed (λ z. y.endpoint) s.endpoints (writer_place w) x.endpoint y.endpoint has.endpoint refl)) same few in
+    record {
+      is =
+          ap (λ (v : SessionState). record v { writers = change_named (λ z. bare_writer y) s.writers w }) put.is
+          ∙ ap (λ (l : List (Option BareWriter)). record (session_of (record state { host = host; endpoints = change_named f state.endpoints (writer_place w) })) { writers = l })
+          (writers-called s state w y at g rep both.0 bare);
+      few = put.few;
+    }
+
+-- nothing was changed
+same_session : (s : SessionState) (state : State) (w : ℕ) (host : HostState) (x : WriterState) (at : WriterAt) → HasWriter s state w x at → s.host ≡ host → with_writer_called s w host x ≡ s
+same_session s state w host x at has host_was =
+    let place = writer_place w in
+    ap (λ (h : HostState). record s { host = h; endpoints = change_named (λ (z : EndpointState). x.endpoint) s.endpoints place; writers = change_named (λ (z : BareWriter). bare_writer x) s.writers w }) (sym host_was)
+    ∙ ap (λ (l : List (Option EndpointState)). record s { endpoints = l; writers = change_named (λ (z : BareWriter). bare_writer x) s.writers w })
+    (sym (put-changed (λ z. x.endpoint) s.endpoints place x.endpoint x.endpoint has.endpoint refl) ∙ put-back s.endpoints place x.endpoint has.endpoint)
+    ∙ ap (λ (l : List (Option BareWriter)). record s { writers = l })
+    (sym (put-changed (λ z. bare_writer x) s.writers w (bare_writer x) (bare_writer x) has.writer refl) ∙ put-back s.writers w (bare_writer x) has.writer)
+
+-- the session behind a call stands for the state behind it
+represents-called : (s : SessionState) (state : State) (w : ℕ) (old : HostState) (x : WriterState) (v : Writing HostState) (at : WriterAt) (calls : Option WriterCalls) → Follows (writing old x) v → Represents s state → s.host ≡ old → HasWriter s state w x at
+    → Represents (with_writer_called s w v.bus v.writer) (writer_called state w calls v)
+represents-called s state w old x v at calls came rep host_was has =
+    let host : old ≡ state.host = sym host_was ∙ host_is s state rep in
+    let f = called_endpoint (tickets_of state) (count_of v) v.writer.endpoint.pending in
+    let kept_is : kept (f at.endpoint) ≡ v.writer.endpoint =
+    ap (λ (h : HostState). kept (called_endpoint (length (tickets h.kernel.past)) (count_of v) v.writer.endpoint.pending at.endpoint)) (sym host)
+    ∙ kept-called (writing old x) v at.endpoint came (ap (λ (z : WriterState). z.endpoint) has.same) in
+    represents-writer s state w v.bus x v.writer at f (λ z. record { bare = bare_writer v.writer; calls = calls }) rep has kept_is (omega arith) refl
+
+-- a call, by what it comes to at the host
+abbrev pub called_by : {A : Type 0} → (Writing HostState → Given A) → (WriterState → ℕ) → (WriterState → Result A WriteFault → List Call) → (Result A WriteFault → List ℕ) → State → ℕ → WriterAt → Answer
+called_by came need calls line state w at =
+    called_as state w at (need (state_of_writer at)) (calls (state_of_writer at) (came (writing_at state at)).answer) line (came (writing_at state at))
+
+-- it is answered in a session as at the host
+pub writer-answers : {A E : Type 0} (came : Writing HostState → Given A) (need : WriterState → ℕ) (calls : WriterState → Result A WriteFault → List Call) (line : Result A WriteFault → List ℕ) (old new : HostState) (x y : WriterState)
+    (before text : String Global) (result : Result Unit E) → Follows (writing old x) (came (writing old x)).left
+    → Prints (bars_call (writing old x) (need x)) line (came (writing old x)) before text (writing old x) (writing new y) result
+    → WriterAnswers old new x y before text result (called_by came need calls line)
+writer-answers came need calls line old new x y before text (Err error) follows prints = tt
+writer-answers {A} came need calls line old new x y before text (Ok done) follows prints =
+    λ s state w at rep host_was has.
+    let a = came (writing old x) in
+    let host : state.host ≡ old = sym (host_is s state rep) ∙ host_was in
+    let there : writing_at state at ≡ writing old x =
+    ap (λ (h : HostState). writing h (state_of_writer at)) host ∙ ap (λ (z : WriterState). writing old z) has.same in
+    let all = λ (p : Writing HostState). option_map (with_calls (calls p.writer (came p).answer) (failures_of (came p).answer)) at.writer.calls in
+    let answer = λ (p : Writing HostState). cond (bars_call p (need p.writer)) (barred state) (told (writer_called state w (all p) (came p).left) (line (came p).answer)) in
+    let by : (b : Bool) → CameTo b (line a.answer) a.left (string_bytes before) (string_bytes text) (writing old x) (writing new y)
+    → Answered (with_writer_called s w new y) (string_bytes before) (string_bytes text) (cond b (barred state) (told (writer_called state w (all (writing old x)) a.left) (line a.answer))) =
+    elim [
+      | true ↦ λ p.
+          subst (λ (v : Writing HostState). Answered (with_writer_called s w v.bus v.writer) (string_bytes before) (string_bytes text) (barred state)) (sym p.1)
+          (subst (λ (z : SessionState). Answered z (string_bytes before) (string_bytes text) (barred state)) (sym (same_session s state w old x at has host_was)) (record { state = rep; line = p.0 }))
+      | false ↦ λ p.
+          subst (λ (v : Writing HostState). Answered (with_writer_called s w v.bus v.writer) (string_bytes before) (string_bytes text) (told (writer_called state w (all (writing old x)) a.left) (line a.answer))) (sym p.1)
+          (record { state = represents-called s state w old x a.left at (all (writing old x)) follows rep host_was has; line = p.0 })
+    ] in
+    subst (Answered (with_writer_called s w new y) (string_bytes before) (string_bytes text)) (sym (ap answer there)) (by (bars_call (writing old x) (need x)) prints)
+
+-- a write, of the bytes of this slice (l)
+pub write-answers : {E : Type 0} (timeout : WriterState → ℕ) (src l : List ℕ) (line : Result ℕ WriteFault → List ℕ) (old new : HostState) (x y : WriterState) (before text : String Global) (result : Result Unit E) → l ≡ src
+    → Prints (bars_call (writing old x) (write_need x)) line (write_came (timeout x) l (writing old x)) before text (writing old x) (writing new y) result
+    → WriterAnswers old new x y before text result (called_by (λ v. write_came (timeout v.writer) src v) write_need (λ z r. written_calls src r) line)
+write-answers timeout src l line old new x y before text result same prints =
+    writer-answers (λ v. write_came (timeout v.writer) src v) write_need (λ z r. written_calls src r) line old new x y before text result (write-follows (timeout x) src (writing old x))
+    (subst (λ (bytes : List ℕ). Prints (bars_call (writing old x) (write_need x)) line (write_came (timeout x) bytes (writing old x)) before text (writing old x) (writing new y) result) same prints)

@@ -1,0 +1,64 @@
+-- The tickets of writers' endpoints tell of their calls behind the lines of a script.
+use Rattle.std.proofs.Common.{◌≡◌, ◌∙◌, List, [], ◌∷◌, ◌++◌, append-nil, append_assoc, Option, None, false, refl, sym, subst}
+use Rattle.std.proofs.lemmas.List.{length-replicate}
+use Rattle.std.proofs.lemmas.Option.{none-some}
+use Rattle.usb_kernel.specs.Extends.{Extends}
+use Rattle.usb_script.specs.declared.item.Item.{Item}
+use Rattle.usb_script.specs.declared.item.Item.TheVariants as item
+use Rattle.usb_names.proofs.NameLemmas.{named-replicate}
+use Rattle.usb_answers.specs.State.{State, Reader, Writer}
+use Rattle.usb_answers.specs.ReaderAt.{endpoint_place}
+use Rattle.usb_answers.specs.Answers.{answer}
+use Rattle.usb_answers.specs.Kinds.{is_of_writer}
+use Rattle.usb_answers.specs.Output.{start, behind}
+use Rattle.usb_answers.specs.Behind.{ScriptsGoOn}
+use Rattle.usb_answers.specs.WrittenScripts.{ScriptsAreWritten}
+use Rattle.usb_answers.proofs.OtherLines.{place-apart}
+use Rattle.usb_answers.proofs.ReadersLeave.{leaves-writers}
+use Rattle.usb_answers.proofs.FramedBehind.{behind-push}
+use Rattle.usb_answers.proofs.WrittenWriters.{AllTell, all-written, parts-of, leaves-tell, writer-tell, inner-tell, num-tell, timeout-tell, close-tell, write-tell, poll_write-tell, submit-tell, submit_end-tell, flush-tell, poll_flush-tell, flush_end-tell, poll_flush_end-tell}
+
+-- over each line
+others-tell : (state : State) (line : Item) → is_of_writer line ≡ false → Extends state.host.kernel.past (answer state line).state.host.kernel.past → AllTell state → AllTell (answer state line).state
+others-tell state line other extends f = leaves-tell state (answer state line).state extends (leaves-writers state line f.readers other) f
+
+answer-tell : (state : State) (line : Item) → Extends state.host.kernel.past (answer state line).state.host.kernel.past → AllTell state → AllTell (answer state line).state
+unfolding answer
+answer-tell state (item.Writer w e size) extends f = writer-tell state w (endpoint_place e) size (place-apart e) f
+answer-tell state (item.WriterIntoInner e w) extends f = inner-tell state (endpoint_place e) w (place-apart e) f
+answer-tell state (item.SetWriterTransfers w n) extends f = num-tell state w n f
+answer-tell state (item.SetWriteTimeout w timeout) extends f = timeout-tell state w timeout f
+answer-tell state (item.CloseWriter w) extends f = close-tell state w extends f
+answer-tell state (item.Write w bytes steps) extends f = write-tell state w bytes steps f
+answer-tell state (item.PollWrite w bytes) extends f = poll_write-tell state w bytes f
+answer-tell state (item.Submit w) extends f = submit-tell state w f
+answer-tell state (item.SubmitEnd w) extends f = submit_end-tell state w f
+answer-tell state (item.Flush w steps) extends f = flush-tell state w steps f
+answer-tell state (item.PollFlush w) extends f = poll_flush-tell state w f
+answer-tell state (item.FlushEnd w steps) extends f = flush_end-tell state w steps f
+answer-tell state (item.PollFlushEnd w) extends f = poll_flush_end-tell state w f
+answer-tell state line extends f = others-tell state line refl extends f
+
+-- before the first line
+start-tell : (items : List Item) → AllTell (start items)
+unfolding start
+start-tell items =
+    record {
+      readers = length-replicate {A = Option Reader} 64 None;
+      writers = length-replicate {A = Option Writer} 64 None;
+      each = λ w x c at is. absurd (none-some x.writer (sym (named-replicate {X = Writer} 64 w) ∙ (parts-of (start items) w x at).writer));
+    }
+
+-- and behind each
+module _ (go : ScriptsGoOn) (items : List Item) where
+  abbrev at : List Item → State
+  at before = behind (start items) before
+
+  on-tell : (before more : List Item) → AllTell (at before) → AllTell (at (before ++ more))
+  on-tell before [] f = subst (λ (l : List Item). AllTell (at l)) (sym (append-nil before)) f
+  on-tell before (line ∷ more) f =
+      let next : AllTell (at (before ++ line ∷ [])) = subst AllTell (sym (behind-push (start items) before line)) (answer-tell (at before) line (go.line items before line).journal f) in
+      subst (λ (l : List Item). AllTell (at l)) (append_assoc before (line ∷ []) more) (on-tell (before ++ line ∷ []) more next)
+
+pub tell-by : ScriptsGoOn → ScriptsAreWritten
+tell-by go items before after all = all-written (behind (start items) before) (on-tell go items [] before (start-tell items))

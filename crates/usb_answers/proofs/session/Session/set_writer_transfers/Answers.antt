@@ -1,0 +1,49 @@
+use Rattle.std.proofs.Common.{◌≡◌, refl, sym, ◌∙◌, ap, subst}
+use Rattle.usb_io.specs.Writers.{WriterState}
+use Rattle.usb_answers.specs.BareWriters.{bare_writer}
+use Rattle.usb_answers.specs.SessionState.{IsSound}
+use Rattle.usb_answers.specs.Writers.{transfers_on, writer_num_answer}
+use Rattle.usb_answers.proofs.Answering.{answers-same}
+use Rattle.usb_answers.proofs.TakenOut.{PutBack, put_back, free_again, same-none}
+use Rattle.usb_answers.proofs.WriterCalled.{made_writing, stands-writer, sound-writer_called}
+use Rattle.usb_answers.proofs.ReaderCode.{keeps-rest}
+use Rattle.usb_answers.proofs.WriterLines.{answers-transfers, answers-unset, num-gives, none-barred, many-barred, count-free}
+use Rattle.usb_answers.proofs.session.Session.set_writer_transfers.Goals as goal
+use Rattle.usb_answers.proofs.session.Session.set_writer_transfers.Goals.{After-write_condition-in_default, After-write_ok, then-count-eq0-via-then-count-eq0, then-count-eq0-via-else-count-eq0+then-count-gt-MOST_PENDING}
+
+back : (c : After-write_ok) → PutBack c.self.inside.writers.items c.put_at.new.names.items c.number-number.result c.in-Some.writer c.set_num_transfers.new.self
+back c = put_back _ _ _ _ _ _ _ c.take_at.ensures.taken c.in-Some.is c.take_at.ensures.rest c.put_at.ensures.after
+
+same : (c : After-write_condition-in_default) → c.take_at.new.names.items ≡ c.self.inside.writers.items
+same c = same-none _ _ _ _ c.take_at.ensures.taken c.in_default.is c.take_at.ensures.rest
+
+-- the number is none that may be set
+pub returns-then-count-eq0-clause-answered : goal.returns-then-count-eq0-clause-answered
+returns-then-count-eq0-clause-answered c =
+    answers-same _ _ _ refl c.write_condition.ensures.text
+    (λ state r. num-gives c.args.self.now state c.args.name c.args.count
+    (elim c.then-count-eq0.branch [
+      | then-count-eq0-via-then-count-eq0 w ↦ none-barred c.args.count w.if-count-eq0.true
+      | then-count-eq0-via-else-count-eq0+then-count-gt-MOST_PENDING w ↦ many-barred c.args.count w.if-count-gt-MOST_PENDING.true
+    ]) r)
+
+pub invariant_of-self : goal.invariant_of-self
+invariant_of-self c = subst (λ l. IsSound (made_writing c.self.inside c.self.inside.host l)) (sym (same c)) c.self.invariant
+
+pub returns-in_default-clause-answered : goal.returns-in_default-clause-answered
+unfolding writer_num_answer
+returns-in_default-clause-answered c =
+    answers-unset c.self.inside _ _ _ _ c.args.line.now c.write_condition-in_default.new.out _ (λ state x. transfers_on state c.args.name c.args.count) c.self.view_is (sym c.take_at.ensures.taken ∙ c.in_default.is) (same c) c.number-number.ensures.value c.write_condition-in_default.ensures.text
+
+pub put_at-requires : goal.put_at-requires
+put_at-requires c = record { free = free_again _ _ _ _ _ c.take_at.ensures.taken c.in-Some.is c.take_at.ensures.rest }
+
+pub invariant_of-self-2 : goal.invariant_of-self-2
+invariant_of-self-2 c =
+    sound-writer_called c.self.inside _ _ _ _ _ c.self.invariant (back c)
+    (keeps-rest c.self.inside.host _ _ (stands-writer c.self.inside _ _ _ c.self.invariant c.take_at.ensures.taken c.in-Some.is) (ap (λ (w : WriterState). w.endpoint) c.set_num_transfers.ensures.set))
+
+pub returns-clause-answered : goal.returns-clause-answered
+returns-clause-answered c =
+    answers-transfers c.self.inside _ _ _ _ c.args.count _ _ c.args.line.now c.write_ok.new.out _ c.self.invariant c.self.view_is (back c) c.number-number.ensures.value (ap (λ (w : WriterState). w.endpoint) c.set_num_transfers.ensures.set)
+    (ap bare_writer c.set_num_transfers.ensures.set) (count-free c.args.count c.if-count-eq0.false c.if-count-gt-MOST_PENDING.false) c.write_ok.ensures.text
