@@ -262,6 +262,29 @@ def bytewise(_size):
     yield from itertools.repeat(f"! pkt k0 81 {'5a' * 63}\n" + "read r0 1\n" * 63)
 
 
+def written(transfer_size, writes):
+    """Messages of 130 bytes, each in so many writes, with its end and a flush."""
+    yield f"{OUT}writer w0 e0 {transfer_size}\nnum w0 8\n"
+    parts = "".join(f"write w0 {'5a' * count}\n" for count in writes)
+    yield from itertools.repeat(f"{parts}wend w0\nflush w0 : ack k0 02 ; ack k0 02 ; ack k0 02\n")
+
+
+def written64(_size):
+    """messages that are written to transfers of 64 bytes, ended and flushed, again and again"""
+    yield from written(64, [64, 64, 2])
+
+
+def written4096(_size):
+    """the same to transfers of 4096 bytes"""
+    yield from written(4096, [130])
+
+
+def writes(_size):
+    """writes of one byte, and a flush of each 63, again and again"""
+    yield f"{OUT}writer w0 e0 512\nnum w0 2\n"
+    yield from itertools.repeat("write w0 5a\n" * 63 + "flush w0 : ack k0 02\n")
+
+
 def comments(_size):
     """comments"""
     yield OPENED
@@ -273,7 +296,7 @@ KINDS = {
     for kind in (
         polls, cycles, behind, flight, cancels, waits, refused, armed, submitout, steps, claims, closes, owners, openings,
         refusals, descriptors, printed, attributes, again, matches, packets, control, futures, framed64, framed4096,
-        bytewise, comments,
+        bytewise, written64, written4096, writes, comments,
     )
 }
 

@@ -25,7 +25,7 @@ LANGUAGE = pathlib.Path(__file__).parent.parent / "docs/SCRIPT.md"
 ANSWERS = [
     "ok", "condition", "error", "device", "desc", "count", "pending", "none", "done", "now", "ticket", "config", "noconfig", "speed",
     "alt", "if", "list", "buses", "info", "sysfs", "match", "connected", "disconnected", "data", "failed", "langs", "string",
-    "read", "buf", "io", "end", "expected",
+    "read", "buf", "io", "end", "expected", "wrote",
 ]
 STATUSES = ["ok", "cancelled", "stall", "disconnected", "fault", "invalid", "unknown"]
 ENDS = ["taken", "dropped", "reclaimed"]
@@ -38,10 +38,12 @@ SETTING_IN_USE = "error Busy can't change alternate setting while endpoints are 
 FAILED = [f"failed {it}" for it in ("cancelled", "stall", "disconnected", "fault", "invalid", "unknown")]
 UNTOLD = ["failed invalid-descriptor", *FAILED]
 TIMED_OUT, ENDED_EARLY = "io TimedOut timeout waiting for read", "io UnexpectedEof ended without short packet"
+NOT_WRITTEN = "io TimedOut write timeout"
 FAULTS = [
     "io ConnectionReset endpoint stalled", "io ConnectionAborted device disconnected", "io Other hardware fault or protocol violation",
     "io InvalidInput invalid or unsupported argument", "io Other unknown",
 ]
+WRITE_FAULTS = ["io Interrupted transfer was cancelled", *FAULTS]
 UNKNOWN_CONFIGURATION = "noconfig no descriptor found for active configuration 7"
 
 # by call the answers that it gives without an armed refusal, and those that want one
@@ -111,6 +113,16 @@ OF_CALLS = {
     "sconsume": (["ok"], []),
     "isend": (["end true", "end false"], []),
     "endmsg": (["ok", "expected short packet"], []),
+    "writer": (["ok"], []),
+    "close w": (["ok"], []),
+    "write": (["wrote", "wrote 0", *WRITE_FAULTS, NOT_WRITTEN], []),
+    "pollwrite": (["wrote", "wrote 0", *WRITE_FAULTS, "pending"], []),
+    "wsubmit": (["ok"], []),
+    "wend": (["ok"], []),
+    "flush": (["ok", *WRITE_FAULTS, NOT_WRITTEN], []),
+    "flushend": (["ok", *WRITE_FAULTS, NOT_WRITTEN], []),
+    "pollflush": (["ok", *WRITE_FAULTS, "pending"], []),
+    "pollflushend": (["ok", *WRITE_FAULTS, "pending"], []),
 }
 
 CONFIGURATIONS = [
@@ -418,6 +430,76 @@ def lines_of_readers(r):
     return lines + [f"reader r0 e0 {r.choice([8, 64, 64, 128, 512])}", f"num r0 {r.choice([1, 1, 2, 4])}"]
 
 
+
+def writer_step(r):
+    return r.choice([
+        lambda: "ack k0 02",
+        lambda: "ack k0 02",
+        lambda: "ack k0 02 ; ack k0 02 ; ack k0 01",
+        lambda: f"fail k0 02 {r.choice(FAILURES)}",
+        lambda: f"refuse k0 submit {r.choice(FAILURES)}" if r.random() < 0.6 else "reap",
+        lambda: f"clock {r.randrange(4000)}",
+        lambda: "reap",
+        lambda: "reap ; reap",
+        lambda: f"unplug {name(r, 'k', 2)}" if r.random() < 0.1 else "reap",
+    ])()
+
+
+def writer_steps(r):
+    return " ; ".join(writer_step(r) for _ in range(r.randint(1, 4)))
+
+
+def writer_own(r):
+    return f" : {writer_steps(r)}" if r.random() < 0.7 else ""
+
+
+def writing_call(r):
+    """A call that writes, submits or flushes."""
+    x = name(r, "w", 3)
+    data = hexes(r, [0, 1, 5, 16, 63, 64, 64, 65, 128, 200])
+    return r.choice([
+        lambda: f"write {x} {data}{writer_own(r)}",
+        lambda: f"write {x} {data}{writer_own(r)}",
+        lambda: f"write {x} {data}{writer_own(r)}",
+        lambda: f"pollwrite {x} {data}",
+        lambda: f"pollwrite {x} {data}",
+        lambda: f"wsubmit {x}",
+        lambda: f"wend {x}",
+        lambda: f"flush {x}{writer_own(r)}",
+        lambda: f"flushend {x}{writer_own(r)}",
+        lambda: f"pollflush {x}",
+        lambda: f"pollflushend {x}",
+        lambda: f"pollflushend {x}",
+    ])()
+
+
+def writer_call(r):
+    e, x = name(r, "e", 3), name(r, "w", 3)
+    if r.random() < 0.75:
+        return writing_call(r)
+    return r.choice([
+        lambda: f"writer {x} {e} {r.choice([0, 1, 64, 65, 128, 512, 65536])}",
+        lambda: f"writer {x} e1 64",
+        lambda: f"endpoint {e} i0 {r.choice(['02 bulk-out', '02 bulk-out', '01 int-out', '81 bulk-in'])}",
+        lambda: f"inner {e} {x}" if r.random() < 0.5 else f"timeout {x} {timeout(r)}",
+        lambda: f"inner e1 {x}\nsubmitout e1 {hexes(r, [1, 64, 64, 128])}\nwriter {x} e1 {r.choice([64, 64, 128])}",
+        lambda: f"num {x} {r.choice([0, 1, 2, 2, 3, 8, 64, 65])}",
+        lambda: f"num {x} {r.choice([1, 2, 4])}",
+        lambda: f"close {x}" if r.random() < 0.6 else f"num {x} 2",
+        lambda: transfer_call(r),
+        lambda: reader_call(r),
+    ])()
+
+
+def lines_of_writers(r):
+    """Setup lines and the first calls of a script in which most calls write."""
+    kind = r.choice([0, 0, 0, 1])
+    lines = [f"device k0 1 6 3 1 {DEVICE.format(0, 1)}{CONFIGURATIONS[kind]}", "open d0 1 6", "claim d0 0 i0"]
+    lines += [f"endpoint e0 i0 81 {['bulk-in', 'int-in'][kind]}", f"endpoint e1 i0 {['02 bulk-out', '01 int-out'][kind]}"]
+    lines += [f"submitout e1 {'5a' * r.choice([1, 64, 128])}"] * (r.random() < 0.2)
+    return lines + [f"writer w0 e1 {r.choice([8, 64, 64, 128, 512])}", f"num w0 {r.choice([1, 1, 2, 4])}"]
+
+
 CONTROLLER = "/sys/devices/pci0"
 HUB = f"{CONTROLLER}/usb1"
 FOLDERS = [HUB, f"{HUB}/1-6", f"{HUB}/1-7", "/sys/none", "/"]
@@ -599,6 +681,9 @@ MALFORMED = [
     "reader r0 e0", "reader e0 r0 64", "reader r0 e0 65537", "inner r0 e0", "num r0", "num e0 1", "timeout r0", "cancel i0",
     "read r0 0", "read r0 65537", "read e0 1", "sread r0", "pollread r0 1 : reap", "fill r0 1", "pollfill r0 : reap",
     "sconsume r0", "consume r0 1 : reap", "isend e0", "endmsg r0 1", "close r64",
+    "writer w0 e0", "writer e0 w0 64", "writer w0 r0 64", "inner w0 e0", "num w0", "num w0 65537", "timeout w0", "cancel w0", "close w064",
+    "write w0", "write w0 0", "write r0 00", "pollwrite w0 00 : reap", "wsubmit w0 : reap", "wsubmit r0", "wend", "wend w0 00", "flush",
+    "flush w0 1", "flush w0 :", "flushend r0", "pollflush w0 : reap", "pollflushend w0 : reap", "pollflushend e0", "submit w0",
 ]
 
 
@@ -621,12 +706,15 @@ def script(seed):
         return "\n".join(walks(r)).encode()
     if r.random() < 0.2:
         return script_of(r, lines_of_trees(r), lambda: tree_call(r) if r.random() < 0.9 else owner_call(r), 40)
-    if r.random() < 0.35:
+    if r.random() < 0.3:
         call = lambda: (control_call if r.random() < 0.85 else owner_call if r.random() < 0.3 else transfer_call)(r)
         return script_of(r, lines_of_controls(r), call, 60, control_steps)
     if r.random() < 0.4:
         call = lambda: (reader_call if r.random() < 0.95 else owner_call)(r)
         return script_of(r, lines_of_readers(r), call, 80, reader_steps)
+    if r.random() < 0.55:
+        call = lambda: (writer_call if r.random() < 0.95 else owner_call)(r)
+        return script_of(r, lines_of_writers(r), call, 100, writer_steps)
     is_of_owners = r.random() < 0.5
     lines = (lines_of_owners if is_of_owners else lines_of_transfers)(r)
     call = lambda: (owner_call if is_of_owners == (r.random() < 0.9) else transfer_call)(r)
@@ -682,7 +770,7 @@ def kind_of_answer(call, line):
     """The answer without a number that a script can choose, and without the descriptors behind the first words."""
     if call == "ifdesc":
         return " ".join(line.split()[:2])
-    line = re.sub(r"^(read|buf) [1-9].*$|^(io Other unknown) .*$", lambda found: found[1] or found[2], line)
+    line = re.sub(r"^(read|buf|wrote) [1-9].*$|^(io Other unknown) .*$", lambda found: found[1] or found[2], line)
     line = re.sub(r"^(data|langs|string) .*$|^langs$", lambda found: found[0].split()[0], line)
     return re.sub(r"^(error Other failed .*) \(errno [0-9]+\)$|^(failed unknown):[0-9]+$", lambda found: found[1] or found[2], line)
 

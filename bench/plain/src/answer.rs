@@ -8,6 +8,7 @@ use crate::reader::ReadFailure;
 use crate::refusal::Refusal;
 use crate::text::{Show, Text};
 use crate::tree::{BadAttribute, BusInfo, DeviceInfo, InterfaceInfo};
+use crate::writer::WriteFailure;
 use std::sync::Arc;
 
 pub enum Answer {
@@ -42,6 +43,9 @@ pub enum Answer {
     /// The bytes that stand.
     Filled(Vec<u8>),
     NotRead(ReadFailure),
+    /// How many bytes were accepted.
+    Wrote(usize),
+    NotWritten(WriteFailure),
     IsEnd(bool),
     /// No end is next.
     NoEnd,
@@ -90,6 +94,8 @@ impl Show for Answer {
             Answer::Read(bytes) => counted(text.word("read "), bytes),
             Answer::Filled(bytes) => counted(text.word("buf "), bytes),
             Answer::NotRead(failure) => text.word("io ").show(failure),
+            Answer::Wrote(count) => text.word("wrote ").number(*count as u64),
+            Answer::NotWritten(failure) => text.word("io ").show(failure),
             Answer::IsEnd(true) => text.word("end true"),
             Answer::IsEnd(false) => text.word("end false"),
             Answer::NoEnd => text.word("expected short packet"),

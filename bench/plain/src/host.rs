@@ -99,6 +99,8 @@ pub struct Completion {
     pub outcome: Outcome,
     pub count: usize,
     pub requested: usize,
+    /// The capacity of its buffer.
+    pub room: usize,
     pub bytes: Vec<u8>,
 }
 
@@ -363,6 +365,16 @@ impl Host {
         if !self.has_room(key, &data) {
             return None;
         }
+        let room = match &data {
+            Data::In(length) => *length,
+            Data::Out(bytes) => bytes.len(),
+        };
+        self.hand_in(key, data, room);
+        Some(())
+    }
+
+    /// Hands a transfer in, whose buffer has this capacity.
+    pub fn hand_in(&mut self, key: EndpointKey, data: Data, room: usize) {
         let endpoint = &mut self.endpoints[key];
         let maximum = endpoint.maximum;
         let is_whole = match data {
@@ -378,6 +390,7 @@ impl Host {
             endpoint: endpoint.address,
             maximum,
             requested,
+            room,
             bytes,
             count: 0,
             outcome: None,
@@ -391,7 +404,6 @@ impl Host {
         self.fates.push(Fate::Held);
         endpoint.uses += 1;
         endpoint.pending.push_back(ticket);
-        Some(())
     }
 
     /// Takes the oldest pending transfer, where it was reaped.
@@ -402,12 +414,13 @@ impl Host {
         let outcome = transfer.outcome.filter(|_| transfer.is_reaped)?;
         pending.pop_front();
         let bytes = std::mem::take(&mut transfer.bytes);
-        let (count, requested) = (transfer.count, transfer.requested);
+        let (count, requested, room) = (transfer.count, transfer.requested, transfer.room);
         self.end(ticket, Some(key), End::Taken);
         Some(Completion {
             outcome,
             count,
             requested,
+            room,
             bytes,
         })
     }

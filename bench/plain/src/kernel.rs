@@ -161,6 +161,8 @@ pub struct Transfer {
     pub maximum: usize,
     /// What an IN transfer wants, and the length of an OUT transfer's bytes.
     pub requested: usize,
+    /// The capacity of its buffer.
+    pub room: usize,
     /// The bytes of an OUT transfer, or those that have come in, until the host takes them.
     pub bytes: Vec<u8>,
     /// How many bytes have come in, or were acknowledged.
@@ -340,6 +342,7 @@ impl Kernel {
             endpoint: setup[0] & 0x80,
             maximum: length,
             requested: length,
+            room: length,
             bytes,
             count: 0,
             outcome: None,

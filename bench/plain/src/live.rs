@@ -66,6 +66,7 @@ fn feed(kernel: &mut Kernel, byte: u8) -> Ticket {
         endpoint: ENDPOINT,
         maximum: PACKET,
         requested: PACKET,
+        room: PACKET,
         bytes: Vec::with_capacity(PACKET),
         count: 0,
         outcome: None,

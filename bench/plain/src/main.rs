@@ -19,6 +19,7 @@ mod session;
 mod text;
 mod tree;
 mod udev;
+mod writer;
 
 use fault::Fault;
 use script::Script;

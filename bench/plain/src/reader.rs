@@ -37,6 +37,15 @@ pub enum ReadFailure {
     UnexpectedEof,
 }
 
+/// Shows the kind of a failed transfer, and what it says.
+pub fn show_failed(outcome: Outcome, text: &mut Text) {
+    let (kind, words) = transfer_words(outcome);
+    text.word(kind).word(" ").word(words);
+    if let ("", Outcome::Failed(errno) | Outcome::Refused(errno)) = (words, outcome) {
+        text.word("unknown (errno ").number(errno.into()).word(")");
+    }
+}
+
 /// The kind of a failed transfer, and what is printed of it.
 fn transfer_words(outcome: Outcome) -> (&'static str, &'static str) {
     use errno::*;
@@ -57,16 +66,14 @@ fn transfer_words(outcome: Outcome) -> (&'static str, &'static str) {
 
 impl Show for ReadFailure {
     fn show(&self, text: &mut Text) {
-        let (kind, words) = match *self {
-            ReadFailure::Transfer(outcome) => transfer_words(outcome),
-            ReadFailure::TimedOut => ("TimedOut", "timeout waiting for read"),
-            ReadFailure::UnexpectedEof => ("UnexpectedEof", "ended without short packet"),
-        };
-        text.word(kind).word(" ").word(words);
-        if let ("", ReadFailure::Transfer(Outcome::Failed(errno) | Outcome::Refused(errno))) =
-            (words, *self)
-        {
-            text.word("unknown (errno ").number(errno.into()).word(")");
+        match *self {
+            ReadFailure::Transfer(outcome) => show_failed(outcome, text),
+            ReadFailure::TimedOut => {
+                text.word("TimedOut timeout waiting for read");
+            }
+            ReadFailure::UnexpectedEof => {
+                text.word("UnexpectedEof ended without short packet");
+            }
         }
     }
 }
@@ -129,20 +136,23 @@ impl Reader {
 }
 
 impl Host {
-    /// Whether so many transfers may be handed in to a reader.
-    fn has_room_for(&self, reader: &Reader, need: usize) -> bool {
-        self.pending(reader.endpoint) + need <= 64 && self.kernel.unreaped + need <= 1024
+    /// Whether so many transfers may be handed in at an endpoint.
+    pub fn has_room_for(&self, endpoint: EndpointKey, need: usize) -> bool {
+        self.pending(endpoint) + need <= 64 && self.kernel.unreaped + need <= 1024
     }
 
     /// Whether what a reading call may hand in has room.
     pub fn may_read(&self, reader: &Reader, framing: Framing) -> bool {
         let missing = reader.depth.saturating_sub(self.pending(reader.endpoint));
-        self.has_room_for(reader, if reader.turns(framing) { missing } else { 0 })
+        self.has_room_for(
+            reader.endpoint,
+            if reader.turns(framing) { missing } else { 0 },
+        )
     }
 
     fn submit_missing(&mut self, reader: &Reader, depth: usize) {
         for _ in self.pending(reader.endpoint)..depth {
-            self.submit(reader.endpoint, Data::In(reader.size));
+            self.hand_in(reader.endpoint, Data::In(reader.size), reader.size);
         }
     }
 
@@ -150,7 +160,7 @@ impl Host {
     pub fn set_depth(&mut self, reader: &mut Reader, depth: usize) -> Option<()> {
         let goal = depth.saturating_sub(1);
         let missing = goal.saturating_sub(self.pending(reader.endpoint));
-        if depth > 64 || !self.has_room_for(reader, missing) {
+        if depth > 64 || !self.has_room_for(reader.endpoint, missing) {
             return None;
         }
         reader.depth = depth;

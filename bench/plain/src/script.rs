@@ -60,6 +60,12 @@ pub enum Call {
     IntoInner(Name, Name),
     /// A call on a reader.
     Reader(Name, ReaderCall),
+    /// Of an open endpoint, with this transfer size.
+    OpenWriter(Name, Name, usize),
+    /// The endpoint's name, and the writer's.
+    WriterIntoInner(Name, Name),
+    /// A call on a writer.
+    Writer(Name, WriterCall),
 }
 
 /// A control transfer.
@@ -148,6 +154,20 @@ pub enum ReaderCall {
     Consume(usize),
     IsEnd,
     ConsumeEnd,
+}
+
+pub enum WriterCall {
+    SetDepth(usize),
+    SetTime(u64),
+    Close,
+    Write(Vec<u8>, Vec<Step>),
+    PollWrite(Vec<u8>),
+    Submit,
+    End,
+    Flush(Vec<Step>),
+    PollFlush,
+    FlushEnd(Vec<Step>),
+    PollFlushEnd,
 }
 
 /// How long a call waits, in nanoseconds, and the steps that are taken meanwhile.
@@ -394,6 +414,24 @@ fn reader_call(verb: &[u8], rest: &[&[u8]]) -> Option<ReaderCall> {
     })
 }
 
+/// A call on a writer, without the writer's name.
+fn writer_call(verb: &[u8], rest: &[&[u8]]) -> Option<WriterCall> {
+    Some(match (verb, rest) {
+        (b"num", [count]) => WriterCall::SetDepth(length(count)?),
+        (b"timeout", [word]) => WriterCall::SetTime(time(word)?),
+        (b"close", []) => WriterCall::Close,
+        (b"write", [data, rest @ ..]) => WriterCall::Write(bytes(data)?, own_steps(rest)?),
+        (b"pollwrite", [data]) => WriterCall::PollWrite(bytes(data)?),
+        (b"wsubmit", []) => WriterCall::Submit,
+        (b"wend", []) => WriterCall::End,
+        (b"flush", rest) => WriterCall::Flush(own_steps(rest)?),
+        (b"pollflush", []) => WriterCall::PollFlush,
+        (b"flushend", rest) => WriterCall::FlushEnd(own_steps(rest)?),
+        (b"pollflushend", []) => WriterCall::PollFlushEnd,
+        _ => return None,
+    })
+}
+
 fn target(word: &[u8]) -> Option<Target> {
     match name(word, b'd') {
         Some(device) => Some(Target::Device(device)),
@@ -495,6 +533,7 @@ fn call_on(verb: &[u8], word: &[u8], rest: &[&[u8]]) -> Option<Call> {
         b'e' => Call::Endpoint(name(word, b'e')?, endpoint_call(verb, rest)?),
         b'f' => future_call(name(word, b'f')?, verb, rest)?,
         b'r' => Call::Reader(name(word, b'r')?, reader_call(verb, rest)?),
+        b'w' => Call::Writer(name(word, b'w')?, writer_call(verb, rest)?),
         _ => return None,
     })
 }
@@ -618,6 +657,8 @@ fn call(words: &[&[u8]]) -> Option<Call> {
             })
         }
         [b"reader", r, e, n] => Call::OpenReader(name(r, b'r')?, name(e, b'e')?, length(n)?),
+        [b"writer", w, e, n] => Call::OpenWriter(name(w, b'w')?, name(e, b'e')?, length(n)?),
+        [b"inner", e, w @ [b'w', ..]] => Call::WriterIntoInner(name(e, b'e')?, name(w, b'w')?),
         [b"inner", e, r] => Call::IntoInner(name(e, b'e')?, name(r, b'r')?),
         [b"ctlin", ref words @ ..] => control_call(words, control_in)?,
         [b"ctlout", ref words @ ..] => control_call(words, control_out)?,

@@ -10,10 +10,11 @@ use crate::reader::{Framing, ReadFailure, Reader};
 use crate::refusal::Refusal;
 use crate::script::{
     Call, Claim, Control, DeviceCall, EndpointCall, InterfaceCall, Line, Open, OpenEndpoint,
-    Patience, ReaderCall, SecondHandle, Target,
+    Patience, ReaderCall, SecondHandle, Target, WriterCall,
 };
 use crate::tree::{DeviceInfo, Tree};
 use crate::udev::{self, Notice};
+use crate::writer::{WriteFailure, Writer};
 use std::collections::VecDeque;
 
 #[derive(Default)]
@@ -23,6 +24,7 @@ pub struct Session {
     interfaces: Names<InterfaceKey>,
     endpoints: Names<EndpointKey>,
     readers: Names<Reader>,
+    writers: Names<Writer>,
     futures: Names<Future>,
     tree: Tree,
     packets: VecDeque<(u32, Vec<u8>)>,
@@ -42,6 +44,15 @@ fn opened<T>(place: &mut Option<T>, tried: Result<T, Refusal>) -> Answer {
 /// Answers a call that gives nothing.
 fn done(tried: Result<(), Refusal>) -> Answer {
     tried.map_or_else(Answer::Refused, |()| Answer::Ok)
+}
+
+/// Answers a poll of a writer.
+fn polled<T>(tried: Result<T, WriteFailure>, ready: impl FnOnce(T) -> Answer) -> Answer {
+    match tried {
+        Ok(value) => ready(value),
+        Err(WriteFailure::TimedOut) => Answer::Pending,
+        Err(failure) => Answer::NotWritten(failure),
+    }
 }
 
 /// What the bytes that came say about a question.
@@ -128,6 +139,9 @@ impl Session {
             }
             Call::Ask(name, question, patience) => self.ask(name, question, patience),
             Call::OpenReader(name, endpoint, size) => self.open_reader(name, endpoint, size),
+            Call::OpenWriter(name, endpoint, size) => self.open_writer(name, endpoint, size),
+            Call::WriterIntoInner(endpoint, name) => self.writer_into_inner(endpoint, name),
+            Call::Writer(name, call) => self.writer_call(name, call),
             Call::IntoInner(endpoint, name) => self.into_inner(endpoint, name),
             Call::Reader(name, call) => self.reader_call(name, call),
         }
@@ -418,6 +432,112 @@ impl Session {
         Some(Answer::Ok)
     }
 
+    fn open_writer(&mut self, name: Name, endpoint: Name, size: usize) -> Option<Answer> {
+        let place = self.writers.vacant(name)?;
+        let key = *self.endpoints.get(endpoint)?;
+        if self.host.direction(key) != Direction::Out {
+            return None;
+        }
+        *place = Some(Writer::new(key, self.host.maximum(key), size));
+        self.endpoints.take(endpoint);
+        Some(Answer::Ok)
+    }
+
+    fn writer_into_inner(&mut self, endpoint: Name, name: Name) -> Option<Answer> {
+        let place = self.endpoints.vacant(endpoint)?;
+        *place = Some(self.writers.take(name)?.endpoint);
+        Some(Answer::Ok)
+    }
+
+    fn writer_call(&mut self, name: Name, call: WriterCall) -> Option<Answer> {
+        match call {
+            WriterCall::Write(bytes, steps) => {
+                self.write(name, steps, Host::may_write, |host, writer, steps| {
+                    let count = host.write(writer, &bytes, writer.time, steps);
+                    count.map_or_else(Answer::NotWritten, Answer::Wrote)
+                })
+            }
+            WriterCall::PollWrite(bytes) => {
+                self.write(name, Vec::new(), Host::may_write, |host, writer, steps| {
+                    polled(host.write(writer, &bytes, 0, steps), Answer::Wrote)
+                })
+            }
+            WriterCall::Submit => {
+                self.write(name, Vec::new(), Host::may_flush, |host, writer, _| {
+                    host.send_buffer(writer);
+                    Answer::Ok
+                })
+            }
+            WriterCall::End => self.write(name, Vec::new(), Host::may_end, |host, writer, _| {
+                host.send_end(writer);
+                Answer::Ok
+            }),
+            call => self.flush(name, call),
+        }
+    }
+
+    fn flush(&mut self, name: Name, call: WriterCall) -> Option<Answer> {
+        match call {
+            WriterCall::Flush(steps) => {
+                self.write(name, steps, Host::may_flush, |host, writer, steps| {
+                    host.send_buffer(writer);
+                    let drained = host.drain(writer, writer.time, steps);
+                    drained.map_or_else(Answer::NotWritten, |()| Answer::Ok)
+                })
+            }
+            WriterCall::PollFlush => {
+                self.write(name, Vec::new(), Host::may_flush, |host, writer, steps| {
+                    host.send_buffer(writer);
+                    polled(host.drain(writer, 0, steps), |()| Answer::Ok)
+                })
+            }
+            WriterCall::FlushEnd(steps) => {
+                self.write(name, steps, Host::may_end, |host, writer, steps| {
+                    host.send_end(writer);
+                    let drained = host.drain(writer, writer.time, steps);
+                    drained.map_or_else(Answer::NotWritten, |()| Answer::Ok)
+                })
+            }
+            WriterCall::PollFlushEnd => self.write(
+                name,
+                Vec::new(),
+                Host::may_poll_end,
+                |host, writer, steps| polled(host.poll_end(writer, steps), |()| Answer::Ok),
+            ),
+            call => self.set_writer(name, call),
+        }
+    }
+
+    /// A call on a writer, where it may be made. The steps that are left are taken right after it.
+    fn write(
+        &mut self,
+        name: Name,
+        steps: Vec<Step>,
+        may: impl FnOnce(&Host, &Writer) -> bool,
+        call: impl FnOnce(&mut Host, &mut Writer, &mut Steps) -> Answer,
+    ) -> Option<Answer> {
+        let mut steps = steps.into_iter();
+        let (writer, host) = (self.writers.get_mut(name), &mut self.host);
+        let writer = writer.filter(|writer| may(host, writer));
+        let answer = writer.map(|writer| call(host, writer, &mut steps));
+        self.take_steps(steps);
+        answer
+    }
+
+    fn set_writer(&mut self, name: Name, call: WriterCall) -> Option<Answer> {
+        if let WriterCall::Close = call {
+            self.host.close_endpoint(self.writers.take(name)?.endpoint);
+            return Some(Answer::Ok);
+        }
+        let writer = self.writers.get_mut(name)?;
+        match call {
+            WriterCall::SetDepth(depth) => writer.set_depth(depth)?,
+            WriterCall::SetTime(time) => writer.time = time,
+            _ => return None,
+        }
+        Some(Answer::Ok)
+    }
+
     /// Makes a call that waits. The steps that are left are taken right after it.
     fn with_steps<A>(
         &mut self,
@@ -430,11 +550,14 @@ impl Session {
         answer
     }
 
-    /// Closes the readers, the endpoints, the futures and then the interfaces, and ends each ticket. Of a device
+    /// Closes the readers, the writers, the endpoints, the futures and then the interfaces, and ends each ticket. Of a device
     /// nothing is left to close.
     pub fn finish(&mut self) {
         for (_, reader) in self.readers.iter() {
             self.host.close_endpoint(reader.endpoint);
+        }
+        for (_, writer) in self.writers.iter() {
+            self.host.close_endpoint(writer.endpoint);
         }
         for (_, endpoint) in self.endpoints.iter() {
             self.host.close_endpoint(*endpoint);

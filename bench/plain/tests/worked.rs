@@ -113,3 +113,8 @@ fn bars_the_65th_pending_transfer_and_the_1025th_unreaped() {
 fn trees_and_packets() {
     check(include_str!("worked/tree.txt"));
 }
+
+#[test]
+fn writers() {
+    check(include_str!("worked/writers.txt"));
+}

@@ -9,6 +9,7 @@ mod lines;
 mod live;
 mod readers;
 mod steps;
+mod writers;
 
 use std::alloc::{AllocError, Global};
 use std::io::{BufWriter, Cursor};
