@@ -63,6 +63,7 @@ pub stepped-claimed : (devices : List DeviceState) (s : KernelStep) (d n : ℕ) 
 stepped-claimed devices (step.Unplug l) d n = change-claimed unplugged (λ x. refl) devices l d n (λ here x. refl)
 stepped-claimed devices (step.Packet l e b) d n = refl
 stepped-claimed devices (step.Ack l e) d n = refl
+stepped-claimed devices (step.Echo l o i) d n = refl
 stepped-claimed devices (step.Fail l e errno) d n = refl
 stepped-claimed devices (step.Clock to) d n = refl
 stepped-claimed devices step.Timer d n = refl

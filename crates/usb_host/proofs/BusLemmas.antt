@@ -68,6 +68,7 @@ bus_of-reaped h t = bus_of-came (record h { kernel = record h.kernel { past = af
 clock-later : (now : ℕ) (s : KernelStep) → now ≤ clock_stepped now s
 clock-later now (step.Packet d e b) = omega arith
 clock-later now (step.Ack d e) = omega arith
+clock-later now (step.Echo d o i) = omega arith
 clock-later now (step.Fail d e errno) = omega arith
 clock-later now (step.Unplug d) = omega arith
 clock-later now (step.Clock to) = omega arith

@@ -155,6 +155,7 @@ uses-none h =
 clock-later : (now : ℕ) (s : KernelStep) → now ≤ clock_stepped now s
 clock-later now (step.Packet d e b) = omega arith
 clock-later now (step.Ack d e) = omega arith
+clock-later now (step.Echo d o i) = omega arith
 clock-later now (step.Fail d e errno) = omega arith
 clock-later now (step.Unplug d) = omega arith
 clock-later now (step.Clock to) = omega arith

@@ -257,6 +257,7 @@ pub steps-exclusive : StepsStayExclusive
 steps-exclusive devices (step.Unplug l) apart = λ d. at-change IsExclusiveIn unplugged (λ x. refl) devices l d (λ x here at p. p) (apart d)
 steps-exclusive devices (step.Packet l e b) apart = apart
 steps-exclusive devices (step.Ack l e) apart = apart
+steps-exclusive devices (step.Echo l o i) apart = apart
 steps-exclusive devices (step.Fail l e errno) apart = apart
 steps-exclusive devices (step.Clock to) apart = apart
 steps-exclusive devices step.Timer apart = apart

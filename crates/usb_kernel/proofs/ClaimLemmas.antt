@@ -72,6 +72,7 @@ pub steps-keep : StepsKeep
 steps-keep devices (step.Unplug d) k i claimed = keeps-change unplugged (λ d. refl) devices d k i (λ same d here. here) claimed
 steps-keep devices (step.Packet d e b) k i claimed = claimed
 steps-keep devices (step.Ack d e) k i claimed = claimed
+steps-keep devices (step.Echo d o j) k i claimed = claimed
 steps-keep devices (step.Fail d e errno) k i claimed = claimed
 steps-keep devices (step.Clock to) k i claimed = claimed
 steps-keep devices step.Timer k i claimed = claimed

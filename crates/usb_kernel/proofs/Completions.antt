@@ -6,7 +6,7 @@ use Rattle.std.proofs.lemmas.Grind.{common_steps}
 use Rattle.std.proofs.lemmas.Bool.{cases_Bool, cases_eq, cases_lt, eq-eqb, ne_eqb}
 use Rattle.std.proofs.lemmas.Option.{slice_get_past}
 use Rattle.usb_kernel.specs.declared.event.Event.{Event}
-use Rattle.usb_kernel.specs.declared.event.Event.TheVariants.{Submit, Packet, Ack, Fail, Discard, Reap, Unplug}
+use Rattle.usb_kernel.specs.declared.event.Event.TheVariants.{Submit, Packet, Ack, Echo, Fail, Discard, Reap, Unplug}
 use Rattle.usb_kernel.specs.declared.event.Body.{Body}
 use Rattle.usb_simulated.specs.declared.devices.DeviceState.{DeviceState}
 use Rattle.usb_kernel.specs.declared.submission.Done.{Done}
@@ -15,10 +15,10 @@ use Rattle.usb_simulated.specs.declared.step.KernelStep.{KernelStep}
 use Rattle.usb_simulated.specs.declared.step.KernelStep.TheVariants as step
 use Rattle.usb_kernel.specs.Tickets.{Ticket, tickets}
 use Rattle.usb_kernel.specs.Fates.{Fate, fresh, with_packet, with_ack, finish, reap, unplug}
-use Rattle.usb_kernel.specs.Journal.{fate, oldest, at_ticket, at_oldest, change}
+use Rattle.usb_kernel.specs.Journal.{fate, oldest, oldest_among, at_ticket, at_oldest, change, taken_of, ack_comes, echo_comes}
 use Rattle.usb_kernel.specs.Submissions.{refuse_event, refused_of}
 use Rattle.usb_kernel.specs.Completions.{refused_done, completion, completion_if, completion_for, completed, done_if, reapable}
-use Rattle.usb_kernel.specs.Steps.{after_packet, after_ack, after_fail, after_unplug, after_reap, after_reap_of, reapable_of, reaped_by, after_discard, is_unfinished, stepped, step_done}
+use Rattle.usb_kernel.specs.Steps.{after_packet, after_ack, after_echo, after_fail, after_unplug, after_reap, after_reap_of, reapable_of, reaped_by, after_discard, is_unfinished, stepped, step_done}
 use Rattle.usb_kernel.specs.Timers.{due, discarded_in_order, timer_turned}
 use Rattle.usb_simulated.specs.Devices.{plugged_device}
 use Rattle.usb_kernel.proofs.Places.{slice_get-append_left, slice_get-append_seam}
@@ -72,6 +72,18 @@ pub completion-ack : (past : List Event) (d e : ℕ) (u : ℕ) → completion (a
 completion-ack past d e u =
     let here = completion-kept past (Ack d e) u refl (at_oldest-reaped (oldest past d e) with_ack (tickets past) (fate past) u with_ack-reaped) in
     elim (nat_lt e 128 && is_some (oldest past d e)) as (λ v. completion (cond v (Ack d e ∷ past) past) u ≡ completion past u) [ true ↦ here | false ↦ refl ]
+
+echo-reaped : (x y : Option ℕ) (d o i : ℕ) (ts : List Ticket) (f : ℕ → Fate) (u : ℕ) → (echo_comes x y d o i ts f u).reaped ≡ (f u).reaped
+echo-reaped None y d o i ts f u = refl
+echo-reaped (Some t) None d o i ts f u = refl
+echo-reaped (Some t) (Some j) d o i ts f u =
+    let b = taken_of (slice_get ts t) (f t) in
+    at_oldest-reaped (oldest_among ts (ack_comes d o ts f) d i) (λ s. with_packet s b) ts (ack_comes d o ts f) u (λ s g. with_packet-reaped s b g) ∙ at_oldest-reaped (oldest_among ts f d o) with_ack ts f u with_ack-reaped
+
+pub completion-echo : (past : List Event) (d o i : ℕ) (u : ℕ) → completion (after_echo past d o i) u ≡ completion past u
+completion-echo past d o i u =
+    let here = completion-kept past (Echo d o i) u refl (echo-reaped (oldest past d o) (oldest past d i) d o i (tickets past) (fate past) u) in
+    elim (nat_lt o 128 && nat_le 128 i && is_some (oldest past d o) && is_some (oldest past d i)) as (λ v. completion (cond v (Echo d o i ∷ past) past) u ≡ completion past u) [ true ↦ here | false ↦ refl ]
 
 pub completion-fail : (past : List Event) (d e errno : ℕ) (u : ℕ) → completion (after_fail past d e errno) u ≡ completion past u
 completion-fail past d e errno u =
@@ -148,6 +160,7 @@ completion-turned clock past u = completion-discarded_in_order past (due past cl
 pub completion-step : (devices : List DeviceState) (clock : ℕ) (past : List Event) (s : KernelStep) (u : ℕ) → completion (stepped devices clock past s) u ≡ completed (step_done past s) (completion past) u
 completion-step devices clock past (step.Packet d e b) u = completion-packet past d e b u
 completion-step devices clock past (step.Ack d e) u = completion-ack past d e u
+completion-step devices clock past (step.Echo d o i) u = completion-echo past d o i u
 completion-step devices clock past (step.Fail d e errno) u = completion-fail past d e errno u
 completion-step devices clock past (step.Unplug d) u = completion-unplug devices past d u
 completion-step devices clock past (step.Clock to) u = refl
@@ -163,6 +176,7 @@ tickets-reap_of past (Some t) = tickets-reap past t
 pub tickets-step : (devices : List DeviceState) (clock : ℕ) (past : List Event) (s : KernelStep) → tickets (stepped devices clock past s) ≡ tickets past
 tickets-step devices clock past (step.Packet d e b) = elim (nat_le 128 e && is_some (oldest past d e)) as (λ v. tickets (cond v (Packet d e b ∷ past) past) ≡ tickets past) [ true ↦ refl | false ↦ refl ]
 tickets-step devices clock past (step.Ack d e) = elim (nat_lt e 128 && is_some (oldest past d e)) as (λ v. tickets (cond v (Ack d e ∷ past) past) ≡ tickets past) [ true ↦ refl | false ↦ refl ]
+tickets-step devices clock past (step.Echo d o i) = elim (nat_lt o 128 && nat_le 128 i && is_some (oldest past d o) && is_some (oldest past d i)) as (λ v. tickets (cond v (Echo d o i ∷ past) past) ≡ tickets past) [ true ↦ refl | false ↦ refl ]
 tickets-step devices clock past (step.Fail d e errno) = elim (is_some (oldest past d e)) as (λ v. tickets (cond v (Fail d e errno ∷ past) past) ≡ tickets past) [ true ↦ refl | false ↦ refl ]
 tickets-step devices clock past (step.Unplug d) = elim (is_some (plugged_device devices d)) as (λ v. tickets (cond v (Unplug d ∷ past) past) ≡ tickets past) [ true ↦ refl | false ↦ refl ]
 tickets-step devices clock past (step.Clock to) = refl

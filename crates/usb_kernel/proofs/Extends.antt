@@ -4,7 +4,7 @@ use Rattle.std.specs.Prelude.{is_some, nat_le, nat_lt, ◌&&◌}
 use Rattle.std.proofs.lemmas.Option.{none-some}
 use Rattle.std.proofs.lemmas.Bool.{cases_Bool, cases_lt}
 use Rattle.usb_kernel.specs.declared.event.Event.{Event}
-use Rattle.usb_kernel.specs.declared.event.Event.TheVariants.{Packet, Ack, Fail, Discard, Reap, Unplug}
+use Rattle.usb_kernel.specs.declared.event.Event.TheVariants.{Packet, Ack, Echo, Fail, Discard, Reap, Unplug}
 use Rattle.usb_simulated.specs.declared.devices.DeviceState.{DeviceState}
 use Rattle.usb_simulated.specs.declared.step.KernelStep.{KernelStep}
 use Rattle.usb_simulated.specs.declared.step.KernelStep.TheVariants as step
@@ -58,6 +58,7 @@ extends-turned clock past = extends-discarded_in_order past (due past clock)
 pub extends-step : (devices : List DeviceState) (clock : ℕ) (past : List Event) (s : KernelStep) → Extends past (stepped devices clock past s)
 extends-step devices clock past (step.Packet d e b) = extends-if (nat_le 128 e && is_some (oldest past d e)) past (Packet d e b)
 extends-step devices clock past (step.Ack d e) = extends-if (nat_lt e 128 && is_some (oldest past d e)) past (Ack d e)
+extends-step devices clock past (step.Echo d o i) = extends-if (nat_lt o 128 && nat_le 128 i && is_some (oldest past d o) && is_some (oldest past d i)) past (Echo d o i)
 extends-step devices clock past (step.Fail d e errno) = extends-if (is_some (oldest past d e)) past (Fail d e errno)
 extends-step devices clock past (step.Unplug d) = extends-if (is_some (plugged_device devices d)) past (Unplug d)
 extends-step devices clock past (step.Clock to) = extends-same past

@@ -7,6 +7,7 @@ pub mod Final
 pub mod Lowest
 pub mod Opens
 pub mod Echoes
+pub mod Passing
 pub mod Completions
 pub mod Places
 pub mod Wholes

@@ -15,6 +15,7 @@ pub mod Deadlines
 pub mod Legal
 pub mod Info
 pub mod Rows
+pub mod Passing
 pub mod Unreaped
 pub mod KernelFacts
 pub mod Extends

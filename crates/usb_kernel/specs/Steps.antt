@@ -2,7 +2,7 @@
 pub use Rattle.usb_kernel.specs.Discards.{is_unfinished, after_discard}
 use Rattle.std.specs.Prelude.{ℕ, ◌-◌, List, [], ◌∷◌, ◌++◌, max, Option, Some, None, is_some, nat_le, nat_lt, ◌&&◌, if◌then◌else◌}
 use Rattle.usb_kernel.specs.declared.event.Event.{Event}
-use Rattle.usb_kernel.specs.declared.event.Event.TheVariants.{Packet, Ack, Fail, Reap, Unplug}
+use Rattle.usb_kernel.specs.declared.event.Event.TheVariants.{Packet, Ack, Echo, Fail, Reap, Unplug}
 use Rattle.usb_simulated.specs.declared.devices.DeviceState.{DeviceState}
 use Rattle.usb_kernel.specs.declared.submission.Done.{Done}
 use Rattle.usb_simulated.specs.declared.step.Armed.{Armed}
@@ -22,6 +22,12 @@ after_packet past d e b = if nat_le 128 e && is_some (oldest past d e) then Pack
 -- an acknowledgement is of the oldest unfinished OUT ticket of its endpoint
 abbrev pub after_ack : List Event → ℕ → ℕ → List Event
 after_ack past d e = if nat_lt e 128 && is_some (oldest past d e) then Ack d e ∷ past else past
+
+-- an echo is of the oldest unfinished tickets of an OUT and of an IN endpoint of a device
+abbrev pub after_echo : List Event → ℕ → ℕ → ℕ → List Event
+after_echo past d o i =
+    if nat_lt o 128 && nat_le 128 i && is_some (oldest past d o) && is_some (oldest past d i) then Echo d o i ∷ past
+    else past
 
 -- a failure is of the oldest unfinished ticket of its endpoint
 abbrev pub after_fail : List Event → ℕ → ℕ → ℕ → List Event
@@ -54,6 +60,7 @@ reapable_of past (Some t) = reapable past t
 abbrev pub stepped : List DeviceState → ℕ → List Event → KernelStep → List Event
 stepped devices clock past (step.Packet d e b) = after_packet past d e b
 stepped devices clock past (step.Ack d e) = after_ack past d e
+stepped devices clock past (step.Echo d o i) = after_echo past d o i
 stepped devices clock past (step.Fail d e errno) = after_fail past d e errno
 stepped devices clock past (step.Unplug d) = after_unplug devices past d
 stepped devices clock past (step.Clock to) = past

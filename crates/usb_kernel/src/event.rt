@@ -43,8 +43,7 @@ pub enum Event {
         device: u8,
         endpoint: u8,
     },
-    /// The packet of an acknowledgement on an OUT endpoint went to an IN endpoint. No call leaves
-    /// this event yet.
+    /// An OUT endpoint acknowledged a packet, which came to an IN endpoint.
     Echo {
         device: u8,
         output: u8,

@@ -14,13 +14,14 @@ ghost use Rattle.usb_simulated.specs.Calls.{same, set_configuration_rules, with_
 ghost use Rattle.usb_kernel.specs.Calls.{errno_of, asked, called, open_answer, after_open, after_reset};
 ghost use Rattle.usb_kernel.specs.DeviceCalls.{call_errno, after_call};
 ghost use Rattle.usb_kernel.specs.Submits.{submit_refusal, submit_result, after_submit, armed_after_submit, refuse_result, after_refuse, number_of};
-ghost use Rattle.usb_kernel.specs.Steps.{after_packet, after_ack, after_fail, after_unplug, after_reap, after_discard, reaped_by, after_reap_of, reapable_of, stepped, step_done, devices_stepped, clock_stepped, armed_stepped, HasErrno};
+ghost use Rattle.usb_kernel.specs.Steps.{after_packet, after_ack, after_echo, after_fail, after_unplug, after_reap, after_discard, reaped_by, after_reap_of, reapable_of, stepped, step_done, devices_stepped, clock_stepped, armed_stepped, HasErrno};
 ghost use Rattle.usb_kernel.specs.Timers.{timer_turned};
 ghost use Rattle.usb_kernel.specs.Info.{info_of, unreaped};
 ghost use Rattle.std.specs.Borrow.{sem};
 ghost use Rattle.std.specs.Io.BufRead.{Rests};
 ghost use Rattle.usb_kernel.specs.contracts.kernel.Kernel.{the_row};
 
+use crate::echo::give_echo;
 use crate::errno;
 use crate::event::Event;
 use crate::journal::put;
@@ -329,6 +330,11 @@ impl Kernel {
                 bytes,
             } => self.packet(device, endpoint, bytes),
             KernelStep::Ack { device, endpoint } => self.ack(device, endpoint),
+            KernelStep::Echo {
+                device,
+                output,
+                input,
+            } => self.echo(device, output, input),
             KernelStep::Fail {
                 device,
                 endpoint,
@@ -389,6 +395,28 @@ impl Kernel {
         if let Some(freed) = give_ack(&mut self.tickets, &self.unreaped, device, endpoint) {
             self.owed -= freed;
             put(&mut self.journal, Event::Ack { device, endpoint });
+        }
+    }
+
+    /// An endpoint acknowledges a packet of its oldest OUT ticket, which goes to the oldest IN
+    /// ticket of another.
+    fn echo(&mut self, device: u8, output: u8, input: u8)
+        requires spare { 1 ≤ self.old.spare }
+        ensures past { self.new.past ≡ after_echo self.old.past device output input }
+        ensures spare { self.new.spare + 1 ≡ self.old.spare }
+        ensures rest { self.new ≡ record self.old { past = self.new.past; spare = self.new.spare } }
+    {
+        self.spare -= 1;
+        if let Some(freed) = give_echo(&mut self.tickets, &self.unreaped, device, output, input) {
+            self.owed -= freed;
+            put(
+                &mut self.journal,
+                Event::Echo {
+                    device,
+                    output,
+                    input,
+                },
+            );
         }
     }
 

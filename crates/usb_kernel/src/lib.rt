@@ -2,6 +2,7 @@
 //! them.
 #![tactic(auto)]
 
+mod echo;
 mod event;
 mod journal;
 mod kernel;

@@ -83,7 +83,12 @@ pub(crate) fn forget_index(unreaped: &mut Vec<usize>, ticket: u64)
 }
 
 /// The first open ticket of an endpoint. It is sought among the rows that are not reaped.
-fn open_among(rows: &[TicketRow], unreaped: &[usize], device: u8, endpoint: u8) -> Option<usize>
+pub(crate) fn open_among(
+    rows: &[TicketRow],
+    unreaped: &[usize],
+    device: u8,
+    endpoint: u8,
+) -> Option<usize>
     requires listed { unreaped.now ≡ unreaped_indices rows.now }
     requires roomy { All IsRoomy rows.now }
     ensures index { result ≡ position (is_open_row device endpoint) rows.now }

@@ -46,6 +46,12 @@ pub enum KernelStep {
         device: u8,
         endpoint: u8,
     },
+    /// The next packet of an OUT endpoint is acknowledged, and comes to an IN endpoint.
+    Echo {
+        device: u8,
+        output: u8,
+        input: u8,
+    },
     /// The oldest unfinished transfer of an endpoint fails with an errno.
     Fail {
         device: u8,
@@ -121,6 +127,15 @@ impl KernelStep {
             KernelStep::Ack { device, endpoint } => Ok(KernelStep::Ack {
                 device: *device,
                 endpoint: *endpoint,
+            }),
+            KernelStep::Echo {
+                device,
+                output,
+                input,
+            } => Ok(KernelStep::Echo {
+                device: *device,
+                output: *output,
+                input: *input,
             }),
             KernelStep::Fail {
                 device,

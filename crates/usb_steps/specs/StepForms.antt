@@ -2,7 +2,7 @@
 use Rattle.std.specs.Prelude.{[], ◌∷◌, List, codes, Option, Some, None, if◌then◌else◌}
 use Rattle.std.specs.Str.{bytes_eq}
 use Rattle.usb_simulated.specs.declared.step.KernelStep.{KernelStep}
-use Rattle.usb_simulated.specs.declared.step.KernelStep.TheVariants.{Packet, Ack, Fail, Unplug, Clock, Timer, Reap, Refuse}
+use Rattle.usb_simulated.specs.declared.step.KernelStep.TheVariants.{Packet, Ack, Echo, Fail, Unplug, Clock, Timer, Reap, Refuse}
 use Rattle.usb_words.specs.Words.{number_of, name_of, hex_byte_of, bytes_of, errno_of, call_of}
 use Rattle.usb_words.specs.Fields.{Word, none, one, two, three}
 use Rattle.usb_words.specs.Letters.{simulated_letter}
@@ -17,6 +17,7 @@ unfoldable pub endpoint_step_of : Word → List Word → Option KernelStep
 endpoint_step_of name words =
     if bytes_eq name (codes "pkt") then three Packet (name_of simulated_letter) hex_byte_of bytes_of words
     else if bytes_eq name (codes "ack") then two Ack (name_of simulated_letter) hex_byte_of words
+    else if bytes_eq name (codes "echo") then three Echo (name_of simulated_letter) hex_byte_of hex_byte_of words
     else if bytes_eq name (codes "fail") then three Fail (name_of simulated_letter) hex_byte_of errno_of words
     else None
 

@@ -1,13 +1,14 @@
 -- The ranges of the fields of a parsed line's steps, where they are smaller than their types.
 use Rattle.std.specs.Prelude.{◌<◌, ◌≤◌, length, IfSome}
 use Rattle.usb_simulated.specs.declared.step.KernelStep.{KernelStep}
-use Rattle.usb_simulated.specs.declared.step.KernelStep.TheVariants.{Packet, Ack, Fail, Unplug, Clock, Timer, Reap, Refuse}
+use Rattle.usb_simulated.specs.declared.step.KernelStep.TheVariants.{Packet, Ack, Echo, Fail, Unplug, Clock, Timer, Reap, Refuse}
 use Rattle.usb_kernel.specs.Steps.{HasErrno}
 
 -- the fields of a step
 abbrev pub IsStepSized : KernelStep → Type 0
 IsStepSized (Packet device endpoint bytes) = (device < 64) × (length bytes ≤ 65536)
 IsStepSized (Ack device endpoint) = device < 64
+IsStepSized (Echo device output input) = device < 64
 IsStepSized (Fail device endpoint errno) = device < 64
 IsStepSized (Unplug device) = device < 64
 IsStepSized (Clock to) = to ≤ 1000000000000000000

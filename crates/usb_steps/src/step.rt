@@ -31,7 +31,7 @@ fn reap_step(words: &[&[u8]]) -> Result<KernelStep, LineError>
     })
 }
 
-/// `pkt k HH BYTES`, `ack k HH`, `fail k HH ERRNO`
+/// `pkt k HH BYTES`, `ack k HH`, `echo k HH HH`, `fail k HH ERRNO`
 #[tactic(auto, unfolding(crate::specs::StepForms::endpoint_step_of))]
 fn endpoint_step(alloc: Global, name: &[u8], words: &[&[u8]]) -> Result<KernelStep, LineError>
     ensures value { Gives (λ s. s) result (endpoint_step_of name.now (texts words.now)) }
@@ -49,6 +49,13 @@ fn endpoint_step(alloc: Global, name: &[u8], words: &[&[u8]]) -> Result<KernelSt
         Ok(KernelStep::Ack {
             device: Name::parse(b'k', device)?.number(),
             endpoint: hex_byte(endpoint)?,
+        })
+    } else if reads(name, b"echo") {
+        let (device, output, input) = three_words(words)?;
+        Ok(KernelStep::Echo {
+            device: Name::parse(b'k', device)?.number(),
+            output: hex_byte(output)?,
+            input: hex_byte(input)?,
         })
     } else if reads(name, b"fail") {
         let (device, endpoint, code) = three_words(words)?;
