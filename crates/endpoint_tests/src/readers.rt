@@ -189,6 +189,16 @@ fn read_by_std(bus: &mut KernelBus, reader: &mut EndpointRead<Bulk>) -> Outcome
     told_by_std(count, dest[0])
 }
 
+/// The same, up to a short packet.
+fn read_message_by_std(bus: &mut KernelBus, reader: &mut EndpointRead<Bulk>) -> Outcome
+    requires stands { Stands (bus_of bus.old) reader.old.endpoint }
+    ensures stands { Stands (bus_of bus.new) reader.new.endpoint }
+{
+    let mut dest = [0; 3];
+    let count = reader.until_short_packet_on(bus).read(&mut dest);
+    told_by_std(count, dest[0])
+}
+
 fn lent_by_std(filled: io::Result<&[u8]>) -> Outcome {
     match filled {
         Ok(bytes) => lent(Ok(bytes)),
@@ -202,6 +212,15 @@ fn fill_by_std(bus: &mut KernelBus, reader: &mut EndpointRead<Bulk>) -> Outcome
     ensures stands { Stands (bus_of bus.new) reader.new.endpoint }
 {
     let mut reader = reader.on(bus);
+    lent_by_std(reader.fill_buf())
+}
+
+/// The same, up to a short packet.
+fn fill_message_by_std(bus: &mut KernelBus, reader: &mut EndpointRead<Bulk>) -> Outcome
+    requires stands { Stands (bus_of bus.old) reader.old.endpoint }
+    ensures stands { Stands (bus_of bus.new) reader.new.endpoint }
+{
+    let mut reader = reader.until_short_packet_on(bus);
     lent_by_std(reader.fill_buf())
 }
 
@@ -238,8 +257,12 @@ pub enum Step {
     Consume(usize),
     /// A read by std's trait.
     ReadByStd(Outcome),
+    /// A read by std's trait that stops at a short packet.
+    ReadMessageByStd(Outcome),
     /// The bytes that stand are lent by std's trait.
     FillByStd(Outcome),
+    /// They are lent by std's trait up to a short packet.
+    FillMessageByStd(Outcome),
     /// So many bytes are taken off by std's trait.
     ConsumeByStd(usize),
     /// Whether a message's end comes next.
@@ -354,8 +377,11 @@ const CASES: [(&str, &[Step]); 8] = [
             Step::Packet(&[1, 2, 3, 4]),
             Step::Packet(&[5]),
             Step::ReadByStd(Outcome::Bytes(3, 1)),
-            Step::ReadByStd(Outcome::Bytes(2, 4)),
+            Step::ReadMessageByStd(Outcome::Bytes(2, 4)),
+            Step::ReadMessageByStd(Outcome::Nothing),
+            Step::ConsumeEnd(true),
             Step::NoTime,
+            Step::ReadMessageByStd(Outcome::TimedOut),
             Step::ReadByStd(Outcome::TimedOut),
             Step::Stall,
             Step::Reap,
@@ -373,8 +399,10 @@ const CASES: [(&str, &[Step]); 8] = [
             Step::Packet(&[5]),
             Step::FillByStd(Outcome::Bytes(5, 1)),
             Step::ConsumeByStd(2),
-            Step::FillByStd(Outcome::Bytes(3, 3)),
+            Step::FillMessageByStd(Outcome::Bytes(3, 3)),
             Step::ConsumeByStd(4),
+            Step::FillMessageByStd(Outcome::Nothing),
+            Step::ConsumeEnd(true),
             Step::NoTime,
             Step::FillByStd(Outcome::TimedOut),
             Step::Stall,
@@ -465,7 +493,9 @@ fn is_so(alloc: Global, bus: &mut KernelBus, reader: &mut EndpointRead<Bulk>, st
             true
         }
         Step::ReadByStd(outcome) => read_by_std(bus, reader) == outcome,
+        Step::ReadMessageByStd(outcome) => read_message_by_std(bus, reader) == outcome,
         Step::FillByStd(outcome) => fill_by_std(bus, reader) == outcome,
+        Step::FillMessageByStd(outcome) => fill_message_by_std(bus, reader) == outcome,
         Step::ConsumeByStd(count) => {
             reader.on(bus).consume(count);
             true

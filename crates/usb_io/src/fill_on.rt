@@ -3,8 +3,9 @@
 ghost use Rattle.std.specs.Borrow.{sem};
 ghost use Rattle.std.specs.Io.BufRead.{Rests, DropsConsumable};
 ghost use mir.Syntax.{named};
-ghost use Rattle.std.specs.Prelude.{◌≡◌, IfOk, OnErr, None, [], false};
+ghost use Rattle.std.specs.Prelude.{◌≡◌, IfOk, OnErr, None, [], true};
 ghost use Rattle.usb_io.specs.Answers.{answer as answer_of};
+ghost use Rattle.usb_io.specs.Following.{FollowsOn};
 ghost use Rattle.usb_io.specs.Lent.{Filled, StdFilled};
 ghost use Rattle.usb_io.specs.Readers.{with_read};
 ghost use Rattle.usb_io.specs.Reads.{reading, bus_calls, GoesAlong, KeepsSettings, CameTo, TurnedShort};
@@ -24,29 +25,34 @@ impl<'a, T: BulkOrInterrupt, B: Bus> ReadOn<'a, T, B> {
     fn turn(&mut self) -> Result<Turned, NoMemory>
         ensures same_reader { self.new.reader.ghost_name ≡ self.old.reader.ghost_name }
         ensures same_bus { self.new.bus.ghost_name ≡ self.old.bus.ghost_name }
+        ensures until_short { self.new.until_short ≡ self.old.until_short }
         ensures came { IfOk result
             (λ o. CameTo (bus_calls B.state B.submitted B.refused B.turned B.turn_of B.taken)
-            false self.old.reader.now.timeout
+            self.old.until_short self.old.reader.now.timeout
             (reading self.old.bus.now self.old.reader.now)
             (reading self.new.bus.now self.new.reader.now) o) }
         ensures err { OnErr result
             (TurnedShort (bus_calls B.state B.submitted B.refused B.turned B.turn_of B.taken)
-            false self.old.reader.now.timeout
+            self.old.until_short self.old.reader.now.timeout
             (reading self.old.bus.now self.old.reader.now)
             (reading self.new.bus.now self.new.reader.now)) }
         ensures goes { GoesAlong (B.state self.old.bus.now) (B.state self.new.bus.now)
             self.old.reader.now self.new.reader.now }
+        ensures follows { self.old.until_short ≡ true
+            → FollowsOn (B.state self.old.bus.now) (B.state self.new.bus.now)
+            self.old.reader.now self.new.reader.now }
         ensures settings { KeepsSettings self.old.reader.now self.new.reader.now }
     {
         let timeout = self.reader.read_timeout();
-        self.reader.turn(&mut *self.bus, false, timeout)
+        self.reader.turn(&mut *self.bus, self.until_short, timeout)
     }
 
     /// What a read answers once it has turned.
     fn answer(&self, turned: Turned) -> Result<&[u8], ReadFault>
-        ensures answer { IfOkBytes result (answer_of false turned self.now.reader.now) }
+        ensures answer { IfOkBytes result
+            (answer_of self.now.until_short turned self.now.reader.now) }
     {
-        self.reader.answer(turned, false)
+        self.reader.answer(turned, self.until_short)
     }
 
     /// The bytes that stand, after turns where there are none.
@@ -55,13 +61,17 @@ impl<'a, T: BulkOrInterrupt, B: Bus> ReadOn<'a, T, B> {
             (Rests (the_row (record { mir = named 0; lft = [] }) T.row B.row _ _ _) self.entry
             (λ new. (new.reader.ghost_name ≡ self.old.reader.ghost_name)
             × (new.bus.ghost_name ≡ self.old.bus.ghost_name)
+            × (new.until_short ≡ self.old.until_short)
             × Filled (bus_calls B.state B.submitted B.refused B.turned B.turn_of B.taken)
-            false self.old.reader.now.timeout
+            self.old.until_short self.old.reader.now.timeout
             (reading self.old.bus.now self.old.reader.now)
             (reading new.bus.now new.reader.now) result
             × GoesAlong (B.state self.old.bus.now) (B.state new.bus.now) self.old.reader.now
             new.reader.now
-            × KeepsSettings self.old.reader.now new.reader.now)) }
+            × KeepsSettings self.old.reader.now new.reader.now
+            × (self.old.until_short ≡ true
+            → FollowsOn (B.state self.old.bus.now) (B.state new.bus.now) self.old.reader.now
+            new.reader.now))) }
     {
         let turned = match self.turn() {
             Ok(turned) => turned,
@@ -79,13 +89,17 @@ impl<'a, T: BulkOrInterrupt, B: Bus> ReadOn<'a, T, B> {
             (Rests (the_row (record { mir = named 0; lft = [] }) T.row B.row _ _ _) self.entry
             (λ new. (new.reader.ghost_name ≡ self.old.reader.ghost_name)
             × (new.bus.ghost_name ≡ self.old.bus.ghost_name)
+            × (new.until_short ≡ self.old.until_short)
             × StdFilled (bus_calls B.state B.submitted B.refused B.turned B.turn_of B.taken)
-            false self.old.reader.now.timeout
+            self.old.until_short self.old.reader.now.timeout
             (reading self.old.bus.now self.old.reader.now)
             (reading new.bus.now new.reader.now) result
             × GoesAlong (B.state self.old.bus.now) (B.state new.bus.now) self.old.reader.now
             new.reader.now
-            × KeepsSettings self.old.reader.now new.reader.now)) }
+            × KeepsSettings self.old.reader.now new.reader.now
+            × (self.old.until_short ≡ true
+            → FollowsOn (B.state self.old.bus.now) (B.state new.bus.now) self.old.reader.now
+            new.reader.now))) }
     {
         match self.fill_some() {
             Ok(bytes) => Ok(bytes),
@@ -97,6 +111,7 @@ impl<'a, T: BulkOrInterrupt, B: Bus> ReadOn<'a, T, B> {
     fn consume_most(&mut self, n: usize)
         ensures same_reader { self.new.reader.ghost_name ≡ self.old.reader.ghost_name }
         ensures same_bus { self.new.bus.ghost_name ≡ self.old.bus.ghost_name }
+        ensures until_short { self.new.until_short ≡ self.old.until_short }
         ensures read { self.new.reader.now ≡ with_read n self.old.reader.now }
         ensures kept { self.new.bus.now ≡ self.old.bus.now }
     {
@@ -113,13 +128,17 @@ impl<'a, B: Bus> BufRead for ReadOn<'a, Bulk, B> {
             self.entry
             (λ new. (new.reader.ghost_name ≡ self.old.reader.ghost_name)
             × (new.bus.ghost_name ≡ self.old.bus.ghost_name)
+            × (new.until_short ≡ self.old.until_short)
             × StdFilled (bus_calls B.state B.submitted B.refused B.turned B.turn_of B.taken)
-            false self.old.reader.now.timeout
+            self.old.until_short self.old.reader.now.timeout
             (reading self.old.bus.now self.old.reader.now)
             (reading new.bus.now new.reader.now) result
             × GoesAlong (B.state self.old.bus.now) (B.state new.bus.now) self.old.reader.now
             new.reader.now
-            × KeepsSettings self.old.reader.now new.reader.now)) }
+            × KeepsSettings self.old.reader.now new.reader.now
+            × (self.old.until_short ≡ true
+            → FollowsOn (B.state self.old.bus.now) (B.state new.bus.now) self.old.reader.now
+            new.reader.now))) }
     {
         self.fill_std()
     }
@@ -128,6 +147,7 @@ impl<'a, B: Bus> BufRead for ReadOn<'a, Bulk, B> {
         ensures bytes { DropsConsumable None None None amount }
         ensures same_reader { self.new.reader.ghost_name ≡ self.old.reader.ghost_name }
         ensures same_bus { self.new.bus.ghost_name ≡ self.old.bus.ghost_name }
+        ensures until_short { self.new.until_short ≡ self.old.until_short }
         ensures read { self.new.reader.now ≡ with_read amount self.old.reader.now }
         ensures kept { self.new.bus.now ≡ self.old.bus.now }
     {
@@ -144,13 +164,17 @@ impl<'a, B: Bus> BufRead for ReadOn<'a, Interrupt, B> {
             self.entry
             (λ new. (new.reader.ghost_name ≡ self.old.reader.ghost_name)
             × (new.bus.ghost_name ≡ self.old.bus.ghost_name)
+            × (new.until_short ≡ self.old.until_short)
             × StdFilled (bus_calls B.state B.submitted B.refused B.turned B.turn_of B.taken)
-            false self.old.reader.now.timeout
+            self.old.until_short self.old.reader.now.timeout
             (reading self.old.bus.now self.old.reader.now)
             (reading new.bus.now new.reader.now) result
             × GoesAlong (B.state self.old.bus.now) (B.state new.bus.now) self.old.reader.now
             new.reader.now
-            × KeepsSettings self.old.reader.now new.reader.now)) }
+            × KeepsSettings self.old.reader.now new.reader.now
+            × (self.old.until_short ≡ true
+            → FollowsOn (B.state self.old.bus.now) (B.state new.bus.now) self.old.reader.now
+            new.reader.now))) }
     {
         self.fill_std()
     }
@@ -159,6 +183,7 @@ impl<'a, B: Bus> BufRead for ReadOn<'a, Interrupt, B> {
         ensures bytes { DropsConsumable None None None amount }
         ensures same_reader { self.new.reader.ghost_name ≡ self.old.reader.ghost_name }
         ensures same_bus { self.new.bus.ghost_name ≡ self.old.bus.ghost_name }
+        ensures until_short { self.new.until_short ≡ self.old.until_short }
         ensures read { self.new.reader.now ≡ with_read amount self.old.reader.now }
         ensures kept { self.new.bus.now ≡ self.old.bus.now }
     {

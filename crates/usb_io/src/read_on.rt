@@ -1,4 +1,4 @@
-//! A reader on its bus, which std's trait reads.
+//! A reader on its bus, which std's traits read.
 
 ghost use Rattle.std.specs.Prelude.{◌≡◌, true};
 ghost use Rattle.usb_io.specs.Held.{IsHeld, IsHeld-prop};
@@ -19,14 +19,17 @@ pub struct ReadOn<'a, T: BulkOrInterrupt, B: Bus> {
     pub reader: &'a mut EndpointRead<T>,
     /// The bus that it reads by.
     pub bus: &'a mut B,
+    /// Whether reads stop at short packets.
+    pub until_short: bool,
     ghost key_is_open: { (B.state bus.now).keys reader.now.endpoint.key ≡ true },
     ghost held: { IsHeld (B.state bus.now) reader.now.endpoint } by { IsHeld-prop (B.state bus.now) reader.now.endpoint },
 }
 
 impl<'a, T: BulkOrInterrupt, B: Bus> ReadOn<'a, T, B> {
-    ghost use Rattle.std.specs.Prelude.{◌≡◌, IfOk, IfErr, OnErr, false};
+    ghost use Rattle.std.specs.Prelude.{◌≡◌, IfOk, IfErr, OnErr, take, true};
     ghost use Rattle.std.specs.Io.{ReadsAtMost};
     ghost use Rattle.usb_io.specs.Answers.{ReadTook, IsReadError};
+    ghost use Rattle.usb_io.specs.Following.{FollowsOn, FollowsRead};
     ghost use Rattle.usb_io.specs.Reads.{reading, bus_calls, GoesAlong, KeepsSettings};
     ghost use Rattle.usb_io.specs.StdErrors.{IsStdError};
 
@@ -34,22 +37,33 @@ impl<'a, T: BulkOrInterrupt, B: Bus> ReadOn<'a, T, B> {
     fn read_some(&mut self, dest: &mut [u8]) -> Result<usize, Fail<ReadFault>>
         ensures same_reader { self.new.reader.ghost_name ≡ self.old.reader.ghost_name }
         ensures same_bus { self.new.bus.ghost_name ≡ self.old.bus.ghost_name }
+        ensures until_short { self.new.until_short ≡ self.old.until_short }
         ensures took { IfOk result
             (λ n. ReadTook (bus_calls B.state B.submitted B.refused B.turned B.turn_of B.taken)
-            false self.old.reader.now.timeout
+            self.old.until_short self.old.reader.now.timeout
             (reading self.old.bus.now self.old.reader.now)
             (reading self.new.bus.now self.new.reader.now) dest.old dest.new n) }
         ensures failed { IfErr result
             (IsReadError (bus_calls B.state B.submitted B.refused B.turned B.turn_of B.taken)
-            false self.old.reader.now.timeout
+            self.old.until_short self.old.reader.now.timeout
             (reading self.old.bus.now self.old.reader.now)
             (reading self.new.bus.now self.new.reader.now)) }
         ensures kept { OnErr result (dest.new ≡ dest.old) }
         ensures goes { GoesAlong (B.state self.old.bus.now) (B.state self.new.bus.now)
             self.old.reader.now self.new.reader.now }
+        ensures follows { self.old.until_short ≡ true
+            → IfOk result
+            (λ n. FollowsRead (B.state self.old.bus.now) (B.state self.new.bus.now)
+            self.old.reader.now self.new.reader.now (take n dest.new)) }
+        ensures fails { self.old.until_short ≡ true
+            → OnErr result
+            (FollowsOn (B.state self.old.bus.now) (B.state self.new.bus.now)
+            self.old.reader.now self.new.reader.now) }
         ensures settings { KeepsSettings self.old.reader.now self.new.reader.now }
     {
-        self.reader.read(&mut *self.bus, dest)
+        let timeout = self.reader.read_timeout();
+        self.reader
+            .read_within(&mut *self.bus, dest, self.until_short, timeout)
     }
 
     /// The same, with an error of std's.
@@ -57,19 +71,28 @@ impl<'a, T: BulkOrInterrupt, B: Bus> ReadOn<'a, T, B> {
         ensures bound { ReadsAtMost result dest.new }
         ensures same_reader { self.new.reader.ghost_name ≡ self.old.reader.ghost_name }
         ensures same_bus { self.new.bus.ghost_name ≡ self.old.bus.ghost_name }
+        ensures until_short { self.new.until_short ≡ self.old.until_short }
         ensures took { IfOk result
             (λ n. ReadTook (bus_calls B.state B.submitted B.refused B.turned B.turn_of B.taken)
-            false self.old.reader.now.timeout
+            self.old.until_short self.old.reader.now.timeout
             (reading self.old.bus.now self.old.reader.now)
             (reading self.new.bus.now self.new.reader.now) dest.old dest.new n) }
         ensures failed { IfErr result
             (IsStdError (bus_calls B.state B.submitted B.refused B.turned B.turn_of B.taken)
-            false self.old.reader.now.timeout
+            self.old.until_short self.old.reader.now.timeout
             (reading self.old.bus.now self.old.reader.now)
             (reading self.new.bus.now self.new.reader.now)) }
         ensures kept { OnErr result (dest.new ≡ dest.old) }
         ensures goes { GoesAlong (B.state self.old.bus.now) (B.state self.new.bus.now)
             self.old.reader.now self.new.reader.now }
+        ensures follows { self.old.until_short ≡ true
+            → IfOk result
+            (λ n. FollowsRead (B.state self.old.bus.now) (B.state self.new.bus.now)
+            self.old.reader.now self.new.reader.now (take n dest.new)) }
+        ensures fails { self.old.until_short ≡ true
+            → OnErr result
+            (FollowsOn (B.state self.old.bus.now) (B.state self.new.bus.now)
+            self.old.reader.now self.new.reader.now) }
         ensures settings { KeepsSettings self.old.reader.now self.new.reader.now }
     {
         match self.read_some(dest) {
@@ -116,10 +139,11 @@ pub(crate) fn std_error(fail: Fail<ReadFault>) -> io::Error
 }
 
 impl<'a, B: Bus> Read for ReadOn<'a, Bulk, B> {
-    ghost use Rattle.std.specs.Prelude.{◌≡◌, IfOk, IfErr, OnErr, None, false};
+    ghost use Rattle.std.specs.Prelude.{◌≡◌, IfOk, IfErr, OnErr, None, take, true};
     ghost use Rattle.std.specs.Io.{ReadsAtMost};
     ghost use Rattle.std.specs.Io.KnownBytes.{ReadConsumes};
     ghost use Rattle.usb_io.specs.Answers.{ReadTook};
+    ghost use Rattle.usb_io.specs.Following.{FollowsOn, FollowsRead};
     ghost use Rattle.usb_io.specs.Reads.{reading, bus_calls, GoesAlong, KeepsSettings};
     ghost use Rattle.usb_io.specs.StdErrors.{IsStdError};
 
@@ -128,19 +152,28 @@ impl<'a, B: Bus> Read for ReadOn<'a, Bulk, B> {
         ensures bytes { ReadConsumes None None result buf.new }
         ensures same_reader { self.new.reader.ghost_name ≡ self.old.reader.ghost_name }
         ensures same_bus { self.new.bus.ghost_name ≡ self.old.bus.ghost_name }
+        ensures until_short { self.new.until_short ≡ self.old.until_short }
         ensures took { IfOk result
             (λ n. ReadTook (bus_calls B.state B.submitted B.refused B.turned B.turn_of B.taken)
-            false self.old.reader.now.timeout
+            self.old.until_short self.old.reader.now.timeout
             (reading self.old.bus.now self.old.reader.now)
             (reading self.new.bus.now self.new.reader.now) buf.old buf.new n) }
         ensures failed { IfErr result
             (IsStdError (bus_calls B.state B.submitted B.refused B.turned B.turn_of B.taken)
-            false self.old.reader.now.timeout
+            self.old.until_short self.old.reader.now.timeout
             (reading self.old.bus.now self.old.reader.now)
             (reading self.new.bus.now self.new.reader.now)) }
         ensures kept { OnErr result (buf.new ≡ buf.old) }
         ensures goes { GoesAlong (B.state self.old.bus.now) (B.state self.new.bus.now)
             self.old.reader.now self.new.reader.now }
+        ensures follows { self.old.until_short ≡ true
+            → IfOk result
+            (λ n. FollowsRead (B.state self.old.bus.now) (B.state self.new.bus.now)
+            self.old.reader.now self.new.reader.now (take n buf.new)) }
+        ensures fails { self.old.until_short ≡ true
+            → OnErr result
+            (FollowsOn (B.state self.old.bus.now) (B.state self.new.bus.now)
+            self.old.reader.now self.new.reader.now) }
         ensures settings { KeepsSettings self.old.reader.now self.new.reader.now }
     {
         self.read_std(buf)
@@ -148,10 +181,11 @@ impl<'a, B: Bus> Read for ReadOn<'a, Bulk, B> {
 }
 
 impl<'a, B: Bus> Read for ReadOn<'a, Interrupt, B> {
-    ghost use Rattle.std.specs.Prelude.{◌≡◌, IfOk, IfErr, OnErr, None, false};
+    ghost use Rattle.std.specs.Prelude.{◌≡◌, IfOk, IfErr, OnErr, None, take, true};
     ghost use Rattle.std.specs.Io.{ReadsAtMost};
     ghost use Rattle.std.specs.Io.KnownBytes.{ReadConsumes};
     ghost use Rattle.usb_io.specs.Answers.{ReadTook};
+    ghost use Rattle.usb_io.specs.Following.{FollowsOn, FollowsRead};
     ghost use Rattle.usb_io.specs.Reads.{reading, bus_calls, GoesAlong, KeepsSettings};
     ghost use Rattle.usb_io.specs.StdErrors.{IsStdError};
 
@@ -160,19 +194,28 @@ impl<'a, B: Bus> Read for ReadOn<'a, Interrupt, B> {
         ensures bytes { ReadConsumes None None result buf.new }
         ensures same_reader { self.new.reader.ghost_name ≡ self.old.reader.ghost_name }
         ensures same_bus { self.new.bus.ghost_name ≡ self.old.bus.ghost_name }
+        ensures until_short { self.new.until_short ≡ self.old.until_short }
         ensures took { IfOk result
             (λ n. ReadTook (bus_calls B.state B.submitted B.refused B.turned B.turn_of B.taken)
-            false self.old.reader.now.timeout
+            self.old.until_short self.old.reader.now.timeout
             (reading self.old.bus.now self.old.reader.now)
             (reading self.new.bus.now self.new.reader.now) buf.old buf.new n) }
         ensures failed { IfErr result
             (IsStdError (bus_calls B.state B.submitted B.refused B.turned B.turn_of B.taken)
-            false self.old.reader.now.timeout
+            self.old.until_short self.old.reader.now.timeout
             (reading self.old.bus.now self.old.reader.now)
             (reading self.new.bus.now self.new.reader.now)) }
         ensures kept { OnErr result (buf.new ≡ buf.old) }
         ensures goes { GoesAlong (B.state self.old.bus.now) (B.state self.new.bus.now)
             self.old.reader.now self.new.reader.now }
+        ensures follows { self.old.until_short ≡ true
+            → IfOk result
+            (λ n. FollowsRead (B.state self.old.bus.now) (B.state self.new.bus.now)
+            self.old.reader.now self.new.reader.now (take n buf.new)) }
+        ensures fails { self.old.until_short ≡ true
+            → OnErr result
+            (FollowsOn (B.state self.old.bus.now) (B.state self.new.bus.now)
+            self.old.reader.now self.new.reader.now) }
         ensures settings { KeepsSettings self.old.reader.now self.new.reader.now }
     {
         self.read_std(buf)
@@ -183,14 +226,35 @@ impl<T: BulkOrInterrupt> EndpointRead<T> {
     ghost use Rattle.std.specs.Prelude.{false};
     ghost use Rattle.usb_endpoint.specs.Handles.{Stands};
 
-    /// The reader on this bus, for std's trait.
+    /// The reader on this bus, for std's traits.
     pub fn on<'a, B: Bus>(&'a mut self, bus: &'a mut B) -> ReadOn<'a, T, B>
         requires stands { Stands (B.state bus.old) self.old.endpoint }
         ensures reader { (result.reader.ghost_name ≡ self.entry.ghost_name)
             × (result.reader.now ≡ self.old) }
         ensures bus { (result.bus.ghost_name ≡ bus.entry.ghost_name)
             × (result.bus.now ≡ bus.old) }
+        ensures until_short { result.until_short ≡ false }
     {
-        ReadOn { reader: self, bus }
+        ReadOn {
+            reader: self,
+            bus,
+            until_short: false,
+        }
+    }
+
+    /// The reader on this bus, for reads by std's traits that stop at short packets.
+    pub fn until_short_packet_on<'a, B: Bus>(&'a mut self, bus: &'a mut B) -> ReadOn<'a, T, B>
+        requires stands { Stands (B.state bus.old) self.old.endpoint }
+        ensures reader { (result.reader.ghost_name ≡ self.entry.ghost_name)
+            × (result.reader.now ≡ self.old) }
+        ensures bus { (result.bus.ghost_name ≡ bus.entry.ghost_name)
+            × (result.bus.now ≡ bus.old) }
+        ensures until_short { result.until_short ≡ true }
+    {
+        ReadOn {
+            reader: self,
+            bus,
+            until_short: true,
+        }
     }
 }
