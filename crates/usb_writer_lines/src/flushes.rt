@@ -1,13 +1,16 @@
 //! The lines of flushes: what stands is submitted, and all that is pending is taken.
 
-ghost use Rattle.std.specs.Prelude.{◌≡◌};
+ghost use Rattle.std.specs.Prelude.{◌≡◌, OnErr};
 ghost use Rattle.usb_endpoint.specs.Handles.{Stands};
 ghost use Rattle.usb_host.specs.HostBus.{bus_of};
 ghost use Rattle.usb_io.specs.Writers.{writing};
+ghost use Rattle.usb_io.specs.WriteAnswers.{PolledEndShort};
+ghost use Rattle.usb_streams.specs.HostReads.{host_calls};
 ghost use Rattle.usb_writes.specs.AnyWriters.{writer_of};
-ghost use Rattle.usb_writes.specs.HostWrites.{flush_came, flush_end_came, poll_flush_end_came};
+ghost use Rattle.usb_writes.specs.HostWrites.{flush_came, flush_end_came, poll_flush_end_came, SubmitEndShort};
 ghost use Rattle.usb_writer_lines.specs.Needs.{bars_call, flush_need, finish_need, poll_finish_need};
 ghost use Rattle.usb_writer_lines.specs.Printed.{flushed_line, polled, Prints, CallKeeps};
+ghost use Rattle.usb_writer_lines.specs.Short.{SubmitShort, LeftShort};
 
 use crate::needs::{bars_call, flush_need, poll_finish_need};
 use futures::task::Poll;
@@ -18,6 +21,11 @@ use usb_stream_lines::write_write_fault;
 use usb_writes::AnyWriter;
 
 /// Flushes, and waits for what is pending: `ok`, or the first fault.
+///
+/// # Errors
+///
+/// Want of memory. A barred call changed nothing. Any other lacked it for its line alone, or it
+/// submitted nothing, and no end has begun.
 pub fn flush(writer: &mut AnyWriter, host: &mut Host, line: &mut String) -> Result<(), NoMemory>
     requires stands { Stands (bus_of host.old) (writer_of writer.old).endpoint }
     ensures printed { Prints
@@ -27,6 +35,13 @@ pub fn flush(writer: &mut AnyWriter, host: &mut Host, line: &mut String) -> Resu
         (writing host.old (writer_of writer.old)))
         line.old line.new
         (writing host.old (writer_of writer.old)) (writing host.new (writer_of writer.new)) result }
+    ensures short { OnErr result
+        (LeftShort
+        (bars_call (writing host.old (writer_of writer.old)) (flush_need (writer_of writer.old)))
+        (flush_came (writer_of writer.old).timeout
+        (writing host.old (writer_of writer.old))).left
+        SubmitShort
+        (writing host.old (writer_of writer.old)) (writing host.new (writer_of writer.new))) }
     ensures keeps { CallKeeps
         (writing host.old (writer_of writer.old)) (writing host.new (writer_of writer.new)) }
 {
@@ -42,6 +57,11 @@ pub fn flush(writer: &mut AnyWriter, host: &mut Host, line: &mut String) -> Resu
 }
 
 /// Flushes, and does not wait: `pending` where something is.
+///
+/// # Errors
+///
+/// Want of memory. A barred call changed nothing. Any other lacked it for its line alone, or it
+/// submitted nothing, and no end has begun.
 pub fn poll_flush(
     writer: &mut AnyWriter,
     host: &mut Host,
@@ -54,6 +74,12 @@ pub fn poll_flush(
         (flush_came 0 (writing host.old (writer_of writer.old)))
         line.old line.new
         (writing host.old (writer_of writer.old)) (writing host.new (writer_of writer.new)) result }
+    ensures short { OnErr result
+        (LeftShort
+        (bars_call (writing host.old (writer_of writer.old)) (flush_need (writer_of writer.old)))
+        (flush_came 0 (writing host.old (writer_of writer.old))).left
+        SubmitShort
+        (writing host.old (writer_of writer.old)) (writing host.new (writer_of writer.new))) }
     ensures keeps { CallKeeps
         (writing host.old (writer_of writer.old)) (writing host.new (writer_of writer.new)) }
 {
@@ -70,6 +96,11 @@ pub fn poll_flush(
 }
 
 /// Ends a message, and waits for what is pending: `ok`, or the first fault.
+///
+/// # Errors
+///
+/// Want of memory. A barred call changed nothing. Any other lacked it for its line alone, or it
+/// submitted nothing, or the buffer without the empty transfer, and no end has begun.
 pub fn flush_end(writer: &mut AnyWriter, host: &mut Host, line: &mut String) -> Result<(), NoMemory>
     requires stands { Stands (bus_of host.old) (writer_of writer.old).endpoint }
     ensures printed { Prints
@@ -79,6 +110,13 @@ pub fn flush_end(writer: &mut AnyWriter, host: &mut Host, line: &mut String) -> 
         (writing host.old (writer_of writer.old)))
         line.old line.new
         (writing host.old (writer_of writer.old)) (writing host.new (writer_of writer.new)) result }
+    ensures short { OnErr result
+        (LeftShort
+        (bars_call (writing host.old (writer_of writer.old)) (finish_need (writer_of writer.old)))
+        (flush_end_came (writer_of writer.old).timeout
+        (writing host.old (writer_of writer.old))).left
+        SubmitEndShort
+        (writing host.old (writer_of writer.old)) (writing host.new (writer_of writer.new))) }
     ensures keeps { CallKeeps
         (writing host.old (writer_of writer.old)) (writing host.new (writer_of writer.new)) }
 {
@@ -94,6 +132,11 @@ pub fn flush_end(writer: &mut AnyWriter, host: &mut Host, line: &mut String) -> 
 }
 
 /// Ends a message where no end has begun, and does not wait: `pending` where something is.
+///
+/// # Errors
+///
+/// Want of memory. A barred call changed nothing. Any other lacked it for its line alone, or it
+/// submitted nothing, or the buffer without the empty transfer, and no end has begun.
 pub fn poll_flush_end(
     writer: &mut AnyWriter,
     host: &mut Host,
@@ -107,6 +150,13 @@ pub fn poll_flush_end(
         (poll_flush_end_came (writing host.old (writer_of writer.old)))
         line.old line.new
         (writing host.old (writer_of writer.old)) (writing host.new (writer_of writer.new)) result }
+    ensures short { OnErr result
+        (LeftShort
+        (bars_call (writing host.old (writer_of writer.old))
+        (poll_finish_need (writer_of writer.old)))
+        (poll_flush_end_came (writing host.old (writer_of writer.old))).left
+        (PolledEndShort host_calls)
+        (writing host.old (writer_of writer.old)) (writing host.new (writer_of writer.new))) }
     ensures keeps { CallKeeps
         (writing host.old (writer_of writer.old)) (writing host.new (writer_of writer.new)) }
 {

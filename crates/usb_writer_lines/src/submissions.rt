@@ -1,13 +1,14 @@
 //! The lines of submissions, which wait for nothing.
 
-ghost use Rattle.std.specs.Prelude.{◌≡◌};
+ghost use Rattle.std.specs.Prelude.{◌≡◌, OnErr};
 ghost use Rattle.usb_endpoint.specs.Handles.{Stands};
 ghost use Rattle.usb_host.specs.HostBus.{bus_of};
 ghost use Rattle.usb_io.specs.Writers.{writing};
 ghost use Rattle.usb_writes.specs.AnyWriters.{writer_of};
-ghost use Rattle.usb_writes.specs.HostWrites.{submit_came, submit_end_came};
+ghost use Rattle.usb_writes.specs.HostWrites.{submit_came, submit_end_came, SubmitEndShort};
 ghost use Rattle.usb_writer_lines.specs.Needs.{bars_call, flush_need, finish_need};
 ghost use Rattle.usb_writer_lines.specs.Printed.{flushed_line, submitted_to, Prints, CallKeeps};
+ghost use Rattle.usb_writer_lines.specs.Short.{SubmitShort, LeftShort};
 
 use crate::needs::{bars_call, flush_need};
 use usb_desc::NoMemory;
@@ -16,6 +17,11 @@ use usb_lines::{write_condition, write_ok};
 use usb_writes::AnyWriter;
 
 /// Submits the bytes that stand, if any do: `ok`.
+///
+/// # Errors
+///
+/// Want of memory. A barred call changed nothing. Any other lacked it for its line alone, or it
+/// submitted nothing, and no end has begun.
 pub fn submit(writer: &mut AnyWriter, host: &mut Host, line: &mut String) -> Result<(), NoMemory>
     requires stands { Stands (bus_of host.old) (writer_of writer.old).endpoint }
     ensures printed { Prints
@@ -24,6 +30,12 @@ pub fn submit(writer: &mut AnyWriter, host: &mut Host, line: &mut String) -> Res
         (submitted_to (submit_came (writing host.old (writer_of writer.old))))
         line.old line.new
         (writing host.old (writer_of writer.old)) (writing host.new (writer_of writer.new)) result }
+    ensures short { OnErr result
+        (LeftShort
+        (bars_call (writing host.old (writer_of writer.old)) (flush_need (writer_of writer.old)))
+        (submit_came (writing host.old (writer_of writer.old)))
+        SubmitShort
+        (writing host.old (writer_of writer.old)) (writing host.new (writer_of writer.new))) }
     ensures keeps { CallKeeps
         (writing host.old (writer_of writer.old)) (writing host.new (writer_of writer.new)) }
 {
@@ -35,6 +47,11 @@ pub fn submit(writer: &mut AnyWriter, host: &mut Host, line: &mut String) -> Res
 }
 
 /// Ends a message: `ok`.
+///
+/// # Errors
+///
+/// Want of memory. A barred call changed nothing. Any other lacked it for its line alone, or it
+/// submitted nothing, or the buffer without the empty transfer, and no end has begun.
 pub fn submit_end(
     writer: &mut AnyWriter,
     host: &mut Host,
@@ -47,6 +64,12 @@ pub fn submit_end(
         (submitted_to (submit_end_came (writing host.old (writer_of writer.old))))
         line.old line.new
         (writing host.old (writer_of writer.old)) (writing host.new (writer_of writer.new)) result }
+    ensures short { OnErr result
+        (LeftShort
+        (bars_call (writing host.old (writer_of writer.old)) (finish_need (writer_of writer.old)))
+        (submit_end_came (writing host.old (writer_of writer.old)))
+        SubmitEndShort
+        (writing host.old (writer_of writer.old)) (writing host.new (writer_of writer.new))) }
     ensures keeps { CallKeeps
         (writing host.old (writer_of writer.old)) (writing host.new (writer_of writer.new)) }
 {

@@ -1,13 +1,14 @@
 //! The lines of writes: how many bytes a writer accepts.
 
-ghost use Rattle.std.specs.Prelude.{◌≡◌};
+ghost use Rattle.std.specs.Prelude.{◌≡◌, OnErr};
 ghost use Rattle.usb_endpoint.specs.Handles.{Stands};
 ghost use Rattle.usb_host.specs.HostBus.{bus_of};
 ghost use Rattle.usb_io.specs.Writers.{writing};
 ghost use Rattle.usb_writes.specs.AnyWriters.{writer_of};
-ghost use Rattle.usb_writes.specs.HostWrites.{write_came};
+ghost use Rattle.usb_writes.specs.HostWrites.{write_came, WriteShort};
 ghost use Rattle.usb_writer_lines.specs.Needs.{bars_call, write_need};
 ghost use Rattle.usb_writer_lines.specs.Printed.{written_line, polled, Prints, CallKeeps};
+ghost use Rattle.usb_writer_lines.specs.Short.{LeftShort};
 
 use crate::needs::{bars_call, write_need};
 use futures::task::Poll;
@@ -19,6 +20,11 @@ use usb_writes::AnyWriter;
 
 /// Writes bytes, of which the writer accepts what fits, and waits where no buffer is free:
 /// `wrote N`, or the fault.
+///
+/// # Errors
+///
+/// Want of memory. A barred call changed nothing. Any other lacked it for its line alone, or it
+/// took its fronts and accepted no byte.
 pub fn write(
     writer: &mut AnyWriter,
     host: &mut Host,
@@ -33,6 +39,13 @@ pub fn write(
         (writing host.old (writer_of writer.old)))
         line.old line.new
         (writing host.old (writer_of writer.old)) (writing host.new (writer_of writer.new)) result }
+    ensures short { OnErr result
+        (LeftShort
+        (bars_call (writing host.old (writer_of writer.old)) (write_need (writer_of writer.old)))
+        (write_came (writer_of writer.old).timeout bytes.now
+        (writing host.old (writer_of writer.old))).left
+        (WriteShort (writer_of writer.old).timeout)
+        (writing host.old (writer_of writer.old)) (writing host.new (writer_of writer.new))) }
     ensures keeps { CallKeeps
         (writing host.old (writer_of writer.old)) (writing host.new (writer_of writer.new)) }
 {
@@ -48,6 +61,11 @@ pub fn write(
 }
 
 /// Writes bytes, and does not wait: `pending` where no buffer is free.
+///
+/// # Errors
+///
+/// Want of memory. A barred call changed nothing. Any other lacked it for its line alone, or it
+/// took its fronts and accepted no byte.
 pub fn poll_write(
     writer: &mut AnyWriter,
     host: &mut Host,
@@ -61,6 +79,12 @@ pub fn poll_write(
         (write_came 0 bytes.now (writing host.old (writer_of writer.old)))
         line.old line.new
         (writing host.old (writer_of writer.old)) (writing host.new (writer_of writer.new)) result }
+    ensures short { OnErr result
+        (LeftShort
+        (bars_call (writing host.old (writer_of writer.old)) (write_need (writer_of writer.old)))
+        (write_came 0 bytes.now (writing host.old (writer_of writer.old))).left
+        (WriteShort 0)
+        (writing host.old (writer_of writer.old)) (writing host.new (writer_of writer.new))) }
     ensures keeps { CallKeeps
         (writing host.old (writer_of writer.old)) (writing host.new (writer_of writer.new)) }
 {
