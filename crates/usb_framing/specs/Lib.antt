@@ -1,0 +1,3 @@
+pub mod Messages
+pub mod Exchange
+pub mod Laws
