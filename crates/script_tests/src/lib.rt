@@ -10,6 +10,8 @@ mod devices;
 #[cfg(test)]
 mod fields;
 #[cfg(test)]
+mod generated;
+#[cfg(test)]
 mod readers;
 #[cfg(test)]
 mod scripts;

@@ -121,6 +121,9 @@ module _ (go : ScriptsGoOn) (items : List Item) where
   line-follow lawful before after line all =
       next-follow before line (lawful-at lawful (before ++ line ∷ []) after (append_assoc before (line ∷ []) after ∙ all)) (behind-follow lawful before (line ∷ after) all)
 
+pub follow-at : ScriptsGoOn → (items : List Item) → IsLawful (final_host items).kernel.past → (before after : List Item) → before ++ after ≡ items → FramedFollow (behind (start items) before)
+follow-at go items lawful before after all = behind-follow go items lawful before after all
+
 pub follow-by : ScriptsGoOn → FramedScriptsFollow
 follow-by go items lawful =
     record {

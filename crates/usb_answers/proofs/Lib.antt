@@ -54,7 +54,7 @@ pub mod TakenOut
 pub mod TimesLemmas
 pub mod WaitCode
 pub mod WriterDoes
-mod WorkedOutput
+pub mod WorkedOutput
 pub mod TreeAnswers
 pub mod TreeLines
 pub mod OtherLines

@@ -60,5 +60,8 @@ module _ (go : ScriptsGoOn) (items : List Item) where
       let next : AllTell (at (before ++ line ∷ [])) = subst AllTell (sym (behind-push (start items) before line)) (answer-tell (at before) line (go.line items before line).journal f) in
       subst (λ (l : List Item). AllTell (at l)) (append_assoc before (line ∷ []) more) (on-tell (before ++ line ∷ []) more next)
 
+pub tell-at : ScriptsGoOn → (items before : List Item) → AllTell (behind (start items) before)
+tell-at go items before = on-tell go items [] before (start-tell items)
+
 pub tell-by : ScriptsGoOn → ScriptsAreWritten
-tell-by go items before after all = all-written (behind (start items) before) (on-tell go items [] before (start-tell items))
+tell-by go items before after all = all-written (behind (start items) before) (tell-at go items before)

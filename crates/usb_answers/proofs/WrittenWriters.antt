@@ -1,5 +1,5 @@
 -- What lines on writers keep of those that alone used their endpoints.
-use Rattle.std.proofs.Common.{◌≡◌, ◌≢◌, ◌∙◌, ℕ, ◌-◌, ◌<◌, true, List, [], ◌∷◌, ◌++◌, length, take, drop, take-append-drop, Option, Some, None, Result, refl, ap, sym, subst, inl, inr}
+use Rattle.std.proofs.Common.{◌≡◌, ◌≢◌, ◌∙◌, ℕ, ◌+◌, ◌-◌, ◌*◌, ◌/◌, ◌<◌, true, List, [], ◌∷◌, ◌++◌, length, take, drop, take-append-drop, Option, Some, None, Result, refl, ap, sym, subst, inl, inr}
 use Rattle.std.specs.Prelude.{All, nat_lt, nat_le, ◌==◌, ◌||◌, option_and_then, if◌then◌else◌}
 use Rattle.std.specs.Option.{option_map}
 use Rattle.std.proofs.lemmas.Bool.{cond_both, cases_eq, cases_Bool, and_parts, leb-false}
@@ -16,6 +16,7 @@ use Rattle.usb_host.specs.HostState.{HostState}
 use Rattle.usb_host.specs.EndpointRefusals.{same_direction}
 use Rattle.usb_host.proofs.FollowLemmas.{on-rest}
 use Rattle.usb_io.specs.declared.fault.WriteFault.{WriteFault}
+use Rattle.usb_io.specs.Readers.{rounded}
 use Rattle.usb_io.specs.Writers.{WriterState, Writing, fresh_writer}
 use Rattle.usb_io.specs.Writes.{Call, Flush, Finish}
 use Rattle.usb_io.specs.Carried.{AllCarry, WriterHistory, nothing_written, Tells, written_calls, begun_calls}
@@ -51,9 +52,11 @@ taken_of h = take h.taken h.tickets
 abbrev pub history_of : Endpoint → WriterCalls → WriterHistory
 history_of h c = record { taken = taken_of h; calls = c.accepted }
 
--- the tickets of an OUT endpoint tell of its writer's accepted calls, and those that were taken are complete, and failed as the calls answered
+-- the tickets of an OUT endpoint tell of its writer's accepted calls, those that were taken are complete, and failed as the calls answered, and transfers are
+-- of whole packets
 pub record TellsAt (past : List Event) (x : WriterAt) (c : WriterCalls) : Type 0 where
   pub output : x.endpoint.address < 128
+  pub whole : (more : ℕ) × ((more + 1) * x.endpoint.maximum ≡ x.writer.bare.size)
   pub tells : Tells past (state_of_writer x) (history_of x.endpoint c)
   pub complete : All (IsComplete past) (taken_of x.endpoint)
   pub failed : failures_at past (taken_of x.endpoint) ≡ c.failures
@@ -105,6 +108,7 @@ at-later : (old new : List Event) (x : WriterAt) (c : WriterCalls) → Extends o
 at-later old new x c extends f =
     record {
       output = f.output;
+      whole = f.whole;
       tells = later_tells old new (state_of_writer x) (history_of x.endpoint c) extends f.tells;
       complete = complete-later old new (taken_of x.endpoint) extends f.complete;
       failed = failures-later old new (taken_of x.endpoint) extends f.complete ∙ f.failed;
@@ -164,6 +168,10 @@ output-of h is = elim (cases_Bool (nat_le 128 h.address)) [ inl below ↦ absurd
 abbrev new_writer : Endpoint → ℕ → Writer
 new_writer h size = record { bare = bare_writer (fresh_writer (kept h) size); calls = nothing_called h.tickets }
 
+-- a transfer size is rounded up to whole packets, at least one
+whole-rounded : (maximum size : ℕ) → (more : ℕ) × ((more + 1) * maximum ≡ rounded maximum size)
+whole-rounded maximum size = ((size - 1) / maximum, refl)
+
 fresh-at : (past : List Event) (h : Endpoint) (size : ℕ) (c : WriterCalls) → h.address < 128 → nothing_called h.tickets ≡ Some c → TellsAt past (at_of (new_writer h size) (as_streamed h)) c
 fresh-at past h size c output is =
     let x = at_of (new_writer h size) (as_streamed h) in
@@ -171,6 +179,7 @@ fresh-at past h size c output is =
     let nothing : taken_of h ≡ [] = ap (take h.taken) none.0 ∙ take-nothing h.taken in
     record {
       output = output;
+      whole = whole-rounded h.maximum size;
       tells =
           tells-as past (state_of_writer x) nothing_written (taken_of h) c.accepted nothing (ap (λ (d : WriterCalls). d.accepted) none.1)
           (fresh_tells past (kept h) size (ap (drop h.taken) none.0 ∙ drop-nothing h.taken));
@@ -242,10 +251,10 @@ record Sets (change : Writer → Writer) : Type 0 where
   keeps : (past : List Event) (y : Writer) (h : Endpoint) (c : WriterCalls) → TellsAt past (at_of y h) c → TellsAt past (at_of (change y) h) c
 
 sets-transfers : (n : ℕ) → Sets (with_transfers n)
-sets-transfers n = record { calls = λ y. refl; keeps = λ past y h c f. record { output = f.output; tells = f.tells; complete = f.complete; failed = f.failed } }
+sets-transfers n = record { calls = λ y. refl; keeps = λ past y h c f. record { output = f.output; whole = f.whole; tells = f.tells; complete = f.complete; failed = f.failed } }
 
 sets-timeout : (timeout : ℕ) → Sets (with_write_timeout timeout)
-sets-timeout timeout = record { calls = λ y. refl; keeps = λ past y h c f. record { output = f.output; tells = f.tells; complete = f.complete; failed = f.failed } }
+sets-timeout timeout = record { calls = λ y. refl; keeps = λ past y h c f. record { output = f.output; whole = f.whole; tells = f.tells; complete = f.complete; failed = f.failed } }
 
 set-changes : (state : State) (w : ℕ) (change : Writer → Writer) (y : Writer) → Sets change → named state.writers w ≡ Some y → AllTell state → Changes state (record state { writers = change_named change state.writers w }) w
 set-changes state w change y sets at f =
@@ -320,6 +329,7 @@ called-tells state x v before accepted failures now goes t was =
     let after = with_calls accepted failures before in
     record {
       output = was.output;
+      whole = (was.whole.0, was.whole.1 ∙ sym goes.settings.size);
       tells =
           subst (λ (s : WriterState). Tells new s (history_of x'.endpoint after)) writer
           (tells-as new v.writer (record { taken = taken_of x.endpoint ++ t.taken; calls = after.accepted }) (taken_of x'.endpoint) after.accepted parts.0 refl (t.tells (taken_of x.endpoint) before.accepted was.tells));

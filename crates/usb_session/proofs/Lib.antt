@@ -1,3 +1,5 @@
+pub mod Exchanges
+pub mod WorkedExchanges
 pub mod LiveLemmas
 pub mod MemoryLemmas
 pub mod OutsideLemmas

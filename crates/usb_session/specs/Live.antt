@@ -1,12 +1,8 @@
 -- What the program answers to the word `live`.
-use Rattle.std.specs.Prelude.{ℕ, ◌≡◌, List, ◌++◌, [], ◌∷◌, codes, Option, None, Result, Ok, Err, if◌then◌else◌}
+use Rattle.std.specs.Prelude.{ℕ, List, ◌++◌, [], ◌∷◌, codes, Option, None, if◌then◌else◌}
 use Rattle.std.specs.Fmt.{decimal}
 use Rattle.std.specs.Str.{bytes_eq}
-use Rattle.std.specs.Io.KnownBytes.{Appends}
-use Rattle.usb_parse.specs.declared.error.SessionError.{SessionError}
-use Rattle.usb_parse.specs.declared.error.SessionError.TheVariants.{WriteFault, Memory}
 use Rattle.usb_words.specs.Words.{number_between}
-use Rattle.usb_session.specs.Causes.{Rose, WrotePart}
 
 -- how many transfers the words ask for: `live N`, with N from 1 to 1000
 abbrev pub live_count : List (List ℕ) → Option ℕ
@@ -24,11 +20,3 @@ run_line n submitted taken dropped reclaimed =
 -- the line of `live N`: each transfer was taken
 abbrev pub live_line : ℕ → List ℕ
 live_line n = run_line n n n 0 0
-
--- Of n, what the sink got before and after, its faults before and after, and the answer.
--- Ok: the whole line was written. WriteFault: a prefix of it and not all, where the count of faults rose. Memory: nothing
-abbrev pub IsLive : {X : Type 0} → ℕ → Option (List ℕ) → Option (List ℕ) → ℕ → ℕ → Result X SessionError → Type 0
-IsLive n old new before now (Ok x) = Appends old new (live_line n)
-IsLive n old new before now (Err WriteFault) = Rose before now × WrotePart old new (live_line n)
-IsLive n old new before now (Err Memory) = (new ≡ old) × (now ≡ before)
-IsLive n old new before now (Err _) = ⊥

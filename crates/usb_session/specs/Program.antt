@@ -7,7 +7,9 @@ use Rattle.std.specs.Io.KnownBytes.{Appends}
 use Rattle.usb_parse.specs.declared.error.SessionError.{SessionError}
 use Rattle.usb_parse.specs.declared.error.SessionError.TheVariants.{Malformed, TooLong, ReadFault, WriteFault, Memory}
 use Rattle.usb_session.specs.Causes.{Rose, WrotePrefix}
-use Rattle.usb_session.specs.Live.{live_count, IsLive}
+use Rattle.usb_session.specs.OneLine.{WroteLine}
+use Rattle.usb_session.specs.Live.{live_count}
+use Rattle.usb_session.specs.Generate.{generate_count}
 use Rattle.usb_session.specs.Session.{Streams, IsAnswered, HasReason}
 use Rattle.usb_answers.specs.declared.summary.Summary.{Summary}
 
@@ -19,7 +21,7 @@ is_session (word ∷ next ∷ words) = false
 
 -- whether the words are none that the program knows
 abbrev pub is_usage : List (List ℕ) → Bool
-is_usage words = not (is_session words) && is_none (live_count words)
+is_usage words = not (is_session words) && is_none (live_count words) && is_none (generate_count words)
 
 -- the exit status of an error (docs/SCRIPT.md, "Statuses of the program")
 abbrev pub error_status : SessionError → ℕ
@@ -69,9 +71,10 @@ pub record RunsSession (s : Streams) (told told' : Option (List ℕ)) (faults fa
   pub status_is : status ≡ status_of answer
   pub report : Reports told told' faults faults' (report_of answer)
 
--- what the call with the words `live N` answers: of the sink, what is reported, and the status
-pub record RunsLive (n : ℕ) (old new : Option (List ℕ)) (before now : ℕ) (told told' : Option (List ℕ)) (faults faults' status : ℕ) : Type 0 where
+-- what the call with the words `live N` or `generate N` answers, which writes one line: of the sink, what is reported, and the
+-- status
+pub record RunsLine (line : List ℕ) (old new : Option (List ℕ)) (before now : ℕ) (told told' : Option (List ℕ)) (faults faults' status : ℕ) : Type 0 where
   pub answer : Result (Unit {0}) SessionError
-  pub live : IsLive n old new before now answer
+  pub wrote : WroteLine line old new before now answer
   pub status_is : status ≡ status_of answer
   pub report : Reports told told' faults faults' (report_of answer)

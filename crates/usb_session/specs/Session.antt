@@ -14,6 +14,7 @@ use Rattle.usb_answers.specs.Served.{IsCounted, EndpointsAreServed}
 use Rattle.usb_answers.specs.FinalFates.{HasFinalFates}
 use Rattle.usb_answers.specs.Framed.{FramedReadersFollow}
 use Rattle.usb_answers.specs.WrittenScripts.{WritersAreTold}
+use Rattle.usb_session.specs.Exchanges.{MessagesAlwaysArrive}
 use Rattle.usb_answers.specs.declared.summary.Summary.{Summary}
 
 -- what a source and a sink tell of themselves before a call and after it
@@ -52,7 +53,9 @@ pub record ReadAs (s : Streams) (items : Result (List Item) SessionError) : Type
 -- tickets as the journal, each with its end and its completion, and keeps no open device, no claimed
 -- interface and no endpoint; each endpoint was served in the order of its submissions, there is one
 -- final fate line for each ticket; and at every moment what a framed reader consumed is a prefix of
--- its stream, and the tickets of a writer's endpoint carry what the writer wrote
+-- its stream, the tickets of a writer's endpoint carry what the writer wrote, and where a device
+-- only echoes from the one to the other, the messages that the reader ended are the first of those
+-- that the writer ended
 pub record IsAnswered (s : Streams) (summary : Summary) : Type 0 where
   pub items : List Item
   pub script : ReadAs s (Ok items)
@@ -66,6 +69,7 @@ pub record IsAnswered (s : Streams) (summary : Summary) : Type 0 where
   pub fates : HasFinalFates items
   pub framed : FramedReadersFollow items
   pub told : WritersAreTold items
+  pub exchanged : MessagesAlwaysArrive items
 
 -- a valid script was read, and a prefix of its output was written
 pub record IsCutOff (s : Streams) : Type 0 where

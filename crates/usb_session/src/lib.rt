@@ -1,6 +1,7 @@
 //! A session: reads a script, answers it and writes the answers.
 #![tactic(auto)]
 
+mod generation;
 mod live;
 mod memory;
 mod outside;
@@ -18,6 +19,7 @@ pub use run::run_session;
 pub use standard::{StdSink, StdSource};
 pub use sure::{SureSink, SureSource};
 pub use usb_answers::Summary;
+pub use usb_generated::generate;
 pub use usb_live::{Gate, OpenGate, Seen};
 pub use usb_parse::{Script, SessionError, parse_script};
 pub use usb_script::{Item, Steps};

@@ -1,7 +1,8 @@
 //! The word `live`: a run on two threads, and its line.
 
 ghost use Rattle.std.specs.Prelude.{◌≡◌, IfOk, string_bytes};
-ghost use Rattle.usb_session.specs.Live.{run_line, IsLive};
+ghost use Rattle.usb_session.specs.Live.{run_line, live_line};
+ghost use Rattle.usb_session.specs.OneLine.{WroteLine};
 
 use crate::outside::Sink;
 use crate::writing::offer;
@@ -38,8 +39,8 @@ pub(crate) fn live<R: Threads + Wait + Sync, K: Sink, G: Gate + Send>(
     gate: G,
     seen: &Seen,
 ) -> Result<(), SessionError>
-    ensures told { IsLive n (K.written sink.old) (K.written sink.new) (K.faults sink.old)
-        (K.faults sink.new) result }
+    ensures wrote { WroteLine (live_line n) (K.written sink.old) (K.written sink.new)
+        (K.faults sink.old) (K.faults sink.new) result }
 {
     let Ok(run) = live_run(rt, alloc, n, gate, seen, None) else {
         return Err(SessionError::Memory);

@@ -6,9 +6,11 @@ ghost use Rattle.usb_session.specs.Causes.{Rose, HasCause, WrotePrefix, FailedLa
 ghost use Rattle.usb_parse.specs.Parse.{script_of};
 ghost use Rattle.usb_session.specs.Session.{streams, IsAnswered, HasReason, IsSmooth, IsQuiet};
 ghost use Rattle.usb_answers.specs.declared.summary.Summary.{Summary};
-ghost use Rattle.usb_session.specs.Live.{live_count, IsLive};
-ghost use Rattle.usb_session.specs.Program.{is_session, is_usage, status_of, report_of, error_line, usage_line, Reports, RunsSession, RunsLive};
+ghost use Rattle.usb_session.specs.Live.{live_count, live_line};
+ghost use Rattle.usb_session.specs.Generate.{generate_count, generate_line};
+ghost use Rattle.usb_session.specs.Program.{is_session, is_usage, status_of, report_of, error_line, usage_line, Reports, RunsSession, RunsLine};
 
+use crate::generation::generate;
 use crate::live::live;
 use crate::outside::{Failed, Gathers, Sink, Source};
 use crate::run::run_session;
@@ -47,6 +49,22 @@ fn live_count(words: &[String]) -> Option<u32>
         return None;
     }
     let n = number_between(1, 1000, count.as_bytes())?;
+    Some(n as u32)
+}
+
+/// Of how many messages the words ask for a script.
+fn generate_count(words: &[String]) -> Option<u32>
+    ensures value { result ≡ generate_count (map string_bytes words.now) }
+    ensures some { IfSome result (λ n. 1 ≤ n) }
+    ensures few { IfSome result (λ n. n ≤ 2000) }
+{
+    let [word, count] = words else {
+        return None;
+    };
+    if word.as_str() != "generate" {
+        return None;
+    }
+    let n = number_between(1, 2000, count.as_bytes())?;
     Some(n as u32)
 }
 
@@ -182,8 +200,13 @@ pub fn run_program<R: Threads + Wait + Sync, S: Source, K: Sink, D: Sink, G: Gat
         (streams S.left S.faults K.written K.faults source.old source.new sink.old sink.new)
         (D.written diag.old) (D.written diag.new) (D.faults diag.old) (D.faults diag.new) result }
     ensures live { (n : ℕ) → live_count (map string_bytes words.now.items) ≡ Some n →
-        RunsLive n (K.written sink.old) (K.written sink.new) (K.faults sink.old) (K.faults sink.new)
-        (D.written diag.old) (D.written diag.new) (D.faults diag.old) (D.faults diag.new) result }
+        RunsLine (live_line n) (K.written sink.old) (K.written sink.new)
+        (K.faults sink.old) (K.faults sink.new) (D.written diag.old) (D.written diag.new)
+        (D.faults diag.old) (D.faults diag.new) result }
+    ensures generate { (n : ℕ) → generate_count (map string_bytes words.now.items) ≡ Some n →
+        RunsLine (generate_line n) (K.written sink.old) (K.written sink.new)
+        (K.faults sink.old) (K.faults sink.new) (D.written diag.old) (D.written diag.new)
+        (D.faults diag.old) (D.faults diag.new) result }
     // Of a session: where the status is 0, the whole output was written.
     ensures done { is_session (map string_bytes words.now.items) ≡ true → result ≡ 0 →
         (summary : Summary) × IsAnswered
@@ -223,6 +246,11 @@ pub fn run_program<R: Threads + Wait + Sync, S: Source, K: Sink, D: Sink, G: Gat
 {
     if is_session(words.as_slice()) {
         let answer = run_session(alloc, source, sink);
+        report(diag, &answer);
+        return status_of(&answer);
+    }
+    if let Some(n) = generate_count(words.as_slice()) {
+        let answer = generate(alloc, n, sink);
         report(diag, &answer);
         return status_of(&answer);
     }

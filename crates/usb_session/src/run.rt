@@ -15,6 +15,7 @@ ghost use Rattle.usb_answers.specs.FinalFates.{HasFinalFates};
 ghost use Rattle.usb_answers.specs.Framed.{FramedReadersFollow};
 ghost use Rattle.usb_answers.specs.WrittenScripts.{WritersAreTold};
 ghost use Rattle.usb_answers.specs.Relation.{Represents};
+ghost use Rattle.usb_session.specs.Exchanges.{MessagesAlwaysArrive};
 ghost use Rattle.usb_session.specs.Running.{AllAnswered};
 ghost use Rattle.usb_session.specs.Causes.{Rose, WrotePrefix, FailedLast, TookAtMost, IsWritingError};
 ghost use Rattle.usb_session.specs.Session.{streams, IsAnswered, HasReason, FaultsNeverFall, IsSmooth, IsQuiet, IsExact};
@@ -117,6 +118,7 @@ fn answer_items<K: Sink>(
     ensures fates { IfOk result (λ _. HasFinalFates items.items) }
     ensures framed { IfOk result (λ _. FramedReadersFollow items.items) }
     ensures told { IfOk result (λ _. WritersAreTold items.items) }
+    ensures exchanged { IfOk result (λ _. MessagesAlwaysArrive items.items) }
     ensures err { OnErr result
         (WrotePrefix (K.written sink.old) (K.written sink.new) (output items.items)) }
     ensures cause { IsErrOf result SessionError.WriteFault →

@@ -1,4 +1,4 @@
-//! The word `live`.
+//! The words `live` and `generate`.
 
 ghost use Rattle.std.specs.Prelude.{◌≡◌, false};
 
@@ -41,6 +41,47 @@ fn wait_for(seen: &Seen, found: &Seen) {
 const USAGE: &str = "usage: nusb_sim [session|generate N|live N]\n";
 
 /// Words, the status, what is written and what is reported.
+const GENERATED: [(&[&str], u8, &str, &str); 8] = [
+    (
+        &["generate", "1"],
+        0,
+        "generate 1 calls 12 tickets 5 taken 2 dropped 0 reclaimed 3\n",
+        "",
+    ),
+    (
+        &["generate", "002"],
+        0,
+        "generate 2 calls 18 tickets 7 taken 4 dropped 0 reclaimed 3\n",
+        "",
+    ),
+    (
+        &["generate", "200"],
+        0,
+        "generate 200 calls 1284 tickets 485 taken 482 dropped 0 reclaimed 3\n",
+        "",
+    ),
+    (
+        &["generate", "2000"],
+        0,
+        "generate 2000 calls 12768 tickets 4823 taken 4820 dropped 0 reclaimed 3\n",
+        "",
+    ),
+    (&["generate", "0"], 2, "", USAGE),
+    (&["generate", "2001"], 2, "", USAGE),
+    (&["generate"], 2, "", USAGE),
+    (&["generate", "1", "1"], 2, "", USAGE),
+];
+
+#[test]
+fn generated_scripts_are_run(rt: HostRuntime) -> Result<(), Fail> {
+    for (words, status, output, report) in &GENERATED {
+        let outcome = run_on(&rt, rt.alloc(), *words, b"")?;
+        expect(&rt, "generate", &outcome, *status, output, report);
+    }
+    Ok(())
+}
+
+/// Words, the status, what is written and what is reported.
 const LIVE: [(&[&str], u8, &str, &str); 8] = [
     (
         &["live", "3"],
@@ -74,17 +115,10 @@ fn live_writes_its_line(rt: HostRuntime) -> Result<(), Fail> {
 #[test]
 fn a_failed_write_is_told(rt: HostRuntime) -> Result<(), Fail> {
     let failing: (&[u64], &[u64]) = (&[], &[1]);
-    let words = ["live", "2"];
-    let outcome = run_with(
-        &rt,
-        rt.alloc(),
-        &words,
-        b"",
-        failing,
-        OpenGate,
-        &Seen::new(),
-    )?;
-    expect(&rt, "live", &outcome, 6, "", "nusb_sim: write fault\n");
+    for words in &[["live", "2"], ["generate", "2"]] {
+        let outcome = run_with(&rt, rt.alloc(), words, b"", failing, OpenGate, &Seen::new())?;
+        expect(&rt, words[0], &outcome, 6, "", "nusb_sim: write fault\n");
+    }
     Ok(())
 }
 

@@ -10,7 +10,22 @@ const TWO: (&str, &str) = (
 );
 
 /// What follows these, and what is written for it.
-const STEPS: [(&str, &str, &str); 9] = [
+const STEPS: [(&str, &str, &str); 12] = [
+    (
+        "messages through a device that echoes, by transfers of other sizes",
+        "writer w0 e1 128\nnum w0 8\nreader r0 e0 192\nnum r0 4\nwrite w0 11111111111111111111111111111111111111111111111111111111111111111111111111111111111111111111111111111111111111111111111111111111111111111111111111111111111111111111111111111111111111111111111111111111111111111111111111111111111111111111111111111111111111112233\nwrite w0 2233\nwend w0\n! echo k0 02 81 ; echo k0 02 81 ; echo k0 02 81\nflush w0\nsread r0 200\nsread r0 200\nendmsg r0\nwend w0\nsread r0 200 : echo k0 02 81\nendmsg r0\n",
+        "ok\nok\nok\nok\nwrote 128\nwrote 2\nok\nok\nread 130 11111111111111111111111111111111111111111111111111111111111111111111111111111111111111111111111111111111111111111111111111111111111111111111111111111111111111111111111111111111111111111111111111111111111111111111111111111111111111111111111111111111111111112233\nread 0 -\nok\nok\nread 0 -\nok\nticket 0 k0 81 ok 130 taken\nticket 1 k0 81 ok 0 taken\nticket 2 k0 81 cancelled 0 reclaimed\nticket 3 k0 02 ok 128 taken\nticket 4 k0 02 ok 2 taken\nticket 5 k0 81 cancelled 0 reclaimed\nticket 6 k0 02 ok 0 reclaimed\nticket 7 k0 81 cancelled 0 reclaimed\n",
+    ),
+    (
+        "an echo needs a ticket on both sides",
+        "submitout e1 0102\n! echo k0 02 81 ; reap\npoll e1\nsubmitin e0 64\n! echo k0 81 02 ; echo k1 02 81 ; echo k0 02 82 ; reap\npoll e1\npoll e0\n! echo k0 02 81 ; reap ; reap\npoll e1\npoll e0\n! echo k0 02 81\n",
+        "ok\npending\nok\npending\npending\ndone ok 2 2 0102\ndone ok 2 64 0102\nticket 0 k0 02 ok 2 taken\nticket 1 k0 81 ok 2 taken\n",
+    ),
+    (
+        "an echo goes to the oldest tickets",
+        "submitout e1 1111111111111111111111111111111111111111111111111111111111111111111111111111111111111111111111111111111111111111111111111111111122\nsubmitout e1 -\nsubmitin e0 64\nsubmitin e0 64\nsubmitin e0 64\n! echo k0 02 81 ; echo k0 02 81 ; echo k0 02 81 ; reap ; reap ; reap ; reap ; reap\npoll e1\npoll e1\npoll e0\npoll e0\npoll e0\n",
+        "ok\nok\nok\nok\nok\ndone ok 65 65 1111111111111111111111111111111111111111111111111111111111111111111111111111111111111111111111111111111111111111111111111111111122\ndone ok 0 0 -\ndone ok 64 64 11111111111111111111111111111111111111111111111111111111111111111111111111111111111111111111111111111111111111111111111111111111\ndone ok 1 64 22\ndone ok 0 64 -\nticket 0 k0 02 ok 65 taken\nticket 1 k0 02 ok 0 taken\nticket 2 k0 81 ok 64 taken\nticket 3 k0 81 ok 1 taken\nticket 4 k0 81 ok 0 taken\n",
+    ),
     (
         "a long packet overruns",
         "submitin e0 64\n! pkt k0 81 0707070707070707070707070707070707070707070707070707070707070707070707070707070707070707070707070707070707070707070707070707070707 ; reap\npoll e0\n",

@@ -6,6 +6,7 @@ use Rattle.usb_host.specs.Finishes.{HasEnds, HasCompletions, KeepsNothing}
 use Rattle.usb_answers.specs.Output.{output}
 use Rattle.usb_answers.proofs.HandleLemmas.{served-handles, final-counted, fates-of_scripts}
 use Rattle.usb_answers.proofs.FramedScripts.{framed-scripts}
+use Rattle.usb_session.proofs.Exchanges.{messages-arrive}
 use Rattle.usb_answers.proofs.WrittenLaw.{written-scripts}
 use Rattle.usb_session.proofs.RunLemmas.{running-none, answered-end, answered-cut, answered-sum, host-final, host-ended, host-nothing}
 use Rattle.usb_session.proofs.run.answer_items.Goals as goal
@@ -71,3 +72,9 @@ returns-clause-framed g c =
 
 pub returns-clause-told : goal.returns-clause-told
 returns-clause-told g c = written-scripts c.args.items.items
+
+pub returns-clause-exchanged : goal.returns-clause-exchanged
+returns-clause-exchanged g c =
+    messages-arrive c.args.items.items
+    (subst (λ (h : HostState). IsLawful h.kernel.past)
+    (host-final c.answer_each-answered.new.session c.end-host.result c.args.items.items c.in_ok-calls.ensures.ok c.end-host.ensures.host) c.end-host.ensures.lawful)

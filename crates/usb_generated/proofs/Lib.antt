@@ -1,0 +1,5 @@
+mod Lengths
+mod LinesRead
+mod ReadOn
+pub mod ScriptsParse
+mod WritesRead

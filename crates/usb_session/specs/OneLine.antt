@@ -1,0 +1,16 @@
+-- A run that writes one line.
+use Rattle.std.specs.Prelude.{ℕ, ◌≡◌, List, Result, Ok, Err}
+use Rattle.std.specs.declared.option.Option.{Option}
+use Rattle.std.specs.Io.KnownBytes.{Appends}
+use Rattle.usb_parse.specs.declared.error.SessionError.{SessionError}
+use Rattle.usb_parse.specs.declared.error.SessionError.TheVariants.{WriteFault, Memory}
+use Rattle.usb_session.specs.Causes.{Rose, WrotePart}
+
+-- Of the line, what the sink got before and after, its faults before and after, and the answer.
+-- Ok: the whole line was written. WriteFault: a prefix of it and not all, where the count of faults
+-- rose. Memory: nothing
+abbrev pub WroteLine : {X : Type 0} → List ℕ → Option (List ℕ) → Option (List ℕ) → ℕ → ℕ → Result X SessionError → Type 0
+WroteLine line old new before now (Ok x) = Appends old new line
+WroteLine line old new before now (Err WriteFault) = Rose before now × WrotePart old new line
+WroteLine line old new before now (Err Memory) = (new ≡ old) × (now ≡ before)
+WroteLine line old new before now (Err _) = ⊥
