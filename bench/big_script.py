@@ -285,6 +285,13 @@ def writes(_size):
     yield from itertools.repeat("write w0 5a\n" * 63 + "flush w0 : ack k0 02\n")
 
 
+def echoed(_size):
+    """messages of 130 bytes that a device echoes to a reader, again and again"""
+    yield f"{IN}endpoint e1 i0 02 bulk-out\nwriter w0 e1 128\nnum w0 8\nreader r0 e0 192\nnum r0 4\n"
+    echoes = " ; ".join(["echo k0 02 81"] * 3)
+    yield from itertools.repeat(f"write w0 {'5a' * 130}\nwrite w0 a5a5\nwend w0\n! {echoes}\nflush w0\nsread r0 200\nsread r0 200\nendmsg r0\n")
+
+
 def comments(_size):
     """comments"""
     yield OPENED
@@ -296,7 +303,7 @@ KINDS = {
     for kind in (
         polls, cycles, behind, flight, cancels, waits, refused, armed, submitout, steps, claims, closes, owners, openings,
         refusals, descriptors, printed, attributes, again, matches, packets, control, futures, framed64, framed4096,
-        bytewise, written64, written4096, writes, comments,
+        bytewise, written64, written4096, writes, echoed, comments,
     )
 }
 

@@ -194,6 +194,7 @@ def step(r):
         lambda: f"pkt {k} 81 {hexes(r, [0, 1, 8, 64])}",
         lambda: f"ack {k} {address(r)}",
         lambda: f"ack {k} {r.choice(['01', '02'])}",
+        lambda: f"echo {k} {r.choice(['01', '02', '02', address(r)])} {r.choice(['81', '81', '82', address(r)])}",
         lambda: f"fail {k} {address(r)} {r.choice([2, 5, 19, 22, 32, 62, 70, 71, 75, 84, 104, 108, 110, 4095])}",
         lambda: "timer",
         lambda: f"clock {r.randrange(4000)}",
@@ -436,6 +437,8 @@ def writer_step(r):
         lambda: "ack k0 02",
         lambda: "ack k0 02",
         lambda: "ack k0 02 ; ack k0 02 ; ack k0 01",
+        lambda: f"echo k0 {r.choice(['02', '02', '01'])} 81",
+        lambda: "echo k0 02 81 ; echo k0 02 81 ; echo k0 02 81",
         lambda: f"fail k0 02 {r.choice(FAILURES)}",
         lambda: f"refuse k0 submit {r.choice(FAILURES)}" if r.random() < 0.6 else "reap",
         lambda: f"clock {r.randrange(4000)}",
@@ -497,6 +500,8 @@ def lines_of_writers(r):
     lines = [f"device k0 1 6 3 1 {DEVICE.format(0, 1)}{CONFIGURATIONS[kind]}", "open d0 1 6", "claim d0 0 i0"]
     lines += [f"endpoint e0 i0 81 {['bulk-in', 'int-in'][kind]}", f"endpoint e1 i0 {['02 bulk-out', '01 int-out'][kind]}"]
     lines += [f"submitout e1 {'5a' * r.choice([1, 64, 128])}"] * (r.random() < 0.2)
+    if r.random() < 0.4:
+        lines += [f"reader r0 e0 {r.choice([8, 64, 64, 128, 192])}", f"num r0 {r.choice([1, 2, 4])}", "pollsread r0 1"]
     return lines + [f"writer w0 e1 {r.choice([8, 64, 64, 128, 512])}", f"num w0 {r.choice([1, 1, 2, 4])}"]
 
 
@@ -683,7 +688,7 @@ MALFORMED = [
     "sconsume r0", "consume r0 1 : reap", "isend e0", "endmsg r0 1", "close r64",
     "writer w0 e0", "writer e0 w0 64", "writer w0 r0 64", "inner w0 e0", "num w0", "num w0 65537", "timeout w0", "cancel w0", "close w064",
     "write w0", "write w0 0", "write r0 00", "pollwrite w0 00 : reap", "wsubmit w0 : reap", "wsubmit r0", "wend", "wend w0 00", "flush",
-    "flush w0 1", "flush w0 :", "flushend r0", "pollflush w0 : reap", "pollflushend w0 : reap", "pollflushend e0", "submit w0",
+    "! echo k0 02", "! echo k0 02 81 81", "! echo d0 02 81", "! echo k0 2 81", "flush w0 1", "flush w0 :", "flushend r0", "pollflush w0 : reap", "pollflushend w0 : reap", "pollflushend e0", "submit w0",
 ]
 
 

@@ -22,6 +22,7 @@ MOST = 1 << 20
 POLL = b"poll e0\n"  # answered by 10 bytes, as e0 isn't open
 MANY = POLL * (MOST // 10 + 1)  # answered by more than 2^20 bytes
 OK = b"condition\n"
+GENERATED = b"generate 1 calls 12 tickets 5 taken 2 dropped 0 reclaimed 3\n"
 LIVE = b"live 3 submitted 3 taken 3 dropped 0 reclaimed 0\n"
 
 
@@ -58,7 +59,12 @@ CASES = [
     unknown("live", "1001"),
     unknown("live", "x"),
     unknown("live", "1", "1"),
-    unknown("generate", "1"),
+    Case("a generated script", 0, "", GENERATED, words=("generate", "1")),
+    Case("a generated script and a full device", 6, WRITE_FAULT, words=("generate", "1"), into="full"),
+    unknown("generate"),
+    unknown("generate", "0"),
+    unknown("generate", "2001"),
+    unknown("generate", "1", "1"),
     unknown(b"\xff"),
     unknown("session", b"\xff"),
     Case("no line", 0, "", script=b""),

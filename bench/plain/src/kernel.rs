@@ -102,6 +102,11 @@ pub enum Step {
         device: Name,
         endpoint: u8,
     },
+    Echo {
+        device: Name,
+        output: u8,
+        input: u8,
+    },
     Fail {
         device: Name,
         endpoint: u8,
@@ -433,6 +438,15 @@ impl Kernel {
         }
     }
 
+    /// The packet that an acknowledgement of the one ticket takes comes to the other.
+    fn echo(&mut self, sender: Ticket, taker: Ticket) {
+        let start = self.transfers[sender].count;
+        self.acknowledge(sender);
+        let transfer = &self.transfers[sender];
+        let packet = transfer.bytes[start..transfer.count].to_vec();
+        self.packet(taker, packet);
+    }
+
     fn unplug(&mut self, name: Name) {
         let Some(plug) = self.plugs.take(name) else {
             return;
@@ -485,6 +499,15 @@ impl Kernel {
             Step::Acknowledge { device, endpoint } => {
                 let ticket = self.oldest_towards(Direction::Out, device, endpoint)?;
                 self.acknowledge(ticket);
+            }
+            Step::Echo {
+                device,
+                output,
+                input,
+            } => {
+                let sender = self.oldest_towards(Direction::Out, device, output)?;
+                let taker = self.oldest_towards(Direction::In, device, input)?;
+                self.echo(sender, taker);
             }
             Step::Fail {
                 device,

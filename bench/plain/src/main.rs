@@ -1,12 +1,13 @@
 //! The session of `nusb_sim` as plain Rust, by the rules of docs/SCRIPT.md: what the proved program
-//! is timed against and compared with. Beside it the word `live N`, by std's threads, lock and
-//! channels. It has no status 7: where memory is wanting it aborts.
+//! is timed against and compared with. Beside it the words `generate N`, and `live N` by std's threads,
+//! lock and channels. It has no status 7: where memory is wanting it aborts.
 
 mod answer;
 mod control;
 mod descriptors;
 mod errno;
 mod fault;
+mod generated;
 mod hex;
 mod host;
 mod kernel;
@@ -25,7 +26,7 @@ use fault::Fault;
 use script::Script;
 use session::Session;
 use std::env;
-use std::ffi::OsString;
+use std::ffi::{OsStr, OsString};
 use std::io::{self, BufWriter, Read, Write};
 use std::process::ExitCode;
 use text::{Show, Text};
@@ -34,12 +35,22 @@ const MOST_BYTES: u64 = 1 << 20;
 const BUFFER_BYTES: usize = 1 << 16;
 
 const MOST_TRANSFERS: u64 = 1000;
+const MOST_MESSAGES: u64 = 2000;
 
 /// What the program's words ask for.
 enum Task {
     Session,
+    /// A script of so many messages.
+    Generate(u32),
     /// So many transfers between two threads.
     Live(u32),
+}
+
+/// A number from 1 to the most.
+fn count_of(word: &OsStr, most: u64) -> Result<u32, Fault> {
+    script::number(word.as_encoded_bytes(), most)
+        .filter(|count| *count > 0)
+        .ok_or(Fault::Usage)
 }
 
 fn read_words() -> Result<Task, Fault> {
@@ -47,10 +58,8 @@ fn read_words() -> Result<Task, Fault> {
     match words.as_slice() {
         [] => Ok(Task::Session),
         [word] if word == "session" => Ok(Task::Session),
-        [word, count] if word == "live" => script::number(count.as_encoded_bytes(), MOST_TRANSFERS)
-            .filter(|count| *count > 0)
-            .map(Task::Live)
-            .ok_or(Fault::Usage),
+        [word, count] if word == "generate" => count_of(count, MOST_MESSAGES).map(Task::Generate),
+        [word, count] if word == "live" => count_of(count, MOST_TRANSFERS).map(Task::Live),
         _ => Err(Fault::Usage),
     }
 }
@@ -92,9 +101,9 @@ fn run_session() -> Result<(), Fault> {
     write_answers(script, &mut out).map_err(|_| Fault::Write)
 }
 
-fn run_live(wanted: u32) -> Result<(), Fault> {
+fn write_run(run: &dyn Show) -> Result<(), Fault> {
     let mut text = Text::default();
-    live::run(wanted).show(&mut text);
+    run.show(&mut text);
     text.word("\n");
     let mut out = io::stdout().lock();
     out.write_all(text.as_bytes())
@@ -105,7 +114,8 @@ fn run_live(wanted: u32) -> Result<(), Fault> {
 fn run() -> Result<(), Fault> {
     match read_words()? {
         Task::Session => run_session(),
-        Task::Live(wanted) => run_live(wanted),
+        Task::Generate(wanted) => write_run(&generated::run(wanted)),
+        Task::Live(wanted) => write_run(&live::run(wanted)),
     }
 }
 

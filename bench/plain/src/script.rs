@@ -269,6 +269,11 @@ fn step(words: &[&[u8]]) -> Option<Step> {
             device: name(k, b'k')?,
             endpoint: hex::byte(hh)?,
         },
+        [b"echo", k, output, input] => Step::Echo {
+            device: name(k, b'k')?,
+            output: hex::byte(output)?,
+            input: hex::byte(input)?,
+        },
         [b"fail", k, hh, n] => Step::Fail {
             device: name(k, b'k')?,
             endpoint: hex::byte(hh)?,

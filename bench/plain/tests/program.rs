@@ -23,6 +23,46 @@ fn knows_no_word_and_session() {
 }
 
 /// Words, the status, what is written, and the line on standard error.
+const GENERATED: [(&[&str], i32, &str, &str); 9] = [
+    (
+        &["generate", "1"],
+        0,
+        "generate 1 calls 12 tickets 5 taken 2 dropped 0 reclaimed 3\n",
+        "",
+    ),
+    (
+        &["generate", "002"],
+        0,
+        "generate 2 calls 18 tickets 7 taken 4 dropped 0 reclaimed 3\n",
+        "",
+    ),
+    (
+        &["generate", "200"],
+        0,
+        "generate 200 calls 1284 tickets 485 taken 482 dropped 0 reclaimed 3\n",
+        "",
+    ),
+    (
+        &["generate", "2000"],
+        0,
+        "generate 2000 calls 12768 tickets 4823 taken 4820 dropped 0 reclaimed 3\n",
+        "",
+    ),
+    (&["generate", "0"], 2, "", USAGE),
+    (&["generate", "2001"], 2, "", USAGE),
+    (&["generate", "00000000000000000001"], 2, "", USAGE),
+    (&["generate"], 2, "", USAGE),
+    (&["generate", "1", "1"], 2, "", USAGE),
+];
+
+#[test]
+fn generated_scripts_are_run() {
+    for (words, status, output, report) in GENERATED {
+        expect(&words.join(" "), words, b"now\n", status, output, report);
+    }
+}
+
+/// Words, the status, what is written, and the line on standard error.
 const LIVE: [(&[&str], i32, &str, &str); 9] = [
     (
         &["live", "3"],
