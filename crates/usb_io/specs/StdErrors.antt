@@ -1,6 +1,6 @@
 -- What std's traits tell of the failures of a reader and of a writer.
-use Rattle.std.specs.Prelude.{ℕ, ◌≡◌, Bool, [], ◌∷◌, Result, Ok, Err}
-use Rattle.std.specs.IoError.{error_kind}
+use Rattle.std.specs.Prelude.{ℕ, ◌≡◌, Bool, [], ◌∷◌, Result, Ok, Err, None}
+use Rattle.std.specs.IoError.{error_kind, raw_os_error}
 use Rattle.std.specs.declared.io.Error.{Error}
 use Rattle.std.specs.declared.io.ErrorKind.{ErrorKind}
 use Rattle.std.specs.declared.io.ErrorKind.TheVariants as std
@@ -38,7 +38,7 @@ std_kind Memory = std.OutOfMemory
 -- an error of std's that a read answers: of the kind of its failure
 abbrev pub IsStdError : {S : Type 0} → BusCalls S → Bool → ℕ → Reading S → Reading S → Error → Type 0
 IsStdError k until_short timeout old new e =
-    (f : Fail ReadFault) × (error_kind e ≡ std_kind f) × IsReadError k until_short timeout old new f
+    (f : Fail ReadFault) × (error_kind e ≡ std_kind f) × (raw_os_error e ≡ None) × IsReadError k until_short timeout old new f
 
 -- which of them a failure of a write is
 abbrev pub std_write_kind : Fail WriteFault → ErrorKind
@@ -48,12 +48,12 @@ std_write_kind Memory = std.OutOfMemory
 
 -- errors of std's that a write and a flush answer
 abbrev pub IsStdWriteError : {S : Type 0} → BusCalls S → ℕ → Writing S → Writing S → Error → Type 0
-IsStdWriteError k timeout old new e = (f : Fail WriteFault) × (error_kind e ≡ std_write_kind f) × IsWriteError k timeout old new f
+IsStdWriteError k timeout old new e = (f : Fail WriteFault) × (error_kind e ≡ std_write_kind f) × (raw_os_error e ≡ None) × IsWriteError k timeout old new f
 
 abbrev pub IsStdFlushError : {S : Type 0} → BusCalls S → ℕ → Writing S → Writing S → Error → Type 0
-IsStdFlushError k timeout old new e = (f : Fail WriteFault) × (error_kind e ≡ std_write_kind f) × IsFlushError k timeout old new f
+IsStdFlushError k timeout old new e = (f : Fail WriteFault) × (error_kind e ≡ std_write_kind f) × (raw_os_error e ≡ None) × IsFlushError k timeout old new f
 
 -- what a flush that answered so counts as
 abbrev pub TellsStdFlush : BusState → BusState → WriterState → WriterState → Result (Unit {0}) Error → Type 0
 TellsStdFlush old new w w' (Ok u) = TellsOn old new w w' (Flush ∷ [])
-TellsStdFlush old new w w' (Err e) = (f : Fail WriteFault) × (error_kind e ≡ std_write_kind f) × TellsOn old new w w' (flushed_calls (Err f))
+TellsStdFlush old new w w' (Err e) = (f : Fail WriteFault) × (error_kind e ≡ std_write_kind f) × (raw_os_error e ≡ None) × TellsOn old new w w' (flushed_calls (Err f))

@@ -1,8 +1,8 @@
 //! A reader on its bus, which std's traits read.
 
-ghost use Rattle.std.specs.Prelude.{◌≡◌, true};
+ghost use Rattle.std.specs.Prelude.{◌≡◌, true, None};
 ghost use Rattle.usb_io.specs.Held.{IsHeld, IsHeld-prop};
-ghost use Rattle.std.specs.IoError.{error_kind};
+ghost use Rattle.std.specs.IoError.{error_kind, raw_os_error};
 ghost use Rattle.usb_io.specs.StdErrors.{std_kind, std_kind_of_transfer};
 
 use crate::fault::ReadFault;
@@ -105,6 +105,7 @@ impl<'a, T: BulkOrInterrupt, B: Bus> ReadOn<'a, T, B> {
 /// The error of std's for a transfer that failed.
 pub(crate) fn transfer_error(error: TransferError) -> io::Error
     ensures kind { error_kind result ≡ std_kind_of_transfer error }
+    ensures not_os { raw_os_error result ≡ None }
 {
     match error {
         TransferError::Cancelled => {
@@ -125,6 +126,7 @@ pub(crate) fn transfer_error(error: TransferError) -> io::Error
 /// The error of std's for a read that failed.
 pub(crate) fn std_error(fail: Fail<ReadFault>) -> io::Error
     ensures kind { error_kind result ≡ std_kind fail }
+    ensures not_os { raw_os_error result ≡ None }
 {
     match fail {
         Fail::Cause(ReadFault::Transfer(error)) => transfer_error(error),

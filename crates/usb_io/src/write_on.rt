@@ -1,8 +1,8 @@
 //! A writer on its bus, which std's trait writes to.
 
-ghost use Rattle.std.specs.Prelude.{◌≡◌, true};
+ghost use Rattle.std.specs.Prelude.{◌≡◌, true, None};
 ghost use Rattle.usb_io.specs.Held.{IsHeld, IsHeld-prop};
-ghost use Rattle.std.specs.IoError.{error_kind};
+ghost use Rattle.std.specs.IoError.{error_kind, raw_os_error};
 ghost use Rattle.usb_io.specs.StdErrors.{std_write_kind};
 
 use crate::fault::WriteFault;
@@ -120,6 +120,7 @@ impl<'a, T: BulkOrInterrupt, B: Bus> WriteOn<'a, T, B> {
 /// The error of std's for a write that failed.
 fn std_error(fail: Fail<WriteFault>) -> io::Error
     ensures kind { error_kind result ≡ std_write_kind fail }
+    ensures not_os { raw_os_error result ≡ None }
 {
     match fail {
         Fail::Cause(WriteFault::Transfer(error)) => transfer_error(error),
