@@ -10,20 +10,19 @@ use Rattle.usb_parse.specs.declared.error.SessionError.TheVariants.{Malformed, T
 abbrev pub Rose : ℕ → ℕ → Type 0
 Rose before now = min (before + 1) (2 ^ 64 - 1) ≤ now
 
--- a count of faults never falls, and a failure raises it
-pub record HasCause {T E : Type 0} (before now : ℕ) (result : Result T E) : Type 0 where
-  pub later : before ≤ now
-  pub failed : OnErr result (Rose before now)
+-- one call failed: the count of faults rose by one, or stays at the greatest `u64`
+abbrev pub RoseByOne : ℕ → ℕ → Type 0
+RoseByOne before now = now ≡ min (before + 1) (2 ^ 64 - 1)
 
 -- a count of faults never falls; it stays over a call that doesn't fail, and rises by one over a failure, up to the greatest `u64`
 pub record CountsFaults {T E : Type 0} (before now : ℕ) (result : Result T E) : Type 0 where
   pub later : before ≤ now
   pub none : OnOk result (now ≡ before)
-  pub one : OnErr result (now ≡ min (before + 1) (2 ^ 64 - 1))
+  pub one : OnErr result (RoseByOne before now)
 
 -- one read failed, and it was the last
 pub record FailedLast (before now : ℕ) (last : Type 0) : Type 0 where
-  pub one : now ≡ min (before + 1) (2 ^ 64 - 1)
+  pub one : RoseByOne before now
   pub failed : last
 
 -- the bytes written so far, and those that are left, make the whole

@@ -6,7 +6,7 @@ use Rattle.std.specs.declared.option.Option.{Option}
 use Rattle.std.specs.Io.KnownBytes.{Appends}
 use Rattle.usb_parse.specs.declared.error.SessionError.{SessionError}
 use Rattle.usb_parse.specs.declared.error.SessionError.TheVariants.{Malformed, TooLong, ReadFault, WriteFault, Memory}
-use Rattle.usb_session.specs.Causes.{Rose, WrotePrefix}
+use Rattle.usb_session.specs.Causes.{RoseByOne, WrotePrefix}
 use Rattle.usb_session.specs.OneLine.{WroteLine}
 use Rattle.usb_session.specs.Live.{live_count}
 use Rattle.usb_session.specs.Generate.{generate_count}
@@ -53,9 +53,9 @@ report_of (Err e) = error_line e
 abbrev pub usage_line : List ℕ
 usage_line = codes "usage: nusb_sim [session|generate N|live N]\n"
 
--- of the sink for reports: the line was written to it, or a prefix of the line where its count of faults rose
+-- of the sink for reports: the line was written to it, and no write failed; or a prefix of the line, where one write failed
 abbrev pub Reports : Option (List ℕ) → Option (List ℕ) → ℕ → ℕ → List ℕ → Type 0
-Reports old new before now line = Appends old new line ⊎ (Rose before now × WrotePrefix old new line)
+Reports old new before now line = (Appends old new line × (now ≡ before)) ⊎ (RoseByOne before now × WrotePrefix old new line)
 
 -- a session that gave this answer
 abbrev pub IsSession : Streams → Result Summary SessionError → Type 0

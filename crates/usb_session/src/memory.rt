@@ -3,7 +3,7 @@
 ghost use Rattle.std.specs.Prelude.{◌≡◌, ◌<◌, ◌↔◌, ◌⊎◌, [], length, Some, IfOk, IsErr, Contains};
 ghost use Rattle.std.specs.Io.{ReadsAtMost, WritesAtMost};
 ghost use Rattle.std.specs.Io.KnownBytes.{ReadConsumes, WriteAppends};
-ghost use Rattle.usb_session.specs.Causes.{HasCause, CountsFaults};
+ghost use Rattle.usb_session.specs.Causes.{CountsFaults};
 ghost use Rattle.usb_session.specs.Memory.{next_call};
 
 use crate::outside::{Failed, Sink, Source};
@@ -140,7 +140,7 @@ impl Sink for MemSink {
         ensures bound { WritesAtMost result bytes.now }
         ensures some { 0 < length bytes.now → IfOk result (λ n. 0 < n) }
         ensures bytes { WriteAppends (Some self.old.bytes) (Some self.new.bytes) result bytes.now }
-        ensures cause { HasCause self.old.faults self.new.faults result }
+        ensures cause { CountsFaults self.old.faults self.new.faults result }
         ensures calls { self.new.calls ≡ next_call self.old.calls }
         ensures schedule { (self.new.fail_at ≡ self.old.fail_at) × (self.new.room ≡ self.old.room) }
         ensures fails { IsErr result ↔ (Contains self.old.fail_at self.new.calls ⊎

@@ -4,7 +4,7 @@ ghost use Rattle.std.specs.Prelude.{ℕ, List, ◌<◌, ◌↔◌, length, IfOk,
 ghost use Rattle.std.specs.declared.option.Option.{Option};
 ghost use Rattle.std.specs.Io.{ReadsAtMost, WritesAtMost};
 ghost use Rattle.std.specs.Io.KnownBytes.{Keeps, ReadConsumes, WriteAppends};
-ghost use Rattle.usb_session.specs.Causes.{HasCause, CountsFaults};
+ghost use Rattle.usb_session.specs.Causes.{CountsFaults};
 
 use std::error::Error;
 use std::fmt;
@@ -51,7 +51,7 @@ pub trait Sink {
         ensures bound { WritesAtMost result bytes.now }
         ensures some { 0 < length bytes.now → IfOk result (λ n. 0 < n) }
         ensures bytes { WriteAppends (written self.old) (written self.new) result bytes.now }
-        ensures cause { HasCause (faults self.old) (faults self.new) result };
+        ensures cause { CountsFaults (faults self.old) (faults self.new) result };
 }
 
 /// A sink that may hold bytes that it took, until it is told to hand them on.
@@ -63,5 +63,5 @@ pub trait Gathers: Sink {
     fn hand_on(&mut self) -> Result<(), Failed>
         ensures done { OnOk result (is_handed_on self.new) }
         ensures bytes { Keeps (Self.written self.old) (Self.written self.new) }
-        ensures cause { HasCause (Self.faults self.old) (Self.faults self.new) result };
+        ensures cause { CountsFaults (Self.faults self.old) (Self.faults self.new) result };
 }

@@ -1,8 +1,8 @@
 //! The program.
 
-ghost use Rattle.std.specs.Prelude.{ℕ, List, ◌≡◌, ◌≢◌, ◌⊎◌, ◌↔◌, ◌≤◌, ◌++◌, true, false, Some, map, string_bytes, decimal, IfSome, OnOk, OnErr};
+ghost use Rattle.std.specs.Prelude.{ℕ, List, IsOk, ◌≡◌, ◌≢◌, ◌⊎◌, ◌↔◌, ◌≤◌, ◌++◌, true, false, Some, map, string_bytes, decimal, IfSome, OnOk, OnErr};
 ghost use Rattle.std.specs.Io.KnownBytes.{Appends, Keeps};
-ghost use Rattle.usb_session.specs.Causes.{Rose, HasCause, WrotePrefix, FailedLast, TookAtMost};
+ghost use Rattle.usb_session.specs.Causes.{RoseByOne, CountsFaults, WrotePrefix, FailedLast, TookAtMost};
 ghost use Rattle.usb_parse.specs.Parse.{script_of};
 ghost use Rattle.usb_session.specs.Session.{streams, IsAnswered, HasReason, IsSmooth, IsQuiet};
 ghost use Rattle.usb_answers.specs.declared.summary.Summary.{Summary};
@@ -88,7 +88,7 @@ fn offer_number<G: Sink>(diag: &mut G, front: &[u8], number: u32, back: &[u8]) -
         (front.now ++ (decimal number ++ back.now))) }
     ensures err { OnErr result (WrotePrefix (G.written diag.old) (G.written diag.new)
         (front.now ++ (decimal number ++ back.now))) }
-    ensures cause { HasCause (G.faults diag.old) (G.faults diag.new) result }
+    ensures cause { CountsFaults (G.faults diag.old) (G.faults diag.new) result }
 {
     offer(diag, front)?;
     let mut digits = Buffer::new();
@@ -102,7 +102,7 @@ fn offer_error<G: Sink>(diag: &mut G, error: &SessionError) -> Result<(), Failed
         (Appends (G.written diag.old) (G.written diag.new) (error_line error.now)) }
     ensures err { OnErr result
         (WrotePrefix (G.written diag.old) (G.written diag.new) (error_line error.now)) }
-    ensures cause { HasCause (G.faults diag.old) (G.faults diag.new) result }
+    ensures cause { CountsFaults (G.faults diag.old) (G.faults diag.new) result }
 {
     match error {
         SessionError::Malformed { line } => {
@@ -119,6 +119,7 @@ fn offer_error<G: Sink>(diag: &mut G, error: &SessionError) -> Result<(), Failed
 fn report<G: Sink, T>(diag: &mut G, answer: &Result<T, SessionError>)
     ensures line { Reports (G.written diag.old) (G.written diag.new) (G.faults diag.old)
         (G.faults diag.new) (report_of answer.now) }
+    ensures untold { IsOk answer.now → diag.new ≡ diag.old }
 {
     if let Err(error) = answer {
         let _ = offer_error(diag, error);
@@ -162,7 +163,7 @@ pub fn end_program<K: Gathers, D: Sink>(status: u8, sink: &mut K, diag: &mut D) 
     ensures stays { status ≢ 0 → (result ≡ status) × (diag.new ≡ diag.old) }
     ensures done { result ≡ 0 → K.is_handed_on sink.new × (diag.new ≡ diag.old) }
     ensures fault { status ≡ 0 → result ≢ 0 →
-        (result ≡ 6) × Rose (K.faults sink.old) (K.faults sink.new) }
+        (result ≡ 6) × RoseByOne (K.faults sink.old) (K.faults sink.new) }
     ensures line { status ≡ 0 → result ≢ 0 → Reports (D.written diag.old) (D.written diag.new)
         (D.faults diag.old) (D.faults diag.new) (error_line SessionError.WriteFault) }
     ensures bytes { Keeps (K.written sink.old) (K.written sink.new) }
@@ -238,6 +239,10 @@ pub fn run_program<R: Threads + Wait + Sync, S: Source, K: Sink, D: Sink, G: Gat
     ensures stops { result ≡ 5 →
         FailedLast (S.faults source.old) (S.faults source.new) (S.has_failed source.new) }
     ensures most { TookAtMost 1048577 (S.left source.old) (S.left source.new) }
+    // One write failed where the status is 6, and none where it is 0; then nothing is reported.
+    ensures once { result ≡ 6 → RoseByOne (K.faults sink.old) (K.faults sink.new) }
+    ensures quiet { result ≡ 0 → K.faults sink.new ≡ K.faults sink.old }
+    ensures untold { result ≡ 0 → diag.new ≡ diag.old }
     // A valid script, whose source tells its bytes, is answered where no read or write fails, unless memory runs out.
     ensures complete { is_session (map string_bytes words.now.items) ≡ true →
         IsSmooth

@@ -17,7 +17,7 @@ ghost use Rattle.usb_answers.specs.WrittenScripts.{WritersAreTold};
 ghost use Rattle.usb_answers.specs.Relation.{Represents};
 ghost use Rattle.usb_session.specs.Exchanges.{MessagesAlwaysArrive};
 ghost use Rattle.usb_session.specs.Running.{AllAnswered};
-ghost use Rattle.usb_session.specs.Causes.{Rose, WrotePrefix, FailedLast, TookAtMost, IsWritingError};
+ghost use Rattle.usb_session.specs.Causes.{Rose, RoseByOne, WrotePrefix, FailedLast, TookAtMost, IsWritingError};
 ghost use Rattle.usb_session.specs.Session.{streams, IsAnswered, HasReason, FaultsNeverFall, IsSmooth, IsQuiet, IsExact};
 
 use crate::outside::{Failed, Sink, Source};
@@ -33,6 +33,8 @@ fn write_piece<K: Sink>(sink: &mut K, bytes: &[u8]) -> Result<(), SessionError>
     ensures ok { OnOk result (Appends (K.written sink.old) (K.written sink.new) bytes.now) }
     ensures err { OnErr result (WrotePrefix (K.written sink.old) (K.written sink.new) bytes.now) }
     ensures cause { OnErr result (Rose (K.faults sink.old) (K.faults sink.new)) }
+    ensures once { OnErr result (RoseByOne (K.faults sink.old) (K.faults sink.new)) }
+    ensures quiet { OnOk result (K.faults sink.new ≡ K.faults sink.old) }
     ensures only { IfErr result (λ e. e ≡ SessionError.WriteFault) }
     ensures later { K.faults sink.old ≤ K.faults sink.new }
 {
@@ -51,6 +53,9 @@ fn write_fates<K: Sink>(line: &mut String, host: &Host, sink: &mut K) -> Result<
         (WrotePrefix (K.written sink.old) (K.written sink.new) (fate_lines host.now)) }
     ensures cause { IsErrOf result SessionError.WriteFault →
         Rose (K.faults sink.old) (K.faults sink.new) }
+    ensures once { IsErrOf result SessionError.WriteFault →
+        RoseByOne (K.faults sink.old) (K.faults sink.new) }
+    ensures quiet { OnOk result (K.faults sink.new ≡ K.faults sink.old) }
     ensures only { IfErr result IsWritingError }
     ensures later { K.faults sink.old ≤ K.faults sink.new }
 {
@@ -82,6 +87,9 @@ fn answer_each<K: Sink>(
         (WrotePrefix (K.written sink.old) (K.written sink.new) (output items.items)) }
     ensures cause { IsErrOf result SessionError.WriteFault →
         Rose (K.faults sink.old) (K.faults sink.new) }
+    ensures once { IsErrOf result SessionError.WriteFault →
+        RoseByOne (K.faults sink.old) (K.faults sink.new) }
+    ensures quiet { OnOk result (K.faults sink.new ≡ K.faults sink.old) }
     ensures only { IfErr result IsWritingError }
     ensures later { K.faults sink.old ≤ K.faults sink.new }
 {
@@ -123,6 +131,9 @@ fn answer_items<K: Sink>(
         (WrotePrefix (K.written sink.old) (K.written sink.new) (output items.items)) }
     ensures cause { IsErrOf result SessionError.WriteFault →
         Rose (K.faults sink.old) (K.faults sink.new) }
+    ensures once { IsErrOf result SessionError.WriteFault →
+        RoseByOne (K.faults sink.old) (K.faults sink.new) }
+    ensures quiet { OnOk result (K.faults sink.new ≡ K.faults sink.old) }
     ensures only { IfErr result IsWritingError }
     ensures later { K.faults sink.old ≤ K.faults sink.new }
 {
@@ -150,6 +161,9 @@ fn answer_source<S: Source, K: Sink>(
     ensures stops { IsErrOf result SessionError.ReadFault →
         FailedLast (S.faults source.old) (S.faults source.new) (S.has_failed source.new) }
     ensures most { TookAtMost 1048577 (S.left source.old) (S.left source.new) }
+    ensures once { IsErrOf result SessionError.WriteFault →
+        RoseByOne (K.faults sink.old) (K.faults sink.new) }
+    ensures quiet { OnOk result (K.faults sink.new ≡ K.faults sink.old) }
 {
     let bytes = read_script(alloc, source)?;
     let script = parse_script(alloc, bytes.as_slice())?;
@@ -189,6 +203,10 @@ pub fn run_session<S: Source, K: Sink>(
     ensures stops { IsErrOf result SessionError.ReadFault →
         FailedLast (S.faults source.old) (S.faults source.new) (S.has_failed source.new) }
     ensures most { TookAtMost 1048577 (S.left source.old) (S.left source.new) }
+    // One write failed where the answer says that writing did, and none where it is Ok.
+    ensures once { IsErrOf result SessionError.WriteFault →
+        RoseByOne (K.faults sink.old) (K.faults sink.new) }
+    ensures quiet { OnOk result (K.faults sink.new ≡ K.faults sink.old) }
 {
     answer_source(alloc, source, sink)
 }

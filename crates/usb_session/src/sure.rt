@@ -3,7 +3,7 @@
 ghost use Rattle.std.specs.Prelude.{◌≡◌, ◌<◌, ◌↔◌, [], length, Some, None, IfOk, IsOk, IsErr, min, vec_len};
 ghost use Rattle.std.specs.Io.{ReadsAtMost, WritesAtMost};
 ghost use Rattle.std.specs.Io.KnownBytes.{ReadConsumes, WriteAppends};
-ghost use Rattle.usb_session.specs.Causes.{HasCause, CountsFaults};
+ghost use Rattle.usb_session.specs.Causes.{CountsFaults};
 
 use crate::outside::{Failed, Sink, Source};
 use std::marker::Model;
@@ -76,7 +76,7 @@ impl Sink for SureSink {
         ensures bound { WritesAtMost result bytes.now }
         ensures some { 0 < length bytes.now → IfOk result (λ n. 0 < n) }
         ensures bytes { WriteAppends None None result bytes.now }
-        ensures cause { HasCause 0 0 result }
+        ensures cause { CountsFaults 0 0 result }
         ensures whole { IfOk result (λ n. n ≡ length bytes.now) }
         ensures ok { IsOk result }
     {

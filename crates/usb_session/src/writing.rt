@@ -2,7 +2,7 @@
 
 ghost use Rattle.std.specs.Prelude.{◌≡◌, OnOk, OnErr};
 ghost use Rattle.std.specs.Io.KnownBytes.{Appends};
-ghost use Rattle.usb_session.specs.Causes.{HasCause, WrotePrefix, WrotePart};
+ghost use Rattle.usb_session.specs.Causes.{CountsFaults, WrotePrefix, WrotePart};
 
 use crate::outside::{Failed, Sink};
 
@@ -11,7 +11,7 @@ pub fn offer<K: Sink>(sink: &mut K, bytes: &[u8]) -> Result<(), Failed>
     ensures ok { OnOk result (Appends (K.written sink.old) (K.written sink.new) bytes.now) }
     ensures err { OnErr result (WrotePrefix (K.written sink.old) (K.written sink.new) bytes.now) }
     ensures part { OnErr result (WrotePart (K.written sink.old) (K.written sink.new) bytes.now) }
-    ensures cause { HasCause (K.faults sink.old) (K.faults sink.new) result }
+    ensures cause { CountsFaults (K.faults sink.old) (K.faults sink.new) result }
 {
     let mut rest = bytes;
     while !rest.is_empty() {

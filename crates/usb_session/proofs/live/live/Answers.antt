@@ -9,4 +9,4 @@ returns g c =
     let patient = c.in-Ok.ensures.patient refl in
     let text : c.as_bytes.result.now ≡ live_line c.args.n =
     c.as_bytes.ensures.value ∙ (c.in-Ok-run_line.ensures.text ∙ all-taken c.args.n run.submitted run.taken run.dropped run.reclaimed patient.0 patient.1 c.in-Ok.ensures.each) in
-    record { wrote = (c.in-Err.ensures.cause.failed, rw text at c.in-Err.ensures.part) }
+    record { wrote = (c.in-Err.ensures.cause.one, rw text at c.in-Err.ensures.part) }

@@ -1,4 +1,4 @@
-use Rattle.std.proofs.Common.{◌≡◌, length, arith, ap, rules}
+use Rattle.std.proofs.Common.{◌≡◌, ◌∙◌, length, arith, refl, ap, rules}
 use Rattle.std.specs.Vec.Iter.{into_iter_items, into_iter_len}
 use Rattle.std.proofs.lemmas.List.Sums.{sum_by-cons}
 use Rattle.std.proofs.lemmas.Result.{err_from_is_err_and}
@@ -14,6 +14,7 @@ loop-item-init g c =
     record {
       running = rw all.0 (running-start (g.K.Sink.written c.args.sink.now) c.args.session.now c.args.items.items c.requires.stands);
       later = omega arith;
+      quiet = refl;
       room = rw all.0 c.requires.room;
       calls = rw all.0 (omega arith);
       few = omega (arith, left, ap length all.0, c.requires.bounded.few);
@@ -41,6 +42,7 @@ loop-item-preserved g c =
           running-on (g.K.Sink.written c.write_piece.new.sink) c.loop-item.session c.answer.new.self item rest c.as_bytes.result.now
           (rw steps at c.loop-item.invariant.running) (rw c.as_bytes.ensures.value (rw c.clear.ensures.bytes at c.in_ok-answer.ensures.answered)) c.in_ok-write_piece.ensures.ok;
       later = omega (arith, c.in_ok-write_piece.ensures.later);
+      quiet = c.in_ok-write_piece.ensures.quiet ∙ c.loop-item.invariant.quiet;
       room = omega (arith, c.in_ok-answer.ensures.spare, rw steps at c.loop-item.invariant.room, sum_by-cons places_in item rest);
       calls = elim c.if-is_call.branch [
         | then-is_call w ↦ omega (arith, counted, calls-yes item rest c.is_call.result c.is_call.ensures.value w.if-is_call.true)

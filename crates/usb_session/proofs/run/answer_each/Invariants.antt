@@ -9,6 +9,7 @@ abbrev pub invariant-loop-item : goal.invariant-loop-item
 invariant-loop-item g l = record {
   running : Running (g.K.Sink.written l.initial.sink) (g.K.Sink.written l.sink) l.session (into_iter_items l.item-iterator) (output l.fn.items.items) (final_host l.fn.items.items);
   later : g.K.Sink.faults l.initial.sink ≤ g.K.Sink.faults l.sink;
+  quiet : g.K.Sink.faults l.sink ≡ g.K.Sink.faults l.initial.sink;
   room : place_count (into_iter_items l.item-iterator) ≤ l.session.host.kernel.spare;
   calls : l.calls + count_by is_call (into_iter_items l.item-iterator) ≡ count_by is_call l.fn.items.items;
   few : l.calls + into_iter_len l.item-iterator ≤ 1048576;

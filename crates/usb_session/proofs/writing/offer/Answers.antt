@@ -1,4 +1,4 @@
-use Rattle.std.proofs.Common.{arith, drop, take, take-append-drop}
+use Rattle.std.proofs.Common.{◌∙◌, drop, take, take-append-drop}
 use Rattle.usb_session.proofs.OutsideLemmas.{Wrote_more}
 use Rattle.usb_session.proofs.writing.offer.Goals as goal
 
@@ -8,5 +8,5 @@ loop-rest-preserved g c =
     let count = c.in_ok-count.count in
     let written = c.in_ok-count.ensures in record {
       wrote = rw c.split_at.ensures.back (Wrote_more (g.K.Sink.written c.write.new.self) (take count rest) (drop count rest) c.loop-rest.invariant.wrote written.bytes (take-append-drop count rest));
-      later = omega (arith, written.cause.later);
+      quiet = written.cause.none ∙ c.loop-rest.invariant.quiet;
     }
