@@ -29,4 +29,5 @@ pub mod Extends
 pub mod InOrder
 pub mod Deadlines
 pub mod Waiting
+pub mod Entries
 pub mod Unreaped

@@ -1,4 +1,4 @@
-use Rattle.std.proofs.Common.{◌≡◌, ℕ, ◌+◌, List, [], ◌∷◌, length, refl, ap, ◌∙◌}
+use Rattle.std.proofs.Common.{◌≡◌, ℕ, ◌+◌, List, [], ◌∷◌, length, refl, ◌∙◌}
 use Rattle.std.specs.Prelude.{position, is_some, ◌&&◌, not}
 use Rattle.std.proofs.lemmas.Iterator.Adapters.{position_from-zero}
 use Rattle.std.proofs.lemmas.Grind.{common_steps}
@@ -12,9 +12,10 @@ use Rattle.usb_kernel.specs.Journal.{fate}
 use Rattle.usb_kernel.specs.Completions.{is_reapable, lowest}
 use Rattle.usb_kernel.specs.Info.{is_unreaped, unreaped}
 use Rattle.usb_kernel.specs.Rows.{row_of, rows_from, Agrees, is_reapable_row, is_unreaped_row}
-use Rattle.usb_kernel.specs.Unreaped.{unreaped_indices}
+use Rattle.usb_kernel.specs.declared.lists.TicketLists.{TicketLists}
+use Rattle.usb_kernel.specs.Unreaped.{AreListed}
 use Rattle.usb_kernel.proofs.TableLemmas.{position-rows}
-use Rattle.usb_kernel.proofs.Unreaped.{length-indices}
+use Rattle.usb_kernel.proofs.Unreaped.{length-lists}
 
 is_reapable_row-row_of : (s : Ticket) (f : Fate) → is_reapable_row (row_of s f) ≡ (is_some f.status && not f.reaped)
 is_reapable_row-row_of s f = grind (arith, common_steps)
@@ -38,6 +39,6 @@ unreaped_count : (past : List Event) (rows : List TicketRow) → Agrees past row
 unfolding unreaped
 unreaped_count past rows agrees = rw agrees.table (count-rows (tickets past) 0 (fate past))
 
--- as many indices are listed
-pub unreaped_length : (past : List Event) (rows : List TicketRow) (indices : List ℕ) → Agrees past rows → indices ≡ unreaped_indices rows → length indices ≡ unreaped past
-unreaped_length past rows indices agrees listed = ap length listed ∙ length-indices rows 0 ∙ unreaped_count past rows agrees
+-- as many tickets are listed
+pub unreaped_length : (past : List Event) (rows : List TicketRow) (lists : TicketLists) → Agrees past rows → AreListed rows lists → length lists.unfinished.items + length lists.finished.items ≡ unreaped past
+unreaped_length past rows lists agrees listed = length-lists rows lists listed agrees.roomy ∙ unreaped_count past rows agrees

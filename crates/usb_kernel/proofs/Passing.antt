@@ -1,5 +1,5 @@
 -- A pass of a packet from one row to another is an echo.
-use Rattle.std.proofs.Common.{◌≡◌, ◌≢◌, ℕ, ◌+◌, ◌*◌, ◌<◌, ◌≤◌, arith, List, ◌∷◌, ◌++◌, length, length-append, inl, inr, min, set, get_or, Option, Some, None, true, false, refl, ap, sym, ◌∙◌, slice_get, cond}
+use Rattle.std.proofs.Common.{◌≡◌, ◌≢◌, ℕ, ◌+◌, ◌*◌, ◌<◌, ◌≤◌, arith, List, ◌∷◌, ◌++◌, length, length-append, inl, inr, min, set, get_or, Option, Some, None, true, false, refl, ap, sym, ◌∙◌, slice_get, cond, subst}
 use Rattle.std.specs.Prelude.{position, is_some, IsSome, nat_le, nat_lt, ◌&&◌, ◌||◌}
 use Rattle.std.specs.List.{All, sum_by}
 use Rattle.std.proofs.lemmas.List.{length-set, get_or-set_same, get_or-set_other}
@@ -16,12 +16,14 @@ use Rattle.usb_kernel.specs.Tickets.{Ticket, tickets}
 use Rattle.usb_kernel.specs.Fates.{Fate}
 use Rattle.usb_kernel.specs.Journal.{fate, oldest, taken_of}
 use Rattle.usb_kernel.specs.Steps.{after_echo}
-use Rattle.usb_kernel.specs.Rows.{Agrees, IsRoomy, is_open_row, is_unreaped_row, owed, row_of, row_with_ack, row_with_packet, row_with_bytes}
+use Rattle.usb_kernel.specs.Rows.{Agrees, IsRoomy, is_open_row, owed, row_of, row_with_ack, row_with_packet, row_with_bytes}
 use Rattle.usb_kernel.specs.Passing.{StandsAt, IsOpenOut, IsOpenIn, row_taken, passed}
-use Rattle.usb_kernel.specs.Unreaped.{unreaped_indices}
+use Rattle.usb_kernel.specs.declared.lists.TicketLists.{TicketLists}
+use Rattle.usb_kernel.specs.Unreaped.{AreListed, GoesOn}
 use Rattle.usb_kernel.proofs.RowLemmas.{room_left}
+use Rattle.usb_kernel.proofs.Places.{slice_get-set_other}
+use Rattle.usb_kernel.proofs.Unreaped.{goes_on-ack, goes_on-packet}
 use Rattle.usb_kernel.proofs.Steps.{Found, found, open_row, not_reaped, Agrees-packet, Agrees-ack}
-use Rattle.usb_kernel.proofs.Unreaped.{unreaped-set}
 use Rattle.usb_kernel.proofs.OpenLists.{open-ack_other}
 use Rattle.usb_kernel.proofs.Echoes.{Agrees-echo, rows-apart, read_at, read_back}
 
@@ -43,12 +45,9 @@ row_taken-row_of s f bytes is_out kept =
     let counted : min (length bytes) (min (length bytes) (s.maximum * f.acks) + s.maximum) ≡ min (length bytes) (s.maximum * (f.acks + 1)) = omega arith in
     grind (arith, common_steps)
 
--- an acknowledged row has room for what comes, and is not reaped
+-- an acknowledged row has room for what comes
 roomy-ack : (r : TicketRow) → IsOpenOut r → IsRoomy (row_with_ack r)
 roomy-ack r is = grind (arith, common_steps)
-
-unreaped-ack : (r : TicketRow) → is_unreaped_row (row_with_ack r) ≡ is_unreaped_row r
-unreaped-ack r = grind (arith, common_steps)
 
 -- a value that is there
 some-of : {X : Type 0} (o : Option X) → IsSome o → (x : X) × (o ≡ Some x)
@@ -81,9 +80,6 @@ roomy-packet r b is =
       | inl long ↦ rw long (λ none. absurd (none-some 75 (sym none)))
       | inr fits ↦ rw (fits, buffer.1) (roomy-bytes r b buffer.0 is buffer.1 (ltb-false r.maximum (length b) fits))
     ]
-
-unreaped-packet : (r : TicketRow) (b : List ℕ) → is_unreaped_row (row_with_packet r b) ≡ is_unreaped_row r
-unreaped-packet r b = grind (arith, common_steps)
 
 -- the open rows that an echo finds
 abbrev pub sends-of : (rows : List TicketRow) (d o from : ℕ) (r : TicketRow) → All IsRoomy rows → o < 128 → position (is_open_row d o) rows ≡ Some from → r ≡ get_or rows from r → StandsAt rows from IsOpenOut
@@ -128,7 +124,7 @@ Agrees-pass past rows d o i from to r s agrees out into at_from at_to read_from 
     rw (sends.1.0, takes.1.0) echo
 
 -- an open row owes two places
-owed-open : (r : TicketRow) → r.status ≡ None → IsRoomy r → owed r ≡ 2
+pub owed-open : (r : TicketRow) → r.status ≡ None → IsRoomy r → owed r ≡ 2
 owed-open r unfinished roomy =
     let waiting : IsSome r.buffer = (roomy unfinished).0 in
     grind (arith, common_steps)
@@ -157,16 +153,21 @@ pass-owed rows from to r s y w sends takes read_from read_to now_from now_to =
     let there : owed (get_or (set rows from a) to s0) ≡ 2 = ap owed (get_or-set_other rows from to a s0 (λ same. apart (sym same)) ∙ get_or_from_slice_get rows to s0 s0 takes.1.0) ∙ also in
     (ap owed rr ∙ two, (ap owed ss ∙ also, omega (arith, ap (sum_by owed) is, first, second, here, there, ap owed ya, ap owed wb)))
 
--- a pass leaves which rows are reaped
-pub pass-unreaped : (rows : List TicketRow) (from to : ℕ) → StandsAt rows from IsOpenOut → StandsAt rows to IsOpenIn → unreaped_indices (passed rows from to) ≡ unreaped_indices rows
-pass-unreaped rows from to sends takes =
+-- the lists follow a pass, first the one row and then the other
+pub pass-listed : (rows : List TicketRow) (from to : ℕ) (y w : TicketRow) (lists between after : TicketLists) → StandsAt rows from IsOpenOut → StandsAt rows to IsOpenIn → y ≡ get_or (passed rows from to) from y → w ≡ get_or (passed rows from to) to w → AreListed rows lists → ((rs : List TicketRow) → AreListed rs lists → GoesOn rs from y → AreListed (set rs from y) between) → ((rs : List TicketRow) → AreListed rs between → GoesOn rs to w → AreListed (set rs to w) after) → AreListed (passed rows from to) after
+pass-listed rows from to y w lists between after sends takes now_from now_to listed first second =
     let apart = rows-apart rows from to sends takes in
     let r = sends.0 in
     let s = takes.0 in
     let a = row_with_ack r in
+    let b = row_with_packet s (row_taken r) in
     let inside : from < length rows = slice_get_within rows from r sends.1.0 in
     let within : to < length rows = slice_get_within rows to s takes.1.0 in
     let beyond : to < length (set rows from a) = omega (arith, within, length-set rows from a) in
-    let first = unreaped-set rows from r a inside (sym (get_or_from_slice_get rows from r r sends.1.0)) (unreaped-ack r) in
-    let beside : s ≡ get_or (set rows from a) to s = sym (get_or-set_other rows from to a s (λ same. apart (sym same)) ∙ get_or_from_slice_get rows to s s takes.1.0) in
-    rw (sends.1.0, takes.1.0) (unreaped-set (set rows from a) to s (row_with_packet s (row_taken r)) beyond beside (unreaped-packet s (row_taken r)) ∙ first)
+    let is : passed rows from to ≡ set (set rows from a) to b = rw (sends.1.0, takes.1.0) refl in
+    let ya : y ≡ a = read_back rows from to a b y apart inside (rw is at now_from) in
+    let wb : w ≡ b = (rw is at now_to) ∙ get_or-set_same (set rows from a) to b w beyond in
+    let there : slice_get (set rows from a) to ≡ Some s = slice_get-set_other rows from to a (λ same. apart (sym same)) ∙ takes.1.0 in
+    let once = subst (λ x. AreListed (set rows from x) between) ya (first rows listed (goes_on-ack rows from r y sends.1.0 sends.1.1.1.0 sends.1.1.1.1 ya)) in
+    let twice = subst (λ x. AreListed (set (set rows from a) to x) after) wb (second (set rows from a) once (goes_on-packet (set rows from a) to s w (row_taken r) there takes.1.1.1.0 takes.1.1.1.1 wb)) in
+    rw is twice

@@ -6,7 +6,7 @@ use Rattle.std.specs.List.{All, sum_by}
 use Rattle.std.proofs.lemmas.List.Sums.{sum_by-set, get_or-le-sum_by}
 use Rattle.std.proofs.lemmas.List.Quantifiers.{position-Some}
 use Rattle.std.proofs.lemmas.List.Elements.{All-set, All-get_or}
-use Rattle.std.proofs.lemmas.Option.{slice_get-get_or, get_or_from_slice_get, slice_get_within, slice_get_past, slice_get_read, same_Some}
+use Rattle.std.proofs.lemmas.Option.{slice_get-get_or, get_or_from_slice_get, slice_get_within, slice_get_past}
 use Rattle.std.proofs.lemmas.Grind.{common_steps}
 use Rattle.std.proofs.lemmas.Bool.{le-leb, lt-ltb, and_parts, eqb-true}
 use Rattle.usb_kernel.specs.declared.event.Event.{Event}
@@ -179,10 +179,6 @@ Agrees-reap past later rows i r next agrees a finished is so =
     let kept : next.status ≡ r.status = ap (λ (x : TicketRow). x.status) is in
     let done : IsSome next.status = rw kept finished in
     rw so (Agrees-set past (Reap i) rows i a.ticket next reap agrees a.at same (λ none. absurd (some_not_none next.status done none)) refl (λ u. refl))
-
--- two reads of one place
-pub same_read : {X : Type 0} (xs : List X) (i : ℕ) (a b : X) → i < length xs → a ≡ get_or xs i a → b ≡ get_or xs i b → a ≡ b
-same_read xs i a b inside first second = same_Some a b (sym (slice_get_read xs (length xs) i a refl inside first) ∙ slice_get_read xs (length xs) i b refl inside second)
 
 -- what is known of an open row, whatever the journal
 pub record OpenRow (rows : List TicketRow) (e i : ℕ) (r : TicketRow) : Type 0 where

@@ -1,9 +1,10 @@
 -- An unplug finishes every open ticket of its device.
-use Rattle.std.proofs.Common.{◌≡◌, ℕ, ◌+◌, suc, arith, List, [], ◌∷◌, map, Some, true, false, refl, ap, sym, ◌∙◌, slice_get, cond}
+use Rattle.std.proofs.Common.{◌≡◌, ℕ, ◌+◌, ◌<◌, suc, zero, arith, length, get_or, None, List, [], ◌∷◌, map, Some, true, false, refl, ap, sym, ◌∙◌, slice_get, cond}
 use Rattle.std.specs.Prelude.{◌==◌, ◌&&◌, is_none}
 use Rattle.std.specs.List.{slice_index_or}
 use Rattle.std.proofs.lemmas.List.Elements.{All-map}
 use Rattle.std.proofs.lemmas.Option.{none-some}
+use Rattle.std.proofs.lemmas.Bool.{eq-eqb}
 use Rattle.std.proofs.lemmas.Grind.{common_steps}
 use Rattle.usb_kernel.specs.declared.event.Event.{Event}
 use Rattle.usb_kernel.specs.declared.event.Event.TheVariants.{Unplug}
@@ -37,3 +38,13 @@ agrees_unplug past rows d agrees = record {
   bodies = agrees.bodies;
   roomy = All-map IsRoomy (row_unplugged d) rows (λ k r inside. IsRoomy-unplugged d (slice_index_or rows k r) (agrees.roomy k r inside));
 }
+
+-- an open row of the device
+pub unplugged-open : (d : ℕ) (r : TicketRow) → r.device ≡ d → r.status ≡ None → row_unplugged d r ≡ record r { status = Some 108 }
+unplugged-open d r same none = rw (eq-eqb r.device d same, none) refl
+
+-- there is a row at each place
+pub row_there : (rows : List TicketRow) (i : ℕ) → i < length rows → (r : TicketRow) × (slice_get rows i ≡ Some r) × (r ≡ get_or rows i r)
+row_there [] i inside = absurd (omega arith)
+row_there (r ∷ rows) zero inside = (r, refl, refl)
+row_there (r ∷ rows) (suc i) inside = row_there rows i (omega arith)

@@ -17,6 +17,8 @@ pub mod Info
 pub mod Rows
 pub mod Passing
 pub mod Unreaped
+pub mod TableState
+pub mod TableFacts
 pub mod KernelFacts
 pub mod Extends
 pub mod Ahead

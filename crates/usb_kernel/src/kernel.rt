@@ -21,17 +21,12 @@ ghost use Rattle.std.specs.Borrow.{sem};
 ghost use Rattle.std.specs.Io.BufRead.{Rests};
 ghost use Rattle.usb_kernel.specs.contracts.kernel.Kernel.{the_row};
 
-use crate::echo::give_echo;
 use crate::errno;
 use crate::event::Event;
 use crate::journal::put;
-use crate::slot::TicketRow;
 use crate::submission::{Done, Submission, Submitted, TicketInfo};
-use crate::table::{
-    add, add_refused, fail_oldest, first_number, forget_index, give_ack, give_packet, info_at,
-    push_index, take_finished, unplug_tickets,
-};
-use crate::timer::{add_deadline, deadline_of, discard_due, discard_ticket, forget_deadline};
+use crate::table::TicketTable;
+use crate::timer::{add_deadline, discard_due, discard_ticket, forget_deadline};
 use std::alloc::Global;
 use std::collections::BTreeSet;
 use std::marker::Model;
@@ -42,18 +37,17 @@ use usb_simulated::{
 };
 
 /// A simulated kernel. It keeps its events in a journal, and beside it the table of tickets that
-/// the journal means, and the indices of the rows that are not reaped, ascending.
+/// the journal means.
 #[derive(Drop)]
 pub struct Kernel {
     journal: Vec<Event>,
-    tickets: Vec<TicketRow>,
+    tickets: TicketTable,
     devices: Vec<DeviceState>,
     clock: u64,
     armed: Refusals,
     deadlines: BTreeSet<(u64, u64)>,
     spare: usize,
     owed: usize,
-    unreaped: Vec<usize>,
 }
 
 impl Model for Kernel {
@@ -114,14 +108,13 @@ impl Kernel {
         let devices = fresh_devices(alloc, devices)?;
         Ok(Kernel {
             journal: Vec::new(alloc),
-            tickets: Vec::new(alloc),
+            tickets: TicketTable::new(alloc),
             devices,
             clock: 0,
             armed: Refusals::new(alloc)?,
             deadlines: BTreeSet::new(alloc),
             spare: 0,
             owed: 0,
-            unreaped: Vec::new(alloc),
         })
     }
 
@@ -142,11 +135,10 @@ impl Kernel {
     }
 
     /// How many tickets are not reaped.
-    #[tactic(auto, using(crate::proofs::Lowest::unreaped_length))]
     pub fn unreaped(&self) -> usize
         ensures unreaped { result ≡ unreaped self.now.past }
     {
-        self.unreaped.len()
+        self.tickets.unreaped()
     }
 
     /// What is known of a ticket.
@@ -155,7 +147,7 @@ impl Kernel {
         requires below { ticket < length (tickets self.now.past) }
         ensures info { info_of self.now.past ticket ≡ Some result }
     {
-        info_at(&self.tickets, ticket)
+        self.tickets.info_at(ticket)
     }
 
     /// The least number of a ticket that is finished and not reaped.
@@ -163,7 +155,7 @@ impl Kernel {
     pub fn lowest_finished(&self) -> Option<u64>
         ensures lowest { result ≡ lowest self.now.past }
     {
-        first_number(&self.tickets, &self.unreaped)
+        self.tickets.lowest_finished()
     }
 
     /// Makes room for at least n steps.
@@ -240,7 +232,7 @@ impl Kernel {
         let Ok(()) = make_room(&mut self.journal, places, self.tickets.len()) else {
             return Err(s);
         };
-        if self.tickets.reserve(1).is_err() || self.unreaped.reserve(1).is_err() {
+        if self.tickets.reserve().is_err() {
             return Err(s);
         }
         let device = s.device;
@@ -252,8 +244,7 @@ impl Kernel {
         let Ok(()) = add_deadline(&mut self.deadlines, deadline, next) else {
             return Err(s);
         };
-        let ticket = add(&mut self.tickets, s);
-        push_index(&mut self.unreaped, ticket as usize);
+        let ticket = self.tickets.add(s);
         self.owed += 2;
         put(
             &mut self.journal,
@@ -288,14 +279,14 @@ impl Kernel {
         let Ok(()) = make_room(&mut self.journal, places, self.tickets.len()) else {
             return Err(s);
         };
-        if self.tickets.reserve(1).is_err() {
+        if self.tickets.reserve().is_err() {
             return Err(s);
         }
         let device = s.device;
         let endpoint = s.endpoint;
         let maximum = s.maximum;
         let capacity = s.buffer.capacity();
-        let done = add_refused(&mut self.tickets, s, errno);
+        let done = self.tickets.add_refused(s, errno);
         let ticket = done.ticket;
         put(
             &mut self.journal,
@@ -365,13 +356,7 @@ impl Kernel {
         ensures rest { self.new ≡ record self.old { past = self.new.past; spare = self.new.spare } }
     {
         self.spare -= 1;
-        if let Some(freed) = give_packet(
-            &mut self.tickets,
-            &self.unreaped,
-            device,
-            endpoint,
-            bytes.as_slice(),
-        ) {
+        if let Some(freed) = self.tickets.give_packet(device, endpoint, bytes.as_slice()) {
             self.owed -= freed;
             put(
                 &mut self.journal,
@@ -392,7 +377,7 @@ impl Kernel {
         ensures rest { self.new ≡ record self.old { past = self.new.past; spare = self.new.spare } }
     {
         self.spare -= 1;
-        if let Some(freed) = give_ack(&mut self.tickets, &self.unreaped, device, endpoint) {
+        if let Some(freed) = self.tickets.give_ack(device, endpoint) {
             self.owed -= freed;
             put(&mut self.journal, Event::Ack { device, endpoint });
         }
@@ -407,7 +392,7 @@ impl Kernel {
         ensures rest { self.new ≡ record self.old { past = self.new.past; spare = self.new.spare } }
     {
         self.spare -= 1;
-        if let Some(freed) = give_echo(&mut self.tickets, &self.unreaped, device, output, input) {
+        if let Some(freed) = self.tickets.give_echo(device, output, input) {
             self.owed -= freed;
             put(
                 &mut self.journal,
@@ -429,7 +414,7 @@ impl Kernel {
         ensures rest { self.new ≡ record self.old { past = self.new.past; spare = self.new.spare } }
     {
         self.spare -= 1;
-        if fail_oldest(&mut self.tickets, &self.unreaped, device, endpoint, errno) {
+        if self.tickets.fail_oldest(device, endpoint, errno) {
             self.owed -= 1;
             put(
                 &mut self.journal,
@@ -453,7 +438,7 @@ impl Kernel {
     {
         self.spare -= 1;
         if unplug_device(&mut self.devices, device) {
-            self.owed -= unplug_tickets(&mut self.tickets, device);
+            self.owed -= self.tickets.unplug_tickets(device);
             put(&mut self.journal, Event::Unplug { device });
         }
     }
@@ -549,9 +534,8 @@ impl Kernel {
         ensures past { self.new.past ≡ after_reap self.old.past ticket }
         ensures rest { self.new ≡ record self.old { past = self.new.past } }
     {
-        let done = take_finished(&mut self.tickets, ticket)?;
-        forget_index(&mut self.unreaped, ticket);
-        let deadline = deadline_of(&self.tickets, ticket);
+        let done = self.tickets.take_finished(ticket)?;
+        let deadline = self.tickets.deadline_of(ticket);
         forget_deadline(&mut self.deadlines, deadline, ticket);
         self.owed -= 1;
         put(&mut self.journal, Event::Reap { ticket });

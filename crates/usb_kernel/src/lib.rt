@@ -7,6 +7,7 @@ mod event;
 mod journal;
 mod kernel;
 mod laws;
+mod lists;
 mod slot;
 mod submission;
 mod table;

@@ -4,7 +4,7 @@ ghost use Rattle.std.specs.Prelude.{◌≡◌, ◌+◌, ◌<◌, ◌≤◌, IsSo
 ghost use Rattle.usb_kernel.specs.Fates.{fresh, refused_fate};
 ghost use Rattle.usb_kernel.specs.Submissions.{body_of, ticket_of, refused_of, IsWhole};
 ghost use Rattle.usb_kernel.specs.Completions.{buffer_for, refused_done};
-ghost use Rattle.usb_kernel.specs.Rows.{IsRoomy, is_open_row, is_reapable_row, is_unreaped_row, row_info, owed, row_with_packet, row_with_ack, row_unplugged, row_done, row_of};
+ghost use Rattle.usb_kernel.specs.Rows.{IsRoomy, is_reapable_row, row_info, owed, row_with_packet, row_with_ack, row_done, row_of};
 
 use crate::errno;
 use crate::submission::{Done, Submission, TicketInfo};
@@ -104,13 +104,6 @@ impl TicketRow {
         self.status.is_some() && self.buffer.is_some()
     }
 
-    /// Whether it is an open ticket of the endpoint.
-    pub(crate) fn is_open_at(&self, device: u8, endpoint: u8) -> bool
-        ensures open_at { result ≡ is_open_row device endpoint self.now }
-    {
-        self.device == device && self.endpoint == endpoint && self.status.is_none()
-    }
-
     /// Gives the buffer away.
     pub(crate) fn take_done(&mut self, ticket: u64) -> Done
         requires finished { IsSome self.old.status }
@@ -136,7 +129,6 @@ impl TicketRow {
         requires roomy { IsRoomy self.old }
         ensures row { self.new ≡ row_with_packet self.old bytes.now }
         ensures roomy { IsRoomy self.new }
-        ensures unreaped { is_unreaped_row self.new ≡ is_unreaped_row self.old }
     {
         if bytes.len() > self.maximum {
             self.status = Some(errno::OVERFLOW);
@@ -159,7 +151,6 @@ impl TicketRow {
         requires roomy { IsRoomy self.old }
         ensures row { self.new ≡ row_with_ack self.old }
         ensures roomy { IsRoomy self.new }
-        ensures unreaped { is_unreaped_row self.new ≡ is_unreaped_row self.old }
     {
         if let Some(buffer) = &self.buffer {
             let len = buffer.len();
@@ -176,23 +167,8 @@ impl TicketRow {
         requires roomy { IsRoomy self.old }
         ensures row { self.new ≡ record self.old { status = Some errno } }
         ensures places { owed self.new + 1 ≡ owed self.old }
-        ensures unreaped { is_unreaped_row self.new ≡ is_unreaped_row self.old }
     {
         self.status = Some(errno);
-    }
-
-    /// Its device is gone, where that is the one. It answers how many places that freed.
-    pub(crate) fn unplug(&mut self, device: u8) -> usize
-        ensures row { self.new ≡ row_unplugged device self.old }
-        ensures places { owed self.new + result ≡ owed self.old }
-        ensures few { result ≤ 1 }
-        ensures unreaped { is_unreaped_row self.new ≡ is_unreaped_row self.old }
-    {
-        let before = self.places();
-        if self.device == device && self.status.is_none() {
-            self.status = Some(errno::SHUTDOWN);
-        }
-        before - self.places()
     }
 
     /// What is known of it.

@@ -1,7 +1,6 @@
 //! The deadlines of tickets, in their order, and the turn of the timer.
 
-ghost use Rattle.std.specs.Prelude.{◌≡◌, ℕ, ◌+◌, ◌^◌, ◌<◌, ◌≤◌, ◌∷◌, [], List, length, map, filter, reverse, false, sum_by, vec_len, vec_capacity, slice_get, IfSome, IfNone, OnOk, OnErr};
-ghost use Rattle.std.specs.Option.{option_map_or, option_and_then};
+ghost use Rattle.std.specs.Prelude.{◌≡◌, ℕ, ◌+◌, ◌≤◌, ◌∷◌, [], List, length, filter, reverse, false, sum_by, vec_len, vec_capacity, IfSome, IfNone, OnOk, OnErr};
 ghost use Rattle.usb_kernel.specs.declared.event.Event.{Event};
 ghost use Rattle.usb_kernel.specs.declared.submission.Submission.{Submission};
 ghost use Rattle.usb_kernel.specs.Tickets.{tickets};
@@ -9,14 +8,12 @@ ghost use Rattle.usb_kernel.specs.Submissions.{submit_event};
 ghost use Rattle.usb_kernel.specs.Legal.{IsLawful};
 ghost use Rattle.usb_kernel.specs.Steps.{after_discard};
 ghost use Rattle.usb_kernel.specs.Rows.{Agrees, owed};
-ghost use Rattle.usb_kernel.specs.Unreaped.{unreaped_indices};
-ghost use Rattle.usb_kernel.specs.Timers.{with_deadline, is_open_entry, is_up, timer_turned};
+ghost use Rattle.usb_kernel.specs.Timers.{is_open_entry, is_up, timer_turned};
 ghost use Rattle.usb_kernel.specs.Deadlines.{KeepsDeadlines};
 
 use crate::event::Event;
 use crate::journal::put;
-use crate::slot::TicketRow;
-use crate::table::drop_open;
+use crate::table::TicketTable;
 use std::collections::BTreeSet;
 use usb_desc::NoMemory;
 
@@ -74,22 +71,21 @@ fn take_due(deadlines: &mut BTreeSet<(u64, u64)>, clock: u64) -> Option<u64>
 /// Discards a ticket, where it is not finished. It answers how many places that freed.
 pub(crate) fn discard_ticket(
     journal: &mut Vec<Event>,
-    rows: &mut Vec<TicketRow>,
+    table: &mut TicketTable,
     ticket: u64,
 ) -> usize
-    requires agrees { Agrees (reverse journal.old.items) rows.old.items }
-    requires room { vec_len journal.old + sum_by owed rows.old.items ≤ vec_capacity journal.old }
+    requires agrees { Agrees (reverse journal.old.items) table.old.rows }
+    requires room { vec_len journal.old + sum_by owed table.old.rows ≤ vec_capacity journal.old }
     ensures journal { reverse journal.new.items ≡ after_discard (reverse journal.old.items) ticket }
     ensures lawful { IsLawful (reverse journal.old.items) → IsLawful (reverse journal.new.items) }
-    ensures agrees { Agrees (reverse journal.new.items) rows.new.items }
+    ensures agrees { Agrees (reverse journal.new.items) table.new.rows }
     ensures kept { (ds : List (ℕ × ℕ)) → KeepsDeadlines (reverse journal.old.items) ds
         → KeepsDeadlines (reverse journal.new.items) ds }
-    ensures places { sum_by owed rows.new.items + result ≡ sum_by owed rows.old.items }
+    ensures places { sum_by owed table.new.rows + result ≡ sum_by owed table.old.rows }
     ensures len { vec_len journal.new ≡ vec_len journal.old + result }
     ensures capacity { vec_capacity journal.old ≤ vec_capacity journal.new }
-    ensures unreaped { unreaped_indices rows.new.items ≡ unreaped_indices rows.old.items }
 {
-    if !drop_open(rows, ticket) {
+    if !table.drop_open(ticket) {
         return 0;
     }
     put(journal, Event::Discard { ticket });
@@ -100,36 +96,24 @@ pub(crate) fn discard_ticket(
 /// most the clock. It answers how many places that freed.
 pub(crate) fn discard_due(
     journal: &mut Vec<Event>,
-    rows: &mut Vec<TicketRow>,
+    table: &mut TicketTable,
     deadlines: &mut BTreeSet<(u64, u64)>,
     clock: u64,
 ) -> usize
-    requires agrees { Agrees (reverse journal.old.items) rows.old.items }
+    requires agrees { Agrees (reverse journal.old.items) table.old.rows }
     requires kept { KeepsDeadlines (reverse journal.old.items) deadlines.old.keys }
-    requires room { vec_len journal.old + sum_by owed rows.old.items ≤ vec_capacity journal.old }
+    requires room { vec_len journal.old + sum_by owed table.old.rows ≤ vec_capacity journal.old }
     ensures journal { reverse journal.new.items ≡ timer_turned clock (reverse journal.old.items) }
     ensures lawful { IsLawful (reverse journal.old.items) → IsLawful (reverse journal.new.items) }
-    ensures agrees { Agrees (reverse journal.new.items) rows.new.items }
+    ensures agrees { Agrees (reverse journal.new.items) table.new.rows }
     ensures kept { KeepsDeadlines (reverse journal.new.items) deadlines.new.keys }
-    ensures places { sum_by owed rows.new.items + result ≡ sum_by owed rows.old.items }
+    ensures places { sum_by owed table.new.rows + result ≡ sum_by owed table.old.rows }
     ensures len { vec_len journal.new ≡ vec_len journal.old + result }
     ensures capacity { vec_capacity journal.old ≤ vec_capacity journal.new }
-    ensures unreaped { unreaped_indices rows.new.items ≡ unreaped_indices rows.old.items }
 {
     let mut freed = 0;
     'due: while let Some(ticket) = take_due(deadlines, clock) {
-        freed += discard_ticket(journal, rows, ticket);
+        freed += discard_ticket(journal, table, ticket);
     }
     freed
-}
-
-/// The deadline of a ticket, if it has one.
-pub(crate) fn deadline_of(rows: &[TicketRow], ticket: u64) -> Option<u64>
-    ensures deadline { result
-        ≡ option_and_then (λ (s : TicketRow). s.deadline) (slice_get rows.now ticket) }
-{
-    if ticket >= rows.len() as u64 {
-        return None;
-    }
-    rows[ticket as usize].deadline
 }

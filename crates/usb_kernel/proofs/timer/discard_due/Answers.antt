@@ -19,7 +19,6 @@ due-preserved c =
       places = omega (arith, c.discard_ticket-freed.ensures.places, inv.places);
       len = omega (arith, c.discard_ticket-freed.ensures.len, inv.len);
       capacity = omega (arith, c.discard_ticket-freed.ensures.capacity, inv.capacity);
-      unreaped = c.discard_ticket-freed.ensures.unreaped ∙ inv.unreaped;
     }
 
 pub returns-clause-journal : goal.returns-clause-journal

@@ -1,4 +1,4 @@
-use Rattle.std.proofs.Common.{arith, reverse, ◌∙◌, sym}
+use Rattle.std.proofs.Common.{arith, reverse}
 use Rattle.usb_kernel.proofs.Completions.{tickets-discard}
 use Rattle.usb_kernel.proofs.kernel.Kernel.discard.Goals as goal
 
@@ -9,7 +9,6 @@ invariant_of-self c =
     record {
       lawful = c.discard_ticket.ensures.lawful inv.lawful;
       agrees = c.discard_ticket.ensures.agrees;
-      listed = inv.listed ∙ sym c.discard_ticket.ensures.unreaped;
       timed = c.discard_ticket.ensures.kept c.self.inside.deadlines.keys inv.timed;
       owes = omega (arith, c.discard_ticket.ensures.places, inv.owes);
       space = omega (arith, c.discard_ticket.ensures.places, c.discard_ticket.ensures.len, c.discard_ticket.ensures.capacity, inv.owes, inv.space);

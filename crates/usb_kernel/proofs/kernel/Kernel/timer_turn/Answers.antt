@@ -1,4 +1,4 @@
-use Rattle.std.proofs.Common.{arith, reverse, ◌∙◌, sym}
+use Rattle.std.proofs.Common.{arith, reverse}
 use Rattle.usb_kernel.proofs.Completions.{tickets-turned}
 use Rattle.usb_kernel.proofs.kernel.Kernel.timer_turn.Goals as goal
 
@@ -9,7 +9,6 @@ invariant_of-self c =
     record {
       lawful = c.discard_due.ensures.lawful inv.lawful;
       agrees = c.discard_due.ensures.agrees;
-      listed = inv.listed ∙ sym c.discard_due.ensures.unreaped;
       timed = c.discard_due.ensures.kept;
       owes = omega (arith, c.discard_due.ensures.places, inv.owes);
       space = omega (arith, c.discard_due.ensures.places, c.discard_due.ensures.len, c.discard_due.ensures.capacity, inv.owes, inv.space);
