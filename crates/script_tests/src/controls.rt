@@ -1,6 +1,7 @@
 //! Control transfers: each form, its bounds and its own steps.
 
-use crate::scripts::{count_of, expect_malformed, expect_read};
+use crate::scripts::{expect_count, expect_malformed, expect_read};
+use std::alloc::{AllocError, Global};
 use std::process::Abort;
 use std::test::Fail;
 use usb_parse::{SessionError, parse_script};
@@ -134,19 +135,22 @@ fn expect_setup(rt: &impl Abort, item: &Item, want: ([u8; 8], bool)) {
     assert_eq!(rt; setup_of(item), Some(want));
 }
 
+fn expect_setups(rt: &impl Abort, items: &[Item]) {
+    assert_eq!(rt; items.len(), 2);
+    expect_setup(rt, &items[0], ([0xa2, 0x30, 2, 1, 4, 3, 5, 6], true));
+    expect_setup(
+        rt,
+        &items[1],
+        ([0x43, 0x32, 0xb, 0xa, 0xd, 0xc, 3, 0], false),
+    );
+}
+
 #[test]
 fn hands_the_words_of_a_setup_packet_on(rt: HostRuntime) -> Result<(), Fail> {
     let text =
         b"ctlin i0 class endpoint 30 0102 0304 1541 0\nfout f0 d0 vendor other 32 0a0b 0c0d 010203 0\n";
     let script = parse_script(rt.alloc(), text)?;
-    let items = script.items();
-    assert_eq!(rt; items.len(), 2);
-    expect_setup(&rt, &items[0], ([0xa2, 0x30, 2, 1, 4, 3, 5, 6], true));
-    expect_setup(
-        &rt,
-        &items[1],
-        ([0x43, 0x32, 0xb, 0xa, 0xd, 0xc, 3, 0], false),
-    );
+    expect_setups(&rt, script.items());
     Ok(())
 }
 
@@ -167,18 +171,24 @@ fn hands_the_index_of_a_string_on(rt: HostRuntime) -> Result<(), Fail> {
     Ok(())
 }
 
+/// A line that sends data of so many digits.
+fn control_data(alloc: Global, digits: u32) -> Result<Vec<u8>, AllocError> {
+    let head = b"ctlout d0 vendor device 30 0000 0000 ";
+    let mut script = Vec::from_slice(alloc, head)?;
+    script.resize(head.len() + digits as usize, b'7')?;
+    script.extend_from_slice(b" 0")?;
+    Ok(script)
+}
+
 /// Data of 65535 bytes, and of one byte more.
 #[test]
 fn takes_control_data_up_to_65535_bytes(rt: HostRuntime) -> Result<(), Fail> {
-    let head = b"ctlout d0 vendor device 30 0000 0000 ";
     for (digits, want) in [
         (131070, Ok(1)),
         (131072, Err(SessionError::Malformed { line: 1 })),
     ] {
-        let mut script = Vec::from_slice(rt.alloc(), head)?;
-        script.resize(head.len() + digits, b'7')?;
-        script.extend_from_slice(b" 0")?;
-        assert_eq!(rt; count_of(rt.alloc(), script.as_slice()), want);
+        let script = control_data(rt.alloc(), digits)?;
+        expect_count(&rt, rt.alloc(), script.as_slice(), want);
     }
     Ok(())
 }

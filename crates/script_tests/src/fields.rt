@@ -43,14 +43,19 @@ fn names_lengths_and_timeouts_end_at_their_limits(rt: HostRuntime) {
     expect(&rt, Some(Timeout::max().nanoseconds()), Some(u64::MAX));
 }
 
+/// Data of these bytes, which are given back.
+fn given_back(rt: &impl Abort, bytes: Vec<u8>) -> Vec<u8> {
+    match Data::from_vec(bytes) {
+        Some(data) => data.into_bytes().into_vec(),
+        None => panic!(rt; "65536 bytes"),
+    }
+}
+
 #[test]
 fn data_ends_at_65536_bytes(rt: HostRuntime) -> Result<(), Fail> {
     let mut bytes = Vec::new(rt.alloc());
     bytes.resize(65536, 7)?;
-    let Some(data) = Data::from_vec(bytes) else {
-        panic!(rt; "65536 bytes");
-    };
-    let mut bytes = data.into_bytes().into_vec();
+    let mut bytes = given_back(&rt, bytes);
     assert_eq!(rt; bytes.len(), 65536);
     bytes.push(7)?;
     assert!(rt; Data::from_vec(bytes).is_none());
@@ -79,11 +84,18 @@ fn each_kind_has_its_type_and_direction(rt: HostRuntime) {
     }
 }
 
-fn steps_of(item: Option<Item>) -> Option<usize> {
+fn steps_of(item: Item) -> Option<usize> {
     match item {
-        Some(Item::Steps(steps)) => Some(steps.into_vec().len()),
-        _ => None,
+        Item::Steps(steps) => Some(steps.into_vec().len()),
+        other => {
+            drop(other);
+            None
+        }
     }
+}
+
+fn last_steps(items: Vec<Item>) -> Option<usize> {
+    steps_of(items.into_iter().last()?)
 }
 
 #[test]
@@ -91,6 +103,6 @@ fn a_script_hands_its_items_over(rt: HostRuntime) -> Result<(), Fail> {
     let script = parse_script(rt.alloc(), b"now\n! reap ; timer\n")?;
     let items = script.into_items();
     assert_eq!(rt; items.len(), 2);
-    assert_eq!(rt; steps_of(items.into_iter().last()), Some(2));
+    assert_eq!(rt; last_steps(items), Some(2));
     Ok(())
 }

@@ -1,6 +1,7 @@
 //! Calls on readers: each form, its bounds and its own steps.
 
-use crate::scripts::{expect_malformed, expect_read};
+use crate::scripts::{expect_call, expect_malformed, expect_places, expect_read, only_item};
+use std::process::Abort;
 use std::test::Fail;
 use usb_parse::parse_script;
 use usb_script::{Framing, Item, ReadLength};
@@ -165,14 +166,17 @@ const FRAMED: [(&str, (&str, Framing, u8, u32), usize); 12] = [
     ("sconsume r16 0", ("consume", Framing::UntilShort, 16, 0), 0),
 ];
 
+fn expect_framed(rt: &impl Abort, item: &Item, want: (&str, Framing, u8, u32), text: &str) {
+    assert_eq!(rt; framed_of(item), Some(want), "{text}");
+}
+
 #[test]
 fn tells_calls_that_stop_at_the_ends_of_messages(rt: HostRuntime) -> Result<(), Fail> {
-    for (text, want, steps) in FRAMED {
+    for (text, want, steps) in &FRAMED {
         let script = parse_script(rt.alloc(), text.as_bytes())?;
-        let items = script.items();
-        assert_eq!(rt; items.len(), 1, "{text}");
-        assert_eq!(rt; framed_of(&items[0]), Some(want), "{text}");
-        assert_eq!(rt; items[0].place_count(), steps, "{text}");
+        let item = only_item(&rt, script.items(), text);
+        expect_framed(&rt, item, *want, text);
+        expect_places(&rt, item, *steps, text);
     }
     Ok(())
 }
@@ -192,10 +196,20 @@ fn setting_of(item: &Item) -> Option<(&'static str, u8, u64)> {
         Item::SetReadTimeout { reader, timeout } => {
             Some(("timeout", reader.number(), timeout.nanoseconds()))
         }
-        Item::CancelReader { reader } => Some(("cancel", reader.number(), 0)),
-        Item::CloseReader { reader } => Some(("close", reader.number(), 0)),
-        Item::IsEnd { reader } => Some(("is end", reader.number(), 0)),
-        Item::ConsumeEnd { reader } => Some(("consume end", reader.number(), 0)),
+        _ => {
+            let (call, reader) = named_of(item)?;
+            Some((call, reader, 0))
+        }
+    }
+}
+
+/// What is called with a reader alone, and the reader.
+fn named_of(item: &Item) -> Option<(&'static str, u8)> {
+    match item {
+        Item::CancelReader { reader } => Some(("cancel", reader.number())),
+        Item::CloseReader { reader } => Some(("close", reader.number())),
+        Item::IsEnd { reader } => Some(("is end", reader.number())),
+        Item::ConsumeEnd { reader } => Some(("consume end", reader.number())),
         _ => None,
     }
 }
@@ -212,14 +226,17 @@ const SETTINGS: [(&str, (&str, u8, u64)); 9] = [
     ("endmsg r14", ("consume end", 14, 0)),
 ];
 
+fn expect_setting(rt: &impl Abort, item: &Item, want: (&str, u8, u64), text: &str) {
+    assert_eq!(rt; setting_of(item), Some(want), "{text}");
+}
+
 #[test]
 fn hands_the_fields_of_a_reader_on(rt: HostRuntime) -> Result<(), Fail> {
     for (text, want) in SETTINGS {
         let script = parse_script(rt.alloc(), text.as_bytes())?;
-        let items = script.items();
-        assert_eq!(rt; items.len(), 1, "{text}");
-        assert_eq!(rt; setting_of(&items[0]), Some(want), "{text}");
-        assert!(rt; items[0].is_call() && items[0].place_count() == 0, "{text}");
+        let item = only_item(&rt, script.items(), text);
+        expect_call(&rt, item, 0, text);
+        expect_setting(&rt, item, want, text);
     }
     Ok(())
 }

@@ -12,6 +12,22 @@ pub fn count_of(alloc: Global, bytes: &[u8]) -> Result<usize, SessionError> {
     Ok(script.items().len())
 }
 
+/// The only item of a script.
+pub fn only_item<'a>(rt: &impl Abort, items: &'a [Item], text: &str) -> &'a Item {
+    assert_eq!(rt; items.len(), 1, "{text}");
+    &items[0]
+}
+
+/// Compares that an item is a call of so many steps.
+pub fn expect_call(rt: &impl Abort, item: &Item, steps: usize, text: &str) {
+    assert!(rt; item.is_call() && item.place_count() == steps, "{text}");
+}
+
+/// Compares how many steps an item has.
+pub fn expect_places(rt: &impl Abort, item: &Item, steps: usize, text: &str) {
+    assert_eq!(rt; item.place_count(), steps, "{text}");
+}
+
 const FIRST_PACKET: &str =
     "device k0 1 6 3 1 1201000200000040aaaabbbb0001000000010902200001010080320904000002ff0000000705810240000007050202400000\nopen d0 1 6\nclaim d0 0 i0\nendpoint e0 i0 81 bulk-in\nsubmitin e0 64\npoll e0\n! pkt k0 81 010203\npoll e0\n! reap 0\npoll e0\n";
 
@@ -93,7 +109,13 @@ fn counts_items_or_names_the_line(rt: HostRuntime) {
     expect_malformed(&rt, rt.alloc(), &MALFORMED);
 }
 
-fn expect_count(rt: &impl Abort, alloc: Global, text: &[u8], want: Result<usize, SessionError>) {
+/// A script has so many items, or is refused for this reason.
+pub fn expect_count(
+    rt: &impl Abort,
+    alloc: Global,
+    text: &[u8],
+    want: Result<usize, SessionError>,
+) {
     assert_eq!(rt; count_of(alloc, text), want);
 }
 
@@ -145,15 +167,20 @@ fn takes_scripts_and_byte_words_up_to_their_limits(rt: HostRuntime) -> Result<()
 const EACH_LINE: &str =
     "device k1 2 3 4 5 0aFf\ndriver k6 7\nopen d6 7 8\ndevdesc d8\ndescriptors d9\nclaim d9 10 i11\nendpoint e12 i13 8e bulk-in\nsubmitin e15 16\npoll e17\n! pkt k18 93 14 ; reap 15\nnow\nsubmitout e18 19\npending e20\nwait e21 22 : reap\nxferin e23 24 25 : unplug k26 ; clock 27\nxferout e28 29 max\ncancel e30\nclose e31\nclone d32 d33\nclose d34\nactive d35\nspeed d36\nsetconfig d37 38\nreset d39\ndetach d40 41\nattach d42 43\ndetachclaim d44 45 i46\nclone i47 i48\nclose i49\nalt i50 51\ngetalt i52\nifdesc i53\nrelease i54\nhalt e55\n";
 
+/// Compares whether an item is a setup line, and whether it is a call.
+fn expect_kind(rt: &impl Abort, item: &Item, index: usize) {
+    assert!(rt; item.is_setup() == (index < 2), "item {index}");
+    assert!(rt;
+        item.is_call() == (index >= 2 && index != 9),
+        "item {index}"
+    );
+}
+
 /// Compares which items are setup lines, and which are calls.
 fn expect_kinds(rt: &impl Abort, items: &[Item]) {
     assert_eq!(rt; items.len(), 34);
     for (index, item) in items.iter().enumerate() {
-        let kind = (item.is_setup(), item.is_call());
-        assert!(rt;
-            kind == (index < 2, index >= 2 && index != 9),
-            "item {index}"
-        );
+        expect_kind(rt, item, index);
     }
 }
 

@@ -1,6 +1,7 @@
 //! Calls on writers: each form, its bounds and its own steps.
 
-use crate::scripts::{expect_malformed, expect_read};
+use crate::scripts::{expect_call, expect_malformed, expect_read, only_item};
+use std::process::Abort;
 use std::test::Fail;
 use usb_parse::parse_script;
 use usb_script::Item;
@@ -124,12 +125,22 @@ fn written_of(item: &Item) -> Option<(&'static str, u8, &[u8])> {
         Item::PollWrite { writer, bytes } => {
             Some(("poll write", writer.number(), bytes.as_slice()))
         }
-        Item::Submit { writer } => Some(("submit", writer.number(), b"")),
-        Item::SubmitEnd { writer } => Some(("submit end", writer.number(), b"")),
-        Item::Flush { writer, .. } => Some(("flush", writer.number(), b"")),
-        Item::PollFlush { writer } => Some(("poll flush", writer.number(), b"")),
-        Item::FlushEnd { writer, .. } => Some(("flush end", writer.number(), b"")),
-        Item::PollFlushEnd { writer } => Some(("poll flush end", writer.number(), b"")),
+        _ => {
+            let (call, writer) = sent_of(item)?;
+            Some((call, writer, b""))
+        }
+    }
+}
+
+/// What is called that may submit and has no bytes, and its writer.
+fn sent_of(item: &Item) -> Option<(&'static str, u8)> {
+    match item {
+        Item::Submit { writer } => Some(("submit", writer.number())),
+        Item::SubmitEnd { writer } => Some(("submit end", writer.number())),
+        Item::Flush { writer, .. } => Some(("flush", writer.number())),
+        Item::PollFlush { writer } => Some(("poll flush", writer.number())),
+        Item::FlushEnd { writer, .. } => Some(("flush end", writer.number())),
+        Item::PollFlushEnd { writer } => Some(("poll flush end", writer.number())),
         _ => None,
     }
 }
@@ -158,17 +169,17 @@ const WRITTEN: [(&str, (&str, u8, &[u8]), usize); 12] = [
     ("pollflushend w17", ("poll flush end", 17, &[]), 0),
 ];
 
+fn expect_written(rt: &impl Abort, item: &Item, want: (&str, u8, &[u8]), text: &str) {
+    assert_eq!(rt; written_of(item), Some(want), "{text}");
+}
+
 #[test]
 fn hands_the_bytes_of_a_write_on_and_counts_steps(rt: HostRuntime) -> Result<(), Fail> {
-    for (text, want, steps) in WRITTEN {
+    for (text, want, steps) in &WRITTEN {
         let script = parse_script(rt.alloc(), text.as_bytes())?;
-        let items = script.items();
-        assert_eq!(rt; items.len(), 1, "{text}");
-        assert_eq!(rt; written_of(&items[0]), Some(want), "{text}");
-        assert!(rt;
-            items[0].is_call() && items[0].place_count() == steps,
-            "{text}"
-        );
+        let item = only_item(&rt, script.items(), text);
+        expect_call(&rt, item, *steps, text);
+        expect_written(&rt, item, *want, text);
     }
     Ok(())
 }
@@ -202,14 +213,17 @@ const SETTINGS: [(&str, (&str, u8, u64)); 6] = [
     ("close w11", ("close", 11, 0)),
 ];
 
+fn expect_setting(rt: &impl Abort, item: &Item, want: (&str, u8, u64), text: &str) {
+    assert_eq!(rt; setting_of(item), Some(want), "{text}");
+}
+
 #[test]
 fn hands_the_fields_of_a_writer_on(rt: HostRuntime) -> Result<(), Fail> {
     for (text, want) in SETTINGS {
         let script = parse_script(rt.alloc(), text.as_bytes())?;
-        let items = script.items();
-        assert_eq!(rt; items.len(), 1, "{text}");
-        assert_eq!(rt; setting_of(&items[0]), Some(want), "{text}");
-        assert!(rt; items[0].is_call() && items[0].place_count() == 0, "{text}");
+        let item = only_item(&rt, script.items(), text);
+        expect_call(&rt, item, 0, text);
+        expect_setting(&rt, item, want, text);
     }
     Ok(())
 }

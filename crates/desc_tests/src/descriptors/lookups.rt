@@ -4,8 +4,9 @@ use std::alloc::Global;
 use std::fmt::Debug;
 use std::test::Fail;
 use usb_desc::{
-    Descriptor, DeviceDescriptor, Direction, EndpointBitSet, Fail as OwnFail, Languages, NoMemory,
-    StringError, TransferType, concatenated, find_configuration, language_id,
+    ConfigurationDescriptor, Descriptor, DeviceDescriptor, Direction, EndpointBitSet,
+    EndpointDescriptor, Fail as OwnFail, Languages, NoMemory, StringError, TransferType,
+    concatenated, find_configuration, language_id,
 };
 
 // Configuration 1 has the interface 0 with the settings 0 and 1; configuration 5 has nothing.
@@ -26,22 +27,30 @@ fn finds_configurations(bytes: &[u8]) -> bool {
         && !last.has_interface(0)
 }
 
+/// Whether there is the interface 0 alone, without a setting 2.
+fn has_interfaces(configuration: &ConfigurationDescriptor) -> bool {
+    configuration.has_interface(0)
+        && !configuration.has_interface(1)
+        && configuration.find_alt_setting(0, 2).is_none()
+}
+
 fn finds_settings(bytes: &[u8]) -> Option<bool> {
     let first = find_configuration(bytes, 1)?;
     let second = first.find_alt_setting(0, 1)?;
-    let setting = first.find_alt_setting(0, 0)?;
+    Some(has_interfaces(&first) && second.find_endpoint(0x81).is_none())
+}
+
+fn is_interrupt_in(endpoint: &EndpointDescriptor) -> bool {
+    endpoint.max_packet_size() == 8
+        && endpoint.interval() == 10
+        && endpoint.direction() == Direction::In
+        && endpoint.transfer_type() == TransferType::Interrupt
+}
+
+fn finds_endpoint(bytes: &[u8]) -> Option<bool> {
+    let setting = find_configuration(bytes, 1)?.find_alt_setting(0, 0)?;
     let endpoint = setting.find_endpoint(0x81)?;
-    Some(
-        first.has_interface(0)
-            && !first.has_interface(1)
-            && first.find_alt_setting(0, 2).is_none()
-            && second.find_endpoint(0x81).is_none()
-            && setting.find_endpoint(0x01).is_none()
-            && endpoint.max_packet_size() == 8
-            && endpoint.interval() == 10
-            && endpoint.direction() == Direction::In
-            && endpoint.transfer_type() == TransferType::Interrupt,
-    )
+    Some(setting.find_endpoint(0x01).is_none() && is_interrupt_in(&endpoint))
 }
 
 #[test]
@@ -49,6 +58,7 @@ fn look_ups_find_the_first_that_fits(rt: HostRuntime) -> Result<(), Fail> {
     let bytes = hex::decode(rt.alloc(), BYTES)?;
     assert!(rt; finds_configurations(&bytes));
     assert!(rt; matches!(finds_settings(&bytes), Some(true)));
+    assert!(rt; matches!(finds_endpoint(&bytes), Some(true)));
     Ok(())
 }
 
