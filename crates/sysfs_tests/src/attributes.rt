@@ -90,11 +90,16 @@ fn shows_error(alloc: Global, error: &SysfsError, shown: &str) -> Result<bool, A
     Ok(error.to_string(alloc)?.as_str() == shown)
 }
 
+/// The refusal of a folder that is named with a slash at its end. The tree is owned here alone.
+fn slash_refusal(alloc: Global) -> Result<SysfsError, Fail> {
+    let mut tree = AttrTree::new(alloc);
+    tree.attr("/d", "busnum", b"1")?;
+    refusal(alloc, &tree, "/d/")
+}
+
 #[test]
 fn a_path_keeps_the_slash_at_its_end(rt: HostRuntime) -> Result<(), Fail> {
-    let mut tree = AttrTree::new(rt.alloc());
-    tree.attr("/d", "busnum", b"1")?;
-    let error = refusal(rt.alloc(), &tree, "/d/")?;
+    let error = slash_refusal(rt.alloc())?;
     assert!(rt; shows_error(rt.alloc(), &error, "/d//busnum io 2")?);
     Ok(())
 }
