@@ -210,6 +210,39 @@ fn settle<R: Wait>(
     unreachable!()
 }
 
+/// The two threads of a run: the event loop, and its caller. Answers the handler's seat with the loop's tally, and the caller's tally
+/// with its receipts.
+fn run_both<R: Threads + Wait + Sync, G: Gate + Send>(
+    rt: &R,
+    alloc: Global,
+    n: u32,
+    kernel: &LiveKernel,
+    gate: G,
+    seen: &Seen,
+    patience: Option<u32>,
+) -> Result<((HandlerSeat, Tally), (Tally, Vec<Receipt>)), NoMemory>
+    ensures receipts { IfOk result (λ r. length r.1.1.items ≡ r.1.0.taken) }
+    ensures patient { IfOk result
+        (λ r. patience ≡ None → (r.1.0.submitted ≡ n) × (r.1.0.taken ≡ n)) }
+{
+    let (owner, handler) = Row::new(alloc)?;
+    let notify = Notify::new();
+    let stop = Seen::new();
+    let (looped, called) = join(
+        rt,
+        || {
+            let mut gate = StopGate::new(&stop, gate);
+            event_loop(rt, kernel, handler, &notify, &mut gate, Tally::new())
+        },
+        || {
+            let called = call(rt, alloc, n, kernel, &notify, owner, seen, patience);
+            stop.set();
+            called
+        },
+    );
+    Ok((looped, called?))
+}
+
 /// Runs n IN transfers of one packet each, with the event loop on one thread and their caller on another. The loop ends where the gate
 /// closes, or where the caller is done. Without patience the caller waits for each receipt, and with it gives up after so many polls.
 /// The flag is set at the first poll that is pending.
@@ -226,22 +259,9 @@ pub fn live_run<R: Threads + Wait + Sync, G: Gate + Send>(
     ensures patient { IfOk result (λ run. patience ≡ None → (run.submitted ≡ n) × (run.taken ≡ n)) }
 {
     let kernel = LiveKernel::new(one_device(alloc)?)?;
-    let (owner, handler) = Row::new(alloc)?;
-    let notify = Notify::new();
-    let stop = Seen::new();
-    let ((handler, looped), called) = join(
-        rt,
-        || {
-            let mut gate = StopGate::new(&stop, gate);
-            event_loop(rt, &kernel, handler, &notify, &mut gate, Tally::new())
-        },
-        || {
-            let called = call(rt, alloc, n, &kernel, &notify, owner, seen, patience);
-            stop.set();
-            called
-        },
-    );
-    let (tally, receipts) = called?;
+    let ((handler, looped), (tally, receipts)) = run_both(
+        rt, alloc, n, &kernel, gate, seen, patience,
+    )?;
     let (_, settled) = settle(rt, &kernel, handler, tally, looped);
     Ok(LiveRun {
         submitted: tally.submitted,
