@@ -24,6 +24,11 @@ returns-in_err-write_fates-clause-err g c =
     let p = err_from_is_err_and c.from_residual-in_err-write_fates.result c.from_residual-in_err-write_fates.ensures.1 in
     rw p.1 (answered-cut (g.K.Sink.written c.write_fates.new.sink) c.answer_each-answered.new.session c.end-host.result c.args.items.items c.in_ok-calls.ensures.ok c.end-host.ensures.host c.in_err-write_fates.ensures.err)
 
+pub returns-in_err-write_fates-clause-only : goal.returns-in_err-write_fates-clause-only
+returns-in_err-write_fates-clause-only g c =
+    let p = err_from_is_err_and c.from_residual-in_err-write_fates.result c.from_residual-in_err-write_fates.ensures.1 in
+    rw p.1 (rw p.2 c.in_err-write_fates.ensures.only)
+
 pub returns-clause-ok : goal.returns-clause-ok
 returns-clause-ok g c = answered-end (g.K.Sink.written c.write_fates.new.sink) c.answer_each-answered.new.session c.end-host.result c.args.items.items c.in_ok-calls.ensures.ok c.end-host.ensures.host c.in_ok-write_fates.ensures.ok
 
