@@ -18,7 +18,7 @@ use std::sync::Wait;
 use std::test::Fail;
 use std::thread::Threads;
 use usb_session::{
-    Gate, MemSink, MemSource, OpenGate, Seen, StdSink, StdSource, SureSink, SureSource,
+    Gate, Gathers, MemSink, MemSource, OpenGate, Seen, StdSink, StdSource, SureSink, SureSource,
     end_program, run_program, run_session,
 };
 
@@ -75,20 +75,39 @@ fn run_with<R: Threads + Wait + Sync, G: Gate + Send>(
     Ok(Outcome { status, sink, diag })
 }
 
-/// Runs the program on words and a script, and no call fails.
-fn run_on<R: Threads + Wait + Sync>(
-    rt: &R,
-    alloc: Global,
-    texts: &[&str],
-    script: &[u8],
-) -> Result<Outcome, Fail> {
-    run_with(rt, alloc, texts, script, (&[], &[]), OpenGate, &Seen::new())
-}
-
-fn expect(rt: &impl Abort, name: &str, outcome: &Outcome, status: u8, output: &str, report: &str) {
+/// Compares what a run came to: the status, what is written and what is reported.
+fn expect(rt: &impl Abort, name: &str, outcome: &Outcome, wanted: (u8, &str, &str)) {
+    let (status, output, report) = wanted;
     assert_eq!(rt; outcome.sink.bytes(), output.as_bytes(), "of {name}");
     let is_told = outcome.status == status && outcome.diag.bytes() == report.as_bytes();
     assert!(rt; is_told, "the status or the report of {name}");
+}
+
+/// Runs the program on words and a script, whose calls with these numbers fail.
+fn expect_faults<R: Abort + Threads + Wait + Sync>(
+    rt: &R,
+    alloc: Global,
+    name: &str,
+    texts: &[&str],
+    script: &[u8],
+    failing: (&[u64], &[u64]),
+    wanted: (u8, &str, &str),
+) -> Result<(), Fail> {
+    let outcome = run_with(rt, alloc, texts, script, failing, OpenGate, &Seen::new())?;
+    expect(rt, name, &outcome, wanted);
+    Ok(())
+}
+
+/// Runs the program on words and a script, and no call fails.
+fn expect_run<R: Abort + Threads + Wait + Sync>(
+    rt: &R,
+    alloc: Global,
+    name: &str,
+    texts: &[&str],
+    script: &[u8],
+    wanted: (u8, &str, &str),
+) -> Result<(), Fail> {
+    expect_faults(rt, alloc, name, texts, script, (&[], &[]), wanted)
 }
 
 /// Runs scripts that go on behind the front, whose answers are written first. A row has a name, the script and what is written.
@@ -103,8 +122,8 @@ fn expect_rows<R: Abort + Threads + Wait + Sync>(
         let (name, script, output) = *row;
         let script = joined(alloc, front.0, script)?;
         let output = joined(alloc, front.1, output)?;
-        let outcome = run_on(rt, alloc, texts, script.as_bytes())?;
-        expect(rt, name, &outcome, 0, output.as_str(), "");
+        let wanted = (0, output.as_str(), "");
+        expect_run(rt, alloc, name, texts, script.as_bytes(), wanted)?;
     }
     Ok(())
 }
@@ -198,26 +217,48 @@ const UNANSWERED: [(&str, &str, u8, &str, &str); 6] = [
 #[test]
 fn tells_why_nothing_was_answered(rt: HostRuntime) -> Result<(), Fail> {
     for (name, script, status, output, report) in &UNANSWERED {
-        let outcome = run_on(&rt, rt.alloc(), &[], script.as_bytes())?;
-        expect(&rt, name, &outcome, *status, output, report);
+        let wanted = (*status, *output, *report);
+        expect_run(&rt, rt.alloc(), name, &[], script.as_bytes(), wanted)?;
     }
-    let outcome = run_on(&rt, rt.alloc(), &["--help"], b"")?;
-    let usage = "usage: nusb_sim [session|generate N|live N]\n";
-    expect(&rt, "an unknown word", &outcome, 2, "", usage);
-    Ok(())
+    let wanted = (2, "", "usage: nusb_sim [session|generate N|live N]\n");
+    expect_run(&rt, rt.alloc(), "an unknown word", &["--help"], b"", wanted)
+}
+
+/// A script of 1,048,576 bytes is answered so, and with one byte more it is too long.
+fn expect_longest<R: Abort + Threads + Wait + Sync>(
+    rt: &R,
+    alloc: Global,
+    script: &mut Vec<u8>,
+    more: u8,
+    output: &str,
+) -> Result<(), Fail> {
+    assert_eq!(rt; script.len(), 1048576);
+    let wanted = (0, output, "");
+    expect_run(
+        rt,
+        alloc,
+        "the longest script",
+        &[],
+        script.as_slice(),
+        wanted,
+    )?;
+    script.push(more)?;
+    let wanted = (4, "", "nusb_sim: script too long\n");
+    expect_run(
+        rt,
+        alloc,
+        "one byte too long",
+        &[],
+        script.as_slice(),
+        wanted,
+    )
 }
 
 #[test]
 fn stops_at_the_longest_script(rt: HostRuntime) -> Result<(), Fail> {
     let mut script = Vec::from_slice(rt.alloc(), b"poll e0")?;
     script.resize(1048576, b' ')?;
-    let longest = run_on(&rt, rt.alloc(), &[], script.as_slice())?;
-    expect(&rt, "the longest script", &longest, 0, "condition\n", "");
-    script.push(b' ')?;
-    let longer = run_on(&rt, rt.alloc(), &[], script.as_slice())?;
-    let report = "nusb_sim: script too long\n";
-    expect(&rt, "one byte too long", &longer, 4, "", report);
-    Ok(())
+    expect_longest(&rt, rt.alloc(), &mut script, b' ', "condition\n")
 }
 
 /// The calls of the source and of the sink that fail, the status, what was written and what is reported.
@@ -253,17 +294,16 @@ fn keeps_the_lines_before_a_fault(rt: HostRuntime) -> Result<(), Fail> {
     let script = joined(rt.alloc(), OPENED.0, "poll e0\n")?;
     for (name, reads, writes, status, output, report) in &FAULTS {
         let failing = (*reads, *writes);
-        let script = script.as_bytes();
-        let outcome = run_with(
+        let wanted = (*status, *output, *report);
+        expect_faults(
             &rt,
             rt.alloc(),
+            name,
             &[],
-            script,
+            script.as_bytes(),
             failing,
-            OpenGate,
-            &Seen::new(),
+            wanted,
         )?;
-        expect(&rt, name, &outcome, *status, output, report);
     }
     Ok(())
 }
@@ -295,17 +335,27 @@ fn reads_and_writes_by_standard_traits(rt: HostRuntime) -> Result<(), Fail> {
 /// The room of the output, the status at which a run of one answer ends, and what is reported.
 const ROOMS: [(usize, u8, &str); 3] = [(64, 0, ""), (10, 0, ""), (9, 6, "nusb_sim: write fault\n")];
 
+/// Runs a script of one answer on this sink, and says the status at which that ends.
+fn run_into<K: Gathers>(alloc: Global, sink: &mut K, diag: &mut MemSink) -> Result<u8, Fail> {
+    let mut source = SureSource::new(Vec::from_slice(alloc, b"poll e0\n")?);
+    run_session(alloc, &mut source, sink)?;
+    Ok(end_program(0, sink, diag))
+}
+
+/// The status at which such a run ends where the output has this room, with what is reported.
+fn report_of(alloc: Global, room: &mut [u8], diag: &mut MemSink) -> Result<u8, Fail> {
+    let output = BufWriter::new(alloc, Cursor::new(room))?;
+    let mut sink = StdSink::new(output);
+    run_into(alloc, &mut sink, diag)
+}
+
 #[test]
 fn hands_on_what_was_gathered_before_the_status_is_told(rt: HostRuntime) -> Result<(), Fail> {
     for (room, status, report) in &ROOMS {
         let mut kept = Vec::new(rt.alloc());
         kept.resize(*room, 0)?;
-        let output = BufWriter::new(rt.alloc(), Cursor::new(kept.as_mut_slice()))?;
-        let mut sink = StdSink::new(output);
-        let mut source = SureSource::new(Vec::from_slice(rt.alloc(), b"poll e0\n")?);
         let mut diag = MemSink::new(rt.alloc(), 64, Vec::new(rt.alloc()))?;
-        run_session(rt.alloc(), &mut source, &mut sink)?;
-        let told = end_program(0, &mut sink, &mut diag);
+        let told = report_of(rt.alloc(), kept.as_mut_slice(), &mut diag)?;
         let is_told = told == *status && diag.bytes() == report.as_bytes();
         assert!(rt; is_told, "with room for {room}");
     }

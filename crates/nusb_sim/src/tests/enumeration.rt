@@ -97,8 +97,8 @@ fn answers_polls_for_devices_that_come_and_go(rt: HostRuntime) -> Result<(), Fai
     expect_rows(&rt, rt.alloc(), &[], ("", ""), PACKETS.as_slice())
 }
 
-/// Values of attributes, listings, selectors and packets behind the tree, and what is written for them.
-const READINGS: [(&str, &str, &str); 29] = [
+/// Values of attributes behind the tree, and what a probing of them writes.
+const VALUES: [(&str, &str, &str); 11] = [
     (
         "a version whose parts have a plus",
         "attr /sys/devices/pci0/usb1/1-6 version 2b312e2b32\nprobe /sys/devices/pci0/usb1/1-6\n",
@@ -154,6 +154,15 @@ const READINGS: [(&str, &str, &str); 29] = [
         "attr /sys/devices/pci0/usb1/1-6 busnum 30303030303030303030303031300a\nattr /sys/devices/pci0/usb1/1-6 idVendor 30303030303030303030303031300a\nprobe /sys/devices/pci0/usb1/1-6\n",
         "info 10 6 6 0010 bbbb 0100 0200 00 00 00 High none 426f78 none 0:ff:00:00:none\n",
     ),
+];
+
+#[test]
+fn attributes_are_read_in_each_form(rt: HostRuntime) -> Result<(), Fail> {
+    expect_rows(&rt, rt.alloc(), &[], TREE, VALUES.as_slice())
+}
+
+/// Folders, listings, selectors and packets behind the tree, and what is written for them.
+const READINGS: [(&str, &str, &str); 10] = [
     ("the root folder", "probe /\n", "sysfs /busnum io 2\n"),
     (
         "a number behind a space",
@@ -190,6 +199,25 @@ const READINGS: [(&str, &str, &str); 29] = [
         "attr /sys/devices/pci0/usb1/1-6 serial 31320a\nmatch /sys/devices/pci0/usb1/1-6\nmatch /sys/devices/pci0/usb1/1-6 vid aaaa\nmatch /sys/devices/pci0/usb1/1-6 vidpid aaaa bbbc\nmatch /sys/devices/pci0/usb1/1-6 class 00\nmatch /sys/devices/pci0/usb1/1-6 class ff\nmatch /sys/devices/pci0/usb1/1-6 class 03\nmatch /sys/devices/pci0/usb1/1-6 classsub ff 00\nmatch /sys/devices/pci0/usb1/1-6 classsubproto ff 00 01\nmatch /sys/devices/pci0/usb1/1-6 serial =12\nmatch /sys/devices/pci0/usb1/1-6 serial 31320a\n",
         "match true\nmatch true\nmatch false\nmatch true\nmatch true\nmatch false\nmatch true\nmatch false\nmatch true\nmatch false\n",
     ),
+    (
+        "properties of which the last counts",
+        "uevent 2 6c69627564657600feedcafe18000000180000002f000000414354494f4e3d72656d6f7665004255534e554d3d303031004445564e554d3d30303600444556504154483d2f6400\nuevent 2 6c69627564657600feedcafe180000001800000053000000414354494f4e3d72656d6f766500414354494f4e3d616464004255534e554d3d31004445564e554d3d37004445564e554d3d3600444556504154483d2f2f646576696365732f706369302f757362312f312d36\nhotplug\nhotplug\nhotplug\n",
+        "disconnected 1 6\nconnected 1 6 6 aaaa bbbb 0100 0200 00 00 00 High none 426f78 none 0:ff:00:00:none\npending\n",
+    ),
+    (
+        "packets of other groups, lengths, subsystems, types and actions",
+        "uevent 1 6c69627564657600feedcafe18000000180000002f000000414354494f4e3d72656d6f7665004255534e554d3d303031004445564e554d3d30303600444556504154483d2f6400\nuevent 2 6c69627564657600feedcafe180000001800000030000000414354494f4e3d72656d6f7665004255534e554d3d303031004445564e554d3d30303600444556504154483d2f6400\nuevent 2 6c69627564657600feedcafe18000000180000003800000053554253595354454d3d6e657400414354494f4e3d72656d6f7665004255534e554d3d31004445564e554d3d3600444556504154483d2f64\nuevent 2 6c69627564657600feedcafe180000001800000040000000444556545950453d7573625f696e7465726661636500414354494f4e3d72656d6f7665004255534e554d3d31004445564e554d3d3600444556504154483d2f64\nuevent 2 6c69627564657600feedcafe180000001800000038000000414354494f4e3d6368616e676500414354494f4e3d72656d6f7665004255534e554d3d31004445564e554d3d3600444556504154483d2f64\nuevent 2 6c69627564657600feedcafe180000001800000033000000414354494f4e3d72656d6f7665004255534e554d3d31004255534e554d3d78004445564e554d3d3600444556504154483d2f64\nuevent 2 6c69627564657600feedcafe18000000180000002b000000414354494f4e3d72656d6f7665004255534e554d3d31004445564e554d3d360044455650415448ff3d2f64\nuevent 2 6c69627564657600feedcafe18000000180000002d000000414354494f4e3d616464004255534e554d3d31004445564e554d3d3600444556504154483d2f6e6f7768657265\nhotplug\nhotplug\nhotplug\nhotplug\nhotplug\nhotplug\nhotplug\nhotplug\n",
+        "pending\npending\npending\npending\npending\npending\npending\npending\n",
+    ),
+];
+
+#[test]
+fn folders_listings_selectors_and_packets(rt: HostRuntime) -> Result<(), Fail> {
+    expect_rows(&rt, rt.alloc(), &[], TREE, READINGS.as_slice())
+}
+
+/// Drivers of buses behind the tree, and what a listing of buses writes.
+const DRIVEN: [(&str, &str, &str); 8] = [
     (
         "a bus driven by ehci-pci",
         "link /sys/devices/pci0 driver ../bus/pci/drivers/ehci-pci\nbuses\n",
@@ -230,19 +258,9 @@ const READINGS: [(&str, &str, &str); 29] = [
         "link /sys/devices/pci0 driver ../bus/pci/drivers/ahci_xhci\nbuses\n",
         "buses 1 1:none:ahci_xhci:78484349\n",
     ),
-    (
-        "properties of which the last counts",
-        "uevent 2 6c69627564657600feedcafe18000000180000002f000000414354494f4e3d72656d6f7665004255534e554d3d303031004445564e554d3d30303600444556504154483d2f6400\nuevent 2 6c69627564657600feedcafe180000001800000053000000414354494f4e3d72656d6f766500414354494f4e3d616464004255534e554d3d31004445564e554d3d37004445564e554d3d3600444556504154483d2f2f646576696365732f706369302f757362312f312d36\nhotplug\nhotplug\nhotplug\n",
-        "disconnected 1 6\nconnected 1 6 6 aaaa bbbb 0100 0200 00 00 00 High none 426f78 none 0:ff:00:00:none\npending\n",
-    ),
-    (
-        "packets of other groups, lengths, subsystems, types and actions",
-        "uevent 1 6c69627564657600feedcafe18000000180000002f000000414354494f4e3d72656d6f7665004255534e554d3d303031004445564e554d3d30303600444556504154483d2f6400\nuevent 2 6c69627564657600feedcafe180000001800000030000000414354494f4e3d72656d6f7665004255534e554d3d303031004445564e554d3d30303600444556504154483d2f6400\nuevent 2 6c69627564657600feedcafe18000000180000003800000053554253595354454d3d6e657400414354494f4e3d72656d6f7665004255534e554d3d31004445564e554d3d3600444556504154483d2f64\nuevent 2 6c69627564657600feedcafe180000001800000040000000444556545950453d7573625f696e7465726661636500414354494f4e3d72656d6f7665004255534e554d3d31004445564e554d3d3600444556504154483d2f64\nuevent 2 6c69627564657600feedcafe180000001800000038000000414354494f4e3d6368616e676500414354494f4e3d72656d6f7665004255534e554d3d31004445564e554d3d3600444556504154483d2f64\nuevent 2 6c69627564657600feedcafe180000001800000033000000414354494f4e3d72656d6f7665004255534e554d3d31004255534e554d3d78004445564e554d3d3600444556504154483d2f64\nuevent 2 6c69627564657600feedcafe18000000180000002b000000414354494f4e3d72656d6f7665004255534e554d3d31004445564e554d3d360044455650415448ff3d2f64\nuevent 2 6c69627564657600feedcafe18000000180000002d000000414354494f4e3d616464004255534e554d3d31004445564e554d3d3600444556504154483d2f6e6f7768657265\nhotplug\nhotplug\nhotplug\nhotplug\nhotplug\nhotplug\nhotplug\nhotplug\n",
-        "pending\npending\npending\npending\npending\npending\npending\npending\n",
-    ),
 ];
 
 #[test]
-fn values_listings_selectors_and_packets(rt: HostRuntime) -> Result<(), Fail> {
-    expect_rows(&rt, rt.alloc(), &[], TREE, READINGS.as_slice())
+fn buses_are_told_by_their_drivers(rt: HostRuntime) -> Result<(), Fail> {
+    expect_rows(&rt, rt.alloc(), &[], TREE, DRIVEN.as_slice())
 }

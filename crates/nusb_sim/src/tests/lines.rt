@@ -1,6 +1,6 @@
 //! Lines that are skipped, and the ends of lines.
 
-use super::{expect, run_on};
+use super::{expect_longest, expect_run};
 use std::test::Fail;
 
 const MALFORMED_1: &str = "nusb_sim: malformed line 1\n";
@@ -33,8 +33,8 @@ const LINES: [(&str, &[u8], u8, &str, &str); 9] = [
 #[test]
 fn skips_comments_and_empty_lines(rt: HostRuntime) -> Result<(), Fail> {
     for (name, script, status, output, report) in &LINES {
-        let outcome = run_on(&rt, rt.alloc(), &[], *script)?;
-        expect(&rt, name, &outcome, *status, output, report);
+        let wanted = (*status, *output, *report);
+        expect_run(&rt, rt.alloc(), name, &[], *script, wanted)?;
     }
     Ok(())
 }
@@ -48,12 +48,5 @@ fn reads_the_longest_script_of_comments(rt: HostRuntime) -> Result<(), Fail> {
     for _ in 0..16384 {
         script.extend_from_slice(COMMENT)?;
     }
-    assert_eq!(rt; script.len(), 1048576);
-    let longest = run_on(&rt, rt.alloc(), &[], script.as_slice())?;
-    expect(&rt, "the longest script", &longest, 0, "", "");
-    script.push(b'\n')?;
-    let longer = run_on(&rt, rt.alloc(), &[], script.as_slice())?;
-    let report = "nusb_sim: script too long\n";
-    expect(&rt, "one byte too long", &longer, 4, "", report);
-    Ok(())
+    expect_longest(&rt, rt.alloc(), &mut script, b'\n', "")
 }

@@ -2,10 +2,10 @@
 
 ghost use Rattle.std.specs.Prelude.{◌≡◌, false};
 
-use super::{expect, run_on, run_with};
+use super::{expect, expect_faults, expect_run, run_with};
 use std::test::Fail;
 use std::thread::yield_now;
-use usb_session::{Gate, OpenGate, Seen};
+use usb_session::{Gate, Seen};
 
 /// Always passes. At its first pass it waits for `seen`, and notes in `asked` that it was asked and in `found` that it found it set.
 #[derive(Drop)]
@@ -75,8 +75,8 @@ const GENERATED: [(&[&str], u8, &str, &str); 8] = [
 #[test]
 fn generated_scripts_are_run(rt: HostRuntime) -> Result<(), Fail> {
     for (words, status, output, report) in &GENERATED {
-        let outcome = run_on(&rt, rt.alloc(), *words, b"")?;
-        expect(&rt, "generate", &outcome, *status, output, report);
+        let wanted = (*status, *output, *report);
+        expect_run(&rt, rt.alloc(), "generate", *words, b"", wanted)?;
     }
     Ok(())
 }
@@ -106,8 +106,8 @@ const LIVE: [(&[&str], u8, &str, &str); 8] = [
 #[test]
 fn live_writes_its_line(rt: HostRuntime) -> Result<(), Fail> {
     for (words, status, output, report) in &LIVE {
-        let outcome = run_on(&rt, rt.alloc(), *words, b"")?;
-        expect(&rt, "live", &outcome, *status, output, report);
+        let wanted = (*status, *output, *report);
+        expect_run(&rt, rt.alloc(), "live", *words, b"", wanted)?;
     }
     Ok(())
 }
@@ -116,8 +116,8 @@ fn live_writes_its_line(rt: HostRuntime) -> Result<(), Fail> {
 fn a_failed_write_is_told(rt: HostRuntime) -> Result<(), Fail> {
     let failing: (&[u64], &[u64]) = (&[], &[1]);
     for words in &[["live", "2"], ["generate", "2"]] {
-        let outcome = run_with(&rt, rt.alloc(), words, b"", failing, OpenGate, &Seen::new())?;
-        expect(&rt, words[0], &outcome, 6, "", "nusb_sim: write fault\n");
+        let wanted = (6, "", "nusb_sim: write fault\n");
+        expect_faults(&rt, rt.alloc(), words[0], words, b"", failing, wanted)?;
     }
     Ok(())
 }
@@ -135,7 +135,7 @@ fn the_loop_runs_beside_the_caller(rt: HostRuntime) -> Result<(), Fail> {
     let words = ["live", "1"];
     let outcome = run_with(&rt, rt.alloc(), &words, b"", (&[], &[]), gate, &seen)?;
     let line = "live 1 submitted 1 taken 1 dropped 0 reclaimed 0\n";
-    expect(&rt, "live", &outcome, 0, line, "");
+    expect(&rt, "live", &outcome, (0, line, ""));
     assert!(rt; asked.get() && found.get());
     Ok(())
 }
