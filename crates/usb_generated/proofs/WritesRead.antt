@@ -8,7 +8,7 @@ use Rattle.std.proofs.lemmas.List.{get_or-drop}
 use Rattle.std.proofs.lemmas.List.Sums.{list_all-from_AllPass}
 use Rattle.hex.specs.Hex.{IsBytes, encode_lower, encode_with, is_hex_digit, lower_digits}
 use Rattle.hex.proofs.HexLemmas.{decode_of-encode_lower, decode_of-ok}
-use Rattle.usb_words.specs.Fields.{two_and_more}
+use Rattle.usb_words.specs.Fields.{one_and_more}
 use Rattle.usb_words.specs.Lines.{lines_of, words_of, is_word, is_space, is_printable, without_cr}
 use Rattle.usb_words.specs.Words.{bytes_of, name_of, index_of, number_of, decimal_of}
 use Rattle.usb_steps.specs.KernelSteps.{own_steps_of}
@@ -19,6 +19,7 @@ use Rattle.usb_script.specs.EndpointCalls.{endpoint_call_of}
 use Rattle.usb_script.specs.LineForms.{named_of, form_of, item_of, item_reading_of, own_reading_of, reading_of}
 use Rattle.usb_script.specs.ReaderCalls.{read_call_of, poll_call_of, consume_call_of, reader_call_of}
 use Rattle.usb_script.specs.Waits.{wait_call_of}
+use Rattle.usb_script.specs.WithSteps.{field_and_steps}
 use Rattle.usb_script.specs.WriterCalls.{write_call_of}
 use Rattle.usb_parse.specs.Order.{may_follow}
 use Rattle.usb_generated.specs.Generated.{message, write_of}
@@ -101,7 +102,7 @@ split : (word : List ℕ) → list_all is_visible word ≡ true → is_word word
 split word all some = let here = one_word word all in rw (here, some) refl
 
 form : (word bytes : List ℕ) → bytes_of word ≡ Some bytes → form_of (codes "write" ∷ codes "w0" ∷ word ∷ []) ≡ Some (Write 0 bytes [])
-unfolding form_of named_of wait_call_of endpoint_call_of read_call_of poll_call_of consume_call_of reader_call_of write_call_of two_and_more name_of index_of number_of decimal_of own_steps_of
+unfolding form_of named_of wait_call_of endpoint_call_of read_call_of poll_call_of consume_call_of reader_call_of write_call_of one_and_more field_and_steps name_of index_of number_of decimal_of own_steps_of
 form word bytes spelled = rw spelled refl
 
 own_reading : (word : List ℕ) (item : Item) → list_all is_visible word ≡ true → item_of (words_for word) ≡ Some item → own_reading_of (words_for word) ≡ Some (Read item)

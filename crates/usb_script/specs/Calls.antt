@@ -5,7 +5,7 @@ use Rattle.std.specs.Str.{bytes_eq}
 use Rattle.usb_script.specs.declared.item.Item.{Item}
 use Rattle.usb_script.specs.declared.item.Item.TheVariants.{Now, Open, DeviceDescriptor, Descriptors, CloneDevice, CloseDevice, ActiveConfiguration, Speed, SetConfiguration, Reset, DetachDriver, AttachDriver, Claim, DetachAndClaim, CloneInterface, CloseInterface, SetAltSetting, GetAltSetting, InterfaceDescriptor, Release, Endpoint, CloseEndpoint, CloseReader, CloseWriter, CloseFuture}
 use Rattle.usb_words.specs.Words.{number_of, name_of, hex_byte_of, kind_of}
-use Rattle.usb_words.specs.Fields.{Word, none, one, two, three, four}
+use Rattle.usb_words.specs.Fields.{Word, none, four, one, two, three}
 use Rattle.usb_words.specs.Letters.{device_letter, interface_letter, endpoint_letter, reader_letter, writer_letter, future_letter}
 
 -- `endpoint e i HH KIND`, `alt i B`, `getalt i`, `ifdesc i`, `release i`

@@ -8,7 +8,7 @@ use Rattle.usb_words.specs.declared.control.Setup.{Setup}
 use Rattle.usb_words.specs.declared.control.ControlTarget.{ControlTarget}
 use Rattle.usb_words.specs.Controls.{setup_and_more, control_target_of, control_bytes_of, string_index_of}
 use Rattle.usb_words.specs.Words.{◌>>=◌, number_of, time_of, name_of, hex_word_of}
-use Rattle.usb_words.specs.Fields.{Word, one, two, one_and_more, two_and_more, three_and_more}
+use Rattle.usb_words.specs.Fields.{Word, one_and_more, two_and_more, three_and_more, one, two}
 use Rattle.usb_words.specs.Letters.{device_letter, future_letter}
 use Rattle.usb_script.specs.TreeLines.{tree_line_of}
 use Rattle.usb_script.specs.WithSteps.{one_with_steps, two_with_steps}

@@ -8,7 +8,7 @@ use Rattle.usb_script.specs.declared.reading.Reading.{Reading}
 use Rattle.usb_script.specs.declared.reading.Reading.TheVariants.{Skipped, Read}
 use Rattle.usb_words.specs.Lines.{words_of, is_printable, without_cr, is_skipped}
 use Rattle.usb_words.specs.Words.{◌>>=◌, number_of, name_of, bytes_of}
-use Rattle.usb_words.specs.Fields.{Word, two, six}
+use Rattle.usb_words.specs.Fields.{Word, six, two}
 use Rattle.usb_words.specs.Letters.{simulated_letter}
 use Rattle.usb_steps.specs.KernelSteps.{steps_of}
 use Rattle.usb_script.specs.Waits.{wait_call_of}

@@ -6,7 +6,7 @@ use Rattle.usb_script.specs.declared.item.Item.TheVariants as item
 use Rattle.usb_words.specs.Words.{◌>>=◌, number_of, name_of, errno_of}
 use Rattle.usb_words.specs.Places.{path_of, file_name_of, target_of, value_of}
 use Rattle.usb_words.specs.Selectors.{selector_of}
-use Rattle.usb_words.specs.Fields.{Word, none, one, two, three, one_and_more}
+use Rattle.usb_words.specs.Fields.{Word, none, one_and_more, one, two, three}
 use Rattle.usb_words.specs.Letters.{device_letter}
 use Rattle.usb_script.specs.Calls.{device_call_of}
 

@@ -1,12 +1,16 @@
 //! Calls by their first word.
 
 ghost use Rattle.std.specs.Prelude.{◌≤◌, length, IfOk};
-ghost use Rattle.usb_words.specs.Fields.{texts};
+ghost use Rattle.usb_words.specs.Fields.{texts, four, three, three_fields};
+ghost use Rattle.usb_words.specs.Letters.{device_letter, interface_letter, endpoint_letter};
 ghost use Rattle.usb_words.specs.Outcome.{Gives};
+ghost use Rattle.usb_words.specs.Words.{number_of, name_of, hex_byte_of, kind_of};
 ghost use Rattle.usb_script.specs.Calls.{device_call_of, configuration_call_of, claim_call_of, name_call_of, clone_of, close_of, interface_call_of};
 ghost use Rattle.usb_script.specs.ItemKinds.{places_in};
+ghost use Rattle.usb_script.specs.declared.item.Item.TheVariants.{Open, Endpoint};
 
 use crate::item::Item;
+use crate::shape::{name_and_byte, one_name};
 use usb_words::{
     EndpointKind, LineError, Name, byte, four_words, hex_byte, no_word, one_word, reads,
     three_words, two_words,
@@ -22,21 +26,31 @@ pub fn device_call(name: &[u8], words: &[&[u8]]) -> Result<Item, LineError>
         no_word(words)?;
         Ok(Item::Now)
     } else if reads(name, b"open") {
-        let (device, bus, address) = three_words(words)?;
-        Ok(Item::Open {
-            device: Name::parse(b'd', device)?,
-            bus: byte(bus)?,
-            address: byte(address)?,
-        })
+        open_call(words)
     } else if reads(name, b"devdesc") {
-        let device = Name::parse(b'd', one_word(words)?)?;
+        let device = one_name(b'd', words)?;
         Ok(Item::DeviceDescriptor { device })
     } else if reads(name, b"descriptors") {
-        let device = Name::parse(b'd', one_word(words)?)?;
+        let device = one_name(b'd', words)?;
         Ok(Item::Descriptors { device })
     } else {
         configuration_call(name, words)
     }
+}
+
+/// `open`: a name for a device, and its bus and address
+#[tactic(auto, unfolding(usb_words::specs::Fields::three_fields))]
+fn open_call(words: &[&[u8]]) -> Result<Item, LineError>
+    ensures value { Gives (λ i. i) result
+        (three Open (name_of device_letter) (number_of 255) (number_of 255) (texts words.now)) }
+    ensures few { IfOk result (λ item. places_in item ≤ length words.now) }
+{
+    let (device, bus, address) = three_words(words)?;
+    Ok(Item::Open {
+        device: Name::parse(b'd', device)?,
+        bus: byte(bus)?,
+        address: byte(address)?,
+    })
 }
 
 /// `active d`, `speed d`, `setconfig d B`, `reset d`, or a further call
@@ -46,23 +60,34 @@ fn configuration_call(name: &[u8], words: &[&[u8]]) -> Result<Item, LineError>
     ensures few { IfOk result (λ item. places_in item ≤ length words.now) }
 {
     if reads(name, b"active") {
-        let device = Name::parse(b'd', one_word(words)?)?;
+        let device = one_name(b'd', words)?;
         Ok(Item::ActiveConfiguration { device })
     } else if reads(name, b"speed") {
-        let device = Name::parse(b'd', one_word(words)?)?;
+        let device = one_name(b'd', words)?;
         Ok(Item::Speed { device })
     } else if reads(name, b"setconfig") {
-        let (device, value) = two_words(words)?;
-        Ok(Item::SetConfiguration {
-            device: Name::parse(b'd', device)?,
-            value: byte(value)?,
-        })
+        let (device, value) = name_and_byte(b'd', words)?;
+        Ok(Item::SetConfiguration { device, value })
     } else if reads(name, b"reset") {
-        let device = Name::parse(b'd', one_word(words)?)?;
+        let device = one_name(b'd', words)?;
         Ok(Item::Reset { device })
     } else {
         claim_call(name, words)
     }
+}
+
+/// A device, the number of an interface, and a name for the interface
+#[tactic(auto, unfolding(usb_words::specs::Fields::three_fields))]
+fn claim_words(words: &[&[u8]]) -> Result<(Name, u8, Name), LineError>
+    ensures value { Gives (λ x. x) result
+        (three_fields (name_of device_letter) (number_of 255) (name_of interface_letter)
+        (texts words.now)) }
+{
+    let (device, number, interface) = three_words(words)?;
+    let device = Name::parse(b'd', device)?;
+    let number = byte(number)?;
+    let interface = Name::parse(b'i', interface)?;
+    Ok((device, number, interface))
 }
 
 /// `claim d B i`, `detachclaim d B i`, `detach d B`, `attach d B`, or a further call
@@ -72,31 +97,25 @@ fn claim_call(name: &[u8], words: &[&[u8]]) -> Result<Item, LineError>
     ensures few { IfOk result (λ item. places_in item ≤ length words.now) }
 {
     if reads(name, b"claim") {
-        let (device, number, interface) = three_words(words)?;
+        let (device, number, interface) = claim_words(words)?;
         Ok(Item::Claim {
-            device: Name::parse(b'd', device)?,
-            number: byte(number)?,
-            interface: Name::parse(b'i', interface)?,
+            device,
+            number,
+            interface,
         })
     } else if reads(name, b"detachclaim") {
-        let (device, number, interface) = three_words(words)?;
+        let (device, number, interface) = claim_words(words)?;
         Ok(Item::DetachAndClaim {
-            device: Name::parse(b'd', device)?,
-            number: byte(number)?,
-            interface: Name::parse(b'i', interface)?,
+            device,
+            number,
+            interface,
         })
     } else if reads(name, b"detach") {
-        let (device, number) = two_words(words)?;
-        Ok(Item::DetachDriver {
-            device: Name::parse(b'd', device)?,
-            number: byte(number)?,
-        })
+        let (device, number) = name_and_byte(b'd', words)?;
+        Ok(Item::DetachDriver { device, number })
     } else if reads(name, b"attach") {
-        let (device, number) = two_words(words)?;
-        Ok(Item::AttachDriver {
-            device: Name::parse(b'd', device)?,
-            number: byte(number)?,
-        })
+        let (device, number) = name_and_byte(b'd', words)?;
+        Ok(Item::AttachDriver { device, number })
     } else {
         name_call(name, words)
     }
@@ -119,7 +138,7 @@ fn name_call(name: &[u8], words: &[&[u8]]) -> Result<Item, LineError>
 }
 
 /// `clone` of a device, or else of an interface: the new name stands first
-#[tactic(auto, unfolding(crate::specs::Calls::clone_of))]
+#[tactic(auto, unfolding(crate::specs::Calls::clone_of, usb_words::specs::Fields::two_fields))]
 fn clone_call(words: &[&[u8]]) -> Result<Item, LineError>
     ensures value { Gives (λ i. i) result (clone_of (texts words.now)) }
     ensures few { IfOk result (λ item. places_in item ≤ length words.now) }
@@ -136,7 +155,7 @@ fn clone_call(words: &[&[u8]]) -> Result<Item, LineError>
 
 /// `close` of a device, or else of an interface, an endpoint, a reader, a writer, or a control
 /// transfer on its way
-#[tactic(auto, unfolding(crate::specs::Calls::close_of))]
+#[tactic(auto, unfolding(crate::specs::Calls::close_of, usb_words::specs::Fields::one_field))]
 fn close_call(words: &[&[u8]]) -> Result<Item, LineError>
     ensures value { Gives (λ i. i) result (close_of (texts words.now)) }
     ensures few { IfOk result (λ item. places_in item ≤ length words.now) }
@@ -161,6 +180,22 @@ fn close_call(words: &[&[u8]]) -> Result<Item, LineError>
     Ok(Item::CloseFuture { future })
 }
 
+/// `endpoint`: a name for an endpoint, its interface, its address and its kind
+fn open_endpoint(words: &[&[u8]]) -> Result<Item, LineError>
+    ensures value { Gives (λ i. i) result
+        (four Endpoint (name_of endpoint_letter) (name_of interface_letter) hex_byte_of kind_of
+        (texts words.now)) }
+    ensures few { IfOk result (λ item. places_in item ≤ length words.now) }
+{
+    let (endpoint, interface, address, kind) = four_words(words)?;
+    Ok(Item::Endpoint {
+        endpoint: Name::parse(b'e', endpoint)?,
+        interface: Name::parse(b'i', interface)?,
+        address: hex_byte(address)?,
+        kind: EndpointKind::parse(kind)?,
+    })
+}
+
 /// `endpoint e i HH KIND`, `alt i B`, `getalt i`, `ifdesc i`, `release i`
 #[tactic(auto, unfolding(crate::specs::Calls::interface_call_of))]
 fn interface_call(name: &[u8], words: &[&[u8]]) -> Result<Item, LineError>
@@ -168,27 +203,18 @@ fn interface_call(name: &[u8], words: &[&[u8]]) -> Result<Item, LineError>
     ensures few { IfOk result (λ item. places_in item ≤ length words.now) }
 {
     if reads(name, b"endpoint") {
-        let (endpoint, interface, address, kind) = four_words(words)?;
-        Ok(Item::Endpoint {
-            endpoint: Name::parse(b'e', endpoint)?,
-            interface: Name::parse(b'i', interface)?,
-            address: hex_byte(address)?,
-            kind: EndpointKind::parse(kind)?,
-        })
+        open_endpoint(words)
     } else if reads(name, b"alt") {
-        let (interface, setting) = two_words(words)?;
-        Ok(Item::SetAltSetting {
-            interface: Name::parse(b'i', interface)?,
-            setting: byte(setting)?,
-        })
+        let (interface, setting) = name_and_byte(b'i', words)?;
+        Ok(Item::SetAltSetting { interface, setting })
     } else if reads(name, b"getalt") {
-        let interface = Name::parse(b'i', one_word(words)?)?;
+        let interface = one_name(b'i', words)?;
         Ok(Item::GetAltSetting { interface })
     } else if reads(name, b"ifdesc") {
-        let interface = Name::parse(b'i', one_word(words)?)?;
+        let interface = one_name(b'i', words)?;
         Ok(Item::InterfaceDescriptor { interface })
     } else if reads(name, b"release") {
-        let interface = Name::parse(b'i', one_word(words)?)?;
+        let interface = one_name(b'i', words)?;
         Ok(Item::Release { interface })
     } else {
         Err(LineError::Malformed)

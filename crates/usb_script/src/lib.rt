@@ -8,6 +8,7 @@ mod item;
 mod line;
 mod reader_call;
 mod reading;
+mod shape;
 mod tree_line;
 mod wait;
 mod writer_call;

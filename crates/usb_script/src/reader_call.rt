@@ -8,12 +8,12 @@ ghost use Rattle.usb_script.specs.ReaderCalls.{read_call_of, framed_read_of, fra
 ghost use Rattle.usb_script.specs.ItemKinds.{places_in};
 
 use crate::item::Item;
+use crate::shape::{name_and_steps, names_and_length, one_name};
 use crate::writer_call::write_call;
 use std::alloc::Global;
 use usb_steps::own_steps;
 use usb_words::{
-    Framing, Length, LineError, Name, ReadLength, Timeout, number, one_and_more, one_word, reads,
-    three_words, two_and_more, two_words,
+    Framing, Length, LineError, Name, ReadLength, Timeout, number, one_and_more, reads, two_words,
 };
 
 /// The most transfers that a line asks a reader or a writer to have pending.
@@ -39,14 +39,17 @@ pub fn read_call(alloc: Global, name: &[u8], words: &[&[u8]]) -> Result<Item, Li
 }
 
 /// A read: a reader, and how many bytes are wanted at most, with the steps of the call behind them
+#[tactic(auto, unfolding(crate::specs::WithSteps::field_and_steps))]
 fn framed_read(alloc: Global, framing: Framing, words: &[&[u8]]) -> Result<Item, LineError>
     ensures value { Gives (λ i. i) result (framed_read_of framing (texts words.now)) }
     ensures few { IfOk result (λ item. places_in item ≤ length words.now) }
 {
-    let (reader, wanted, own) = two_and_more(words)?;
+    let (reader, more) = one_and_more(words)?;
+    let reader = Name::parse(b'r', reader)?;
+    let (wanted, own) = one_and_more(more)?;
     Ok(Item::Read {
         framing,
-        reader: Name::parse(b'r', reader)?,
+        reader,
         length: ReadLength::parse(wanted)?,
         steps: own_steps(alloc, own)?,
     })
@@ -57,11 +60,11 @@ fn framed_fill(alloc: Global, framing: Framing, words: &[&[u8]]) -> Result<Item,
     ensures value { Gives (λ i. i) result (framed_fill_of framing (texts words.now)) }
     ensures few { IfOk result (λ item. places_in item ≤ length words.now) }
 {
-    let (reader, own) = one_and_more(words)?;
+    let (reader, steps) = name_and_steps(alloc, b'r', words)?;
     Ok(Item::FillBuf {
         framing,
-        reader: Name::parse(b'r', reader)?,
-        steps: own_steps(alloc, own)?,
+        reader,
+        steps,
     })
 }
 
@@ -85,6 +88,7 @@ fn poll_call(alloc: Global, name: &[u8], words: &[&[u8]]) -> Result<Item, LineEr
 }
 
 /// A poll that reads: a reader, and how many bytes are wanted at most
+#[tactic(auto, unfolding(usb_words::specs::Fields::two_fields))]
 fn framed_poll_read(framing: Framing, words: &[&[u8]]) -> Result<Item, LineError>
     ensures value { Gives (λ i. i) result (framed_poll_read_of framing (texts words.now)) }
     ensures few { IfOk result (λ item. places_in item ≤ length words.now) }
@@ -102,7 +106,7 @@ fn framed_poll_fill(framing: Framing, words: &[&[u8]]) -> Result<Item, LineError
     ensures value { Gives (λ i. i) result (framed_poll_fill_of framing (texts words.now)) }
     ensures few { IfOk result (λ item. places_in item ≤ length words.now) }
 {
-    let reader = Name::parse(b'r', one_word(words)?)?;
+    let reader = one_name(b'r', words)?;
     Ok(Item::PollFillBuf { framing, reader })
 }
 
@@ -117,10 +121,10 @@ fn consume_call(alloc: Global, name: &[u8], words: &[&[u8]]) -> Result<Item, Lin
     } else if reads(name, b"sconsume") {
         framed_consume(Framing::UntilShort, words)
     } else if reads(name, b"isend") {
-        let reader = Name::parse(b'r', one_word(words)?)?;
+        let reader = one_name(b'r', words)?;
         Ok(Item::IsEnd { reader })
     } else if reads(name, b"endmsg") {
-        let reader = Name::parse(b'r', one_word(words)?)?;
+        let reader = one_name(b'r', words)?;
         Ok(Item::ConsumeEnd { reader })
     } else {
         reader_call(alloc, name, words)
@@ -128,6 +132,7 @@ fn consume_call(alloc: Global, name: &[u8], words: &[&[u8]]) -> Result<Item, Lin
 }
 
 /// A consumption: a reader, and how many of its unread bytes are taken as read
+#[tactic(auto, unfolding(usb_words::specs::Fields::two_fields))]
 fn framed_consume(framing: Framing, words: &[&[u8]]) -> Result<Item, LineError>
     ensures value { Gives (λ i. i) result (framed_consume_of framing (texts words.now)) }
     ensures few { IfOk result (λ item. places_in item ≤ length words.now) }
@@ -148,11 +153,11 @@ fn reader_call(alloc: Global, name: &[u8], words: &[&[u8]]) -> Result<Item, Line
     ensures few { IfOk result (λ item. places_in item ≤ length words.now) }
 {
     if reads(name, b"reader") {
-        let (reader, endpoint, size) = three_words(words)?;
+        let (reader, endpoint, transfer_size) = names_and_length(b'r', words)?;
         Ok(Item::Reader {
-            reader: Name::parse(b'r', reader)?,
-            endpoint: Name::parse(b'e', endpoint)?,
-            transfer_size: Length::parse(size)?,
+            reader,
+            endpoint,
+            transfer_size,
         })
     } else if reads(name, b"inner") {
         inner_call(words)
@@ -166,7 +171,7 @@ fn reader_call(alloc: Global, name: &[u8], words: &[&[u8]]) -> Result<Item, Line
 }
 
 /// `inner` of a reader, or else of a writer: the name for the endpoint stands first
-#[tactic(auto, unfolding(crate::specs::ReaderCalls::inner_of))]
+#[tactic(auto, unfolding(crate::specs::ReaderCalls::inner_of, usb_words::specs::Fields::two_fields))]
 fn inner_call(words: &[&[u8]]) -> Result<Item, LineError>
     ensures value { Gives (λ i. i) result (inner_of (texts words.now)) }
     ensures few { IfOk result (λ item. places_in item ≤ length words.now) }
@@ -181,7 +186,7 @@ fn inner_call(words: &[&[u8]]) -> Result<Item, LineError>
 }
 
 /// `num` of a reader's transfers, or else of a writer's
-#[tactic(auto, unfolding(crate::specs::ReaderCalls::num_of))]
+#[tactic(auto, unfolding(crate::specs::ReaderCalls::num_of, usb_words::specs::Fields::two_fields))]
 fn num_call(words: &[&[u8]]) -> Result<Item, LineError>
     ensures value { Gives (λ i. i) result (num_of (texts words.now)) }
     ensures few { IfOk result (λ item. places_in item ≤ length words.now) }
@@ -196,7 +201,7 @@ fn num_call(words: &[&[u8]]) -> Result<Item, LineError>
 }
 
 /// `timeout` of the calls on a reader, or else on a writer
-#[tactic(auto, unfolding(crate::specs::ReaderCalls::timeout_of))]
+#[tactic(auto, unfolding(crate::specs::ReaderCalls::timeout_of, usb_words::specs::Fields::two_fields))]
 fn timeout_call(words: &[&[u8]]) -> Result<Item, LineError>
     ensures value { Gives (λ i. i) result (timeout_of (texts words.now)) }
     ensures few { IfOk result (λ item. places_in item ≤ length words.now) }

@@ -1,19 +1,52 @@
 //! Calls on writers, of which some may have steps of their own, by their first word.
 
 ghost use Rattle.std.specs.Prelude.{◌≤◌, length, IfOk};
-ghost use Rattle.usb_words.specs.Fields.{texts};
+ghost use Rattle.usb_words.specs.Fields.{texts, two};
+ghost use Rattle.usb_words.specs.Letters.{writer_letter};
 ghost use Rattle.usb_words.specs.Outcome.{Gives};
+ghost use Rattle.usb_words.specs.Words.{name_of, bytes_of};
 ghost use Rattle.usb_script.specs.WriterCalls.{write_call_of, submit_call_of, writer_call_of};
 ghost use Rattle.usb_script.specs.ItemKinds.{places_in};
+ghost use Rattle.usb_script.specs.WithSteps.{two_with_steps};
+ghost use Rattle.usb_script.specs.declared.item.Item.TheVariants.{Write, PollWrite};
 
 use crate::control_call::control_call;
 use crate::item::Item;
+use crate::shape::{name_and_steps, names_and_length, one_name};
 use std::alloc::Global;
 use usb_steps::own_steps;
-use usb_words::{
-    Data, Length, LineError, Name, one_and_more, one_word, reads, three_words, two_and_more,
-    two_words,
-};
+use usb_words::{Data, LineError, Name, one_and_more, reads, two_words};
+
+/// `write`: a writer, and bytes, with the steps of the call behind them
+#[tactic(auto, unfolding(crate::specs::WithSteps::field_and_steps))]
+fn write_bytes(alloc: Global, words: &[&[u8]]) -> Result<Item, LineError>
+    ensures value { Gives (λ i. i) result
+        (two_with_steps Write (name_of writer_letter) bytes_of (texts words.now)) }
+    ensures few { IfOk result (λ item. places_in item ≤ length words.now) }
+{
+    let (writer, more) = one_and_more(words)?;
+    let writer = Name::parse(b'w', writer)?;
+    let (bytes, own) = one_and_more(more)?;
+    Ok(Item::Write {
+        writer,
+        bytes: Data::parse(alloc, bytes)?,
+        steps: own_steps(alloc, own)?,
+    })
+}
+
+/// `pollwrite`: a writer, and bytes
+#[tactic(auto, unfolding(usb_words::specs::Fields::two_fields))]
+fn poll_write(alloc: Global, words: &[&[u8]]) -> Result<Item, LineError>
+    ensures value { Gives (λ i. i) result
+        (two PollWrite (name_of writer_letter) bytes_of (texts words.now)) }
+    ensures few { IfOk result (λ item. places_in item ≤ length words.now) }
+{
+    let (writer, bytes) = two_words(words)?;
+    Ok(Item::PollWrite {
+        writer: Name::parse(b'w', writer)?,
+        bytes: Data::parse(alloc, bytes)?,
+    })
+}
 
 /// `write w BYTES` and steps, `pollwrite w BYTES`, or a further line
 #[tactic(auto, unfolding(crate::specs::WriterCalls::write_call_of))]
@@ -22,18 +55,9 @@ pub fn write_call(alloc: Global, name: &[u8], words: &[&[u8]]) -> Result<Item, L
     ensures few { IfOk result (λ item. places_in item ≤ length words.now) }
 {
     if reads(name, b"write") {
-        let (writer, bytes, own) = two_and_more(words)?;
-        Ok(Item::Write {
-            writer: Name::parse(b'w', writer)?,
-            bytes: Data::parse(alloc, bytes)?,
-            steps: own_steps(alloc, own)?,
-        })
+        write_bytes(alloc, words)
     } else if reads(name, b"pollwrite") {
-        let (writer, bytes) = two_words(words)?;
-        Ok(Item::PollWrite {
-            writer: Name::parse(b'w', writer)?,
-            bytes: Data::parse(alloc, bytes)?,
-        })
+        poll_write(alloc, words)
     } else {
         submit_call(alloc, name, words)
     }
@@ -47,28 +71,22 @@ fn submit_call(alloc: Global, name: &[u8], words: &[&[u8]]) -> Result<Item, Line
     ensures few { IfOk result (λ item. places_in item ≤ length words.now) }
 {
     if reads(name, b"wsubmit") {
-        let writer = Name::parse(b'w', one_word(words)?)?;
+        let writer = one_name(b'w', words)?;
         Ok(Item::Submit { writer })
     } else if reads(name, b"wend") {
-        let writer = Name::parse(b'w', one_word(words)?)?;
+        let writer = one_name(b'w', words)?;
         Ok(Item::SubmitEnd { writer })
     } else if reads(name, b"flush") {
-        let (writer, own) = one_and_more(words)?;
-        Ok(Item::Flush {
-            writer: Name::parse(b'w', writer)?,
-            steps: own_steps(alloc, own)?,
-        })
+        let (writer, steps) = name_and_steps(alloc, b'w', words)?;
+        Ok(Item::Flush { writer, steps })
     } else if reads(name, b"pollflush") {
-        let writer = Name::parse(b'w', one_word(words)?)?;
+        let writer = one_name(b'w', words)?;
         Ok(Item::PollFlush { writer })
     } else if reads(name, b"flushend") {
-        let (writer, own) = one_and_more(words)?;
-        Ok(Item::FlushEnd {
-            writer: Name::parse(b'w', writer)?,
-            steps: own_steps(alloc, own)?,
-        })
+        let (writer, steps) = name_and_steps(alloc, b'w', words)?;
+        Ok(Item::FlushEnd { writer, steps })
     } else if reads(name, b"pollflushend") {
-        let writer = Name::parse(b'w', one_word(words)?)?;
+        let writer = one_name(b'w', words)?;
         Ok(Item::PollFlushEnd { writer })
     } else {
         writer_call(alloc, name, words)
@@ -82,11 +100,11 @@ fn writer_call(alloc: Global, name: &[u8], words: &[&[u8]]) -> Result<Item, Line
     ensures few { IfOk result (λ item. places_in item ≤ length words.now) }
 {
     if reads(name, b"writer") {
-        let (writer, endpoint, size) = three_words(words)?;
+        let (writer, endpoint, transfer_size) = names_and_length(b'w', words)?;
         Ok(Item::Writer {
-            writer: Name::parse(b'w', writer)?,
-            endpoint: Name::parse(b'e', endpoint)?,
-            transfer_size: Length::parse(size)?,
+            writer,
+            endpoint,
+            transfer_size,
         })
     } else {
         control_call(alloc, name, words)

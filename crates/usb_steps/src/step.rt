@@ -17,7 +17,7 @@ use usb_words::{
 const MAX_TICKET: u64 = 4294967295;
 
 /// `reap`, `reap T`
-#[tactic(auto, unfolding(crate::specs::StepForms::reap_of))]
+#[tactic(auto, unfolding(crate::specs::StepForms::reap_of, usb_words::specs::Fields::one_field))]
 fn reap_step(words: &[&[u8]]) -> Result<KernelStep, LineError>
     ensures value { Gives (λ s. s) result (reap_of (texts words.now)) }
     ensures range { IfOk result IsStepInRange }
@@ -32,7 +32,7 @@ fn reap_step(words: &[&[u8]]) -> Result<KernelStep, LineError>
 }
 
 /// `pkt k HH BYTES`, `ack k HH`, `echo k HH HH`, `fail k HH ERRNO`
-#[tactic(auto, unfolding(crate::specs::StepForms::endpoint_step_of))]
+#[tactic(auto, unfolding(crate::specs::StepForms::endpoint_step_of, usb_words::specs::Fields::two_fields, usb_words::specs::Fields::three_fields))]
 fn endpoint_step(alloc: Global, name: &[u8], words: &[&[u8]]) -> Result<KernelStep, LineError>
     ensures value { Gives (λ s. s) result (endpoint_step_of name.now (texts words.now)) }
     ensures range { IfOk result IsStepInRange }
@@ -71,7 +71,7 @@ fn endpoint_step(alloc: Global, name: &[u8], words: &[&[u8]]) -> Result<KernelSt
 
 /// `unplug k`, `clock TIME`, `timer`, `reap`, `refuse k CALL ERRNO`, or a step that comes to an
 /// endpoint
-#[tactic(auto, unfolding(crate::specs::StepForms::step_named))]
+#[tactic(auto, unfolding(crate::specs::StepForms::step_named, usb_words::specs::Fields::one_field, usb_words::specs::Fields::three_fields))]
 fn named_step(alloc: Global, name: &[u8], words: &[&[u8]]) -> Result<KernelStep, LineError>
     ensures value { Gives (λ s. s) result (step_named name.now (texts words.now)) }
     ensures range { IfOk result IsStepInRange }

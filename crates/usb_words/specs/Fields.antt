@@ -51,6 +51,25 @@ unfoldable pub three_and_more : List Word → Option (Word × Word × Word × Li
 three_and_more (a ∷ b ∷ c ∷ more) = Some (a, b, c, more)
 three_and_more words = None
 
+-- one field to three, each with its own reading, and no more
+unfoldable pub one_field : {A : Type 0} → (Word → Option A) → List Word → Option A
+one_field first words = one_word words >>= first
+
+unfoldable pub two_fields : {A B : Type 0} → (Word → Option A) → (Word → Option B) → List Word → Option (A × B)
+two_fields first second words = do
+  w ← two_words words
+  a ← first w.0
+  b ← second w.1
+  Some (a, b)
+
+unfoldable pub three_fields : {A B C : Type 0} → (Word → Option A) → (Word → Option B) → (Word → Option C) → List Word → Option (A × B × C)
+three_fields first second third words = do
+  w ← three_words words
+  a ← first w.0
+  b ← second w.1
+  c ← third w.2
+  Some (a, b, c)
+
 -- `none`, `one` to `four`, and `six`: exactly so many words, each with its own reading, and what is made of the
 -- fields that they spell
 abbrev pub none : {R : Type 0} → R → List Word → Option R
@@ -58,24 +77,18 @@ none made words = no_word words >>= λ _. Some made
 
 abbrev pub one : {A R : Type 0} → (A → R) → (Word → Option A) → List Word → Option R
 one make first words = do
-  w ← one_word words
-  a ← first w
+  a ← one_field first words
   Some (make a)
 
 abbrev pub two : {A B R : Type 0} → (A → B → R) → (Word → Option A) → (Word → Option B) → List Word → Option R
 two make first second words = do
-  w ← two_words words
-  a ← first w.0
-  b ← second w.1
-  Some (make a b)
+  x ← two_fields first second words
+  Some (make x.0 x.1)
 
 abbrev pub three : {A B C R : Type 0} → (A → B → C → R) → (Word → Option A) → (Word → Option B) → (Word → Option C) → List Word → Option R
 three make first second third words = do
-  w ← three_words words
-  a ← first w.0
-  b ← second w.1
-  c ← third w.2
-  Some (make a b c)
+  x ← three_fields first second third words
+  Some (make x.0 x.1 x.2)
 
 abbrev pub four : {A B C D R : Type 0} → (A → B → C → D → R) → (Word → Option A) → (Word → Option B) → (Word → Option C) → (Word → Option D) → List Word → Option R
 four make first second third fourth words = do

@@ -17,16 +17,21 @@ front n read words = do
   criterion ← read (take n words)
   Some (criterion, drop n words)
 
--- a criterion by its name: `vid HHHH`, `vidpid HHHH HHHH`, `class HH`, `classsub HH HH`, `classsubproto HH HH HH`, `serial VALUE`
+-- a criterion of the class by its name: `class HH`, `classsub HH HH`, `classsubproto HH HH HH`
+unfoldable pub class_criterion : Word → List Word → Option (Criterion × List Word)
+class_criterion name words =
+    if bytes_eq name (codes "class") then front 1 (one Class hex_byte_of) words
+    else if bytes_eq name (codes "classsub") then front 2 (two Subclass hex_byte_of hex_byte_of) words
+    else if bytes_eq name (codes "classsubproto") then front 3 (three Protocol hex_byte_of hex_byte_of hex_byte_of) words
+    else None
+
+-- a criterion by its name: `vid HHHH`, `vidpid HHHH HHHH`, `serial VALUE`, and those of the class
 unfoldable pub named_criterion : Word → List Word → Option (Criterion × List Word)
 named_criterion name words =
     if bytes_eq name (codes "vid") then front 1 (one Vendor hex_word_of) words
     else if bytes_eq name (codes "vidpid") then front 2 (two Product hex_word_of hex_word_of) words
-    else if bytes_eq name (codes "class") then front 1 (one Class hex_byte_of) words
-    else if bytes_eq name (codes "classsub") then front 2 (two Subclass hex_byte_of hex_byte_of) words
-    else if bytes_eq name (codes "classsubproto") then front 3 (three Protocol hex_byte_of hex_byte_of hex_byte_of) words
     else if bytes_eq name (codes "serial") then front 1 (one Serial serial_of) words
-    else None
+    else class_criterion name words
 
 -- the criteria that these words spell one behind another, of which there are at most so many
 abbrev pub criteria_of : ℕ → List Word → Option (List Criterion)

@@ -3,7 +3,7 @@
 ghost use Rattle.std.specs.Prelude.{◌≡◌, ◌≤◌, length, take, drop, IfOk};
 ghost use Rattle.usb_words.specs.Fields.{texts};
 ghost use Rattle.usb_words.specs.Outcome.{Gives};
-ghost use Rattle.usb_words.specs.Selectors.{serial_of, named_criterion, selector_of};
+ghost use Rattle.usb_words.specs.Selectors.{serial_of, class_criterion, named_criterion, selector_of};
 
 use crate::fields::{one_word, three_words, two_words};
 use crate::line_error::LineError;
@@ -83,24 +83,14 @@ fn front<'w, 'a>(words: &'w [&'a [u8]], count: usize) -> &'w [&'a [u8]]
     &words[..count]
 }
 
-/// The criterion with this name, and how many words behind the name are its own.
-#[tactic(auto, unfolding(crate::specs::Selectors::named_criterion))]
-fn named_criterion(
-    alloc: Global,
-    name: &[u8],
-    words: &[&[u8]],
-) -> Result<(Criterion, usize), LineError>
+/// The criterion of the class with this name, and how many words behind the name are its own.
+#[tactic(auto, unfolding(crate::specs::Selectors::class_criterion, crate::specs::Fields::one_field, crate::specs::Fields::two_fields, crate::specs::Fields::three_fields))]
+fn class_criterion(name: &[u8], words: &[&[u8]]) -> Result<(Criterion, usize), LineError>
     ensures value { Gives (λ x. (x.0, drop x.1 (texts words.now))) result
-        (named_criterion name.now (texts words.now)) }
+        (class_criterion name.now (texts words.now)) }
     ensures within { IfOk result (λ x. x.1 ≤ length words.now) }
 {
-    if reads(name, b"vid") {
-        let vendor = one_word(front(words, 1))?;
-        Ok((Criterion::Vendor(hex_word(vendor)?), 1))
-    } else if reads(name, b"vidpid") {
-        let (vendor, product) = two_words(front(words, 2))?;
-        Ok((Criterion::Product(hex_word(vendor)?, hex_word(product)?), 2))
-    } else if reads(name, b"class") {
+    if reads(name, b"class") {
         let class = one_word(front(words, 1))?;
         Ok((Criterion::Class(hex_byte(class)?), 1))
     } else if reads(name, b"classsub") {
@@ -117,11 +107,33 @@ fn named_criterion(
             hex_byte(protocol)?,
         );
         Ok((criterion, 3))
+    } else {
+        Err(LineError::Malformed)
+    }
+}
+
+/// The criterion with this name, and how many words behind the name are its own.
+#[tactic(auto, unfolding(crate::specs::Selectors::named_criterion, crate::specs::Fields::one_field, crate::specs::Fields::two_fields))]
+fn named_criterion(
+    alloc: Global,
+    name: &[u8],
+    words: &[&[u8]],
+) -> Result<(Criterion, usize), LineError>
+    ensures value { Gives (λ x. (x.0, drop x.1 (texts words.now))) result
+        (named_criterion name.now (texts words.now)) }
+    ensures within { IfOk result (λ x. x.1 ≤ length words.now) }
+{
+    if reads(name, b"vid") {
+        let vendor = one_word(front(words, 1))?;
+        Ok((Criterion::Vendor(hex_word(vendor)?), 1))
+    } else if reads(name, b"vidpid") {
+        let (vendor, product) = two_words(front(words, 2))?;
+        Ok((Criterion::Product(hex_word(vendor)?, hex_word(product)?), 2))
     } else if reads(name, b"serial") {
         let number = one_word(front(words, 1))?;
         Ok((Criterion::Serial(serial(alloc, number)?), 1))
     } else {
-        Err(LineError::Malformed)
+        class_criterion(name, words)
     }
 }
 
