@@ -1,5 +1,5 @@
 -- An endpoint is taken out of its name and closed.
-use Rattle.std.proofs.Common.{◌≡◌, ℕ, arith, List, [], ◌∷◌, ◌++◌, ◌+◌, length, length-append, map, Option, Some, None, Bool, true, false, Result, Ok, Err, String, string_bytes, refl, ap, sym, ◌∙◌, subst}
+use Rattle.std.proofs.Common.{◌≡◌, ℕ, arith, List, [], ◌∷◌, ◌++◌, ◌+◌, length, length-append, Option, Some, None, Bool, true, false, Result, Ok, Err, String, string_bytes, refl, ap, sym, ◌∙◌, subst}
 use Rattle.std.specs.Prelude.{is_some, OnOk, ◌==◌}
 use Rattle.std.specs.declared.alloc.Global.{Global}
 use Rattle.std.proofs.lemmas.Bool.{cond_both, eq-eqb}

@@ -1,17 +1,14 @@
 -- Control transfers as the code makes them: of a device or of an interface that is open under a name, with the steps of the line.
-use Rattle.std.proofs.Common.{◌≡◌, ℕ, ◌≤◌, ◌+◌, ◌<◌, arith, Bool, true, false, cond, List, [], ◌++◌, length, Option, Some, None, Result, Ok, Err, String, string_bytes, refl, ap, sym, ◌∙◌, subst, inl, inr}
+use Rattle.std.proofs.Common.{◌≡◌, ℕ, ◌≤◌, ◌+◌, Bool, true, false, cond, List, ◌++◌, length, Option, Some, None, Result, Ok, Err, String, string_bytes, refl, ap, sym, ◌∙◌, subst}
 use Rattle.std.specs.Prelude.{OnOk, option_and_then}
 use Rattle.std.specs.Borrow.{Bor}
 use Rattle.std.specs.Option.{option_map, option_copied}
 use Rattle.std.specs.declared.alloc.Global.{Global}
 use Rattle.usb_desc.specs.declared.error.Fail.{Fail}
-use Rattle.usb_desc.specs.declared.error.Fail.TheVariants.{Cause, Memory}
 use Rattle.usb_registry.specs.History.{value_at}
 use Rattle.usb_error.specs.Outcomes.{result_map}
 use Rattle.usb_simulated.specs.declared.step.KernelStep.{KernelStep}
 use Rattle.usb_kernel.proofs.Extends.{extends-trans}
-use Rattle.usb_endpoint.specs.EndpointState.{EndpointState}
-use Rattle.usb_endpoint.specs.Handles.{Stands}
 use Rattle.usb_endpoint.proofs.Frames.{Stands-later}
 use Rattle.usb_ledger.specs.declared.opened.OpenDevice.{OpenDevice}
 use Rattle.usb_ledger.specs.Entries.{ClaimedInterface}
@@ -31,13 +28,13 @@ use Rattle.usb_lines.specs.Calls.{condition_line}
 use Rattle.usb_names.specs.Names.{named}
 use Rattle.usb_answers.specs.State.{State, with_host}
 use Rattle.usb_answers.specs.OpenAt.{DeviceAt, InterfaceAt}
-use Rattle.usb_answers.specs.Answer.{Answer, told, barred, if_open}
+use Rattle.usb_answers.specs.Answer.{told, barred, if_open}
 use Rattle.usb_answers.specs.Steps.{lent, rested, then_rested, stepped_all}
 use Rattle.usb_answers.specs.Controls.{device_of_target, bars_control, control_on, control_answer, came_line}
 use Rattle.usb_answers.specs.SessionState.{SessionState, IsSound}
 use Rattle.usb_answers.specs.Relation.{Represents}
 use Rattle.usb_answers.specs.Answered.{Answered, Answers}
-use Rattle.usb_answers.specs.TargetCalls.{DevicesStand, InterfacesStand, KeepsHandles, TargetAnswered, TargetAnswers, number_of_target, called_host, called_line, as_tried}
+use Rattle.usb_answers.specs.TargetCalls.{DevicesStand, InterfacesStand, KeepsHandles, TargetAnswered, TargetAnswers, number_of_target, as_tried}
 use Rattle.usb_answers.proofs.Answering.{told-answered, host_is}
 use Rattle.usb_answers.proofs.Called.{KeepsSession, sound-host, represents-host}
 use Rattle.usb_answers.proofs.ControlHosts.{spare-rested}

@@ -1,14 +1,13 @@
 -- What a control transfer leaves of a host, from its start until its answer is taken.
-use Rattle.std.proofs.Common.{◌≡◌, ◌≢◌, ℕ, ◌<◌, ◌≤◌, ◌+◌, ◌-◌, arith, Bool, true, false, List, [], ◌++◌, length, length-append, append-nil, Option, Some, None, Result, Ok, Err, refl, ap, sym, ◌∙◌, subst, inl, inr}
-use Rattle.std.specs.Prelude.{◌==◌, IsSome}
+use Rattle.std.proofs.Common.{◌≡◌, ◌≢◌, ℕ, ◌≤◌, ◌+◌, ◌-◌, arith, Bool, true, false, List, [], ◌++◌, length, length-append, Option, Some, None, Result, Ok, Err, refl, ap, sym, ◌∙◌, subst, inl, inr}
+use Rattle.std.specs.Prelude.{IsSome}
 use Rattle.std.proofs.lemmas.Bool.{cases_eq, eq-eqb, ne_eqb}
 use Rattle.usb_simulated.specs.declared.step.KernelStep.{KernelStep}
 use Rattle.usb_desc.specs.declared.error.Fail.{Fail}
 use Rattle.usb_desc.specs.declared.error.Fail.TheVariants.{Cause, Memory}
-use Rattle.usb_kernel.specs.Extends.{Extends}
 use Rattle.usb_kernel.specs.Tickets.{tickets}
 use Rattle.usb_kernel.proofs.Extends.{extends-same, extends-trans}
-use Rattle.usb_bus.specs.BusState.{BusState, without_owner, without_key}
+use Rattle.usb_bus.specs.BusState.{BusState, without_key}
 use Rattle.usb_endpoint.specs.EndpointState.{EndpointState}
 use Rattle.usb_endpoint.specs.Handles.{Stands, KeepsOthers}
 use Rattle.usb_endpoint.proofs.Frames.{Stands-other, Stands-later}
@@ -16,7 +15,7 @@ use Rattle.usb_ledger.specs.Entries.{control_endpoint}
 use Rattle.usb_ledger.proofs.DeviceLemmas.{counts-same}
 use Rattle.usb_host.specs.declared.controls.ControlRequest.{ControlRequest}
 use Rattle.usb_host.specs.HostState.{HostState}
-use Rattle.usb_host.specs.HostBus.{bus_of, owner_at, key_at}
+use Rattle.usb_host.specs.HostBus.{bus_of, key_at}
 use Rattle.usb_host.specs.HostCalls.{host_left}
 use Rattle.usb_host.specs.HostFrames.{HostGoesOn}
 use Rattle.usb_host.specs.HostTurns.{host_rest}
@@ -36,7 +35,7 @@ use Rattle.usb_device.proofs.FutureFrames.{stays-started, others-started, starte
 use Rattle.usb_answers.specs.TargetCalls.{KeepsHandles}
 use Rattle.usb_answers.proofs.Called.{KeepsSession}
 use Rattle.usb_answers.proofs.FutureSessions.{LeavesKey}
-use Rattle.usb_answers.proofs.NamedKeys.{OpensNone, key-before}
+use Rattle.usb_answers.proofs.NamedKeys.{key-before}
 
 -- nothing was called
 pub keeps-same : (h : HostState) → KeepsHandles h h

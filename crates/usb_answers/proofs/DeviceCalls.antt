@@ -1,8 +1,7 @@
 -- Calls on open devices that go down to the host: the session that they leave, and what they answer.
-use Rattle.std.proofs.Common.{◌≡◌, ◌∙◌, ◌<◌, ◌≤◌, ◌+◌, ℕ, List, length, Some, None, ap, sym, subst, slice_get}
+use Rattle.std.proofs.Common.{◌≡◌, ◌∙◌, ◌≤◌, ◌+◌, ℕ, List, Some, None, ap, sym, subst}
 use Rattle.usb_registry.specs.History.{value_at}
 use Rattle.usb_registry.proofs.ValueLemmas.{value-set_same}
-use Rattle.usb_kernel.proofs.Places.{slice_get-set_same}
 use Rattle.usb_lines.specs.Calls.{condition_line}
 use Rattle.usb_ledger.specs.declared.opened.OpenDevice.{OpenDevice}
 use Rattle.usb_host.specs.HostState.{HostState}

@@ -1,5 +1,5 @@
 -- What calls on open devices leave of the host, and what is printed of them.
-use Rattle.std.proofs.Common.{◌≡◌, ◌∙◌, ◌≤◌, ◌+◌, ℕ, arith, length, length-set, List, [], Option, Some, None, refl, ap, sym, subst, slice_get, set}
+use Rattle.std.proofs.Common.{◌≡◌, ◌∙◌, ◌≤◌, ◌+◌, ℕ, arith, length, List, [], Option, Some, None, refl, ap, sym, subst, set}
 use Rattle.usb_registry.specs.History.{value_at}
 use Rattle.usb_ledger.proofs.DeviceLemmas.{KeepsCounts, counts_of, counts-set}
 use Rattle.usb_host.specs.EndpointOpens.{as_asked}

@@ -1,5 +1,5 @@
 -- What lines do that ask, and those on devices and interfaces: they change no ticket.
-use Rattle.std.proofs.Common.{◌≡◌, ℕ, zero, suc, length, List, Bool, false, Option, Some, None, Result, Ok, Err, refl, ap, slice_get}
+use Rattle.std.proofs.Common.{◌≡◌, ℕ, zero, suc, length, List, Bool, false, Option, Some, None, Result, Ok, Err, refl, ap}
 use Rattle.std.proofs.lemmas.Bool.{cond_both}
 use Rattle.usb_registry.specs.History.{value_at}
 use Rattle.usb_error.specs.Errors.{interface_in_use_error}

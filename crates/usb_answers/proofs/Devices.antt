@@ -1,5 +1,5 @@
 -- Devices: they are opened, and tell of themselves.
-use Rattle.std.proofs.Common.{[], ◌≡◌, ℕ, ◌<◌, ◌≤◌, arith, List, length, Option, Some, None, Result, Ok, Err, true, false, refl, ap, sym, ◌∙◌, subst, slice_get, inl, inr}
+use Rattle.std.proofs.Common.{[], ◌≡◌, ℕ, arith, List, length, Option, Some, None, Result, Ok, Err, true, false, refl, ap, sym, ◌∙◌, subst, inl, inr}
 use Rattle.usb_registry.specs.History.{value_at}
 use Rattle.usb_registry.proofs.ValueLemmas.{value-within, value-pushed}
 use Rattle.usb_desc.specs.declared.error.Fail.{Fail}
@@ -25,7 +25,6 @@ use Rattle.usb_answers.specs.Answer.{Answer, told, barred, if_open}
 use Rattle.usb_answers.specs.Opens.{open_answer, opened_as}
 use Rattle.usb_answers.specs.SessionState.{SessionState, IsSound}
 use Rattle.usb_answers.specs.Relation.{Represents, session_of}
-use Rattle.usb_answers.proofs.CountedNames.{counted-same}
 use Rattle.usb_names.proofs.NameLemmas.{length-set_name, names-set}
 use Rattle.usb_answers.proofs.CountedDevices.{devices-opened}
 use Rattle.usb_answers.proofs.SoundDevices.{sound-device}

@@ -1,7 +1,6 @@
 -- Futures as the code makes them: they start, are polled and are waited for.
 use Rattle.std.proofs.Common.{◌≡◌, ℕ, ◌≤◌, ◌+◌, Bool, true, false, cond, List, [], length, Option, Some, None, Result, refl, ap, sym, ◌∙◌, subst}
 use Rattle.std.specs.Prelude.{IsSome, if◌then◌else◌}
-use Rattle.std.specs.Option.{ForSome}
 use Rattle.std.proofs.lemmas.Option.{same_Some}
 use Rattle.usb_xfer.specs.declared.error.TransferError.{TransferError}
 use Rattle.usb_simulated.specs.declared.step.KernelStep.{KernelStep}
@@ -19,7 +18,7 @@ use Rattle.usb_lines.specs.Calls.{condition_line, ok_line}
 use Rattle.usb_lines.specs.Controls.{pending_line, received_line}
 use Rattle.usb_names.specs.Names.{named, is_free, freed, set_name}
 use Rattle.usb_answers.specs.State.{State, with_host}
-use Rattle.usb_answers.specs.Answer.{told, barred, if_open}
+use Rattle.usb_answers.specs.Answer.{barred, if_open}
 use Rattle.usb_answers.specs.Steps.{lent, rested, stepped_all}
 use Rattle.usb_answers.specs.Controls.{device_of_target, bars_control, came_line}
 use Rattle.usb_answers.specs.Futures.{start_on, start_answer, future_polled, poll_future_answer, wait_future_answer}

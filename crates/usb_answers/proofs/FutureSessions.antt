@@ -2,24 +2,22 @@
 use Rattle.std.proofs.Common.{◌≡◌, ◌≢◌, ℕ, ◌<◌, arith, List, [], ◌∷◌, ◌++◌, length, Bool, true, false, Option, Some, None, refl, ap, sym, ◌∙◌, subst, inl, inr}
 use Rattle.std.specs.Prelude.{IsSome, ◌==◌}
 use Rattle.std.proofs.lemmas.Bool.{cond_both, eq-eqb, eqb-true}
-use Rattle.std.proofs.lemmas.Option.{none-some, same_Some}
 use Rattle.usb_kernel.specs.Extends.{Extends}
 use Rattle.usb_bus.specs.BusState.{BusState, without_owner, without_key}
 use Rattle.usb_endpoint.specs.EndpointState.{EndpointState}
-use Rattle.usb_endpoint.specs.Handles.{Stands, KeepsOthers}
+use Rattle.usb_endpoint.specs.Handles.{KeepsOthers}
 use Rattle.usb_endpoint.proofs.Frames.{Stands-other}
-use Rattle.usb_endpoint.proofs.HandleLemmas.{KeepsOthers-end, others_in_turn}
+use Rattle.usb_endpoint.proofs.HandleLemmas.{KeepsOthers-end}
 use Rattle.usb_ledger.specs.Entries.{HostEndpoint}
 use Rattle.usb_host.specs.HostState.{HostState}
 use Rattle.usb_host.specs.HostBus.{bus_of, owner_at, key_at}
 use Rattle.usb_host.specs.HostCalls.{host_left}
-use Rattle.usb_host.specs.HostFrames.{LineGoesOn}
-use Rattle.usb_host.specs.TicketEnds.{host_taken, host_abandoned}
+use Rattle.usb_host.specs.TicketEnds.{host_abandoned}
 use Rattle.usb_device.specs.Futures.{FutureState, StandsFuture, closed_by, future_closed}
 use Rattle.usb_host.proofs.ClaimFrames.{goes-trans}
 use Rattle.usb_host.proofs.CallFrames.{keeps-abandoned, line-left, interfaces-left, bus-left, bus-abandoned}
 use Rattle.usb_host.proofs.CloseLemmas.{abandoned-past}
-use Rattle.usb_ledger.proofs.DeviceLemmas.{KeepsCounts, counts-same, counts-there, opened-counts}
+use Rattle.usb_ledger.proofs.DeviceLemmas.{counts-same, counts-there, opened-counts}
 use Rattle.usb_device.proofs.DeviceLemmas.{counts-stands}
 use Rattle.usb_host.proofs.FollowLemmas.{on-left}
 use Rattle.usb_device.proofs.FreshKeys.{endpoint-within}
@@ -33,7 +31,7 @@ use Rattle.usb_answers.proofs.CountedNames.{counted-goes}
 use Rattle.usb_answers.proofs.CountedDevices.{devices-kept}
 use Rattle.usb_answers.proofs.FutureLemmas.{control_with, future-goes, future-within}
 use Rattle.usb_names.proofs.NameLemmas.{length-freed, length-set_name, names-set}
-use Rattle.usb_answers.proofs.NamedKeys.{OpensNone, none-goes, none-then, named-future_closed, named-future_opened}
+use Rattle.usb_answers.proofs.NamedKeys.{OpensNone, none-goes, named-future_closed, named-future_opened}
 
 -- what a session stands on is kept, and the endpoint of a key is open no more
 pub record LeavesKey (old new : HostState) (key : ℕ) : Type 0 where

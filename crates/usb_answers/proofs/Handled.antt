@@ -1,5 +1,5 @@
 -- Calls on handles of interfaces: what they keep of a session.
-use Rattle.std.proofs.Common.{None, set, ◌≡◌, ℕ, ◌<◌, Bool, true, List, length, Option, Some, Result, Ok, Err, refl, ap, sym, ◌∙◌, subst, slice_get, inl, inr}
+use Rattle.std.proofs.Common.{None, set, ◌≡◌, ℕ, Bool, true, List, length, Option, Some, Result, Ok, Err, refl, ap, sym, ◌∙◌, subst, inl, inr}
 use Rattle.usb_registry.specs.History.{value_at}
 use Rattle.usb_device.specs.DeviceLaws.{DevicesAreHeld}
 use Rattle.usb_ledger.proofs.DeviceLemmas.{counts-same}

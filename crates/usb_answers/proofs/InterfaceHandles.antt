@@ -1,5 +1,5 @@
 -- Handles of interfaces are cloned, closed and released.
-use Rattle.std.proofs.Common.{◌≡◌, ℕ, Bool, true, false, List, ◌++◌, Option, Some, None, Result, Ok, Err, String, string_bytes, refl, ap, sym, ◌∙◌, subst, slice_get}
+use Rattle.std.proofs.Common.{◌≡◌, ℕ, Bool, true, false, List, ◌++◌, Option, Some, None, Result, Ok, Err, String, string_bytes, refl, ap, sym, ◌∙◌, subst}
 use Rattle.std.specs.Prelude.{OnOk, is_some}
 use Rattle.std.specs.declared.alloc.Global.{Global}
 use Rattle.usb_registry.specs.History.{value_at}

@@ -54,7 +54,13 @@ pub mod TakenOut
 pub mod TimesLemmas
 pub mod WaitCode
 pub mod WriterDoes
+pub mod WorkedControls
+pub mod WorkedDevices
+pub mod WorkedEndpoints
+pub mod WorkedHandles
 pub mod WorkedOutput
+pub mod WorkedServed
+pub mod WorkedStreams
 pub mod TreeAnswers
 pub mod TreeLines
 pub mod OtherLines

@@ -1,5 +1,5 @@
 -- The alternate settings of claimed interfaces.
-use Rattle.std.proofs.Common.{◌≡◌, ℕ, List, Option, Some, None, Result, ap, sym, ◌∙◌, subst, slice_get}
+use Rattle.std.proofs.Common.{◌≡◌, ℕ, List, Option, Some, None, Result, ap, sym, ◌∙◌, subst}
 use Rattle.usb_registry.specs.History.{value_at}
 use Rattle.usb_error.specs.ErrorState.{ErrorState}
 use Rattle.usb_lines.specs.Calls.{condition_line, result_line}

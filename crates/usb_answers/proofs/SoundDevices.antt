@@ -1,5 +1,5 @@
 -- Sessions in which devices and their names change together.
-use Rattle.std.proofs.Common.{◌≡◌, ℕ, ◌<◌, List, length, Option, Some, ap, sym, ◌∙◌, subst, slice_get}
+use Rattle.std.proofs.Common.{◌≡◌, ℕ, ◌<◌, List, length, Option, Some, ap, sym, ◌∙◌, subst}
 use Rattle.usb_registry.specs.History.{value_at}
 use Rattle.usb_ledger.specs.Entries.{ClaimedInterface}
 use Rattle.usb_ledger.specs.declared.opened.OpenDevice.{OpenDevice}

@@ -1,5 +1,5 @@
 -- What lines on the tree of attributes and on packets of udev do: they change no ticket.
-use Rattle.std.proofs.Common.{◌≡◌, ℕ, Bool, true, false, List, drop, Result, Ok, Err, refl, ap}
+use Rattle.std.proofs.Common.{◌≡◌, ℕ, Bool, false, List, drop, Result, Ok, Err, refl, ap}
 use Rattle.futures.specs.declared.task.Poll.{Poll}
 use Rattle.futures.specs.declared.task.Poll.TheVariants.{Ready, Pending}
 use Rattle.usb_error.specs.ErrorState.{ErrorState}

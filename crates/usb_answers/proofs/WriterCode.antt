@@ -23,9 +23,9 @@ use Rattle.usb_writes.specs.Told.{WriterCalls, with_calls, failures_of, count_of
 use Rattle.usb_writes.proofs.WritesKeep.{Keeps, write-keeps, flush-keeps, flush_end-keeps, poll_flush_end-keeps, submit-keeps, submit_end-keeps}
 use Rattle.usb_writer_lines.specs.Needs.{bars_call, write_need}
 use Rattle.usb_writer_lines.specs.Printed.{Prints, CameTo}
-use Rattle.usb_names.specs.Names.{named, change_named, set_name, freed}
+use Rattle.usb_names.specs.Names.{named, change_named}
 use Rattle.usb_names.proofs.NameLemmas.{map-change_named, put-changed, put-back}
-use Rattle.usb_answers.specs.State.{State, Endpoint, Writer, kept, pending, tickets_of, with_host}
+use Rattle.usb_answers.specs.State.{State, Endpoint, Writer, kept, pending, tickets_of}
 use Rattle.usb_answers.specs.BareWriters.{BareWriter, bare_writer}
 use Rattle.usb_answers.specs.WriterAt.{WriterAt, writer_place, writer_at, state_of_writer, writing_at}
 use Rattle.usb_answers.specs.Readers.{called_endpoint}
@@ -34,7 +34,7 @@ use Rattle.usb_answers.specs.Answer.{Answer, told, barred}
 use Rattle.usb_answers.specs.Answered.{Answered}
 use Rattle.usb_answers.specs.SessionState.{SessionState}
 use Rattle.usb_answers.specs.Relation.{Represents, session_of}
-use Rattle.usb_answers.proofs.Answering.{host_is, told-answered}
+use Rattle.usb_answers.proofs.Answering.{host_is}
 use Rattle.usb_answers.proofs.Called.{OpenAt, represents-put}
 use Rattle.usb_answers.proofs.ReaderCode.{drop-last, tickets-read}
 use Rattle.usb_answers.proofs.WriterCalled.{HasWriter, WriterAnswers, with_writer_called}

@@ -1,13 +1,13 @@
 -- Lines that set something of a writer, and ask nothing of the host.
-use Rattle.std.proofs.Common.{◌≡◌, ◌≢◌, ℕ, ◌<◌, ◌≤◌, arith, List, ◌++◌, map, Option, Some, None, Result, Ok, Err, true, false, refl, ap, sym, ◌∙◌, subst, String, string_bytes}
-use Rattle.std.specs.Prelude.{OnOk, nat_lt, ◌||◌, ◌==◌}
+use Rattle.std.proofs.Common.{◌≡◌, ℕ, List, ◌++◌, map, Option, Some, None, Result, Ok, Err, true, false, refl, ap, sym, ◌∙◌, subst, String, string_bytes}
+use Rattle.std.specs.Prelude.{OnOk}
 use Rattle.std.specs.Option.{option_map}
 use Rattle.std.specs.declared.alloc.Global.{Global}
-use Rattle.std.proofs.lemmas.Bool.Decides.{nat_tests}
 use Rattle.std.proofs.lemmas.Option.{same_Some}
 use Rattle.usb_endpoint.specs.EndpointState.{EndpointState}
 use Rattle.usb_writes.specs.declared.any_writer.AnyWriter.{AnyWriter}
 use Rattle.usb_lines.specs.Calls.{condition_line, ok_line}
+use Rattle.usb_writer_lines.specs.Needs.{bars_transfers}
 use Rattle.usb_answers.specs.declared.session.Session.TheInside.{Inside}
 use Rattle.usb_names.specs.Names.{named, freed, set_name, change_named}
 use Rattle.usb_names.proofs.NameLemmas.{map-change_named, put-back}
@@ -69,27 +69,18 @@ answers-unset i S mid n w before text (Ok done) call view none rest same printed
 
 -- `num` of a writer
 pub answers-transfers : {E : Type 0} (i : Inside) (S : SessionState) (after : List (Option AnyWriter)) (n w count : ℕ) (x y : AnyWriter) (before text : String Global) (result : Result Unit E) → IsSound (made_of i) → made_of i ≡ S → PutBack i.writers.items after n x y → n ≡ w → writer_endpoint y ≡ writer_endpoint x → bare_writer_of y ≡ record (bare_writer_of x) { n = count }
-    → count == 0 || nat_lt 64 count ≡ false → OnOk result (string_bytes text ≡ string_bytes before ++ ok_line) → Answers S (made_writing i i.host after) before text result (λ state. writer_num_answer state w count)
+    → bars_transfers count ≡ false → OnOk result (string_bytes text ≡ string_bytes before ++ ok_line) → Answers S (made_writing i i.host after) before text result (λ state. writer_num_answer state w count)
 unfolding writer_num_answer
 answers-transfers i S after n w count x y before text result sound view back name same set free printed =
     rw free (answers-set i S after n w x y before text result (with_transfers count) sound view back name same (λ z is. ap (λ (b : BareWriter). record b { n = count }) is ∙ sym set) printed)
 
 -- whether the number is barred
-pub none-barred : (count : ℕ) → count ≡ 0 → count == 0 || nat_lt 64 count ≡ true
-none-barred count none = grind (arith, nat_tests)
-
-pub many-barred : (count : ℕ) → 64 < count → count == 0 || nat_lt 64 count ≡ true
-many-barred count many = grind (arith, nat_tests)
-
-pub count-free : (count : ℕ) → count ≢ 0 → count ≤ 64 → count == 0 || nat_lt 64 count ≡ false
-count-free count some few = grind (arith, nat_tests)
-
 -- it is barred, whether a writer is open or not
-transfers-barred : (s : SessionState) (state : State) (w count : ℕ) (o : Option Writer) → count == 0 || nat_lt 64 count ≡ true → Represents s state → Gives s condition_line (if_open o (λ x. transfers_on state w count) (barred state))
+transfers-barred : (s : SessionState) (state : State) (w count : ℕ) (o : Option Writer) → bars_transfers count ≡ true → Represents s state → Gives s condition_line (if_open o (λ x. transfers_on state w count) (barred state))
 transfers-barred s state w count None bars r = barred-gives s state r
 transfers-barred s state w count (Some x) bars r = rw bars (barred-gives s state r)
 
-pub num-gives : (s : SessionState) (state : State) (w count : ℕ) → count == 0 || nat_lt 64 count ≡ true → Represents s state → Gives s condition_line (writer_num_answer state w count)
+pub num-gives : (s : SessionState) (state : State) (w count : ℕ) → bars_transfers count ≡ true → Represents s state → Gives s condition_line (writer_num_answer state w count)
 unfolding writer_num_answer
 num-gives s state w count bars r = transfers-barred s state w count (named state.writers w) bars r
 

@@ -1,14 +1,15 @@
 -- The calls that read from a reader: each is the reader's own (`Plain`), or stops at a short packet (`UntilShort`). They are
 -- barred where it is not open.
-use Rattle.std.specs.Prelude.{ℕ, ◌-◌, ◌++◌, nat_lt, Bool, true, false, List, [], ◌∷◌, length, take, map, Option, None, Result, Ok, Err, if◌then◌else◌}
+use Rattle.std.specs.Prelude.{ℕ, ◌++◌, nat_lt, Bool, true, false, List, [], ◌∷◌, length, take, map, Option, None, Result, Ok, Err, if◌then◌else◌}
 use Rattle.std.specs.Option.{option_map}
 use Rattle.usb_simulated.specs.declared.step.KernelStep.{KernelStep}
-use Rattle.usb_io.specs.Readers.{ReaderState, turns, with_read, without_end, is_end}
+use Rattle.usb_io.specs.Readers.{ReaderState, with_read, without_end, is_end}
 use Rattle.usb_io.specs.Reads.{reading}
 use Rattle.usb_io.specs.Streams.{Item, Byte, End}
 use Rattle.usb_io.specs.declared.fault.ReadFault.{ReadFault}
 use Rattle.usb_io.specs.declared.fault.ReadFault.TheVariants.{TimedOut}
 use Rattle.usb_streams.specs.HostReads.{Answered, fill_came, read_came}
+use Rattle.usb_streams.specs.Needs.{read_need}
 use Rattle.usb_stream_lines.specs.Faults.{read_fault_line}
 use Rattle.usb_stream_lines.specs.Reads.{read_line, buffer_line, is_end_line, consumed_end_line}
 use Rattle.usb_lines.specs.Controls.{pending_line}
@@ -38,9 +39,9 @@ abbrev pub bytes_given : Result (List ℕ) ReadFault → List ℕ
 bytes_given (Ok bytes) = bytes
 bytes_given (Err fault) = []
 
--- how many submissions a call may need: those that are missing, where the reader turns
+-- how many submissions a call may need
 abbrev pub need_of : Framing → ReaderState → ℕ
-need_of framing r = if turns (is_until_short framing) r then r.n - length r.endpoint.pending else 0
+need_of framing r = read_need (is_until_short framing) r
 
 -- whether a reading call is barred
 abbrev pub bars_read : State → Framing → ReaderAt → Bool

@@ -1,6 +1,6 @@
 -- `writer`, `inner`, `num`, `timeout` and `close` of a writer, which are barred where it is not open (`writer`: where the
 -- endpoint isn't, or the writer's name is in use).
-use Rattle.std.specs.Prelude.{ℕ, ◌||◌, ◌&&◌, ◌==◌, nat_lt, Bool, true, List, [], Option, Some, None, if◌then◌else◌}
+use Rattle.std.specs.Prelude.{ℕ, ◌&&◌, Bool, List, [], Option, Some, None, if◌then◌else◌}
 use Rattle.usb_desc.specs.declared.types.Direction.TheVariants.{Out}
 use Rattle.usb_endpoint.specs.Closes.{after_close}
 use Rattle.usb_host.specs.HostCalls.{host_discarded, host_left}
@@ -8,6 +8,7 @@ use Rattle.usb_host.specs.TicketEnds.{host_abandoned}
 use Rattle.usb_io.specs.Writers.{fresh_writer}
 use Rattle.usb_writes.specs.Told.{WriterCalls, no_calls}
 use Rattle.usb_names.specs.Names.{named, is_free, freed, set_name, change_named}
+use Rattle.usb_writer_lines.specs.Needs.{bars_transfers}
 use Rattle.usb_answers.specs.State.{State, Endpoint, Writer, kept}
 use Rattle.usb_answers.specs.BareWriters.{bare_writer}
 use Rattle.usb_answers.specs.WriterAt.{WriterAt, writer_place, writer_at}
@@ -62,7 +63,7 @@ with_transfers n x = record x { bare = record x.bare { n = n } }
 -- it is one at least, and 64 at most
 abbrev pub transfers_on : State → ℕ → ℕ → Answer
 transfers_on state w n =
-    if n == 0 || nat_lt 64 n then barred state
+    if bars_transfers n then barred state
     else ok_answer (record state { writers = change_named (with_transfers n) state.writers w })
 
 -- `num`: how many transfers are to be pending is set

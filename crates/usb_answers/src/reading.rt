@@ -7,7 +7,6 @@ ghost use Rattle.usb_host.specs.HostBus.{bus_of};
 ghost use Rattle.usb_host.specs.HostFrames.{LineGoesOn};
 ghost use Rattle.usb_io.specs.AnyReaders.{reader_of};
 ghost use Rattle.usb_io.specs.Answers.{IsInTime};
-ghost use Rattle.usb_io.specs.Readers.{turns};
 ghost use Rattle.usb_io.specs.Reads.{reading, GoesAlong};
 ghost use Rattle.usb_streams.specs.HostReads.{read_came, answered, FailedAs};
 ghost use Rattle.usb_writer_lines.specs.Needs.{bars_need};
@@ -25,6 +24,7 @@ use usb_lines::{write_condition, write_pending};
 use usb_names::{put_at, take_at};
 use usb_script::{Framing, Name, ReadLength, Steps};
 use usb_stream_lines::{write_read, write_read_fault};
+use usb_streams::read_need;
 use usb_writer_lines::bars_need;
 
 /// Whether a call stops at a short packet.
@@ -37,31 +37,13 @@ fn is_until_short(framing: Framing) -> bool
     }
 }
 
-/// Whether a call on a reader turns: no byte stands and no error lasts, and where it stops at a
-/// short packet no end stands.
-fn turns(reader: &AnyReader, framing: Framing) -> bool
-    ensures value { result ≡ turns (is_until_short framing) (reader_of reader.now) }
-{
-    reader.available() == 0 && !reader.has_error() && !(is_until_short(framing) && reader.has_end())
-}
-
-/// How many submissions a call on a reader may need.
-fn need_of(reader: &AnyReader, framing: Framing) -> usize
-    ensures value { result ≡ need_of framing (reader_of reader.now) }
-{
-    if turns(reader, framing) {
-        reader.num_transfers().saturating_sub(reader.pending())
-    } else {
-        0
-    }
-}
-
 /// Whether a call on a reader is barred: the submissions that it may need are.
 pub fn bars_read(host: &Host, framing: Framing, reader: &AnyReader) -> bool
     ensures barred { result ≡ bars_need host.now.kernel.past
         (length (reader_of reader.now).endpoint.pending) (need_of framing (reader_of reader.now)) }
 {
-    bars_need(host, reader.pending(), need_of(reader, framing))
+    let need = read_need(reader, is_until_short(framing));
+    bars_need(host, reader.pending(), need)
 }
 
 /// Reads as many bytes as fit, by the call of this framing.

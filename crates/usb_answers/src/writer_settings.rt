@@ -9,7 +9,7 @@ use usb_desc::NoMemory;
 use usb_lines::{write_condition, write_ok};
 use usb_names::{put_at, take_at};
 use usb_script::{Name, Timeout};
-use usb_writer_lines::MOST_PENDING;
+use usb_writer_lines::bars_transfers;
 
 impl Session {
     /// `num`: how many transfers of a writer are to be pending is set: one at least.
@@ -24,7 +24,7 @@ impl Session {
         ensures spare { self.new.host.kernel.spare ≡ self.old.host.kernel.spare }
     {
         let count = count as usize;
-        if count == 0 || count > MOST_PENDING {
+        if bars_transfers(count) {
             return write_condition(line);
         }
         let number = name.number();

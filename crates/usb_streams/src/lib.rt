@@ -1,12 +1,14 @@
-//! Reads of a reader at a host, whose answers are functions of the host and the reader.
+//! Reads of a reader at a host, whose answers are functions of the host and the reader, and how many submissions they may need.
 #![tactic(auto)]
 
 mod fills;
 mod laws;
+mod needs;
 mod reads;
 mod settings;
 
 pub use fills::{fill_buf, fill_until_short, poll_fill_buf, poll_fill_until_short};
 pub use laws::{calls_go_on, framed_calls_follow};
+pub use needs::read_need;
 pub use reads::{poll_read, poll_read_until_short, read, read_until_short};
 pub use settings::set_num_transfers;

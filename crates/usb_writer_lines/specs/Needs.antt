@@ -1,5 +1,5 @@
--- How many submissions a call on a writer may need, and when so many are barred.
-use Rattle.std.specs.Prelude.{ℕ, ◌+◌, ◌||◌, nat_lt, Bool, List, [], length, is_some, unwrap_or, if◌then◌else◌}
+-- How many submissions a call on a writer may need, when so many are barred, and how many may be asked for.
+use Rattle.std.specs.Prelude.{ℕ, ◌+◌, ◌||◌, ◌==◌, nat_lt, Bool, List, [], length, is_some, unwrap_or, if◌then◌else◌}
 use Rattle.usb_kernel.specs.declared.event.Event.{Event}
 use Rattle.usb_kernel.specs.Info.{unreaped}
 use Rattle.usb_host.specs.HostState.{HostState}
@@ -31,3 +31,7 @@ finish_need w = end_need w.endpoint.maximum w.buffer
 -- so does a poll to an end, where none has begun
 abbrev pub poll_finish_need : WriterState → ℕ
 poll_finish_need w = if w.begun then 0 else finish_need w
+
+-- whether a writer can't be asked to keep so many pending: one at least, and 64 at most
+abbrev pub bars_transfers : ℕ → Bool
+bars_transfers n = n == 0 || nat_lt 64 n

@@ -8,6 +8,6 @@ mod submissions;
 mod writes;
 
 pub use flushes::{flush, flush_end, poll_flush, poll_flush_end};
-pub use needs::{MOST_PENDING, MOST_UNREAPED, bars_need};
+pub use needs::{MOST_PENDING, MOST_UNREAPED, bars_need, bars_transfers};
 pub use submissions::{submit, submit_end};
 pub use writes::{poll_write, write};

@@ -1,9 +1,9 @@
-//! How many submissions a call may need, and when so many are barred.
+//! How many submissions a call may need, when so many are barred, and how many may be asked for.
 
 ghost use Rattle.std.specs.Prelude.{◌≡◌, ◌≤◌};
 ghost use Rattle.usb_io.specs.Writers.{writing};
 ghost use Rattle.usb_writes.specs.AnyWriters.{writer_of};
-ghost use Rattle.usb_writer_lines.specs.Needs.{bars_need, bars_call, write_need, flush_need, finish_need, poll_finish_need};
+ghost use Rattle.usb_writer_lines.specs.Needs.{bars_need, bars_call, write_need, flush_need, finish_need, poll_finish_need, bars_transfers};
 
 use usb_device::Host;
 use usb_writes::AnyWriter;
@@ -21,6 +21,14 @@ pub fn bars_need(host: &Host, pending: usize, need: usize) -> bool
 {
     pending.saturating_add(need) > MOST_PENDING
         || host.kernel().unreaped().saturating_add(need) > MOST_UNREAPED
+}
+
+/// Whether a writer can't be asked to keep so many transfers pending: none, or more than an
+/// endpoint may have.
+pub fn bars_transfers(count: usize) -> bool
+    ensures barred { result ≡ bars_transfers count }
+{
+    count == 0 || count > MOST_PENDING
 }
 
 /// Whether a call on a writer is barred that may need so many submissions.

@@ -1,4 +1,4 @@
-use Rattle.std.proofs.Common.{◌≡◌, ap}
+use Rattle.std.proofs.Common.{ap}
 use Rattle.std.specs.Option.{option_copied}
 use Rattle.usb_host.specs.Controls.{request_out}
 use Rattle.usb_answers.specs.Controls.{request_with}

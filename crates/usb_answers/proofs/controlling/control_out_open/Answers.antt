@@ -1,4 +1,4 @@
-use Rattle.std.proofs.Common.{◌≡◌, ◌∙◌, ap, sym, ℕ, List, []}
+use Rattle.std.proofs.Common.{◌∙◌, ap, sym, ℕ, List, []}
 use Rattle.std.specs.Option.{option_copied}
 use Rattle.usb_desc.specs.declared.control.ControlOut.{ControlOut}
 use Rattle.usb_error.specs.Outcomes.{result_map}

@@ -1,4 +1,4 @@
-use Rattle.std.proofs.Common.{◌≡◌, ◌∙◌, ap, sym, refl, []}
+use Rattle.std.proofs.Common.{◌∙◌, ap, sym, refl, []}
 use Rattle.std.specs.Option.{option_copied}
 use Rattle.usb_desc.specs.declared.control.ControlIn.{ControlIn}
 use Rattle.usb_host.specs.Controls.{request_in}

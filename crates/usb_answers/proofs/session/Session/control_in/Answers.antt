@@ -1,4 +1,3 @@
-use Rattle.std.proofs.Common.{◌≡◌, ◌∙◌, ap, sym}
 use Rattle.usb_device.specs.ControlCalls.{controlled, control_answered}
 use Rattle.usb_lines.specs.Controls.{received_line}
 use Rattle.usb_answers.specs.Controls.{request_for, came_line}

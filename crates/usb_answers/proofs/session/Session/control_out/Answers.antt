@@ -1,4 +1,3 @@
-use Rattle.std.proofs.Common.{◌≡◌, ◌∙◌, ap, sym}
 use Rattle.usb_error.specs.Outcomes.{result_map}
 use Rattle.usb_device.specs.ControlCalls.{controlled, control_answered}
 use Rattle.usb_lines.specs.Controls.{sent_line}

@@ -1,4 +1,4 @@
-use Rattle.std.proofs.Common.{◌≡◌, sym, ◌∙◌, subst, List, [], ◌∷◌}
+use Rattle.std.proofs.Common.{◌≡◌, sym, ◌∙◌, [], ◌∷◌}
 use Rattle.usb_io.specs.Writes.{Flush}
 use Rattle.usb_writes.specs.HostWrites.{flush_came}
 use Rattle.usb_writer_lines.specs.Needs.{flush_need}

@@ -1,6 +1,4 @@
-use Rattle.std.proofs.Common.{ap}
 use Rattle.usb_answers.specs.SessionFacts.{made_of}
-use Rattle.usb_answers.specs.SessionState.{SessionState}
 use Rattle.usb_answers.proofs.Answering.{answers}
 use Rattle.usb_answers.proofs.TreeAnswers.{hotplug-gives, sound-packets}
 use Rattle.usb_answers.proofs.session.Session.hotplug.Goals as goal

@@ -1,4 +1,4 @@
-use Rattle.std.proofs.Common.{◌≡◌, ◌∙◌, sym, ap, true}
+use Rattle.std.proofs.Common.{◌∙◌, sym, ap}
 use Rattle.usb_enum.specs.Probing.{probe}
 use Rattle.usb_names.specs.Names.{is_free}
 use Rattle.usb_answers.specs.SessionFacts.{made_of}

@@ -1,5 +1,5 @@
-use Rattle.std.proofs.Common.{◌≡◌, ◌∙◌, ap, sym, Some, None}
-use Rattle.usb_names.specs.Names.{named, freed, is_free}
+use Rattle.std.proofs.Common.{◌∙◌, ap, sym}
+use Rattle.usb_names.specs.Names.{is_free}
 use Rattle.usb_answers.specs.SessionState.{SessionState}
 use Rattle.usb_answers.specs.SessionFacts.{made_of}
 use Rattle.usb_answers.proofs.Answering.{answers}

@@ -7,9 +7,9 @@ use Rattle.usb_answers.proofs.Answering.{answers-same}
 use Rattle.usb_answers.proofs.TakenOut.{PutBack, put_back, free_again, same-none}
 use Rattle.usb_answers.proofs.WriterCalled.{made_writing, stands-writer, sound-writer_called}
 use Rattle.usb_answers.proofs.ReaderCode.{keeps-rest}
-use Rattle.usb_answers.proofs.WriterLines.{answers-transfers, answers-unset, num-gives, none-barred, many-barred, count-free}
+use Rattle.usb_answers.proofs.WriterLines.{answers-transfers, answers-unset, num-gives}
 use Rattle.usb_answers.proofs.session.Session.set_writer_transfers.Goals as goal
-use Rattle.usb_answers.proofs.session.Session.set_writer_transfers.Goals.{After-write_condition-in_default, After-write_ok, then-count-eq0-via-then-count-eq0, then-count-eq0-via-else-count-eq0+then-count-gt-MOST_PENDING}
+use Rattle.usb_answers.proofs.session.Session.set_writer_transfers.Goals.{After-write_condition-in_default, After-write_ok}
 
 back : (c : After-write_ok) → PutBack c.self.inside.writers.items c.put_at.new.names.items c.number-number.result c.in-Some.writer c.set_num_transfers.new.self
 back c = put_back _ _ _ _ _ _ _ c.take_at.ensures.taken c.in-Some.is c.take_at.ensures.rest c.put_at.ensures.after
@@ -18,14 +18,10 @@ same : (c : After-write_condition-in_default) → c.take_at.new.names.items ≡ 
 same c = same-none _ _ _ _ c.take_at.ensures.taken c.in_default.is c.take_at.ensures.rest
 
 -- the number is none that may be set
-pub returns-then-count-eq0-clause-answered : goal.returns-then-count-eq0-clause-answered
-returns-then-count-eq0-clause-answered c =
+pub returns-then-bars_transfers-clause-answered : goal.returns-then-bars_transfers-clause-answered
+returns-then-bars_transfers-clause-answered c =
     answers-same _ _ _ refl c.write_condition.ensures.text
-    (λ state r. num-gives c.args.self.now state c.args.name c.args.count
-    (elim c.then-count-eq0.branch [
-      | then-count-eq0-via-then-count-eq0 w ↦ none-barred c.args.count w.if-count-eq0.true
-      | then-count-eq0-via-else-count-eq0+then-count-gt-MOST_PENDING w ↦ many-barred c.args.count w.if-count-gt-MOST_PENDING.true
-    ]) r)
+    (λ state r. num-gives c.args.self.now state c.args.name c.args.count (sym c.bars_transfers.ensures.barred ∙ c.if-bars_transfers.true) r)
 
 pub invariant_of-self : goal.invariant_of-self
 invariant_of-self c = subst (λ l. IsSound (made_writing c.self.inside c.self.inside.host l)) (sym (same c)) c.self.invariant
@@ -46,4 +42,4 @@ invariant_of-self-2 c =
 pub returns-clause-answered : goal.returns-clause-answered
 returns-clause-answered c =
     answers-transfers c.self.inside _ _ _ _ c.args.count _ _ c.args.line.now c.write_ok.new.out _ c.self.invariant c.self.view_is (back c) c.number-number.ensures.value (ap (λ (w : WriterState). w.endpoint) c.set_num_transfers.ensures.set)
-    (ap bare_writer c.set_num_transfers.ensures.set) (count-free c.args.count c.if-count-eq0.false c.if-count-gt-MOST_PENDING.false) c.write_ok.ensures.text
+    (ap bare_writer c.set_num_transfers.ensures.set) (sym c.bars_transfers.ensures.barred ∙ c.if-bars_transfers.false) c.write_ok.ensures.text

@@ -1,4 +1,3 @@
-use Rattle.std.proofs.Common.{◌≡◌, ◌∙◌, ap, sym, []}
 use Rattle.usb_device.specs.DescriptorCalls.{descriptor_request, descriptor_asked, text_answered}
 use Rattle.usb_words.specs.declared.control.ControlTarget.TheVariants.{Device}
 use Rattle.usb_lines.specs.Controls.{string_line}

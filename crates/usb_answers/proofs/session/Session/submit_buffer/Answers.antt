@@ -1,4 +1,4 @@
-use Rattle.std.proofs.Common.{◌≡◌, sym, ◌∙◌, subst, List, [], ◌∷◌}
+use Rattle.std.proofs.Common.{◌≡◌, sym, ◌∙◌, subst, [], ◌∷◌}
 use Rattle.usb_answers.specs.SessionState.{IsSound}
 use Rattle.usb_io.specs.Writes.{Flush}
 use Rattle.usb_writes.specs.HostWrites.{submit_came}

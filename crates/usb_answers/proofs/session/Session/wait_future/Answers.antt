@@ -1,5 +1,4 @@
-use Rattle.std.proofs.Common.{◌≡◌, ◌∙◌, ◌+◌, ap, sym, subst, length, Some, None}
-use Rattle.usb_answers.specs.SessionState.{SessionState}
+use Rattle.std.proofs.Common.{◌∙◌, sym}
 use Rattle.usb_answers.specs.SessionFacts.{made_of}
 use Rattle.usb_answers.proofs.Answering.{answers}
 use Rattle.usb_answers.proofs.ControlCode.{spare-controlled}

@@ -1,4 +1,4 @@
-use Rattle.std.proofs.Common.{◌≡◌, sym, ◌∙◌, subst}
+use Rattle.std.proofs.Common.{◌≡◌, sym, ◌∙◌}
 use Rattle.usb_writer_lines.specs.Printed.{written_line}
 use Rattle.usb_answers.specs.Writes.{write_on, write_answer}
 use Rattle.usb_answers.specs.Steps.{then_rested, lent}
