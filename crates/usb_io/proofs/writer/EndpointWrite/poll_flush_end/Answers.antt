@@ -26,3 +26,9 @@ returns-in-Err-clause-failed g c =
       came = subst (λ (w : Writing _). DrainFault (bus_calls g.B.Bus.state g.B.Bus.submitted g.B.Bus.refused g.B.Bus.turned g.B.Bus.turn_of g.B.Slots.taken) true 0 w (writing c.drain.new.bus c.drain.new.self) c.in-Err.fault) start c.in-Err.ensures.failed;
       is = ap (λ (w : WriterState). not_begun (writing c.drain.new.bus w)) c.self.view_is;
     }
+
+pub invariant_of-self : goal.invariant_of-self
+invariant_of-self g c = c.self.invariant
+
+pub invariant_of-self-in-Ok : goal.invariant_of-self-in-Ok
+invariant_of-self-in-Ok g c = c.self.invariant
