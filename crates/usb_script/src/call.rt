@@ -5,7 +5,7 @@ ghost use Rattle.usb_words.specs.Fields.{texts, four, three, three_fields};
 ghost use Rattle.usb_words.specs.Letters.{device_letter, interface_letter, endpoint_letter};
 ghost use Rattle.usb_words.specs.Outcome.{Gives};
 ghost use Rattle.usb_words.specs.Words.{number_of, name_of, hex_byte_of, kind_of};
-ghost use Rattle.usb_script.specs.Calls.{device_call_of, configuration_call_of, claim_call_of, name_call_of, clone_of, close_of, interface_call_of};
+ghost use Rattle.usb_script.specs.Calls.{device_call_of, configuration_call_of, claim_call_of, clone_of, close_of, interface_call_of};
 ghost use Rattle.usb_script.specs.ItemKinds.{places_in};
 ghost use Rattle.usb_script.specs.declared.item.Item.TheVariants.{Open, Endpoint};
 
@@ -24,18 +24,20 @@ pub fn device_call(name: &[u8], words: &[&[u8]]) -> Result<Item, LineError>
 {
     if reads(name, b"now") {
         no_word(words)?;
-        Ok(Item::Now)
-    } else if reads(name, b"open") {
-        open_call(words)
-    } else if reads(name, b"devdesc") {
-        let device = one_name(b'd', words)?;
-        Ok(Item::DeviceDescriptor { device })
-    } else if reads(name, b"descriptors") {
-        let device = one_name(b'd', words)?;
-        Ok(Item::Descriptors { device })
-    } else {
-        configuration_call(name, words)
+        return Ok(Item::Now);
     }
+    if reads(name, b"open") {
+        return open_call(words);
+    }
+    if reads(name, b"devdesc") {
+        let device = one_name(b'd', words)?;
+        return Ok(Item::DeviceDescriptor { device });
+    }
+    if reads(name, b"descriptors") {
+        let device = one_name(b'd', words)?;
+        return Ok(Item::Descriptors { device });
+    }
+    configuration_call(name, words)
 }
 
 /// `open`: a name for a device, and its bus and address
@@ -61,19 +63,21 @@ fn configuration_call(name: &[u8], words: &[&[u8]]) -> Result<Item, LineError>
 {
     if reads(name, b"active") {
         let device = one_name(b'd', words)?;
-        Ok(Item::ActiveConfiguration { device })
-    } else if reads(name, b"speed") {
-        let device = one_name(b'd', words)?;
-        Ok(Item::Speed { device })
-    } else if reads(name, b"setconfig") {
-        let (device, value) = name_and_byte(b'd', words)?;
-        Ok(Item::SetConfiguration { device, value })
-    } else if reads(name, b"reset") {
-        let device = one_name(b'd', words)?;
-        Ok(Item::Reset { device })
-    } else {
-        claim_call(name, words)
+        return Ok(Item::ActiveConfiguration { device });
     }
+    if reads(name, b"speed") {
+        let device = one_name(b'd', words)?;
+        return Ok(Item::Speed { device });
+    }
+    if reads(name, b"setconfig") {
+        let (device, value) = name_and_byte(b'd', words)?;
+        return Ok(Item::SetConfiguration { device, value });
+    }
+    if reads(name, b"reset") {
+        let device = one_name(b'd', words)?;
+        return Ok(Item::Reset { device });
+    }
+    claim_call(name, words)
 }
 
 /// A device, the number of an interface, and a name for the interface
@@ -90,51 +94,44 @@ fn claim_words(words: &[&[u8]]) -> Result<(Name, u8, Name), LineError>
     Ok((device, number, interface))
 }
 
-/// `claim d B i`, `detachclaim d B i`, `detach d B`, `attach d B`, or a further call
-#[tactic(auto, unfolding(crate::specs::Calls::claim_call_of))]
+/// `claim d B i`, `detachclaim d B i`, `detach d B`, `attach d B`, `clone d d`, `clone i i`,
+/// `close` of a name, or a further call
+#[tactic(auto, unfolding(crate::specs::Calls::claim_call_of, crate::specs::Calls::name_call_of))]
 fn claim_call(name: &[u8], words: &[&[u8]]) -> Result<Item, LineError>
     ensures value { Gives (λ i. i) result (claim_call_of name.now (texts words.now)) }
     ensures few { IfOk result (λ item. places_in item ≤ length words.now) }
 {
     if reads(name, b"claim") {
         let (device, number, interface) = claim_words(words)?;
-        Ok(Item::Claim {
+        return Ok(Item::Claim {
             device,
             number,
             interface,
-        })
-    } else if reads(name, b"detachclaim") {
+        });
+    }
+    if reads(name, b"detachclaim") {
         let (device, number, interface) = claim_words(words)?;
-        Ok(Item::DetachAndClaim {
+        return Ok(Item::DetachAndClaim {
             device,
             number,
             interface,
-        })
-    } else if reads(name, b"detach") {
-        let (device, number) = name_and_byte(b'd', words)?;
-        Ok(Item::DetachDriver { device, number })
-    } else if reads(name, b"attach") {
-        let (device, number) = name_and_byte(b'd', words)?;
-        Ok(Item::AttachDriver { device, number })
-    } else {
-        name_call(name, words)
+        });
     }
-}
-
-/// `clone d d`, `clone i i`, `close d`, `close i`, `close e`, `close r`, `close w`, `close f`, or a
-/// further call
-#[tactic(auto, unfolding(crate::specs::Calls::name_call_of))]
-fn name_call(name: &[u8], words: &[&[u8]]) -> Result<Item, LineError>
-    ensures value { Gives (λ i. i) result (name_call_of name.now (texts words.now)) }
-    ensures few { IfOk result (λ item. places_in item ≤ length words.now) }
-{
+    if reads(name, b"detach") {
+        let (device, number) = name_and_byte(b'd', words)?;
+        return Ok(Item::DetachDriver { device, number });
+    }
+    if reads(name, b"attach") {
+        let (device, number) = name_and_byte(b'd', words)?;
+        return Ok(Item::AttachDriver { device, number });
+    }
     if reads(name, b"clone") {
-        clone_call(words)
-    } else if reads(name, b"close") {
-        close_call(words)
-    } else {
-        interface_call(name, words)
+        return clone_call(words);
     }
+    if reads(name, b"close") {
+        return close_call(words);
+    }
+    interface_call(name, words)
 }
 
 /// `clone` of a device, or else of an interface: the new name stands first
@@ -203,20 +200,23 @@ fn interface_call(name: &[u8], words: &[&[u8]]) -> Result<Item, LineError>
     ensures few { IfOk result (λ item. places_in item ≤ length words.now) }
 {
     if reads(name, b"endpoint") {
-        open_endpoint(words)
-    } else if reads(name, b"alt") {
-        let (interface, setting) = name_and_byte(b'i', words)?;
-        Ok(Item::SetAltSetting { interface, setting })
-    } else if reads(name, b"getalt") {
-        let interface = one_name(b'i', words)?;
-        Ok(Item::GetAltSetting { interface })
-    } else if reads(name, b"ifdesc") {
-        let interface = one_name(b'i', words)?;
-        Ok(Item::InterfaceDescriptor { interface })
-    } else if reads(name, b"release") {
-        let interface = one_name(b'i', words)?;
-        Ok(Item::Release { interface })
-    } else {
-        Err(LineError::Malformed)
+        return open_endpoint(words);
     }
+    if reads(name, b"alt") {
+        let (interface, setting) = name_and_byte(b'i', words)?;
+        return Ok(Item::SetAltSetting { interface, setting });
+    }
+    if reads(name, b"getalt") {
+        let interface = one_name(b'i', words)?;
+        return Ok(Item::GetAltSetting { interface });
+    }
+    if reads(name, b"ifdesc") {
+        let interface = one_name(b'i', words)?;
+        return Ok(Item::InterfaceDescriptor { interface });
+    }
+    if reads(name, b"release") {
+        let interface = one_name(b'i', words)?;
+        return Ok(Item::Release { interface });
+    }
+    Err(LineError::Malformed)
 }

@@ -6,7 +6,7 @@ ghost use Rattle.usb_words.specs.Controls.{control_bytes_of};
 ghost use Rattle.usb_words.specs.Letters.{device_letter};
 ghost use Rattle.usb_words.specs.Outcome.{Gives};
 ghost use Rattle.usb_words.specs.Words.{number_of, time_of, name_of};
-ghost use Rattle.usb_script.specs.ControlLines.{control_of, control_call_of, start_of, start_call_of, get_descriptor_of, string_of, future_call_of, descriptor_call_of};
+ghost use Rattle.usb_script.specs.ControlLines.{control_of, control_call_of, start_of, get_descriptor_of, string_of, future_call_of};
 ghost use Rattle.usb_script.specs.ItemKinds.{places_in};
 ghost use Rattle.usb_script.specs.WithSteps.{two_with_steps};
 ghost use Rattle.usb_script.specs.declared.item.Item.TheVariants.{ControlIn, ControlOut, StartControlIn, StartControlOut, SupportedLanguages};
@@ -62,21 +62,6 @@ fn control_out(alloc: Global, words: &[&[u8]]) -> Result<Item, LineError>
     })
 }
 
-/// `ctlin X CTL N TIME`, `ctlout X CTL BYTES TIME`, and steps, or a further line
-#[tactic(auto, unfolding(crate::specs::ControlLines::control_call_of))]
-pub fn control_call(alloc: Global, name: &[u8], words: &[&[u8]]) -> Result<Item, LineError>
-    ensures value { Gives (λ i. i) result (control_call_of name.now (texts words.now)) }
-    ensures few { IfOk result (λ item. places_in item ≤ length words.now) }
-{
-    if reads(name, b"ctlin") {
-        control_in(alloc, words)
-    } else if reads(name, b"ctlout") {
-        control_out(alloc, words)
-    } else {
-        start_call(alloc, name, words)
-    }
-}
-
 /// `fin`: a name for the transfer, whom it asks and for what, how many bytes are wanted, and a time
 #[tactic(auto, unfolding(usb_words::specs::Fields::two_fields))]
 fn start_in(words: &[&[u8]]) -> Result<Item, LineError>
@@ -121,38 +106,6 @@ fn start_out(alloc: Global, words: &[&[u8]]) -> Result<Item, LineError>
         bytes,
         timeout,
     })
-}
-
-/// `fin f X CTL N TIME`, `fout f X CTL BYTES TIME`, or a further line
-#[tactic(auto, unfolding(crate::specs::ControlLines::start_call_of))]
-fn start_call(alloc: Global, name: &[u8], words: &[&[u8]]) -> Result<Item, LineError>
-    ensures value { Gives (λ i. i) result (start_call_of name.now (texts words.now)) }
-    ensures few { IfOk result (λ item. places_in item ≤ length words.now) }
-{
-    if reads(name, b"fin") {
-        start_in(words)
-    } else if reads(name, b"fout") {
-        start_out(alloc, words)
-    } else {
-        future_call(alloc, name, words)
-    }
-}
-
-/// `fpoll f`, `fwait f` and steps, or a further line
-#[tactic(auto, unfolding(crate::specs::ControlLines::future_call_of))]
-fn future_call(alloc: Global, name: &[u8], words: &[&[u8]]) -> Result<Item, LineError>
-    ensures value { Gives (λ i. i) result (future_call_of name.now (texts words.now)) }
-    ensures few { IfOk result (λ item. places_in item ≤ length words.now) }
-{
-    if reads(name, b"fpoll") {
-        let future = one_name(b'f', words)?;
-        Ok(Item::PollFuture { future })
-    } else if reads(name, b"fwait") {
-        let (future, steps) = name_and_steps(alloc, b'f', words)?;
-        Ok(Item::WaitFuture { future, steps })
-    } else {
-        descriptor_call(alloc, name, words)
-    }
 }
 
 /// `getdesc`: a device, the type and the index of a descriptor, a language, and for how long the
@@ -214,19 +167,51 @@ fn string_descriptor(alloc: Global, words: &[&[u8]]) -> Result<Item, LineError>
     })
 }
 
-/// `getdesc d B B HHHH TIME`, `langs d TIME`, `string d B HHHH TIME`, and steps, or a further line
-#[tactic(auto, unfolding(crate::specs::ControlLines::descriptor_call_of))]
-fn descriptor_call(alloc: Global, name: &[u8], words: &[&[u8]]) -> Result<Item, LineError>
-    ensures value { Gives (λ i. i) result (descriptor_call_of name.now (texts words.now)) }
+/// `ctlin X CTL N TIME` and `ctlout X CTL BYTES TIME` with steps, `fin f X CTL N TIME`,
+/// `fout f X CTL BYTES TIME`, or a further line
+#[tactic(auto, unfolding(crate::specs::ControlLines::control_call_of, crate::specs::ControlLines::start_call_of))]
+pub fn control_call(alloc: Global, name: &[u8], words: &[&[u8]]) -> Result<Item, LineError>
+    ensures value { Gives (λ i. i) result (control_call_of name.now (texts words.now)) }
     ensures few { IfOk result (λ item. places_in item ≤ length words.now) }
 {
-    if reads(name, b"getdesc") {
-        get_descriptor(alloc, words)
-    } else if reads(name, b"langs") {
-        supported_languages(alloc, words)
-    } else if reads(name, b"string") {
-        string_descriptor(alloc, words)
-    } else {
-        tree_line(alloc, name, words)
+    if reads(name, b"ctlin") {
+        return control_in(alloc, words);
     }
+    if reads(name, b"ctlout") {
+        return control_out(alloc, words);
+    }
+    if reads(name, b"fin") {
+        return start_in(words);
+    }
+    if reads(name, b"fout") {
+        return start_out(alloc, words);
+    }
+    future_call(alloc, name, words)
+}
+
+/// `fpoll f`, `fwait f` with steps, `getdesc d B B HHHH TIME`, `langs d TIME` and
+/// `string d B HHHH TIME` with steps, or a further line
+#[tactic(auto, unfolding(crate::specs::ControlLines::future_call_of, crate::specs::ControlLines::descriptor_call_of))]
+fn future_call(alloc: Global, name: &[u8], words: &[&[u8]]) -> Result<Item, LineError>
+    ensures value { Gives (λ i. i) result (future_call_of name.now (texts words.now)) }
+    ensures few { IfOk result (λ item. places_in item ≤ length words.now) }
+{
+    if reads(name, b"fpoll") {
+        let future = one_name(b'f', words)?;
+        return Ok(Item::PollFuture { future });
+    }
+    if reads(name, b"fwait") {
+        let (future, steps) = name_and_steps(alloc, b'f', words)?;
+        return Ok(Item::WaitFuture { future, steps });
+    }
+    if reads(name, b"getdesc") {
+        return get_descriptor(alloc, words);
+    }
+    if reads(name, b"langs") {
+        return supported_languages(alloc, words);
+    }
+    if reads(name, b"string") {
+        return string_descriptor(alloc, words);
+    }
+    tree_line(alloc, name, words)
 }

@@ -24,23 +24,27 @@ pub fn endpoint_call(alloc: Global, name: &[u8], words: &[&[u8]]) -> Result<Item
     ensures few { IfOk result (λ item. places_in item ≤ length words.now) }
 {
     if reads(name, b"submitin") {
-        submit_in(words)
-    } else if reads(name, b"submitout") {
-        submit_out(alloc, words)
-    } else if reads(name, b"pending") {
-        let endpoint = one_name(b'e', words)?;
-        Ok(Item::Pending { endpoint })
-    } else if reads(name, b"poll") {
-        let endpoint = one_name(b'e', words)?;
-        Ok(Item::Poll { endpoint })
-    } else if reads(name, b"cancel") {
-        cancel_call(words)
-    } else if reads(name, b"halt") {
-        let endpoint = one_name(b'e', words)?;
-        Ok(Item::ClearHalt { endpoint })
-    } else {
-        read_call(alloc, name, words)
+        return submit_in(words);
     }
+    if reads(name, b"submitout") {
+        return submit_out(alloc, words);
+    }
+    if reads(name, b"pending") {
+        let endpoint = one_name(b'e', words)?;
+        return Ok(Item::Pending { endpoint });
+    }
+    if reads(name, b"poll") {
+        let endpoint = one_name(b'e', words)?;
+        return Ok(Item::Poll { endpoint });
+    }
+    if reads(name, b"cancel") {
+        return cancel_call(words);
+    }
+    if reads(name, b"halt") {
+        let endpoint = one_name(b'e', words)?;
+        return Ok(Item::ClearHalt { endpoint });
+    }
+    read_call(alloc, name, words)
 }
 
 /// `submitin`: an endpoint, and how many bytes are wanted

@@ -45,15 +45,16 @@ fn named_line(alloc: Global, name: &[u8], words: &[&[u8]]) -> Result<Item, LineE
 {
     if reads(name, b"!") {
         let steps = steps(alloc, words)?;
-        Ok(Item::Steps(steps))
-    } else if reads(name, b"device") {
-        device_line(alloc, words)
-    } else if reads(name, b"driver") {
-        let (device, number) = name_and_byte(b'k', words)?;
-        Ok(Item::Driver { device, number })
-    } else {
-        wait_call(alloc, name, words)
+        return Ok(Item::Steps(steps));
     }
+    if reads(name, b"device") {
+        return device_line(alloc, words);
+    }
+    if reads(name, b"driver") {
+        let (device, number) = name_and_byte(b'k', words)?;
+        return Ok(Item::Driver { device, number });
+    }
+    wait_call(alloc, name, words)
 }
 
 /// The item of these words.
@@ -62,10 +63,10 @@ fn form(alloc: Global, words: &[&[u8]]) -> Result<Item, LineError>
     ensures value { Gives (λ i. i) result (form_of (texts words.now)) }
     ensures few { IfOk result (λ item. places_in item ≤ length words.now) }
 {
-    match words {
-        [name, rest @ ..] => named_line(alloc, *name, rest),
-        _ => Err(LineError::Malformed),
-    }
+    let [name, rest @ ..] = words else {
+        return Err(LineError::Malformed);
+    };
+    named_line(alloc, *name, rest)
 }
 
 /// Whether a line holds nothing but spaces and visible characters of ASCII.
@@ -135,10 +136,9 @@ fn read_own<'a>(
     ensures few { IfOk result (λ reading. places_read reading ≤ length line.now) }
 {
     if is_skipped(line) {
-        Ok(Reading::Skipped)
-    } else {
-        read_item(alloc, words, line)
+        return Ok(Reading::Skipped);
     }
+    read_item(alloc, words, line)
 }
 
 /// What a line gives, which may have a CR at its end. It is split into these words, which are used for each line.

@@ -26,16 +26,18 @@ pub fn read_call(alloc: Global, name: &[u8], words: &[&[u8]]) -> Result<Item, Li
     ensures few { IfOk result (λ item. places_in item ≤ length words.now) }
 {
     if reads(name, b"read") {
-        framed_read(alloc, Framing::Plain, words)
-    } else if reads(name, b"sread") {
-        framed_read(alloc, Framing::UntilShort, words)
-    } else if reads(name, b"fill") {
-        framed_fill(alloc, Framing::Plain, words)
-    } else if reads(name, b"sfill") {
-        framed_fill(alloc, Framing::UntilShort, words)
-    } else {
-        poll_call(alloc, name, words)
+        return framed_read(alloc, Framing::Plain, words);
     }
+    if reads(name, b"sread") {
+        return framed_read(alloc, Framing::UntilShort, words);
+    }
+    if reads(name, b"fill") {
+        return framed_fill(alloc, Framing::Plain, words);
+    }
+    if reads(name, b"sfill") {
+        return framed_fill(alloc, Framing::UntilShort, words);
+    }
+    poll_call(alloc, name, words)
 }
 
 /// A read: a reader, and how many bytes are wanted at most, with the steps of the call behind them
@@ -75,16 +77,18 @@ fn poll_call(alloc: Global, name: &[u8], words: &[&[u8]]) -> Result<Item, LineEr
     ensures few { IfOk result (λ item. places_in item ≤ length words.now) }
 {
     if reads(name, b"pollread") {
-        framed_poll_read(Framing::Plain, words)
-    } else if reads(name, b"pollsread") {
-        framed_poll_read(Framing::UntilShort, words)
-    } else if reads(name, b"pollfill") {
-        framed_poll_fill(Framing::Plain, words)
-    } else if reads(name, b"pollsfill") {
-        framed_poll_fill(Framing::UntilShort, words)
-    } else {
-        consume_call(alloc, name, words)
+        return framed_poll_read(Framing::Plain, words);
     }
+    if reads(name, b"pollsread") {
+        return framed_poll_read(Framing::UntilShort, words);
+    }
+    if reads(name, b"pollfill") {
+        return framed_poll_fill(Framing::Plain, words);
+    }
+    if reads(name, b"pollsfill") {
+        return framed_poll_fill(Framing::UntilShort, words);
+    }
+    consume_call(alloc, name, words)
 }
 
 /// A poll that reads: a reader, and how many bytes are wanted at most
@@ -117,18 +121,20 @@ fn consume_call(alloc: Global, name: &[u8], words: &[&[u8]]) -> Result<Item, Lin
     ensures few { IfOk result (λ item. places_in item ≤ length words.now) }
 {
     if reads(name, b"consume") {
-        framed_consume(Framing::Plain, words)
-    } else if reads(name, b"sconsume") {
-        framed_consume(Framing::UntilShort, words)
-    } else if reads(name, b"isend") {
-        let reader = one_name(b'r', words)?;
-        Ok(Item::IsEnd { reader })
-    } else if reads(name, b"endmsg") {
-        let reader = one_name(b'r', words)?;
-        Ok(Item::ConsumeEnd { reader })
-    } else {
-        reader_call(alloc, name, words)
+        return framed_consume(Framing::Plain, words);
     }
+    if reads(name, b"sconsume") {
+        return framed_consume(Framing::UntilShort, words);
+    }
+    if reads(name, b"isend") {
+        let reader = one_name(b'r', words)?;
+        return Ok(Item::IsEnd { reader });
+    }
+    if reads(name, b"endmsg") {
+        let reader = one_name(b'r', words)?;
+        return Ok(Item::ConsumeEnd { reader });
+    }
+    reader_call(alloc, name, words)
 }
 
 /// A consumption: a reader, and how many of its unread bytes are taken as read
@@ -154,20 +160,22 @@ fn reader_call(alloc: Global, name: &[u8], words: &[&[u8]]) -> Result<Item, Line
 {
     if reads(name, b"reader") {
         let (reader, endpoint, transfer_size) = names_and_length(b'r', words)?;
-        Ok(Item::Reader {
+        return Ok(Item::Reader {
             reader,
             endpoint,
             transfer_size,
-        })
-    } else if reads(name, b"inner") {
-        inner_call(words)
-    } else if reads(name, b"num") {
-        num_call(words)
-    } else if reads(name, b"timeout") {
-        timeout_call(words)
-    } else {
-        write_call(alloc, name, words)
+        });
     }
+    if reads(name, b"inner") {
+        return inner_call(words);
+    }
+    if reads(name, b"num") {
+        return num_call(words);
+    }
+    if reads(name, b"timeout") {
+        return timeout_call(words);
+    }
+    write_call(alloc, name, words)
 }
 
 /// `inner` of a reader, or else of a writer: the name for the endpoint stands first

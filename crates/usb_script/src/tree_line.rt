@@ -7,7 +7,7 @@ ghost use Rattle.usb_words.specs.Outcome.{Gives};
 ghost use Rattle.usb_words.specs.Places.{path_of, file_name_of, target_of, value_of};
 ghost use Rattle.usb_words.specs.Words.{number_of, name_of, errno_of};
 ghost use Rattle.usb_script.specs.ItemKinds.{places_in};
-ghost use Rattle.usb_script.specs.TreeLines.{match_of, tree_call_of, listing_line_of, tree_line_of};
+ghost use Rattle.usb_script.specs.TreeLines.{match_of, tree_call_of, tree_line_of};
 ghost use Rattle.usb_script.specs.declared.item.Item.TheVariants as item;
 
 use crate::call::device_call;
@@ -63,21 +63,36 @@ fn link(alloc: Global, words: &[&[u8]]) -> Result<Item, LineError>
     Ok(Item::Link { path, name, target })
 }
 
-/// `attr PATH NAME VALUE`, `deny PATH NAME ERRNO`, `link PATH NAME TEXT`, or a further line
-#[tactic(auto, unfolding(crate::specs::TreeLines::tree_line_of))]
+/// `attr PATH NAME VALUE`, `deny PATH NAME ERRNO`, `link PATH NAME TEXT`, `child PATH NAME`,
+/// `entry NAME PATH`, `root ERRNO`, `uevent T VALUE`, or a further line
+#[tactic(auto, unfolding(crate::specs::TreeLines::tree_line_of, crate::specs::TreeLines::listing_line_of, usb_words::specs::Fields::one_field))]
 pub fn tree_line(alloc: Global, name: &[u8], words: &[&[u8]]) -> Result<Item, LineError>
     ensures value { Gives (λ i. i) result (tree_line_of name.now (texts words.now)) }
     ensures few { IfOk result (λ item. places_in item ≤ length words.now) }
 {
     if reads(name, b"attr") {
-        attribute(alloc, words)
-    } else if reads(name, b"deny") {
-        denied(alloc, words)
-    } else if reads(name, b"link") {
-        link(alloc, words)
-    } else {
-        listing_line(alloc, name, words)
+        return attribute(alloc, words);
     }
+    if reads(name, b"deny") {
+        return denied(alloc, words);
+    }
+    if reads(name, b"link") {
+        return link(alloc, words);
+    }
+    if reads(name, b"child") {
+        return child(alloc, words);
+    }
+    if reads(name, b"entry") {
+        return entry(alloc, words);
+    }
+    if reads(name, b"root") {
+        let errno = Errno::parse(one_word(words)?)?;
+        return Ok(Item::Root { errno });
+    }
+    if reads(name, b"uevent") {
+        return uevent(alloc, words);
+    }
+    tree_call(alloc, name, words)
 }
 
 /// `child`: a folder, and the name of a sub-folder
@@ -117,26 +132,6 @@ fn uevent(alloc: Global, words: &[&[u8]]) -> Result<Item, LineError>
     Ok(Item::Uevent { groups, bytes })
 }
 
-/// `child PATH NAME`, `entry NAME PATH`, `root ERRNO`, `uevent T VALUE`, or a further line
-#[tactic(auto, unfolding(crate::specs::TreeLines::listing_line_of, usb_words::specs::Fields::one_field))]
-fn listing_line(alloc: Global, name: &[u8], words: &[&[u8]]) -> Result<Item, LineError>
-    ensures value { Gives (λ i. i) result (listing_line_of name.now (texts words.now)) }
-    ensures few { IfOk result (λ item. places_in item ≤ length words.now) }
-{
-    if reads(name, b"child") {
-        child(alloc, words)
-    } else if reads(name, b"entry") {
-        entry(alloc, words)
-    } else if reads(name, b"root") {
-        let errno = Errno::parse(one_word(words)?)?;
-        Ok(Item::Root { errno })
-    } else if reads(name, b"uevent") {
-        uevent(alloc, words)
-    } else {
-        tree_call(alloc, name, words)
-    }
-}
-
 /// `list`, `buses`, `probe PATH`, `match PATH SEL`, `hotplug`, `openpath d PATH`, or a further call
 #[tactic(auto, unfolding(crate::specs::TreeLines::tree_call_of, usb_words::specs::Fields::one_field))]
 fn tree_call(alloc: Global, name: &[u8], words: &[&[u8]]) -> Result<Item, LineError>
@@ -145,23 +140,27 @@ fn tree_call(alloc: Global, name: &[u8], words: &[&[u8]]) -> Result<Item, LineEr
 {
     if reads(name, b"list") {
         no_word(words)?;
-        Ok(Item::List)
-    } else if reads(name, b"buses") {
-        no_word(words)?;
-        Ok(Item::Buses)
-    } else if reads(name, b"probe") {
-        let path = Path::parse(alloc, one_word(words)?)?;
-        Ok(Item::Probe { path })
-    } else if reads(name, b"match") {
-        match_call(alloc, words)
-    } else if reads(name, b"hotplug") {
-        no_word(words)?;
-        Ok(Item::Hotplug)
-    } else if reads(name, b"openpath") {
-        open_path(alloc, words)
-    } else {
-        device_call(name, words)
+        return Ok(Item::List);
     }
+    if reads(name, b"buses") {
+        no_word(words)?;
+        return Ok(Item::Buses);
+    }
+    if reads(name, b"probe") {
+        let path = Path::parse(alloc, one_word(words)?)?;
+        return Ok(Item::Probe { path });
+    }
+    if reads(name, b"match") {
+        return match_call(alloc, words);
+    }
+    if reads(name, b"hotplug") {
+        no_word(words)?;
+        return Ok(Item::Hotplug);
+    }
+    if reads(name, b"openpath") {
+        return open_path(alloc, words);
+    }
+    device_call(name, words)
 }
 
 /// `openpath`: a name for a device, and its folder

@@ -77,12 +77,13 @@ pub fn wait_call(alloc: Global, name: &[u8], words: &[&[u8]]) -> Result<Item, Li
     ensures few { IfOk result (λ item. places_in item ≤ length words.now) }
 {
     if reads(name, b"wait") {
-        wait_at_endpoint(alloc, words)
-    } else if reads(name, b"xferin") {
-        transfer_in(alloc, words)
-    } else if reads(name, b"xferout") {
-        transfer_out(alloc, words)
-    } else {
-        endpoint_call(alloc, name, words)
+        return wait_at_endpoint(alloc, words);
     }
+    if reads(name, b"xferin") {
+        return transfer_in(alloc, words);
+    }
+    if reads(name, b"xferout") {
+        return transfer_out(alloc, words);
+    }
+    endpoint_call(alloc, name, words)
 }

@@ -5,7 +5,7 @@ ghost use Rattle.usb_words.specs.Fields.{texts, two};
 ghost use Rattle.usb_words.specs.Letters.{writer_letter};
 ghost use Rattle.usb_words.specs.Outcome.{Gives};
 ghost use Rattle.usb_words.specs.Words.{name_of, bytes_of};
-ghost use Rattle.usb_script.specs.WriterCalls.{write_call_of, submit_call_of, writer_call_of};
+ghost use Rattle.usb_script.specs.WriterCalls.{write_call_of, submit_call_of};
 ghost use Rattle.usb_script.specs.ItemKinds.{places_in};
 ghost use Rattle.usb_script.specs.WithSteps.{two_with_steps};
 ghost use Rattle.usb_script.specs.declared.item.Item.TheVariants.{Write, PollWrite};
@@ -55,58 +55,52 @@ pub fn write_call(alloc: Global, name: &[u8], words: &[&[u8]]) -> Result<Item, L
     ensures few { IfOk result (λ item. places_in item ≤ length words.now) }
 {
     if reads(name, b"write") {
-        write_bytes(alloc, words)
-    } else if reads(name, b"pollwrite") {
-        poll_write(alloc, words)
-    } else {
-        submit_call(alloc, name, words)
+        return write_bytes(alloc, words);
     }
+    if reads(name, b"pollwrite") {
+        return poll_write(alloc, words);
+    }
+    submit_call(alloc, name, words)
 }
 
-/// `wsubmit w`, `wend w`, `flush w` and `flushend w` with steps, `pollflush w`, `pollflushend w`, or
-/// a further line
-#[tactic(auto, unfolding(crate::specs::WriterCalls::submit_call_of))]
+/// `wsubmit w`, `wend w`, `flush w` and `flushend w` with steps, `pollflush w`, `pollflushend w`,
+/// `writer w e N`, or a further line
+#[tactic(auto, unfolding(crate::specs::WriterCalls::submit_call_of, crate::specs::WriterCalls::writer_call_of))]
 fn submit_call(alloc: Global, name: &[u8], words: &[&[u8]]) -> Result<Item, LineError>
     ensures value { Gives (λ i. i) result (submit_call_of name.now (texts words.now)) }
     ensures few { IfOk result (λ item. places_in item ≤ length words.now) }
 {
     if reads(name, b"wsubmit") {
         let writer = one_name(b'w', words)?;
-        Ok(Item::Submit { writer })
-    } else if reads(name, b"wend") {
-        let writer = one_name(b'w', words)?;
-        Ok(Item::SubmitEnd { writer })
-    } else if reads(name, b"flush") {
-        let (writer, steps) = name_and_steps(alloc, b'w', words)?;
-        Ok(Item::Flush { writer, steps })
-    } else if reads(name, b"pollflush") {
-        let writer = one_name(b'w', words)?;
-        Ok(Item::PollFlush { writer })
-    } else if reads(name, b"flushend") {
-        let (writer, steps) = name_and_steps(alloc, b'w', words)?;
-        Ok(Item::FlushEnd { writer, steps })
-    } else if reads(name, b"pollflushend") {
-        let writer = one_name(b'w', words)?;
-        Ok(Item::PollFlushEnd { writer })
-    } else {
-        writer_call(alloc, name, words)
+        return Ok(Item::Submit { writer });
     }
-}
-
-/// `writer w e N`, or a further line
-#[tactic(auto, unfolding(crate::specs::WriterCalls::writer_call_of))]
-fn writer_call(alloc: Global, name: &[u8], words: &[&[u8]]) -> Result<Item, LineError>
-    ensures value { Gives (λ i. i) result (writer_call_of name.now (texts words.now)) }
-    ensures few { IfOk result (λ item. places_in item ≤ length words.now) }
-{
+    if reads(name, b"wend") {
+        let writer = one_name(b'w', words)?;
+        return Ok(Item::SubmitEnd { writer });
+    }
+    if reads(name, b"flush") {
+        let (writer, steps) = name_and_steps(alloc, b'w', words)?;
+        return Ok(Item::Flush { writer, steps });
+    }
+    if reads(name, b"pollflush") {
+        let writer = one_name(b'w', words)?;
+        return Ok(Item::PollFlush { writer });
+    }
+    if reads(name, b"flushend") {
+        let (writer, steps) = name_and_steps(alloc, b'w', words)?;
+        return Ok(Item::FlushEnd { writer, steps });
+    }
+    if reads(name, b"pollflushend") {
+        let writer = one_name(b'w', words)?;
+        return Ok(Item::PollFlushEnd { writer });
+    }
     if reads(name, b"writer") {
         let (writer, endpoint, transfer_size) = names_and_length(b'w', words)?;
-        Ok(Item::Writer {
+        return Ok(Item::Writer {
             writer,
             endpoint,
             transfer_size,
-        })
-    } else {
-        control_call(alloc, name, words)
+        });
     }
+    control_call(alloc, name, words)
 }
