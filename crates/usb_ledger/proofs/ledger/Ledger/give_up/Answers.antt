@@ -21,7 +21,6 @@ returns c = record {
       let slots = c.self.inside.slots.items in
       let s = c.index_mut-slot.result.now in
       let at : slice_get slots c.args.ticket ≡ Some s = place slots c.args.ticket s (rw (← c.self.view_is) at c.requires.within) c.index_mut-slot.ensures.value in
-      let some = c.requires.key s (rw (← c.self.view_is) at) in
       let same : x ≡ s = same_Some x s (sym there ∙ rw (← c.self.view_is) at) in
       rw (← c.self.view_is, c.give_up.ensures.slot, same) refl;
 }
