@@ -1,14 +1,12 @@
 -- Control transfers, whose lines are barred where what they name is not open, or where 1,024 tickets are unreaped.
-use Rattle.std.specs.Prelude.{ℕ, nat_le, Bool, List, [], length, Option, Some, None, Result, if◌then◌else◌}
+use Rattle.std.specs.Prelude.{ℕ, nat_le, Bool, List, [], length, Option, if◌then◌else◌}
 use Rattle.std.specs.Option.{option_map, option_map_or}
 use Rattle.usb_desc.specs.declared.types.Direction.TheVariants.{Out}
 use Rattle.usb_desc.specs.Setup.{packet, request_type}
-use Rattle.usb_xfer.specs.declared.error.TransferError.{TransferError}
 use Rattle.usb_kernel.specs.declared.event.Event.{Event}
 use Rattle.usb_kernel.specs.Info.{unreaped}
 use Rattle.usb_simulated.specs.declared.step.KernelStep.{KernelStep}
 use Rattle.usb_error.specs.Outcomes.{result_map}
-use Rattle.usb_error.specs.declared.descriptor_error.GetDescriptorError.{GetDescriptorError}
 use Rattle.usb_host.specs.declared.controls.ControlRequest.{ControlRequest}
 use Rattle.usb_host.specs.HostState.{HostState}
 use Rattle.usb_host.specs.Controls.{request_in}

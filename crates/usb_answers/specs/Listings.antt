@@ -1,5 +1,5 @@
 -- `list` and `buses`: the devices and the buses of the tree, or why there is no listing.
-use Rattle.std.specs.Prelude.{ℕ, List, Result, Ok, Err}
+use Rattle.std.specs.Prelude.{List, Result, Ok, Err}
 use Rattle.usb_error.specs.ErrorState.{ErrorState}
 use Rattle.usb_enum.specs.Buses.{BusFacts, buses}
 use Rattle.usb_enum.specs.Devices.{DeviceFacts}

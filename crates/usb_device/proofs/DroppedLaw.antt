@@ -13,7 +13,7 @@ use Rattle.usb_ledger.specs.declared.ends.TicketEnd.{TicketEnd}
 use Rattle.usb_ledger.specs.declared.ends.TicketEnd.TheVariants.{Dropped}
 use Rattle.usb_device.specs.EndLaws.{DroppedWhereReaped, FutureDroppedWhereReaped}
 use Rattle.usb_device.specs.Futures.{closed_by}
-use Rattle.usb_ledger.specs.Entries.{HostTicket, HostEndpoint, Hold, HeldBy, Abandoned, Ended}
+use Rattle.usb_ledger.specs.Entries.{HostTicket, Hold, HeldBy, Abandoned, Ended}
 use Rattle.usb_host.specs.HostState.{HostState}
 use Rattle.usb_ledger.specs.EndedTickets.{end_at, ended_at}
 use Rattle.usb_host.specs.HostBus.{owner_at, held_as}

@@ -1,5 +1,5 @@
 -- Calls on devices, and what they leave.
-use Rattle.std.proofs.Common.{◌≡◌, ℕ, Bool, true, false, cond, List, [], ◌∷◌, set, get_or, Option, Some, None, Result, Ok, Err, refl, ap, ◌∙◌}
+use Rattle.std.proofs.Common.{◌≡◌, ℕ, Bool, true, false, cond, List, [], ◌∷◌, set, get_or, Some, Result, Ok, Err, refl, ap, ◌∙◌}
 use Rattle.std.specs.Prelude.{◌||◌, position, find, is_some, OnOk}
 use Rattle.std.specs.List.{list_any}
 use Rattle.usb_simulated.specs.declared.devices.DeviceState.{DeviceState}

@@ -1,10 +1,9 @@
-use Rattle.std.proofs.Common.{◌≡◌, Bool, true, false, List, ℕ, Option, Some, Result, Ok, Err, refl, sym, ap, ◌∙◌, inl}
+use Rattle.std.proofs.Common.{◌≡◌, Bool, true, false, Some, Result, Ok, Err, refl, sym, ap, ◌∙◌, inl}
 use Rattle.std.specs.Prelude.{◌↔◌, if◌then◌else◌}
 use Rattle.usb_desc.specs.declared.string.StringError.{StringError}
 use Rattle.usb_desc.specs.declared.string.StringError.TheVariants.{Invalid, Memory}
 use Rattle.usb_desc.specs.Strings.{is_string, text}
 use Rattle.usb_error.specs.Outcomes.{◌>>=◌}
-use Rattle.usb_error.specs.declared.descriptor_error.GetDescriptorError.{GetDescriptorError}
 use Rattle.usb_error.specs.declared.descriptor_error.GetDescriptorError.TheVariants.{InvalidDescriptor}
 use Rattle.std.specs.Option.{option_map}
 use Rattle.usb_device.specs.DescriptorCalls.{text_of}
