@@ -4,14 +4,13 @@ ghost use Rattle.std.specs.Prelude.{◌≡◌};
 
 mod future;
 mod notify;
-mod slots;
 
 use crate::answers::check;
 use std::test::Fail;
 use usb_desc::{Direction, TransferType};
 use usb_xfer::{
     Buffer, Bulk, BulkOrInterrupt, Completion, EndpointDirection, Idle, In, Interrupt, Out,
-    TransferData, TransferError, format_os_error_code, status_word,
+    TransferData, TransferError,
 };
 
 fn is_send_and_sync<T: Send + Sync>(_value: &T) {}
@@ -48,8 +47,10 @@ fn a_buffer_of_bytes_is_full(rt: HostRuntime) -> Result<(), Fail> {
     Ok(())
 }
 
-/// Errnos, their words and their texts.
+/// Errnos, their words and their texts; the same of refused submissions, which nobody cancelled; and
+/// an error code that is appended.
 const ERRNOS: &str = "\
+status 0 = ok
 status 2 = cancelled, transfer was cancelled
 status 104 = cancelled, transfer was cancelled
 status 110 = cancelled, transfer was cancelled
@@ -63,21 +64,7 @@ status 70 = fault, hardware fault or protocol violation
 status 62 = fault, hardware fault or protocol violation
 status 22 = invalid, invalid or unsupported argument
 status 12 = unknown:12, unknown (errno 12)
-status 4095 = unknown:4095, unknown (errno 4095)";
-
-#[test]
-fn errnos_have_their_errors_and_texts(rt: HostRuntime) -> Result<(), Fail> {
-    check(&rt, ERRNOS)
-}
-
-#[test]
-fn no_errno_is_ok(rt: HostRuntime) -> Result<(), Fail> {
-    assert!(rt; status_word(rt.alloc(), false, 0)?.as_str() == "ok");
-    Ok(())
-}
-
-/// Errnos of refused submissions, which nobody cancelled.
-const REFUSALS: &str = "\
+status 4095 = unknown:4095, unknown (errno 4095)
 refusal 2 = unknown:2, unknown (errno 2)
 refusal 104 = unknown:104, unknown (errno 104)
 refusal 110 = unknown:110, unknown (errno 110)
@@ -85,19 +72,12 @@ refusal 12 = unknown:12, unknown (errno 12)
 refusal 32 = stall, endpoint stalled
 refusal 19 = disconnected, device disconnected
 refusal 75 = fault, hardware fault or protocol violation
-refusal 22 = invalid, invalid or unsupported argument";
+refusal 22 = invalid, invalid or unsupported argument
+code 4095 = refused: errno 4095";
 
 #[test]
-fn refusals_are_never_cancelled(rt: HostRuntime) -> Result<(), Fail> {
-    check(&rt, REFUSALS)
-}
-
-#[test]
-fn an_error_code_is_appended(rt: HostRuntime) -> Result<(), Fail> {
-    let mut text = String::from_str(rt.alloc(), "refused: ")?;
-    format_os_error_code(&mut text, 4095)?;
-    assert!(rt; text.as_str() == "refused: errno 4095");
-    Ok(())
+fn errnos_have_their_errors_and_texts(rt: HostRuntime) -> Result<(), Fail> {
+    check(&rt, ERRNOS)
 }
 
 fn shape_of<T: BulkOrInterrupt, D: EndpointDirection>() -> (TransferType, Direction)

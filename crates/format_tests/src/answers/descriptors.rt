@@ -6,7 +6,8 @@ use std::num::NonZeroU8;
 use usb_desc::{
     ConfigurationDescriptor, ControlIn, ControlOut, ControlType, Descriptor, DeviceDescriptor,
     Direction, EndpointBitSet, EndpointDescriptor, InterfaceDescriptor, InterfaceDescriptors,
-    Recipient, TransferType, concatenated, decode_string_descriptor, validate_string_descriptor,
+    Languages, Recipient, TransferType, concatenated, decode_string_descriptor, find_configuration,
+    validate_string_descriptor,
 };
 
 /// What is asked of the bytes of a hexadecimal text.
@@ -26,6 +27,8 @@ fn write_read(out: &mut String, word: &str, bytes: &[u8]) -> Result<(), AllocErr
         "both" => write_both(out, bytes),
         "order" => write_order(out, bytes),
         "str" => write_string(out, bytes),
+        "langs" => write_languages(out, bytes),
+        "find" => write_found(out, bytes),
         _ => write_mask(out, bytes),
     }
 }
@@ -70,6 +73,8 @@ fn write_device(out: &mut String, bytes: &[u8]) -> Result<(), AllocError> {
     let Some(device) = DeviceDescriptor::new(bytes) else {
         return out.push_str("none");
     };
+    // what is written is that of a copy, here and of configurations and settings
+    let device = device.clone()?;
     write_numbers(
         out,
         &[
@@ -94,6 +99,7 @@ fn write_configuration(out: &mut String, bytes: &[u8]) -> Result<(), AllocError>
     let Some(configuration) = ConfigurationDescriptor::new(bytes) else {
         return out.push_str("none");
     };
+    let configuration = configuration.clone()?;
     write_numbers(
         out,
         &[
@@ -198,6 +204,7 @@ fn write_setting(
     setting: &InterfaceDescriptor,
     with_details: bool,
 ) -> Result<(), AllocError> {
+    let setting = setting.clone()?;
     write_numbers(
         out,
         &[
@@ -209,7 +216,7 @@ fn write_setting(
         ],
     )?;
     if with_details {
-        write_setting_details(out, setting)?;
+        write_setting_details(out, &setting)?;
     }
     for endpoint in setting.endpoints() {
         write_endpoint(out, &endpoint, with_details)?;
@@ -282,7 +289,50 @@ fn word_of(transfer_type: TransferType) -> &'static str {
     }
 }
 
-fn write_bytes(out: &mut String, bytes: &[u8]) -> Result<(), AllocError> {
+/// What is found by the numbers of a configuration, an interface, its setting and an endpoint, which
+/// stand before the descriptors of a device.
+fn write_found(out: &mut String, bytes: &[u8]) -> Result<(), AllocError> {
+    let [value, interface, setting, address, device @ ..] = bytes else {
+        return out.push_str("no numbers");
+    };
+    let Some(configuration) = find_configuration(device, *value) else {
+        return out.push_str("no configuration");
+    };
+    let has_interface = configuration.has_interface(*interface);
+    write_numbers(
+        out,
+        &[
+            ("pow ", 0, usize::from(configuration.max_power())),
+            (" has ", 0, usize::from(has_interface)),
+        ],
+    )?;
+    match configuration.find_alt_setting(*interface, *setting) {
+        Some(setting) => write_found_endpoint(out, &setting, *address),
+        None => out.push_str(" no setting"),
+    }
+}
+
+fn write_found_endpoint(
+    out: &mut String,
+    setting: &InterfaceDescriptor,
+    address: u8,
+) -> Result<(), AllocError> {
+    match setting.find_endpoint(address) {
+        Some(endpoint) => write_endpoint(out, &endpoint, true),
+        None => out.push_str(" no endpoint"),
+    }
+}
+
+/// The languages of string descriptor 0.
+fn write_languages(out: &mut String, bytes: &[u8]) -> Result<(), AllocError> {
+    out.push_str("langs")?;
+    for language in Languages::new(Vec::from_slice(*out.allocator(), bytes)?) {
+        write_numbers(out, &[(" ", 4, usize::from(language))])?;
+    }
+    Ok(())
+}
+
+pub fn write_bytes(out: &mut String, bytes: &[u8]) -> Result<(), AllocError> {
     for byte in bytes {
         write_numbers(out, &[("", 2, usize::from(*byte))])?;
     }
@@ -338,7 +388,7 @@ fn write_change(
 
 /// Changes to a set of endpoints: what is in it when it is asked, and whether it is empty at last.
 pub fn write_set(out: &mut String, changes: &str) -> Result<(), AllocError> {
-    let mut set = EndpointBitSet::new();
+    let mut set = EndpointBitSet::default();
     for change in changes.split(' ') {
         write_change(out, &mut set, change)?;
     }

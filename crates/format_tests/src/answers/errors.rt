@@ -15,11 +15,8 @@ fn word_and_number(text: &str) -> (&str, u16) {
 /// The kind, the code and the text of the error of a call.
 pub fn write_error(out: &mut String, call: &str) -> Result<(), AllocError> {
     let (word, errno) = word_and_number(call);
-    show(out, &error_of(word, errno))
-}
-
-/// The kind, the code and the text of an error.
-pub fn show(out: &mut String, error: &Error) -> Result<(), AllocError> {
+    // what is written is that of a copy
+    let error = error_of(word, errno).clone()?;
     write!(out, "{} {:?} {error}", error.kind(), error.os_error())
 }
 
