@@ -8,25 +8,22 @@ mod scripts;
 mod transfers;
 
 use attributes::{write_parse, write_value};
-use descriptors::{write_reading, write_set, write_setup};
-use errors::{write_error, write_fault};
-use scripts::{write_fields, write_long, write_script};
+use descriptors::{write_reading, write_set};
+use errors::{write_error, write_fault, write_text};
+use scripts::{write_generated, write_script};
 use std::alloc::{AllocError, Global};
 use std::process::Abort;
-use std::test::Fail;
 use transfers::{write_code, write_status};
 
 /// Compares that each question has its answer. A line is `QUESTION = ANSWER`, or a comment that
 /// begins with #.
-pub fn check<R: Abort + AllocGlobal>(rt: &R, lines: &str) -> Result<(), Fail> {
+pub fn check<R: Abort + AllocGlobal>(rt: &R, lines: &str) -> Result<(), AllocError> {
     for line in lines.split('\n') {
-        if line.starts_with("#") {
-            continue;
+        if !line.starts_with("#") {
+            let (question, wanted) = line.split_once(" = ").unwrap_or((line, "no answer"));
+            let (word, rest) = question.split_once(" ").unwrap_or((question, ""));
+            assert!(rt; is_answer(rt.alloc(), word, rest, wanted)?, "{question}");
         }
-        let (question, wanted) = line.split_once(" = ").ok_or("no answer")?;
-        let (word, rest) = question.split_once(" ").unwrap_or((question, ""));
-        let given = answer(rt.alloc(), word, rest)?;
-        assert!(rt; given.as_str() == wanted, "{question}");
     }
     Ok(())
 }
@@ -38,15 +35,17 @@ pub fn check_each<R: Abort + AllocGlobal>(
     word: &str,
     lines: &str,
     wanted: &str,
-) -> Result<(), Fail> {
+) -> Result<(), AllocError> {
     for line in lines.split('\n') {
-        if line.starts_with("#") {
-            continue;
+        if !line.starts_with("#") {
+            assert!(rt; is_answer(rt.alloc(), word, line, wanted)?, "{line}");
         }
-        let given = answer(rt.alloc(), word, line)?;
-        assert!(rt; given.as_str() == wanted, "{line}");
     }
     Ok(())
+}
+
+fn is_answer(alloc: Global, word: &str, rest: &str, wanted: &str) -> Result<bool, AllocError> {
+    Ok(answer(alloc, word, rest)?.as_str() == wanted)
 }
 
 fn answer(alloc: Global, word: &str, rest: &str) -> Result<String, AllocError> {
@@ -54,15 +53,14 @@ fn answer(alloc: Global, word: &str, rest: &str) -> Result<String, AllocError> {
     match word {
         "error" => write_error(&mut out, rest),
         "fault" => write_fault(&mut out, rest),
+        "text" => write_text(&mut out, rest),
         "status" => write_status(&mut out, rest, false),
         "refusal" => write_status(&mut out, rest, true),
         "code" => write_code(&mut out, rest),
-        "script" => write_script(&mut out, rest),
-        "long" => write_long(&mut out, rest),
-        "fields" => write_fields(&mut out, rest),
+        "script" | "fields" => write_script(&mut out, word, rest),
+        "generated" => write_generated(&mut out, rest),
         "parse" => write_parse(&mut out, rest),
         "set" => write_set(&mut out, rest),
-        "setup" => write_setup(&mut out, rest),
         "byte" | "word" | "decimal" | "speed" => write_value(&mut out, word, rest),
         _ => write_reading(&mut out, word, rest),
     }?;

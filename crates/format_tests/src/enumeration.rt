@@ -1,17 +1,17 @@
-//! What attributes read as, and a device that is asked for, with answers worked out by hand. More of
-//! them are asked by scripts.
+//! What attributes read as, and a device that is asked for, with answers worked out by hand. More
+//! of them are asked by scripts.
 
 use crate::answers::check;
-use std::alloc::Global;
-use std::process::Abort;
+use std::alloc::{AllocError, Global};
 use std::test::Fail;
 use usb_desc::Fail::Cause;
+use usb_desc::NoMemory;
 use usb_enum::{AttrTree, DeviceInfo, DeviceSelector, StringDescriptor, request_device};
 use usb_error::Error;
 use usb_sysfs::read_decimal;
 
-/// Texts, and what they are in hexadecimal and in decimal digits and as speeds; and what is told of
-/// texts that are no value.
+/// Texts, and what they are in hexadecimal and in decimal digits and as speeds; and what is told
+/// of texts that are no value.
 const VALUES: &str = "\
 byte 2a = Some(42)
 byte 2A = Some(42)
@@ -47,7 +47,7 @@ parse \0 a\u{ff} = parse 002061c3bf
 parse = parse -";
 
 #[test]
-fn values_are_read_as_std_reads_them(rt: HostRuntime) -> Result<(), Fail> {
+fn values_are_read_as_std_reads_them(rt: HostRuntime) -> Result<(), AllocError> {
     check(&rt, VALUES)
 }
 
@@ -68,15 +68,20 @@ const ATTRIBUTES: &str = "\
 /d/1-6:1.0 bInterfaceSubClass=00
 /d/1-6:1.0 bInterfaceProtocol=00";
 
+/// Sets an attribute, whose line is `FOLDER NAME=VALUE`.
+fn set_attribute(tree: &mut AttrTree, line: &str) -> Result<(), NoMemory> {
+    let (path, value) = line.split_once("=").unwrap_or((line, ""));
+    let (folder, name) = path.split_once(" ").unwrap_or((path, ""));
+    tree.attr(folder, name, value.as_bytes())
+}
+
 /// One device with one interface.
-fn set_device(tree: &mut AttrTree) -> Result<(), Fail> {
+fn set_device(tree: &mut AttrTree) -> Result<(), NoMemory> {
     for line in ATTRIBUTES.split('\n') {
-        let (folder, attribute) = line.split_once(" ").ok_or("no folder")?;
-        let (name, value) = attribute.split_once("=").ok_or("no value")?;
-        tree.attr(folder, name, value.as_bytes())?;
+        set_attribute(tree, line)?;
     }
     tree.entry("1-6", "/d")?;
-    Ok(tree.child("/d", "1-6:1.0")?)
+    tree.child("/d", "1-6:1.0")
 }
 
 /// Whether no text was read.
@@ -92,8 +97,11 @@ fn is_read(read: Result<Option<String>, usb_desc::Fail<Error>>, wanted: &str) ->
     }
 }
 
-fn has_strings(found: &DeviceInfo) -> bool {
-    is_absent(found.get_manufacturer_string())
+/// Whether it is the device, which has a product's name and no other string.
+fn is_device(found: &DeviceInfo) -> bool {
+    found.sysfs_path() == "/d"
+        && found.bus_id() == "001"
+        && is_absent(found.get_manufacturer_string())
         && is_absent(found.get_serial_number_string())
         && is_read(found.get_product_string(), "Box")
         && match found.interfaces().last() {
@@ -102,46 +110,60 @@ fn has_strings(found: &DeviceInfo) -> bool {
         }
 }
 
-/// One of the selectors finds the device, and the first alone finds none.
-fn expect_found(rt: &impl Abort, alloc: Global, tree: &AttrTree) -> Result<(), Fail> {
+/// Whether one of the selectors finds the device.
+fn is_found(alloc: Global, tree: &AttrTree, wanted: &[DeviceSelector]) -> Result<bool, Fail> {
+    match request_device(alloc, tree, wanted)? {
+        Some(found) => {
+            let is_wanted = is_device(&found);
+            drop(found);
+            Ok(is_wanted)
+        }
+        None => Ok(false),
+    }
+}
+
+/// Whether the second of two selectors finds the device, and not the first.
+fn is_requested(alloc: Global, tree: &AttrTree) -> Result<bool, Fail> {
     let wanted = [
         DeviceSelector::all().with_class(3),
         DeviceSelector::all().with_vid_pid(0xaaaa, 0xbbbb),
     ];
-    assert!(rt; request_device(alloc, tree, &wanted[..1])?.is_none());
-    let found = request_device(alloc, tree, &wanted)?.ok_or("no device")?;
-    assert!(rt; found.sysfs_path() == "/d" && found.bus_id() == "001");
-    assert!(rt; has_strings(&found));
-    Ok(())
+    Ok(is_found(alloc, tree, &wanted)? && !is_found(alloc, tree, &wanted[..1])?)
 }
 
-/// Why the address in a folder is not read, as it is shown.
-fn refusal(alloc: Global, tree: &AttrTree, folder: &str) -> Result<String, Fail> {
+/// Whether the address in a folder is not read, which is shown so.
+fn is_refused(alloc: Global, tree: &AttrTree, folder: &str, shown: &str) -> Result<bool, Fail> {
     match read_decimal(alloc, tree, folder, "devnum") {
-        Err(Cause(error)) => Ok(error.to_string(alloc)?),
-        _ => Err("it was read".into()),
+        Err(Cause(error)) => {
+            let text = error.to_string(alloc);
+            drop(error);
+            Ok(text?.as_str() == shown)
+        }
+        _ => Ok(false),
     }
 }
 
-fn expect_all(rt: &impl Abort, alloc: Global, tree: &mut AttrTree) -> Result<(), Fail> {
+/// Whether the device is found in the tree that holds it, and a path keeps the slash at its end.
+fn is_held(alloc: Global, tree: &mut AttrTree) -> Result<bool, Fail> {
     set_device(tree)?;
-    expect_found(rt, alloc, tree)?;
-    // a path keeps the slash at its end
-    assert!(rt; refusal(alloc, tree, "/d/")?.as_str() == "/d//devnum io 2");
-    Ok(())
+    Ok(is_requested(alloc, tree)? && is_refused(alloc, tree, "/d/", "/d//devnum io 2")?)
 }
 
-/// The tree is owned here alone, since each function that owns one is slow to prove.
+/// The tree is owned here alone and dropped by a call, since each other function that owns one is
+/// slow to prove.
 #[test]
 fn a_device_is_found_and_tells_its_strings(rt: HostRuntime) -> Result<(), Fail> {
     let mut tree = AttrTree::new(rt.alloc());
-    expect_all(&rt, rt.alloc(), &mut tree)
+    let is_held = is_held(rt.alloc(), &mut tree);
+    drop(tree);
+    assert!(rt; is_held?);
+    Ok(())
 }
 
 #[test]
 fn a_string_descriptor_is_kept_or_there_is_none(rt: HostRuntime) -> Result<(), Fail> {
     assert!(rt; is_absent(StringDescriptor::NotPresent.fetch()));
     let kept = StringDescriptor::Cached(String::from_str(rt.alloc(), "Box")?);
-    assert!(rt; kept.cached().is_some() && is_read(kept.fetch(), "Box"));
+    assert!(rt; matches!(kept.cached(), Some("Box")) && is_read(kept.fetch(), "Box"));
     Ok(())
 }

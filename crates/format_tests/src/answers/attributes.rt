@@ -4,7 +4,7 @@ use std::alloc::AllocError;
 use usb_desc::NoMemory;
 use usb_sysfs::{FromHexStr, Speed, SysfsErrorKind, Text, decimal_byte};
 
-/// The value of a text: a byte or a word in hexadecimal digits, a byte in decimal ones, or a speed.
+/// The value of a text: a byte or a word in hexadecimal digits, a byte in decimal ones or a speed.
 pub fn write_value(out: &mut String, word: &str, text: &str) -> Result<(), AllocError> {
     let number = match word {
         "byte" => u8::from_hex_str(text).map(u16::from),

@@ -2,8 +2,9 @@
 
 use crate::answers::decimal_of;
 use std::alloc::{AllocError, Global};
-use usb_desc::NoMemory;
-use usb_error::{ActiveConfigurationError, Error, GetDescriptorError, IoFault};
+use usb_desc::{NoMemory, StringError};
+use usb_error::{ActiveConfigurationError, Error, ErrorKind, GetDescriptorError, IoFault};
+use usb_parse::SessionError;
 use usb_xfer::TransferError;
 
 /// A word and the number behind it, which is 0 if there is none.
@@ -90,4 +91,19 @@ fn fault_of(alloc: Global, cause: &str) -> Result<IoFault, NoMemory> {
         "no_descriptor" => IoFault::from_active(alloc, NO_DESCRIPTOR),
         _ => IoFault::from_error(alloc, error_of(word, number)),
     }
+}
+
+/// The text of a kind, or of an error of another type.
+pub fn write_text(out: &mut String, name: &str) -> Result<(), AllocError> {
+    let error = match name {
+        "no_memory" => return write!(out, "{NoMemory}"),
+        "invalid_string" => return write!(out, "{}", StringError::Invalid),
+        "memory_of_string" => return write!(out, "{}", StringError::Memory),
+        "unsupported" => return write!(out, "{}", ErrorKind::Unsupported),
+        "too_long" => SessionError::TooLong,
+        "read_fault" => SessionError::ReadFault,
+        "write_fault" => SessionError::WriteFault,
+        _ => SessionError::Memory,
+    };
+    write!(out, "{error}")
 }

@@ -1,16 +1,55 @@
 //! Answers to questions on scripts.
 
+use crate::answers::decimal_of;
 use crate::answers::descriptors::write_bytes;
-use std::alloc::AllocError;
+use std::alloc::{AllocError, Global};
+use usb_desc::NoMemory;
+use usb_generated::generate;
 use usb_parse::parse_script;
 use usb_script::{ControlTarget, Item};
 
-/// What the items of a script are, whose lines are parted by |, or why it is refused.
-pub fn write_script(out: &mut String, lines: &str) -> Result<(), AllocError> {
-    let text = lines.replace(*out.allocator(), "|", "\n")?;
-    match parse_script(*out.allocator(), text.as_bytes()) {
-        Ok(script) => write_items(out, script.items()),
+/// What is told by this word of a script whose lines are parted by |, or why it is refused. In the
+/// place of *64 it has 64 bytes.
+pub fn write_script(out: &mut String, word: &str, text: &str) -> Result<(), AllocError> {
+    let text = filled(*out.allocator(), text)?;
+    let lines = text.as_str().replace(*out.allocator(), "|", "\n")?;
+    write_parsed(out, word, lines.as_bytes())
+}
+
+fn filled(alloc: Global, text: &str) -> Result<String, AllocError> {
+    let Some((front, rest)) = text.split_once("*") else {
+        return String::from_str(alloc, text);
+    };
+    let (count, back) = rest.split_once(" ").unwrap_or((rest, ""));
+    let count = u32::from_str_radix(count, 10).unwrap_or(0);
+    let bytes = "77".repeat(alloc, count as usize)?;
+    format!(in alloc; "{front}{bytes} {back}")
+}
+
+/// How many items the generated script of so many messages has.
+pub fn write_generated(out: &mut String, messages: &str) -> Result<(), AllocError> {
+    match generate(*out.allocator(), u32::from(decimal_of(messages))) {
+        Ok(script) => write_parsed(out, "count", &script),
+        Err(NoMemory) => Err(AllocError),
+    }
+}
+
+fn write_parsed(out: &mut String, word: &str, bytes: &[u8]) -> Result<(), AllocError> {
+    match parse_script(*out.allocator(), bytes) {
+        Ok(script) => {
+            let written = write_told(out, word, script.items());
+            drop(script);
+            written
+        }
         Err(error) => write!(out, "{error}"),
+    }
+}
+
+fn write_told(out: &mut String, word: &str, items: &[Item]) -> Result<(), AllocError> {
+    match word {
+        "script" => write_items(out, items),
+        "fields" => write_fields(out, items),
+        _ => write!(out, "{}", items.len()),
     }
 }
 
@@ -42,26 +81,9 @@ fn kind_of(item: &Item) -> &'static str {
     }
 }
 
-/// The same of `N LINE`, where so many bytes stand in the place of the line's star.
-pub fn write_long(out: &mut String, text: &str) -> Result<(), AllocError> {
-    let (count, line) = text.split_once(" ").unwrap_or(("", text));
-    let count = u32::from_str_radix(count, 10).unwrap_or(0);
-    let bytes = "77".repeat(*out.allocator(), count as usize)?;
-    let line = line.replace(*out.allocator(), "*", bytes.as_str())?;
-    write_script(out, line.as_str())
-}
-
-/// What some fields of the first item of a script come to.
-pub fn write_fields(out: &mut String, text: &str) -> Result<(), AllocError> {
-    match parse_script(*out.allocator(), text.as_bytes()) {
-        Ok(script) => write_first(out, script.items()),
-        Err(error) => write!(out, "{error}"),
-    }
-}
-
-/// Writes whom a control transfer goes to and its setup packet, the index of a string, or the type
-/// and the direction of an endpoint.
-fn write_first(out: &mut String, items: &[Item]) -> Result<(), AllocError> {
+/// Writes of the first item whom a control transfer goes to and its setup packet, the index of a
+/// string, or the type and the direction of an endpoint.
+fn write_fields(out: &mut String, items: &[Item]) -> Result<(), AllocError> {
     match items.first() {
         Some(
             Item::ControlIn {
@@ -70,10 +92,7 @@ fn write_first(out: &mut String, items: &[Item]) -> Result<(), AllocError> {
                 length,
                 ..
             },
-        ) => {
-            out.push_str(target_word(*target))?;
-            write_bytes(out, &setup.control_in(*length).setup_packet())
-        }
+        ) => write_packet(out, *target, &setup.control_in(*length).setup_packet()),
         Some(
             Item::StartControlOut {
                 target,
@@ -81,10 +100,11 @@ fn write_first(out: &mut String, items: &[Item]) -> Result<(), AllocError> {
                 bytes,
                 ..
             },
-        ) => {
-            out.push_str(target_word(*target))?;
-            write_bytes(out, &setup.control_out(bytes.as_slice()).setup_packet())
-        }
+        ) => write_packet(
+            out,
+            *target,
+            &setup.control_out(bytes.as_slice()).setup_packet(),
+        ),
         Some(Item::StringDescriptor { index, .. }) => write!(out, "{}", index.get()),
         Some(Item::Endpoint { kind, .. }) => {
             write!(out, "{:?} {:?}", kind.transfer_type(), kind.direction())
@@ -93,9 +113,10 @@ fn write_first(out: &mut String, items: &[Item]) -> Result<(), AllocError> {
     }
 }
 
-fn target_word(target: ControlTarget) -> &'static str {
-    match target {
+fn write_packet(out: &mut String, target: ControlTarget, packet: &[u8]) -> Result<(), AllocError> {
+    out.push_str(match target {
         ControlTarget::Device(_) => "device ",
         ControlTarget::Interface(_) => "interface ",
-    }
+    })?;
+    write_bytes(out, packet)
 }

@@ -16,9 +16,9 @@ all 1201000200000040aaaabbbb0001000000010902200001010080320904000002ff0000000705
 # a length of 0 tells nothing of a single descriptor
 one 0005 = 0 5 2
 # A vendor's requests in both directions, and GET_DESCRIPTOR for string 1 in US English
-setup in vendor device 30 0000 0000 64 = c030000000004000
-setup out vendor device 32 0000 0000 4 = 4032000000000400
-setup in standard device 06 0301 0409 4096 = 8006010309040010
+fields ctlin d0 vendor device 30 0000 0000 64 0 = device c030000000004000
+fields fout f0 d0 vendor device 32 0000 0000 *4 0 = device 4032000000000400
+fields ctlin d0 standard device 06 0301 0409 4096 0 = device 8006010309040010
 # Strings are UTF-16 with the low byte first
 str 060341004200 = string 4142
 # an odd last byte is left out
@@ -26,9 +26,6 @@ str 0503410042 = string 41
 # a surrogate without a partner
 str 040300d8 = string efbfbd
 str 06034100 = invalid
-# Languages are the words from byte two on
-langs 0703090407041f = langs 0409 0407
-langs = langs
 # A set has one bit for each direction of an endpoint
 mask 01 = 00000004
 mask 81 = 00000008
@@ -46,7 +43,7 @@ cfg 0902190001070480320904000001ff0000000705000040000a = cfg 7 len 25 n 1 str 4 
 all 1201000200000040aaaabbbb000100000003090209000001008032090309000002008032090209000003008032 = desc cfg 1
 all 1201000200000040aaaabbbb000100000003090209000001008032090209000002008032090209000003008032 = desc cfg 1 cfg 2 cfg 3
 # Interfaces rise and keep their settings in order: 1, 0, 1 and 0, with the settings 1, 0, 0 and 1
-order 09022d00020100a032090401010003000000090400000003000000090401000003000000090400010003000000 = order if 0 first 0 all 0 1 if 1 first 1 all 1 0
+cfg 09022d00020100a032090401010003000000090400000003000000090401000003000000090400010003000000 = cfg 1 len 45 n 2 str 0 attr a0 pow 50 if 0.0 03 00 00 [len 9 n 0 str 0] if 0.1 03 00 00 [len 9 n 0 str 0] if 1.1 03 00 00 [len 9 n 0 str 0] if 1.0 03 00 00 [len 9 n 0 str 0] chain 09:04:9 09:04:9 09:04:9 09:04:9
 # Look-ups find the first that fits. Configuration 1 has the interface 0 with the settings 0 and 1;
 # configuration 5 has nothing.
 find 01000081 = no configuration

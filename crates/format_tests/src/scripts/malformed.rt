@@ -7,12 +7,14 @@ open d0 1
 devdesc d64
 descriptors d0 0
 poll e64
+poll e256
 poll e00
 poll e07
 poll e
 poll e0 e0
 Poll e0
 submitin e0 65537
+submitin e0 4294967296
 submitin e0 00000000000000000001
 submitin e0 +1
 open d0 256 0
@@ -216,6 +218,7 @@ endmsg r0 : reap
 clone r0 r1
 read r0 0
 read r0 65537
+read r0 4294967296
 read r0
 read r64 5
 read e0 5

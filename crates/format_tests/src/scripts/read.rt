@@ -1,4 +1,5 @@
-//! Lines and scripts that are read: each form and its bounds. A line that begins with # is a comment.
+//! Lines and scripts that are read: each form and its bounds. A line that begins with # is a
+//! comment.
 
 /// Lines that are calls with no steps.
 pub const CALLS: &str = "\
