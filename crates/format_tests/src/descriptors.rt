@@ -48,8 +48,8 @@ fn a_walk_yields_descriptors_and_keeps_the_rest(rt: HostRuntime) -> Result<(), F
 const SHOWN: &str =
     "1201000200000040aaaabbbb00010001020309021900010100a0320904000001030000000705810308000a";
 
-/// Whether the debug texts of copies of the device, its configuration and its interface, and that of
-/// its endpoint, show their fields.
+/// Whether the debug texts of copies of the device, its configuration and its interface, and that
+/// of its endpoint, show their fields.
 fn show_fields(alloc: Global, bytes: &[u8]) -> Option<bool> {
     let device = DeviceDescriptor::new(bytes)?.clone().ok()?;
     let configuration = find_configuration(bytes, 1)?.clone().ok()?;
