@@ -1,48 +1,70 @@
-//! Rows of questions and answers, one a line.
+//! Questions and their answers, one a line. A question is `WORD REST`, where the word says what is
+//! asked.
 
+mod attributes;
 mod descriptors;
-pub mod errors;
+mod errors;
+mod scripts;
 mod transfers;
 
-use descriptors::{write_reading, write_set, write_setup};
-use errors::{write_error, write_fault};
+use attributes::{write_parse, write_value};
+use descriptors::{write_reading, write_set};
+use errors::{write_error, write_fault, write_text};
+use scripts::{write_generated, write_script};
 use std::alloc::{AllocError, Global};
 use std::process::Abort;
-use std::test::Fail;
-use transfers::write_status;
+use transfers::{write_code, write_status};
 
 /// Compares that each question has its answer. A line is `QUESTION = ANSWER`, or a comment that
 /// begins with #.
-pub fn check<R: Abort + AllocGlobal>(rt: &R, lines: &str) -> Result<(), Fail> {
+pub fn check<R: Abort + AllocGlobal>(rt: &R, lines: &str) -> Result<(), AllocError> {
     for line in lines.split('\n') {
-        if line.starts_with("#") {
-            continue;
+        if !line.starts_with("#") {
+            let (question, wanted) = line.split_once(" = ").unwrap_or((line, "no answer"));
+            let (word, rest) = question.split_once(" ").unwrap_or((question, ""));
+            assert!(rt; is_answer(rt.alloc(), word, rest, wanted)?, "{question}");
         }
-        let (question, wanted) = line.split_once(" = ").ok_or("no answer")?;
-        let given = answer(rt.alloc(), question)?;
-        assert!(rt; given.as_str() == wanted, "{question}");
     }
     Ok(())
 }
 
-/// The answer to `WORD REST`, where the word says what is asked.
-fn answer(alloc: Global, question: &str) -> Result<String, AllocError> {
-    let mut out = String::new(alloc);
-    let (word, rest) = question.split_once(" ").unwrap_or((question, ""));
-    write_answer(&mut out, word, rest)?;
-    Ok(out)
+/// Compares that each line has this answer, where it stands behind the word. A line that begins
+/// with # is a comment.
+pub fn check_each<R: Abort + AllocGlobal>(
+    rt: &R,
+    word: &str,
+    lines: &str,
+    wanted: &str,
+) -> Result<(), AllocError> {
+    for line in lines.split('\n') {
+        if !line.starts_with("#") {
+            assert!(rt; is_answer(rt.alloc(), word, line, wanted)?, "{line}");
+        }
+    }
+    Ok(())
 }
 
-fn write_answer(out: &mut String, word: &str, rest: &str) -> Result<(), AllocError> {
+fn is_answer(alloc: Global, word: &str, rest: &str, wanted: &str) -> Result<bool, AllocError> {
+    Ok(answer(alloc, word, rest)?.as_str() == wanted)
+}
+
+fn answer(alloc: Global, word: &str, rest: &str) -> Result<String, AllocError> {
+    let mut out = String::new(alloc);
     match word {
-        "error" => write_error(out, rest),
-        "fault" => write_fault(out, rest),
-        "status" => write_status(out, rest, false),
-        "refusal" => write_status(out, rest, true),
-        "set" => write_set(out, rest),
-        "setup" => write_setup(out, rest),
-        _ => write_reading(out, word, rest),
-    }
+        "error" => write_error(&mut out, rest),
+        "fault" => write_fault(&mut out, rest),
+        "text" => write_text(&mut out, rest),
+        "status" => write_status(&mut out, rest, false),
+        "refusal" => write_status(&mut out, rest, true),
+        "code" => write_code(&mut out, rest),
+        "script" | "fields" => write_script(&mut out, word, rest),
+        "generated" => write_generated(&mut out, rest),
+        "parse" => write_parse(&mut out, rest),
+        "set" => write_set(&mut out, rest),
+        "byte" | "word" | "decimal" | "speed" => write_value(&mut out, word, rest),
+        _ => write_reading(&mut out, word, rest),
+    }?;
+    Ok(out)
 }
 
 /// The number of a decimal text.

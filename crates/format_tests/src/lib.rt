@@ -1,13 +1,12 @@
 //! Tests of what is read and printed: descriptors, registries, transfers and errors, what their
-//! contracts leave to examples, of the crates `usb_desc`, `usb_registry`, `usb_xfer` and `usb_error`;
-//! what attributes read as, and the devices and buses made of them, of `usb_sysfs` and `usb_enum`;
-//! and the grammar of scripts, of `usb_script`, `usb_parse` and `usb_generated`.
+//! contracts leave to examples, of the crates `usb_desc`, `usb_registry`, `usb_xfer` and
+//! `usb_error`; what attributes read as, and the devices made of them, of `usb_sysfs` and
+//! `usb_enum`; and the grammar of scripts, of `usb_script`, `usb_parse` and `usb_generated`.
+//! Most are rows of questions with their answers: answers.rt says how they are asked.
 #![tactic(auto)]
 
 #[cfg(test)]
 mod answers;
-#[cfg(test)]
-mod attributes;
 #[cfg(test)]
 mod descriptors;
 #[cfg(test)]
@@ -18,7 +17,5 @@ mod errors;
 mod registry;
 #[cfg(test)]
 mod scripts;
-#[cfg(test)]
-mod texts;
 #[cfg(test)]
 mod transfers;

@@ -1,12 +1,11 @@
-//! Answers to questions on descriptors, strings, sets of endpoints and setup packets.
+//! Answers to questions on descriptors, strings and sets of endpoints.
 
-use crate::answers::decimal_of;
 use std::alloc::AllocError;
 use std::num::NonZeroU8;
 use usb_desc::{
-    ConfigurationDescriptor, ControlIn, ControlOut, ControlType, Descriptor, DeviceDescriptor,
-    Direction, EndpointBitSet, EndpointDescriptor, InterfaceDescriptor, InterfaceDescriptors,
-    Recipient, TransferType, concatenated, decode_string_descriptor, validate_string_descriptor,
+    ConfigurationDescriptor, Descriptor, DeviceDescriptor, Direction, EndpointBitSet,
+    EndpointDescriptor, InterfaceDescriptor, TransferType, concatenated, decode_string_descriptor,
+    find_configuration, validate_string_descriptor,
 };
 
 /// What is asked of the bytes of a hexadecimal text.
@@ -24,8 +23,8 @@ fn write_read(out: &mut String, word: &str, bytes: &[u8]) -> Result<(), AllocErr
         "cfg" => write_configuration(out, bytes),
         "all" => write_all(out, bytes),
         "both" => write_both(out, bytes),
-        "order" => write_order(out, bytes),
         "str" => write_string(out, bytes),
+        "find" => write_found(out, bytes),
         _ => write_mask(out, bytes),
     }
 }
@@ -162,37 +161,6 @@ fn write_interfaces(
     Ok(())
 }
 
-/// Writes the number of each interface, its first setting and all of them in their order.
-fn write_order(out: &mut String, bytes: &[u8]) -> Result<(), AllocError> {
-    let Some(configuration) = ConfigurationDescriptor::new(bytes) else {
-        return out.push_str("none");
-    };
-    let Ok(interfaces) = configuration.interfaces(*out.allocator()) else {
-        return Err(AllocError);
-    };
-    out.push_str("order")?;
-    for interface in interfaces {
-        write_settings(out, &interface)?;
-    }
-    Ok(())
-}
-
-fn write_settings(out: &mut String, interface: &InterfaceDescriptors) -> Result<(), AllocError> {
-    let first = interface.first_alt_setting().alternate_setting();
-    write_numbers(
-        out,
-        &[
-            (" if ", 0, usize::from(interface.interface_number())),
-            (" first ", 0, usize::from(first)),
-        ],
-    )?;
-    out.push_str(" all")?;
-    for setting in interface.alt_settings() {
-        write_numbers(out, &[(" ", 0, usize::from(setting.alternate_setting()))])?;
-    }
-    Ok(())
-}
-
 fn write_setting(
     out: &mut String,
     setting: &InterfaceDescriptor,
@@ -282,7 +250,41 @@ fn word_of(transfer_type: TransferType) -> &'static str {
     }
 }
 
-fn write_bytes(out: &mut String, bytes: &[u8]) -> Result<(), AllocError> {
+/// What is found by the numbers of a configuration, an interface, its setting and an endpoint,
+/// which stand before the descriptors of a device.
+fn write_found(out: &mut String, bytes: &[u8]) -> Result<(), AllocError> {
+    let [value, interface, setting, address, device @ ..] = bytes else {
+        return out.push_str("no numbers");
+    };
+    let Some(configuration) = find_configuration(device, *value) else {
+        return out.push_str("no configuration");
+    };
+    let has_interface = configuration.has_interface(*interface);
+    write_numbers(
+        out,
+        &[
+            ("pow ", 0, usize::from(configuration.max_power())),
+            (" has ", 0, usize::from(has_interface)),
+        ],
+    )?;
+    match configuration.find_alt_setting(*interface, *setting) {
+        Some(setting) => write_found_endpoint(out, &setting, *address),
+        None => out.push_str(" no setting"),
+    }
+}
+
+fn write_found_endpoint(
+    out: &mut String,
+    setting: &InterfaceDescriptor,
+    address: u8,
+) -> Result<(), AllocError> {
+    match setting.find_endpoint(address) {
+        Some(endpoint) => write_endpoint(out, &endpoint, true),
+        None => out.push_str(" no endpoint"),
+    }
+}
+
+pub fn write_bytes(out: &mut String, bytes: &[u8]) -> Result<(), AllocError> {
     for byte in bytes {
         write_numbers(out, &[("", 2, usize::from(*byte))])?;
     }
@@ -309,11 +311,6 @@ fn write_mask(out: &mut String, bytes: &[u8]) -> Result<(), AllocError> {
     write_numbers(out, &[("", 8, EndpointBitSet::mask(address) as usize)])
 }
 
-/// The number of a hexadecimal text.
-fn hex_of(text: &str) -> u16 {
-    u16::from_str_radix(text, 16).unwrap_or(0)
-}
-
 /// The byte of a hexadecimal text.
 fn byte_of(text: &str) -> u8 {
     u8::from_str_radix(text, 16).unwrap_or(0)
@@ -338,7 +335,7 @@ fn write_change(
 
 /// Changes to a set of endpoints: what is in it when it is asked, and whether it is empty at last.
 pub fn write_set(out: &mut String, changes: &str) -> Result<(), AllocError> {
-    let mut set = EndpointBitSet::new();
+    let mut set = EndpointBitSet::default();
     for change in changes.split(' ') {
         write_change(out, &mut set, change)?;
     }
@@ -350,63 +347,4 @@ pub fn write_set(out: &mut String, changes: &str) -> Result<(), AllocError> {
     } else {
         " empty 0"
     })
-}
-
-fn control_type_of(word: &str) -> ControlType {
-    match word {
-        "standard" => ControlType::Standard,
-        "class" => ControlType::Class,
-        _ => ControlType::Vendor,
-    }
-}
-
-fn recipient_of(word: &str) -> Recipient {
-    match word {
-        "device" => Recipient::Device,
-        "interface" => Recipient::Interface,
-        "endpoint" => Recipient::Endpoint,
-        _ => Recipient::Other,
-    }
-}
-
-/// The request of seven words, whose last two hold its index and its length.
-fn request_of(text: &str) -> (&str, ControlIn) {
-    let mut words = text.split(' ');
-    let way = words.next().unwrap_or("");
-    let request = ControlIn {
-        control_type: control_type_of(words.next().unwrap_or("")),
-        recipient: recipient_of(words.next().unwrap_or("")),
-        request: byte_of(words.next().unwrap_or("")),
-        value: hex_of(words.next().unwrap_or("")),
-        index: hex_of(words.next().unwrap_or("")),
-        length: decimal_of(words.next().unwrap_or("")),
-    };
-    (way, request)
-}
-
-/// The setup packet of a request.
-pub fn write_setup(out: &mut String, text: &str) -> Result<(), AllocError> {
-    let (way, request) = request_of(text);
-    if way == "in" {
-        write_bytes(out, &request.setup_packet())
-    } else {
-        let bytes = vec![in *out.allocator(); 0u8; usize::from(request.length)]?;
-        write_bytes(out, &packet_out(&request, &bytes))
-    }
-}
-
-/// The setup packet of the same request in the other direction.
-fn packet_out(request: &ControlIn, bytes: &[u8]) -> [u8; 8] {
-    if bytes.len() > 65535 {
-        return [0; 8];
-    }
-    ControlOut {
-        control_type: request.control_type,
-        recipient: request.recipient,
-        request: request.request,
-        value: request.value,
-        index: request.index,
-        bytes,
-    }
-    .setup_packet()
 }

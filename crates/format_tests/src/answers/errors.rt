@@ -2,8 +2,9 @@
 
 use crate::answers::decimal_of;
 use std::alloc::{AllocError, Global};
-use usb_desc::NoMemory;
-use usb_error::{ActiveConfigurationError, Error, GetDescriptorError, IoFault};
+use usb_desc::{NoMemory, StringError};
+use usb_error::{ActiveConfigurationError, Error, ErrorKind, GetDescriptorError, IoFault};
+use usb_parse::SessionError;
 use usb_xfer::TransferError;
 
 /// A word and the number behind it, which is 0 if there is none.
@@ -15,11 +16,8 @@ fn word_and_number(text: &str) -> (&str, u16) {
 /// The kind, the code and the text of the error of a call.
 pub fn write_error(out: &mut String, call: &str) -> Result<(), AllocError> {
     let (word, errno) = word_and_number(call);
-    show(out, &error_of(word, errno))
-}
-
-/// The kind, the code and the text of an error.
-pub fn show(out: &mut String, error: &Error) -> Result<(), AllocError> {
+    // what is written is that of a copy
+    let error = error_of(word, errno).clone()?;
     write!(out, "{} {:?} {error}", error.kind(), error.os_error())
 }
 
@@ -93,4 +91,19 @@ fn fault_of(alloc: Global, cause: &str) -> Result<IoFault, NoMemory> {
         "no_descriptor" => IoFault::from_active(alloc, NO_DESCRIPTOR),
         _ => IoFault::from_error(alloc, error_of(word, number)),
     }
+}
+
+/// The text of a kind, or of an error of another type.
+pub fn write_text(out: &mut String, name: &str) -> Result<(), AllocError> {
+    let error = match name {
+        "no_memory" => return write!(out, "{NoMemory}"),
+        "invalid_string" => return write!(out, "{}", StringError::Invalid),
+        "memory_of_string" => return write!(out, "{}", StringError::Memory),
+        "unsupported" => return write!(out, "{}", ErrorKind::Unsupported),
+        "too_long" => SessionError::TooLong,
+        "read_fault" => SessionError::ReadFault,
+        "write_fault" => SessionError::WriteFault,
+        _ => SessionError::Memory,
+    };
+    write!(out, "{error}")
 }

@@ -2,16 +2,25 @@
 
 use crate::answers::decimal_of;
 use std::alloc::AllocError;
-use usb_xfer::{TransferError, status_word};
+use usb_desc::NoMemory;
+use usb_xfer::{format_os_error_code, status_word, transfer_status};
 
-/// The word of a status, or of that of a refused submission, and the text of its error.
+/// The word of a status, or of that of a refused submission, and the text of its error, if any.
 pub fn write_status(out: &mut String, errno: &str, is_refused: bool) -> Result<(), AllocError> {
     let errno = decimal_of(errno);
-    let status = status_word(*out.allocator(), is_refused, errno)?;
-    let error = if is_refused {
-        TransferError::from_refusal(errno)
-    } else {
-        TransferError::from_errno(errno)
-    };
-    write!(out, "{status}, {error}")
+    let word = status_word(*out.allocator(), is_refused, errno)?;
+    out.push_str(word.as_str())?;
+    match transfer_status(is_refused, errno) {
+        Ok(()) => Ok(()),
+        Err(error) => write!(out, ", {error}"),
+    }
+}
+
+/// A text to which an error code was appended.
+pub fn write_code(out: &mut String, errno: &str) -> Result<(), AllocError> {
+    out.push_str("refused: ")?;
+    match format_os_error_code(out, u32::from(decimal_of(errno))) {
+        Ok(()) => Ok(()),
+        Err(NoMemory) => Err(AllocError),
+    }
 }

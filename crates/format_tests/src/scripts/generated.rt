@@ -1,7 +1,5 @@
-//! Generated scripts: their first lines, the lines of one message, and that they parse.
+//! Generated scripts: the lines of one message.
 
-use crate::scripts::expect_count;
-use std::process::Abort;
 use std::test::Fail;
 use usb_generated::generate;
 
@@ -13,34 +11,16 @@ const SECOND: &str =
 const LONGEST: &str =
     "write w0 1b1c1d1e1f202122232425262728292a2b2c2d2e2f303132333435363738393a3b3c3d3e3f404142434445464748494a4b4c4d4e4f505152535455565758595a5b5c5d5e5f606162636465666768696a6b6c6d6e6f707172737475767778797a7b7c7d7e7f808182838485868788898a8b8c8d8e8f909192939495969798999a\nwrite w0 9b9c9d9e9fa0a1a2a3a4a5a6a7a8a9aaabacadaeafb0b1b2b3b4b5b6b7b8b9babbbcbdbebfc0c1c2c3c4c5c6c7c8c9cacbcccdcecfd0d1d2d3d4d5d6d7d8d9dadbdcdddedfe0e1\nwend w0\n! echo k0 02 81\n! echo k0 02 81\n! echo k0 02 81\n! echo k0 02 81\nflush w0\nsread r0 200\nsread r0 200\nsread r0 200\nendmsg r0\n";
 
-fn expect_one_message(rt: &impl Abort, script: &[u8]) {
-    assert!(rt; script.starts_with(b"device k0 1 6 3 1 12"));
-    assert_eq!(rt; script.iter().filter(|byte| **byte == b'\n').count(), 14);
-}
-
-fn expect_end(rt: &impl Abort, script: &[u8], lines: &str) {
-    assert!(rt; script.ends_with(lines.as_bytes()));
-}
-
-fn expect_length(rt: &impl Abort, script: &[u8], length: usize) {
-    assert_eq!(rt; script.len(), length);
+/// Whether a script begins with its device and ends with these lines.
+fn frames(script: &[u8], lines: &str) -> bool {
+    script.starts_with(b"device k0 1 6 3 1 12") && script.ends_with(lines.as_bytes())
 }
 
 #[test]
 fn generates_the_lines_of_each_message(rt: HostRuntime) -> Result<(), Fail> {
-    expect_one_message(&rt, &generate(rt.alloc(), 1)?);
-    expect_end(&rt, &generate(rt.alloc(), 2)?, SECOND);
+    assert!(rt; frames(&generate(rt.alloc(), 2)?, SECOND));
     let longest = generate(rt.alloc(), 28)?;
-    expect_end(&rt, &longest, LONGEST);
-    expect_length(&rt, &longest, 8620);
-    Ok(())
-}
-
-#[test]
-fn generates_scripts_that_parse(rt: HostRuntime) -> Result<(), Fail> {
-    expect_count(&rt, rt.alloc(), &generate(rt.alloc(), 3)?, Ok(29));
-    let most = generate(rt.alloc(), 2000)?;
-    expect_length(&rt, &most, 598590);
-    expect_count(&rt, rt.alloc(), &most, Ok(16929));
+    assert!(rt; frames(&longest, LONGEST) && longest.len() == 8620);
+    assert!(rt; generate(rt.alloc(), 2000)?.len() == 598590);
     Ok(())
 }
