@@ -31,3 +31,4 @@ pub mod Deadlines
 pub mod Waiting
 pub mod Entries
 pub mod Unreaped
+pub mod Freed
