@@ -32,3 +32,4 @@ pub mod Waiting
 pub mod Entries
 pub mod Unreaped
 pub mod Freed
+pub mod Kept
