@@ -199,3 +199,17 @@ next-number past rows next n agrees is same = is ∙ (ap length same ∙ length-
 
 pub less-two : (n : ℕ) → n ≤ n + 2
 less-two n = omega arith
+
+-- an armed refusal was used up
+pub kept-disarmed : (k : Inside) (armed : Refusals) → IsKept k → All HasArmedErrno armed.armed → armed.room ≡ k.armed.room → IsKept (record k { armed = armed })
+kept-disarmed k armed kept errnos room =
+    record {
+      lawful = kept.lawful;
+      agrees = kept.agrees;
+      timed = kept.timed;
+      owes = kept.owes;
+      space = kept.space;
+      four = kept.four;
+      errnos = errnos;
+      places = omega (arith, kept.places);
+    }

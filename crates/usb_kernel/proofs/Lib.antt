@@ -33,3 +33,4 @@ pub mod Entries
 pub mod Unreaped
 pub mod Freed
 pub mod Kept
+pub mod Submitting

@@ -245,9 +245,11 @@ impl Kernel {
         match self.armed.errno(device, KernelCall::Submit) {
             None => self.queue(s),
             Some(errno) => {
-                let submitted = self.refuse(s, errno)?;
-                self.armed.disarm(device, KernelCall::Submit);
-                Ok(submitted)
+                let refused = self.refuse(s, errno);
+                if refused.is_ok() {
+                    self.armed.disarm(device, KernelCall::Submit);
+                }
+                refused
             }
         }
     }
