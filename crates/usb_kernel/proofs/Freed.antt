@@ -1,11 +1,9 @@
 -- Where the table's functions look, and how many places they free.
-use Rattle.std.proofs.Common.{◌≡◌, ℕ, ◌+◌, ◌-◌, ◌<◌, ◌≤◌, arith, List, ◌∷◌, length, set, get_or, Option, Some, None, true, false, refl, ap, sym, ◌∙◌, slice_get, cond, Vec, Global, vec_len, Fits, w64}
+use Rattle.std.proofs.Common.{◌≡◌, ℕ, ◌+◌, ◌-◌, ◌<◌, ◌≤◌, arith, List, ◌∷◌, length, set, get_or, Option, Some, None, true, false, refl, ap, sym, ◌∙◌, cond, Vec, Global, vec_len, Fits, w64}
 use Rattle.std.specs.Prelude.{position, is_some, IsSome, nat_lt, ◌&&◌}
 use Rattle.std.specs.List.{sum_by}
 use Rattle.std.proofs.lemmas.List.{length-set}
-use Rattle.std.proofs.lemmas.List.Sums.{sum_by-set}
 use Rattle.std.proofs.lemmas.List.Quantifiers.{position-Some}
-use Rattle.std.proofs.lemmas.Option.{slice_get_within}
 use Rattle.std.proofs.lemmas.Bool.{lt-leb, le-ltb, false≢true}
 use Rattle.usb_xfer.specs.BufferState.{BufferState}
 use Rattle.usb_kernel.specs.declared.event.Event.{Event}

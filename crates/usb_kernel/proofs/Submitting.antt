@@ -1,5 +1,5 @@
 -- What a submission gets, by whether its device is plugged and what is armed.
-use Rattle.std.proofs.Common.{arith, ◌≡◌, ℕ, List, reverse, Option, Some, None, Result, Ok, Err, true, false, refl, sym, ap, ◌∙◌, Bor}
+use Rattle.std.proofs.Common.{arith, ◌≡◌, List, reverse, Option, Some, None, Result, Ok, Err, true, false, refl, sym, ap, ◌∙◌, Bor}
 use Rattle.std.specs.Prelude.{is_some, OnOk, OnErr}
 use Rattle.std.specs.Option.{option_copied}
 use Rattle.std.specs.Result.{is_ok}
@@ -8,7 +8,6 @@ use Rattle.usb_simulated.specs.declared.devices.DeviceState.{DeviceState}
 use Rattle.usb_simulated.specs.declared.step.Armed.{Armed}
 use Rattle.usb_kernel.specs.declared.kernel.Kernel.TheInside.{Inside}
 use Rattle.usb_kernel.specs.contracts.kernel.Kernel.{the_view}
-use Rattle.usb_kernel.specs.declared.event.Event.{Event}
 use Rattle.usb_simulated.specs.Errnos.{IsErrno}
 use Rattle.usb_kernel.specs.Value.{KernelState}
 

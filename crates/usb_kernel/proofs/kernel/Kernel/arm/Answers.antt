@@ -1,4 +1,4 @@
-use Rattle.std.proofs.Common.{◌≡◌, ◌++◌, ◌∷◌, [], sym, ap, ◌∙◌}
+use Rattle.std.proofs.Common.{◌++◌, ◌∷◌, [], ap, ◌∙◌}
 use Rattle.usb_kernel.proofs.Kept.{armed_is, has_spare, spare-used, rest-armed, kept-armed, room-armed}
 use Rattle.usb_kernel.proofs.kernel.Kernel.arm.Goals as goal
 

@@ -1,4 +1,4 @@
-use Rattle.std.proofs.Common.{◌≡◌, ◌∷◌, ◌+◌, ap, sym, refl, ◌∙◌, length, reverse, List}
+use Rattle.std.proofs.Common.{◌≡◌, ◌∷◌, ◌+◌, ap, refl, ◌∙◌, length, reverse, List}
 use Rattle.usb_kernel.specs.declared.event.Event.{Event}
 use Rattle.usb_kernel.specs.declared.submission.Submitted.TheVariants.{Queued}
 use Rattle.usb_kernel.specs.Tickets.{tickets}

@@ -1,4 +1,4 @@
-use Rattle.std.proofs.Common.{◌≡◌, ◌∷◌, Some, None, refl, sym, ap, ◌∙◌, reverse}
+use Rattle.std.proofs.Common.{◌≡◌, Some, refl, sym, ap, ◌∙◌, reverse}
 use Rattle.usb_kernel.specs.declared.event.Event.TheVariants.{Reap}
 use Rattle.usb_kernel.specs.Rows.{Agrees}
 use Rattle.usb_kernel.specs.Completions.{reapable}

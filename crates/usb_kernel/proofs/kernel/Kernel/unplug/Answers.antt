@@ -1,4 +1,4 @@
-use Rattle.std.proofs.Common.{◌≡◌, ◌∷◌, refl, sym, ap, ◌∙◌, reverse}
+use Rattle.std.proofs.Common.{refl, sym, ap, ◌∙◌, reverse}
 use Rattle.std.specs.List.{sum_by}
 use Rattle.usb_simulated.specs.Devices.{devices_unplugged}
 use Rattle.usb_kernel.specs.declared.event.Event.TheVariants.{Unplug}
