@@ -79,12 +79,7 @@ impl Submission {
     }
 
     /// The event that it became a ticket that is refused with an errno.
-    pub(crate) fn refused(
-        &self,
-        alloc: Global,
-        ticket: u64,
-        errno: u16,
-    ) -> Result<Event, NoMemory>
+    pub(crate) fn refused(&self, alloc: Global, ticket: u64, errno: u16) -> Result<Event, NoMemory>
         ensures event { IfOk result (λ event. event ≡ refuse_event ticket self.now errno) }
     {
         Ok(Event::Refuse {
