@@ -213,3 +213,7 @@ kept-disarmed k armed kept errnos room =
       errnos = errnos;
       places = omega (arith, kept.places);
     }
+
+-- there is room for the event that a place is owed for
+pub room-one : (journal : Vec Event Global) (left total : ℕ) → left + 1 ≡ total → vec_len journal + total ≤ vec_capacity journal → vec_len journal < vec_capacity journal
+room-one journal left total one room = omega arith
