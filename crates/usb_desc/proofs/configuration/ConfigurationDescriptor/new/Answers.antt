@@ -1,4 +1,4 @@
-use Rattle.std.proofs.Common.{refl, sym}
+use Rattle.std.proofs.Common.{sym}
 use Rattle.usb_desc.proofs.ConfigurationLemmas.{configuration_form, total_at_some, none_at_none, total_taken, configuration_some, configuration_none}
 use Rattle.usb_desc.proofs.configuration.ConfigurationDescriptor.new.Goals as goal
 
