@@ -9,8 +9,8 @@ use Rattle.usb_registry.proofs.ValueLemmas.{value-map}
 use Rattle.usb_ledger.specs.declared.owners.Claim.{Claim}
 use Rattle.usb_ledger.specs.declared.owners.EndpointRow.{EndpointRow}
 use Rattle.usb_ledger.specs.Entries.{HostTicket, HostEndpoint, ClaimedInterface}
-use Rattle.usb_ledger.specs.Owners.{lives, is_owned_among}
-use Rattle.usb_ledger.specs.OwnerRows.{CountsOf, AreOwned, AreAlive, claim_state, endpoint_of, is_alive, is_alive_on, is_counted, has_owners}
+use Rattle.usb_ledger.specs.Owners.{lives}
+use Rattle.usb_ledger.specs.OwnerRows.{CountsOf, AreOwned, AreAlive, claim_state, endpoint_of, is_alive_on, is_counted, has_owners}
 use Rattle.usb_ledger.specs.LedgerState.{Tied}
 use Rattle.usb_ledger.specs.Kept.{EachIsOwned, EachLives}
 use Rattle.usb_ledger.proofs.LedgerLemmas.{is_owned-rows, lives-row}

@@ -1,5 +1,3 @@
-use Rattle.std.proofs.Common.{sym, subst}
-use Rattle.usb_ledger.specs.OwnerRows.{OwnersState, AreAlive}
 use Rattle.usb_ledger.proofs.KeptLemmas.{counted-each}
 use Rattle.usb_ledger.proofs.owners.Owners.nothing_is_kept_that_has_gone.Goals as goal
 
