@@ -2,10 +2,10 @@
 use Rattle.std.proofs.Common.{◌≡◌, ℕ, zero, suc, ◌+◌, ◌<◌, ◌≤◌, true, false, cond, List, [], ◌∷◌, length, take, drop, refl, sym, ◌∙◌, ap, arith, length-drop, get_or-take, length-take, get_or, Some, None}
 use Rattle.std.proofs.lemmas.Bool.{cond-true, cond-false, cases_Bool}
 use Rattle.std.proofs.lemmas.Bool.Decides.{nat_tests}
-use Rattle.std.proofs.lemmas.List.{drop_all}
+use Rattle.std.proofs.lemmas.List.{drop_all, length-take-le}
 use mathlib.Core.Logic.{inl, inr}
 use Rattle.usb_desc.specs.Bytes.{length_field, type_field}
-use Rattle.usb_desc.specs.Configurations.{is_configuration, total_length, concatenated_at_most, concatenated, configurations}
+use Rattle.usb_desc.specs.Configurations.{is_configuration, configuration_of, total_length, concatenated_at_most, concatenated, configurations}
 use Rattle.usb_desc.specs.Forms.{IsConfiguration}
 
 -- what it means that a configuration stands at the front
@@ -111,3 +111,16 @@ configurations_short bytes short = ap concatenated (drop_all 18 bytes (omega ari
 pub configurations_behind : (bytes : List ℕ) → configurations bytes ≡ concatenated (drop 18 bytes)
 unfolding configurations
 configurations_behind bytes = refl
+
+-- a configuration of this length is cut to it
+pub total_taken : (bytes : List ℕ) (total : ℕ) → is_configuration bytes ≡ true → total ≡ total_length bytes → total ≡ length (take total bytes)
+total_taken bytes total is counts =
+    let within = total_within bytes is in
+    let all : total ≤ length bytes = omega (arith, within) in
+    sym (length-take-le total bytes all)
+
+pub configuration_some : (bytes : List ℕ) → is_configuration bytes ≡ true → configuration_of bytes ≡ Some (take (total_length bytes) bytes)
+configuration_some bytes is = rw is refl
+
+pub configuration_none : (bytes : List ℕ) → is_configuration bytes ≡ false → configuration_of bytes ≡ None
+configuration_none bytes is = rw is refl

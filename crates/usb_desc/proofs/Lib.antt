@@ -4,3 +4,4 @@ pub mod ConfigurationLemmas
 pub mod StringLemmas
 pub mod BitSetLemmas
 pub mod InterfaceLemmas
+pub mod DeviceLemmas

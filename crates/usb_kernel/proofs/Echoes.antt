@@ -1,5 +1,8 @@
-use Rattle.std.proofs.Common.{◌≢◌, ◌<◌, ◌+◌, ◌-◌, ap, set, ◌≡◌, ℕ, List, ◌∷◌, length, take, drop, min, get_or, Option, Some, None, refl, sym, ◌∙◌, slice_get, arith}
+use Rattle.std.proofs.Common.{◌≢◌, ◌<◌, ◌≤◌, ◌+◌, ◌-◌, ap, set, ◌≡◌, ℕ, List, ◌∷◌, length, take, drop, min, get_or, Option, Some, None, refl, sym, ◌∙◌, slice_get, arith}
 use Rattle.std.proofs.lemmas.List.{set-set, set_comm, get_or-set_same, get_or-set_other}
+use Rattle.std.specs.Prelude.{IsSome}
+use Rattle.std.specs.Option.{ForSome}
+use Rattle.std.proofs.lemmas.Bool.{false≢true}
 use Rattle.std.proofs.lemmas.Option.{get_or_from_slice_get, slice_get_within, same_Some, none-some}
 use Rattle.usb_xfer.specs.BufferState.{BufferState}
 use Rattle.usb_kernel.specs.declared.event.Event.{Event}
@@ -76,3 +79,35 @@ pass-made rows from to x acked lent z got w sent sends takes read is some withou
     let bytes : take (acked.count - x.count) (drop x.count sent.bytes) ≡ row_taken r = taken-between x acked sent is some ∙ ap row_taken sending in
     let second : got ≡ row_with_packet s (row_taken r) = gets ∙ (ap (λ y. row_with_packet y (take (acked.count - x.count) (drop x.count sent.bytes))) taking ∙ ap (row_with_packet s) bytes) in
     rw (sends.1.0, takes.1.0) (ap (set (set (set rows from lent) to got) from) back ∙ (set_around rows from to lent got acked apart ∙ (ap (λ a. set (set rows from a) to got) first ∙ ap (set (set rows from (row_with_ack r)) to) second)))
+
+-- the row that is read where the packet comes from, and, once another was written there, the one where it goes
+pub sending_row : (rows : List TicketRow) (from : ℕ) (x : TicketRow) → StandsAt rows from IsOpenOut → x ≡ get_or rows from x → IsOpenOut x
+sending_row rows from x sends read = rw (read_at rows from sends.0 x sends.1.0 read) sends.1.1
+
+pub taking_row : (rows : List TicketRow) (from to : ℕ) (lent z : TicketRow) → StandsAt rows from IsOpenOut → StandsAt rows to IsOpenIn → z ≡ get_or (set rows from lent) to z → IsOpenIn z
+taking_row rows from to lent z sends takes read =
+    let apart = rows-apart rows from to sends takes in
+    rw (read_beside rows from to lent takes.0 z (λ same. apart (sym same)) takes.1.0 read) takes.1.1
+
+-- an acknowledged row has its buffer, and its count goes on within this
+acked_buffer : (r : TicketRow) (o : Option BufferState) → (row_with_ack (record r { buffer = o })).buffer ≡ o
+acked_buffer r None = refl
+acked_buffer r (Some b) = refl
+
+pub acked-has : (r acked : TicketRow) → IsOpenOut r → acked ≡ row_with_ack r → acked.buffer ≡ None → ⊥
+acked-has r acked sends is none =
+    let gone : r.buffer ≡ None = sym (acked_buffer r r.buffer) ∙ (sym (ap (λ (x : TicketRow). x.buffer) is) ∙ none) in
+    let has : IsSome r.buffer = (sends.1.1 sends.1.0).0 in
+    false≢true (rw gone at has)
+
+counted-made : (r : TicketRow) (o : Option BufferState) (sent : BufferState) → ForSome o (λ b. r.count ≤ length b.bytes) → o ≡ Some sent → (r.count ≤ (row_with_ack (record r { buffer = o })).count) × ((row_with_ack (record r { buffer = o })).count ≤ length sent.bytes)
+counted-made r None sent few some = absurd (none-some sent some)
+counted-made r (Some b) sent few some =
+    let same : sent ≡ b = sym (same_Some b sent some) in
+    let here : r.count ≤ length b.bytes = few b refl in
+    rw same (omega arith, omega arith)
+
+pub acked-counts : (r acked : TicketRow) (sent : BufferState) → IsOpenOut r → acked ≡ row_with_ack r → acked.buffer ≡ Some sent → (r.count ≤ acked.count) × (acked.count ≤ length sent.bytes)
+acked-counts r acked sent sends is some =
+    let has : r.buffer ≡ Some sent = sym (acked_buffer r r.buffer) ∙ (sym (ap (λ (x : TicketRow). x.buffer) is) ∙ some) in
+    rw is (counted-made r r.buffer sent ((sends.1.1 sends.1.0).2 sends.0) has)

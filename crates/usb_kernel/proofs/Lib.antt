@@ -31,3 +31,6 @@ pub mod Deadlines
 pub mod Waiting
 pub mod Entries
 pub mod Unreaped
+pub mod Freed
+pub mod Kept
+pub mod Submitting

@@ -1,10 +1,10 @@
 -- An unplug finishes every open ticket of its device.
-use Rattle.std.proofs.Common.{◌≡◌, ℕ, ◌+◌, ◌<◌, suc, zero, arith, length, get_or, None, List, [], ◌∷◌, map, Some, true, false, refl, ap, sym, ◌∙◌, slice_get, cond}
-use Rattle.std.specs.Prelude.{◌==◌, ◌&&◌, is_none}
+use Rattle.std.proofs.Common.{◌≡◌, ◌≢◌, ℕ, ◌+◌, ◌<◌, suc, zero, arith, length, get_or, None, List, [], ◌∷◌, map, Some, true, false, refl, ap, sym, ◌∙◌, slice_get, cond}
+use Rattle.std.specs.Prelude.{◌==◌, ◌&&◌, is_none, is_some}
 use Rattle.std.specs.List.{slice_index_or}
 use Rattle.std.proofs.lemmas.List.Elements.{All-map}
 use Rattle.std.proofs.lemmas.Option.{none-some}
-use Rattle.std.proofs.lemmas.Bool.{eq-eqb}
+use Rattle.std.proofs.lemmas.Bool.{eq-eqb, ne_eqb}
 use Rattle.std.proofs.lemmas.Grind.{common_steps}
 use Rattle.usb_kernel.specs.declared.event.Event.{Event}
 use Rattle.usb_kernel.specs.declared.event.Event.TheVariants.{Unplug}
@@ -12,6 +12,7 @@ use Rattle.usb_kernel.specs.declared.slot.TicketRow.{TicketRow}
 use Rattle.usb_kernel.specs.Tickets.{Ticket, tickets}
 use Rattle.usb_kernel.specs.Fates.{Fate, unplug}
 use Rattle.usb_kernel.specs.Journal.{fate}
+use Rattle.usb_kernel.proofs.Discards.{not_none_when}
 use Rattle.usb_kernel.specs.Rows.{row_of, rows_from, row_unplugged, Agrees, IsRoomy}
 
 row_unplugged-row_of : (d : ℕ) (s : Ticket) (f : Fate) → row_unplugged d (row_of s f) ≡ row_of s (unplug d s f)
@@ -42,6 +43,14 @@ agrees_unplug past rows d agrees = record {
 -- an open row of the device
 pub unplugged-open : (d : ℕ) (r : TicketRow) → r.device ≡ d → r.status ≡ None → row_unplugged d r ≡ record r { status = Some 108 }
 unplugged-open d r same none = rw (eq-eqb r.device d same, none) refl
+
+-- a row of another device, and one that is finished
+pub unplugged-other : (d : ℕ) (r : TicketRow) → (r.device ≢ d) → row_unplugged d r ≡ r
+unplugged-other d r other = rw (ne_eqb r.device d other) refl
+
+pub unplugged-finished : (d : ℕ) (r : TicketRow) → true ≡ is_some r.status → row_unplugged d r ≡ r
+unplugged-finished d r some =
+    rw (not_none_when r.status some) (elim (r.device == d) as (λ v. cond (v && false) (record r { status = Some 108 }) r ≡ r) [ true ↦ refl | false ↦ refl ])
 
 -- there is a row at each place
 pub row_there : (rows : List TicketRow) (i : ℕ) → i < length rows → (r : TicketRow) × (slice_get rows i ≡ Some r) × (r ≡ get_or rows i r)

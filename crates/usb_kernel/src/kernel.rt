@@ -1,11 +1,13 @@
 //! The kernel: devices, tickets and a journal.
 
-ghost use Rattle.std.specs.Prelude.{◌≡◌, ℕ, ◌+◌, ◌*◌, ◌^◌, ◌<◌, ◌≤◌, ◌++◌, ◌∷◌, [], length, map, max, reverse, IsSome, vec_len, vec_capacity, Some, OnOk, OnErr, IfOk, IfErr, IfSome};
+ghost use Rattle.std.specs.Prelude.{◌≡◌, ℕ, ◌+◌, ◌*◌, ◌^◌, ◌<◌, ◌≤◌, ◌++◌, ◌∷◌, [], length, map, max, reverse, IsSome, vec_len, vec_capacity, Some, List, OnOk, OnErr, IfOk, IfErr, IfSome};
 ghost use Rattle.usb_desc.specs.declared.types.TransferType.{TransferType};
 ghost use Rattle.usb_kernel.specs.Tickets.{tickets};
 ghost use Rattle.usb_simulated.specs.Errnos.{IsErrno};
 ghost use Rattle.usb_kernel.specs.Submissions.{submit_event, IsWhole};
 ghost use Rattle.usb_kernel.specs.Legal.{IsLegal, IsLawful};
+ghost use Rattle.usb_kernel.specs.declared.event.Event.{Event};
+ghost use Rattle.usb_kernel.specs.Deadlines.{KeepsDeadlines};
 ghost use Rattle.usb_kernel.specs.Completions.{reapable, lowest};
 ghost use Rattle.usb_simulated.specs.Devices.{fresh_device, devices_unplugged};
 ghost use Rattle.usb_simulated.specs.Refusals.{armed_errno, disarmed, call_refusal, armed_left};
@@ -93,6 +95,43 @@ fn make_room(journal: &mut Vec<Event>, places: usize, count: usize) -> Result<()
         return Err(NoMemory);
     }
     Ok(())
+}
+
+/// Makes room for these places and three more, and for one more ticket.
+fn make_place(
+    journal: &mut Vec<Event>,
+    tickets: &mut TicketTable,
+    places: usize,
+) -> Result<(), NoMemory>
+    ensures items { journal.new.items ≡ journal.old.items }
+    ensures len { vec_len journal.new ≡ vec_len journal.old }
+    ensures capacity { vec_capacity journal.old ≤ vec_capacity journal.new }
+    ensures rows { tickets.new.rows ≡ tickets.old.rows }
+    ensures ticket { OnOk result (1 ≤ tickets.new.room) }
+    ensures room { OnOk result (vec_len journal.new + places + 3 ≤ vec_capacity journal.new) }
+    ensures four { OnOk result (4 * (length tickets.old.rows + 1) ≤ vec_capacity journal.new) }
+    ensures small { OnOk result (4 * (length tickets.old.rows + 1) < 2 ^ 64) }
+{
+    make_room(journal, places, tickets.len())?;
+    tickets.reserve()
+}
+
+/// The event of a submission, whose deadline is added.
+fn submitted(
+    alloc: Global,
+    deadlines: &mut BTreeSet<(u64, u64)>,
+    s: &Submission,
+    ticket: u64,
+) -> Result<Event, NoMemory>
+    ensures event { IfOk result (λ event. event ≡ submit_event ticket s.now) }
+    ensures kept { OnOk result ((past : List Event) → ticket ≡ length (tickets past)
+        → KeepsDeadlines past deadlines.old.keys
+        → KeepsDeadlines (submit_event (length (tickets past)) s.now ∷ past) deadlines.new.keys) }
+    ensures err { OnErr result (deadlines.new.keys ≡ deadlines.old.keys) }
+{
+    let body = s.body(alloc)?;
+    add_deadline(deadlines, s.deadline, ticket)?;
+    Ok(s.queued(ticket, body))
 }
 
 impl Kernel {
@@ -206,9 +245,11 @@ impl Kernel {
         match self.armed.errno(device, KernelCall::Submit) {
             None => self.queue(s),
             Some(errno) => {
-                let submitted = self.refuse(s, errno)?;
-                self.armed.disarm(device, KernelCall::Submit);
-                Ok(submitted)
+                let refused = self.refuse(s, errno);
+                if refused.is_ok() {
+                    self.armed.disarm(device, KernelCall::Submit);
+                }
+                refused
             }
         }
     }
@@ -225,39 +266,17 @@ impl Kernel {
         ensures err { OnErr result (self.new ≡ self.old) }
         ensures back { IfErr result (λ back. back ≡ s) }
     {
-        let Ok(body) = s.body(*self.journal.allocator()) else {
-            return Err(s);
-        };
         let places = self.spare + self.owed;
-        let Ok(()) = make_room(&mut self.journal, places, self.tickets.len()) else {
+        let Ok(()) = make_place(&mut self.journal, &mut self.tickets, places) else {
             return Err(s);
         };
-        if self.tickets.reserve().is_err() {
-            return Err(s);
-        }
-        let device = s.device;
-        let endpoint = s.endpoint;
-        let maximum = s.maximum;
-        let capacity = s.buffer.capacity();
-        let deadline = s.deadline;
         let next = self.tickets.len() as u64;
-        let Ok(()) = add_deadline(&mut self.deadlines, deadline, next) else {
+        let Ok(event) = submitted(*self.journal.allocator(), &mut self.deadlines, &s, next) else {
             return Err(s);
         };
         let ticket = self.tickets.add(s);
         self.owed += 2;
-        put(
-            &mut self.journal,
-            Event::Submit {
-                ticket,
-                device,
-                endpoint,
-                maximum,
-                body,
-                capacity,
-                deadline,
-            },
-        );
+        put(&mut self.journal, event);
         Ok(Submitted::Queued(ticket))
     }
 
@@ -272,34 +291,16 @@ impl Kernel {
         ensures err { OnErr result (self.new ≡ self.old) }
         ensures back { IfErr result (λ back. back ≡ s) }
     {
-        let Ok(body) = s.body(*self.journal.allocator()) else {
-            return Err(s);
-        };
         let places = self.spare + self.owed;
-        let Ok(()) = make_room(&mut self.journal, places, self.tickets.len()) else {
+        let Ok(()) = make_place(&mut self.journal, &mut self.tickets, places) else {
             return Err(s);
         };
-        if self.tickets.reserve().is_err() {
+        let next = self.tickets.len() as u64;
+        let Ok(event) = s.refused(*self.journal.allocator(), next, errno) else {
             return Err(s);
-        }
-        let device = s.device;
-        let endpoint = s.endpoint;
-        let maximum = s.maximum;
-        let capacity = s.buffer.capacity();
+        };
         let done = self.tickets.add_refused(s, errno);
-        let ticket = done.ticket;
-        put(
-            &mut self.journal,
-            Event::Refuse {
-                ticket,
-                device,
-                endpoint,
-                maximum,
-                body,
-                capacity,
-                errno,
-            },
-        );
+        put(&mut self.journal, event);
         Ok(Submitted::Refused(done))
     }
 

@@ -1,9 +1,9 @@
 //! Transfers that are handed in, and what the kernel answers of them.
 
 ghost use Rattle.std.specs.Prelude.{◌≡◌, IfOk};
-ghost use Rattle.usb_kernel.specs.Submissions.{body_of};
+ghost use Rattle.usb_kernel.specs.Submissions.{body_of, submit_event, refuse_event};
 
-use crate::event::Body;
+use crate::event::{Body, Event};
 use std::alloc::Global;
 use usb_desc::{NoMemory, TransferType};
 use usb_simulated::Bytes;
@@ -61,5 +61,35 @@ impl Submission {
         } else {
             Ok(Body::Wanted(self.buffer.requested_len()))
         }
+    }
+    /// The event that it became a ticket, where this is what it sends or wants.
+    pub(crate) fn queued(&self, ticket: u64, body: Body) -> Event
+        requires body { body ≡ body_of self.now.endpoint self.now.buffer }
+        ensures event { result ≡ submit_event ticket self.now }
+    {
+        Event::Submit {
+            ticket,
+            device: self.device,
+            endpoint: self.endpoint,
+            maximum: self.maximum,
+            body,
+            capacity: self.buffer.capacity(),
+            deadline: self.deadline,
+        }
+    }
+
+    /// The event that it became a ticket that is refused with an errno.
+    pub(crate) fn refused(&self, alloc: Global, ticket: u64, errno: u16) -> Result<Event, NoMemory>
+        ensures event { IfOk result (λ event. event ≡ refuse_event ticket self.now errno) }
+    {
+        Ok(Event::Refuse {
+            ticket,
+            device: self.device,
+            endpoint: self.endpoint,
+            maximum: self.maximum,
+            body: self.body(alloc)?,
+            capacity: self.buffer.capacity(),
+            errno,
+        })
     }
 }

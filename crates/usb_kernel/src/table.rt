@@ -242,9 +242,11 @@ impl TicketTable {
         };
         let before = self.rows[from].places() + self.rows[to].places();
         pass_packet(&mut self.rows, from, to);
-        self.lists.follow(from, &self.rows[from]);
-        self.lists.follow(to, &self.rows[to]);
-        Some(before - (self.rows[from].places() + self.rows[to].places()))
+        let sender = &self.rows[from];
+        self.lists.follow(from, sender);
+        let taker = &self.rows[to];
+        self.lists.follow(to, taker);
+        Some(before - (sender.places() + taker.places()))
     }
 
     /// Finishes the oldest ticket of an endpoint with an errno. It answers whether there was one.

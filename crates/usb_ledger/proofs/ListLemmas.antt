@@ -1,5 +1,5 @@
 -- Places and counts of lists.
-use Rattle.std.proofs.Common.{ℕ, zero, suc, arith, ◌≡◌, ◌≢◌, ◌<◌, ◌+◌, Bool, true, false, cond, List, [], ◌∷◌, ◌++◌, length, map, set, get_or, slice_get, Option, Some, ◌⊎◌, inl, inr, refl, sym, ◌∙◌, ap}
+use Rattle.std.proofs.Common.{ℕ, zero, suc, arith, ◌≡◌, ◌≢◌, ◌<◌, ◌+◌, Bool, true, false, cond, List, [], ◌∷◌, ◌++◌, length, map, set, get_or, slice_get, Option, Some, ◌⊎◌, inl, inr, refl, sym, ◌∙◌, ap, Vec, Global, vec_len, vec_capacity, ◌≤◌, ◌-◌}
 use Rattle.std.specs.Prelude.{nat_lt}
 use Rattle.std.specs.List.{count_by, list_any, enumerate_from}
 use Rattle.std.proofs.lemmas.Bool.{cases_Bool}
@@ -83,3 +83,10 @@ any-enumerated f p q m (x ∷ xs) each =
     let here : p (m, f x) ≡ q x = rw z at (each 0 x refl) in
     let IH = any-enumerated f p q (m + 1) xs (λ k y at. let e : (m + 1) + k ≡ m + suc k = omega arith in rw e (each (suc k) y at)) in
     rw (here, IH) refl
+
+-- there is room for one more, and a number is that of an element
+pub room_there : {X : Type 0} (xs : Vec X Global) → 1 ≤ vec_capacity xs - vec_len xs → vec_len xs < vec_capacity xs
+room_there xs room = omega arith
+
+pub place_there : {X : Type 0} (xs : Vec X Global) (i : ℕ) → i < length xs.items → i < vec_len xs
+place_there xs i inside = rw xs.ok.0 inside

@@ -1,7 +1,9 @@
-use Rattle.std.proofs.Common.{sym}
+use Rattle.std.proofs.Common.{sym, ap, ◌∙◌}
 use Rattle.usb_kernel.proofs.Steps.{found, oldest-none, open_row, Agrees-fail, after_fail-none, after_fail-some}
-use Rattle.usb_kernel.specs.Rows.{Agrees}
+use Rattle.usb_kernel.specs.Rows.{Agrees, owed}
 use Rattle.usb_kernel.proofs.Unreaped.{same_rows, row_read, finishes-fail}
+use Rattle.std.specs.List.{sum_by}
+use Rattle.usb_kernel.proofs.Freed.{no_more, oldest-inside, freed-one}
 use Rattle.usb_kernel.proofs.table.TicketTable.fail_oldest.Goals as goal
 
 pub returns-in_default-clause-acts : goal.returns-in_default-clause-acts
@@ -42,3 +44,16 @@ invariant_of-self c =
     let row = open_row rows c.args.device c.args.endpoint c.in-Some.at slot (rw (same_rows c.self.view_is) c.requires.roomy) (sym (c.in-Some.ensures.oldest c.self.inside.rows.items c.self.invariant)) c.index_mut-slot.ensures.value in
     let here = row_read rows c.in-Some.at slot row.inside c.index_mut-slot.ensures.value in
     c.finish.ensures.listed rows c.fail.new.self c.self.invariant (finishes-fail rows c.in-Some.at c.args.errno slot c.fail.new.self here row.unfinished row.roomy c.fail.ensures.row)
+
+pub returns-in_default-clause-places : goal.returns-in_default-clause-places
+returns-in_default-clause-places c = no_more (sum_by owed c.args.self.now.rows)
+
+pub index_mut-slot-requires : goal.index_mut-slot-requires
+index_mut-slot-requires c = oldest-inside c.self.inside.rows c.args.device c.args.endpoint c.in-Some.at (sym (c.in-Some.ensures.oldest c.self.inside.rows.items c.self.invariant))
+
+pub returns-clause-places : goal.returns-clause-places
+returns-clause-places c =
+    let slot = c.index_mut-slot.result.now in
+    let row = open_row c.self.inside.rows.items c.args.device c.args.endpoint c.in-Some.at c.index_mut-slot.result.now (rw (same_rows c.self.view_is) c.requires.roomy) (sym (c.in-Some.ensures.oldest c.self.inside.rows.items c.self.invariant)) c.index_mut-slot.ensures.value in
+    freed-one c.self.inside.rows.items c.in-Some.at slot c.fail.new.self row.inside c.index_mut-slot.ensures.value c.fail.ensures.places
+    ∙ ap (sum_by owed) (same_rows c.self.view_is)

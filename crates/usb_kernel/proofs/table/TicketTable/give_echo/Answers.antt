@@ -1,11 +1,12 @@
-use Rattle.std.proofs.Common.{sym, arith, ap}
+use Rattle.std.proofs.Common.{sym, ap, ◌∙◌}
 use Rattle.std.specs.List.{sum_by}
 use Rattle.usb_kernel.proofs.Steps.{found, oldest-none}
-use Rattle.usb_kernel.proofs.Passing.{after_echo-none_out, after_echo-none_in, after_echo-some, sends-of, takes-of, Agrees-pass, pass-owed, pass-listed}
+use Rattle.usb_kernel.proofs.Passing.{after_echo-none_out, after_echo-none_in, after_echo-some, sends-of, takes-of, Agrees-pass, pass-listed}
 use Rattle.usb_kernel.specs.Rows.{Agrees, owed}
-use Rattle.usb_kernel.specs.TableState.{TableState}
 use Rattle.usb_kernel.proofs.Unreaped.{same_rows}
+use Rattle.usb_kernel.proofs.Freed.{after_echo-from_in, after_echo-to_out, oldest-inside, passed-inside, no_more, fits_two, freed-pass}
 use Rattle.usb_kernel.proofs.table.TicketTable.give_echo.Goals as goal
+use Rattle.usb_kernel.proofs.table.TicketTable.give_echo.Goals.{then-output-ge128-via-then-output-ge128, then-output-ge128-via-else-output-ge128+then-input-lt128}
 
 pub returns-in_default-clause-agrees : goal.returns-in_default-clause-agrees
 returns-in_default-clause-agrees c =
@@ -39,12 +40,60 @@ pub pass_packet-requires-clause-takes : goal.pass_packet-requires-clause-takes
 pass_packet-requires-clause-takes c =
     takes-of c.self.inside.rows.items c.args.device c.args.input c.in-Some-oldest.to c.index-2.result.now (rw (same_rows c.self.view_is) c.requires.roomy) c.if-input-lt128.false (sym (c.in-Some-oldest.ensures.oldest c.self.inside.rows.items c.self.invariant)) c.index-2.ensures
 
+pub returns-then-output-ge128-clause-agrees : goal.returns-then-output-ge128-clause-agrees
+returns-then-output-ge128-clause-agrees c =
+    λ past agreed.
+    elim c.then-output-ge128.branch [
+      | then-output-ge128-via-then-output-ge128 w ↦ rw (after_echo-from_in past c.args.device c.args.output c.args.input w.if-output-ge128.true) agreed
+      | then-output-ge128-via-else-output-ge128+then-input-lt128 w ↦ rw (after_echo-to_out past c.args.device c.args.output c.args.input w.if-input-lt128.true) agreed
+    ]
+
+pub returns-then-output-ge128-clause-acts : goal.returns-then-output-ge128-clause-acts
+returns-then-output-ge128-clause-acts c =
+    λ past agreed.
+    elim c.then-output-ge128.branch [
+      | then-output-ge128-via-then-output-ge128 w ↦ after_echo-from_in past c.args.device c.args.output c.args.input w.if-output-ge128.true
+      | then-output-ge128-via-else-output-ge128+then-input-lt128 w ↦ after_echo-to_out past c.args.device c.args.output c.args.input w.if-input-lt128.true
+    ]
+
+pub returns-then-output-ge128-clause-places : goal.returns-then-output-ge128-clause-places
+returns-then-output-ge128-clause-places c = no_more (sum_by owed c.args.self.now.rows)
+
+pub returns-in_default-clause-places : goal.returns-in_default-clause-places
+returns-in_default-clause-places c = no_more (sum_by owed c.args.self.now.rows)
+
+pub returns-in_default-oldest-clause-places : goal.returns-in_default-oldest-clause-places
+returns-in_default-oldest-clause-places c = no_more (sum_by owed c.args.self.now.rows)
+
+pub index-requires : goal.index-requires
+index-requires c = oldest-inside c.self.inside.rows c.args.device c.args.output c.in-Some.from (sym (c.in-Some.ensures.oldest c.self.inside.rows.items c.self.invariant))
+
+pub index-requires-2 : goal.index-requires-2
+index-requires-2 c = oldest-inside c.self.inside.rows c.args.device c.args.input c.in-Some-oldest.to (sym (c.in-Some-oldest.ensures.oldest c.self.inside.rows.items c.self.invariant))
+
+pub overflow_add-before : goal.overflow_add-before
+overflow_add-before c = fits_two c.places.result c.places-2.result c.places.ensures.few c.places-2.ensures.few
+
+pub index-sender-requires : goal.index-sender-requires
+index-sender-requires c =
+    let sends = sends-of c.self.inside.rows.items c.args.device c.args.output c.in-Some.from c.index.result.now (rw (same_rows c.self.view_is) c.requires.roomy) c.if-output-ge128.false (sym (c.in-Some.ensures.oldest c.self.inside.rows.items c.self.invariant)) c.index.ensures in
+    let takes = takes-of c.self.inside.rows.items c.args.device c.args.input c.in-Some-oldest.to c.index-2.result.now (rw (same_rows c.self.view_is) c.requires.roomy) c.if-input-lt128.false (sym (c.in-Some-oldest.ensures.oldest c.self.inside.rows.items c.self.invariant)) c.index-2.ensures in
+    passed-inside c.self.inside.rows c.pass_packet.new.rows c.in-Some.from c.in-Some-oldest.to c.in-Some.from sends takes c.pass_packet.ensures.rows (oldest-inside c.self.inside.rows c.args.device c.args.output c.in-Some.from (sym (c.in-Some.ensures.oldest c.self.inside.rows.items c.self.invariant)))
+
+pub index-taker-requires : goal.index-taker-requires
+index-taker-requires c =
+    let sends = sends-of c.self.inside.rows.items c.args.device c.args.output c.in-Some.from c.index.result.now (rw (same_rows c.self.view_is) c.requires.roomy) c.if-output-ge128.false (sym (c.in-Some.ensures.oldest c.self.inside.rows.items c.self.invariant)) c.index.ensures in
+    let takes = takes-of c.self.inside.rows.items c.args.device c.args.input c.in-Some-oldest.to c.index-2.result.now (rw (same_rows c.self.view_is) c.requires.roomy) c.if-input-lt128.false (sym (c.in-Some-oldest.ensures.oldest c.self.inside.rows.items c.self.invariant)) c.index-2.ensures in
+    passed-inside c.self.inside.rows c.pass_packet.new.rows c.in-Some.from c.in-Some-oldest.to c.in-Some-oldest.to sends takes c.pass_packet.ensures.rows (oldest-inside c.self.inside.rows c.args.device c.args.input c.in-Some-oldest.to (sym (c.in-Some-oldest.ensures.oldest c.self.inside.rows.items c.self.invariant)))
+
+pub overflow_add-result : goal.overflow_add-result
+overflow_add-result c = fits_two c.places-3.result c.places-4.result c.places-3.ensures.few c.places-4.ensures.few
+
 pub overflow_sub-result : goal.overflow_sub-result
 overflow_sub-result c =
     let sends = sends-of c.self.inside.rows.items c.args.device c.args.output c.in-Some.from c.index.result.now (rw (same_rows c.self.view_is) c.requires.roomy) c.if-output-ge128.false (sym (c.in-Some.ensures.oldest c.self.inside.rows.items c.self.invariant)) c.index.ensures in
     let takes = takes-of c.self.inside.rows.items c.args.device c.args.input c.in-Some-oldest.to c.index-2.result.now (rw (same_rows c.self.view_is) c.requires.roomy) c.if-input-lt128.false (sym (c.in-Some-oldest.ensures.oldest c.self.inside.rows.items c.self.invariant)) c.index-2.ensures in
-    let all = pass-owed c.self.inside.rows.items c.in-Some.from c.in-Some-oldest.to c.index.result.now c.index-2.result.now c.index-5.result.now c.index-6.result.now sends takes c.index.ensures c.index-2.ensures (rw c.pass_packet.ensures.rows at c.index-5.ensures) (rw c.pass_packet.ensures.rows at c.index-6.ensures) in
-    omega (arith, c.places.ensures.places, c.places-2.ensures.places, all.0, all.1.0, c.places-3.ensures.few, c.places-4.ensures.few)
+    (freed-pass c.self.inside.rows.items c.in-Some.from c.in-Some-oldest.to c.index.result.now c.index-2.result.now c.index-sender.result.now c.index-taker.result.now c.places.result c.places-2.result c.places-3.result c.places-4.result sends takes c.index.ensures c.index-2.ensures (rw c.pass_packet.ensures.rows at c.index-sender.ensures) (rw c.pass_packet.ensures.rows at c.index-taker.ensures) c.places.ensures.places c.places-2.ensures.places c.places-3.ensures.places c.places-4.ensures.places c.places-3.ensures.few c.places-4.ensures.few).0
 
 pub returns-clause-agrees : goal.returns-clause-agrees
 returns-clause-agrees c =
@@ -70,11 +119,10 @@ pub returns-clause-places : goal.returns-clause-places
 returns-clause-places c =
     let sends = sends-of c.self.inside.rows.items c.args.device c.args.output c.in-Some.from c.index.result.now (rw (same_rows c.self.view_is) c.requires.roomy) c.if-output-ge128.false (sym (c.in-Some.ensures.oldest c.self.inside.rows.items c.self.invariant)) c.index.ensures in
     let takes = takes-of c.self.inside.rows.items c.args.device c.args.input c.in-Some-oldest.to c.index-2.result.now (rw (same_rows c.self.view_is) c.requires.roomy) c.if-input-lt128.false (sym (c.in-Some-oldest.ensures.oldest c.self.inside.rows.items c.self.invariant)) c.index-2.ensures in
-    let all = pass-owed c.self.inside.rows.items c.in-Some.from c.in-Some-oldest.to c.index.result.now c.index-2.result.now c.index-5.result.now c.index-6.result.now sends takes c.index.ensures c.index-2.ensures (rw c.pass_packet.ensures.rows at c.index-5.ensures) (rw c.pass_packet.ensures.rows at c.index-6.ensures) in
-    rw c.pass_packet.ensures.rows (omega (arith, c.places.ensures.places, c.places-2.ensures.places, c.places-3.ensures.places, c.places-4.ensures.places, all.0, all.1.0, all.1.1, c.places-3.ensures.few, c.places-4.ensures.few, ap (λ (t : TableState). sum_by owed t.rows) c.self.view_is))
+    rw c.pass_packet.ensures.rows ((freed-pass c.self.inside.rows.items c.in-Some.from c.in-Some-oldest.to c.index.result.now c.index-2.result.now c.index-sender.result.now c.index-taker.result.now c.places.result c.places-2.result c.places-3.result c.places-4.result sends takes c.index.ensures c.index-2.ensures (rw c.pass_packet.ensures.rows at c.index-sender.ensures) (rw c.pass_packet.ensures.rows at c.index-taker.ensures) c.places.ensures.places c.places-2.ensures.places c.places-3.ensures.places c.places-4.ensures.places c.places-3.ensures.few c.places-4.ensures.few).1 ∙ ap (sum_by owed) (same_rows c.self.view_is))
 
 pub invariant_of-self : goal.invariant_of-self
 invariant_of-self c =
     let sends = sends-of c.self.inside.rows.items c.args.device c.args.output c.in-Some.from c.index.result.now (rw (same_rows c.self.view_is) c.requires.roomy) c.if-output-ge128.false (sym (c.in-Some.ensures.oldest c.self.inside.rows.items c.self.invariant)) c.index.ensures in
     let takes = takes-of c.self.inside.rows.items c.args.device c.args.input c.in-Some-oldest.to c.index-2.result.now (rw (same_rows c.self.view_is) c.requires.roomy) c.if-input-lt128.false (sym (c.in-Some-oldest.ensures.oldest c.self.inside.rows.items c.self.invariant)) c.index-2.ensures in
-    rw c.pass_packet.ensures.rows (pass-listed c.self.inside.rows.items c.in-Some.from c.in-Some-oldest.to c.index-3.result.now c.index-4.result.now c.self.inside.lists c.follow.new.self c.follow-2.new.self sends takes (rw c.pass_packet.ensures.rows at c.index-3.ensures) (rw c.pass_packet.ensures.rows at c.index-4.ensures) c.self.invariant c.follow.ensures.listed c.follow-2.ensures.listed)
+    rw c.pass_packet.ensures.rows (pass-listed c.self.inside.rows.items c.in-Some.from c.in-Some-oldest.to c.index-sender.result.now c.index-taker.result.now c.self.inside.lists c.follow.new.self c.follow-2.new.self sends takes (rw c.pass_packet.ensures.rows at c.index-sender.ensures) (rw c.pass_packet.ensures.rows at c.index-taker.ensures) c.self.invariant c.follow.ensures.listed c.follow-2.ensures.listed)

@@ -1,7 +1,10 @@
-use Rattle.std.proofs.Common.{arith, sym}
+use Rattle.std.proofs.Common.{arith, sym, ap, ◌∙◌}
 use Rattle.usb_kernel.proofs.Steps.{found, oldest-none, open_row, Agrees-packet, after_packet-none, after_packet-some}
-use Rattle.usb_kernel.specs.Rows.{Agrees}
+use Rattle.usb_kernel.specs.Rows.{Agrees, owed}
 use Rattle.usb_kernel.proofs.Unreaped.{same_rows, row_read, goes_on-packet}
+use Rattle.std.specs.List.{sum_by}
+use Rattle.usb_kernel.proofs.Passing.{owed-open}
+use Rattle.usb_kernel.proofs.Freed.{after_packet-out, no_more, oldest-inside, fewer, freed}
 use Rattle.usb_kernel.proofs.table.TicketTable.give_packet.Goals as goal
 
 pub returns-in_default-clause-acts : goal.returns-in_default-clause-acts
@@ -42,3 +45,32 @@ invariant_of-self c =
     let row = open_row rows c.args.device c.args.endpoint c.in-Some.at slot (rw (same_rows c.self.view_is) c.requires.roomy) (sym (c.in-Some.ensures.oldest c.self.inside.rows.items c.self.invariant)) c.index_mut-slot.ensures.value in
     let here = row_read rows c.in-Some.at slot row.inside c.index_mut-slot.ensures.value in
     c.follow.ensures.listed rows c.self.invariant (goes_on-packet rows c.in-Some.at slot c.take_packet.new.self c.args.bytes.now here row.unfinished row.roomy c.take_packet.ensures.row)
+
+pub returns-then-endpoint-lt128-clause-agrees : goal.returns-then-endpoint-lt128-clause-agrees
+returns-then-endpoint-lt128-clause-agrees c = λ past agreed. rw (after_packet-out past c.args.device c.args.endpoint c.args.bytes.now c.if-endpoint-lt128.true) agreed
+
+pub returns-then-endpoint-lt128-clause-acts : goal.returns-then-endpoint-lt128-clause-acts
+returns-then-endpoint-lt128-clause-acts c = λ past agreed. after_packet-out past c.args.device c.args.endpoint c.args.bytes.now c.if-endpoint-lt128.true
+
+pub returns-then-endpoint-lt128-clause-places : goal.returns-then-endpoint-lt128-clause-places
+returns-then-endpoint-lt128-clause-places c = no_more (sum_by owed c.args.self.now.rows)
+
+pub returns-in_default-clause-places : goal.returns-in_default-clause-places
+returns-in_default-clause-places c = no_more (sum_by owed c.args.self.now.rows)
+
+pub index_mut-slot-requires : goal.index_mut-slot-requires
+index_mut-slot-requires c = oldest-inside c.self.inside.rows c.args.device c.args.endpoint c.in-Some.at (sym (c.in-Some.ensures.oldest c.self.inside.rows.items c.self.invariant))
+
+pub overflow_sub-result : goal.overflow_sub-result
+overflow_sub-result c =
+    let slot = c.index_mut-slot.result.now in
+    let row = open_row c.self.inside.rows.items c.args.device c.args.endpoint c.in-Some.at c.index_mut-slot.result.now (rw (same_rows c.self.view_is) c.requires.roomy) (sym (c.in-Some.ensures.oldest c.self.inside.rows.items c.self.invariant)) c.index_mut-slot.ensures.value in
+    fewer c.places-before.result c.places.result (owed slot) c.places-before.ensures.places (owed-open slot row.unfinished row.roomy) c.places.ensures.few
+
+pub returns-clause-places : goal.returns-clause-places
+returns-clause-places c =
+    let rows = c.self.inside.rows.items in
+    let slot = c.index_mut-slot.result.now in
+    let row = open_row c.self.inside.rows.items c.args.device c.args.endpoint c.in-Some.at c.index_mut-slot.result.now (rw (same_rows c.self.view_is) c.requires.roomy) (sym (c.in-Some.ensures.oldest c.self.inside.rows.items c.self.invariant)) c.index_mut-slot.ensures.value in
+    freed rows c.in-Some.at slot c.take_packet.new.self c.places-before.result c.places.result row.inside c.index_mut-slot.ensures.value (owed-open slot row.unfinished row.roomy) c.places-before.ensures.places c.places.ensures.places c.places.ensures.few
+    ∙ ap (sum_by owed) (same_rows c.self.view_is)

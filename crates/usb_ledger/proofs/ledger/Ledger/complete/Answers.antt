@@ -6,7 +6,7 @@ use Rattle.usb_ledger.specs.declared.ends.TicketEnd.TheVariants.{Reclaimed}
 use Rattle.usb_ledger.specs.declared.slot.TicketState.{TicketState}
 use Rattle.usb_ledger.specs.declared.slot.TicketState.TheVariants as slot
 use Rattle.usb_ledger.specs.LedgerState.{host_ticket, ticket_key, is_given_up, abandoned_key}
-use Rattle.usb_ledger.proofs.ListLemmas.{place}
+use Rattle.usb_ledger.proofs.ListLemmas.{place, place_there}
 use Rattle.usb_ledger.proofs.LedgerLemmas.{given-with, given-key, kept-with, kept-key, kept-ticket, tickets-same}
 use Rattle.usb_ledger.proofs.ledger.Ledger.complete.Goals as goal
 
@@ -59,3 +59,6 @@ returns-clause-claim c = λ x there.
     let same : x ≡ s = same_Some x s (sym there ∙ rw (← c.self.view_is) at) in
     let given : is_given_up s ≡ false = sym c.keep.ensures.given_up ∙ c.if-keep.false in
     rw (same, kept-key s given) refl
+
+pub index_mut-slot-requires : goal.index_mut-slot-requires
+index_mut-slot-requires c = place_there c.self.inside.slots c.args.done.ticket (rw (← c.self.view_is) at c.requires.within)

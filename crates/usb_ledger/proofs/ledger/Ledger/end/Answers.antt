@@ -12,7 +12,7 @@ use Rattle.usb_ledger.specs.Entries.{HostTicket, ClaimedInterface}
 use Rattle.usb_ledger.specs.Releases.{claim_of, endpoints_left}
 use Rattle.usb_ledger.specs.OwnerRows.{OwnersState, endpoint_of, rows_left, row_gone, with_row}
 use Rattle.usb_ledger.specs.LedgerState.{Tied, host_ticket, ticket_key, slot_data}
-use Rattle.usb_ledger.proofs.ListLemmas.{place}
+use Rattle.usb_ledger.proofs.ListLemmas.{place, place_there}
 use Rattle.usb_ledger.proofs.OwnerLemmas.{with_row-at}
 use Rattle.usb_ledger.proofs.LedgerLemmas.{key-there, counted-some, Tied-end, Tied-left, claim_of-rows, left-rows, interface-row, endpoints-kept, ticket-at}
 use Rattle.usb_ledger.proofs.ledger.Ledger.end.Goals as goal
@@ -131,3 +131,14 @@ returns-clause-claim c = λ x here.
     c.end_ticket-claim.ensures.gone r.e r.there ∙ claim_is interfaces r in
     let same : x ≡ s = same_Some x s (sym here ∙ rw (← c.self.view_is) at) in
     rw (same, key, ← c.self.view_is) ended
+
+pub index_mut-requires : goal.index_mut-requires
+index_mut-requires c = place_there c.self.inside.slots c.args.ticket (rw (← c.self.view_is) at c.requires.within)
+
+pub unwrap-requires : goal.unwrap-requires
+unwrap-requires c =
+    let slots = c.self.inside.slots.items in
+    let s = c.index_mut.result.now in
+    let at : slice_get slots c.args.ticket ≡ Some s = place slots c.args.ticket s (rw (← c.self.view_is) at c.requires.within) c.index_mut.ensures.value in
+    let read_is : c.replace-slot.result ≡ s = c.replace-slot.ensures.value in
+    rw (c.into_parts-parts.ensures.key, read_is) (c.requires.key s (rw (← c.self.view_is) at))

@@ -9,6 +9,7 @@ use Rattle.usb_ledger.specs.OwnerRows.{endpoint_of}
 use Rattle.usb_ledger.specs.LedgerState.{LedgerState, host_ticket}
 use Rattle.usb_ledger.proofs.OwnerLemmas.{with_row-at}
 use Rattle.usb_ledger.proofs.LedgerLemmas.{Tied-add, row-there, endpoint-at, endpoints-kept}
+use Rattle.usb_ledger.proofs.ListLemmas.{room_there}
 use Rattle.usb_ledger.proofs.ledger.Ledger.hold.Goals as goal
 
 pub invariant_of-self : goal.invariant_of-self
@@ -34,3 +35,13 @@ returns c =
     let slots = c.push_reserved.new.self in
     let room : vec_capacity slots - vec_len slots ≡ vec_capacity c.self.inside.slots - vec_len c.self.inside.slots - 1 = omega (arith, c.push_reserved.ensures.capacity, c.push_reserved.ensures.len) in
     record { slots = rw (← c.self.view_is, owners, c.push_reserved.ensures.items, room, with_row-at rows c.args.key e true (e.tickets + 1) there.1, kept) refl }
+
+pub push_reserved-requires : goal.push_reserved-requires
+push_reserved-requires c = room_there c.self.inside.slots (rw (← c.self.view_is) at c.requires.room)
+
+pub add_ticket-requires-clause-there : goal.add_ticket-requires-clause-there
+add_ticket-requires-clause-there c = row-there c.self.inside.owners.rows c.args.key (rw (← c.self.view_is) at c.requires.there)
+
+pub add_ticket-requires-clause-open : goal.add_ticket-requires-clause-open
+add_ticket-requires-clause-open c = λ x there.
+    c.requires.open (endpoint_of x) (ap (λ (l : LedgerState). value_at l.endpoints c.args.key) (sym c.self.view_is) ∙ endpoint-at c.self.inside.owners.rows c.args.key x there)
