@@ -62,6 +62,7 @@ impl Submission {
             Ok(Body::Wanted(self.buffer.requested_len()))
         }
     }
+
     /// The event that it became a ticket, where this is what it sends or wants.
     pub(crate) fn queued(&self, ticket: u64, body: Body) -> Event
         requires body { body ≡ body_of self.now.endpoint self.now.buffer }
