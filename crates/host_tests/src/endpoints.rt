@@ -1,5 +1,5 @@
-//! Buses, endpoints, and std's traits of readers and writers over them: the bus that their tests
-//! begin with, and what is done on it.
+//! Buses, endpoints, and readers and writers over them, by std's traits and until a short packet:
+//! the bus that their tests begin with, and what is done on it.
 
 ghost use Rattle.usb_kernel.specs.Steps.{HasErrno};
 ghost use Rattle.usb_bus.specs.KernelBusCalls.{bus_of};
@@ -14,7 +14,7 @@ mod writers;
 
 use crate::devices::{device, kernel_with};
 use crate::endpoints::bus::is_right_bus;
-use crate::endpoints::readers::{FILLS, READS, is_right_reader};
+use crate::endpoints::readers::{FILLS, MESSAGES, READS, is_right_reader};
 use crate::endpoints::transfers::is_right_endpoint;
 use crate::endpoints::writers::is_right_writer;
 use std::alloc::Global;
@@ -56,11 +56,13 @@ enum Case {
     Bus,
     /// An endpoint is opened, and transfers of several lengths are submitted.
     Endpoint,
-    /// A reader reads.
+    /// A reader is read until a short packet.
+    Messages,
+    /// A reader is read by std's traits.
     Reads,
-    /// A reader lends bytes.
+    /// It lends bytes by them.
     Fills,
-    /// A writer writes.
+    /// A writer is written to by std's trait.
     Writes,
 }
 
@@ -75,6 +77,7 @@ fn is_so(alloc: Global, bus: &mut KernelBus, case: &Case) -> bool {
     match case {
         Case::Bus => is_right_bus(bus),
         Case::Endpoint => is_right_endpoint(alloc, bus),
+        Case::Messages => is_right_reader(alloc, bus, MESSAGES),
         Case::Reads => is_right_reader(alloc, bus, READS),
         Case::Fills => is_right_reader(alloc, bus, FILLS),
         Case::Writes => is_right_writer(alloc, bus),

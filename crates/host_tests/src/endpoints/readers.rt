@@ -1,4 +1,4 @@
-//! Readers by std's traits. Expected values come from the rules of the simulation, and from
+//! Readers until a short packet, and by std's traits. Expected values come from the rules of the simulation, and from
 //! USB 2.0, 5.8.3: a transfer ends with a packet that is shorter than the maximum.
 
 ghost use Rattle.std.specs.Prelude.{IfOk};
@@ -8,12 +8,13 @@ ghost use Rattle.usb_endpoint.specs.Handles.{Stands};
 
 use crate::endpoints::{Case, apply, expect, told};
 use crate::steps::{INPUT_STALL, packet};
+use futures::task::Poll;
 use std::alloc::Global;
 use std::io::{self, BufRead, ErrorKind, Read};
 use usb_bus::KernelBus;
-use usb_desc::NoMemory;
+use usb_desc::{Fail, NoMemory};
 use usb_endpoint::Endpoint;
-use usb_io::{EndpointRead, IntoReader};
+use usb_io::{EndpointRead, IntoReader, ReadFault};
 use usb_kernel::KernelStep;
 use usb_xfer::{Bulk, In};
 
@@ -64,6 +65,43 @@ fn called(bus: &mut KernelBus, reader: &mut EndpointRead<Bulk>, call: &Call) -> 
     }
 }
 
+/// A call of the reader's own that stops at short packets. Those that look don't wait.
+pub enum Own {
+    Read,
+    Look,
+    Fill,
+    LookAtFill,
+}
+
+/// Whether a call gives this byte, and a read no more.
+fn gives(bus: &mut KernelBus, reader: &mut EndpointRead<Bulk>, call: &Own, byte: u8) -> bool
+    requires stands { Stands (bus_of bus.old) reader.old.endpoint }
+    ensures stands { Stands (bus_of bus.new) reader.new.endpoint }
+{
+    let mut dest = [0; 1];
+    let is_read = match call {
+        Own::Read => matches!(reader.until_short_packet().read(bus, &mut dest), Ok(1)),
+        Own::Look => {
+            let read = reader.until_short_packet().poll_read(bus, &mut dest);
+            matches!(read, Poll::Ready(Ok(1)))
+        }
+        Own::Fill => return begins(reader.until_short_packet().fill_buf(bus), byte),
+        Own::LookAtFill => match reader.until_short_packet().poll_fill_buf(bus) {
+            Poll::Ready(filled) => return begins(filled, byte),
+            Poll::Pending => return false,
+        },
+    };
+    is_read && dest[0] == byte
+}
+
+/// Whether bytes are lent, of which the first is this.
+fn begins(filled: Result<&[u8], Fail<ReadFault>>, byte: u8) -> bool {
+    match filled {
+        Ok([first, ..]) => *first == byte,
+        _ => false,
+    }
+}
+
 /// A step with a reader, and what it gives.
 pub enum Step {
     /// Two transfers are to be on their way.
@@ -78,6 +116,8 @@ pub enum Step {
     Reap,
     /// All transfers are cancelled.
     CancelAll,
+    /// A call of the reader's own, and the first byte.
+    Own(Own, u8),
     /// A call.
     Call(Call, Answer),
     /// So many bytes are taken off.
@@ -87,6 +127,19 @@ pub enum Step {
     /// An error came.
     HasError,
 }
+
+pub const MESSAGES: &[Step] = &[
+    Step::TwoTransfers,
+    Step::Packet(&[1, 2, 3, 4]),
+    Step::Packet(&[5]),
+    Step::Own(Own::Read, 1),
+    Step::Own(Own::Look, 2),
+    Step::Own(Own::Fill, 3),
+    Step::Own(Own::LookAtFill, 3),
+    Step::Call(Call::ReadMessage, Ok((3, 3))),
+    Step::Call(Call::ReadMessage, Ok((0, 0))),
+    Step::ConsumeEnd,
+];
 
 pub const READS: &[Step] = &[
     Step::TwoTransfers,
@@ -126,7 +179,8 @@ pub const FILLS: &[Step] = &[
 ];
 
 #[test]
-fn std_reads_and_lends_what_came(rt: HostRuntime) -> Result<(), std::test::Fail> {
+fn readers_and_std_give_what_came(rt: HostRuntime) -> Result<(), std::test::Fail> {
+    expect(&rt, rt.alloc(), &Case::Messages)?;
     expect(&rt, rt.alloc(), &Case::Reads)?;
     expect(&rt, rt.alloc(), &Case::Fills)
 }
@@ -192,6 +246,7 @@ fn is_right(
             reader.cancel_all(bus);
             true
         }
+        Step::Own(call, byte) => gives(bus, reader, call, *byte),
         Step::Call(call, answer) => called(bus, reader, call) == *answer,
         Step::Consume(count) => {
             reader.on(bus).consume(*count);

@@ -58,7 +58,7 @@ fn reads_messages_with_their_ends_and_faults(rt: HostRuntime) -> Result<(), Fail
 }
 
 /// Polls, fills, timeouts, and what becomes of the endpoint.
-const FURTHER: [(&str, &str, &str); 9] = [
+const FURTHER: [(&str, &str, &str); 10] = [
     (
         "polls of a reader",
         "reader r0 e0 64\npollread r0 5\n! pkt k0 81 0a ; reap\npollsread r0 5\npollsread r0 5\npollread r0 5\n",
@@ -103,6 +103,11 @@ const FURTHER: [(&str, &str, &str); 9] = [
         "barred calls of readers",
         "reader r0 e1 64\nendpoint e1 i0 02 bulk-out\nreader r0 e1 64\nreader r0 e0 64\nreader r0 e1 64\nnum r0 65\nnum r1 2\ntimeout r1 5\ncancel r1\ninner e1 r0\ninner e2 r1\nisend r1\nendmsg r1\nconsume r1 0\nsread r1 1 : clock 7\npollfill r1\nnow\n",
         "condition\nok\ncondition\nok\ncondition\ncondition\ncondition\ncondition\ncondition\ncondition\ncondition\ncondition\ncondition\ncondition\ncondition\ncondition\nnow 7\n",
+    ),
+    (
+        "an endpoint of the other direction comes back",
+        "endpoint e1 i0 02 bulk-out\nreader r0 e1 64\nsubmitout e1 0102\nwriter w0 e0 64\nsubmitin e0 64\npending e1\npending e0\n",
+        "ok\ncondition\nok\ncondition\nok\ncount 1\ncount 1\nticket 0 k0 02 cancelled 0 reclaimed\nticket 1 k0 81 cancelled 0 reclaimed\n",
     ),
 ];
 
