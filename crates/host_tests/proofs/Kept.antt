@@ -1,17 +1,13 @@
 -- What calls keep of the open devices and of the claimed interfaces of a host.
-use Rattle.std.proofs.Common.{ℕ, ◌≡◌, ◌≢◌, ◌+◌, ◌-◌, arith, Bool, true, false, cond, length, Some, None, refl, ap, sym, ◌∙◌, subst}
-use Rattle.std.specs.Prelude.{List, ◌++◌, ◌∷◌, []}
+use Rattle.std.proofs.Common.{ℕ, ◌≡◌, ◌+◌, ◌-◌, arith, Bool, true, false, cond, length, Some, None, refl, ap, sym, ◌∙◌, subst}
 use Rattle.usb_device.specs.Futures.{FutureState, StandsFuture}
 use Rattle.usb_device.proofs.FutureFrames.{future-same}
 use Rattle.usb_host.specs.HostBus.{bus_of}
 use Rattle.usb_device.specs.HandleStates.{InterfaceState, StandsInterface}
-use Rattle.usb_simulated.specs.declared.step.KernelCall.TheVariants as call
-use Rattle.usb_simulated.specs.Calls.{same}
-use Rattle.usb_kernel.specs.Calls.{called}
 use Rattle.usb_ledger.specs.declared.opened.OpenDevice.{OpenDevice}
 use Rattle.usb_host.specs.HostState.{HostState}
 use Rattle.std.specs.Prelude.{IsSome, IfOk, nat_lt, ◌||◌}
-use Rattle.std.proofs.Common.{◌≢◌, inl, inr, Result, Ok, Err}
+use Rattle.std.proofs.Common.{inl, inr, Result, Ok, Err}
 use Rattle.std.proofs.lemmas.Bool.{cases_eq}
 use Rattle.std.proofs.lemmas.Grind.{common_steps}
 use Rattle.usb_desc.specs.declared.error.Fail.{Fail}

@@ -12,7 +12,7 @@ mod readers;
 mod transfers;
 mod writers;
 
-use crate::devices::{device, kernel_with};
+use crate::devices::new_kernel;
 use crate::endpoints::bus::is_right_bus;
 use crate::endpoints::readers::{FILLS, MESSAGES, READS, is_right_reader};
 use crate::endpoints::transfers::is_right_endpoint;
@@ -27,8 +27,7 @@ use usb_kernel::KernelStep;
 
 /// A bus over a kernel with device 0, at address 6 of bus 1, which has no descriptors.
 fn new_bus(alloc: Global) -> Result<KernelBus, NoMemory> {
-    let device = device(alloc, 6, &[], &[])?;
-    Ok(KernelBus::new(alloc, kernel_with(alloc, device)?))
+    Ok(KernelBus::new(alloc, new_kernel(alloc, &[])?))
 }
 
 /// Makes room for a step and applies it. Endpoints stand as before.

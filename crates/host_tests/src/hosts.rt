@@ -1,9 +1,13 @@
 //! Hosts: the host that their tests begin with, and what is done at it.
 
+ghost use Rattle.std.specs.Prelude.{IfOk};
+ghost use Rattle.std.specs.List.{All};
+ghost use Rattle.usb_kernel.specs.Steps.{HasErrno};
+
 mod handles;
 mod transfers;
 
-use crate::devices::{DEVICE, device, kernel_with};
+use crate::devices::{DEVICE, new_kernel};
 use crate::hosts::handles::{has_texts, is_mapped};
 use crate::hosts::transfers::{has_packet, leaves_room};
 use std::alloc::Global;
@@ -15,20 +19,27 @@ use usb_kernel::Bytes;
 /// The bytes of the packet that comes.
 const PACKET: [u8; 3] = [1, 2, 3];
 
-/// A host of a kernel with device 0 at address 6 of bus 1. Its line has one step, a packet that
-/// comes to this endpoint.
-fn new_host(alloc: Global, endpoint: u8) -> Result<Host, NoMemory> {
-    let device = device(alloc, 6, &DEVICE, &[])?;
-    let mut kernel = kernel_with(alloc, device)?;
-    kernel.reserve(1)?;
+/// A line of one step, a packet that comes to this endpoint.
+fn new_line(alloc: Global, endpoint: u8) -> Result<Vec<KernelStep>, NoMemory>
+    ensures errnos { IfOk result (λ steps. All HasErrno steps.items) }
+{
     let packet = KernelStep::Packet {
         device: 0,
         endpoint,
         bytes: Bytes::from_slice(alloc, &PACKET)?,
     };
-    let Ok(steps) = vec![in alloc; packet] else {
-        return Err(NoMemory);
-    };
+    match vec![in alloc; packet] {
+        Ok(steps) => Ok(steps),
+        Err(_) => Err(NoMemory),
+    }
+}
+
+/// A host of a kernel with device 0 at address 6 of bus 1, and the steps of a line.
+fn new_host(alloc: Global, steps: Vec<KernelStep>) -> Result<Host, NoMemory>
+    requires errnos { All HasErrno steps.items }
+{
+    let mut kernel = new_kernel(alloc, &DEVICE)?;
+    kernel.reserve(steps.len())?;
     let mut host = Host::new(alloc, kernel);
     host.lend_steps(steps);
     Ok(host)
@@ -48,7 +59,7 @@ enum Case {
 
 /// Compares what is found at a new host. It is owned here alone.
 fn expect(rt: &impl Abort, alloc: Global, endpoint: u8, case: &Case) -> Result<(), Fail> {
-    let mut host = new_host(alloc, endpoint)?;
+    let mut host = new_host(alloc, new_line(alloc, endpoint)?)?;
     assert!(rt; is_so(alloc, &mut host, case));
     Ok(())
 }

@@ -1,5 +1,5 @@
-//! Tests of the simulated kernel, of what runs over it and of rows of cells, each in a module of its
-//! own:
+//! Tests of the simulated kernel, of what runs over it and of rows of cells, each in a module of
+//! its own:
 //!
 //! - `kernel`: calls and steps of the crate `usb_kernel` on what is not there, and copies of steps;
 //! - `endpoints`: buses, endpoints over them, and the readers and writers over endpoints, by std's

@@ -1,5 +1,6 @@
-//! Readers until a short packet, and by std's traits. Expected values come from the rules of the simulation, and from
-//! USB 2.0, 5.8.3: a transfer ends with a packet that is shorter than the maximum.
+//! Readers until a short packet, and by std's traits. Expected values come from the rules of the
+//! simulation, and from USB 2.0, 5.8.3: a transfer ends with a packet that is shorter than the
+//! maximum.
 
 ghost use Rattle.std.specs.Prelude.{IfOk};
 ghost use Rattle.usb_bus.specs.KernelBusCalls.{bus_of};

@@ -1,7 +1,8 @@
 //! Worked rows of cells on one thread.
 
+use crate::devices::new_kernel;
 use crate::kernel::apply;
-use crate::live::{feed, new_kernel, open, poll, submit};
+use crate::live::{feed, open, poll, submit};
 use crate::outcomes::prints;
 use futures::executor::block_on;
 use futures::future::poll_fn;
@@ -168,7 +169,7 @@ fn round_of([not_yet, finished, reclaimed, empty]: [u64; 4]) -> Round {
 #[test]
 fn rows_are_as_worked_out(rt: HostRuntime) -> Result<(), Fail> {
     for case in &CASES {
-        let mut kernel = new_kernel(rt.alloc())?;
+        let mut kernel = new_kernel(rt.alloc(), &[])?;
         expect_case(&rt, rt.alloc(), &mut kernel, case)?;
     }
     Ok(())
