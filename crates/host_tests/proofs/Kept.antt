@@ -1,26 +1,13 @@
 -- What calls keep of the open devices and of the claimed interfaces of a host.
-use Rattle.std.proofs.Common.{ℕ, ◌≡◌, ◌≢◌, ◌+◌, ◌-◌, arith, Bool, true, false, cond, length, Some, None, refl, ap, sym, ◌∙◌, subst}
-use Rattle.std.specs.Prelude.{List, ◌++◌, ◌∷◌, []}
-use Rattle.std.specs.List.{All}
-use Rattle.std.proofs.lemmas.List.Elements.{All-push}
-use Rattle.usb_kernel.specs.Steps.{HasErrno}
-use Rattle.usb_bus.specs.BusState.{BusState}
-use Rattle.usb_endpoint.specs.EndpointState.{EndpointState}
-use Rattle.usb_endpoint.specs.Handles.{Stands, KeepsOthers}
-use Rattle.usb_endpoint.proofs.Frames.{Stands-other}
-use Rattle.usb_device.proofs.FreshKeys.{endpoint-within}
+use Rattle.std.proofs.Common.{ℕ, ◌≡◌, ◌+◌, ◌-◌, arith, Bool, true, false, cond, length, Some, None, refl, ap, sym, ◌∙◌, subst}
 use Rattle.usb_device.specs.Futures.{FutureState, StandsFuture}
 use Rattle.usb_device.proofs.FutureFrames.{future-same}
 use Rattle.usb_host.specs.HostBus.{bus_of}
-use Rattle.usb_simulated.specs.declared.step.KernelStep.{KernelStep}
 use Rattle.usb_device.specs.HandleStates.{InterfaceState, StandsInterface}
-use Rattle.usb_simulated.specs.declared.step.KernelCall.TheVariants as call
-use Rattle.usb_simulated.specs.Calls.{same}
-use Rattle.usb_kernel.specs.Calls.{called}
 use Rattle.usb_ledger.specs.declared.opened.OpenDevice.{OpenDevice}
 use Rattle.usb_host.specs.HostState.{HostState}
 use Rattle.std.specs.Prelude.{IsSome, IfOk, nat_lt, ◌||◌}
-use Rattle.std.proofs.Common.{◌≢◌, inl, inr, Result, Ok, Err}
+use Rattle.std.proofs.Common.{inl, inr, Result, Ok, Err}
 use Rattle.std.proofs.lemmas.Bool.{cases_eq}
 use Rattle.std.proofs.lemmas.Grind.{common_steps}
 use Rattle.usb_desc.specs.declared.error.Fail.{Fail}
@@ -67,24 +54,7 @@ claimed_closed h new after key number reattach (Err error) claims stands is = tt
 claimed_closed h new after key number reattach (Ok f) claims stands is =
     subst (λ (g : HostState). StandsInterface g f) (sym is) (claim_then h new key number reattach claims.device f (length h.interfaces) claims.at claims.tried claims.host stands)
 
--- what endpoints of other keys hold
-pub others_same : (b : BusState) (key : ℕ) → KeepsOthers b b key
-others_same b key = record { tickets = λ t k ne held. held; keys = λ k ne open_. open_ }
-
--- an endpoint stands over a new one: when that is opened, called and closed
-pub other_stands : (h : HostState) (opened between called closed : BusState) (e : EndpointState) (key last : ℕ) → Stands (bus_of h) e → key ≡ length h.endpoints → last ≡ key → KeepsOthers (bus_of h) opened key → between ≡ opened → KeepsOthers between called key → KeepsOthers called closed last → Stands closed e
-other_stands h opened between called closed e key last stands fresh same open_ kept call_ close_ =
-    let within = endpoint-within h e stands in
-    let apart : e.key ≢ key = λ is. absurd (omega (arith, within, fresh, is)) in
-    let later : e.key ≢ last = λ is. absurd (omega (arith, within, fresh, same, is)) in
-    let over_open = subst (λ (b : BusState). Stands b e) (sym kept) (Stands-other (bus_of h) opened key e open_ apart stands) in
-    Stands-other called closed last e close_ later (Stands-other between called key e call_ apart over_open)
-
 -- a future that was started stands where the bus stays
 pub started_stands : {E : Type 0} (h g : HostState) (r : Result FutureState E) → bus_of g ≡ bus_of h → IfOk r (StandsFuture h) → IfOk r (StandsFuture g)
 started_stands h g (Err error) same stands = tt
 started_stands h g (Ok f) same stands = future-same h g f same stands
-
--- one more step of a line
-pub step_added : (steps : List KernelStep) (step : KernelStep) → All HasErrno steps → HasErrno step → All HasErrno (steps ++ step ∷ [])
-step_added = All-push HasErrno

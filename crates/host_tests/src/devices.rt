@@ -1,7 +1,6 @@
-//! Simulated devices, which tests of kernels, buses, hosts and rows run on.
+//! The simulated device that tests of kernels, buses, hosts and rows run on.
 
-ghost use Rattle.std.specs.Prelude.{◌≡◌, [], ◌∷◌, IfOk};
-ghost use Rattle.usb_simulated.specs.Devices.{fresh_device};
+ghost use Rattle.std.specs.Prelude.{◌≡◌, [], IfOk};
 
 use std::alloc::Global;
 use usb_desc::NoMemory;
@@ -16,41 +15,21 @@ pub const DEVICE: [u8; 50] = [
     0x00, 0x00,
 ];
 
-/// A device at an address of bus 1, with these descriptors and with kernel drivers of these
-/// interfaces. Its configuration is of value 1.
-pub fn device(
-    alloc: Global,
-    address: u8,
-    descriptors: &[u8],
-    drivers: &[u8],
-) -> Result<SimDevice, NoMemory>
-    ensures device { IfOk result (λ d. d ≡ record {
-      bus = 1;
-      address = address;
-      speed = 3;
-      config = 1;
-      bytes = descriptors.now;
-      drivers = drivers.now;
-    }) }
+/// A kernel with device 0, at address 6 of bus 1, with these descriptors. Its configuration is of
+/// value 1.
+pub fn new_kernel(alloc: Global, descriptors: &[u8]) -> Result<Kernel, NoMemory>
+    ensures past { IfOk result (λ kernel. kernel.past ≡ []) }
 {
-    Ok(SimDevice {
+    let device = SimDevice {
         bus: 1,
-        address,
+        address: 6,
         speed: 3,
         config: 1,
         bytes: Bytes::from_slice(alloc, descriptors)?,
-        drivers: Bytes::from_slice(alloc, drivers)?,
-    })
-}
-
-/// A kernel with this device, which is its device 0.
-pub fn kernel_with(alloc: Global, device: SimDevice) -> Result<Kernel, NoMemory>
-    ensures devices { IfOk result (λ kernel. kernel.devices ≡ fresh_device (0, device) ∷ []) }
-    ensures past { IfOk result (λ kernel. kernel.past ≡ []) }
-{
-    let mut devices = Vec::new(alloc);
-    if devices.push((0, device)).is_err() {
-        return Err(NoMemory);
+        drivers: Bytes::from_vec(Vec::new(alloc)),
+    };
+    match vec![in alloc; (0, device)] {
+        Ok(devices) => Kernel::new(alloc, devices),
+        Err(_) => Err(NoMemory),
     }
-    Kernel::new(alloc, devices)
 }

@@ -1,4 +1,5 @@
-//! Buses, endpoints, and readers and writers over them: the bus that their tests begin with.
+//! Buses, endpoints, and readers and writers over them, by std's traits and until a short packet:
+//! the bus that their tests begin with, and what is done on it.
 
 ghost use Rattle.usb_kernel.specs.Steps.{HasErrno};
 ghost use Rattle.usb_bus.specs.KernelBusCalls.{bus_of};
@@ -6,27 +7,31 @@ ghost use Rattle.usb_endpoint.specs.EndpointState.{EndpointState};
 ghost use Rattle.usb_endpoint.specs.Handles.{Stands};
 
 mod bus;
-mod cases;
 mod faults;
 mod readers;
 mod transfers;
 mod writers;
 
-use crate::devices::{device, kernel_with};
-use crate::steps::packet;
+use crate::devices::new_kernel;
+use crate::endpoints::bus::is_right_bus;
+use crate::endpoints::readers::{FILLS, MESSAGES, READS, is_right_reader};
+use crate::endpoints::transfers::is_right_endpoint;
+use crate::endpoints::writers::is_right_writer;
 use std::alloc::Global;
+use std::io::{self, ErrorKind};
+use std::process::Abort;
+use std::test::Fail;
 use usb_bus::KernelBus;
 use usb_desc::NoMemory;
 use usb_kernel::KernelStep;
 
 /// A bus over a kernel with device 0, at address 6 of bus 1, which has no descriptors.
-pub fn new_bus(alloc: Global) -> Result<KernelBus, NoMemory> {
-    let device = device(alloc, 6, &[], &[])?;
-    Ok(KernelBus::new(alloc, kernel_with(alloc, device)?))
+fn new_bus(alloc: Global) -> Result<KernelBus, NoMemory> {
+    Ok(KernelBus::new(alloc, new_kernel(alloc, &[])?))
 }
 
 /// Makes room for a step and applies it. Endpoints stand as before.
-pub fn apply(bus: &mut KernelBus, step: KernelStep) -> Result<(), NoMemory>
+fn apply(bus: &mut KernelBus, step: KernelStep) -> Result<(), NoMemory>
     requires errno { HasErrno step }
     ensures endpoints { (e : EndpointState) → Stands (bus_of bus.old) e →
         Stands (bus_of bus.new) e }
@@ -36,10 +41,44 @@ pub fn apply(bus: &mut KernelBus, step: KernelStep) -> Result<(), NoMemory>
     Ok(())
 }
 
-/// A packet comes to endpoint 0x81 of device 0.
-pub fn feed(alloc: Global, bus: &mut KernelBus, bytes: &[u8]) -> Result<(), NoMemory>
-    ensures endpoints { (e : EndpointState) → Stands (bus_of bus.old) e →
-        Stands (bus_of bus.new) e }
-{
-    apply(bus, packet(alloc, bytes)?)
+/// What std's traits tell, with the kind of an error alone.
+fn told<T: Drop>(answer: io::Result<T>) -> Result<T, ErrorKind> {
+    match answer {
+        Ok(value) => Ok(value),
+        Err(error) => Err(error.kind()),
+    }
+}
+
+/// What is done on a new bus.
+enum Case {
+    /// Its clock is raised, and halts are cleared.
+    Bus,
+    /// An endpoint is opened, and transfers of several lengths are submitted.
+    Endpoint,
+    /// A reader is read until a short packet.
+    Messages,
+    /// A reader is read by std's traits.
+    Reads,
+    /// It lends bytes by them.
+    Fills,
+    /// A writer is written to by std's trait.
+    Writes,
+}
+
+/// Compares what is found on a new bus. It is owned here alone.
+fn expect(rt: &impl Abort, alloc: Global, case: &Case) -> Result<(), Fail> {
+    let mut bus = new_bus(alloc)?;
+    assert!(rt; is_so(alloc, &mut bus, case));
+    Ok(())
+}
+
+fn is_so(alloc: Global, bus: &mut KernelBus, case: &Case) -> bool {
+    match case {
+        Case::Bus => is_right_bus(bus),
+        Case::Endpoint => is_right_endpoint(alloc, bus),
+        Case::Messages => is_right_reader(alloc, bus, MESSAGES),
+        Case::Reads => is_right_reader(alloc, bus, READS),
+        Case::Fills => is_right_reader(alloc, bus, FILLS),
+        Case::Writes => is_right_writer(alloc, bus),
+    }
 }

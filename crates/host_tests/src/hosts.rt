@@ -1,138 +1,94 @@
-//! Hosts that their tests begin with, and their calls.
+//! Hosts: the host that their tests begin with, and what is done at it.
 
-ghost use Rattle.std.specs.Prelude.{◌≡◌, IfOk};
+ghost use Rattle.std.specs.Prelude.{IfOk};
 ghost use Rattle.std.specs.List.{All};
 ghost use Rattle.usb_kernel.specs.Steps.{HasErrno};
-ghost use Rattle.usb_endpoint.specs.EndpointState.{EndpointState};
-ghost use Rattle.usb_endpoint.specs.Handles.{Stands};
-ghost use Rattle.usb_device.specs.Futures.{FutureState, StandsFuture};
-ghost use Rattle.usb_device.specs.HandleStates.{InterfaceState, StandsInterface};
-ghost use Rattle.usb_host.specs.HostBus.{bus_of};
 
-mod cases;
-mod claims;
-mod controls;
-mod descriptors;
-mod lines;
-mod readers;
+mod handles;
 mod transfers;
-mod writers;
-mod written_lines;
 
-use crate::devices::{DEVICE, device, kernel_with};
-use futures::task::Poll;
+use crate::devices::{DEVICE, new_kernel};
+use crate::hosts::handles::{has_texts, is_mapped};
+use crate::hosts::transfers::{has_packet, leaves_room};
 use std::alloc::Global;
-use usb_device::{
-    Bulk, Bus, Completion, Device, Endpoint, Error, Fail, Host, In, Interface, KernelStep,
-    NoMemory, Out,
-};
-use usb_error::Message;
+use std::process::Abort;
+use std::test::Fail;
+use usb_device::{Host, KernelStep, NoMemory};
+use usb_kernel::Bytes;
+
+/// The bytes of the packet that comes.
+const PACKET: [u8; 3] = [1, 2, 3];
+
+/// A line of one step, a packet that comes to this endpoint.
+fn new_line(alloc: Global, endpoint: u8) -> Result<Vec<KernelStep>, NoMemory>
+    ensures errnos { IfOk result (λ steps. All HasErrno steps.items) }
+{
+    let packet = KernelStep::Packet {
+        device: 0,
+        endpoint,
+        bytes: Bytes::from_slice(alloc, &PACKET)?,
+    };
+    match vec![in alloc; packet] {
+        Ok(steps) => Ok(steps),
+        Err(_) => Err(NoMemory),
+    }
+}
 
 /// A host of a kernel with device 0 at address 6 of bus 1, and the steps of a line.
-pub fn new_host(alloc: Global, steps: Vec<KernelStep>) -> Result<Host, NoMemory>
+fn new_host(alloc: Global, steps: Vec<KernelStep>) -> Result<Host, NoMemory>
     requires errnos { All HasErrno steps.items }
 {
-    let device = device(alloc, 6, &DEVICE, &[])?;
-    let mut kernel = kernel_with(alloc, device)?;
+    let mut kernel = new_kernel(alloc, &DEVICE)?;
     kernel.reserve(steps.len())?;
     let mut host = Host::new(alloc, kernel);
     host.lend_steps(steps);
     Ok(host)
 }
 
-/// The message of a refusal. Want of memory is none.
-pub fn message_of(error: Fail<Error>) -> Result<Option<Message>, Fail<Error>> {
-    match error {
-        Fail::Cause(error) => Ok(Some(error.message())),
-        Fail::Memory => Err(Fail::Memory),
-    }
+/// What is done at a new host.
+enum Case {
+    /// A packet is read.
+    Packet,
+    /// What is opened and claimed is closed again and again.
+    Room,
+    /// The debug texts of the device and of its interface are written.
+    Texts,
+    /// A control transfer is waited for, and something is made of its bytes.
+    Mapped,
 }
 
-/// Claims interface 0 of the device, which is opened for that.
-pub fn claim(alloc: Global, host: &mut Host) -> Result<Interface, Fail<Error>>
-    ensures bus { bus_of host.new ≡ bus_of host.old }
-    ensures stands { IfOk result (StandsInterface host.new) }
-{
-    let device = Device::open_at(alloc, host, 1, 6)?;
-    let claimed = device.claim_interface(host, 0);
-    device.close(host);
-    claimed
-}
-
-/// Claims interface 0, opens its endpoint 0x81 and closes the interface's handle.
-pub fn open(alloc: Global, host: &mut Host) -> Result<Endpoint<Bulk, In>, Fail<Error>>
-    ensures stands { IfOk result (Stands (bus_of host.new)) }
-{
-    let interface = claim(alloc, host)?;
-    let opened = interface.endpoint(host, 0x81);
-    interface.close(host);
-    opened
-}
-
-/// Claims interface 0, opens its endpoint 0x02 and closes the interface's handle.
-pub fn open_output(alloc: Global, host: &mut Host) -> Result<Endpoint<Bulk, Out>, Fail<Error>>
-    ensures stands { IfOk result (Stands (bus_of host.new)) }
-{
-    let interface = claim(alloc, host)?;
-    let opened = interface.endpoint(host, 0x02);
-    interface.close(host);
-    opened
-}
-
-/// Submits a buffer that asks for 64 bytes.
-pub fn submit(host: &mut Host, endpoint: &mut Endpoint<Bulk, In>) -> Result<(), NoMemory>
-    requires stands { Stands (bus_of host.old) endpoint.old }
-    ensures stands { Stands (bus_of host.new) endpoint.new }
-    ensures interfaces { (i : InterfaceState) → StandsInterface host.old i →
-        StandsInterface host.new i }
-{
-    if endpoint.pending() >= 64 {
-        return Err(NoMemory);
-    }
-    let buffer = endpoint.allocate(64)?;
-    match endpoint.submit(host, buffer) {
-        Ok(()) => Ok(()),
-        Err(_) => Err(NoMemory),
-    }
-}
-
-/// Applies the next step of the line.
-pub fn go_on(host: &mut Host)
-    ensures endpoints { (e : EndpointState) → Stands (bus_of host.old) e →
-        Stands (bus_of host.new) e }
-    ensures interfaces { (i : InterfaceState) → StandsInterface host.old i →
-        StandsInterface host.new i }
-    ensures futures { (f : FutureState) → StandsFuture host.old f → StandsFuture host.new f }
-{
-    let _ = host.turn();
-}
-
-/// The front, where it is there.
-pub fn poll(host: &mut Host, endpoint: &mut Endpoint<Bulk, In>) -> Option<Completion>
-    requires stands { Stands (bus_of host.old) endpoint.old }
-    ensures stands { Stands (bus_of host.new) endpoint.new }
-{
-    if endpoint.pending() == 0 {
-        return None;
-    }
-    match endpoint.poll_next_complete(host) {
-        Poll::Ready(completion) => Some(completion),
-        Poll::Pending => None,
-    }
-}
-
-/// Submits three transfers, and then applies three steps.
-pub fn submit_three(host: &mut Host, endpoint: &mut Endpoint<Bulk, In>) -> Result<(), NoMemory>
-    requires stands { Stands (bus_of host.old) endpoint.old }
-    ensures stands { Stands (bus_of host.new) endpoint.new }
-    ensures interfaces { (i : InterfaceState) → StandsInterface host.old i →
-        StandsInterface host.new i }
-{
-    submit(host, endpoint)?;
-    submit(host, endpoint)?;
-    submit(host, endpoint)?;
-    go_on(host);
-    go_on(host);
-    go_on(host);
+/// Compares what is found at a new host. It is owned here alone.
+fn expect(rt: &impl Abort, alloc: Global, endpoint: u8, case: &Case) -> Result<(), Fail> {
+    let mut host = new_host(alloc, new_line(alloc, endpoint)?)?;
+    assert!(rt; is_so(alloc, &mut host, case));
     Ok(())
+}
+
+fn is_so(alloc: Global, host: &mut Host, case: &Case) -> bool {
+    match case {
+        Case::Packet => has_packet(alloc, host),
+        Case::Room => leaves_room(alloc, host),
+        Case::Texts => matches!(has_texts(alloc, host), Ok(true)),
+        Case::Mapped => is_mapped(alloc, host),
+    }
+}
+
+#[test]
+fn a_short_driver_reads_a_packet(rt: HostRuntime) -> Result<(), Fail> {
+    expect(&rt, rt.alloc(), 0x81, &Case::Packet)
+}
+
+#[test]
+fn memory_of_a_closed_handle_is_used_again(rt: HostRuntime) -> Result<(), Fail> {
+    expect(&rt, rt.alloc(), 0x81, &Case::Room)
+}
+
+#[test]
+fn debug_texts_name_the_handles(rt: HostRuntime) -> Result<(), Fail> {
+    expect(&rt, rt.alloc(), 0x81, &Case::Texts)
+}
+
+#[test]
+fn what_a_control_transfer_brings_is_mapped(rt: HostRuntime) -> Result<(), Fail> {
+    expect(&rt, rt.alloc(), 0x80, &Case::Mapped)
 }

@@ -1,35 +1,28 @@
-//! The simulated kernel: the kernel that its tests begin with, what they submit, and their calls.
+//! The simulated kernel: what is not there, and copies of steps. What the kernel makes of its calls
+//! and steps else is asked by scripts.
 
 ghost use Rattle.std.specs.Prelude.{◌≡◌, IfOk, None};
-ghost use Rattle.usb_desc.specs.declared.types.TransferType.{TransferType};
 ghost use Rattle.usb_kernel.specs.Submissions.{IsWhole};
 ghost use Rattle.usb_kernel.specs.Steps.{HasErrno};
 
-mod calls;
-mod clocks;
-mod devices;
-mod refusals;
-mod rows;
-mod transfers;
-
-use crate::devices::{DEVICE, device};
+use crate::devices::{DEVICE, new_kernel};
+use crate::steps::{ACK, packet};
 use std::alloc::Global;
+use std::test::Fail;
 use usb_desc::{NoMemory, TransferType};
-use usb_kernel::{Done, Kernel, KernelStep, Submission};
+use usb_kernel::{Bytes, Done, Kernel, KernelCall, KernelStep, Submission, Submitted};
 use usb_xfer::Buffer;
 
-/// Device 0 at address 6, and device 1 at address 7, whose interface 0 has a driver.
-pub fn new_kernel(alloc: Global) -> Result<Kernel, NoMemory> {
-    let first = device(alloc, 6, &DEVICE, &[])?;
-    let second = device(alloc, 7, &DEVICE, &[0])?;
-    match vec![in alloc; (0, first), (1, second)] {
-        Ok(devices) => Kernel::new(alloc, devices),
-        Err(_) => Err(NoMemory),
-    }
+/// Makes room for a step and applies it.
+pub fn apply(kernel: &mut Kernel, step: KernelStep) -> Result<Option<Done>, NoMemory>
+    requires errno { HasErrno step }
+{
+    kernel.reserve(1)?;
+    Ok(kernel.step(step))
 }
 
-/// A bulk transfer that wants 64 bytes.
-pub fn wanting(alloc: Global, device: u8) -> Result<Submission, NoMemory>
+/// A bulk transfer of endpoint 0x81 that wants 64 bytes.
+fn wanting(alloc: Global, device: u8) -> Result<Submission, NoMemory>
     ensures whole { IfOk result IsWhole }
     ensures deadline { IfOk result (λ s. s.deadline ≡ None) }
 {
@@ -45,27 +38,107 @@ pub fn wanting(alloc: Global, device: u8) -> Result<Submission, NoMemory>
     })
 }
 
-/// A control transfer that reads 18 bytes of descriptors until a deadline (USB 2.0, 9.4.3).
-pub fn control(alloc: Global, deadline: u64) -> Result<Submission, NoMemory>
-    ensures whole { IfOk result IsWhole }
-    ensures kind { IfOk result (λ s. s.kind ≡ TransferType.Control) }
-{
-    let buffer = Buffer::new(alloc, 18)?;
-    Ok(Submission {
-        device: 0,
-        endpoint: 0x80,
-        kind: TransferType::Control,
-        maximum: 18,
-        deadline: Some(deadline),
-        setup: Some([0x80, 6, 0, 1, 0, 0, 18, 0]),
-        buffer,
-    })
+/// Whether device 2, which there is not, refuses each call, and so does interface 0 of device 0
+/// once no configuration is active.
+fn refuses_calls(kernel: &mut Kernel) -> bool {
+    kernel.set_configuration(2, 1) == Err(19)
+        && kernel.claim(2, 0) == Err(19)
+        && kernel.release(2, 0) == Err(19)
+        && kernel.configuration(2) == Err(19)
+        && matches!(kernel.read_descriptors(2), Err(19))
+        && kernel.set_configuration(0, 0) == Ok(())
+        && kernel.set_interface(0, 0, 0) == Err(22)
 }
 
-/// Makes room for a step and applies it.
-pub fn apply(kernel: &mut Kernel, step: KernelStep) -> Result<Option<Done>, NoMemory>
-    requires errno { HasErrno step }
+/// Whether a transfer of device 2 is ticket 0, which is refused and has its buffer back.
+fn is_refused(alloc: Global, kernel: &mut Kernel) -> Result<bool, NoMemory> {
+    match kernel.submit(wanting(alloc, 2)?) {
+        Ok(Submitted::Refused(done)) => {
+            let is_so = done.ticket == 0 && done.status == 19 && done.refused && done.count == 0;
+            Ok(is_so && done.buffer.is_empty() && done.buffer.requested_len() == 64)
+        }
+        _ => Ok(false),
+    }
+}
+
+/// Whether a transfer of device 0 is ticket 1.
+fn is_queued(alloc: Global, kernel: &mut Kernel) -> Result<bool, NoMemory> {
+    Ok(matches!(kernel.submit(wanting(alloc, 0)?), Ok(Submitted::Queued(1))))
+}
+
+/// Steps on a device that there is not, on endpoints with nothing that is open, and with no ticket
+/// to reap. Endpoint 0x81, which sends, acknowledges nothing.
+fn idle_step(alloc: Global, number: u8) -> KernelStep
+    ensures errno { HasErrno result }
 {
-    kernel.reserve(1)?;
-    Ok(kernel.step(step))
+    match number {
+        0 => ACK,
+        1 => KernelStep::Ack {
+            device: 0,
+            endpoint: 0x81,
+        },
+        2 => KernelStep::Fail {
+            device: 0,
+            endpoint: 0x02,
+            errno: 5,
+        },
+        3 => KernelStep::Packet {
+            device: 0,
+            endpoint: 0x82,
+            bytes: Bytes::from_vec(Vec::new(alloc)),
+        },
+        4 => KernelStep::Unplug { device: 2 },
+        5 => KernelStep::Clock { to: 5 },
+        6 => KernelStep::Refuse {
+            device: 0,
+            call: KernelCall::Submit,
+            errno: 5,
+        },
+        7 => KernelStep::Reap { ticket: None },
+        8 => KernelStep::Reap { ticket: Some(1) },
+        _ => KernelStep::Reap { ticket: Some(9) },
+    }
+}
+
+/// How many of these steps left no event behind those of the two transfers, before one did.
+fn idle_steps(alloc: Global, kernel: &mut Kernel) -> u8 {
+    for number in 0..10 {
+        let reaped = apply(kernel, idle_step(alloc, number));
+        if !matches!(reaped, Ok(None)) || kernel.journal().len() != 2 {
+            return number;
+        }
+    }
+    10
+}
+
+/// Whether what is not there is refused, and leaves no event.
+fn is_right(alloc: Global, kernel: &mut Kernel) -> Result<bool, NoMemory> {
+    let is_refused = refuses_calls(kernel) && is_refused(alloc, kernel)?;
+    Ok(is_refused && is_queued(alloc, kernel)? && idle_steps(alloc, kernel) == 10)
+}
+
+#[test]
+fn what_is_not_there_is_refused_and_leaves_no_event(rt: HostRuntime) -> Result<(), Fail> {
+    let mut kernel = new_kernel(rt.alloc(), &DEVICE)?;
+    assert!(rt; matches!(is_right(rt.alloc(), &mut kernel), Ok(true)));
+    Ok(())
+}
+
+/// Whether a copy of a step is a packet of these bytes on endpoint 0x81 of device 0.
+fn copies_packet(step: &KernelStep, sent: &[u8]) -> Result<bool, NoMemory> {
+    match step.clone()? {
+        KernelStep::Packet {
+            device,
+            endpoint,
+            bytes,
+        } => Ok(device == 0 && endpoint == 0x81 && bytes.into_vec().as_slice() == sent),
+        _ => Ok(false),
+    }
+}
+
+#[test]
+fn a_copy_of_a_step_has_its_bytes(rt: HostRuntime) -> Result<(), Fail> {
+    let step = packet(rt.alloc(), &[8, 9])?;
+    assert!(rt; copies_packet(&step, &[8, 9])?);
+    Ok(())
 }

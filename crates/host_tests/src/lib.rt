@@ -1,17 +1,16 @@
-//! Tests of the simulated kernel, of what runs over it and of rows of cells, each in a module of its
-//! own:
+//! Tests of the simulated kernel, of what runs over it and of rows of cells, each in a module of
+//! its own:
 //!
-//! - `kernel`: the crate `usb_kernel`;
-//! - `endpoints`: buses, the endpoints over them, and the readers and writers over endpoints, of the
-//!   crates `usb_bus`, `usb_endpoint` and `usb_io`;
-//! - `hosts`: hosts, what is opened at them, and transfers there, of `usb_host` and `usb_device`;
-//!   readers there and their printed lines, of `usb_io`, `usb_streams` and `usb_stream_lines`; and
-//!   writers there and their printed lines, of `usb_writes` and `usb_writer_lines`;
+//! - `kernel`: calls and steps of the crate `usb_kernel` on what is not there, and copies of steps;
+//! - `endpoints`: buses, endpoints over them, and the readers and writers over endpoints, by std's
+//!   traits and until a short packet, of the crates `usb_bus`, `usb_endpoint` and `usb_io`;
+//! - `hosts`: a short driver, what is kept of closed handles, debug texts, and what is made of a
+//!   future, of `usb_host` and `usb_device`;
 //! - `live`: rows of cells, on one thread and on two, of `usb_live`.
 //!
-//! Expected values come from the rules of the simulation, of readers, of writers and of the row,
-//! and from USB 2.0. What calls at a host answer is asked by whole scripts too, of the crate
-//! `nusb_sim`.
+//! What a script can ask is asked by whole scripts, of the crate `nusb_sim`: what calls at a host
+//! answer, and what the kernel makes of steps. Expected values come from the rules of the
+//! simulation, of readers, of writers and of the row, and from USB 2.0.
 //!
 //! A function that owns a kernel, a bus, a host, a row's seats or an endpoint is slow to prove, so
 //! few do, and lend them to the others.

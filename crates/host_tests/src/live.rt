@@ -6,7 +6,6 @@ mod loops;
 mod rows;
 mod threads;
 
-use crate::devices::{device, kernel_with};
 use crate::kernel::apply;
 use crate::steps::packet;
 use futures::task::Poll;
@@ -17,12 +16,6 @@ use usb_desc::{NoMemory, TransferType};
 use usb_kernel::Kernel;
 use usb_live::{LiveEndpoint, OwnerSeat, Receipt, Tally};
 use usb_xfer::{Buffer, Notify};
-
-/// A kernel with device 0, which has no descriptors.
-pub fn new_kernel(alloc: Global) -> Result<Kernel, NoMemory> {
-    let device = device(alloc, 6, &[], &[])?;
-    kernel_with(alloc, device)
-}
 
 /// The bulk IN endpoint 0x81 of device 0, with packets of at most 64 bytes.
 fn route() -> Route {

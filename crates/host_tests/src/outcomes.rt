@@ -1,17 +1,7 @@
-//! What calls gave.
+//! What values print.
 
-pub mod reads;
-pub mod writes;
-
-use usb_xfer::Completion;
-
-/// The length of what came, or 0 where nothing did.
-pub fn length_of(completion: Option<Completion>) -> usize {
-    match completion {
-        Some(completion) => completion.actual_len,
-        None => 0,
-    }
-}
+use std::alloc::Global;
+use std::fmt::Display;
 
 /// Whether there is a text, and it is this one.
 pub fn is_text(text: Option<String>, expected: &str) -> bool {
@@ -19,4 +9,9 @@ pub fn is_text(text: Option<String>, expected: &str) -> bool {
         Some(text) => text.as_str() == expected,
         None => false,
     }
+}
+
+/// Whether this is printed.
+pub fn prints(alloc: Global, value: &impl Display, expected: &str) -> bool {
+    is_text(value.to_string(alloc).ok(), expected)
 }

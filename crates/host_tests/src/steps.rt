@@ -1,4 +1,4 @@
-//! Steps of device 0, which tests of kernels, buses, hosts and rows apply.
+//! Steps of device 0, which tests of kernels, buses and rows apply.
 
 ghost use Rattle.std.specs.Prelude.{IfOk};
 ghost use Rattle.usb_kernel.specs.Steps.{HasErrno};

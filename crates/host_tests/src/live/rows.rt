@@ -1,8 +1,9 @@
 //! Worked rows of cells on one thread.
 
+use crate::devices::new_kernel;
 use crate::kernel::apply;
-use crate::live::{feed, new_kernel, open, poll, submit};
-use crate::outcomes::is_text;
+use crate::live::{feed, open, poll, submit};
+use crate::outcomes::prints;
 use futures::executor::block_on;
 use futures::future::poll_fn;
 use futures::task::Poll;
@@ -168,7 +169,7 @@ fn round_of([not_yet, finished, reclaimed, empty]: [u64; 4]) -> Round {
 #[test]
 fn rows_are_as_worked_out(rt: HostRuntime) -> Result<(), Fail> {
     for case in &CASES {
-        let mut kernel = new_kernel(rt.alloc())?;
+        let mut kernel = new_kernel(rt.alloc(), &[])?;
         expect_case(&rt, rt.alloc(), &mut kernel, case)?;
     }
     Ok(())
@@ -341,16 +342,11 @@ fn wakes<R: Wait + RandomSource + AllocGlobal>(
     matches!(woken, Ok(true))
 }
 
-/// Whether the error has this text.
-fn has_text(alloc: Global, error: LiveError, text: &str) -> bool {
-    is_text(error.to_string(alloc).ok(), text)
-}
-
 #[test]
 fn errors_have_their_texts(rt: HostRuntime) -> Result<(), Fail> {
     let full = LiveError::Full(Buffer::new(rt.alloc(), 1)?);
-    assert!(rt; has_text(rt.alloc(), full, "all 64 cells are occupied"));
+    assert!(rt; prints(rt.alloc(), &full, "all 64 cells are occupied"));
     let memory = LiveError::Memory(Buffer::new(rt.alloc(), 1)?);
-    assert!(rt; has_text(rt.alloc(), memory, "out of memory"));
+    assert!(rt; prints(rt.alloc(), &memory, "out of memory"));
     Ok(())
 }

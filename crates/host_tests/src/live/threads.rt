@@ -1,6 +1,7 @@
 //! Owner and handler on two threads.
 
-use crate::live::{feed, new_kernel, open, submit};
+use crate::devices::new_kernel;
+use crate::live::{feed, open, submit};
 use std::alloc::Global;
 use std::process::Abort;
 use std::sync::atomic::{AtomicBool, Ordering};
@@ -90,7 +91,7 @@ fn expect_counts(rt: &impl Abort, tally: Tally, right: u64, reclaimed: u64) {
 
 #[test]
 fn a_thousand_transfers_on_two_threads(rt: HostRuntime) -> Result<(), Fail> {
-    let kernel = Mutex::new(new_kernel(rt.alloc())?);
+    let kernel = Mutex::new(new_kernel(rt.alloc(), &[])?);
     let notify = Notify::new();
     let stop = AtomicBool::new(false);
     let (owner, handler) = Row::new(rt.alloc())?;

@@ -58,7 +58,7 @@ fn answers_out_transfers(rt: HostRuntime) -> Result<(), Fail> {
 }
 
 /// Waits with steps of their own.
-const WAITS: [(&str, &str, &str); 3] = [
+const WAITS: [(&str, &str, &str); 4] = [
     (
         "wait by the clock",
         "submitin e0 64\nsubmitin e0 64\nwait e0 100 : clock 50 ; pkt k0 81 01 ; reap\nnow\nwait e0 20\n",
@@ -75,6 +75,11 @@ const WAITS: [(&str, &str, &str); 3] = [
         "wait with nothing pending",
         "wait e0 30 : clock 7\nnow\n",
         "condition\nnow 7\n",
+    ),
+    (
+        "a length that is no multiple of the packet size is refused",
+        "submitin e0 0\npoll e0\nsubmitin e0 63\npoll e0\nsubmitin e0 100\npoll e0\nsubmitin e0 64\npoll e0\nsubmitin e0 128\npending e0\n",
+        "ok\ndone invalid 0 0 -\nok\ndone invalid 0 63 -\nok\ndone invalid 0 100 -\nok\npending\nok\ncount 2\nticket 0 k0 81 invalid 0 taken\nticket 1 k0 81 invalid 0 taken\nticket 2 k0 81 invalid 0 taken\nticket 3 k0 81 cancelled 0 reclaimed\nticket 4 k0 81 cancelled 0 reclaimed\n",
     ),
 ];
 

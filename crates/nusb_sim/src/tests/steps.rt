@@ -77,3 +77,37 @@ const STEPS: [(&str, &str, &str); 12] = [
 fn steps_make_of_transfers_what_the_kernel_says(rt: HostRuntime) -> Result<(), Fail> {
     expect_rows(&rt, rt.alloc(), &[], TWO, STEPS.as_slice())
 }
+
+/// Refusals, the clock, configurations, resets and orders of reaps, behind the same lines.
+const CALLS: [(&str, &str, &str); 5] = [
+    (
+        "refusals are used in order and once, by their device and their call",
+        "! refuse k0 open 5 ; refuse k0 speed 6 ; refuse k0 submit 5 ; refuse k1 submit 6 ; refuse k0 claim 8 ; refuse k0 submit 7\nsubmitin e0 64\npoll e0\nsubmitin e0 64\npoll e0\nsubmitin e0 64\npoll e0\nsubmitin e2 64\npoll e2\nsubmitin e2 64\npoll e2\n",
+        "ok\ndone unknown:5 0 64 -\nok\ndone unknown:7 0 64 -\nok\npending\nok\ndone unknown:6 0 64 -\nok\npending\nticket 0 k0 81 unknown:5 0 taken\nticket 1 k0 81 unknown:7 0 taken\nticket 2 k0 81 cancelled 0 reclaimed\nticket 3 k1 81 unknown:6 0 taken\nticket 4 k1 81 cancelled 0 reclaimed\n",
+    ),
+    (
+        "the clock never falls",
+        "now\n! clock 5 ; clock 3\nnow\n! clock 4\nnow\n! clock 9\nnow\n",
+        "now 0\nnow 5\nnow 5\nnow 9\n",
+    ),
+    (
+        "no interface is there without a configuration, and none is claimed twice",
+        "detachclaim d1 0 i2\nclose e0\nclose e1\nclose i0\nsetconfig d0 7\nsetconfig d0 0\ndetachclaim d0 0 i0\ndetach d0 0\nattach d0 0\nsetconfig d0 1\ndetach d0 0\nsetconfig d1 1\n",
+        "error Busy interface is busy (errno 16)\nok\nok\nok\nerror NotFound configuration not found (errno 22)\nok\nerror NotFound interface not found (errno 2)\nerror NotFound interface not found (errno 22)\nerror NotFound interface not found (errno 22)\nok\nerror Other no kernel driver attached (errno 61)\nerror Busy device is busy (errno 16)\n",
+    ),
+    (
+        "a reset that is refused leaves a device, and another takes it with its transfers",
+        "! refuse k0 speed 71 ; refuse k0 reset 5\nspeed d0\nspeed d0\nsubmitin e0 64\nreset d0\n! reap\npoll e0\nreset d0\n! reap\npoll e0\nspeed d0\nopen d2 1 6\n",
+        "speed none\nspeed High\nok\nerror Other failed to reset device (errno 5)\npending\nok\ndone disconnected 0 64 -\nspeed none\nerror Disconnected device not found (errno 2)\nticket 0 k0 81 disconnected 0 taken\n",
+    ),
+    (
+        "a later ticket may be finished and reaped first",
+        "submitin e0 64\nsubmitin e2 64\ncancel e2\n! pkt k0 81 07070707070707070707070707070707070707070707070707070707070707070707070707070707070707070707070707070707070707070707070707070707 ; reap 1\npoll e2\npoll e0\n! reap 1 ; reap 0\npoll e0\n",
+        "ok\nok\nok\ndone cancelled 0 64 -\npending\ndone ok 64 64 07070707070707070707070707070707070707070707070707070707070707070707070707070707070707070707070707070707070707070707070707070707\nticket 0 k0 81 ok 64 taken\nticket 1 k1 81 cancelled 0 taken\n",
+    ),
+];
+
+#[test]
+fn calls_go_by_refusals_configurations_and_resets(rt: HostRuntime) -> Result<(), Fail> {
+    expect_rows(&rt, rt.alloc(), &[], TWO, CALLS.as_slice())
+}
