@@ -8,6 +8,7 @@ ghost use Rattle.usb_answers.specs.Answers.{answer};
 ghost use Rattle.usb_answers.specs.Kinds.{is_of_endpoint, is_of_interface, is_of_handle, is_of_reader, sets_reader, is_of_writer, sets_writer, is_of_control, asks_descriptor, is_of_tree};
 
 use crate::session::Session;
+use crate::writer_calls::WriterCall;
 use usb_desc::NoMemory;
 use usb_script::Item;
 
@@ -236,7 +237,7 @@ impl Session {
     }
 
     /// The answer to a call on a writer that is open.
-    #[tactic(auto, unfolding(crate::specs::Answers::answer))]
+    #[tactic(auto, unfolding(crate::specs::Answers::answer, crate::specs::Writes::write_answer, crate::specs::Writes::poll_write_answer, crate::specs::Writes::submit_buffer_answer, crate::specs::Writes::submit_end_answer, crate::specs::Writes::flush_answer, crate::specs::Writes::poll_flush_answer, crate::specs::Writes::flush_end_answer, crate::specs::Writes::poll_flush_end_answer))]
     fn answer_writer(&mut self, line: &mut String, item: Item) -> Result<(), NoMemory>
         requires kind { IsTrue (is_of_writer item) }
         requires spare { places_in item ≤ self.old.host.kernel.spare }
@@ -250,14 +251,22 @@ impl Session {
                 writer,
                 bytes,
                 steps,
-            } => self.write(line, writer, &bytes, steps),
-            Item::PollWrite { writer, bytes } => self.poll_write(line, writer, &bytes),
-            Item::Submit { writer } => self.submit_buffer(line, writer),
-            Item::SubmitEnd { writer } => self.submit_end(line, writer),
-            Item::Flush { writer, steps } => self.flush(line, writer, steps),
-            Item::PollFlush { writer } => self.poll_flush(line, writer),
-            Item::FlushEnd { writer, steps } => self.flush_end(line, writer, steps),
-            Item::PollFlushEnd { writer } => self.poll_flush_end(line, writer),
+            } => self.wait_writer(line, writer, WriterCall::Write(bytes.as_slice()), steps),
+            Item::PollWrite { writer, bytes } => {
+                self.call_writer(line, writer, WriterCall::PollWrite(bytes.as_slice()))
+            }
+            Item::Submit { writer } => self.call_writer(line, writer, WriterCall::Submit),
+            Item::SubmitEnd { writer } => self.call_writer(line, writer, WriterCall::SubmitEnd),
+            Item::Flush { writer, steps } => {
+                self.wait_writer(line, writer, WriterCall::Flush, steps)
+            }
+            Item::PollFlush { writer } => self.call_writer(line, writer, WriterCall::PollFlush),
+            Item::FlushEnd { writer, steps } => {
+                self.wait_writer(line, writer, WriterCall::FlushEnd, steps)
+            }
+            Item::PollFlushEnd { writer } => {
+                self.call_writer(line, writer, WriterCall::PollFlushEnd)
+            }
             item => self.answer_writer_setting(line, item),
         }
     }

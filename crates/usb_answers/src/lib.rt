@@ -15,7 +15,6 @@ mod ending;
 mod endpoints;
 mod fates;
 mod filling;
-mod flushing;
 mod halting;
 mod laws;
 mod listing;
@@ -35,9 +34,9 @@ mod summary;
 mod transferring;
 mod waiting;
 mod watching;
+mod writer_calls;
 mod writer_names;
 mod writer_settings;
-mod writing;
 
 pub use fates::{tickets, write_fate};
 pub use laws::{
