@@ -22,6 +22,7 @@ mod now;
 mod opening;
 mod polling;
 mod probing;
+mod reader_calls;
 mod reader_names;
 mod reader_settings;
 mod reading;
