@@ -2,6 +2,7 @@ use Rattle.std.proofs.Common.{◌≡◌, sym, ◌∙◌, subst}
 use Rattle.usb_answers.specs.SessionState.{IsSound}
 use Rattle.usb_answers.specs.CalledReaders.{call_on}
 use Rattle.usb_answers.proofs.TakenOut.{PutBack, put_back, free_again, same-none}
+use Rattle.usb_answers.proofs.Lent.{spare-called}
 use Rattle.usb_answers.proofs.ReaderCalled.{made_reading, stands-reader, sound-reader_called, answers-reader_called, answers-no_reader}
 use Rattle.usb_answers.proofs.session.Session.call_reader.Goals as goal
 use Rattle.usb_answers.proofs.session.Session.call_reader.Goals.{After-put_at, After-write_condition}
@@ -31,3 +32,6 @@ invariant_of-self-2 c = sound-reader_called c.self.inside _ _ _ _ _ c.self.invar
 pub returns-clause-answered : goal.returns-clause-answered
 returns-clause-answered c =
     answers-reader_called c.self.inside _ _ _ _ _ _ _ c.args.line.now c.call_open-called.new.line _ (call_on c.args.call) c.self.invariant c.self.view_is (back c) c.number-number.ensures.value c.call_open-called.ensures.answered
+
+pub returns-clause-spare : goal.returns-clause-spare
+returns-clause-spare c = spare-called c.self.inside _ _ c.self.invariant c.self.view_is c.call_open-called.ensures.keeps.line
