@@ -205,7 +205,9 @@ fn answer_items<K: Sink>(
 {
     let mut line = String::new(alloc);
     let (host, calls) = run_items(alloc, &mut line, items, places, sink)?;
-    write_summary(&mut line, &host, calls, sink)
+    let answer = write_summary(&mut line, &host, calls, sink);
+    drop(host);
+    answer
 }
 
 /// Reads a script to its end, answers it, and writes the answers.
