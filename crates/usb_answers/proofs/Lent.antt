@@ -1,5 +1,5 @@
 -- Lines with steps of their own: the steps are lent, a call is made, and the rest of them is applied.
-use Rattle.std.proofs.Common.{◌≡◌, ℕ, ◌≤◌, ◌+◌, List, ◌++◌, length, Option, Some, None, Result, Ok, Err, Bool, String, string_bytes, refl, ap, sym, ◌∙◌, subst}
+use Rattle.std.proofs.Common.{◌≡◌, ℕ, ◌≤◌, ◌+◌, ◌-◌, arith, List, [], ◌∷◌, ◌++◌, length, Option, Some, None, Result, Ok, Err, Bool, String, string_bytes, refl, ap, sym, ◌∙◌, subst}
 use Rattle.std.specs.Prelude.{OnOk}
 use Rattle.std.specs.declared.alloc.Global.{Global}
 use Rattle.usb_ledger.proofs.DeviceLemmas.{counts-same}
@@ -150,6 +150,17 @@ spare-lent i S steps at now last view is line rest room =
     let h = is ∙ ap (λ (v : SessionState). record v.host { steps = steps }) view in
     subst (λ (g : HostState). g.kernel.spare + length steps ≡ S.host.kernel.spare) (sym rest)
     (rest-spare (lent_host S.host steps) now (subst (λ (g : HostState). LineGoesOn g now) h line) room)
+
+-- a call without steps used none
+no_step : (front rest : List KernelStep) → [] ≡ front ++ rest → length front ≡ 0
+no_step [] rest is = refl
+no_step (s ∷ ss) rest is = absurd (cc)
+
+pub spare-called : (i : Inside) (S : SessionState) (now : HostState) → IsSound (made_of i) → made_of i ≡ S → LineGoesOn i.host now → now.kernel.spare ≡ S.host.kernel.spare
+spare-called i S now sound view line =
+    let none : length line.front ≡ 0 = no_step line.front now.steps (sym sound.idle ∙ line.steps) in
+    let same : now.kernel.spare ≡ i.host.kernel.spare = omega (arith, none, line.spare) in
+    same ∙ ap (λ (v : SessionState). v.host.kernel.spare) view
 
 pub line-same : (h : HostState) → LineGoesOn h h
 line-same h = line-keeps h h (keeps-open h)

@@ -28,35 +28,12 @@ use Rattle.usb_answers.specs.SessionFacts.{session_made, made_of, writer_endpoin
 use Rattle.usb_answers.specs.Relation.{Represents}
 use Rattle.usb_answers.specs.Answered.{Answered, Answers}
 use Rattle.usb_answers.specs.OpenCalls.{CallKeeps}
+use Rattle.usb_answers.specs.WriterCalls.{HasWriter, WriterAnswers, with_writer_called}
 use Rattle.usb_answers.proofs.Answering.{told-answered, answered-none, answered-some}
 use Rattle.usb_answers.proofs.Called.{open_at, sound-writers}
 use Rattle.usb_answers.proofs.OpenPlaces.{taken-writer, put-writer}
 use Rattle.usb_answers.proofs.TakenOut.{PutBack, map-put, map-length, places-made, sound-called_at}
 use Rattle.usb_answers.proofs.Lent.{sound-lent_at, represents-lent, rested-answered, sound-stepped, steps-represent}
-
--- the session with the host and the writer that a call left
-abbrev pub with_writer_called : SessionState → ℕ → HostState → WriterState → SessionState
-with_writer_called s w host y =
-    record s {
-      host = host;
-      endpoints = change_named (λ x. y.endpoint) s.endpoints (writer_place w);
-      writers = change_named (λ x. bare_writer y) s.writers w;
-    }
-
--- a session has this writer open under a name, and so has the state that it stands for
-pub record HasWriter (s : SessionState) (state : State) (w : ℕ) (x : WriterState) (at : WriterAt) : Type 0 where
-  pub endpoint : named s.endpoints (writer_place w) ≡ Some x.endpoint
-  pub writer : named s.writers w ≡ Some (bare_writer x)
-  pub is : writer_at state w ≡ Some at
-  pub same : state_of_writer at ≡ x
-
--- in whatever session the writer is open it goes to the state behind the answer, whose line is
--- printed; of want of memory nothing is said. x is the writer before the call, and y after it
-abbrev pub WriterAnswers : {E : Type 0} → HostState → HostState → WriterState → WriterState → String Global → String Global → Result Unit E → (State → ℕ → WriterAt → Answer) → Type 0
-WriterAnswers old new x y before after result call =
-    OnOk result
-    ((s : SessionState) (state : State) (w : ℕ) (at : WriterAt) → Represents s state → s.host ≡ old → HasWriter s state w x at →
-    Answered (with_writer_called s w new y) (string_bytes before) (string_bytes after) (call state w at))
 
 -- what a call on a writer keeps, by its endpoint
 pub keeps-writer : (old new : Writing HostState) → WriterKeeps old new → CallKeeps old.bus new.bus old.writer.endpoint new.writer.endpoint

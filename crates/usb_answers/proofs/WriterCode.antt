@@ -37,7 +37,7 @@ use Rattle.usb_answers.specs.Relation.{Represents, session_of}
 use Rattle.usb_answers.proofs.Answering.{host_is}
 use Rattle.usb_answers.proofs.Called.{OpenAt, represents-put}
 use Rattle.usb_answers.proofs.ReaderCode.{drop-last, tickets-read}
-use Rattle.usb_answers.proofs.WriterCalled.{HasWriter, WriterAnswers, with_writer_called}
+use Rattle.usb_answers.specs.WriterCalls.{HasWriter, WriterAnswers, with_writer_called}
 
 -- behind a call of a writer: of the tickets that were pending, and behind them each that came to the journal, the first were taken, and
 -- the others are pending; the rest of its endpoint is as it was

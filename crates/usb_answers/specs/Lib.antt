@@ -43,6 +43,8 @@ pub mod Relation
 pub mod Answered
 pub mod OpenCalls
 pub mod ReaderCalls
+pub mod CalledReaders
+pub mod WriterCalls
 pub mod TargetCalls
 pub mod SessionFacts
 pub mod AnyOpened

@@ -7,7 +7,9 @@ ghost use Rattle.usb_answers.specs.Answered.{Answers};
 ghost use Rattle.usb_answers.specs.Answers.{answer};
 ghost use Rattle.usb_answers.specs.Kinds.{is_of_endpoint, is_of_interface, is_of_handle, is_of_reader, sets_reader, is_of_writer, sets_writer, is_of_control, asks_descriptor, is_of_tree};
 
+use crate::reader_calls::ReaderCall;
 use crate::session::Session;
+use crate::writer_calls::WriterCall;
 use usb_desc::NoMemory;
 use usb_script::Item;
 
@@ -142,7 +144,7 @@ impl Session {
     }
 
     /// The answer to a call by which a reader is made of an endpoint, set, cancelled or closed.
-    #[tactic(auto, unfolding(crate::specs::Answers::answer))]
+    #[tactic(auto, unfolding(crate::specs::Answers::answer, crate::specs::Readers::num_answer, crate::specs::Readers::cancel_reader_answer))]
     fn answer_reader_setting(&mut self, line: &mut String, item: Item) -> Result<(), NoMemory>
         requires kind { IsTrue (sets_reader item) }
         requires spare { places_in item ≤ self.old.host.kernel.spare }
@@ -158,18 +160,20 @@ impl Session {
                 transfer_size,
             } => self.reader(line, reader, endpoint, transfer_size),
             Item::IntoInner { endpoint, reader } => self.inner(line, endpoint, reader),
-            Item::SetNumTransfers { reader, count } => self.set_num_transfers(line, reader, count),
+            Item::SetNumTransfers { reader, count } => {
+                self.call_reader(line, reader, ReaderCall::SetNumTransfers(count))
+            }
             Item::SetReadTimeout { reader, timeout } => {
                 self.set_read_timeout(line, reader, timeout)
             }
-            Item::CancelReader { reader } => self.cancel_reader(line, reader),
+            Item::CancelReader { reader } => self.call_reader(line, reader, ReaderCall::Cancel),
             Item::CloseReader { reader } => self.close_reader(line, reader),
             _ => unreachable!(),
         }
     }
 
     /// The answer to a call on a reader that is open.
-    #[tactic(auto, unfolding(crate::specs::Answers::answer))]
+    #[tactic(auto, unfolding(crate::specs::Answers::answer, crate::specs::Reads::read_answer, crate::specs::Reads::poll_read_answer, crate::specs::Reads::fill_answer, crate::specs::Reads::poll_fill_answer, crate::specs::Reads::consume_answer, crate::specs::Reads::consume_end_answer))]
     fn answer_reader(&mut self, line: &mut String, item: Item) -> Result<(), NoMemory>
         requires kind { IsTrue (is_of_reader item) }
         requires spare { places_in item ≤ self.old.host.kernel.spare }
@@ -184,25 +188,27 @@ impl Session {
                 reader,
                 length,
                 steps,
-            } => self.read(line, framing, reader, length, steps),
+            } => self.wait_reader(line, reader, ReaderCall::Read(framing, length), steps),
             Item::PollRead {
                 framing,
                 reader,
                 length,
-            } => self.poll_read(line, framing, reader, length),
+            } => self.call_reader(line, reader, ReaderCall::PollRead(framing, length)),
             Item::FillBuf {
                 framing,
                 reader,
                 steps,
-            } => self.fill_buf(line, framing, reader, steps),
-            Item::PollFillBuf { framing, reader } => self.poll_fill_buf(line, framing, reader),
+            } => self.wait_reader(line, reader, ReaderCall::FillBuf(framing), steps),
+            Item::PollFillBuf { framing, reader } => {
+                self.call_reader(line, reader, ReaderCall::PollFillBuf(framing))
+            }
             Item::Consume {
                 framing,
                 reader,
                 count,
-            } => self.consume(line, framing, reader, count),
+            } => self.call_reader(line, reader, ReaderCall::Consume(framing, count)),
             Item::IsEnd { reader } => self.is_end(line, reader),
-            Item::ConsumeEnd { reader } => self.consume_end(line, reader),
+            Item::ConsumeEnd { reader } => self.call_reader(line, reader, ReaderCall::ConsumeEnd),
             item => self.answer_reader_setting(line, item),
         }
     }
@@ -236,7 +242,7 @@ impl Session {
     }
 
     /// The answer to a call on a writer that is open.
-    #[tactic(auto, unfolding(crate::specs::Answers::answer))]
+    #[tactic(auto, unfolding(crate::specs::Answers::answer, crate::specs::Writes::write_answer, crate::specs::Writes::poll_write_answer, crate::specs::Writes::submit_buffer_answer, crate::specs::Writes::submit_end_answer, crate::specs::Writes::flush_answer, crate::specs::Writes::poll_flush_answer, crate::specs::Writes::flush_end_answer, crate::specs::Writes::poll_flush_end_answer))]
     fn answer_writer(&mut self, line: &mut String, item: Item) -> Result<(), NoMemory>
         requires kind { IsTrue (is_of_writer item) }
         requires spare { places_in item ≤ self.old.host.kernel.spare }
@@ -250,14 +256,22 @@ impl Session {
                 writer,
                 bytes,
                 steps,
-            } => self.write(line, writer, &bytes, steps),
-            Item::PollWrite { writer, bytes } => self.poll_write(line, writer, &bytes),
-            Item::Submit { writer } => self.submit_buffer(line, writer),
-            Item::SubmitEnd { writer } => self.submit_end(line, writer),
-            Item::Flush { writer, steps } => self.flush(line, writer, steps),
-            Item::PollFlush { writer } => self.poll_flush(line, writer),
-            Item::FlushEnd { writer, steps } => self.flush_end(line, writer, steps),
-            Item::PollFlushEnd { writer } => self.poll_flush_end(line, writer),
+            } => self.wait_writer(line, writer, WriterCall::Write(bytes.as_slice()), steps),
+            Item::PollWrite { writer, bytes } => {
+                self.call_writer(line, writer, WriterCall::PollWrite(bytes.as_slice()))
+            }
+            Item::Submit { writer } => self.call_writer(line, writer, WriterCall::Submit),
+            Item::SubmitEnd { writer } => self.call_writer(line, writer, WriterCall::SubmitEnd),
+            Item::Flush { writer, steps } => {
+                self.wait_writer(line, writer, WriterCall::Flush, steps)
+            }
+            Item::PollFlush { writer } => self.call_writer(line, writer, WriterCall::PollFlush),
+            Item::FlushEnd { writer, steps } => {
+                self.wait_writer(line, writer, WriterCall::FlushEnd, steps)
+            }
+            Item::PollFlushEnd { writer } => {
+                self.call_writer(line, writer, WriterCall::PollFlushEnd)
+            }
             item => self.answer_writer_setting(line, item),
         }
     }

@@ -1,6 +1,5 @@
 //! `fill`, `sfill`, `pollfill` and `pollsfill`: the bytes that stand in a reader are shown.
 
-ghost use Rattle.std.specs.Prelude.{◌≡◌, ◌≤◌, ◌+◌, length};
 ghost use Rattle.std.specs.Borrow.{sem};
 ghost use Rattle.std.specs.Io.BufRead.{Rests};
 ghost use Rattle.usb_endpoint.specs.Handles.{Stands};
@@ -11,20 +10,17 @@ ghost use Rattle.usb_io.specs.Reads.{reading, GoesAlong, KeepsSettings};
 ghost use Rattle.usb_io.specs.contracts.any_reader.AnyReader.{the_row};
 ghost use Rattle.usb_streams.specs.HostReads.{fill_came};
 ghost use Rattle.usb_streams.specs.Lent.{FilledAs, PollFilledAs};
-ghost use Rattle.usb_answers.specs.Reads.{is_until_short, fill_on, fill_answer, poll_fill_on, poll_fill_answer};
-ghost use Rattle.usb_answers.specs.Answered.{Answers};
+ghost use Rattle.usb_answers.specs.Reads.{is_until_short, fill_on, poll_fill_on};
 ghost use Rattle.usb_answers.specs.OpenCalls.{CallKeeps};
 ghost use Rattle.usb_answers.specs.ReaderCalls.{ReaderAnswers};
 
 use crate::reading::bars_read;
-use crate::session::Session;
 use futures::task::Poll;
 use usb_desc::{Fail, NoMemory};
 use usb_device::Host;
 use usb_io::{AnyReader, ReadFault};
 use usb_lines::{write_condition, write_pending};
-use usb_names::{put_at, take_at};
-use usb_script::{Framing, Name, Steps};
+use usb_script::Framing;
 use usb_stream_lines::{write_buffer, write_read_fault};
 
 /// The bytes that stand in a reader, by the call of this framing.
@@ -49,7 +45,7 @@ fn fill_bytes<'a>(
 }
 
 /// Shows the bytes that stand in a reader that is open.
-fn fill_open(
+pub(crate) fn fill_open(
     reader: &mut AnyReader,
     host: &mut Host,
     line: &mut String,
@@ -95,7 +91,7 @@ fn poll_fill_bytes<'a>(
 }
 
 /// Shows the bytes that stand in a reader that is open, with no wait.
-fn poll_fill_open(
+pub(crate) fn poll_fill_open(
     reader: &mut AnyReader,
     host: &mut Host,
     line: &mut String,
@@ -117,54 +113,5 @@ fn poll_fill_open(
         Poll::Ready(Err(Fail::Cause(fault))) => write_read_fault(alloc, line, fault),
         Poll::Ready(Err(Fail::Memory)) => Err(NoMemory),
         Poll::Pending => write_pending(line),
-    }
-}
-
-impl Session {
-    /// `fill` and `sfill`: the bytes that stand in a reader are shown, with a wait where there are
-    /// none. The steps are applied meanwhile, and those that are left right after it.
-    pub(crate) fn fill_buf(
-        &mut self,
-        line: &mut String,
-        framing: Framing,
-        name: Name,
-        steps: Steps,
-    ) -> Result<(), NoMemory>
-        requires room { length steps ≤ self.old.host.kernel.spare }
-        ensures answered { Answers self.old self.new line.old line.new result
-            (λ state. fill_answer state framing name steps) }
-        ensures spare { self.new.host.kernel.spare + length steps ≡ self.old.host.kernel.spare }
-    {
-        let number = name.number();
-        self.host.lend_steps(steps.into_vec());
-        let Some(mut reader) = take_at(&mut self.readers, number) else {
-            self.host.rest();
-            return write_condition(line);
-        };
-        let filled = fill_open(&mut reader, &mut self.host, line, framing);
-        put_at(&mut self.readers, number, reader);
-        self.host.rest();
-        filled
-    }
-
-    /// `pollfill` and `pollsfill`: the bytes that stand in a reader are shown, of those that are
-    /// there.
-    pub(crate) fn poll_fill_buf(
-        &mut self,
-        line: &mut String,
-        framing: Framing,
-        name: Name,
-    ) -> Result<(), NoMemory>
-        ensures answered { Answers self.old self.new line.old line.new result
-            (λ state. poll_fill_answer state framing name) }
-        ensures spare { self.new.host.kernel.spare ≡ self.old.host.kernel.spare }
-    {
-        let number = name.number();
-        let Some(mut reader) = take_at(&mut self.readers, number) else {
-            return write_condition(line);
-        };
-        let filled = poll_fill_open(&mut reader, &mut self.host, line, framing);
-        put_at(&mut self.readers, number, reader);
-        filled
     }
 }

@@ -15,7 +15,6 @@ mod ending;
 mod endpoints;
 mod fates;
 mod filling;
-mod flushing;
 mod halting;
 mod laws;
 mod listing;
@@ -23,6 +22,7 @@ mod now;
 mod opening;
 mod polling;
 mod probing;
+mod reader_calls;
 mod reader_names;
 mod reader_settings;
 mod reading;
@@ -35,9 +35,9 @@ mod summary;
 mod transferring;
 mod waiting;
 mod watching;
+mod writer_calls;
 mod writer_names;
 mod writer_settings;
-mod writing;
 
 pub use fates::{tickets, write_fate};
 pub use laws::{

@@ -8,8 +8,8 @@ ghost use Rattle.usb_host.specs.HostBus.{bus_of};
 ghost use Rattle.usb_io.specs.AnyReaders.{reader_of};
 ghost use Rattle.usb_io.specs.Readers.{with_read};
 ghost use Rattle.usb_writer_lines.specs.Needs.{bars_need};
-ghost use Rattle.usb_answers.specs.Readers.{num_on, num_answer, timeout_on, timeout_answer, cancel_reader_on, cancel_reader_answer};
-ghost use Rattle.usb_answers.specs.Reads.{consume_on, consume_answer, is_end_answer, consume_end_on, consume_end_answer};
+ghost use Rattle.usb_answers.specs.Readers.{num_on, timeout_on, timeout_answer, cancel_reader_on};
+ghost use Rattle.usb_answers.specs.Reads.{consume_on, is_end_answer, consume_end_on};
 ghost use Rattle.usb_answers.specs.Answered.{Answers};
 ghost use Rattle.usb_answers.specs.OpenCalls.{CallKeeps};
 ghost use Rattle.usb_answers.specs.ReaderCalls.{ReaderAnswers};
@@ -37,7 +37,7 @@ fn bars_count(host: &Host, reader: &AnyReader, count: usize) -> bool
 }
 
 /// Sets how many transfers of a reader that is open are to be pending.
-fn num_open(
+pub(crate) fn num_open(
     reader: &mut AnyReader,
     host: &mut Host,
     line: &mut String,
@@ -70,7 +70,7 @@ fn timeout_open(reader: &mut AnyReader, line: &mut String, timeout: Timeout) -> 
 }
 
 /// Discards the pending transfers of a reader that is open, which keeps none pending from then on.
-fn cancel_reader_open(
+pub(crate) fn cancel_reader_open(
     reader: &mut AnyReader,
     host: &mut Host,
     line: &mut String,
@@ -98,7 +98,7 @@ fn take_off(reader: &mut AnyReader, framing: Framing, count: usize)
 }
 
 /// Takes bytes off a reader that is open, of those that stand.
-fn consume_open(
+pub(crate) fn consume_open(
     reader: &mut AnyReader,
     line: &mut String,
     framing: Framing,
@@ -118,7 +118,7 @@ fn consume_open(
 }
 
 /// Takes the end off a reader that is open, where it is next.
-fn consume_end_open(reader: &mut AnyReader, line: &mut String) -> Result<(), NoMemory>
+pub(crate) fn consume_end_open(reader: &mut AnyReader, line: &mut String) -> Result<(), NoMemory>
     ensures endpoint { (reader_of reader.new).endpoint ≡ (reader_of reader.old).endpoint }
     ensures answered { (host : HostState) → ReaderAnswers host host (reader_of reader.old)
         (reader_of reader.new) line.old line.new result
@@ -129,27 +129,6 @@ fn consume_end_open(reader: &mut AnyReader, line: &mut String) -> Result<(), NoM
 }
 
 impl Session {
-    /// `num`: how many transfers of a reader are to be pending is set, and as many are handed in as
-    /// are missing of one less.
-    pub(crate) fn set_num_transfers(
-        &mut self,
-        line: &mut String,
-        name: Name,
-        count: u32,
-    ) -> Result<(), NoMemory>
-        ensures answered { Answers self.old self.new line.old line.new result
-            (λ state. num_answer state name count) }
-        ensures spare { self.new.host.kernel.spare ≡ self.old.host.kernel.spare }
-    {
-        let number = name.number();
-        let Some(mut reader) = take_at(&mut self.readers, number) else {
-            return write_condition(line);
-        };
-        let set = num_open(&mut reader, &mut self.host, line, count);
-        put_at(&mut self.readers, number, reader);
-        set
-    }
-
     /// `timeout`: the timeout of the waits of a reader is set.
     pub(crate) fn set_read_timeout(
         &mut self,
@@ -170,42 +149,6 @@ impl Session {
         set
     }
 
-    /// `cancel`: the pending transfers of a reader are discarded, from the last to the first.
-    pub(crate) fn cancel_reader(&mut self, line: &mut String, name: Name) -> Result<(), NoMemory>
-        ensures answered { Answers self.old self.new line.old line.new result
-            (λ state. cancel_reader_answer state name) }
-        ensures spare { self.new.host.kernel.spare ≡ self.old.host.kernel.spare }
-    {
-        let number = name.number();
-        let Some(mut reader) = take_at(&mut self.readers, number) else {
-            return write_condition(line);
-        };
-        let cancelled = cancel_reader_open(&mut reader, &mut self.host, line);
-        put_at(&mut self.readers, number, reader);
-        cancelled
-    }
-
-    /// `consume` and `sconsume`: so many of the bytes that stand in a reader are taken off.
-    pub(crate) fn consume(
-        &mut self,
-        line: &mut String,
-        framing: Framing,
-        name: Name,
-        count: Length,
-    ) -> Result<(), NoMemory>
-        ensures answered { Answers self.old self.new line.old line.new result
-            (λ state. consume_answer state framing name count) }
-        ensures spare { self.new.host.kernel.spare ≡ self.old.host.kernel.spare }
-    {
-        let number = name.number();
-        let Some(mut reader) = take_at(&mut self.readers, number) else {
-            return write_condition(line);
-        };
-        let consumed = consume_open(&mut reader, line, framing, count);
-        put_at(&mut self.readers, number, reader);
-        consumed
-    }
-
     /// `isend`: whether the end of a message is next in a reader.
     pub(crate) fn is_end(&self, line: &mut String, name: Name) -> Result<(), NoMemory>
         ensures answered { Answers self.now self.now line.old line.new result
@@ -215,20 +158,5 @@ impl Session {
             Some(reader) => write_is_end(line, reader.is_end()),
             None => write_condition(line),
         }
-    }
-
-    /// `endmsg`: the end of a message is taken off a reader, where it is next.
-    pub(crate) fn consume_end(&mut self, line: &mut String, name: Name) -> Result<(), NoMemory>
-        ensures answered { Answers self.old self.new line.old line.new result
-            (λ state. consume_end_answer state name) }
-        ensures spare { self.new.host.kernel.spare ≡ self.old.host.kernel.spare }
-    {
-        let number = name.number();
-        let Some(mut reader) = take_at(&mut self.readers, number) else {
-            return write_condition(line);
-        };
-        let consumed = consume_end_open(&mut reader, line);
-        put_at(&mut self.readers, number, reader);
-        consumed
     }
 }

@@ -1,6 +1,6 @@
 //! `read`, `sread`, `pollread` and `pollsread`: bytes are read from a reader.
 
-ghost use Rattle.std.specs.Prelude.{◌≡◌, ◌≤◌, ◌+◌, take, length, Ok, Err, IfOk, IfErr};
+ghost use Rattle.std.specs.Prelude.{◌≡◌, ◌≤◌, take, length, Ok, Err, IfOk, IfErr};
 ghost use Rattle.usb_endpoint.specs.Handles.{Stands};
 ghost use Rattle.usb_endpoint.specs.Polls.{IfReady, IfPending};
 ghost use Rattle.usb_host.specs.HostBus.{bus_of};
@@ -10,19 +10,16 @@ ghost use Rattle.usb_io.specs.Answers.{IsInTime};
 ghost use Rattle.usb_io.specs.Reads.{reading, GoesAlong};
 ghost use Rattle.usb_streams.specs.HostReads.{read_came, answered, FailedAs};
 ghost use Rattle.usb_writer_lines.specs.Needs.{bars_need};
-ghost use Rattle.usb_answers.specs.Reads.{is_until_short, need_of, read_on, read_answer, poll_read_on, poll_read_answer};
-ghost use Rattle.usb_answers.specs.Answered.{Answers};
+ghost use Rattle.usb_answers.specs.Reads.{is_until_short, need_of, read_on, poll_read_on};
 ghost use Rattle.usb_answers.specs.OpenCalls.{CallKeeps};
 ghost use Rattle.usb_answers.specs.ReaderCalls.{ReaderAnswers};
 
-use crate::session::Session;
 use futures::task::Poll;
 use usb_desc::{Fail, NoMemory};
 use usb_device::Host;
 use usb_io::{AnyReader, ReadFault};
 use usb_lines::{write_condition, write_pending};
-use usb_names::{put_at, take_at};
-use usb_script::{Framing, Name, ReadLength, Steps};
+use usb_script::{Framing, ReadLength};
 use usb_stream_lines::{write_read, write_read_fault};
 use usb_streams::read_need;
 use usb_writer_lines::bars_need;
@@ -74,7 +71,7 @@ fn read_bytes(
 }
 
 /// Reads from a reader that is open.
-fn read_open(
+pub(crate) fn read_open(
     reader: &mut AnyReader,
     host: &mut Host,
     line: &mut String,
@@ -133,7 +130,7 @@ fn poll_bytes(
 }
 
 /// Reads from a reader that is open, with no wait.
-fn poll_read_open(
+pub(crate) fn poll_read_open(
     reader: &mut AnyReader,
     host: &mut Host,
     line: &mut String,
@@ -157,56 +154,5 @@ fn poll_read_open(
         Poll::Ready(Err(Fail::Cause(fault))) => write_read_fault(alloc, line, fault),
         Poll::Ready(Err(Fail::Memory)) => Err(NoMemory),
         Poll::Pending => write_pending(line),
-    }
-}
-
-impl Session {
-    /// `read` and `sread`: at most so many bytes are read from a reader, with a wait where there are
-    /// none. The steps are applied meanwhile, and those that are left right after it.
-    pub(crate) fn read(
-        &mut self,
-        line: &mut String,
-        framing: Framing,
-        name: Name,
-        most: ReadLength,
-        steps: Steps,
-    ) -> Result<(), NoMemory>
-        requires room { length steps ≤ self.old.host.kernel.spare }
-        ensures answered { Answers self.old self.new line.old line.new result
-            (λ state. read_answer state framing name most steps) }
-        ensures spare { self.new.host.kernel.spare + length steps ≡ self.old.host.kernel.spare }
-    {
-        let number = name.number();
-        self.host.lend_steps(steps.into_vec());
-        let Some(mut reader) = take_at(&mut self.readers, number) else {
-            self.host.rest();
-            return write_condition(line);
-        };
-        let read = read_open(&mut reader, &mut self.host, line, framing, most);
-        put_at(&mut self.readers, number, reader);
-        self.host.rest();
-        read
-    }
-
-    /// `pollread` and `pollsread`: at most so many bytes are read from a reader, of those that are
-    /// there.
-    pub(crate) fn poll_read(
-        &mut self,
-        line: &mut String,
-        framing: Framing,
-        name: Name,
-        most: ReadLength,
-    ) -> Result<(), NoMemory>
-        ensures answered { Answers self.old self.new line.old line.new result
-            (λ state. poll_read_answer state framing name most) }
-        ensures spare { self.new.host.kernel.spare ≡ self.old.host.kernel.spare }
-    {
-        let number = name.number();
-        let Some(mut reader) = take_at(&mut self.readers, number) else {
-            return write_condition(line);
-        };
-        let read = poll_read_open(&mut reader, &mut self.host, line, framing, most);
-        put_at(&mut self.readers, number, reader);
-        read
     }
 }

@@ -3,8 +3,12 @@
 ghost use Rattle.std.specs.Prelude.{◌≡◌, IfOk, replicate, None};
 ghost use Rattle.std.specs.List.{filter_map};
 ghost use Rattle.usb_script.specs.ItemKinds.{place_count};
+ghost use Rattle.usb_setup.specs.Packets.{packets_of};
+ghost use Rattle.usb_setup.specs.Trees.{tree_of};
 ghost use Rattle.usb_answers.specs.Output.{driver_of_item, device_of_item, devices_of, start};
 ghost use Rattle.usb_answers.specs.Relation.{Represents};
+ghost use Rattle.usb_answers.specs.SessionState.{IsSound};
+ghost use Rattle.usb_answers.specs.SessionFacts.{session_made};
 
 use std::alloc::Global;
 use std::marker::Model;
@@ -207,6 +211,79 @@ fn all_names(alloc: Global) -> Result<Names, NoMemory>
     })
 }
 
+/// A host as `host_with` makes it, and names of each kind under which nothing is open.
+fn host_and_names(alloc: Global, items: &[Item], places: usize) -> Result<(Host, Names), NoMemory>
+    ensures host { IfOk result (λ h. places ≡ place_count items.now → h.0 ≡ (start items.now).host) }
+    ensures devices { IfOk result (λ h. h.1.devices.items ≡ replicate 64 None) }
+    ensures interfaces { IfOk result (λ h. h.1.interfaces.items ≡ replicate 64 None) }
+    ensures endpoints { IfOk result (λ h. h.1.endpoints.items ≡ replicate 64 None) }
+    ensures readers { IfOk result (λ h. h.1.readers.items ≡ replicate 64 None) }
+    ensures writers { IfOk result (λ h. h.1.writers.items ≡ replicate 64 None) }
+    ensures futures { IfOk result (λ h. h.1.futures.items ≡ replicate 64 None) }
+{
+    let names = all_names(alloc)?;
+    match host_with(alloc, items, places) {
+        Ok(host) => Ok((host, names)),
+        Err(error) => {
+            let Names {
+                devices,
+                interfaces,
+                endpoints,
+                readers,
+                writers,
+                futures,
+            } = names;
+            drop_names(devices);
+            drop_names(interfaces);
+            drop_names(endpoints);
+            drop_names(readers);
+            drop_names(writers);
+            drop_names(futures);
+            Err(error)
+        }
+    }
+}
+
+/// The tree of attributes and the packets of udev that these items declare.
+fn tree_and_watch(alloc: Global, items: &[Item]) -> Result<(AttrTree, HotplugWatch), NoMemory>
+    ensures tree { IfOk result (λ t. t.0 ≡ tree_of items.now) }
+    ensures packets { IfOk result (λ t. t.1 ≡ packets_of items.now) }
+{
+    let packets = packets_of(alloc, items)?;
+    let tree = tree_of(alloc, items)?;
+    Ok((tree, watch_devices(alloc, packets)))
+}
+
+/// The session of these parts.
+fn session_of(host: Host, names: Names, tree: AttrTree, watch: HotplugWatch) -> Session
+    requires sound { IsSound (session_made tree watch host names.devices.items
+        names.interfaces.items names.endpoints.items names.readers.items names.writers.items
+        names.futures.items) }
+    ensures parts { result ≡ session_made tree watch host names.devices.items
+        names.interfaces.items names.endpoints.items names.readers.items names.writers.items
+        names.futures.items }
+{
+    let Names {
+        devices,
+        interfaces,
+        endpoints,
+        readers,
+        writers,
+        futures,
+    } = names;
+    Session {
+        host,
+        devices,
+        interfaces,
+        endpoints,
+        readers,
+        writers,
+        futures,
+        tree,
+        watch,
+    }
+}
+
 impl Session {
     /// A session over the devices that these items declare, with room for their steps and resets, of which there are so many.
     pub fn new(alloc: Global, items: &[Item], places: usize) -> Result<Session, NoMemory>
@@ -214,28 +291,8 @@ impl Session {
         ensures stands { IfOk result (λ s. Represents s (start items.now)) }
         ensures spare { IfOk result (λ s. s.host.kernel.spare ≡ places) }
     {
-        let host = host_with(alloc, items, places)?;
-        let tree = tree_of(alloc, items)?;
-        let packets = packets_of(alloc, items)?;
-        let names = all_names(alloc)?;
-        let Names {
-            devices,
-            interfaces,
-            endpoints,
-            readers,
-            writers,
-            futures,
-        } = names;
-        Ok(Session {
-            host,
-            devices,
-            interfaces,
-            endpoints,
-            readers,
-            writers,
-            futures,
-            tree,
-            watch: watch_devices(alloc, packets),
-        })
+        let (tree, watch) = tree_and_watch(alloc, items)?;
+        let (host, names) = host_and_names(alloc, items, places)?;
+        Ok(session_of(host, names, tree, watch))
     }
 }

@@ -1,5 +1,5 @@
 -- The run over the items of a script, and what the sink got.
-use Rattle.std.proofs.Common.{◌≡◌, ℕ, ◌+◌, ◌-◌, ◌<◌, Bool, true, false, cond, List, [], ◌∷◌, ◌++◌, length, count_by, refl, ap, sym, ◌∙◌, arith}
+use Rattle.std.proofs.Common.{◌≡◌, ℕ, ◌+◌, ◌-◌, ◌<◌, Bool, true, false, cond, Result, Ok, Err, IfOk, List, [], ◌∷◌, ◌++◌, length, count_by, refl, ap, sym, ◌∙◌, subst, arith}
 use Rattle.std.specs.declared.option.Option.{Option}
 use Rattle.std.specs.Io.KnownBytes.{Appends}
 use Rattle.std.proofs.lemmas.List.{append-nil}
@@ -78,16 +78,17 @@ calls-no item items b is fails =
     let other : is_call item ≡ false = sym is ∙ fails in
     sum_by-cons (λ x. cond (is_call x) 1 0) item items ∙ rw other (omega arith)
 
--- the fate lines are written
-pub answered-end : {old mid : Option (List ℕ)} (new : Option (List ℕ)) (s : SessionState) (host : HostState) (items : List Item) → AllAnswered old mid s items → ((state : State) → Represents s state → host ≡ ended state) → Appends mid new (fate_lines host) → Appends old new (output items)
-answered-end {old} {mid} new s host items done ends appends =
-    let here = ends done.now done.stands in
-    Wrote_all (Wrote_more new (fate_lines host) [] done.wrote appends (append-nil (fate_lines host) ∙ ap fate_lines here)) refl
+-- but for the fate lines of the host at the end all is written
+pub answered-but_fates : {old new : Option (List ℕ)} (s : SessionState) (host : HostState) (items : List Item) → AllAnswered old new s items → ((state : State) → Represents s state → host ≡ ended state) → Wrote old new (output items) (fate_lines host)
+answered-but_fates {old} {new} s host items done ends =
+    subst (λ (h : HostState). Wrote old new (output items) (fate_lines h)) (sym (ends done.now done.stands)) done.wrote
 
-pub answered-cut : {old mid : Option (List ℕ)} (new : Option (List ℕ)) (s : SessionState) (host : HostState) (items : List Item) → AllAnswered old mid s items → ((state : State) → Represents s state → host ≡ ended state) → WrotePrefix mid new (fate_lines host) → WrotePrefix old new (output items)
-answered-cut {old} {mid} new s host items done ends cut =
-    let here = ends done.now done.stands in
-    Wrote_prefix new (fate_lines host) [] done.wrote cut (append-nil (fate_lines host) ∙ ap fate_lines here)
+-- and then they are
+pub answered-end : {old mid : Option (List ℕ)} (new : Option (List ℕ)) (host : HostState) (items : List Item) → Wrote old mid (output items) (fate_lines host) → Appends mid new (fate_lines host) → Appends old new (output items)
+answered-end new host items wrote appends = Wrote_all (Wrote_more new (fate_lines host) [] wrote appends (append-nil (fate_lines host))) refl
+
+pub answered-cut : {old mid : Option (List ℕ)} (new : Option (List ℕ)) (host : HostState) (items : List Item) → Wrote old mid (output items) (fate_lines host) → WrotePrefix mid new (fate_lines host) → WrotePrefix old new (output items)
+answered-cut new host items wrote cut = Wrote_prefix new (fate_lines host) [] wrote cut (append-nil (fate_lines host))
 
 -- the host at the end is the last of the script, and each of its tickets has its end
 pub host-final : {old new : Option (List ℕ)} (s : SessionState) (host : HostState) (items : List Item) → AllAnswered old new s items → ((state : State) → Represents s state → host ≡ ended state) → host ≡ final_host items
@@ -101,9 +102,14 @@ pub host-nothing : {old new : Option (List ℕ)} (s : SessionState) (host : Host
 host-nothing s host items done keeps = keeps done.now done.stands done.accounted
 
 -- the summary of the last host
-pub answered-sum : {old new : Option (List ℕ)} (s : SessionState) (host : HostState) (items : List Item) (calls : ℕ) (summary : Summary) → AllAnswered old new s items → ((state : State) → Represents s state → host ≡ ended state) → summary ≡ counts_of calls host → calls ≡ count_by is_call items → summary ≡ sum_of items
-answered-sum s host items calls summary done ends sums counted =
-    sums ∙ ap (counts_of calls) (host-final s host items done ends) ∙ ap (λ n. counts_of n (final_host items)) counted
+pub answered-sum : (host : HostState) (items : List Item) (calls : ℕ) (summary : Summary) → host ≡ final_host items → summary ≡ counts_of calls host → calls ≡ count_by is_call items → summary ≡ sum_of items
+answered-sum host items calls summary final sums counted =
+    sums ∙ ap (counts_of calls) final ∙ ap (λ n. counts_of n (final_host items)) counted
+
+-- what is so anyhow is so where a call answered
+pub always-ok : {T E Q : Type 0} (r : Result T E) → Q → IfOk r (λ x. Q)
+always-ok (Ok x) q = q
+always-ok (Err e) q = tt
 
 -- the fate lines
 pub fates-start : (old : Option (List ℕ)) (h : HostState) → Wrote old old (fate_lines h) (fate_lines_from h 0 (length (tickets h.kernel.past) - 0))

@@ -6,10 +6,11 @@ ghost use Rattle.std.specs.Io.KnownBytes.{Appends};
 ghost use Rattle.usb_script.specs.declared.item.Item.{Item};
 ghost use Rattle.usb_script.specs.ItemKinds.{is_call, place_count};
 ghost use Rattle.usb_parse.specs.ScriptFacts.{IsBounded};
+ghost use Rattle.usb_kernel.specs.Legal.{IsLawful};
 ghost use Rattle.usb_host.specs.Finishes.{HasEnds, HasCompletions, KeepsNothing};
 ghost use Rattle.usb_answers.specs.Fates.{fate_lines};
 ghost use Rattle.usb_answers.specs.Output.{output, start, final_host};
-ghost use Rattle.usb_answers.specs.Sums.{sum_of};
+ghost use Rattle.usb_answers.specs.Sums.{counts_of, sum_of};
 ghost use Rattle.usb_answers.specs.Served.{IsCounted, EndpointsAreServed};
 ghost use Rattle.usb_answers.specs.FinalFates.{HasFinalFates};
 ghost use Rattle.usb_answers.specs.Framed.{FramedReadersFollow};
@@ -17,7 +18,7 @@ ghost use Rattle.usb_answers.specs.WrittenScripts.{WritersAreTold};
 ghost use Rattle.usb_answers.specs.Relation.{Represents};
 ghost use Rattle.usb_session.specs.Exchanges.{MessagesAlwaysArrive};
 ghost use Rattle.usb_session.specs.Running.{AllAnswered};
-ghost use Rattle.usb_session.specs.Causes.{Rose, RoseByOne, WrotePrefix, FailedLast, TookAtMost, IsWritingError};
+ghost use Rattle.usb_session.specs.Causes.{Rose, RoseByOne, Wrote, WrotePrefix, FailedLast, TookAtMost, IsWritingError};
 ghost use Rattle.usb_session.specs.Session.{streams, IsAnswered, HasReason, FaultsNeverFall, IsSmooth, IsQuiet, IsExact};
 
 use crate::outside::{Failed, Sink, Source};
@@ -105,8 +106,73 @@ fn answer_each<K: Sink>(
     Ok(calls)
 }
 
-/// Answers each item in order, ends the session, and then writes the fate lines. The session can't
-/// be dropped, so it is ended also where an answer could not be written.
+/// Answers each item in order, and ends the session. It can't be dropped, so it is ended also where
+/// an answer could not be written. Gives the host at its end, and how many calls there were.
+fn run_items<K: Sink>(
+    alloc: Global,
+    line: &mut String,
+    items: Vec<Item>,
+    places: usize,
+    sink: &mut K,
+) -> Result<(Host, u32), SessionError>
+    requires bounded { IsBounded items.items }
+    requires places { places ≡ place_count items.items }
+    ensures host { IfOk result (λ h. h.0 ≡ final_host items.items) }
+    ensures ended { IfOk result (λ h. HasEnds h.0.tickets) }
+    ensures reaped { IfOk result (λ h. HasCompletions h.0.kernel.past) }
+    ensures lawful { IfOk result (λ h. IsLawful h.0.kernel.past) }
+    ensures keeps_nothing { IfOk result (λ h. KeepsNothing h.0) }
+    ensures calls { IfOk result (λ h. h.1 ≡ count_by is_call items.items) }
+    ensures ok { IfOk result (λ h. Wrote (K.written sink.old) (K.written sink.new)
+        (output items.items) (fate_lines h.0)) }
+    ensures err { OnErr result
+        (WrotePrefix (K.written sink.old) (K.written sink.new) (output items.items)) }
+    ensures cause { IsErrOf result SessionError.WriteFault →
+        Rose (K.faults sink.old) (K.faults sink.new) }
+    ensures once { IsErrOf result SessionError.WriteFault →
+        RoseByOne (K.faults sink.old) (K.faults sink.new) }
+    ensures quiet { OnOk result (K.faults sink.new ≡ K.faults sink.old) }
+    ensures only { IfErr result IsWritingError }
+    ensures later { K.faults sink.old ≤ K.faults sink.new }
+{
+    let mut session = Session::new(alloc, items.as_slice(), places)?;
+    let answered = answer_each(line, items, &mut session, sink);
+    let host = session.end();
+    match answered {
+        Ok(calls) => Ok((host, calls)),
+        Err(error) => {
+            drop(host);
+            Err(error)
+        }
+    }
+}
+
+/// Writes the fate lines of a host, each of whose tickets has its end, and sums it up.
+fn write_summary<K: Sink>(
+    line: &mut String,
+    host: &Host,
+    calls: u32,
+    sink: &mut K,
+) -> Result<Summary, SessionError>
+    requires ended { HasEnds host.now.tickets }
+    ensures ok { OnOk result
+        (Appends (K.written sink.old) (K.written sink.new) (fate_lines host.now)) }
+    ensures summary { IfOk result (λ s. s ≡ counts_of calls host.now) }
+    ensures err { OnErr result
+        (WrotePrefix (K.written sink.old) (K.written sink.new) (fate_lines host.now)) }
+    ensures cause { IsErrOf result SessionError.WriteFault →
+        Rose (K.faults sink.old) (K.faults sink.new) }
+    ensures once { IsErrOf result SessionError.WriteFault →
+        RoseByOne (K.faults sink.old) (K.faults sink.new) }
+    ensures quiet { OnOk result (K.faults sink.new ≡ K.faults sink.old) }
+    ensures only { IfErr result IsWritingError }
+    ensures later { K.faults sink.old ≤ K.faults sink.new }
+{
+    write_fates(line, host, sink)?;
+    Ok(Summary::of(host, calls))
+}
+
+/// Answers each item in order, ends the session, and then writes the fate lines.
 fn answer_items<K: Sink>(
     alloc: Global,
     items: Vec<Item>,
@@ -137,13 +203,11 @@ fn answer_items<K: Sink>(
     ensures only { IfErr result IsWritingError }
     ensures later { K.faults sink.old ≤ K.faults sink.new }
 {
-    let mut session = Session::new(alloc, items.as_slice(), places)?;
     let mut line = String::new(alloc);
-    let answered = answer_each(&mut line, items, &mut session, sink);
-    let host = session.end();
-    let calls = answered?;
-    write_fates(&mut line, &host, sink)?;
-    Ok(Summary::of(&host, calls))
+    let (host, calls) = run_items(alloc, &mut line, items, places, sink)?;
+    let answer = write_summary(&mut line, &host, calls, sink);
+    drop(host);
+    answer
 }
 
 /// Reads a script to its end, answers it, and writes the answers.

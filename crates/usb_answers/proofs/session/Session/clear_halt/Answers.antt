@@ -2,6 +2,7 @@ use Rattle.std.proofs.Common.{◌≡◌, sym, ◌∙◌, subst}
 use Rattle.usb_answers.specs.SessionState.{IsSound}
 use Rattle.usb_answers.specs.Halts.{halt_cleared, clear_halt_answer}
 use Rattle.usb_answers.proofs.TakenOut.{PutBack, made_with, put_back, free_again, stands-made, sound-called, answers-called, same-none, answers-none}
+use Rattle.usb_answers.proofs.Lent.{spare-called}
 use Rattle.usb_answers.proofs.session.Session.clear_halt.Goals as goal
 use Rattle.usb_answers.proofs.session.Session.clear_halt.Goals.{After-put_at, After-write_condition}
 
@@ -32,3 +33,6 @@ pub returns-clause-answered : goal.returns-clause-answered
 unfolding clear_halt_answer
 returns-clause-answered c =
     answers-called c.self.inside _ _ _ _ _ _ _ c.args.line.now c.clear_open-cleared.new.line _ (λ state e h. halt_cleared state h) c.self.invariant c.self.view_is (back c) c.number-number.ensures.value c.clear_open-cleared.ensures.answered
+
+pub returns-clause-spare : goal.returns-clause-spare
+returns-clause-spare c = spare-called c.self.inside _ _ c.self.invariant c.self.view_is c.clear_open-cleared.ensures.keeps.line

@@ -3,6 +3,7 @@ use Rattle.usb_answers.specs.SessionState.{IsSound}
 use Rattle.usb_answers.specs.Polls.{poll_answer, polled}
 use Rattle.usb_answers.specs.ReaderAt.{endpoint_place}
 use Rattle.usb_answers.proofs.TakenOut.{PutBack, made_with, put_back, free_again, stands-made, sound-called, answers-called, same-none, answers-none}
+use Rattle.usb_answers.proofs.Lent.{spare-called}
 use Rattle.usb_answers.proofs.session.Session.poll.Goals as goal
 use Rattle.usb_answers.proofs.session.Session.poll.Goals.{After-put_at, After-write_condition}
 
@@ -33,3 +34,6 @@ pub returns-clause-answered : goal.returns-clause-answered
 unfolding poll_answer
 returns-clause-answered c =
     answers-called c.self.inside _ _ _ _ _ _ _ c.args.line.now c.poll_open-polled.new.line _ (λ state e h. polled state e (slice_get h.tickets h.taken)) c.self.invariant c.self.view_is (back c) c.number-number.ensures.value c.poll_open-polled.ensures.answered
+
+pub returns-clause-spare : goal.returns-clause-spare
+returns-clause-spare c = spare-called c.self.inside _ _ c.self.invariant c.self.view_is c.poll_open-polled.ensures.keeps.line

@@ -3,6 +3,7 @@ use Rattle.usb_answers.specs.SessionState.{IsSound}
 use Rattle.usb_answers.specs.Submits.{submit_on, submit_answer}
 use Rattle.usb_answers.specs.ReaderAt.{endpoint_place}
 use Rattle.usb_answers.proofs.TakenOut.{PutBack, made_with, put_back, free_again, stands-made, sound-called, answers-called, same-none, answers-none}
+use Rattle.usb_answers.proofs.Lent.{spare-called}
 use Rattle.usb_answers.proofs.session.Session.submit.Goals as goal
 use Rattle.usb_answers.proofs.session.Session.submit.Goals.{After-put_at, After-drop-buffer-inside}
 
@@ -33,3 +34,6 @@ pub returns-clause-answered : goal.returns-clause-answered
 unfolding submit_answer
 returns-clause-answered c =
     answers-called c.self.inside _ _ _ _ _ _ _ c.args.line.now c.submit_open-submitted.new.line _ (λ state e h. submit_on state c.args.direction e c.args.buffer h) c.self.invariant c.self.view_is (back c) c.number-number.ensures.value c.submit_open-submitted.ensures.answered
+
+pub returns-clause-spare : goal.returns-clause-spare
+returns-clause-spare c = spare-called c.self.inside _ _ c.self.invariant c.self.view_is c.submit_open-submitted.ensures.keeps.line
