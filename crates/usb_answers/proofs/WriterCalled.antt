@@ -20,7 +20,7 @@ use Rattle.usb_names.specs.Names.{named, freed, set_name, change_named}
 use Rattle.usb_names.proofs.NameLemmas.{named-map, put-changed}
 use Rattle.usb_answers.specs.BareWriters.{BareWriter, bare_writer, writer_with}
 use Rattle.usb_answers.specs.State.{State, Writer}
-use Rattle.usb_answers.specs.WriterAt.{WriterAt, writer_place, writer_at, state_of_writer}
+use Rattle.usb_answers.specs.WriterAt.{WriterAt, writer_place, writer_at}
 use Rattle.usb_answers.specs.Answer.{Answer, barred, if_open}
 use Rattle.usb_answers.specs.Steps.{lent, then_rested, stepped_all}
 use Rattle.usb_answers.specs.SessionState.{SessionState, IsSound}

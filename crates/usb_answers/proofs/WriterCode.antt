@@ -25,7 +25,7 @@ use Rattle.usb_writer_lines.specs.Needs.{bars_call, write_need}
 use Rattle.usb_writer_lines.specs.Printed.{Prints, CameTo}
 use Rattle.usb_names.specs.Names.{named, change_named}
 use Rattle.usb_names.proofs.NameLemmas.{map-change_named, put-changed, put-back}
-use Rattle.usb_answers.specs.State.{State, Endpoint, Writer, kept, pending, tickets_of}
+use Rattle.usb_answers.specs.State.{State, Endpoint, Writer, kept, tickets_of}
 use Rattle.usb_answers.specs.BareWriters.{BareWriter, bare_writer}
 use Rattle.usb_answers.specs.WriterAt.{WriterAt, writer_place, writer_at, state_of_writer, writing_at}
 use Rattle.usb_answers.specs.Readers.{called_endpoint}

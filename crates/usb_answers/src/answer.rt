@@ -144,7 +144,7 @@ impl Session {
     }
 
     /// The answer to a call by which a reader is made of an endpoint, set, cancelled or closed.
-    #[tactic(auto, unfolding(crate::specs::Answers::answer, crate::specs::Readers::num_answer, crate::specs::Readers::cancel_reader_answer))]
+    #[tactic(auto, unfolding(crate::specs::Answers::answer))]
     fn answer_reader_setting(&mut self, line: &mut String, item: Item) -> Result<(), NoMemory>
         requires kind { IsTrue (sets_reader item) }
         requires spare { places_in item ≤ self.old.host.kernel.spare }
@@ -173,7 +173,7 @@ impl Session {
     }
 
     /// The answer to a call on a reader that is open.
-    #[tactic(auto, unfolding(crate::specs::Answers::answer, crate::specs::Reads::read_answer, crate::specs::Reads::poll_read_answer, crate::specs::Reads::fill_answer, crate::specs::Reads::poll_fill_answer, crate::specs::Reads::consume_answer, crate::specs::Reads::consume_end_answer))]
+    #[tactic(auto, unfolding(crate::specs::Answers::answer))]
     fn answer_reader(&mut self, line: &mut String, item: Item) -> Result<(), NoMemory>
         requires kind { IsTrue (is_of_reader item) }
         requires spare { places_in item ≤ self.old.host.kernel.spare }
@@ -242,7 +242,7 @@ impl Session {
     }
 
     /// The answer to a call on a writer that is open.
-    #[tactic(auto, unfolding(crate::specs::Answers::answer, crate::specs::Writes::write_answer, crate::specs::Writes::poll_write_answer, crate::specs::Writes::submit_buffer_answer, crate::specs::Writes::submit_end_answer, crate::specs::Writes::flush_answer, crate::specs::Writes::poll_flush_answer, crate::specs::Writes::flush_end_answer, crate::specs::Writes::poll_flush_end_answer))]
+    #[tactic(auto, unfolding(crate::specs::Answers::answer, crate::specs::Writes::write_answer, crate::specs::Writes::poll_write_answer))]
     fn answer_writer(&mut self, line: &mut String, item: Item) -> Result<(), NoMemory>
         requires kind { IsTrue (is_of_writer item) }
         requires spare { places_in item ≤ self.old.host.kernel.spare }
