@@ -6,7 +6,9 @@ mod questions;
 use crate::answers::check;
 use std::alloc::{AllocError, Global};
 use std::test::Fail;
-use usb_desc::{Descriptor, DeviceDescriptor, concatenated, find_configuration, language_id};
+use usb_desc::{
+    Descriptor, DeviceDescriptor, Languages, concatenated, find_configuration, language_id,
+};
 
 #[test]
 fn descriptors_read_as_nusb_reads_them(rt: HostRuntime) -> Result<(), AllocError> {
@@ -71,4 +73,9 @@ fn debug_texts_of_copies_show_the_fields(rt: HostRuntime) -> Result<(), Fail> {
     let bytes = hex::decode(rt.alloc(), SHOWN)?;
     assert!(rt; show_fields(rt.alloc(), &bytes) == Some(true));
     Ok(())
+}
+
+#[test]
+fn no_bytes_hold_no_language(rt: HostRuntime) {
+    assert!(rt; Languages::new(Vec::new(rt.alloc())).next().is_none());
 }

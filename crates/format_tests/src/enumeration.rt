@@ -1,12 +1,14 @@
-//! What attributes read as, and a device that is asked for, with answers worked out by hand. More
-//! of them are asked by scripts.
+//! What attributes read as, and a bus and a device that are asked for, with answers worked out by
+//! hand. More of them are asked by scripts.
 
 use crate::answers::check;
 use std::alloc::{AllocError, Global};
 use std::test::Fail;
 use usb_desc::Fail::Cause;
 use usb_desc::NoMemory;
-use usb_enum::{AttrTree, DeviceInfo, DeviceSelector, StringDescriptor, request_device};
+use usb_enum::{
+    AttrTree, DeviceInfo, DeviceSelector, StringDescriptor, list_buses, request_device,
+};
 use usb_error::Error;
 use usb_sysfs::read_decimal;
 
@@ -51,7 +53,7 @@ fn values_are_read_as_std_reads_them(rt: HostRuntime) -> Result<(), AllocError> 
     check(&rt, VALUES)
 }
 
-/// The attributes of a device and of its interface: folders, names and values.
+/// The attributes of a device, of its interface and of a root hub: folders, names and values.
 const ATTRIBUTES: &str = "\
 /d busnum=1
 /d devnum=6
@@ -66,7 +68,16 @@ const ATTRIBUTES: &str = "\
 /d/1-6:1.0 bInterfaceNumber=00
 /d/1-6:1.0 bInterfaceClass=ff
 /d/1-6:1.0 bInterfaceSubClass=00
-/d/1-6:1.0 bInterfaceProtocol=00";
+/d/1-6:1.0 bInterfaceProtocol=00
+/p/usb1 busnum=1
+/p/usb1 devnum=1
+/p/usb1 idVendor=1d6b
+/p/usb1 idProduct=0002
+/p/usb1 bcdDevice=0100
+/p/usb1 version=2.00
+/p/usb1 bDeviceClass=00
+/p/usb1 bDeviceSubClass=00
+/p/usb1 bDeviceProtocol=00";
 
 /// Sets an attribute, whose line is `FOLDER NAME=VALUE`.
 fn set_attribute(tree: &mut AttrTree, line: &str) -> Result<(), NoMemory> {
@@ -75,12 +86,13 @@ fn set_attribute(tree: &mut AttrTree, line: &str) -> Result<(), NoMemory> {
     tree.attr(folder, name, value.as_bytes())
 }
 
-/// One device with one interface.
+/// One device with one interface, and a bus.
 fn set_device(tree: &mut AttrTree) -> Result<(), NoMemory> {
     for line in ATTRIBUTES.split('\n') {
         set_attribute(tree, line)?;
     }
     tree.entry("1-6", "/d")?;
+    tree.entry("usb1", "/p/usb1")?;
     tree.child("/d", "1-6:1.0")
 }
 
@@ -131,6 +143,21 @@ fn is_requested(alloc: Global, tree: &AttrTree) -> Result<bool, Fail> {
     Ok(is_found(alloc, tree, &wanted)? && !is_found(alloc, tree, &wanted[..1])?)
 }
 
+/// Whether the bus is listed alone, with its folder, its name and its root hub.
+fn is_listed(alloc: Global, tree: &AttrTree) -> Result<bool, Fail> {
+    let buses = list_buses(alloc, tree)?;
+    let is_listed = match buses.as_slice() {
+        [bus] => {
+            bus.sysfs_path() == "/p/usb1"
+                && bus.bus_id() == "001"
+                && bus.root_hub().vendor_id() == 0x1d6b
+        }
+        _ => false,
+    };
+    drop(buses);
+    Ok(is_listed)
+}
+
 /// Whether the address in a folder is not read, which is shown so.
 fn is_refused(alloc: Global, tree: &AttrTree, folder: &str, shown: &str) -> Result<bool, Fail> {
     match read_decimal(alloc, tree, folder, "devnum") {
@@ -143,10 +170,15 @@ fn is_refused(alloc: Global, tree: &AttrTree, folder: &str, shown: &str) -> Resu
     }
 }
 
-/// Whether the device is found in the tree that holds it, and a path keeps the slash at its end.
+/// Whether the bus is listed and the device found in the tree that holds them, and a path keeps the
+/// slash at its end.
 fn is_held(alloc: Global, tree: &mut AttrTree) -> Result<bool, Fail> {
     set_device(tree)?;
-    Ok(is_requested(alloc, tree)? && is_refused(alloc, tree, "/d/", "/d//devnum io 2")?)
+    Ok(
+        is_listed(alloc, tree)?
+            && is_requested(alloc, tree)?
+            && is_refused(alloc, tree, "/d/", "/d//devnum io 2")?,
+    )
 }
 
 /// The tree is owned here alone and dropped by a call, since each other function that owns one is

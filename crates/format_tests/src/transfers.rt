@@ -30,8 +30,11 @@ fn is_filled(buffer: &Buffer) -> bool {
 fn a_buffer_is_filled_copied_and_cut(rt: HostRuntime) -> Result<(), Fail> {
     let mut buffer = Buffer::new(rt.alloc(), 6)?;
     is_send_and_sync(&buffer);
+    assert!(rt; buffer.is_empty() && !buffer.is_zero_copy());
     buffer.extend_from_slice(&[1, 2]);
-    buffer.extend_fill(3, 7)[1] = 8;
+    let filled = buffer.extend_fill(3, 7);
+    assert!(rt; filled.len() == 3);
+    filled[1] = 8;
     buffer.as_mut_slice()[0] = 9;
     buffer.set_requested_len(4);
     let mut copy = buffer.clone()?;
@@ -108,6 +111,9 @@ fn is_whole(bytes: &[u8]) -> bool {
 fn a_completed_transfer_tells_its_bytes_and_its_error(rt: HostRuntime) -> Result<(), Fail> {
     let buffer = Buffer::from_slice(rt.alloc(), &[1, 2])?;
     let mut idle = Idle::new(TransferData::new(0x02, TransferType::Bulk));
+    idle.set_buffer(buffer);
+    assert!(rt; is_whole(idle.control_in_data()));
+    let buffer = idle.take_buffer();
     idle.set_completion(Completion {
         buffer,
         actual_len: 1,

@@ -4,8 +4,8 @@ use std::alloc::AllocError;
 use std::num::NonZeroU8;
 use usb_desc::{
     ConfigurationDescriptor, Descriptor, DeviceDescriptor, Direction, EndpointBitSet,
-    EndpointDescriptor, InterfaceDescriptor, TransferType, concatenated, decode_string_descriptor,
-    find_configuration, validate_string_descriptor,
+    EndpointDescriptor, InterfaceDescriptor, InterfaceDescriptors, TransferType, concatenated,
+    decode_string_descriptor, find_configuration, validate_string_descriptor,
 };
 
 /// What is asked of the bytes of a hexadecimal text.
@@ -23,6 +23,7 @@ fn write_read(out: &mut String, word: &str, bytes: &[u8]) -> Result<(), AllocErr
         "cfg" => write_configuration(out, bytes),
         "all" => write_all(out, bytes),
         "both" => write_both(out, bytes),
+        "order" => write_order(out, bytes),
         "str" => write_string(out, bytes),
         "find" => write_found(out, bytes),
         _ => write_mask(out, bytes),
@@ -157,6 +158,37 @@ fn write_interfaces(
         for setting in interface.alt_settings() {
             write_setting(out, &setting, with_details)?;
         }
+    }
+    Ok(())
+}
+
+/// Writes the number of each interface, its first setting and all of them in their order.
+fn write_order(out: &mut String, bytes: &[u8]) -> Result<(), AllocError> {
+    let Some(configuration) = ConfigurationDescriptor::new(bytes) else {
+        return out.push_str("none");
+    };
+    let Ok(interfaces) = configuration.interfaces(*out.allocator()) else {
+        return Err(AllocError);
+    };
+    out.push_str("order")?;
+    for interface in interfaces {
+        write_settings(out, &interface)?;
+    }
+    Ok(())
+}
+
+fn write_settings(out: &mut String, interface: &InterfaceDescriptors) -> Result<(), AllocError> {
+    let first = interface.first_alt_setting().alternate_setting();
+    write_numbers(
+        out,
+        &[
+            (" if ", 0, usize::from(interface.interface_number())),
+            (" first ", 0, usize::from(first)),
+        ],
+    )?;
+    out.push_str(" all")?;
+    for setting in interface.alt_settings() {
+        write_numbers(out, &[(" ", 0, usize::from(setting.alternate_setting()))])?;
     }
     Ok(())
 }

@@ -89,7 +89,7 @@ pub fn is_right_writer(alloc: Global, bus: &mut KernelBus) -> bool {
     let Ok(mut writer) = new_writer(alloc, bus) else {
         return false;
     };
-    let are_right = are_right(bus, &mut writer);
+    let are_right = are_right(bus, &mut writer) && writer.max_packet_size() == 64;
     writer.close(bus);
     are_right && has_sent(bus.kernel().journal(), &[&ELEVENS, &[1, 2]])
 }
