@@ -14,9 +14,9 @@ mod writers;
 
 use crate::devices::new_kernel;
 use crate::endpoints::bus::is_right_bus;
-use crate::endpoints::readers::{FILLS, MESSAGES, READS, is_right_reader};
+use crate::endpoints::readers::{FILLS, MESSAGES, READS, is_right_reader, takes_what_stands};
 use crate::endpoints::transfers::is_right_endpoint;
-use crate::endpoints::writers::is_right_writer;
+use crate::endpoints::writers::{is_right_writer, tells_its_packets};
 use std::alloc::Global;
 use std::io::{self, ErrorKind};
 use std::process::Abort;
@@ -63,6 +63,8 @@ enum Case {
     Fills,
     /// A writer is written to by std's trait.
     Writes,
+    /// A reader and a writer of either type are asked what they have.
+    Either,
 }
 
 /// Compares what is found on a new bus. It is owned here alone.
@@ -80,5 +82,6 @@ fn is_so(alloc: Global, bus: &mut KernelBus, case: &Case) -> bool {
         Case::Reads => is_right_reader(alloc, bus, READS),
         Case::Fills => is_right_reader(alloc, bus, FILLS),
         Case::Writes => is_right_writer(alloc, bus),
+        Case::Either => takes_what_stands(alloc, bus) && tells_its_packets(alloc, bus),
     }
 }

@@ -15,7 +15,7 @@ use std::io::{self, BufRead, ErrorKind, Read};
 use usb_bus::KernelBus;
 use usb_desc::{Fail, NoMemory};
 use usb_endpoint::Endpoint;
-use usb_io::{EndpointRead, IntoReader, ReadFault};
+use usb_io::{AnyReader, EndpointRead, IntoReader, ReadFault};
 use usb_kernel::KernelStep;
 use usb_xfer::{Bulk, In};
 
@@ -256,4 +256,16 @@ fn is_right(
         Step::ConsumeEnd => reader.until_short_packet().consume_end().is_ok(),
         Step::HasError => reader.has_error(),
     }
+}
+
+/// Whether a reader of either type takes off no more than stands, which is nothing.
+pub fn takes_what_stands(alloc: Global, bus: &mut KernelBus) -> bool {
+    let Ok(reader) = new_reader(alloc, bus) else {
+        return false;
+    };
+    let mut reader = AnyReader::Bulk(reader);
+    reader.consume_until_short(1);
+    let is_empty = reader.available() == 0;
+    reader.close(bus);
+    is_empty
 }

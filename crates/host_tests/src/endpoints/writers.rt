@@ -14,6 +14,7 @@ use usb_desc::NoMemory;
 use usb_endpoint::Endpoint;
 use usb_io::{EndpointWrite, IntoWriter};
 use usb_kernel::{Body, Event, KernelStep};
+use usb_writes::AnyWriter;
 use usb_xfer::{Bulk, Out};
 
 /// A writer of the bulk OUT endpoint 0x02 of device 0, with packets of 64 bytes and transfers of
@@ -122,4 +123,20 @@ fn is_right(bus: &mut KernelBus, writer: &mut EndpointWrite<Bulk>, step: &Step) 
         Step::Write(bytes, answer) => told(writer.on(bus).write(*bytes)) == *answer,
         Step::Flush(answer) => told(writer.on(bus).flush()) == *answer,
     }
+}
+
+/// Whether a writer of either type tells the size of its packets.
+pub fn tells_its_packets(alloc: Global, bus: &mut KernelBus) -> bool {
+    let Ok(writer) = new_writer(alloc, bus) else {
+        return false;
+    };
+    let writer = AnyWriter::Bulk(writer);
+    let is_told = writer.max_packet_size() == 64;
+    writer.close(bus);
+    is_told
+}
+
+#[test]
+fn streams_of_either_type_take_and_tell_what_they_have(rt: HostRuntime) -> Result<(), Fail> {
+    expect(&rt, rt.alloc(), &Case::Either)
 }
