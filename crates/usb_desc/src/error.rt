@@ -1,6 +1,6 @@
 //! Want of memory, which every crate answers in the same way.
 
-use std::alloc::AllocError;
+use std::alloc::{AllocError, AllocFailed};
 use std::error::Error;
 use std::fmt;
 
@@ -27,4 +27,27 @@ impl From<AllocError> for NoMemory {
 pub enum Fail<E> {
     Cause(E),
     Memory,
+}
+
+impl<E> From<NoMemory> for Fail<E> {
+    ghost use Rattle.std.specs.Prelude.{◌≡◌};
+    ghost use Rattle.usb_desc.specs.declared.error.Fail.TheVariants.{Memory};
+
+    ghost from_gives = { λ _ e. e ≡ Memory };
+
+    fn from(_error: NoMemory) -> Fail<E> {
+        Fail::Memory
+    }
+}
+
+/// A value that found no room in a list, say, is dropped.
+impl<E, T: Drop> From<AllocFailed<T>> for Fail<E> {
+    ghost use Rattle.std.specs.Prelude.{◌≡◌};
+    ghost use Rattle.usb_desc.specs.declared.error.Fail.TheVariants.{Memory};
+
+    ghost from_gives = { λ _ e. e ≡ Memory };
+
+    fn from(_error: AllocFailed<T>) -> Fail<E> {
+        Fail::Memory
+    }
 }

@@ -240,3 +240,10 @@ fn append_copies_to(items: &mut Vec<u8>, count: usize, value: u8)
         items.push_reserved(value);
     }
 }
+
+fn needs_both<T: Send + Sync>(_x: &T) {}
+
+/// A buffer may be lent to another thread, and moved there.
+pub fn buffer_is_send_and_sync(buffer: &Buffer) {
+    needs_both(buffer);
+}

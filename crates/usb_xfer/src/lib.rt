@@ -11,7 +11,7 @@ mod notify;
 mod slots;
 mod transfer;
 
-pub use buffer::Buffer;
+pub use buffer::{Buffer, buffer_is_send_and_sync};
 pub use error::{TransferError, format_os_error_code, status_word, transfer_status};
 pub use future::{Map, MapErr, MapFuture, MapOk, MapResult, MaybeFuture, Ready};
 pub use marker::{Bulk, BulkOrInterrupt, EndpointDirection, EndpointType, In, Interrupt, Out};
