@@ -6,7 +6,7 @@ use Rattle.std.proofs.lemmas.Bool.{cases_eq}
 use Rattle.std.proofs.lemmas.List.Elements.{Contains-append_left, Contains-push}
 use Rattle.std.proofs.lemmas.Option.{none-some, same_Some}
 use Rattle.usb_xfer.specs.BufferState.{BufferState}
-use Rattle.usb_host.specs.declared.controls.ControlRequest.{ControlRequest}
+use Rattle.usb_xfer.specs.declared.transfer.TransferData.{TransferData}
 use Rattle.usb_host.specs.HostState.{HostState}
 use Rattle.usb_host.specs.HostBus.{owner_at}
 use Rattle.usb_host.specs.Controls.{control_submission}
@@ -163,7 +163,7 @@ awaited-set futures n x t key free w =
       | inr apart ↦ record { name = w.name; future = w.future; at = named-set_other futures n w.name x apart ∙ w.at; key_is = w.key_is; ticket_is = w.ticket_is }
     ]
 
-accounted-start_future : (state : State) (n : ℕ) (request : ControlRequest) (timeout device : ℕ) → is_free state.futures n ≡ true → Accounted state → Accounted (with_future state n request timeout device)
+accounted-start_future : (state : State) (n : ℕ) (request : TransferData) (timeout device : ℕ) → is_free state.futures n ≡ true → Accounted state → Accounted (with_future state n request timeout device)
 accounted-start_future state n request timeout device free a =
     let s = control_submission state.host device request timeout in
     let x = fresh_future state.host request timeout in

@@ -13,7 +13,7 @@ use Rattle.usb_endpoint.specs.Handles.{Stands, KeepsOthers}
 use Rattle.usb_endpoint.proofs.Frames.{Stands-other, Stands-later}
 use Rattle.usb_ledger.specs.Entries.{control_endpoint}
 use Rattle.usb_ledger.proofs.DeviceLemmas.{counts-same}
-use Rattle.usb_host.specs.declared.controls.ControlRequest.{ControlRequest}
+use Rattle.usb_xfer.specs.declared.transfer.TransferData.{TransferData}
 use Rattle.usb_host.specs.HostState.{HostState}
 use Rattle.usb_host.specs.HostBus.{bus_of, key_at}
 use Rattle.usb_host.specs.HostCalls.{host_left}
@@ -71,7 +71,7 @@ without_key-other keys key k open_ =
     ]
 
 -- a transfer was started, awaited and taken
-module _ (h : HostState) (device : ℕ) (request : ControlRequest) (timeout : ℕ) where
+module _ (h : HostState) (device : ℕ) (request : TransferData) (timeout : ℕ) where
   abbrev future : FutureState
   future = fresh_future h request timeout
 

@@ -7,9 +7,10 @@ use Rattle.usb_simulated.specs.declared.step.KernelStep.{KernelStep}
 use Rattle.usb_error.specs.Outcomes.{result_map}
 use Rattle.usb_error.specs.declared.descriptor_error.GetDescriptorError.{GetDescriptorError}
 use Rattle.usb_error.specs.declared.descriptor_error.GetDescriptorError.TheVariants.{Transfer, InvalidDescriptor}
-use Rattle.usb_host.specs.declared.controls.ControlRequest.{ControlRequest}
+use Rattle.usb_xfer.specs.declared.transfer.TransferData.{TransferData}
 use Rattle.usb_host.specs.HostState.{HostState}
-use Rattle.usb_host.specs.Controls.{request_in, deadline_after, control_submission}
+use Rattle.usb_xfer.specs.Transfers.{request_in}
+use Rattle.usb_host.specs.Controls.{deadline_after, control_submission}
 use Rattle.usb_host.proofs.CountLemmas.{KeepsCount, CountsOneMore, rest-count}
 use Rattle.usb_host.proofs.StartedLemmas.{Parts, AddsTaken, parts-none, parts-taken, parts-abandoned, started-count, controlled-count, controlled-adds, on-awaited, awaited-count}
 use Rattle.usb_device.specs.Futures.{FutureState, taken_by, closed_by, awaited_by, future_taken, future_closed, future_awaited, future_answer}
@@ -93,7 +94,7 @@ came-other line (Some r) other = other r
 abbrev Controls : (HostState → ℕ → HostState) → Type 0
 Controls after = (h : HostState) (d : ℕ) → CountsOneMore h (after h d) × (CountsAlike h → AddsTaken h (after h d))
 
-controlled-controls : (request : ControlRequest) (timeout : ℕ) → Controls (λ h d. controlled h d request timeout)
+controlled-controls : (request : TransferData) (timeout : ℕ) → Controls (λ h d. controlled h d request timeout)
 controlled-controls request timeout h d =
     let s = control_submission h d request timeout in
     let until = deadline_after h.kernel.clock timeout in
@@ -150,14 +151,14 @@ string-does state d index language timeout steps =
     (λ h n. came-other string_line (text_answered h n (descriptor_request 3 index language) timeout) string-other)
 
 -- a request is handed in, and its future is open under a name
-start_on-does : (state : State) (n : ℕ) (request : ControlRequest) (timeout device : ℕ) → is_free state.futures n ≡ true → DoesControl state (start_on state n request timeout device)
+start_on-does : (state : State) (n : ℕ) (request : TransferData) (timeout device : ℕ) → is_free state.futures n ≡ true → DoesControl state (start_on state n request timeout device)
 start_on-does state n request timeout device free =
     cond_both (bars_control state.host.kernel.past) (barred state) (ok_answer (with_future state n request timeout device)) (DoesControl state)
     (λ yes_. barred-hands state)
     (λ no_. hands-one state (ok_answer (with_future state n request timeout device)) (started-count state.host (control_submission state.host device request timeout))
     (starts n request timeout device free (ok-does (with_future state n request timeout device))))
 
-pub start-does : (state : State) (n : ℕ) (target : ControlTarget) (request : ControlRequest) (timeout : ℕ) → DoesControl state (start_answer state n target request timeout)
+pub start-does : (state : State) (n : ℕ) (target : ControlTarget) (request : TransferData) (timeout : ℕ) → DoesControl state (start_answer state n target request timeout)
 unfolding start_answer
 start-does state n target request timeout = by (device_of_target state target)
   where

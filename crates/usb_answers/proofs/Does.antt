@@ -10,7 +10,7 @@ use Rattle.usb_error.specs.ErrorState.{ErrorState}
 use Rattle.usb_simulated.specs.declared.step.KernelStep.{KernelStep}
 use Rattle.usb_kernel.specs.Tickets.{tickets}
 use Rattle.usb_bus.specs.Completions.{transfer_completion}
-use Rattle.usb_host.specs.declared.controls.ControlRequest.{ControlRequest}
+use Rattle.usb_xfer.specs.declared.transfer.TransferData.{TransferData}
 use Rattle.usb_host.specs.HostState.{HostState}
 use Rattle.usb_host.proofs.CountLemmas.{KeepsCount, CountsOneMore, count-trans, rest-count}
 use Rattle.usb_host.proofs.FollowLemmas.{KeepsTickets, on-then, on-kept, on-rest}
@@ -82,7 +82,7 @@ pub data Acts (few : Type 0) (a : Answer) : State → List ClosedEndpoint → Li
   fits : {state : State} {closed : List ClosedEndpoint} {handed : List ℕ} → says_done a.line ≡ false → (few → Acts few a state closed handed) → Acts few a state closed handed
   reads : {state : State} {closed : List ClosedEndpoint} {handed : List ℕ} (e t : ℕ) (h : Endpoint) → 64 ≤ e → named state.endpoints e ≡ Some h → slice_get h.tickets h.taken ≡ Some t
       → says_done a.line ≡ false → Acts few a (taken_from state e t) closed handed → Acts few a state closed handed
-  starts : {state : State} {closed : List ClosedEndpoint} {handed : List ℕ} (n : ℕ) (request : ControlRequest) (timeout device : ℕ) → is_free state.futures n ≡ true
+  starts : {state : State} {closed : List ClosedEndpoint} {handed : List ℕ} (n : ℕ) (request : TransferData) (timeout device : ℕ) → is_free state.futures n ≡ true
       → Acts few a (with_future state n request timeout device) closed handed → Acts few a state closed (tickets_of state ∷ handed)
   controls : {state : State} {closed : List ClosedEndpoint} {handed : List ℕ} (host : HostState) → CountsOneMore state.host host → (CountsAlike state.host → AddsTaken state.host host)
       → Acts few a (with_host state host) closed handed → Acts few a state closed (tickets_of state ∷ handed)

@@ -15,7 +15,7 @@ use Rattle.usb_names.proofs.NameLemmas.{named-replicate}
 use Rattle.usb_answers.specs.State.{State, Reader}
 use Rattle.usb_answers.specs.ReaderAt.{endpoint_place}
 use Rattle.usb_answers.specs.Answers.{answer}
-use Rattle.usb_answers.specs.Kinds.{is_of_reader}
+use Rattle.usb_script.specs.Kinds.{is_of_reader}
 use Rattle.usb_answers.specs.Ends.{ended}
 use Rattle.usb_answers.specs.Output.{start, behind, last_host, final_host}
 use Rattle.usb_answers.specs.Behind.{ScriptsGoOn}

@@ -6,7 +6,7 @@ use Rattle.usb_xfer.specs.declared.error.TransferError.{TransferError}
 use Rattle.usb_simulated.specs.declared.step.KernelStep.{KernelStep}
 use Rattle.usb_ledger.specs.Entries.{control_endpoint}
 use Rattle.usb_ledger.proofs.DeviceLemmas.{counts-same}
-use Rattle.usb_host.specs.declared.controls.ControlRequest.{ControlRequest}
+use Rattle.usb_xfer.specs.declared.transfer.TransferData.{TransferData}
 use Rattle.usb_host.specs.HostState.{HostState}
 use Rattle.usb_host.specs.HostTurns.{host_rest}
 use Rattle.usb_host.specs.Controls.{control_submission, request_started}
@@ -33,25 +33,25 @@ use Rattle.usb_answers.proofs.FutureSessions.{sound-future_opened, sound-future_
 use Rattle.usb_names.proofs.NameLemmas.{freed-none, put-back}
 
 -- the device that is found under a name
-pub started-future : (h : HostState) (given request : ControlRequest) (nanoseconds timeout : ℕ) (o : Option ℕ) (d : ℕ) (f : FutureState) → given ≡ request → nanoseconds ≡ timeout → o ≡ Some d → f ≡ fresh_future h given nanoseconds → Some f ≡ started_future h request timeout o
+pub started-future : (h : HostState) (given request : TransferData) (nanoseconds timeout : ℕ) (o : Option ℕ) (d : ℕ) (f : FutureState) → given ≡ request → nanoseconds ≡ timeout → o ≡ Some d → f ≡ fresh_future h given nanoseconds → Some f ≡ started_future h request timeout o
 started-future h given request nanoseconds timeout o d f same also some fresh =
     rw some (ap (λ x. Some x) (fresh ∙ ap (λ r. fresh_future h r nanoseconds) same ∙ ap (fresh_future h request) also))
 
-pub started-host : (h now : HostState) (given request : ControlRequest) (nanoseconds timeout : ℕ) (o : Option ℕ) (d : ℕ) → given ≡ request → nanoseconds ≡ timeout → o ≡ Some d → now ≡ request_started h d given nanoseconds → now ≡ started_host h request timeout o
+pub started-host : (h now : HostState) (given request : TransferData) (nanoseconds timeout : ℕ) (o : Option ℕ) (d : ℕ) → given ≡ request → nanoseconds ≡ timeout → o ≡ Some d → now ≡ request_started h d given nanoseconds → now ≡ started_host h request timeout o
 started-host h now given request nanoseconds timeout o d same also some is =
     rw some (is ∙ ap (λ r. request_started h d r nanoseconds) same ∙ ap (request_started h d request) also)
 
 -- a start that found what is open under a name
-record Begun (o : Option ℕ) (f : FutureState) (h : HostState) (request : ControlRequest) (timeout : ℕ) : Type 0 where
+record Begun (o : Option ℕ) (f : FutureState) (h : HostState) (request : TransferData) (timeout : ℕ) : Type 0 where
   device : ℕ
   some : o ≡ Some device
   fresh : f ≡ fresh_future h request timeout
 
-begun : (o : Option ℕ) (f : FutureState) (h : HostState) (request : ControlRequest) (timeout : ℕ) → Some f ≡ started_future h request timeout o → Begun o f h request timeout
+begun : (o : Option ℕ) (f : FutureState) (h : HostState) (request : TransferData) (timeout : ℕ) → Some f ≡ started_future h request timeout o → Begun o f h request timeout
 begun None f h request timeout is = absurd (cc)
 begun (Some d) f h request timeout is = record { device = d; some = refl; fresh = same_Some f (fresh_future h request timeout) is }
 
-keeps-started : (h : HostState) (device : ℕ) (request : ControlRequest) (timeout : ℕ) → h.steps ≡ [] → KeepsSession h (request_started h device request timeout)
+keeps-started : (h : HostState) (device : ℕ) (request : TransferData) (timeout : ℕ) → h.steps ≡ [] → KeepsSession h (request_started h device request timeout)
 keeps-started h device request timeout idle =
     let stays = stays-started h device request timeout in
     record {
@@ -61,7 +61,7 @@ keeps-started h device request timeout idle =
       interfaces = stays.interfaces;
     }
 
-pub start-sound : (s : SessionState) (now : HostState) (after : List (Option FutureState)) (n : ℕ) (f : FutureState) (request : ControlRequest) (timeout : ℕ) (o : Option ℕ) → IsSound s → is_free s.futures n ≡ true → after ≡ set_name s.futures n f → Some f ≡ started_future s.host request timeout o → now ≡ started_host s.host request timeout o → StandsFuture now f → IsSound (record s { host = now; futures = after })
+pub start-sound : (s : SessionState) (now : HostState) (after : List (Option FutureState)) (n : ℕ) (f : FutureState) (request : TransferData) (timeout : ℕ) (o : Option ℕ) → IsSound s → is_free s.futures n ≡ true → after ≡ set_name s.futures n f → Some f ≡ started_future s.host request timeout o → now ≡ started_host s.host request timeout o → StandsFuture now f → IsSound (record s { host = now; futures = after })
 start-sound s now after n f request timeout o sound free put future is stands =
     let b = begun o f s.host request timeout future in
     let then_ : HostState = request_started s.host b.device request timeout in
@@ -72,14 +72,14 @@ start-sound s now after n f request timeout o sound free put future is stands =
     (subst (λ (z : FutureState). IsSome z.ticket) (sym b.fresh) refl) (subst (λ (h : HostState). StandsFuture h f) host stands)
     (keeps-started s.host b.device request timeout sound.idle) (others-started s.host b.device request timeout f.key) (started-endpoints s.host submission))
 
-pub start-spare : (h now : HostState) (request : ControlRequest) (timeout : ℕ) (o : Option ℕ) → now ≡ started_host h request timeout o → now.kernel.spare ≡ h.kernel.spare
+pub start-spare : (h now : HostState) (request : TransferData) (timeout : ℕ) (o : Option ℕ) → now ≡ started_host h request timeout o → now.kernel.spare ≡ h.kernel.spare
 start-spare h now request timeout o is = ap (λ (g : HostState). g.kernel.spare) is ∙ by o
   where
     by : (o : Option ℕ) → (started_host h request timeout o).kernel.spare ≡ h.kernel.spare
     by None = refl
     by (Some device) = (stays-started h device request timeout).line.spare
 
-pub start-gives : (s : SessionState) (state : State) (now : HostState) (after : List (Option FutureState)) (n : ℕ) (f : FutureState) (request : ControlRequest) (timeout : ℕ) (target : ControlTarget) (o : Option ℕ) → Represents s state → bars_control s.host.kernel.past ≡ false → is_free s.futures n ≡ true → o ≡ number_of_target s.host s.devices s.interfaces target → after ≡ set_name s.futures n f → Some f ≡ started_future s.host request timeout o → now ≡ started_host s.host request timeout o → Gives (record s { host = now; futures = after }) ok_line (start_answer state n target request timeout)
+pub start-gives : (s : SessionState) (state : State) (now : HostState) (after : List (Option FutureState)) (n : ℕ) (f : FutureState) (request : TransferData) (timeout : ℕ) (target : ControlTarget) (o : Option ℕ) → Represents s state → bars_control s.host.kernel.past ≡ false → is_free s.futures n ≡ true → o ≡ number_of_target s.host s.devices s.interfaces target → after ≡ set_name s.futures n f → Some f ≡ started_future s.host request timeout o → now ≡ started_host s.host request timeout o → Gives (record s { host = now; futures = after }) ok_line (start_answer state n target request timeout)
 unfolding start_answer
 start-gives s state now after n f request timeout target o r bars free number put future is =
     let b = begun o f s.host request timeout future in
@@ -100,31 +100,31 @@ start-gives s state now after n f request timeout target o r bars free number pu
     })
 
 -- one that found nothing
-none-begun : (o : Option ℕ) (h : HostState) (request : ControlRequest) (timeout : ℕ) → None ≡ started_future h request timeout o → o ≡ None
+none-begun : (o : Option ℕ) (h : HostState) (request : TransferData) (timeout : ℕ) → None ≡ started_future h request timeout o → o ≡ None
 none-begun None h request timeout is = refl
 none-begun (Some d) h request timeout is = absurd (cc)
 
-none-host : (h now : HostState) (request : ControlRequest) (timeout : ℕ) (o : Option ℕ) → None ≡ started_future h request timeout o → now ≡ started_host h request timeout o → now ≡ h
+none-host : (h now : HostState) (request : TransferData) (timeout : ℕ) (o : Option ℕ) → None ≡ started_future h request timeout o → now ≡ started_host h request timeout o → now ≡ h
 none-host h now request timeout o none is = is ∙ ap (started_host h request timeout) (none-begun o h request timeout none)
 
-barred-by : (s : SessionState) (state : State) (n : ℕ) (request : ControlRequest) (timeout : ℕ) (o : Option ℕ) → Represents s state → ((device : ℕ) → o ≡ Some device → Gives s condition_line (if is_free state.futures n then start_on state n request timeout device else barred state)) → Gives s condition_line (if_open o (λ device. if is_free state.futures n then start_on state n request timeout device else barred state) (barred state))
+barred-by : (s : SessionState) (state : State) (n : ℕ) (request : TransferData) (timeout : ℕ) (o : Option ℕ) → Represents s state → ((device : ℕ) → o ≡ Some device → Gives s condition_line (if is_free state.futures n then start_on state n request timeout device else barred state)) → Gives s condition_line (if_open o (λ device. if is_free state.futures n then start_on state n request timeout device else barred state) (barred state))
 barred-by s state n request timeout None r gives = barred-gives s state r
 barred-by s state n request timeout (Some device) r gives = gives device refl
 
-pub start-none : (s : SessionState) (state : State) (now : HostState) (n : ℕ) (request : ControlRequest) (timeout : ℕ) (target : ControlTarget) (o : Option ℕ) → Represents s state → o ≡ number_of_target s.host s.devices s.interfaces target → None ≡ started_future s.host request timeout o → now ≡ started_host s.host request timeout o → Gives (record s { host = now }) condition_line (start_answer state n target request timeout)
+pub start-none : (s : SessionState) (state : State) (now : HostState) (n : ℕ) (request : TransferData) (timeout : ℕ) (target : ControlTarget) (o : Option ℕ) → Represents s state → o ≡ number_of_target s.host s.devices s.interfaces target → None ≡ started_future s.host request timeout o → now ≡ started_host s.host request timeout o → Gives (record s { host = now }) condition_line (start_answer state n target request timeout)
 unfolding start_answer
 start-none s state now n request timeout target o r number none is =
     let there : device_of_target state target ≡ None = number-is s state target r ∙ sym number ∙ none-begun o s.host request timeout none in
     let same : s.host ≡ now = sym (none-host s.host now request timeout o none is) in
     rw there (subst (λ (h : HostState). Gives (record s { host = h }) condition_line (barred state)) same (barred-gives s state r))
 
-pub start-used : (s : SessionState) (state : State) (n : ℕ) (request : ControlRequest) (timeout : ℕ) (target : ControlTarget) → Represents s state → is_free s.futures n ≡ false → Gives s condition_line (start_answer state n target request timeout)
+pub start-used : (s : SessionState) (state : State) (n : ℕ) (request : TransferData) (timeout : ℕ) (target : ControlTarget) → Represents s state → is_free s.futures n ≡ false → Gives s condition_line (start_answer state n target request timeout)
 unfolding start_answer
 start-used s state n request timeout target r used =
     let there : is_free state.futures n ≡ false = ap (λ (v : SessionState). is_free v.futures n) (sym r.is) ∙ used in
     barred-by s state n request timeout (device_of_target state target) r (λ device some. rw there (barred-gives s state r))
 
-pub start-bars : (s : SessionState) (state : State) (n : ℕ) (request : ControlRequest) (timeout : ℕ) (target : ControlTarget) → Represents s state → bars_control s.host.kernel.past ≡ true → Gives s condition_line (start_answer state n target request timeout)
+pub start-bars : (s : SessionState) (state : State) (n : ℕ) (request : TransferData) (timeout : ℕ) (target : ControlTarget) → Represents s state → bars_control s.host.kernel.past ≡ true → Gives s condition_line (start_answer state n target request timeout)
 unfolding start_answer
 start-bars s state n request timeout target r bars =
     let there : bars_control state.host.kernel.past ≡ true = ap (λ (h : HostState). bars_control h.kernel.past) (sym (host_is s state r)) ∙ bars in

@@ -21,7 +21,7 @@ use Rattle.usb_words.specs.declared.control.ControlTarget.{ControlTarget}
 use Rattle.usb_words.specs.EndpointKinds.{transfer_type_of, direction_of}
 use Rattle.usb_script.specs.declared.item.Item.{Item}
 use Rattle.usb_script.specs.declared.item.Item.TheVariants as item
-use Rattle.usb_host.specs.declared.controls.ControlRequest.{ControlRequest}
+use Rattle.usb_xfer.specs.declared.transfer.TransferData.{TransferData}
 use Rattle.usb_host.specs.HostState.{HostState}
 use Rattle.usb_host.specs.HostWaits.{host_waited}
 use Rattle.usb_host.specs.Owners.{is_shared}
@@ -61,7 +61,7 @@ use Rattle.usb_answers.specs.Futures.{with_future, start_on, future_polled, futu
 use Rattle.usb_answers.specs.Steps.{lent, then_rested, stepped_all, steps_answer}
 use Rattle.usb_answers.specs.Buffers.{in_buffer, out_buffer}
 use Rattle.usb_answers.specs.Answers.{answer}
-use Rattle.usb_answers.specs.Kinds.{is_of_reader, is_of_writer}
+use Rattle.usb_script.specs.Kinds.{is_of_reader, is_of_writer}
 
 -- the places of the endpoints of readers and writers
 pub record IsStreamed (p : ℕ) : Type 0 where
@@ -355,7 +355,7 @@ control-leaves after line state target steps =
     stepping-leaves (device_of_target state target) (control_on after line now) (λ device.
     bar-leaves now (bars_control now.host.kernel.past) (told (with_host now (after now.host device)) (line now.host device)) (still refl refl refl))
 
-start-leaves : (state : State) (n : ℕ) (target : ControlTarget) (request : ControlRequest) (timeout : ℕ) → Leaves state (start_answer state n target request timeout)
+start-leaves : (state : State) (n : ℕ) (target : ControlTarget) (request : TransferData) (timeout : ℕ) → Leaves state (start_answer state n target request timeout)
 unfolding start_answer
 start-leaves state n target request timeout =
     on-leaves (device_of_target state target) _ (λ device.

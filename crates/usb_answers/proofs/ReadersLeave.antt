@@ -28,7 +28,7 @@ use Rattle.usb_answers.specs.Readers.{as_streamed, with_reader, is_free_reader, 
 use Rattle.usb_answers.specs.Reads.{is_until_short, consumed_with, bytes_given, bars_read, given_line, polled_given_line, read_as, filled_as, read_on, read_answer, poll_read_on, poll_read_answer, fill_on, fill_answer, poll_fill_on, poll_fill_answer, read_off, consume_on, consume_answer, is_end_answer, consume_end_on, consume_end_answer}
 use Rattle.usb_answers.specs.Steps.{lent, then_rested, stepped_all}
 use Rattle.usb_answers.specs.Answers.{answer}
-use Rattle.usb_answers.specs.Kinds.{is_of_writer}
+use Rattle.usb_script.specs.Kinds.{is_of_writer}
 use Rattle.usb_answers.proofs.OtherLines.{IsApart, place-apart, is_streamed, others-leave}
 use Rattle.usb_answers.proofs.StreamPlaces.{small-name, free-small, writer-streamed, writer-reader_apart, LeavesWriters, writers-left, length-changed}
 use Rattle.usb_answers.proofs.FramedReaders.{parts-of}

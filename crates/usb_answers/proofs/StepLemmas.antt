@@ -10,7 +10,7 @@ use Rattle.std.proofs.lemmas.List.Elements.{All-append, All-nil, All-cons}
 use Rattle.usb_xfer.specs.BufferState.{BufferState}
 use Rattle.usb_kernel.specs.Tickets.{tickets}
 use Rattle.usb_endpoint.specs.Submits.{entered}
-use Rattle.usb_host.specs.declared.controls.ControlRequest.{ControlRequest}
+use Rattle.usb_xfer.specs.declared.transfer.TransferData.{TransferData}
 use Rattle.usb_host.specs.HostState.{HostState}
 use Rattle.usb_host.specs.Controls.{control_submission, request_started}
 use Rattle.usb_host.specs.HostCalls.{host_submitted, host_refused}
@@ -295,7 +295,7 @@ step-close state e h lines inv here =
     pending-few h u = times-drop h.taken h.tickets u
 
 -- a control transfer is handed in, and its future is open under a name
-pub step-start : (state : State) (n : ℕ) (request : ControlRequest) (timeout device : ℕ) → Inv state → is_free state.futures n ≡ true → Step state (with_future state n request timeout device) [] (tickets_of state ∷ [])
+pub step-start : (state : State) (n : ℕ) (request : TransferData) (timeout device : ℕ) → Inv state → is_free state.futures n ≡ true → Step state (with_future state n request timeout device) [] (tickets_of state ∷ [])
 unfolding set_name
 step-start state n request timeout device inv free =
     let m = tickets_of state in

@@ -24,7 +24,7 @@ use Rattle.usb_answers.specs.Writers.{with_writer, is_free_writer, writer_on, wr
 use Rattle.usb_answers.specs.Writes.{called_as, write_on, write_answer, poll_write_on, poll_write_answer, submit_buffer_on, submit_buffer_answer, submit_end_on, submit_end_answer, flush_on, flush_answer, poll_flush_on, poll_flush_answer, flush_end_on, flush_end_answer, poll_flush_end_on, poll_flush_end_answer}
 use Rattle.usb_answers.specs.Steps.{lent, then_rested, stepped_all}
 use Rattle.usb_answers.specs.Answers.{answer}
-use Rattle.usb_answers.specs.Kinds.{is_of_reader}
+use Rattle.usb_script.specs.Kinds.{is_of_reader}
 use Rattle.usb_answers.proofs.OtherLines.{IsApart, place-apart, is_streamed, others-leave}
 use Rattle.usb_answers.proofs.StreamPlaces.{reader-streamed, reader-writer_apart, LeavesReaders, readers-left}
 

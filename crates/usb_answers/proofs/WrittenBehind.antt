@@ -9,7 +9,7 @@ use Rattle.usb_names.proofs.NameLemmas.{named-replicate}
 use Rattle.usb_answers.specs.State.{State, Reader, Writer}
 use Rattle.usb_answers.specs.ReaderAt.{endpoint_place}
 use Rattle.usb_answers.specs.Answers.{answer}
-use Rattle.usb_answers.specs.Kinds.{is_of_writer}
+use Rattle.usb_script.specs.Kinds.{is_of_writer}
 use Rattle.usb_answers.specs.Output.{start, behind}
 use Rattle.usb_answers.specs.Behind.{ScriptsGoOn}
 use Rattle.usb_answers.specs.WrittenScripts.{ScriptsAreWritten}

@@ -2,14 +2,16 @@
 use Rattle.std.specs.Prelude.{ℕ, nat_le, Bool, List, [], length, Option, if◌then◌else◌}
 use Rattle.std.specs.Option.{option_map, option_map_or}
 use Rattle.usb_desc.specs.declared.types.Direction.TheVariants.{Out}
+use Rattle.usb_desc.specs.declared.types.TransferType.TheVariants.{Control}
 use Rattle.usb_desc.specs.Setup.{packet, request_type}
+use Rattle.usb_xfer.specs.declared.transfer.Held.TheVariants.{Request}
 use Rattle.usb_kernel.specs.declared.event.Event.{Event}
 use Rattle.usb_kernel.specs.Info.{unreaped}
 use Rattle.usb_simulated.specs.declared.step.KernelStep.{KernelStep}
 use Rattle.usb_error.specs.Outcomes.{result_map}
-use Rattle.usb_host.specs.declared.controls.ControlRequest.{ControlRequest}
+use Rattle.usb_xfer.specs.declared.transfer.TransferData.{TransferData}
 use Rattle.usb_host.specs.HostState.{HostState}
-use Rattle.usb_host.specs.Controls.{request_in}
+use Rattle.usb_xfer.specs.Transfers.{request_in}
 use Rattle.usb_device.specs.ControlCalls.{controlled, control_answered}
 use Rattle.usb_device.specs.DescriptorCalls.{descriptor_request, descriptor_asked, descriptor_answered, languages_answered, text_answered}
 use Rattle.usb_words.specs.declared.control.Setup.{Setup}
@@ -31,16 +33,16 @@ abbrev pub bars_control : List Event → Bool
 bars_control past = nat_le 1024 (unreaped past)
 
 -- the request of a line for so many bytes
-abbrev pub request_for : Setup → ℕ → ControlRequest
+abbrev pub request_for : Setup → ℕ → TransferData
 request_for setup wanted = request_in (control_in_of setup wanted)
 
 -- and that of one that sends these bytes
-abbrev pub request_with : Setup → List ℕ → ControlRequest
+abbrev pub request_with : Setup → List ℕ → TransferData
 request_with setup bytes =
     record {
-      direction = Out;
-      setup = packet (request_type Out setup.control_type setup.recipient) setup.request setup.value setup.index (length bytes);
-      buffer = record { bytes = bytes; requested = length bytes; room = length bytes };
+      endpoint = 0;
+      kind = Control;
+      held = Request (packet (request_type Out setup.control_type setup.recipient) setup.request setup.value setup.index (length bytes)) (record { bytes = bytes; requested = length bytes; room = length bytes });
     }
 
 -- a call on a device of this number: what it makes of the host, and what it prints

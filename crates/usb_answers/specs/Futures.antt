@@ -2,7 +2,7 @@
 use Rattle.std.specs.Prelude.{ℕ, List, Option, Some, None, Result, if◌then◌else◌}
 use Rattle.usb_xfer.specs.declared.error.TransferError.{TransferError}
 use Rattle.usb_simulated.specs.declared.step.KernelStep.{KernelStep}
-use Rattle.usb_host.specs.declared.controls.ControlRequest.{ControlRequest}
+use Rattle.usb_xfer.specs.declared.transfer.TransferData.{TransferData}
 use Rattle.usb_host.specs.HostState.{HostState}
 use Rattle.usb_host.specs.Controls.{request_started}
 use Rattle.usb_device.specs.Futures.{FutureState, fresh_future, future_taken, future_awaited, future_answer}
@@ -15,19 +15,19 @@ use Rattle.usb_answers.specs.Controls.{device_of_target, bars_control, came_line
 use Rattle.usb_answers.specs.Steps.{lent, then_rested, stepped_all}
 
 -- a request is handed in to a device, and its future is open under a name
-abbrev pub with_future : State → ℕ → ControlRequest → ℕ → ℕ → State
+abbrev pub with_future : State → ℕ → TransferData → ℕ → ℕ → State
 with_future state n request timeout device =
     record state {
       host = request_started state.host device request timeout;
       futures = set_name state.futures n (fresh_future state.host request timeout);
     }
 
-abbrev pub start_on : State → ℕ → ControlRequest → ℕ → ℕ → Answer
+abbrev pub start_on : State → ℕ → TransferData → ℕ → ℕ → Answer
 start_on state n request timeout device =
     if bars_control state.host.kernel.past then barred state else ok_answer (with_future state n request timeout device)
 
 -- `fin` and `fout` are barred where the name of the future is in use, and where a control transfer is
-unfoldable pub start_answer : State → ℕ → ControlTarget → ControlRequest → ℕ → Answer
+unfoldable pub start_answer : State → ℕ → ControlTarget → TransferData → ℕ → Answer
 start_answer state n target request timeout =
     if_open (device_of_target state target) (λ device. if is_free state.futures n then start_on state n request timeout device else barred state) (barred state)
 

@@ -48,7 +48,6 @@ pub mod WriterCalls
 pub mod TargetCalls
 pub mod SessionFacts
 pub mod AnyOpened
-pub mod Kinds
 pub mod Accounts
 pub mod FinalFates
 pub mod Places

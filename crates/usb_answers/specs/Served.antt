@@ -19,7 +19,7 @@ use Rattle.usb_names.specs.Names.{named}
 use Rattle.usb_answers.specs.State.{State, Endpoint, tickets_of}
 use Rattle.usb_answers.specs.ReaderAt.{endpoint_place, reader_place}
 use Rattle.usb_answers.specs.WriterAt.{writer_place}
-use Rattle.usb_answers.specs.Kinds.{is_of_control}
+use Rattle.usb_script.specs.Kinds.{is_of_control}
 use Rattle.usb_answers.specs.Answer.{Answer}
 use Rattle.usb_answers.specs.Answers.{answer}
 use Rattle.usb_answers.specs.Ends.{readers_closed, writers_closed, endpoints_closed}

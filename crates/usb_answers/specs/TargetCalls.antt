@@ -11,7 +11,7 @@ use Rattle.usb_endpoint.specs.EndpointState.{EndpointState}
 use Rattle.usb_endpoint.specs.Handles.{Stands}
 use Rattle.usb_ledger.specs.declared.opened.OpenDevice.{OpenDevice}
 use Rattle.usb_ledger.specs.Entries.{ClaimedInterface}
-use Rattle.usb_host.specs.declared.controls.ControlRequest.{ControlRequest}
+use Rattle.usb_xfer.specs.declared.transfer.TransferData.{TransferData}
 use Rattle.usb_host.specs.HostState.{HostState}
 use Rattle.usb_host.specs.HostBus.{bus_of, key_at}
 use Rattle.usb_host.specs.HostFrames.{ClaimsGoOn}
@@ -75,10 +75,10 @@ as_tried (Ok x) = Ok x
 as_tried (Err error) = Err (Cause error)
 
 -- the host once a request was handed in to the device of a number, where there is one
-abbrev pub started_host : HostState → ControlRequest → ℕ → Option ℕ → HostState
+abbrev pub started_host : HostState → TransferData → ℕ → Option ℕ → HostState
 started_host h request timeout None = h
 started_host h request timeout (Some device) = request_started h device request timeout
 
 -- and its future
-abbrev pub started_future : HostState → ControlRequest → ℕ → Option ℕ → Option FutureState
+abbrev pub started_future : HostState → TransferData → ℕ → Option ℕ → Option FutureState
 started_future h request timeout number = option_map (λ device. fresh_future h request timeout) number

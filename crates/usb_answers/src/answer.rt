@@ -5,7 +5,7 @@ ghost use Rattle.usb_script.specs.ItemKinds.{places_in};
 ghost use Rattle.usb_answers.specs.State.{State};
 ghost use Rattle.usb_answers.specs.Answered.{Answers};
 ghost use Rattle.usb_answers.specs.Answers.{answer};
-ghost use Rattle.usb_answers.specs.Kinds.{is_of_endpoint, is_of_interface, is_of_handle, is_of_reader, sets_reader, is_of_writer, sets_writer, is_of_control, asks_descriptor, is_of_tree};
+ghost use Rattle.usb_script.specs.Kinds.{is_of_endpoint, is_of_interface, is_of_handle, is_of_reader, sets_reader, is_of_writer, sets_writer, is_of_control, asks_descriptor, is_of_tree};
 
 use crate::reader_calls::ReaderCall;
 use crate::session::Session;

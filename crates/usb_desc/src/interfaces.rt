@@ -6,6 +6,7 @@ ghost use Rattle.std.specs.Iterator.{YieldsFirst, item_count};
 ghost use Rattle.usb_desc.specs.Fields.{interface_number};
 ghost use Rattle.usb_desc.specs.Interfaces as spec;
 
+use crate::error::NoMemory;
 use crate::interface::{AltSettings, InterfaceDescriptor};
 use std::alloc::{AllocError, Global};
 use std::marker::Model;
@@ -72,6 +73,14 @@ impl<'a> InterfaceDescriptors<'a> {
         ensures any { self.now ≢ [] }
     {
         self.settings[0].copy()
+    }
+
+    /// A copy of the interface: its settings stand for the same bytes.
+    pub fn clone(&self) -> Result<InterfaceDescriptors<'a>, NoMemory>
+        ensures same { IfOk result (λ copy. copy ≡ self.now) }
+    {
+        let settings = self.settings.clone()?;
+        Ok(InterfaceDescriptors { settings })
     }
 }
 

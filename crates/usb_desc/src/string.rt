@@ -4,6 +4,7 @@ ghost use Rattle.std.specs.Prelude.{◌≡◌, ◌<◌, ◌+◌, ◌↔◌, IfOk
 ghost use Rattle.std.specs.Iterator.{YieldsFirst, item_count};
 ghost use Rattle.usb_desc.specs.Strings as spec;
 
+use crate::error::NoMemory;
 use crate::layout::{STRING_TYPE, read_word};
 use std::alloc::{AllocError, Global};
 use std::error::Error;
@@ -131,6 +132,14 @@ impl Languages {
         ensures items { result ≡ spec.words_of_string bytes.items }
     {
         Languages { bytes, at: 2 }
+    }
+
+    /// A copy that has the same languages left.
+    pub fn clone(&self) -> Result<Languages, NoMemory>
+        ensures same { IfOk result (λ copy. copy ≡ self.now) }
+    {
+        let bytes = self.bytes.clone()?;
+        Ok(Languages { bytes, at: self.at })
     }
 }
 

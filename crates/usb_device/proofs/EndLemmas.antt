@@ -319,6 +319,7 @@ ends_stay =
       rest = rest-ends;
       turn = turned-ends;
       reap = reaped-ends;
+      timer = λ h t end at. at;
       idle = λ h until t end at. at;
       submit = submitted-ends;
       refuse = refused-ends;

@@ -15,7 +15,7 @@ use Rattle.usb_bus.specs.BusState.{BusState, without_owner, without_key}
 use Rattle.usb_bus.specs.Completions.{completion_of, transfer_completion}
 use Rattle.usb_endpoint.specs.Handles.{KeepsOthers}
 use Rattle.usb_registry.proofs.SerialLemmas.{cases_Option}
-use Rattle.usb_host.specs.declared.controls.ControlRequest.{ControlRequest}
+use Rattle.usb_xfer.specs.declared.transfer.TransferData.{TransferData}
 use Rattle.usb_host.specs.HostState.{HostState}
 use Rattle.usb_host.specs.HostBus.{bus_of, owner_at, key_at}
 use Rattle.usb_host.specs.HostCalls.{host_left}
@@ -51,24 +51,24 @@ pub interface-stays : (h g : HostState) (i : InterfaceState) → ClaimsGoOn h.in
 interface-stays h g i goes same stands = StandsInterface-same h g i goes (there-same h.devices g.devices same) stands
 
 -- a start
-pub stays-started : (h : HostState) (device : ℕ) (request : ControlRequest) (timeout : ℕ) → HandlesStay h (request_started h device request timeout)
+pub stays-started : (h : HostState) (device : ℕ) (request : TransferData) (timeout : ℕ) → HandlesStay h (request_started h device request timeout)
 stays-started h device request timeout =
     let s = control_submission h device request timeout in
     record { line = started-line h s; interfaces = goes-same h.interfaces (host_started h s).interfaces (started-interfaces h s); past = started-past h s }
 
-pub others-started : (h : HostState) (device : ℕ) (request : ControlRequest) (timeout key : ℕ) → KeepsOthers (bus_of h) (bus_of (request_started h device request timeout)) key
+pub others-started : (h : HostState) (device : ℕ) (request : TransferData) (timeout key : ℕ) → KeepsOthers (bus_of h) (bus_of (request_started h device request timeout)) key
 others-started h device request timeout key = started-others h (control_submission h device request timeout) key
 
-pub device-started : (h : HostState) (device key : ℕ) (request : ControlRequest) (timeout : ℕ) → StandsDevice h key → StandsDevice (request_started h device request timeout) key
+pub device-started : (h : HostState) (device key : ℕ) (request : TransferData) (timeout : ℕ) → StandsDevice h key → StandsDevice (request_started h device request timeout) key
 device-started h device key request timeout stands = device-stays h (request_started h device request timeout) key (stays-started h device request timeout).line.devices stands
 
-pub interface-started : (h : HostState) (device : ℕ) (i : InterfaceState) (request : ControlRequest) (timeout : ℕ) → StandsInterface h i → StandsInterface (request_started h device request timeout) i
+pub interface-started : (h : HostState) (device : ℕ) (i : InterfaceState) (request : TransferData) (timeout : ℕ) → StandsInterface h i → StandsInterface (request_started h device request timeout) i
 interface-started h device i request timeout stands =
     let stays = stays-started h device request timeout in
     interface-stays h (request_started h device request timeout) i stays.interfaces stays.line.devices stands
 
 -- its future stands
-pub started-stands : (h : HostState) (device : ℕ) (request : ControlRequest) (timeout : ℕ) → length h.tickets ≡ length (tickets h.kernel.past) → StandsFuture (request_started h device request timeout) (fresh_future h request timeout)
+pub started-stands : (h : HostState) (device : ℕ) (request : TransferData) (timeout : ℕ) → length h.tickets ≡ length (tickets h.kernel.past) → StandsFuture (request_started h device request timeout) (fresh_future h request timeout)
 started-stands h device request timeout count =
     let s = control_submission h device request timeout in
     let n = length (tickets h.kernel.past) in
@@ -157,13 +157,13 @@ pub others-closed : (h : HostState) (f : FutureState) → StandsFuture h f → K
 others-closed h f stands = closed_by-others h f.key f.ticket (λ t is. (stands.on_its_way t is).held)
 
 -- a control transfer that is started and awaited
-pub controlled-devices : (h : HostState) (device : ℕ) (request : ControlRequest) (timeout : ℕ) → (controlled h device request timeout).devices ≡ h.devices
+pub controlled-devices : (h : HostState) (device : ℕ) (request : TransferData) (timeout : ℕ) → (controlled h device request timeout).devices ≡ h.devices
 controlled-devices h device request timeout =
     let f = fresh_future h request timeout in
     let g = request_awaited h device request timeout in
     (stays-taken g f).line.devices ∙ ((went-future (request_started h device request timeout) f).line.devices ∙ (stays-started h device request timeout).line.devices)
 
-pub controlled-interfaces : (h : HostState) (device : ℕ) (request : ControlRequest) (timeout : ℕ) → ClaimsGoOn h.interfaces (controlled h device request timeout).interfaces
+pub controlled-interfaces : (h : HostState) (device : ℕ) (request : TransferData) (timeout : ℕ) → ClaimsGoOn h.interfaces (controlled h device request timeout).interfaces
 controlled-interfaces h device request timeout =
     let f = fresh_future h request timeout in
     let s = request_started h device request timeout in
@@ -171,10 +171,10 @@ controlled-interfaces h device request timeout =
     goes-trans h.interfaces s.interfaces (controlled h device request timeout).interfaces (stays-started h device request timeout).interfaces
     (goes-trans s.interfaces g.interfaces (future_taken g f).interfaces (went-future s f).line.interfaces (stays-taken g f).interfaces)
 
-pub device-controlled : (h : HostState) (device key : ℕ) (request : ControlRequest) (timeout : ℕ) → StandsDevice h key → StandsDevice (controlled h device request timeout) key
+pub device-controlled : (h : HostState) (device key : ℕ) (request : TransferData) (timeout : ℕ) → StandsDevice h key → StandsDevice (controlled h device request timeout) key
 device-controlled h device key request timeout stands = device-stays h (controlled h device request timeout) key (controlled-devices h device request timeout) stands
 
-pub interface-controlled : (h : HostState) (device : ℕ) (i : InterfaceState) (request : ControlRequest) (timeout : ℕ) → StandsInterface h i → StandsInterface (controlled h device request timeout) i
+pub interface-controlled : (h : HostState) (device : ℕ) (i : InterfaceState) (request : TransferData) (timeout : ℕ) → StandsInterface h i → StandsInterface (controlled h device request timeout) i
 interface-controlled h device i request timeout stands =
     interface-stays h (controlled h device request timeout) i (controlled-interfaces h device request timeout) (controlled-devices h device request timeout) stands
 
@@ -227,7 +227,7 @@ future-same h g f same stands =
 pub future-within : (h : HostState) (f : FutureState) (t : ℕ) → IsOnItsWay h f t → f.key < length h.endpoints
 future-within h f t way = key-within h.endpoints f.key way.key_is_open
 
-pub future-started : (h : HostState) (device : ℕ) (request : ControlRequest) (timeout : ℕ) (f : FutureState) → StandsFuture h f → StandsFuture (request_started h device request timeout) f
+pub future-started : (h : HostState) (device : ℕ) (request : TransferData) (timeout : ℕ) (f : FutureState) → StandsFuture h f → StandsFuture (request_started h device request timeout) f
 future-started h device request timeout f stands =
     let g = request_started h device request timeout in
     future-stays h g f (suc f.key) (λ same. absurd (omega (arith, same))) (others-started h device request timeout (suc f.key)) (stays-started h device request timeout).past stands

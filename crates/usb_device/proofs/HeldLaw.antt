@@ -20,7 +20,7 @@ use Rattle.usb_host.specs.HostState.{HostState}
 use Rattle.usb_host.specs.HostFrames.{ClaimsGoOn}
 use Rattle.usb_host.specs.TicketEnds.{ended_as, host_ended, host_taken, given_up, host_abandoned, came}
 use Rattle.usb_host.specs.HostTurns.{with_past, host_stepped, host_reaped, host_turned, host_rest}
-use Rattle.usb_host.specs.HostCalls.{host_submitted, host_refused, host_discarded, host_left, host_idled}
+use Rattle.usb_host.specs.HostCalls.{host_submitted, host_refused, host_discarded, host_left, host_timed, host_idled}
 use Rattle.usb_host.specs.HostWaits.{is_found, reap_and, host_waited}
 use Rattle.usb_host.specs.HostBlocking.{host_blocked}
 use Rattle.usb_host.specs.HostAwaits.{sought_reaps, sought_steps, host_awaited}
@@ -115,6 +115,9 @@ abandoned-leaves h t =
 
 left-leaves : (h : HostState) (key : ℕ) → LeavesDevices h (host_left h key)
 left-leaves h key = record { devices = (line-left h key).devices; interfaces = interfaces-left h key }
+
+timed-leaves : (h : HostState) → LeavesDevices h (host_timed h)
+timed-leaves h = record { devices = refl; interfaces = goes-refl h.interfaces }
 
 idled-leaves : (h : HostState) (until : ℕ) → LeavesDevices h (host_idled h until)
 idled-leaves h until = record { devices = refl; interfaces = goes-refl h.interfaces }
@@ -306,6 +309,7 @@ devices_stay_held =
       reap = λ h t. leaves-held h (host_reaped h t) (reaped-leaves h t);
       rest = λ h. leaves-held h (host_rest h) (rest-leaves h);
       turn = λ h. leaves-held h (host_turned h) (turned-leaves h);
+      timer = λ h. leaves-held h (host_timed h) (timed-leaves h);
       idle = λ h until. leaves-held h (host_idled h until) (idled-leaves h until);
       wait = λ h t timeout. leaves-held h (host_waited h t timeout).1 (waited-leaves h t timeout);
       block = λ h t timeout. leaves-held h (host_blocked h t timeout) (blocked-leaves h t timeout);

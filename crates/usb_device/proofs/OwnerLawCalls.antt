@@ -30,7 +30,7 @@ use Rattle.usb_ledger.specs.Owners.{is_ticket_of, if_there, lives, is_of, lives_
 use Rattle.usb_device.specs.OwnerLaws.{KeepsOwned, KeepsClaimed, KeepsClaims, KeepsOthers, EndpointsLive, IsOwned}
 use Rattle.usb_host.proofs.ClaimFrames.{handles-own, goes-ended}
 use Rattle.usb_host.specs.Releases.{owner_gone}
-use Rattle.usb_host.specs.HostCalls.{with_held, submitted_with, host_submitted, refused_with, host_refused, closed_if, host_left, host_idled, host_halt_cleared}
+use Rattle.usb_host.specs.HostCalls.{with_held, submitted_with, host_submitted, refused_with, host_refused, closed_if, host_left, host_timed, host_idled, host_halt_cleared}
 use Rattle.usb_device.specs.HandleStates.{InterfaceState, StandsInterface}
 use Rattle.usb_host.specs.Handles.{device_cloned, device_closed, handle_added, handle_cloned, handle_gone, handle_closed}
 use Rattle.usb_host.specs.Opens.{open_tried, host_opened}
@@ -89,6 +89,9 @@ left-by h k (Some e) at is_open = endpoint-settled h h.tickets (set h.endpoints 
 pub left-owned : (h : HostState) (k : ℕ) → key_at h.endpoints k ≡ true → KeepsClaims h (host_left h k)
 unfolding host_left
 left-owned h k is_open = left-by h k (value_at h.endpoints k) refl is_open
+
+pub timed-owned : (h : HostState) → KeepsClaims h (host_timed h)
+timed-owned h = claims-kept h (host_timed h) (claimed-refl h.interfaces) (λ d n. refl) (λ i. refl) (λ live. live)
 
 pub idled-owned : (h : HostState) (until : ℕ) → KeepsClaims h (host_idled h until)
 idled-owned h until = claims-kept h (host_idled h until) (claimed-refl h.interfaces) (λ d n. refl) (λ i. refl) (λ live. live)

@@ -8,12 +8,12 @@ use Rattle.usb_desc.specs.declared.control.Recipient.TheVariants.{Device}
 use Rattle.usb_desc.specs.declared.error.Fail.{Fail}
 use Rattle.usb_desc.specs.declared.error.Fail.TheVariants.{Cause, Memory}
 use Rattle.usb_desc.specs.Strings.{is_string, text, words_of_string}
+use Rattle.usb_xfer.specs.Transfers.{request_in}
 use Rattle.usb_xfer.specs.declared.error.TransferError.{TransferError}
 use Rattle.usb_error.specs.Outcomes.{◌>>=◌}
 use Rattle.usb_error.specs.declared.descriptor_error.GetDescriptorError.{GetDescriptorError}
 use Rattle.usb_error.specs.declared.descriptor_error.GetDescriptorError.TheVariants.{Transfer, InvalidDescriptor}
 use Rattle.usb_host.specs.HostState.{HostState}
-use Rattle.usb_host.specs.Controls.{request_in}
 use Rattle.usb_device.specs.ControlCalls.{controlled, control_answered}
 
 -- the request GET_DESCRIPTOR for a type, an index and a language

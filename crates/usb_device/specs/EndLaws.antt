@@ -14,7 +14,7 @@ use Rattle.usb_host.specs.HostState.{HostState}
 use Rattle.usb_ledger.specs.EndedTickets.{end_at}
 use Rattle.usb_host.specs.HostBus.{bus_of}
 use Rattle.usb_host.specs.HostTurns.{host_stepped, host_turned, host_reaped, host_rest}
-use Rattle.usb_host.specs.HostCalls.{host_submitted, host_refused, host_discarded, host_left, host_idled, host_halt_cleared}
+use Rattle.usb_host.specs.HostCalls.{host_submitted, host_refused, host_discarded, host_left, host_timed, host_idled, host_halt_cleared}
 use Rattle.usb_host.specs.TicketEnds.{host_taken, host_abandoned}
 use Rattle.usb_host.specs.HostAwaits.{host_awaited}
 use Rattle.usb_host.specs.Controls.{host_started}
@@ -38,6 +38,7 @@ pub record EndsStay : Type 0 where
   pub rest : (h : HostState) → KeepsEnds h (host_rest h)
   pub turn : (h : HostState) → KeepsEnds h (host_turned h)
   pub reap : (h : HostState) (t : ℕ) → KeepsEnds h (host_reaped h t)
+  pub timer : (h : HostState) → KeepsEnds h (host_timed h)
   pub idle : (h : HostState) (until : ℕ) → KeepsEnds h (host_idled h until)
   pub submit : (h : HostState) (to : Route) (t : TransferData) → KeepsEnds h (host_submitted h to t)
   pub refuse : (h : HostState) (to : Route) (t : TransferData) (errno : ℕ) →

@@ -1,13 +1,14 @@
 -- Control transfers on their way at a host.
 use Rattle.std.specs.Prelude.{ℕ, ◌≡◌, true, false, List, [], length, Option, Some, None, Result, Ok, Err, option_and_then}
 use Rattle.std.specs.Option.{ForSome, option_map}
+use Rattle.usb_desc.specs.Fields.{direction_of_address}
 use Rattle.usb_desc.specs.declared.types.Direction.{Direction}
 use Rattle.usb_desc.specs.declared.types.Direction.TheVariants.{Out, In}
 use Rattle.usb_xfer.specs.declared.error.TransferError.{TransferError}
 use Rattle.usb_xfer.specs.declared.transfer.Completion.{Completion}
 use Rattle.usb_kernel.specs.Tickets.{tickets}
 use Rattle.usb_bus.specs.Completions.{transfer_completion}
-use Rattle.usb_host.specs.declared.controls.ControlRequest.{ControlRequest}
+use Rattle.usb_xfer.specs.declared.transfer.TransferData.{TransferData}
 use Rattle.usb_host.specs.HostState.{HostState}
 use Rattle.usb_host.specs.HostBus.{owner_at, key_at}
 use Rattle.usb_host.specs.HostCalls.{host_left}
@@ -35,14 +36,14 @@ pub record IsOnItsWay (h : HostState) (f : FutureState) (t : ℕ) : Type 0 where
 pub record StandsFuture (h : HostState) (f : FutureState) : Type 0 where
   pub on_its_way : ForSome f.ticket (IsOnItsWay h f)
 
--- that of a request that is handed in now
-abbrev pub fresh_future : HostState → ControlRequest → ℕ → FutureState
+-- that of a control transfer that is handed in now
+abbrev pub fresh_future : HostState → TransferData → ℕ → FutureState
 fresh_future h request timeout =
     record {
       key = length h.endpoints;
       ticket = Some (length (tickets h.kernel.past));
       deadline = deadline_after h.kernel.clock timeout;
-      direction = request.direction;
+      direction = direction_of_address request.endpoint;
     }
 
 -- one that has given its answer

@@ -10,7 +10,7 @@ use Rattle.usb_ledger.specs.declared.ends.TicketEnd.{TicketEnd}
 use Rattle.usb_ledger.specs.declared.opened.OpenDevice.{OpenDevice}
 use Rattle.usb_host.specs.HostState.{HostState, host_of}
 use Rattle.usb_host.specs.HostTurns.{host_stepped, host_reaped, host_turned, host_rest}
-use Rattle.usb_host.specs.HostCalls.{host_submitted, host_refused, host_discarded, host_left, host_idled, host_halt_cleared}
+use Rattle.usb_host.specs.HostCalls.{host_submitted, host_refused, host_discarded, host_left, host_timed, host_idled, host_halt_cleared}
 use Rattle.usb_host.specs.HostWaits.{host_waited}
 use Rattle.usb_host.specs.HostBlocking.{host_blocked}
 use Rattle.usb_host.specs.HostAwaits.{host_awaited}
@@ -56,6 +56,7 @@ pub record DevicesStayHeld : Type 0 where
   pub reap : (h : HostState) (t : ℕ) → KeepsHeld h (host_reaped h t)
   pub rest : (h : HostState) → KeepsHeld h (host_rest h)
   pub turn : (h : HostState) → KeepsHeld h (host_turned h)
+  pub timer : (h : HostState) → KeepsHeld h (host_timed h)
   pub idle : (h : HostState) (until : ℕ) → KeepsHeld h (host_idled h until)
   pub wait : (h : HostState) (t timeout : ℕ) → KeepsHeld h (host_waited h t timeout).1
   pub block : (h : HostState) (t timeout : ℕ) → KeepsHeld h (host_blocked h t timeout)

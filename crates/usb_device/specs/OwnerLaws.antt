@@ -17,7 +17,7 @@ use Rattle.usb_host.specs.HostState.{HostState, host_of}
 use Rattle.usb_ledger.specs.Owners.{lives, is_owned_among}
 use Rattle.usb_host.specs.HostBus.{key_at}
 use Rattle.usb_host.specs.HostTurns.{host_stepped, host_reaped, host_turned, host_rest}
-use Rattle.usb_host.specs.HostCalls.{host_submitted, host_refused, host_discarded, host_left, host_idled, host_halt_cleared}
+use Rattle.usb_host.specs.HostCalls.{host_submitted, host_refused, host_discarded, host_left, host_timed, host_idled, host_halt_cleared}
 use Rattle.usb_host.specs.HostWaits.{host_waited}
 use Rattle.usb_host.specs.HostBlocking.{host_blocked}
 use Rattle.usb_host.specs.HostAwaits.{host_awaited}
@@ -116,6 +116,7 @@ pub record ClaimsStayOwned : Type 0 where
   pub reap : (h : HostState) (t : ℕ) → KeepsClaims h (host_reaped h t)
   pub rest : (h : HostState) → KeepsClaims h (host_rest h)
   pub turn : (h : HostState) → KeepsClaims h (host_turned h)
+  pub timer : (h : HostState) → KeepsClaims h (host_timed h)
   pub idle : (h : HostState) (until : ℕ) → KeepsClaims h (host_idled h until)
   pub wait : (h : HostState) (t timeout : ℕ) → KeepsClaims h (host_waited h t timeout).1
   pub block : (h : HostState) (t timeout : ℕ) → KeepsClaims h (host_blocked h t timeout)

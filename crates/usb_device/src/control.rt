@@ -2,44 +2,50 @@
 
 ghost use Rattle.std.specs.Prelude.{◌≡◌, ◌<◌, ◌^◌, [], length, IfOk, OnOk, OnErr};
 ghost use Rattle.std.specs.Option.{ForSome};
+ghost use Rattle.usb_desc.specs.declared.types.TransferType.TheVariants.{Control};
 ghost use Rattle.usb_registry.specs.History.{value_at};
+ghost use Rattle.usb_xfer.specs.Transfers.{IsRequest, request_in, request_out};
 ghost use Rattle.usb_error.specs.Outcomes.{result_map};
 ghost use Rattle.usb_device.specs.HandleStates.{StandsDevice, StandsInterface};
 ghost use Rattle.usb_host.specs.CallErrors.{Leaves};
-ghost use Rattle.usb_host.specs.Controls.{request_in, request_out, request_started};
+ghost use Rattle.usb_host.specs.Controls.{request_started};
 ghost use Rattle.usb_device.specs.Futures.{StandsFuture, fresh_future};
 ghost use Rattle.usb_device.specs.ControlCalls.{controlled, control_answered, Answers};
 
 use crate::device::{Device, Interface};
 use crate::future::TransferFuture;
-use usb_desc::{ControlIn, ControlOut, Fail, NoMemory};
-use usb_host::{ControlRequest, Host};
-use usb_xfer::TransferError;
+use usb_desc::{ControlIn, ControlOut, Direction, Fail, NoMemory};
+use usb_host::Host;
+use usb_xfer::{TransferData, TransferError};
 
-/// The future of a request that is handed in to a device.
+/// The future of a control transfer that is handed in to a device.
 fn start(
     host: &mut Host,
     device: u8,
-    request: ControlRequest,
+    request: TransferData,
     timeout: u64,
 ) -> Result<TransferFuture, NoMemory>
+    requires request { IsRequest request }
+    requires kind { request.kind ≡ Control }
     ensures future { IfOk result (λ f. f ≡ fresh_future host.old request timeout) }
     ensures ok { OnOk result (host.new ≡ request_started host.old device request timeout) }
     ensures err { OnErr result (host.new ≡ host.old) }
     ensures stands { IfOk result (StandsFuture host.new) }
 {
-    let direction = request.direction;
+    let direction = Direction::from_address(request.endpoint);
     let started = host.start_control(device, request, timeout)?;
     Ok(TransferFuture::new(started, direction))
 }
 
-/// Hands a request in to a device, and waits for its answer.
+/// Hands a control transfer in to a device, and waits for its answer.
 fn finish(
     host: &mut Host,
     device: u8,
-    request: ControlRequest,
+    request: TransferData,
     timeout: u64,
 ) -> Result<Vec<u8>, Fail<TransferError>>
+    requires request { IsRequest request }
+    requires kind { request.kind ≡ Control }
     ensures answer { Answers (result_map (λ bytes. bytes.items) result)
         (control_answered host.old device request timeout) }
     ensures host { Leaves result host.new (controlled host.old device request timeout) host.old }
@@ -74,7 +80,7 @@ impl Device {
         ensures future_stands { IfOk result (StandsFuture host.new) }
         ensures stands { StandsDevice host.new self.now }
     {
-        let request = ControlRequest::from_in(host.allocator(), setup)?;
+        let request = TransferData::new_control_in(host.allocator(), setup)?;
         let device = self.device_number(host);
         start(host, device, request, timeout)
     }
@@ -98,7 +104,7 @@ impl Device {
         ensures future_stands { IfOk result (StandsFuture host.new) }
         ensures stands { StandsDevice host.new self.now }
     {
-        let request = ControlRequest::from_out(host.allocator(), setup)?;
+        let request = TransferData::new_control_out(host.allocator(), setup)?;
         let device = self.device_number(host);
         start(host, device, request, timeout)
     }
@@ -124,7 +130,7 @@ impl Device {
             host.old) }
         ensures stands { StandsDevice host.new self.now }
     {
-        let Ok(request) = ControlRequest::from_in(host.allocator(), setup) else {
+        let Ok(request) = TransferData::new_control_in(host.allocator(), setup) else {
             return Err(Fail::Memory);
         };
         let device = self.device_number(host);
@@ -153,7 +159,7 @@ impl Device {
             (controlled host.old o.device (request_out setup.entry) timeout) host.old) }
         ensures stands { StandsDevice host.new self.now }
     {
-        let Ok(request) = ControlRequest::from_out(host.allocator(), setup) else {
+        let Ok(request) = TransferData::new_control_out(host.allocator(), setup) else {
             return Err(Fail::Memory);
         };
         let device = self.device_number(host);
@@ -184,7 +190,7 @@ impl Interface {
         ensures future_stands { IfOk result (StandsFuture host.new) }
         ensures stands { StandsInterface host.new self.now }
     {
-        let request = ControlRequest::from_in(host.allocator(), setup)?;
+        let request = TransferData::new_control_in(host.allocator(), setup)?;
         let device = self.device_number(host);
         start(host, device, request, timeout)
     }
@@ -208,7 +214,7 @@ impl Interface {
         ensures future_stands { IfOk result (StandsFuture host.new) }
         ensures stands { StandsInterface host.new self.now }
     {
-        let request = ControlRequest::from_out(host.allocator(), setup)?;
+        let request = TransferData::new_control_out(host.allocator(), setup)?;
         let device = self.device_number(host);
         start(host, device, request, timeout)
     }
@@ -234,7 +240,7 @@ impl Interface {
             host.old) }
         ensures stands { StandsInterface host.new self.now }
     {
-        let Ok(request) = ControlRequest::from_in(host.allocator(), setup) else {
+        let Ok(request) = TransferData::new_control_in(host.allocator(), setup) else {
             return Err(Fail::Memory);
         };
         let device = self.device_number(host);
@@ -264,7 +270,7 @@ impl Interface {
             (controlled host.old c.device (request_out setup.entry) timeout) host.old) }
         ensures stands { StandsInterface host.new self.now }
     {
-        let Ok(request) = ControlRequest::from_out(host.allocator(), setup) else {
+        let Ok(request) = TransferData::new_control_out(host.allocator(), setup) else {
             return Err(Fail::Memory);
         };
         let device = self.device_number(host);

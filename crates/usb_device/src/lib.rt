@@ -1,8 +1,9 @@
 //! Handles of devices that are open at a host, of their claimed interfaces, and of control
 //! transfers on their way; and the laws of hosts.
 //!
-//! What their calls speak of is found here too: the host, endpoints and the bus that they stand on,
-//! buffers and completions, and errors.
+//! What their calls speak of is found here too, so that a driver needs this crate alone: the host,
+//! endpoints and the bus that they stand on, descriptors, buffers and completions, errors and what
+//! is made of a future; and for its tests the kernel, with its simulated devices, steps and events.
 #![tactic(auto)]
 
 mod control;
@@ -20,16 +21,23 @@ pub use laws::{
 };
 pub use usb_bus::{Bus, Route, Turn};
 pub use usb_desc::{
-    ConfigurationDescriptor, Configurations, ControlIn, ControlOut, ControlType, DeviceDescriptor,
-    Fail, InterfaceDescriptor, Languages, NoMemory, Recipient,
+    AltSettings, ConfigurationDescriptor, Configurations, ControlIn, ControlOut, ControlType,
+    Descriptor, DescriptorIter, DeviceDescriptor, Direction, EndpointDescriptor, Endpoints, Fail,
+    GroupSettings, InterfaceDescriptor, InterfaceDescriptors, Interfaces, Languages, NoMemory,
+    Recipient, StringError, TransferType,
 };
 pub use usb_endpoint::{AnyEndpoint, Endpoint, NextComplete};
-pub use usb_error::{ActiveConfigurationError, Error, ErrorKind, GetDescriptorError};
+pub use usb_error::{
+    ActiveConfigurationError, Error, ErrorKind, GetDescriptorError, IoFault, IoKind, Message,
+};
 pub use usb_host::{AltSettingsOf, Host};
-pub use usb_kernel::{Kernel, KernelStep};
+pub use usb_kernel::{
+    Body, Bytes, Done, Event, Kernel, KernelCall, KernelStep, SimDevice, Submission, Submitted,
+    TicketInfo, errno,
+};
 pub use usb_ledger::{OpenDevice, TicketEnd};
 pub use usb_sysfs::Speed;
 pub use usb_xfer::{
-    Buffer, Bulk, BulkOrInterrupt, Completion, EndpointDirection, EndpointType, In, Interrupt,
-    MaybeFuture, Out, TransferError,
+    Buffer, Bulk, BulkOrInterrupt, Completion, EndpointDirection, EndpointType, In, Interrupt, Map,
+    MapErr, MapFuture, MapOk, MapResult, MaybeFuture, Out, Ready, TransferError,
 };

@@ -11,6 +11,7 @@ ghost use Rattle.usb_enum.specs.Controllers.{controller_of};
 use crate::controller::UsbControllerType;
 use crate::device::DeviceInfo;
 use crate::enumeration::list_root_hubs;
+use crate::interface::copy_of;
 use std::alloc::Global;
 use std::marker::Model;
 use std::path::Path;
@@ -35,6 +36,19 @@ impl Model for BusInfo {
 }
 
 impl BusInfo {
+    /// The same bus once more.
+    pub fn clone(&self) -> Result<BusInfo, NoMemory>
+        ensures same { IfOk result (λ copy. copy ≡ self.now) }
+    {
+        let hub = self.hub.clone()?;
+        let driver = copy_of(&self.driver)?;
+        Ok(BusInfo {
+            hub,
+            driver,
+            controller: self.controller,
+        })
+    }
+
     /// The path of the root hub's folder, which is the bus's own.
     pub fn sysfs_path(&self) -> &str
         ensures path { result.now ≡ self.now.hub.path }

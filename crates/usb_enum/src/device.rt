@@ -5,7 +5,7 @@ ghost use Rattle.std.specs.Option.{option_map};
 ghost use Rattle.usb_desc.specs.declared.error.Fail.TheVariants.{Memory};
 ghost use Rattle.usb_enum.specs.Devices.{bus_id_of, id_of};
 
-use crate::interface::{InterfaceInfo, string_of};
+use crate::interface::{InterfaceInfo, copy_of, string_of};
 use crate::numbers::Numbers;
 use std::alloc::Global;
 use std::marker::Model;
@@ -69,6 +69,30 @@ impl Model for DeviceInfo {
 }
 
 impl DeviceInfo {
+    /// The same device once more.
+    pub fn clone(&self) -> Result<DeviceInfo, NoMemory>
+        ensures same { IfOk result (λ copy. copy ≡ self.now) }
+    {
+        let path = self.path.clone()?;
+        let bus_id = self.bus_id.clone()?;
+        let port_chain = self.port_chain.clone()?;
+        let manufacturer = copy_of(&self.manufacturer)?;
+        let product = copy_of(&self.product)?;
+        let serial = copy_of(&self.serial)?;
+        let interfaces = self.interfaces.clone()?;
+        Ok(DeviceInfo {
+            path,
+            numbers: self.numbers,
+            bus_id,
+            port_chain,
+            speed: self.speed,
+            manufacturer,
+            product,
+            serial,
+            interfaces,
+        })
+    }
+
     /// Where the device is, as events name it.
     pub fn id(&self) -> DeviceId
         ensures id { result ≡ id_of self.now.numbers }

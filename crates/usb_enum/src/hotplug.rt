@@ -23,13 +23,34 @@ pub enum HotplugEvent {
     Disconnected(DeviceId),
 }
 
+impl HotplugEvent {
+    /// The same event once more.
+    pub fn clone(&self) -> Result<HotplugEvent, NoMemory>
+        ensures same { IfOk result (λ copy. copy ≡ self.now) }
+    {
+        match self {
+            HotplugEvent::Connected(device) => Ok(HotplugEvent::Connected(device.clone()?)),
+            HotplugEvent::Disconnected(id) => Ok(HotplugEvent::Disconnected(*id)),
+        }
+    }
+}
+
 /// A packet of udev, with the groups that its sender sent it to.
-#[derive(Drop)]
+#[derive(Clone, Drop)]
 pub struct UdevPacket {
     /// The groups, one bit each: udev sends to 2.
     pub groups: u32,
     /// What the packet holds.
     pub bytes: Bytes,
+}
+
+impl UdevPacket {
+    /// The same packet once more.
+    pub fn clone(&self) -> Result<UdevPacket, NoMemory>
+        ensures same { IfOk result (λ copy. copy ≡ self.now) }
+    {
+        Ok(Clone::clone(self)?)
+    }
 }
 
 /// The packets that are still to be looked at, seen as the list of them.

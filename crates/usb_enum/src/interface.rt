@@ -4,8 +4,9 @@ ghost use Rattle.std.specs.Prelude.{◌≡◌, IfOk, IfErr, IfNone, IsOk, string
 ghost use Rattle.std.specs.Option.{option_map};
 ghost use Rattle.usb_desc.specs.declared.error.Fail.TheVariants.{Memory};
 
+use std::alloc::AllocError;
 use std::marker::Model;
-use usb_desc::Fail;
+use usb_desc::{Fail, NoMemory};
 use usb_error::Error;
 use usb_sysfs::Text;
 
@@ -33,7 +34,29 @@ impl Model for InterfaceInfo {
     } };
 }
 
+impl Clone for InterfaceInfo {
+    ghost is_clone = { λ interface copy. copy ≡ interface };
+
+    fn clone(&self) -> Result<InterfaceInfo, AllocError> {
+        let name = self.name.clone()?;
+        Ok(InterfaceInfo {
+            number: self.number,
+            class: self.class,
+            subclass: self.subclass,
+            protocol: self.protocol,
+            name,
+        })
+    }
+}
+
 impl InterfaceInfo {
+    /// The same interface once more.
+    pub fn clone(&self) -> Result<InterfaceInfo, NoMemory>
+        ensures same { IfOk result (λ copy. copy ≡ self.now) }
+    {
+        Ok(Clone::clone(self)?)
+    }
+
     /// Its number: USB 2.0, section 9.6.5, as are the class codes.
     pub fn interface_number(&self) -> u8
         ensures number { result ≡ self.now.number }
@@ -93,5 +116,15 @@ pub fn string_of(text: &Option<Text>) -> Result<Option<String>, Fail<Error>>
                 Err(_) => Err(Fail::Memory),
             }
         }
+    }
+}
+
+/// A copy of the text, where there is one.
+pub(crate) fn copy_of(text: &Option<Text>) -> Result<Option<Text>, NoMemory>
+    ensures same { IfOk result (λ copy. copy ≡ text.now) }
+{
+    match text {
+        Some(text) => Ok(Some(text.clone()?)),
+        None => Ok(None),
     }
 }

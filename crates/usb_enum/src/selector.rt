@@ -1,13 +1,14 @@
 //! Selectors of devices.
 
-ghost use Rattle.std.specs.Prelude.{◌≡◌, Some, None, string_bytes};
+ghost use Rattle.std.specs.Prelude.{◌≡◌, IfOk, Some, None, string_bytes};
 ghost use Rattle.std.specs.List.{list_any};
 ghost use Rattle.std.specs.Option.{option_map};
 ghost use Rattle.usb_enum.specs.Selectors.{matches, is_asked, is_asked_text, is_class, is_interface};
 
 use crate::device::DeviceInfo;
-use crate::interface::InterfaceInfo;
+use crate::interface::{InterfaceInfo, copy_of};
 use std::marker::Model;
+use usb_desc::NoMemory;
 use usb_sysfs::Text;
 
 /// What a device is asked to be. What is not given is not asked.
@@ -38,6 +39,21 @@ impl Model for DeviceSelector {
 
 impl DeviceSelector {
     ghost use Rattle.usb_enum.specs.Selectors.{all_devices};
+
+    /// The same once more.
+    pub fn clone(&self) -> Result<DeviceSelector, NoMemory>
+        ensures same { IfOk result (λ copy. copy ≡ self.now) }
+    {
+        let serial = copy_of(&self.serial)?;
+        Ok(DeviceSelector {
+            vendor_id: self.vendor_id,
+            product_id: self.product_id,
+            class: self.class,
+            subclass: self.subclass,
+            protocol: self.protocol,
+            serial,
+        })
+    }
 
     /// Asks nothing, so that every device matches.
     pub fn all() -> DeviceSelector

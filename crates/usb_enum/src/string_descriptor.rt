@@ -4,11 +4,11 @@ ghost use Rattle.std.specs.Prelude.{◌≡◌, IfOk, IfErr, IfNone, IsOk, string
 ghost use Rattle.std.specs.Option.{option_map};
 ghost use Rattle.usb_desc.specs.declared.error.Fail.TheVariants.{Memory};
 
-use usb_desc::Fail;
+use usb_desc::{Fail, NoMemory};
 use usb_error::Error;
 
 /// The text of a string descriptor: USB 2.0, section 9.6.7. It is kept, or there is none.
-#[derive(Debug, Drop)]
+#[derive(Clone, Debug, Drop)]
 pub enum StringDescriptor {
     /// The device has no such string.
     NotPresent,
@@ -18,6 +18,13 @@ pub enum StringDescriptor {
 
 impl StringDescriptor {
     ghost use Rattle.usb_enum.specs.StringDescriptors.{text_of};
+
+    /// The same once more.
+    pub fn clone(&self) -> Result<StringDescriptor, NoMemory>
+        ensures same { IfOk result (λ copy. text_of copy ≡ text_of self.now) }
+    {
+        Ok(Clone::clone(self)?)
+    }
 
     /// The text, where there is one.
     pub fn cached(&self) -> Option<&str>

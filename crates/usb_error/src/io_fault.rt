@@ -68,6 +68,17 @@ impl IoFault {
         let kind = IoKind::of_descriptor(error);
         Ok(IoFault { kind, text })
     }
+
+    /// The same once more, with a text of its own.
+    pub fn clone(&self) -> Result<IoFault, NoMemory>
+        ensures same { IfOk result (λ copy. copy ≡ self.now) }
+    {
+        let text = self.text.clone()?;
+        Ok(IoFault {
+            kind: self.kind,
+            text,
+        })
+    }
 }
 
 impl fmt::Display for IoFault {

@@ -26,7 +26,7 @@ use Rattle.usb_host.specs.Releases.{endpoint_left, settled}
 use Rattle.usb_host.specs.TicketEnds.{ended_as, host_ended, reclaimed_if, came}
 use Rattle.usb_bus.specs.declared.route.Turn.TheVariants.{TimeUp}
 use Rattle.usb_host.specs.HostTurns.{with_past, host_stepped, host_reaped, all_stepped, turn_for, reaped_of, turned_of, host_turn, host_turned}
-use Rattle.usb_host.specs.HostCalls.{host_discarded, host_idled}
+use Rattle.usb_host.specs.HostCalls.{host_discarded, host_timed, host_idled}
 use Rattle.usb_host.specs.HostBus.{held_as, owner_at, key_at, bus_of}
 use Rattle.usb_host.specs.HostFrames.{ClaimsGoOn, EndpointsGoOn}
 use Rattle.usb_host.specs.HostBusFacts.{key-left}
@@ -202,6 +202,9 @@ uses-reaped h t =
 pub uses-discarded : (h : HostState) (t : ℕ) → UsesPlaces 0 h (host_discarded h t)
 unfolding host_discarded
 uses-discarded h t = with_past-uses h (after_discard h.kernel.past t) (extends-if (is_unfinished h.kernel.past t) h.kernel.past (Discard t))
+
+pub uses-timed : (h : HostState) → UsesPlaces 0 h (host_timed h)
+uses-timed h = with_past-uses h (timer_turned h.kernel.clock h.kernel.past) (extends-turned h.kernel.clock h.kernel.past)
 
 pub uses-idled : (h : HostState) (until : ℕ) → UsesPlaces 0 h (host_idled h until)
 uses-idled h until =

@@ -62,6 +62,10 @@ closed_if h k (Some e) =
 unfoldable pub host_left : HostState → ℕ → HostState
 host_left h k = closed_if h k (value_at h.endpoints k)
 
+-- the timer had its turn
+abbrev pub host_timed : HostState → HostState
+host_timed h = with_past h (timer_turned h.kernel.clock h.kernel.past)
+
 -- the clock was raised, and the timer had its turn
 abbrev pub host_idled : HostState → ℕ → HostState
 host_idled h until =

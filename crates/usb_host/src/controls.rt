@@ -2,88 +2,46 @@
 
 ghost use Rattle.std.specs.Prelude.{◌≡◌, ◌<◌, ◌^◌, length, true, Some, None, IfOk, IfSome, IfNone, OnOk, OnErr, IsSome};
 ghost use Rattle.std.specs.Option.{ForSome};
-ghost use Rattle.usb_desc.specs.declared.types.TransferType.{TransferType};
+ghost use Rattle.usb_desc.specs.declared.types.TransferType.TheVariants.{Control};
+ghost use Rattle.usb_xfer.specs.declared.transfer.Held.{Held};
+ghost use Rattle.usb_xfer.specs.Transfers.{IsRequest, setup_held, data_held};
 ghost use Rattle.usb_kernel.specs.Tickets.{tickets};
 ghost use Rattle.usb_registry.specs.History.{value_at};
 ghost use Rattle.usb_bus.specs.Completions.{transfer_completion};
 ghost use Rattle.usb_host.specs.HostBus.{owner_at, key_at};
 ghost use Rattle.usb_host.specs.HostCalls.{host_left};
 ghost use Rattle.usb_host.specs.TicketEnds.{host_taken};
-ghost use Rattle.usb_host.specs.Controls.{request_in, request_out, control_address, deadline_after, request_started};
+ghost use Rattle.usb_host.specs.Controls.{deadline_after, request_started};
 
 use crate::host::{Host, ticket_from};
-use std::alloc::Global;
-use usb_desc::{ControlIn, ControlOut, Direction, NoMemory, TransferType};
+use usb_desc::NoMemory;
 use usb_kernel::Submission;
 use usb_registry::Key;
-use usb_xfer::{Buffer, Completion, Pending, TransferData, take_completed_from_option};
+use usb_xfer::{Completion, Pending, TransferData, take_completed_from_option};
 
-/// A request on the control endpoint 0: where its data go, its setup packet, and the buffer that
-/// its data come to or stand in.
-#[derive(Drop)]
-pub struct ControlRequest {
-    pub direction: Direction,
-    pub setup: [u8; 8],
-    pub buffer: Buffer,
-}
-
-impl ControlRequest {
-    /// A request whose data come from the device, with an empty buffer.
-    pub fn from_in(alloc: Global, setup: ControlIn) -> Result<ControlRequest, NoMemory>
-        ensures request { IfOk result (λ request. request ≡ request_in setup) }
-    {
-        let buffer = Buffer::new(alloc, usize::from(setup.length))?;
-        Ok(ControlRequest {
-            direction: Direction::In,
-            setup: setup.setup_packet(),
-            buffer,
-        })
-    }
-
-    /// A request that sends data, which are copied.
-    pub fn from_out(alloc: Global, setup: ControlOut<'_>) -> Result<ControlRequest, NoMemory>
-        requires short { length setup.bytes.now < 2 ^ 16 }
-        ensures request { IfOk result (λ request. request ≡ request_out setup.entry) }
-    {
-        let buffer = Buffer::from_slice(alloc, setup.bytes)?;
-        Ok(ControlRequest {
-            direction: Direction::Out,
-            setup: setup.setup_packet(),
-            buffer,
-        })
-    }
-
-    /// The address of the endpoint: 0, with the direction in bit 7 (USB 2.0, table 9-13).
-    fn address(&self) -> u8
-        ensures address { result ≡ control_address self.now.direction }
-    {
-        match self.direction {
-            Direction::Out => 0x00,
-            Direction::In => 0x80,
-        }
-    }
-
-    /// What is handed in to the kernel.
-    fn into_submission(self, device: u8, deadline: u64) -> Submission
-        ensures submission { result ≡ record {
-          device = device;
-          endpoint = control_address self.direction;
-          kind = TransferType.Control;
-          maximum = self.buffer.requested;
-          deadline = Some deadline;
-          setup = Some self.setup;
-          buffer = self.buffer;
-        } }
-    {
-        Submission {
-            device,
-            endpoint: self.address(),
-            kind: TransferType::Control,
-            maximum: self.buffer.requested_len(),
-            deadline: Some(deadline),
-            setup: Some(self.setup),
-            buffer: self.buffer,
-        }
+/// What is handed in to the kernel of a control transfer, which holds nothing then.
+fn submission_from(request: &mut TransferData, device: u8, deadline: u64) -> Submission
+    requires request { IsRequest request.old }
+    ensures submission { result ≡ record {
+      device = device;
+      endpoint = request.old.endpoint;
+      kind = request.old.kind;
+      maximum = (data_held request.old.held).requested;
+      deadline = Some deadline;
+      setup = setup_held request.old.held;
+      buffer = data_held request.old.held;
+    } }
+    ensures rest { request.new ≡ record request.old { held = Held.Nothing } }
+{
+    let (setup, buffer) = request.take_request();
+    Submission {
+        device,
+        endpoint: request.endpoint,
+        kind: request.kind,
+        maximum: buffer.requested_len(),
+        deadline: Some(deadline),
+        setup: Some(setup),
+        buffer,
     }
 }
 
@@ -122,15 +80,17 @@ impl Host {
         self.kernel.now().saturating_add(timeout.min(day))
     }
 
-    /// Hands a request in to a device. It has a control endpoint of its own, of no interface, which
-    /// has the next key and holds its ticket, refused or not. A ticket that is not refused has the
-    /// deadline. An `Err` is want of memory, and then nothing has changed.
+    /// Hands a control transfer in to a device. It has a control endpoint of its own, of no
+    /// interface, which has the next key and holds its ticket, refused or not. A ticket that is not
+    /// refused has the deadline. An `Err` is want of memory, and then nothing has changed.
     pub fn start_control(
         &mut self,
         device: u8,
-        request: ControlRequest,
+        request: TransferData,
         timeout: u64,
     ) -> Result<StartedControl, NoMemory>
+        requires request { IsRequest request }
+        requires kind { request.kind ≡ Control }
         ensures control { IfOk result (λ control. control ≡ record {
           key = length self.old.endpoints;
           ticket = length (tickets self.old.kernel.past);
@@ -140,24 +100,16 @@ impl Host {
         ensures ok { OnOk result (self.new ≡ request_started self.old device request timeout) }
         ensures err { OnErr result (self.new ≡ self.old) }
     {
+        let mut transfer = request;
         let deadline = self.deadline_after(timeout);
-        let endpoint = request.address();
         self.ledger.reserve()?;
-        let key = self.ledger.open_control(endpoint)?;
-        match self
-            .kernel
-            .submit(request.into_submission(device, deadline))
-        {
+        let key = self.ledger.open_control(transfer.endpoint)?;
+        let submission = submission_from(&mut transfer, device, deadline);
+        match self.kernel.submit(submission) {
             Ok(submitted) => {
                 let entry = ticket_from(submitted);
-                self.ledger.hold(
-                    key,
-                    TransferData {
-                        endpoint,
-                        kind: TransferType::Control,
-                        held: entry.held,
-                    },
-                );
+                transfer.held = entry.held;
+                self.ledger.hold(key, transfer);
                 Ok(StartedControl {
                     key,
                     ticket: entry.ticket,

@@ -21,7 +21,8 @@ ghost use Rattle.usb_ledger.specs.EndedTickets.{end_at};
 ghost use Rattle.usb_host.specs.HostBus.{bus_of, hold_at, owner_at, key_at, host_value};
 ghost use Rattle.usb_host.specs.HostBusFacts.{bus_of-taken};
 ghost use Rattle.usb_host.specs.HeldTransfers.{host_transfer};
-ghost use Rattle.usb_host.specs.HostCalls.{host_submitted, host_refused, host_discarded, host_left, host_idled, host_halt_result, host_halt_cleared};
+ghost use Rattle.usb_host.specs.HostCalls.{host_submitted, host_refused, host_discarded, host_left, host_timed, host_idled, host_halt_result, host_halt_cleared};
+ghost use Rattle.usb_host.specs.HostFrames.{HostGoesOn};
 ghost use Rattle.usb_host.specs.Finishes.{finished, HasEnds, HasCompletions};
 ghost use Rattle.usb_host.specs.HostFacts.{TicketsAgree, host_made};
 ghost use Rattle.usb_host.specs.HostLaws.{held-owned, value-held};
@@ -386,6 +387,15 @@ impl Host {
             }
             None => Turn::TimeUp,
         }
+    }
+
+    /// A turn of the timer: the tickets that are not finished and whose deadline is at most the
+    /// clock are discarded.
+    pub fn timer(&mut self)
+        ensures timed { self.new ≡ host_timed self.old }
+        ensures went { HostGoesOn self.old self.new }
+    {
+        self.kernel.timer_turn();
     }
 
     /// Raises the clock, and gives the timer its turn.

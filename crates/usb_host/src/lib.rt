@@ -11,6 +11,6 @@ mod host;
 mod opening;
 mod settings;
 
-pub use controls::{ControlRequest, StartedControl};
+pub use controls::StartedControl;
 pub use host::Host;
 pub use settings::AltSettingsOf;

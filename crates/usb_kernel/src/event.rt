@@ -1,16 +1,28 @@
 //! The events of a journal.
 
+ghost use Rattle.std.specs.Prelude.{◌≡◌, IfOk};
+
+use usb_desc::NoMemory;
 use usb_simulated::Bytes;
 
 /// What a submission sends (OUT), or how many bytes it wants (IN).
-#[derive(Drop)]
+#[derive(Clone, Drop)]
 pub enum Body {
     Wanted(usize),
     Sent(Bytes),
 }
 
+impl Body {
+    /// The same once more, with bytes of its own.
+    pub fn clone(&self) -> Result<Body, NoMemory>
+        ensures same { IfOk result (λ copy. copy ≡ self.now) }
+    {
+        Ok(Clone::clone(self)?)
+    }
+}
+
 /// An event of the journal. Devices are named by their numbers and endpoints by their addresses.
-#[derive(Drop)]
+#[derive(Clone, Drop)]
 pub enum Event {
     /// A submission became a ticket. The capacity is that of the submitted buffer.
     Submit {
@@ -65,4 +77,13 @@ pub enum Event {
     Unplug {
         device: u8,
     },
+}
+
+impl Event {
+    /// The same event once more, with bytes of its own.
+    pub fn clone(&self) -> Result<Event, NoMemory>
+        ensures same { IfOk result (λ copy. copy ≡ self.now) }
+    {
+        Ok(Clone::clone(self)?)
+    }
 }

@@ -52,6 +52,22 @@ pub struct TicketInfo {
 }
 
 impl Submission {
+    /// The same submission once more, with a buffer of its own.
+    pub fn clone(&self) -> Result<Submission, NoMemory>
+        ensures same { IfOk result (λ copy. copy ≡ self.now) }
+    {
+        let buffer = self.buffer.clone()?;
+        Ok(Submission {
+            device: self.device,
+            endpoint: self.endpoint,
+            kind: self.kind,
+            maximum: self.maximum,
+            deadline: self.deadline,
+            setup: self.setup,
+            buffer,
+        })
+    }
+
     /// What it sends or wants.
     pub(crate) fn body(&self, alloc: Global) -> Result<Body, NoMemory>
         ensures body { IfOk result (λ b. b ≡ body_of self.now.endpoint self.now.buffer) }
@@ -92,5 +108,33 @@ impl Submission {
             capacity: self.buffer.capacity(),
             errno,
         })
+    }
+}
+
+impl Done {
+    /// The same completion once more, with a buffer of its own.
+    pub fn clone(&self) -> Result<Done, NoMemory>
+        ensures same { IfOk result (λ copy. copy ≡ self.now) }
+    {
+        let buffer = self.buffer.clone()?;
+        Ok(Done {
+            ticket: self.ticket,
+            status: self.status,
+            refused: self.refused,
+            count: self.count,
+            buffer,
+        })
+    }
+}
+
+impl Submitted {
+    /// The same once more, with a buffer of its own.
+    pub fn clone(&self) -> Result<Submitted, NoMemory>
+        ensures same { IfOk result (λ copy. copy ≡ self.now) }
+    {
+        match self {
+            Submitted::Queued(ticket) => Ok(Submitted::Queued(*ticket)),
+            Submitted::Refused(done) => Ok(Submitted::Refused(done.clone()?)),
+        }
     }
 }

@@ -1,5 +1,5 @@
 -- What the event loop and a run on two threads tell.
-use Rattle.std.specs.Prelude.{◌≡◌, ◌≢◌, ℕ, ◌+◌, ◌<◌, [], ◌∷◌}
+use Rattle.std.specs.Prelude.{◌≡◌, ◌≢◌, ◌⊎◌, ℕ, ◌+◌, ◌<◌, ◌≤◌, [], ◌∷◌}
 use Rattle.usb_live.specs.declared.view.View.{View}
 use Rattle.usb_live.specs.declared.entry.Tally.{Tally}
 use Rattle.usb_live.specs.declared.entry.Receipt.{Receipt}
@@ -43,3 +43,8 @@ pub record HasOne (x y : Live) : Type 0 where
   pub free : (i : ℕ) → i < 64 → i ≢ entry.cell → stage_at y.seat.view.owner i ≡ Free
   pub submitted : y.tally.submitted ≡ up_to_end (x.tally.submitted + 1)
   pub taken : y.tally.taken ≡ x.tally.taken
+
+-- Of how many transfers were asked for, how many were submitted, and how many were taken: each was taken; or the last that was
+-- submitted was not, and no more than were asked for were submitted
+abbrev pub IsWholeOrCut : ℕ → ℕ → ℕ → Type 0
+IsWholeOrCut n submitted taken = ((submitted ≡ n) × (taken ≡ n)) ⊎ ((submitted ≡ taken + 1) × (submitted ≤ n))

@@ -1,9 +1,10 @@
 //! What an endpoint keeps of its transfers, and what it gives.
 
-ghost use Rattle.std.specs.Prelude.{◌≡◌};
+ghost use Rattle.std.specs.Prelude.{◌≡◌, IfOk};
 
 use std::error::Error;
 use std::fmt;
+use usb_desc::NoMemory;
 use usb_xfer::{Buffer, Completion};
 
 /// A transfer on its way: its ticket, its cell, and whether it was refused at once.
@@ -19,6 +20,19 @@ pub struct Entry {
 pub struct Receipt {
     pub ticket: u64,
     pub completion: Completion,
+}
+
+impl Receipt {
+    /// The same once more, with a buffer of its own.
+    pub fn clone(&self) -> Result<Receipt, NoMemory>
+        ensures same { IfOk result (λ copy. copy ≡ self.now) }
+    {
+        let completion = self.completion.clone()?;
+        Ok(Receipt {
+            ticket: self.ticket,
+            completion,
+        })
+    }
 }
 
 /// How many transfers were submitted, and how many of them were taken by their owner, dropped at the end, or reclaimed by the
@@ -52,6 +66,18 @@ pub enum LiveError {
     Full(Buffer),
     /// Want of memory.
     Memory(Buffer),
+}
+
+impl LiveError {
+    /// The same once more, with a buffer of its own.
+    pub fn clone(&self) -> Result<LiveError, NoMemory>
+        ensures same { IfOk result (λ copy. copy ≡ self.now) }
+    {
+        match self {
+            LiveError::Full(buffer) => Ok(LiveError::Full(buffer.clone()?)),
+            LiveError::Memory(buffer) => Ok(LiveError::Memory(buffer.clone()?)),
+        }
+    }
 }
 
 impl fmt::Display for LiveError {

@@ -72,7 +72,12 @@ impl<'a, G: Gate> StopGate<'a, G> {
 impl<'a, G: Gate> Gate for StopGate<'a, G> {
     ghost is_closed = { λ g. g.closed };
 
-    fn pass(&mut self) -> bool {
+    // It passes only where the gate inside did.
+    fn pass(&mut self) -> bool
+        ensures passed { result ≡ not self.new.closed }
+        ensures closed { self.old.closed ≡ true → self.new.closed ≡ true }
+        ensures inner { result ≡ true → G.is_closed self.new.inner ≡ false }
+    {
         if !self.closed {
             self.closed = self.stop.get() || !self.inner.pass();
         }

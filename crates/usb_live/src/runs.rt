@@ -1,7 +1,7 @@
 //! A run on two threads: the event loop, and a caller that submits and takes transfers.
-ghost use Rattle.std.specs.Prelude.{◌≡◌, ◌+◌, ◌<◌, true, None, IfOk, OnOk, MatchOption, IsSome, length};
+ghost use Rattle.std.specs.Prelude.{ℕ, ◌≡◌, ◌+◌, ◌<◌, ◌≤◌, max, true, Some, None, IfOk, OnOk, MatchOption, IsSome, IsNone, length};
 ghost use Rattle.usb_live.specs.Rows.{owner_first};
-ghost use Rattle.usb_live.specs.Runs.{CountsReclaims, IsIdle, HasOne, OnlyLooked, TakesAfterLooks};
+ghost use Rattle.usb_live.specs.Runs.{CountsReclaims, IsIdle, HasOne, IsWholeOrCut, OnlyLooked, TakesAfterLooks};
 
 use crate::endpoint::LiveEndpoint;
 use crate::entry::{LiveError, Receipt, Tally};
@@ -105,6 +105,11 @@ fn next_receipt<R: Wait>(
         (OnlyLooked endpoint.old endpoint.new)
         (λ r. TakesAfterLooks endpoint.old r endpoint.new) }
     ensures patient { patience ≡ None → IsSome result }
+    // Each poll looks once, or not at all where the transfer was refused. So these clauses count the polls.
+    ensures most { (polls : ℕ) → patience ≡ Some polls →
+        endpoint.new.seat.view.looks ≤ endpoint.old.seat.view.looks + max polls 1 }
+    ensures all { IsNone result → (polls : ℕ) → patience ≡ Some polls →
+        endpoint.new.seat.view.looks ≡ endpoint.old.seat.view.looks + max polls 1 }
 {
     if let Poll::Ready(receipt) = endpoint.try_next_complete() {
         return Some(receipt);
@@ -113,7 +118,7 @@ fn next_receipt<R: Wait>(
     let Some(polls) = patience else {
         return Some(endpoint.wait_next_complete(rt));
     };
-    'polls: for _ in 1..polls {
+    'polls: for _poll in 1..polls {
         yield_now();
         if let Poll::Ready(receipt) = endpoint.try_next_complete() {
             return Some(receipt);
@@ -137,6 +142,9 @@ fn transfers<R: Wait>(
     ensures receipts { IfOk result (λ receipts. length receipts.items ≡ endpoint.new.tally.taken) }
     ensures patient { OnOk result (patience ≡ None
         → (endpoint.new.tally.submitted ≡ n) × (endpoint.new.tally.taken ≡ n)) }
+    ensures begins { OnOk result (0 < n → 0 < endpoint.new.tally.submitted) }
+    ensures whole { OnOk result
+        (IsWholeOrCut n endpoint.new.tally.submitted endpoint.new.tally.taken) }
 {
     let mut receipts = Vec::new(alloc);
     'transfers: for j in 0..n {
@@ -166,6 +174,8 @@ fn call<R: Wait>(
     requires first { owner.view ≡ owner_first }
     ensures receipts { IfOk result (λ r. length r.1.items ≡ r.0.taken) }
     ensures patient { IfOk result (λ r. patience ≡ None → (r.0.submitted ≡ n) × (r.0.taken ≡ n)) }
+    ensures begins { IfOk result (λ r. 0 < n → 0 < r.0.submitted) }
+    ensures whole { IfOk result (λ r. IsWholeOrCut n r.0.submitted r.0.taken) }
 {
     let Ok(mut endpoint) = LiveEndpoint::new(alloc, owner, route(), notify, Tally::new()) else {
         return Err(NoMemory);
@@ -224,6 +234,8 @@ fn run_both<R: Threads + Wait + Sync, G: Gate + Send>(
     ensures receipts { IfOk result (λ r. length r.1.1.items ≡ r.1.0.taken) }
     ensures patient { IfOk result
         (λ r. patience ≡ None → (r.1.0.submitted ≡ n) × (r.1.0.taken ≡ n)) }
+    ensures begins { IfOk result (λ r. 0 < n → 0 < r.1.0.submitted) }
+    ensures whole { IfOk result (λ r. IsWholeOrCut n r.1.0.submitted r.1.0.taken) }
 {
     let (owner, handler) = Row::new(alloc)?;
     let notify = Notify::new();
@@ -257,6 +269,8 @@ pub fn live_run<R: Threads + Wait + Sync, G: Gate + Send>(
     ensures each { IfOk result (λ run. run.submitted ≡ run.taken + run.dropped + run.reclaimed) }
     ensures receipts { IfOk result (λ run. length run.receipts.items ≡ run.taken) }
     ensures patient { IfOk result (λ run. patience ≡ None → (run.submitted ≡ n) × (run.taken ≡ n)) }
+    ensures begins { IfOk result (λ run. 0 < n → 0 < run.submitted) }
+    ensures whole { IfOk result (λ run. IsWholeOrCut n run.submitted run.taken) }
 {
     let kernel = LiveKernel::new(one_device(alloc)?)?;
     let ((handler, looped), (tally, receipts)) = run_both(

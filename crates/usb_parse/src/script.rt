@@ -1,6 +1,6 @@
 //! A whole script.
 
-ghost use Rattle.std.specs.Prelude.{◌≡◌, ◌+◌, ◌<◌, ◌≤◌, ◌∷◌, length, OnOk, IfErr};
+ghost use Rattle.std.specs.Prelude.{◌≡◌, ◌+◌, ◌<◌, ◌≤◌, ◌∷◌, length, IfOk, OnOk, IfErr};
 ghost use Rattle.usb_words.specs.Lines.{lines_of};
 ghost use Rattle.usb_parse.specs.Parse.{with_line, script_of};
 ghost use Rattle.usb_parse.specs.Outcome.{OrMemory, IsParsingError};
@@ -11,6 +11,7 @@ use crate::error::SessionError;
 use crate::order::ItemsBefore;
 use std::alloc::Global;
 use std::marker::Model;
+use usb_desc::NoMemory;
 use usb_script::{Item, Reading, read_line};
 use usb_words::LineError;
 
@@ -18,7 +19,7 @@ use usb_words::LineError;
 pub const MAX_SCRIPT: usize = 1048576;
 
 /// A script. A contract sees the list of its items.
-#[derive(Drop)]
+#[derive(Clone, Drop)]
 pub struct Script {
     items: Vec<Item>,
 }
@@ -36,6 +37,13 @@ impl Model for Script {
 }
 
 impl Script {
+    /// The same script once more.
+    pub fn clone(&self) -> Result<Script, NoMemory>
+        ensures same { IfOk result (λ copy. copy ≡ self.now) }
+    {
+        Ok(Clone::clone(self)?)
+    }
+
     /// The items in order.
     pub fn items(&self) -> &[Item]
         ensures value { result.now ≡ self.now }

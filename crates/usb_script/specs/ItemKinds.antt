@@ -1,6 +1,7 @@
--- The kinds of items: setup lines, calls and lines of steps.
-use Rattle.std.specs.Prelude.{ℕ, Bool, true, false, not, ◌&&◌, List, length}
+-- The kinds of items: setup lines, calls and lines of steps; and the steps of an item.
+use Rattle.std.specs.Prelude.{ℕ, Bool, true, false, not, ◌&&◌, List, [], length}
 use Rattle.std.specs.List.{sum_by}
+use Rattle.usb_simulated.specs.declared.step.KernelStep.{KernelStep}
 use Rattle.usb_script.specs.declared.item.Item.{Item}
 use Rattle.usb_script.specs.declared.item.Item.TheVariants.{Device, Driver, Attribute, Denied, Child, Link, Entry, Root, Uevent, Reset, Wait, TransferIn, TransferOut, Read, FillBuf, Write, Flush, FlushEnd, ControlIn, ControlOut, WaitFuture, GetDescriptor, SupportedLanguages, StringDescriptor, Steps}
 use Rattle.usb_script.specs.declared.reading.Reading.{Reading}
@@ -28,25 +29,29 @@ is_steps item = false
 abbrev pub is_call : Item → Bool
 is_call item = not (is_setup item) && not (is_steps item)
 
+-- the steps of an item, in order
+abbrev pub steps_in : Item → List KernelStep
+steps_in (Wait endpoint timeout steps) = steps
+steps_in (TransferIn endpoint wanted timeout steps) = steps
+steps_in (TransferOut endpoint bytes timeout steps) = steps
+steps_in (Read framing reader wanted steps) = steps
+steps_in (FillBuf framing reader steps) = steps
+steps_in (Write writer bytes steps) = steps
+steps_in (Flush writer steps) = steps
+steps_in (FlushEnd writer steps) = steps
+steps_in (ControlIn target setup wanted timeout steps) = steps
+steps_in (ControlOut target setup bytes timeout steps) = steps
+steps_in (WaitFuture future steps) = steps
+steps_in (GetDescriptor device kind index language timeout steps) = steps
+steps_in (SupportedLanguages device timeout steps) = steps
+steps_in (StringDescriptor device index language timeout steps) = steps
+steps_in (Steps steps) = steps
+steps_in item = []
+
 -- how many places of the kernel an item may use: one for each of its steps, and one for a reset
 abbrev pub places_in : Item → ℕ
 places_in (Reset device) = 1
-places_in (Wait endpoint timeout steps) = length steps
-places_in (TransferIn endpoint wanted timeout steps) = length steps
-places_in (TransferOut endpoint bytes timeout steps) = length steps
-places_in (Read framing reader wanted steps) = length steps
-places_in (FillBuf framing reader steps) = length steps
-places_in (Write writer bytes steps) = length steps
-places_in (Flush writer steps) = length steps
-places_in (FlushEnd writer steps) = length steps
-places_in (ControlIn target setup wanted timeout steps) = length steps
-places_in (ControlOut target setup bytes timeout steps) = length steps
-places_in (WaitFuture future steps) = length steps
-places_in (GetDescriptor device kind index language timeout steps) = length steps
-places_in (SupportedLanguages device timeout steps) = length steps
-places_in (StringDescriptor device index language timeout steps) = length steps
-places_in (Steps steps) = length steps
-places_in item = 0
+places_in item = length (steps_in item)
 
 -- how many places the item of a line may use, if it gives one
 abbrev pub places_read : Reading → ℕ

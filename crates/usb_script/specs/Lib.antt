@@ -2,6 +2,7 @@ pub mod Calls
 pub mod ControlLines
 pub mod EndpointCalls
 pub mod ItemKinds
+pub mod Kinds
 pub mod LineForms
 pub mod ReaderCalls
 pub mod TreeLines

@@ -1,8 +1,9 @@
 //! The items of a script.
 
-ghost use Rattle.std.specs.Prelude.{◌≡◌};
-ghost use Rattle.usb_script.specs.ItemKinds.{is_setup, is_call, places_in};
+ghost use Rattle.std.specs.Prelude.{◌≡◌, ◌≤◌, length};
+ghost use Rattle.usb_script.specs.ItemKinds.{is_setup, is_call, steps_in, places_in};
 
+use std::alloc::Global;
 use usb_kernel::Bytes;
 use usb_steps::Steps;
 use usb_words::{
@@ -523,6 +524,31 @@ impl Item {
             | Item::Steps(steps) => steps.as_slice().len(),
             Item::Reset { .. } => 1,
             _ => 0,
+        }
+    }
+
+    /// Its steps, in order: none where it has none.
+    pub fn into_steps(self, alloc: Global) -> Steps
+        ensures value { result ≡ steps_in self }
+        ensures few { length result ≤ places_in self }
+    {
+        match self {
+            Item::Wait { steps, .. } => steps,
+            Item::TransferIn { steps, .. } => steps,
+            Item::TransferOut { steps, .. } => steps,
+            Item::Read { steps, .. } => steps,
+            Item::FillBuf { steps, .. } => steps,
+            Item::Write { steps, .. } => steps,
+            Item::Flush { steps, .. } => steps,
+            Item::FlushEnd { steps, .. } => steps,
+            Item::ControlIn { steps, .. } => steps,
+            Item::ControlOut { steps, .. } => steps,
+            Item::WaitFuture { steps, .. } => steps,
+            Item::GetDescriptor { steps, .. } => steps,
+            Item::SupportedLanguages { steps, .. } => steps,
+            Item::StringDescriptor { steps, .. } => steps,
+            Item::Steps(steps) => steps,
+            _ => Steps::from_vec(Vec::new(alloc)),
         }
     }
 }

@@ -3,6 +3,7 @@
 
 mod call;
 mod control_call;
+mod copies;
 mod endpoint_call;
 mod item;
 mod line;

@@ -7,7 +7,7 @@ use std::marker::Model;
 use usb_desc::NoMemory;
 
 /// Bytes that an event, a step or a device keeps.
-#[derive(Drop)]
+#[derive(Clone, Drop)]
 pub struct Bytes {
     items: Vec<u8>,
 }
@@ -49,7 +49,7 @@ impl Bytes {
     pub fn clone(&self) -> Result<Bytes, NoMemory>
         ensures copy { IfOk result (λ b. b ≡ self.now) }
     {
-        Bytes::from_slice(*self.items.allocator(), self.as_slice())
+        Ok(Clone::clone(self)?)
     }
 
     /// The bytes.

@@ -13,7 +13,7 @@ use usb_xfer::errno;
 /// A simulated device: its place on a bus, its speed's code, the value of its active configuration,
 /// its descriptors (the device descriptor, then its configurations, USB 2.0, 9.6), and the numbers
 /// of the interfaces that have a kernel driver.
-#[derive(Drop)]
+#[derive(Clone, Drop)]
 pub struct SimDevice {
     pub bus: u8,
     pub address: u8,
@@ -21,6 +21,15 @@ pub struct SimDevice {
     pub config: u8,
     pub bytes: Bytes,
     pub drivers: Bytes,
+}
+
+impl SimDevice {
+    /// The same device once more, with descriptors of its own.
+    pub fn clone(&self) -> Result<SimDevice, NoMemory>
+        ensures same { IfOk result (λ copy. copy ≡ self.now) }
+    {
+        Ok(Clone::clone(self)?)
+    }
 }
 
 /// A device as the kernel keeps it: `claimed` are its interfaces that are claimed, and `bound`

@@ -33,7 +33,7 @@ pub struct Armed {
 }
 
 /// A step of the simulation. Devices are named by their numbers and endpoints by their addresses.
-#[derive(Drop)]
+#[derive(Clone, Drop)]
 pub enum KernelStep {
     /// A packet comes to an IN endpoint.
     Packet {
@@ -111,54 +111,6 @@ impl KernelStep {
     pub fn clone(&self) -> Result<KernelStep, NoMemory>
         ensures copy { IfOk result (λ step. step ≡ self.now) }
     {
-        match self {
-            KernelStep::Packet {
-                device,
-                endpoint,
-                bytes,
-            } => {
-                let bytes = bytes.clone()?;
-                Ok(KernelStep::Packet {
-                    device: *device,
-                    endpoint: *endpoint,
-                    bytes,
-                })
-            }
-            KernelStep::Ack { device, endpoint } => Ok(KernelStep::Ack {
-                device: *device,
-                endpoint: *endpoint,
-            }),
-            KernelStep::Echo {
-                device,
-                output,
-                input,
-            } => Ok(KernelStep::Echo {
-                device: *device,
-                output: *output,
-                input: *input,
-            }),
-            KernelStep::Fail {
-                device,
-                endpoint,
-                errno,
-            } => Ok(KernelStep::Fail {
-                device: *device,
-                endpoint: *endpoint,
-                errno: *errno,
-            }),
-            KernelStep::Unplug { device } => Ok(KernelStep::Unplug { device: *device }),
-            KernelStep::Clock { to } => Ok(KernelStep::Clock { to: *to }),
-            KernelStep::Timer => Ok(KernelStep::Timer),
-            KernelStep::Reap { ticket } => Ok(KernelStep::Reap { ticket: *ticket }),
-            KernelStep::Refuse {
-                device,
-                call,
-                errno,
-            } => Ok(KernelStep::Refuse {
-                device: *device,
-                call: *call,
-                errno: *errno,
-            }),
-        }
+        Ok(Clone::clone(self)?)
     }
 }

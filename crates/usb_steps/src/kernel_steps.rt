@@ -1,15 +1,16 @@
 //! Steps in the ranges of a script.
 
-ghost use Rattle.std.specs.Prelude.{◌≡◌};
+ghost use Rattle.std.specs.Prelude.{◌≡◌, IfOk};
 ghost use Rattle.std.specs.List.{All};
 ghost use Rattle.usb_steps.specs.StepRanges.{IsStepInRange};
 
 use std::marker::Model;
+use usb_desc::NoMemory;
 use usb_kernel::KernelStep;
 
 /// The steps of a line, whose fields are in the ranges of a script. A contract sees the list of
 /// them.
-#[derive(Drop)]
+#[derive(Clone, Drop)]
 pub struct Steps {
     items: Vec<KernelStep>,
 }
@@ -34,6 +35,13 @@ impl Steps {
         ensures value { result ≡ steps.items }
     {
         Steps { items: steps }
+    }
+
+    /// The same steps once more.
+    pub fn clone(&self) -> Result<Steps, NoMemory>
+        ensures same { IfOk result (λ copy. copy ≡ self.now) }
+    {
+        Ok(Clone::clone(self)?)
     }
 
     /// The steps in order.

@@ -1,6 +1,6 @@
 //! The sub-folders of folders.
 
-ghost use Rattle.std.specs.Prelude.{◌≡◌, [], OnOk, OnErr, unwrap_or};
+ghost use Rattle.std.specs.Prelude.{◌≡◌, [], IfOk, OnOk, OnErr, unwrap_or};
 ghost use Rattle.std.specs.Option.{option_copied};
 ghost use Rattle.std.specs.Map.{lookup};
 ghost use Rattle.std.specs.Str.{bytes_eq};
@@ -35,6 +35,14 @@ impl Folders {
         Folders {
             index: IndexMap::new(alloc),
         }
+    }
+
+    /// The same folders once more.
+    pub fn clone(&self) -> Result<Folders, NoMemory>
+        ensures same { IfOk result (λ copy. copy ≡ self.now) }
+    {
+        let index = self.index.clone()?;
+        Ok(Folders { index })
     }
 
     /// The sub-folders of a folder, where it has any.

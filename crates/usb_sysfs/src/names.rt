@@ -1,9 +1,9 @@
 //! Names of sub-folders.
 
-ghost use Rattle.std.specs.Prelude.{◌≡◌, [], OnOk, OnErr, map, string_bytes};
+ghost use Rattle.std.specs.Prelude.{◌≡◌, [], IfOk, OnOk, OnErr, map, string_bytes};
 ghost use Rattle.usb_sysfs.specs.Names.{with_name};
 
-use std::alloc::Global;
+use std::alloc::{AllocError, Global};
 use std::collections::BTreeSet;
 use std::collections::btree_set::Iter;
 use std::marker::Model;
@@ -23,6 +23,15 @@ impl Model for Names {
     ghost view = { λ n. map (λ name. string_bytes name) n.set.keys };
 }
 
+impl Clone for Names {
+    ghost is_clone = { λ names copy. copy ≡ names };
+
+    fn clone(&self) -> Result<Names, AllocError> {
+        let set = self.set.clone()?;
+        Ok(Names { set })
+    }
+}
+
 impl Names {
     /// No names.
     pub fn new(alloc: Global) -> Names
@@ -31,6 +40,13 @@ impl Names {
         Names {
             set: BTreeSet::new(alloc),
         }
+    }
+
+    /// The same names once more.
+    pub fn clone(&self) -> Result<Names, NoMemory>
+        ensures same { IfOk result (λ copy. copy ≡ self.now) }
+    {
+        Ok(Clone::clone(self)?)
     }
 
     /// Adds a name, unless it is there.

@@ -1,14 +1,15 @@
 //! Folders of the tree of attributes, and why an attribute gave no value.
 
-ghost use Rattle.std.specs.Prelude.{◌≡◌, ◌<◌, slice_index};
+ghost use Rattle.std.specs.Prelude.{◌≡◌, ◌<◌, slice_index, IfOk};
 ghost use Rattle.hex.specs.Hex.{lower_digits};
 
 use crate::text::Text;
 use std::fmt;
 use std::marker::Model;
+use usb_desc::NoMemory;
 
 /// The path of a folder in the tree of attributes.
-#[derive(Debug, Drop)]
+#[derive(Clone, Debug, Drop)]
 pub struct SysfsPath {
     path: Text,
 }
@@ -46,10 +47,17 @@ impl SysfsPath {
     {
         self.path.as_str()
     }
+
+    /// The same path once more.
+    pub fn clone(&self) -> Result<SysfsPath, NoMemory>
+        ensures same { IfOk result (λ copy. copy ≡ self.now) }
+    {
+        Ok(Clone::clone(self)?)
+    }
 }
 
 /// Why an attribute gave no value.
-#[derive(Debug, Drop)]
+#[derive(Clone, Debug, Drop)]
 pub enum SysfsErrorKind {
     /// It was not read, with this errno: 84 where it is no UTF-8.
     Io(u16),
@@ -57,13 +65,31 @@ pub enum SysfsErrorKind {
     Parse(Text),
 }
 
+impl SysfsErrorKind {
+    /// The same once more.
+    pub fn clone(&self) -> Result<SysfsErrorKind, NoMemory>
+        ensures same { IfOk result (λ copy. copy ≡ self.now) }
+    {
+        Ok(Clone::clone(self)?)
+    }
+}
+
 /// The attribute that gave no value, by its path, and why.
-#[derive(Debug, Drop)]
+#[derive(Clone, Debug, Drop)]
 pub struct SysfsError {
     /// The path of the attribute.
     pub path: Text,
     /// Why it gave no value.
     pub kind: SysfsErrorKind,
+}
+
+impl SysfsError {
+    /// The same error once more.
+    pub fn clone(&self) -> Result<SysfsError, NoMemory>
+        ensures same { IfOk result (λ copy. copy ≡ self.now) }
+    {
+        Ok(Clone::clone(self)?)
+    }
 }
 
 /// Bytes that print as hexadecimal digits in lower case, none as a dash.

@@ -7,7 +7,7 @@ use std::marker::Model;
 use usb_desc::NoMemory;
 
 /// Text that a path, a name or a string keeps: seen as its bytes in UTF-8.
-#[derive(Debug, Drop)]
+#[derive(Clone, Debug, Drop)]
 pub struct Text {
     value: String,
 }
@@ -42,7 +42,7 @@ impl Text {
     pub fn clone(&self) -> Result<Text, NoMemory>
         ensures copy { IfOk result (λ t. t ≡ self.now) }
     {
-        Text::from_str(*self.value.allocator(), self.as_str())
+        Ok(Clone::clone(self)?)
     }
 
     /// The text.

@@ -23,12 +23,21 @@ use usb_kernel::{Bytes, errno};
 const ILSEQ: u16 = 84;
 
 /// An attribute: what it holds, or the errno with which reading it fails.
-#[derive(Drop)]
+#[derive(Clone, Drop)]
 pub enum Attribute {
     /// It holds these bytes.
     Content(Bytes),
     /// Reading it fails with this errno.
     Denied(u16),
+}
+
+impl Attribute {
+    /// The same once more.
+    pub fn clone(&self) -> Result<Attribute, NoMemory>
+        ensures same { IfOk result (λ copy. copy ≡ self.now) }
+    {
+        Ok(Clone::clone(self)?)
+    }
 }
 
 /// Folders with attributes, sub-folders and links, and the listing of devices. Each call that sets
@@ -74,6 +83,24 @@ impl AttrTree {
             entries: TextMap::new(alloc),
             refusal: None,
         }
+    }
+
+    /// The same tree once more.
+    pub fn clone(&self) -> Result<AttrTree, NoMemory>
+        ensures same { IfOk result (λ copy. copy ≡ self.now) }
+    {
+        let attributes = self.attributes.clone()?;
+        let folders = self.folders.clone()?;
+        let links = self.links.clone()?;
+        let entries = self.entries.clone()?;
+        Ok(AttrTree {
+            alloc: self.alloc,
+            attributes,
+            folders,
+            links,
+            entries,
+            refusal: self.refusal,
+        })
     }
 
     /// Sets what an attribute of a folder holds.

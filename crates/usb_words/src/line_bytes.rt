@@ -1,6 +1,6 @@
 //! The bytes of a line.
 
-ghost use Rattle.std.specs.Prelude.{◌≡◌, ◌≤◌, length};
+ghost use Rattle.std.specs.Prelude.{◌≡◌, ◌≤◌, length, IfOk};
 ghost use Rattle.usb_words.specs.Controls.{control_bytes_of};
 ghost use Rattle.usb_words.specs.Words.{at_most_bytes, bytes_of};
 ghost use Rattle.usb_words.specs.Outcome.{Gives};
@@ -9,6 +9,7 @@ use crate::line_error::LineError;
 use crate::words::reads;
 use std::alloc::Global;
 use std::marker::Model;
+use usb_desc::NoMemory;
 use usb_kernel::Bytes;
 
 /// The most bytes that one word gives.
@@ -19,7 +20,7 @@ const MAX_CONTROL_BYTES: usize = 65535;
 
 /// The bytes of a transfer, or the descriptors of a device: at most 65536 bytes. A contract sees
 /// the list of them.
-#[derive(Drop)]
+#[derive(Clone, Drop)]
 pub struct Data {
     bytes: Bytes,
 }
@@ -35,6 +36,13 @@ impl Model for Data {
 }
 
 impl Data {
+    /// The same bytes once more.
+    pub fn clone(&self) -> Result<Data, NoMemory>
+        ensures same { IfOk result (λ copy. copy ≡ self.now) }
+    {
+        Ok(Clone::clone(self)?)
+    }
+
     /// Takes the bytes over, where there are at most 65536.
     pub fn from_vec(bytes: Vec<u8>) -> Option<Data>
         ensures value { result ≡ at_most_bytes 65536 bytes.items }
@@ -83,7 +91,7 @@ impl Data {
 
 /// The bytes of a control transfer's data stage: at most 65535 bytes. A contract sees the list of
 /// them.
-#[derive(Drop)]
+#[derive(Clone, Drop)]
 pub struct ControlData {
     bytes: Bytes,
 }
@@ -99,6 +107,13 @@ impl Model for ControlData {
 }
 
 impl ControlData {
+    /// The same bytes once more.
+    pub fn clone(&self) -> Result<ControlData, NoMemory>
+        ensures same { IfOk result (λ copy. copy ≡ self.now) }
+    {
+        Ok(Clone::clone(self)?)
+    }
+
     /// The bytes.
     pub fn as_slice(&self) -> &[u8]
         ensures value { result.now ≡ self.now }

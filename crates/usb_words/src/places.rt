@@ -1,6 +1,6 @@
 //! Words that name a place of a tree of attributes.
 
-ghost use Rattle.std.specs.Prelude.{◌≡◌, IsTrue};
+ghost use Rattle.std.specs.Prelude.{◌≡◌, IfOk, IsTrue};
 ghost use Rattle.std.specs.List.{list_all, slice_split};
 ghost use Rattle.usb_words.specs.Lines.{is_word};
 ghost use Rattle.usb_words.specs.Outcome.{Gives};
@@ -11,12 +11,13 @@ use crate::line_error::LineError;
 use crate::words::reads;
 use std::alloc::Global;
 use std::marker::Model;
+use usb_desc::NoMemory;
 use usb_kernel::Bytes;
 use usb_sysfs::Text;
 
 /// The path of a folder: `/`, or names with a slash before each, none of them empty, `.` or `..`. A
 /// contract sees its bytes.
-#[derive(Drop)]
+#[derive(Clone, Drop)]
 pub struct Path {
     text: Text,
 }
@@ -33,6 +34,13 @@ impl Model for Path {
 }
 
 impl Path {
+    /// The same path once more.
+    pub fn clone(&self) -> Result<Path, NoMemory>
+        ensures same { IfOk result (λ copy. copy ≡ self.now) }
+    {
+        Ok(Clone::clone(self)?)
+    }
+
     /// The path.
     pub fn as_str(&self) -> &str
         ensures value { result.now ≡ self.now }
@@ -56,7 +64,7 @@ impl Path {
 
 /// The name of an attribute, a sub-folder, a link or an entry: at least one byte, none of them a
 /// slash. A contract sees its bytes.
-#[derive(Drop)]
+#[derive(Clone, Drop)]
 pub struct FileName {
     text: Text,
 }
@@ -73,6 +81,13 @@ impl Model for FileName {
 }
 
 impl FileName {
+    /// The same name once more.
+    pub fn clone(&self) -> Result<FileName, NoMemory>
+        ensures same { IfOk result (λ copy. copy ≡ self.now) }
+    {
+        Ok(Clone::clone(self)?)
+    }
+
     /// The name.
     pub fn as_str(&self) -> &str
         ensures value { result.now ≡ self.now }
@@ -95,7 +110,7 @@ impl FileName {
 }
 
 /// The target of a link: at least one byte. A contract sees its bytes.
-#[derive(Drop)]
+#[derive(Clone, Drop)]
 pub struct Target {
     text: Text,
 }
@@ -112,6 +127,13 @@ impl Model for Target {
 }
 
 impl Target {
+    /// The same target once more.
+    pub fn clone(&self) -> Result<Target, NoMemory>
+        ensures same { IfOk result (λ copy. copy ≡ self.now) }
+    {
+        Ok(Clone::clone(self)?)
+    }
+
     /// The target.
     pub fn as_str(&self) -> &str
         ensures value { result.now ≡ self.now }

@@ -11,10 +11,11 @@ use crate::places::{text, value};
 use crate::words::{hex_byte, hex_word, reads};
 use std::alloc::Global;
 use std::marker::Model;
+use usb_desc::NoMemory;
 use usb_sysfs::Text;
 
 /// A criterion by which devices are looked for.
-#[derive(Drop)]
+#[derive(Clone, Drop)]
 pub enum Criterion {
     /// `vid HHHH`: the vendor has this number.
     Vendor(u16),
@@ -30,8 +31,17 @@ pub enum Criterion {
     Serial(Text),
 }
 
+impl Criterion {
+    /// The same criterion once more.
+    pub fn clone(&self) -> Result<Criterion, NoMemory>
+        ensures same { IfOk result (λ copy. copy ≡ self.now) }
+    {
+        Ok(Clone::clone(self)?)
+    }
+}
+
 /// What devices are looked for by, as criteria in order. A contract sees the list of them.
-#[derive(Drop)]
+#[derive(Clone, Drop)]
 pub struct Selector {
     criteria: Vec<Criterion>,
 }
@@ -47,6 +57,13 @@ impl Model for Selector {
 
 impl Selector {
     ghost use Rattle.usb_words.specs.Selectors.{selector_of};
+
+    /// The same once more.
+    pub fn clone(&self) -> Result<Selector, NoMemory>
+        ensures same { IfOk result (λ copy. copy ≡ self.now) }
+    {
+        Ok(Clone::clone(self)?)
+    }
 
     /// Its criteria, in order.
     pub fn as_slice(&self) -> &[Criterion]

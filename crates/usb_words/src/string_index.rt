@@ -11,7 +11,7 @@ use std::marker::Model;
 use std::num::NonZeroU8;
 
 /// The index of a string descriptor, which is not 0. A contract sees the number.
-#[derive(Drop)]
+#[derive(Clone, Drop)]
 pub struct StringIndex {
     index: NonZeroU8,
 }

@@ -1,12 +1,13 @@
 //! A transfer on its way: with nothing yet, filled with a buffer, or complete.
 
-ghost use Rattle.std.specs.Prelude.{◌≡◌};
-ghost use Rattle.usb_xfer.specs.Transfers.{IsFilled, IsComplete, empty_transfer, outcome_of, status_in, bytes_in};
+ghost use Rattle.std.specs.Prelude.{◌≡◌, ◌<◌, ◌^◌, length, IfOk};
+ghost use Rattle.usb_xfer.specs.Transfers.{IsFilled, IsRequest, IsComplete, empty_transfer, request_in, request_out, outcome_of, status_in, bytes_in};
 
 use crate::buffer::Buffer;
 use crate::error::TransferError;
+use std::alloc::Global;
 use std::mem;
-use usb_desc::TransferType;
+use usb_desc::{ControlIn, ControlOut, NoMemory, TransferType};
 
 /// A transfer that ended. Bytes may have gone over also where it failed.
 #[derive(Debug, Drop)]
@@ -29,6 +30,18 @@ impl Completion {
             Err(error) => Err(error),
         }
     }
+
+    /// The same once more, with a buffer of its own.
+    pub fn clone(&self) -> Result<Completion, NoMemory>
+        ensures same { IfOk result (λ copy. copy ≡ self.now) }
+    {
+        let buffer = self.buffer.clone()?;
+        Ok(Completion {
+            buffer,
+            actual_len: self.actual_len,
+            status: self.status,
+        })
+    }
 }
 
 /// What a transfer holds.
@@ -37,8 +50,25 @@ pub enum Held {
     Nothing,
     /// A buffer to be submitted.
     Filled(Buffer),
+    /// A control transfer to be submitted: its setup packet (USB 2.0, section 9.3), and the buffer
+    /// that its data come to or stand in.
+    Request([u8; 8], Buffer),
     /// What became of the buffer that was submitted.
     Complete(Completion),
+}
+
+impl Held {
+    /// The same once more, with a buffer of its own.
+    pub fn clone(&self) -> Result<Held, NoMemory>
+        ensures same { IfOk result (λ copy. copy ≡ self.now) }
+    {
+        match self {
+            Held::Nothing => Ok(Held::Nothing),
+            Held::Filled(buffer) => Ok(Held::Filled(buffer.clone()?)),
+            Held::Request(setup, buffer) => Ok(Held::Request(*setup, buffer.clone()?)),
+            Held::Complete(completion) => Ok(Held::Complete(completion.clone()?)),
+        }
+    }
 }
 
 /// A transfer of an endpoint.
@@ -63,6 +93,44 @@ impl TransferData {
         }
     }
 
+    /// A control transfer on endpoint 0 (USB 2.0, section 9.3) whose data come from the device, with
+    /// an empty buffer.
+    pub fn new_control_in(alloc: Global, setup: ControlIn) -> Result<Self, NoMemory>
+        ensures request { IfOk result (λ t. t ≡ request_in setup) }
+    {
+        let buffer = Buffer::new(alloc, usize::from(setup.length))?;
+        Ok(TransferData {
+            endpoint: 0x80,
+            kind: TransferType::Control,
+            held: Held::Request(setup.setup_packet(), buffer),
+        })
+    }
+
+    /// One that sends data, of which there are at most 65535 bytes. They are copied.
+    pub fn new_control_out(alloc: Global, setup: ControlOut<'_>) -> Result<Self, NoMemory>
+        requires short { length setup.bytes.now < 2 ^ 16 }
+        ensures request { IfOk result (λ t. t ≡ request_out setup.entry) }
+    {
+        let buffer = Buffer::from_slice(alloc, setup.bytes)?;
+        Ok(TransferData {
+            endpoint: 0x00,
+            kind: TransferType::Control,
+            held: Held::Request(setup.setup_packet(), buffer),
+        })
+    }
+
+    /// The same once more, with a buffer of its own.
+    pub fn clone(&self) -> Result<TransferData, NoMemory>
+        ensures same { IfOk result (λ copy. copy ≡ self.now) }
+    {
+        let held = self.held.clone()?;
+        Ok(TransferData {
+            endpoint: self.endpoint,
+            kind: self.kind,
+            held,
+        })
+    }
+
     /// Fills the transfer with a buffer. It must hold none.
     pub fn set_buffer(&mut self, b: Buffer)
         requires none { self.old.held ≡ Held.Nothing }
@@ -79,6 +147,18 @@ impl TransferData {
     {
         match mem::replace(&mut self.held, Held::Nothing) {
             Held::Filled(buffer) => buffer,
+            _ => unreachable!(),
+        }
+    }
+
+    /// Takes the setup packet and the buffer of a control transfer that is to be submitted.
+    pub fn take_request(&mut self) -> ([u8; 8], Buffer)
+        requires request { IsRequest self.old }
+        ensures value { self.old.held ≡ Held.Request result.0 result.1 }
+        ensures rest { self.new ≡ record self.old { held = Held.Nothing } }
+    {
+        match mem::replace(&mut self.held, Held::Nothing) {
+            Held::Request(setup, buffer) => (setup, buffer),
             _ => unreachable!(),
         }
     }
@@ -119,7 +199,7 @@ impl TransferData {
     {
         match &self.held {
             Held::Nothing => &[],
-            Held::Filled(buffer) => buffer.as_slice(),
+            Held::Filled(buffer) | Held::Request(_, buffer) => buffer.as_slice(),
             Held::Complete(completion) => completion.buffer.as_slice(),
         }
     }

@@ -1,6 +1,6 @@
 use Rattle.std.proofs.Common.{ap}
 use Rattle.std.specs.Option.{option_copied}
-use Rattle.usb_host.specs.Controls.{request_out}
+use Rattle.usb_xfer.specs.Transfers.{request_out}
 use Rattle.usb_answers.specs.Controls.{request_with}
 use Rattle.usb_answers.proofs.ControlCode.{device-found, interface-found}
 use Rattle.usb_answers.proofs.FutureCalls.{started-future, started-host}

@@ -1,7 +1,7 @@
 use Rattle.std.proofs.Common.{◌∙◌, ap, sym}
 use Rattle.std.specs.Option.{option_copied}
 use Rattle.usb_desc.specs.declared.control.ControlIn.{ControlIn}
-use Rattle.usb_host.specs.Controls.{request_in}
+use Rattle.usb_xfer.specs.Transfers.{request_in}
 use Rattle.usb_device.specs.ControlCalls.{controlled, control_answered}
 use Rattle.usb_words.specs.Controls.{control_in_of}
 use Rattle.usb_lines.specs.Controls.{received_line}

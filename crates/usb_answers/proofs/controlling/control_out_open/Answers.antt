@@ -2,7 +2,7 @@ use Rattle.std.proofs.Common.{◌∙◌, ap, sym, ℕ, List, []}
 use Rattle.std.specs.Option.{option_copied}
 use Rattle.usb_desc.specs.declared.control.ControlOut.{ControlOut}
 use Rattle.usb_error.specs.Outcomes.{result_map}
-use Rattle.usb_host.specs.Controls.{request_out}
+use Rattle.usb_xfer.specs.Transfers.{request_out}
 use Rattle.usb_device.specs.ControlCalls.{controlled, control_answered}
 use Rattle.usb_words.specs.Controls.{control_out_of}
 use Rattle.usb_lines.specs.Controls.{sent_line}

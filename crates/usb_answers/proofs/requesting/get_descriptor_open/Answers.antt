@@ -1,7 +1,7 @@
 use Rattle.std.proofs.Common.{◌∙◌, ap, sym, refl, []}
 use Rattle.std.specs.Option.{option_copied}
 use Rattle.usb_desc.specs.declared.control.ControlIn.{ControlIn}
-use Rattle.usb_host.specs.Controls.{request_in}
+use Rattle.usb_xfer.specs.Transfers.{request_in}
 use Rattle.usb_device.specs.DescriptorCalls.{descriptor_request, descriptor_asked, descriptor_answered}
 use Rattle.usb_lines.specs.Controls.{descriptor_line}
 use Rattle.usb_answers.proofs.ControlCode.{device-found, came-answers, left-as}

@@ -66,6 +66,18 @@ asks_descriptor (SupportedLanguages d timeout steps) = true
 asks_descriptor (StringDescriptor d index language timeout steps) = true
 asks_descriptor item = false
 
+-- those that hand in a control transfer and await it
+abbrev pub awaits_control : Item → Bool
+awaits_control (ControlIn target setup wanted timeout steps) = true
+awaits_control (ControlOut target setup bytes timeout steps) = true
+awaits_control item = asks_descriptor item
+
+-- those that may answer a control transfer: these, and those that poll or await one on its way
+abbrev pub answers_control : Item → Bool
+answers_control (PollFuture n) = true
+answers_control (WaitFuture n steps) = true
+answers_control item = awaits_control item
+
 -- those of control transfers: they are handed in, awaited or not, and what is on its way is polled, awaited or closed
 abbrev pub is_of_control : Item → Bool
 is_of_control (ControlIn target setup wanted timeout steps) = true
