@@ -9,7 +9,7 @@ calls and steps over few names, so that names collide, endpoints are busy, ticke
 pulled out while transfers are open. In a quarter of the scripts most calls are control transfers, with deadlines that pass while
 they wait, in another reads of readers, in a third transfers of endpoints; in the others most are about owners: claims, clones,
 closes, kernel drivers, configurations and alternate settings. In about a third of the scripts no refusal is armed. One in ten has a malformed line.
-Some scripts print the descriptors of damaged devices.
+Some scripts print the descriptors of damaged devices, and in some more than 1,024 tickets are unreaped.
 At the end stand the kinds of lines and steps of docs/SCRIPT.md, the answers and the statuses that didn't occur, and of the
 calls about owners, of control transfers and of reads each answer that didn't: those that a script can have without an armed refusal are
 counted there alone.
@@ -48,6 +48,7 @@ UNKNOWN_CONFIGURATION = "noconfig no descriptor found for active configuration 7
 
 # by call the answers that it gives without an armed refusal, and those that want one
 OF_CALLS = {
+    "now": (["now"], []),
     "clone d": (["ok"], []),
     "clone i": (["ok"], []),
     "close d": (["ok"], []),
@@ -432,6 +433,35 @@ def lines_of_readers(r):
 
 
 
+def crowd_steps(r):
+    return r.choice([
+        lambda: "clock 100 ; timer",
+        lambda: " ; ".join(["reap"] * r.randint(1, 64)),
+        lambda: " ; ".join(["clock 100", "timer", *["reap"] * r.randint(1, 64)]),
+        lambda: steps(r),
+        lambda: reader_steps(r),
+        lambda: control_steps(r),
+    ])()
+
+
+def crowd_call(r):
+    if r.random() < 0.1:
+        return "now"
+    return r.choice([transfer_call, owner_call, control_call, reader_call, reading_call, writer_call, tree_call])(r)
+
+
+def lines_of_crowds(r):
+    """Setup lines and the first calls of a script in which more than 1,024 tickets are unreaped: a read hands in a transfer for each
+    packet of no bytes that was reaped before."""
+    kind, depth = r.randrange(2), r.randint(2, 64)
+    lines = [f"device k0 1 6 3 1 {DEVICE.format(0, 1)}{CONFIGURATIONS[kind]}", "open d0 1 6", "claim d0 0 i0"]
+    lines += [f"endpoint e0 i0 81 {['bulk-in', 'int-in'][kind]}", f"endpoint e1 i0 {['02 bulk-out', '01 int-out'][kind]}"]
+    lines += ["reader r0 e0 64", f"num r0 {depth}", "pollread r0 5", "writer w0 e1 64"]
+    lines += ["! " + " ; ".join(["pkt k0 81 -"] * depth + ["reap"] * depth)]
+    lines += ["fin f0 d0 vendor device 30 0000 0000 64 100\nclose f0"] * (1024 - r.randrange(depth))
+    return lines + [r.choice(["pollread r0 5", "read r0 5", "pollfill r0", "fill r0 : reap"])]
+
+
 def writer_step(r):
     return r.choice([
         lambda: "ack k0 02",
@@ -709,6 +739,8 @@ def script(seed):
     r = random.Random(seed)
     if r.random() < 0.03:
         return "\n".join(walks(r)).encode()
+    if r.random() < 0.03:
+        return script_of(r, lines_of_crowds(r), lambda: crowd_call(r), 60, crowd_steps)
     if r.random() < 0.2:
         return script_of(r, lines_of_trees(r), lambda: tree_call(r) if r.random() < 0.9 else owner_call(r), 40)
     if r.random() < 0.3:
@@ -776,7 +808,7 @@ def kind_of_answer(call, line):
     if call == "ifdesc":
         return " ".join(line.split()[:2])
     line = re.sub(r"^(read|buf|wrote) [1-9].*$|^(io Other unknown) .*$", lambda found: found[1] or found[2], line)
-    line = re.sub(r"^(data|langs|string) .*$|^langs$", lambda found: found[0].split()[0], line)
+    line = re.sub(r"^(now|data|langs|string) .*$|^langs$", lambda found: found[0].split()[0], line)
     return re.sub(r"^(error Other failed .*) \(errno [0-9]+\)$|^(failed unknown):[0-9]+$", lambda found: found[1] or found[2], line)
 
 

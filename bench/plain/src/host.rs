@@ -352,6 +352,11 @@ impl Host {
         self.kernel.unreaped < MOST_UNREAPED
     }
 
+    /// Whether so many tickets are unreaped that no call is made.
+    pub fn is_crowded(&self) -> bool {
+        self.kernel.unreaped > MOST_UNREAPED
+    }
+
     /// Whether the endpoint has the direction of a transfer, and there is room for it.
     fn has_room(&self, key: EndpointKey, data: &Data) -> bool {
         let endpoint = &self.endpoints[key];

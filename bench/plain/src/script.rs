@@ -68,6 +68,29 @@ pub enum Call {
     Writer(Name, WriterCall),
 }
 
+impl Call {
+    /// The steps of its line.
+    pub fn into_steps(self) -> Vec<Step> {
+        match self {
+            Call::Endpoint(
+                _,
+                EndpointCall::Wait(patience) | EndpointCall::Transfer(_, patience),
+            )
+            | Call::Control(_, patience)
+            | Call::Ask(_, _, patience) => patience.steps,
+            Call::WaitFuture(_, steps)
+            | Call::Reader(_, ReaderCall::Read(_, _, steps) | ReaderCall::Fill(_, steps))
+            | Call::Writer(
+                _,
+                WriterCall::Write(_, steps)
+                | WriterCall::Flush(steps)
+                | WriterCall::FlushEnd(steps),
+            ) => steps,
+            _ => Vec::new(),
+        }
+    }
+}
+
 /// A control transfer.
 pub struct Control {
     pub target: Target,

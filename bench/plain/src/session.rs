@@ -95,6 +95,10 @@ impl Session {
                 self.take_steps(steps.into_iter());
                 None
             }
+            Line::Call(call) if self.host.is_crowded() => {
+                self.take_steps(call.into_steps().into_iter());
+                Some(Answer::Condition)
+            }
             Line::Call(call) => Some(self.call(call).unwrap_or(Answer::Condition)),
         }
     }

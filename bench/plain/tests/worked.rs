@@ -109,6 +109,60 @@ fn bars_the_65th_pending_transfer_and_the_1025th_unreaped() {
     expect("limits", &[], script.as_bytes(), 0, &output, "");
 }
 
+/// A reader over 64 reaped packets of no bytes, 1,020 unreaped control transfers that were given up,
+/// and a read that hands in a transfer for each of the packets: 1,084 tickets are unreaped.
+fn crowded_session() -> (String, String) {
+    let mut script = String::from(
+        "device k0 1 6 3 1 1201000200000040aaaabbbb0001000000010902200001010080320904000002ff0000000705810240000007050202400000\n",
+    );
+    script += "open d0 1 6\nclaim d0 0 i0\nendpoint e0 i0 81 bulk-in\nreader r0 e0 64\nnum r0 64\npollread r0 5\n";
+    script += &format!(
+        "! {}reap\n",
+        "pkt k0 81 - ; ".repeat(64) + &"reap ; ".repeat(63)
+    );
+    script += &"fin f0 d0 vendor device 30 0000 0000 64 100\nclose f0\n".repeat(1020);
+    script += "pollread r0 5\n";
+    let output = "ok\n".repeat(5) + "pending\n" + &"ok\n".repeat(2040) + "pending\n";
+    (script, output)
+}
+
+/// What became of its tickets.
+fn crowded_fates() -> String {
+    let mut fates = String::new();
+    for ticket in 0..64 {
+        fates += &format!("ticket {ticket} k0 81 ok 0 taken\n");
+    }
+    for ticket in 64..1084 {
+        fates += &format!("ticket {ticket} k0 80 cancelled 0 reclaimed\n");
+    }
+    for ticket in 1084..1148 {
+        fates += &format!("ticket {ticket} k0 81 cancelled 0 reclaimed\n");
+    }
+    fates
+}
+
+#[test]
+fn bars_every_call_above_1024_unreaped() {
+    let (mut script, mut output) = crowded_session();
+    script += "now\npoll e0\nclose d0\nisend r0\npending e0\nlist\n";
+    output += &"condition\n".repeat(6);
+    output += &crowded_fates();
+    expect("crowded", &[], script.as_bytes(), 0, &output, "");
+}
+
+#[test]
+fn makes_calls_again_once_1024_are_unreaped() {
+    let (mut script, mut output) = crowded_session();
+    script += &format!("! clock 100 ; timer ; {}reap\n", "reap ; ".repeat(58));
+    script += "now\nread r0 5 : reap ; clock 107\nnow\n";
+    output += "condition\ncondition\nnow 107\n";
+    script += "fin f0 d0 vendor device 30 0000 0000 64 100\n! reap\nfin f0 d0 vendor device 30 0000 0000 64 100\n";
+    output += "condition\nok\n";
+    output += &crowded_fates();
+    output += "ticket 1148 k0 80 cancelled 0 reclaimed\n";
+    expect("uncrowded", &[], script.as_bytes(), 0, &output, "");
+}
+
 #[test]
 fn trees_and_packets() {
     check(include_str!("worked/tree.txt"));

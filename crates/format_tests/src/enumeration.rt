@@ -7,7 +7,8 @@ use std::test::Fail;
 use usb_desc::Fail::Cause;
 use usb_desc::NoMemory;
 use usb_enum::{
-    AttrTree, DeviceInfo, DeviceSelector, StringDescriptor, list_buses, request_device,
+    AttrTree, DeviceInfo, DeviceSelector, HotplugEvent, InterfaceInfo, StringDescriptor,
+    list_buses, request_device,
 };
 use usb_error::Error;
 use usb_sysfs::read_decimal;
@@ -109,6 +110,14 @@ fn is_read(read: Result<Option<String>, usb_desc::Fail<Error>>, wanted: &str) ->
     }
 }
 
+/// Whether a copy of the interface is interface 0 with no name.
+fn is_interface(found: &InterfaceInfo) -> bool {
+    match found.clone() {
+        Ok(copy) => copy.interface_number() == 0 && is_absent(copy.get_interface_string()),
+        Err(NoMemory) => false,
+    }
+}
+
 /// Whether it is the device, which has a product's name and no other string.
 fn is_device(found: &DeviceInfo) -> bool {
     found.sysfs_path() == "/d"
@@ -117,18 +126,26 @@ fn is_device(found: &DeviceInfo) -> bool {
         && is_absent(found.get_serial_number_string())
         && is_read(found.get_product_string(), "Box")
         && match found.interfaces().last() {
-            Some(last) => is_absent(last.get_interface_string()),
+            Some(last) => is_interface(last),
             None => false,
         }
 }
 
-/// Whether one of the selectors finds the device.
+/// Whether a copy of the event tells the device.
+fn is_connected(device: DeviceInfo) -> Result<bool, NoMemory> {
+    let event = HotplugEvent::Connected(device);
+    match event.clone()? {
+        HotplugEvent::Connected(copy) => Ok(is_device(&copy)),
+        HotplugEvent::Disconnected(_) => Ok(false),
+    }
+}
+
+/// Whether one of the selectors finds the device, and it is told by its copies.
 fn is_found(alloc: Global, tree: &AttrTree, wanted: &[DeviceSelector]) -> Result<bool, Fail> {
     match request_device(alloc, tree, wanted)? {
         Some(found) => {
-            let is_wanted = is_device(&found);
-            drop(found);
-            Ok(is_wanted)
+            let copy = found.clone()?;
+            Ok(is_device(&copy) && is_connected(found)?)
         }
         None => Ok(false),
     }
@@ -138,7 +155,7 @@ fn is_found(alloc: Global, tree: &AttrTree, wanted: &[DeviceSelector]) -> Result
 fn is_requested(alloc: Global, tree: &AttrTree) -> Result<bool, Fail> {
     let wanted = [
         DeviceSelector::all().with_class(3),
-        DeviceSelector::all().with_vid_pid(0xaaaa, 0xbbbb),
+        DeviceSelector::all().with_vid_pid(0xaaaa, 0xbbbb).clone()?,
     ];
     Ok(is_found(alloc, tree, &wanted)? && !is_found(alloc, tree, &wanted[..1])?)
 }
@@ -148,6 +165,7 @@ fn is_listed(alloc: Global, tree: &AttrTree) -> Result<bool, Fail> {
     let buses = list_buses(alloc, tree)?;
     let is_listed = match buses.as_slice() {
         [bus] => {
+            let bus = bus.clone()?;
             bus.sysfs_path() == "/p/usb1"
                 && bus.bus_id() == "001"
                 && bus.root_hub().vendor_id() == 0x1d6b
@@ -162,23 +180,47 @@ fn is_listed(alloc: Global, tree: &AttrTree) -> Result<bool, Fail> {
 fn is_refused(alloc: Global, tree: &AttrTree, folder: &str, shown: &str) -> Result<bool, Fail> {
     match read_decimal(alloc, tree, folder, "devnum") {
         Err(Cause(error)) => {
-            let text = error.to_string(alloc);
-            drop(error);
-            Ok(text?.as_str() == shown)
+            // what is shown is a copy, whose kind is one more
+            let mut copy = error.clone()?;
+            copy.kind = error.kind.clone()?;
+            let text = copy.to_string(alloc)?;
+            Ok(text.as_str() == shown)
         }
         _ => Ok(false),
     }
 }
 
+/// Whether a copy of the names of a folder's sub-folders is this one name.
+fn has_child(tree: &AttrTree, folder: &str, name: &str) -> Result<bool, NoMemory> {
+    let Some(names) = tree.children(folder) else {
+        return Ok(false);
+    };
+    let copy = names.clone()?;
+    let is_first = match copy.iter().next() {
+        Some(first) => first.as_str() == name,
+        None => false,
+    };
+    Ok(is_first && copy.iter().count() == 1)
+}
+
 /// Whether the bus is listed and the device found in the tree that holds them, and a path keeps the
 /// slash at its end.
-fn is_held(alloc: Global, tree: &mut AttrTree) -> Result<bool, Fail> {
-    set_device(tree)?;
+fn holds_device(alloc: Global, tree: &AttrTree) -> Result<bool, Fail> {
     Ok(
         is_listed(alloc, tree)?
             && is_requested(alloc, tree)?
+            && has_child(tree, "/d", "1-6:1.0")?
             && is_refused(alloc, tree, "/d/", "/d//devnum io 2")?,
     )
+}
+
+/// Whether a copy of the tree holds the bus and the device that are set in the tree.
+fn is_held(alloc: Global, tree: &mut AttrTree) -> Result<bool, Fail> {
+    set_device(tree)?;
+    let copy = tree.clone()?;
+    let is_held = holds_device(alloc, &copy);
+    drop(copy);
+    is_held
 }
 
 /// The tree is owned here alone and dropped by a call, since each other function that owns one is
@@ -195,7 +237,7 @@ fn a_device_is_found_and_tells_its_strings(rt: HostRuntime) -> Result<(), Fail> 
 #[test]
 fn a_string_descriptor_is_kept_or_there_is_none(rt: HostRuntime) -> Result<(), Fail> {
     assert!(rt; is_absent(StringDescriptor::NotPresent.fetch()));
-    let kept = StringDescriptor::Cached(String::from_str(rt.alloc(), "Box")?);
+    let kept = StringDescriptor::Cached(String::from_str(rt.alloc(), "Box")?).clone()?;
     assert!(rt; matches!(kept.cached(), Some("Box")) && is_read(kept.fetch(), "Box"));
     Ok(())
 }

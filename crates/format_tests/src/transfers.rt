@@ -8,13 +8,11 @@ mod notify;
 use crate::answers::check;
 use std::alloc::AllocError;
 use std::test::Fail;
-use usb_desc::{Direction, TransferType};
+use usb_desc::{ControlIn, ControlOut, ControlType, Direction, NoMemory, Recipient, TransferType};
 use usb_xfer::{
     Buffer, Bulk, BulkOrInterrupt, Completion, EndpointDirection, Idle, In, Interrupt, Out,
-    TransferData, TransferError,
+    TransferData, TransferError, buffer_is_send_and_sync,
 };
-
-fn is_send_and_sync<T: Send + Sync>(_value: &T) {}
 
 /// Whether a buffer has room for six bytes, of which four are asked for, and holds these five.
 fn is_filled(buffer: &Buffer) -> bool {
@@ -29,7 +27,7 @@ fn is_filled(buffer: &Buffer) -> bool {
 #[test]
 fn a_buffer_is_filled_copied_and_cut(rt: HostRuntime) -> Result<(), Fail> {
     let mut buffer = Buffer::new(rt.alloc(), 6)?;
-    is_send_and_sync(&buffer);
+    buffer_is_send_and_sync(&buffer);
     assert!(rt; buffer.is_empty() && !buffer.is_zero_copy());
     buffer.extend_from_slice(&[1, 2]);
     let filled = buffer.extend_fill(3, 7);
@@ -122,5 +120,68 @@ fn a_completed_transfer_tells_its_bytes_and_its_error(rt: HostRuntime) -> Result
     assert!(rt; is_whole(idle.control_in_data()) && is_stalled(idle.status()));
     let completion = idle.into_inner().take_completion();
     assert!(rt; matches!(completion.into_result(), Err(TransferError::Stall)));
+    Ok(())
+}
+
+/// Whether copies of a transfer hold these bytes: while it is filled, and when it is complete.
+fn copies_transfer(buffer: Buffer) -> Result<bool, NoMemory> {
+    let mut transfer = TransferData::new(0x02, TransferType::Bulk);
+    transfer.set_buffer(buffer);
+    let mut filled = transfer.clone()?;
+    let is_same = filled.endpoint == 0x02 && filled.kind == TransferType::Bulk;
+    let buffer = filled.take_buffer();
+    let is_filled = is_same && is_whole(buffer.as_slice());
+    filled.set_completion(Completion {
+        buffer,
+        actual_len: 1,
+        status: Err(TransferError::Stall),
+    });
+    let mut complete = filled.clone()?;
+    let copy = complete.take_completion().clone()?;
+    let is_complete = is_whole(copy.buffer.as_slice()) && copy.actual_len == 1;
+    Ok(is_filled && is_complete && is_stalled(copy.status))
+}
+
+#[test]
+fn copies_of_a_transfer_hold_its_bytes(rt: HostRuntime) -> Result<(), Fail> {
+    let buffer = Buffer::from_slice(rt.alloc(), &[1, 2])?;
+    assert!(rt; copies_transfer(buffer)?);
+    Ok(())
+}
+
+#[test]
+fn a_control_transfer_in_asks_by_its_setup_packet(rt: HostRuntime) -> Result<(), Fail> {
+    let setup = ControlIn {
+        control_type: ControlType::Vendor,
+        recipient: Recipient::Device,
+        request: 0x30,
+        value: 0,
+        index: 0,
+        length: 64,
+    };
+    let mut transfer = TransferData::new_control_in(rt.alloc(), setup)?;
+    assert!(rt; transfer.endpoint == 0x80 && transfer.kind == TransferType::Control);
+    let (packet, buffer) = transfer.take_request();
+    assert!(rt; packet == [0xc0, 0x30, 0, 0, 0, 0, 0x40, 0]);
+    assert!(rt; buffer.is_empty() && buffer.requested_len() == 64);
+    Ok(())
+}
+
+#[test]
+fn a_control_transfer_out_sends_a_copy_of_its_data(rt: HostRuntime) -> Result<(), Fail> {
+    let setup = ControlOut {
+        control_type: ControlType::Vendor,
+        recipient: Recipient::Device,
+        request: 0x32,
+        value: 0,
+        index: 0,
+        bytes: &[1, 2, 3, 4],
+    };
+    let mut transfer = TransferData::new_control_out(rt.alloc(), setup)?;
+    assert!(rt; transfer.endpoint == 0x00 && transfer.kind == TransferType::Control);
+    assert!(rt; transfer.control_in_data() == [1, 2, 3, 4].as_slice());
+    let (packet, buffer) = transfer.take_request();
+    assert!(rt; packet == [0x40, 0x32, 0, 0, 0, 0, 4, 0]);
+    assert!(rt; buffer.as_slice() == [1, 2, 3, 4].as_slice());
     Ok(())
 }

@@ -28,7 +28,8 @@ pub fn new_kernel(alloc: Global, descriptors: &[u8]) -> Result<Kernel, NoMemory>
         bytes: Bytes::from_slice(alloc, descriptors)?,
         drivers: Bytes::from_vec(Vec::new(alloc)),
     };
-    match vec![in alloc; (0, device)] {
+    // the kernel's own is a copy
+    match vec![in alloc; (0, device.clone()?)] {
         Ok(devices) => Kernel::new(alloc, devices),
         Err(_) => Err(NoMemory),
     }

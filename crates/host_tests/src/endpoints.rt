@@ -14,7 +14,9 @@ mod writers;
 
 use crate::devices::new_kernel;
 use crate::endpoints::bus::is_right_bus;
-use crate::endpoints::readers::{FILLS, MESSAGES, READS, is_right_reader, takes_what_stands};
+use crate::endpoints::readers::{
+    FILLS, MESSAGES, READS, has_transfers, is_right_reader, takes_what_stands,
+};
 use crate::endpoints::transfers::is_right_endpoint;
 use crate::endpoints::writers::{is_right_writer, tells_its_packets};
 use std::alloc::Global;
@@ -63,6 +65,8 @@ enum Case {
     Fills,
     /// A writer is written to by std's trait.
     Writes,
+    /// A reader is made with a number of transfers.
+    Transfers,
     /// A reader and a writer of either type are asked what they have.
     Either,
 }
@@ -81,6 +85,7 @@ fn is_so(alloc: Global, bus: &mut KernelBus, case: &Case) -> bool {
         Case::Messages => is_right_reader(alloc, bus, MESSAGES),
         Case::Reads => is_right_reader(alloc, bus, READS),
         Case::Fills => is_right_reader(alloc, bus, FILLS),
+        Case::Transfers => has_transfers(alloc, bus),
         Case::Writes => is_right_writer(alloc, bus),
         Case::Either => takes_what_stands(alloc, bus) && tells_its_packets(alloc, bus),
     }

@@ -8,13 +8,12 @@ mod handles;
 mod transfers;
 
 use crate::devices::{DEVICE, new_kernel};
-use crate::hosts::handles::{has_texts, is_mapped};
+use crate::hosts::handles::{has_texts, is_mapped, is_timed};
 use crate::hosts::transfers::{has_packet, leaves_room};
 use std::alloc::Global;
 use std::process::Abort;
 use std::test::Fail;
-use usb_device::{Host, KernelStep, NoMemory};
-use usb_kernel::Bytes;
+use usb_device::{Bytes, Host, KernelStep, NoMemory};
 
 /// The bytes of the packet that comes.
 const PACKET: [u8; 3] = [1, 2, 3];
@@ -55,6 +54,8 @@ enum Case {
     Texts,
     /// A control transfer is waited for, and something is made of its bytes.
     Mapped,
+    /// The timer has its turn at the deadline of a control transfer.
+    Timed,
 }
 
 /// Compares what is found at a new host. It is owned here alone.
@@ -70,6 +71,7 @@ fn is_so(alloc: Global, host: &mut Host, case: &Case) -> bool {
         Case::Room => leaves_room(alloc, host),
         Case::Texts => matches!(has_texts(alloc, host), Ok(true)),
         Case::Mapped => is_mapped(alloc, host),
+        Case::Timed => is_timed(alloc, host),
     }
 }
 
@@ -91,4 +93,9 @@ fn debug_texts_name_the_handles(rt: HostRuntime) -> Result<(), Fail> {
 #[test]
 fn what_a_control_transfer_brings_is_mapped(rt: HostRuntime) -> Result<(), Fail> {
     expect(&rt, rt.alloc(), 0x80, &Case::Mapped)
+}
+
+#[test]
+fn a_timer_turn_cancels_what_is_due(rt: HostRuntime) -> Result<(), Fail> {
+    expect(&rt, rt.alloc(), 0x80, &Case::Timed)
 }

@@ -10,7 +10,7 @@ use crate::steps::{ACK, packet};
 use std::alloc::Global;
 use std::test::Fail;
 use usb_desc::{NoMemory, TransferType};
-use usb_kernel::{Bytes, Done, Kernel, KernelCall, KernelStep, Submission, Submitted};
+use usb_kernel::{Body, Bytes, Done, Event, Kernel, KernelCall, KernelStep, Submission, Submitted};
 use usb_xfer::Buffer;
 
 /// Makes room for a step and applies it.
@@ -52,18 +52,47 @@ fn refuses_calls(kernel: &mut Kernel) -> bool {
 
 /// Whether a transfer of device 2 is ticket 0, which is refused and has its buffer back.
 fn is_refused(alloc: Global, kernel: &mut Kernel) -> Result<bool, NoMemory> {
-    match kernel.submit(wanting(alloc, 2)?) {
-        Ok(Submitted::Refused(done)) => {
+    let Ok(submitted) = kernel.submit(wanting(alloc, 2)?) else {
+        return Ok(false);
+    };
+    match submitted.clone()? {
+        Submitted::Refused(done) => {
+            let done = done.clone()?;
             let is_so = done.ticket == 0 && done.status == 19 && done.refused && done.count == 0;
             Ok(is_so && done.buffer.is_empty() && done.buffer.requested_len() == 64)
         }
-        _ => Ok(false),
+        Submitted::Queued(_) => Ok(false),
     }
 }
 
-/// Whether a transfer of device 0 is ticket 1.
+/// Whether a copy of a transfer of device 0 is ticket 1.
 fn is_queued(alloc: Global, kernel: &mut Kernel) -> Result<bool, NoMemory> {
-    Ok(matches!(kernel.submit(wanting(alloc, 0)?), Ok(Submitted::Queued(1))))
+    let copy = wanting(alloc, 0)?.clone()?;
+    Ok(matches!(kernel.submit(copy), Ok(Submitted::Queued(1))))
+}
+
+/// Whether a copy of the last event is that of ticket 1, which wants 64 bytes.
+fn copies_event(events: &[Event]) -> Result<bool, NoMemory> {
+    let Some(event) = events.last() else {
+        return Ok(false);
+    };
+    match event.clone()? {
+        Event::Submit {
+            ticket,
+            device,
+            endpoint,
+            maximum,
+            body,
+            capacity,
+            deadline,
+        } => {
+            let is_place = device == 0 && endpoint == 0x81;
+            let is_size = maximum == 64 && capacity == 64 && deadline.is_none();
+            let wants = matches!(body.clone()?, Body::Wanted(64));
+            Ok(ticket == 1 && is_place && is_size && wants)
+        }
+        _ => Ok(false),
+    }
 }
 
 /// Steps on a device that there is not, on endpoints with nothing that is open, and with no ticket
@@ -114,7 +143,8 @@ fn idle_steps(alloc: Global, kernel: &mut Kernel) -> u8 {
 /// Whether what is not there is refused, and leaves no event.
 fn is_right(alloc: Global, kernel: &mut Kernel) -> Result<bool, NoMemory> {
     let is_refused = refuses_calls(kernel) && is_refused(alloc, kernel)?;
-    Ok(is_refused && is_queued(alloc, kernel)? && idle_steps(alloc, kernel) == 10)
+    let is_queued = is_queued(alloc, kernel)? && copies_event(kernel.journal())?;
+    Ok(is_refused && is_queued && idle_steps(alloc, kernel) == 10)
 }
 
 #[test]

@@ -62,13 +62,13 @@ pub fn submit(
     endpoint.submit(kernel, buffer).ok()
 }
 
-/// The receipt of the oldest transfer, if there is one.
+/// A copy of the receipt of the oldest transfer, if there is one.
 pub fn poll(endpoint: &mut LiveEndpoint<'_>) -> Option<Receipt> {
     if endpoint.pending() == 0 {
         return None;
     }
     match endpoint.try_next_complete() {
-        Poll::Ready(receipt) => Some(receipt),
+        Poll::Ready(receipt) => receipt.clone().ok(),
         Poll::Pending => None,
     }
 }

@@ -1,6 +1,7 @@
 //! Whole scripts: what the program writes, its status and its line on standard error.
 
 mod controls;
+mod crowded;
 mod descriptors;
 mod devices;
 mod endpoints;
@@ -332,32 +333,46 @@ fn reads_and_writes_by_standard_traits(rt: HostRuntime) -> Result<(), Fail> {
     Ok(())
 }
 
-/// The room of the output, the status at which a run of one answer ends, and what is reported.
-const ROOMS: [(usize, u8, &str); 3] = [(64, 0, ""), (10, 0, ""), (9, 6, "nusb_sim: write fault\n")];
+/// The room of the output, the status that a run of one answer is told to have, the status at which the program ends, what is
+/// reported, and what lies in the room.
+const ROOMS: [(usize, u8, u8, &str, &str); 5] = [
+    (64, 0, 0, "", "condition\n"),
+    (10, 0, 0, "", "condition\n"),
+    (9, 0, 6, "nusb_sim: write fault\n", "condition"),
+    (10, 7, 7, "", "condition\n"),
+    (9, 5, 5, "", "condition"),
+];
 
-/// Runs a script of one answer on this sink, and says the status at which that ends.
-fn run_into<K: Gathers>(alloc: Global, sink: &mut K, diag: &mut MemSink) -> Result<u8, Fail> {
+/// Runs a script of one answer on this sink, ends the program as with this status, and says the status at which it ends.
+fn run_into<K: Gathers>(
+    alloc: Global,
+    status: u8,
+    sink: &mut K,
+    diag: &mut MemSink,
+) -> Result<u8, Fail> {
     let mut source = SureSource::new(Vec::from_slice(alloc, b"poll e0\n")?);
     run_session(alloc, &mut source, sink)?;
-    Ok(end_program(0, sink, diag))
+    Ok(end_program(status, sink, diag))
 }
 
 /// The status at which such a run ends where the output has this room, with what is reported.
-fn report_of(alloc: Global, room: &mut [u8], diag: &mut MemSink) -> Result<u8, Fail> {
+fn report_of(alloc: Global, status: u8, room: &mut [u8], diag: &mut MemSink) -> Result<u8, Fail> {
     let output = BufWriter::new(alloc, Cursor::new(room))?;
     let mut sink = StdSink::new(output);
-    run_into(alloc, &mut sink, diag)
+    run_into(alloc, status, &mut sink, diag)
 }
 
 #[test]
 fn hands_on_what_was_gathered_before_the_status_is_told(rt: HostRuntime) -> Result<(), Fail> {
-    for (room, status, report) in &ROOMS {
+    for (room, ended, status, report, output) in &ROOMS {
         let mut kept = Vec::new(rt.alloc());
         kept.resize(*room, 0)?;
         let mut diag = MemSink::new(rt.alloc(), 64, Vec::new(rt.alloc()))?;
-        let told = report_of(rt.alloc(), kept.as_mut_slice(), &mut diag)?;
+        let told = report_of(rt.alloc(), *ended, kept.as_mut_slice(), &mut diag)?;
         let is_told = told == *status && diag.bytes() == report.as_bytes();
-        assert!(rt; is_told, "with room for {room}");
+        assert!(rt; is_told, "with room for {room} and status {ended}");
+        let is_kept = kept.as_slice().starts_with(output.as_bytes());
+        assert!(rt; is_kept, "in the room for {room}");
     }
     Ok(())
 }

@@ -26,7 +26,7 @@ use Rattle.usb_answers.specs.Output.{start}
 use Rattle.usb_answers.specs.Accounts.{Covered, IsAwaited, Accounted, StartIsAccounted, AnswerKeepsAccounts, CloseKeepsAccounts}
 use Rattle.usb_answers.specs.Served.{ClosedEndpoint}
 use Rattle.usb_names.proofs.NameLemmas.{named_of, free_place, named-change_same, named-change_other, named-freed_other, named-set, named-set_other}
-use Rattle.usb_answers.proofs.Does.{Quiet, Acts, SameTickets, moved, without_future_of, goes, opens, submits, fits, reads, starts, controls, frees, ends, takes, closes, moves, free-still}
+use Rattle.usb_answers.proofs.Does.{Quiet, ControlMove, Acts, SameTickets, moved, without_future_of, goes, opens, submits, fits, reads, starts, controls, frees, ends, takes, closes, moves, free-still}
 use Rattle.usb_answers.proofs.DeviceLines.{handles-quiet}
 use Rattle.usb_answers.proofs.EndpointLines.{closed-does}
 use Rattle.usb_answers.proofs.ControlLines.{future_closed_under-does}
@@ -231,7 +231,7 @@ accounted-move state from to h g here free same a =
     record { held = λ t key own. either (covered t key) (λ w. w) (a.held t key own); count = a.count }
 
 -- so over each answer
-acts-accounted : {few : Type 0} {a : Answer} {state : State} {closed : List ClosedEndpoint} {handed : List ℕ} → few → Acts few a state closed handed → Accounted state → Accounted a.state
+acts-accounted : {few : Type 0} {a : Answer} {state : State} {closed : List ClosedEndpoint} {handed : List ControlMove} → few → Acts few a state closed handed → Accounted state → Accounted a.state
 acts-accounted few (goes quiet rest) acc = acts-accounted few rest (accounted-quiet quiet acc)
 acts-accounted few (fits other rest) acc = acts-accounted few (rest few) acc
 acts-accounted {state} few (reads e t h above here front other rest) acc = acts-accounted few rest (accounted-take state e t h here front acc)

@@ -1,5 +1,5 @@
 -- What a line does.
-use Rattle.std.proofs.Common.{◌≡◌, ◌≢◌, ℕ, ◌≤◌, Bool, true, false, List, [], ◌∷◌, codes, length, Option, Some, None, Result, Ok, Err, refl, ap, sym, ◌∙◌, subst, slice_get}
+use Rattle.std.proofs.Common.{◌≡◌, ◌≢◌, ℕ, ◌≤◌, Bool, true, false, List, [], ◌∷◌, ◌++◌, map, codes, length, Option, Some, None, Result, Ok, Err, refl, ap, sym, ◌∙◌, subst, slice_get}
 use Rattle.std.specs.Prelude.{nat_eq, if◌then◌else◌}
 use Rattle.std.specs.List.{starts_with}
 use Rattle.std.proofs.lemmas.Bool.{cond_both}
@@ -29,6 +29,7 @@ use Rattle.usb_answers.specs.Closes.{without_endpoint}
 use Rattle.usb_answers.specs.Steps.{lent, rested, stepped_all, then_rested}
 use Rattle.usb_answers.specs.Accounts.{TookFew}
 use Rattle.usb_answers.specs.Served.{ClosedEndpoint}
+use Rattle.usb_answers.specs.ControlAnswers.{listed}
 
 -- the host went on, and no endpoint or future was opened or closed, and no ticket submitted or taken
 pub record Quiet (old new : State) : Type 0 where
@@ -67,27 +68,69 @@ pub record SameTickets (h g : Endpoint) : Type 0 where
   pub tickets : g.tickets ≡ h.tickets
   pub taken : g.taken ≡ h.taken
 
--- what an answer does from a state on, the endpoints that it closes, and the tickets of the control transfers that it hands in: the host goes
+-- a control transfer is handed in, or the host parts with the ticket of one: it was answered, or its future closed
+pub data ControlMove : Type 0 where
+  Handed : ℕ → ControlMove
+  Parted : ℕ → ControlMove
+
+-- the tickets that are handed in, and those that the host parts with
+abbrev pub handed_of : List ControlMove → List ℕ
+handed_of [] = []
+handed_of (Handed t ∷ moves) = t ∷ handed_of moves
+handed_of (Parted t ∷ moves) = handed_of moves
+
+abbrev pub parted_of : List ControlMove → List ℕ
+parted_of [] = []
+parted_of (Handed t ∷ moves) = parted_of moves
+parted_of (Parted t ∷ moves) = t ∷ parted_of moves
+
+pub handed-append : (ms ns : List ControlMove) → handed_of (ms ++ ns) ≡ handed_of ms ++ handed_of ns
+handed-append [] ns = refl
+handed-append (Handed t ∷ ms) ns = ap (λ ts. t ∷ ts) (handed-append ms ns)
+handed-append (Parted t ∷ ms) ns = handed-append ms ns
+
+pub parted-append : (ms ns : List ControlMove) → parted_of (ms ++ ns) ≡ parted_of ms ++ parted_of ns
+parted-append [] ns = refl
+parted-append (Handed t ∷ ms) ns = parted-append ms ns
+parted-append (Parted t ∷ ms) ns = ap (λ ts. t ∷ ts) (parted-append ms ns)
+
+pub handed-handed : (ts : List ℕ) → handed_of (map Handed ts) ≡ ts
+handed-handed [] = refl
+handed-handed (t ∷ ts) = ap (λ us. t ∷ us) (handed-handed ts)
+
+pub handed-parted : (ts : List ℕ) (ms : List ControlMove) → handed_of (map Parted ts ++ ms) ≡ handed_of ms
+handed-parted [] ms = refl
+handed-parted (t ∷ ts) ms = handed-parted ts ms
+
+pub parted-handed : (ts : List ℕ) (ms : List ControlMove) → parted_of (map Handed ts ++ ms) ≡ parted_of ms
+parted-handed [] ms = refl
+parted-handed (t ∷ ts) ms = parted-handed ts ms
+
+pub parted-parted : (ts : List ℕ) → parted_of (map Parted ts) ≡ ts
+parted-parted [] = refl
+parted-parted (t ∷ ts) = ap (λ us. t ∷ us) (parted-parted ts)
+
+-- what an answer does from a state on, the endpoints that it closes, and what becomes of the control transfers of its line: the host goes
 -- on, endpoints are opened (at no place of a reader or a writer) and tickets submitted, a reader or a writer takes a ticket (`reads`), a control
 -- transfer is handed in (`starts`: its future is opened; `controls`: it is awaited and its ticket taken at once), and the host parts with the ticket of a future,
 -- whose name is free then; and then there is nothing more, or a ticket is taken and its completion printed, or an endpoint is closed, or goes to
 -- another place (`moves`: from then on a reader or a writer was made of it; at the place of one it was before). `few` is what is asked of the state
 -- before the line: no more tickets of an endpoint were taken than it has. It may be used for all that is done (`fits`)
-pub data Acts (few : Type 0) (a : Answer) : State → List ClosedEndpoint → List ℕ → Type 0 where
-  goes : {state next : State} {closed : List ClosedEndpoint} {handed : List ℕ} → Quiet state next → Acts few a next closed handed → Acts few a state closed handed
-  opens : {state : State} {closed : List ClosedEndpoint} {handed : List ℕ} (e : ℕ) (x : Endpoint) → is_free state.endpoints e ≡ true → x.tickets ≡ [] → x.taken ≡ 0
+pub data Acts (few : Type 0) (a : Answer) : State → List ClosedEndpoint → List ControlMove → Type 0 where
+  goes : {state next : State} {closed : List ClosedEndpoint} {handed : List ControlMove} → Quiet state next → Acts few a next closed handed → Acts few a state closed handed
+  opens : {state : State} {closed : List ClosedEndpoint} {handed : List ControlMove} (e : ℕ) (x : Endpoint) → is_free state.endpoints e ≡ true → x.tickets ≡ [] → x.taken ≡ 0
       → (64 ≤ e → 192 ≤ e) → Acts few a (record state { endpoints = set_name state.endpoints e x }) closed handed → Acts few a state closed handed
-  submits : {state : State} {closed : List ClosedEndpoint} {handed : List ℕ} (e : ℕ) (b : BufferState) (h : Endpoint) → named state.endpoints e ≡ Some h
+  submits : {state : State} {closed : List ClosedEndpoint} {handed : List ControlMove} (e : ℕ) (b : BufferState) (h : Endpoint) → named state.endpoints e ≡ Some h
       → (few → h.taken ≤ length h.tickets) → Acts few a (submitted state e b h) closed handed → Acts few a state closed handed
-  fits : {state : State} {closed : List ClosedEndpoint} {handed : List ℕ} → says_done a.line ≡ false → (few → Acts few a state closed handed) → Acts few a state closed handed
-  reads : {state : State} {closed : List ClosedEndpoint} {handed : List ℕ} (e t : ℕ) (h : Endpoint) → 64 ≤ e → named state.endpoints e ≡ Some h → slice_get h.tickets h.taken ≡ Some t
+  fits : {state : State} {closed : List ClosedEndpoint} {handed : List ControlMove} → says_done a.line ≡ false → (few → Acts few a state closed handed) → Acts few a state closed handed
+  reads : {state : State} {closed : List ClosedEndpoint} {handed : List ControlMove} (e t : ℕ) (h : Endpoint) → 64 ≤ e → named state.endpoints e ≡ Some h → slice_get h.tickets h.taken ≡ Some t
       → says_done a.line ≡ false → Acts few a (taken_from state e t) closed handed → Acts few a state closed handed
-  starts : {state : State} {closed : List ClosedEndpoint} {handed : List ℕ} (n : ℕ) (request : TransferData) (timeout device : ℕ) → is_free state.futures n ≡ true
-      → Acts few a (with_future state n request timeout device) closed handed → Acts few a state closed (tickets_of state ∷ handed)
-  controls : {state : State} {closed : List ClosedEndpoint} {handed : List ℕ} (host : HostState) → CountsOneMore state.host host → (CountsAlike state.host → AddsTaken state.host host)
-      → Acts few a (with_host state host) closed handed → Acts few a state closed (tickets_of state ∷ handed)
-  frees : {state : State} {closed : List ClosedEndpoint} {handed : List ℕ} (n : ℕ) (f : FutureState) (host : HostState) → named state.futures n ≡ Some f → Parts state.host host f.ticket
-      → Acts few a (without_future_of state host n) closed handed → Acts few a state closed handed
+  starts : {state : State} {closed : List ClosedEndpoint} {handed : List ControlMove} (n : ℕ) (request : TransferData) (timeout device : ℕ) → is_free state.futures n ≡ true
+      → Acts few a (with_future state n request timeout device) closed handed → Acts few a state closed (Handed (tickets_of state) ∷ handed)
+  controls : {state : State} {closed : List ClosedEndpoint} {handed : List ControlMove} (host : HostState) → CountsOneMore state.host host → (CountsAlike state.host → AddsTaken state.host host)
+      → Acts few a (with_host state host) closed handed → Acts few a state closed (Handed (tickets_of state) ∷ Parted (tickets_of state) ∷ handed)
+  frees : {state : State} {closed : List ClosedEndpoint} {handed : List ControlMove} (n : ℕ) (f : FutureState) (host : HostState) → named state.futures n ≡ Some f → Parts state.host host f.ticket
+      → Acts few a (without_future_of state host n) closed handed → Acts few a state closed (map Parted (listed f.ticket) ++ handed)
   ends : {state : State} → says_done a.line ≡ false → Quiet state a.state → Acts few a state [] []
   takes : {state : State} (e t : ℕ) (h : Endpoint) (c : Completion) → named state.endpoints e ≡ Some h → (few → slice_get h.tickets h.taken ≡ Some t)
       → transfer_completion state.host.kernel.past t ≡ Some c → a.line ≡ done_line c → Quiet (taken_from state e t) a.state → Acts few a state [] []
@@ -177,7 +220,7 @@ try-does {state} call (Err error) refused does = subst (Does state) (sym (refuse
 try-does call (Ok x) refused does = does x
 
 -- with the steps of its line
-pub rest-does : {few : Type 0} {a : Answer} {state : State} {closed : List ClosedEndpoint} {handed : List ℕ} → Acts few a state closed handed → Acts few (then_rested a) state closed handed
+pub rest-does : {few : Type 0} {a : Answer} {state : State} {closed : List ClosedEndpoint} {handed : List ControlMove} → Acts few a state closed handed → Acts few (then_rested a) state closed handed
 rest-does (goes quiet rest) = goes quiet (rest-does rest)
 rest-does (opens e x free none zero_ apart rest) = opens e x free none zero_ apart (rest-does rest)
 rest-does (submits e b h here few rest) = submits e b h here few (rest-does rest)

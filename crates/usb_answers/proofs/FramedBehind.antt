@@ -12,47 +12,73 @@ use Rattle.usb_script.specs.declared.item.Item.{Item}
 use Rattle.usb_script.specs.declared.item.Item.TheVariants as item
 use Rattle.usb_words.specs.declared.framing.Framing.TheVariants.{UntilShort}
 use Rattle.usb_names.proofs.NameLemmas.{named-replicate}
+use Rattle.usb_stream_lines.specs.Reads.{read_line, buffer_line}
 use Rattle.usb_answers.specs.State.{State, Reader}
 use Rattle.usb_answers.specs.ReaderAt.{endpoint_place}
+use Rattle.usb_script.specs.ItemKinds.{steps_in}
+use Rattle.usb_answers.specs.Steps.{stepped_all}
+use Rattle.usb_answers.specs.Reads.{read_answer, poll_read_answer, fill_answer, poll_fill_answer}
+use Rattle.usb_answers.specs.Crowded.{is_crowded}
+use Rattle.usb_answers.specs.LineAnswers.{line_answer}
 use Rattle.usb_answers.specs.Answers.{answer}
 use Rattle.usb_script.specs.Kinds.{is_of_reader}
 use Rattle.usb_answers.specs.Ends.{ended}
 use Rattle.usb_answers.specs.Output.{start, behind, last_host, final_host}
 use Rattle.usb_answers.specs.Behind.{ScriptsGoOn}
 use Rattle.usb_answers.specs.Framed.{EmptyReadIsEnd, FramedScriptsFollow}
+use Rattle.usb_answers.proofs.Crowds.{over-line}
 use Rattle.usb_answers.proofs.OtherLines.{place-apart}
 use Rattle.usb_answers.proofs.WritersLeave.{leaves-readers}
 use Rattle.usb_answers.proofs.FramedReaders.{FramedFollow, parts-of, leaves-follow, reader-follow, inner-follow, num-follow, timeout-follow, cancel_reader-follow, close_reader-follow, read-follow, poll_read-follow, fill-follow, poll_fill-follow, consume-follow, consume_end-follow, is_end-follow}
-use Rattle.usb_answers.proofs.FramedEnds.{read-ends, poll_read-ends, prefix-at, end-at}
+use Rattle.usb_answers.proofs.FramedEnds.{read-none, buffer-none, bar-ends, read-ends, poll_read-ends, fill-ends, poll_fill-ends, prefix-at, end-at}
 
--- over each line
-others-follow : (state : State) (line : Item) → is_of_reader line ≡ false → Extends state.host.kernel.past (answer state line).state.host.kernel.past → FramedFollow state → FramedFollow (answer state line).state
-others-follow state line other extends f = leaves-follow state (answer state line) extends (leaves-readers state line other) f
+-- over each line, where the session isn't crowded
+others-follow : (state : State) (line : Item) → is_of_reader line ≡ false → Extends state.host.kernel.past (line_answer state line).state.host.kernel.past → FramedFollow state → FramedFollow (line_answer state line).state
+others-follow state line other extends f = leaves-follow state (line_answer state line) extends (leaves-readers state line other) f
 
-answer-follow : (state : State) (line : Item) → Extends state.host.kernel.past (answer state line).state.host.kernel.past → IsLawful (answer state line).state.host.kernel.past → FramedFollow state → FramedFollow (answer state line).state
-unfolding answer
-answer-follow state (item.Reader r e size) extends lawful f = reader-follow state r (endpoint_place e) size (place-apart e) f
-answer-follow state (item.IntoInner e r) extends lawful f = inner-follow state (endpoint_place e) r (place-apart e) f
-answer-follow state (item.SetNumTransfers r n) extends lawful f = num-follow state r n lawful f
-answer-follow state (item.SetReadTimeout r timeout) extends lawful f = timeout-follow state r timeout f
-answer-follow state (item.CancelReader r) extends lawful f = cancel_reader-follow state r f
-answer-follow state (item.CloseReader r) extends lawful f = close_reader-follow state r extends f
-answer-follow state (item.Read framing r most steps) extends lawful f = read-follow state framing r most steps f lawful
-answer-follow state (item.PollRead framing r most) extends lawful f = poll_read-follow state framing r most f lawful
-answer-follow state (item.FillBuf framing r steps) extends lawful f = fill-follow state framing r steps f lawful
-answer-follow state (item.PollFillBuf framing r) extends lawful f = poll_fill-follow state framing r f lawful
-answer-follow state (item.Consume framing r n) extends lawful f = consume-follow state framing r n f
-answer-follow state (item.IsEnd r) extends lawful f = is_end-follow state r f
-answer-follow state (item.ConsumeEnd r) extends lawful f = consume_end-follow state r f
-answer-follow state line extends lawful f = others-follow state line refl extends f
+abbrev Follows : State → State → Type 0
+Follows state next = Extends state.host.kernel.past next.host.kernel.past → IsLawful next.host.kernel.past → FramedFollow state → FramedFollow next
 
--- a line that reads until a short packet
+line-follow : (state : State) (line : Item) → Follows state (line_answer state line).state
+unfolding line_answer
+line-follow state (item.Reader r e size) extends lawful f = reader-follow state r (endpoint_place e) size (place-apart e) f
+line-follow state (item.IntoInner e r) extends lawful f = inner-follow state (endpoint_place e) r (place-apart e) f
+line-follow state (item.SetNumTransfers r n) extends lawful f = num-follow state r n lawful f
+line-follow state (item.SetReadTimeout r timeout) extends lawful f = timeout-follow state r timeout f
+line-follow state (item.CancelReader r) extends lawful f = cancel_reader-follow state r f
+line-follow state (item.CloseReader r) extends lawful f = close_reader-follow state r extends f
+line-follow state (item.Read framing r most steps) extends lawful f = read-follow state framing r most steps f lawful
+line-follow state (item.PollRead framing r most) extends lawful f = poll_read-follow state framing r most f lawful
+line-follow state (item.FillBuf framing r steps) extends lawful f = fill-follow state framing r steps f lawful
+line-follow state (item.PollFillBuf framing r) extends lawful f = poll_fill-follow state framing r f lawful
+line-follow state (item.Consume framing r n) extends lawful f = consume-follow state framing r n f
+line-follow state (item.IsEnd r) extends lawful f = is_end-follow state r f
+line-follow state (item.ConsumeEnd r) extends lawful f = consume_end-follow state r f
+line-follow state line extends lawful f = others-follow state line refl extends f
+
+-- and where it is
+answer-follow : (state : State) (line : Item) → Follows state (answer state line).state
+answer-follow state line = over-line (Follows state) state line (line-follow state line) (line-follow state (item.Steps (steps_in line)))
+
+-- a line that reads until a short packet, or lends the bytes
 empty-is-end : (state : State) (line : Item) → FramedFollow (answer state line).state → EmptyReadIsEnd state line
-unfolding answer
+unfolding answer line_answer
 empty-is-end state (item.Read UntilShort r most steps) f =
-    λ some x consumed at is said. end-at _ x consumed (f.each r x consumed at is) (read-ends state r most steps some x at said)
+    λ some x consumed at is said.
+    let ends = bar-ends read_line read-none (stepped_all state steps) r (is_crowded state) (read_answer state UntilShort r most steps) (read-ends state r most steps some) in
+    end-at _ x consumed (f.each r x consumed at is) (ends x at said)
 empty-is-end state (item.PollRead UntilShort r most) f =
-    λ some x consumed at is said. end-at _ x consumed (f.each r x consumed at is) (poll_read-ends state r most some x at said)
+    λ some x consumed at is said.
+    let ends = bar-ends read_line read-none (stepped_all state []) r (is_crowded state) (poll_read_answer state UntilShort r most) (poll_read-ends state r most some) in
+    end-at _ x consumed (f.each r x consumed at is) (ends x at said)
+empty-is-end state (item.FillBuf UntilShort r steps) f =
+    λ x consumed at is said.
+    let ends = bar-ends buffer_line buffer-none (stepped_all state steps) r (is_crowded state) (fill_answer state UntilShort r steps) (fill-ends state r steps) in
+    end-at _ x consumed (f.each r x consumed at is) (ends x at said)
+empty-is-end state (item.PollFillBuf UntilShort r) f =
+    λ x consumed at is said.
+    let ends = bar-ends buffer_line buffer-none (stepped_all state []) r (is_crowded state) (poll_fill_answer state UntilShort r) (poll_fill-ends state r) in
+    end-at _ x consumed (f.each r x consumed at is) (ends x at said)
 empty-is-end state line f = tt
 
 -- before the first line
@@ -117,9 +143,12 @@ module _ (go : ScriptsGoOn) (items : List Item) where
   behind-follow : IsLawful (final_host items).kernel.past → (before after : List Item) → before ++ after ≡ items → FramedFollow (at before)
   behind-follow lawful before after all = on-follow [] before (lawful-at lawful before after all) (start-follow items)
 
-  line-follow : IsLawful (final_host items).kernel.past → (before after : List Item) (line : Item) → before ++ line ∷ after ≡ items → FramedFollow (answer (at before) line).state
-  line-follow lawful before after line all =
+  behind-line : IsLawful (final_host items).kernel.past → (before after : List Item) (line : Item) → before ++ line ∷ after ≡ items → FramedFollow (answer (at before) line).state
+  behind-line lawful before after line all =
       next-follow before line (lawful-at lawful (before ++ line ∷ []) after (append_assoc before (line ∷ []) after ∙ all)) (behind-follow lawful before (line ∷ after) all)
+
+pub behind-extends : ScriptsGoOn → (items before more : List Item) → Extends (behind (start items) before).host.kernel.past (behind (start items) (before ++ more)).host.kernel.past
+behind-extends go items before more = some-more go items before more
 
 pub follow-at : ScriptsGoOn → (items : List Item) → IsLawful (final_host items).kernel.past → (before after : List Item) → before ++ after ≡ items → FramedFollow (behind (start items) before)
 follow-at go items lawful before after all = behind-follow go items lawful before after all
@@ -128,5 +157,5 @@ pub follow-by : ScriptsGoOn → FramedScriptsFollow
 follow-by go items lawful =
     record {
       prefix = λ before after all r x consumed at is. prefix-at _ x consumed ((behind-follow go items lawful before after all).each r x consumed at is);
-      empty = λ before after line all. empty-is-end (behind (start items) before) line (line-follow go items lawful before after line all);
+      empty = λ before after line all. empty-is-end (behind (start items) before) line (behind-line go items lawful before after line all);
     }

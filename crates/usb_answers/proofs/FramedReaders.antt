@@ -64,7 +64,7 @@ pub record Parts (state : State) (r : ℕ) (x : ReaderAt) : Type 0 where
   pub reader : named state.readers r ≡ Some x.reader
   pub endpoint : named state.endpoints (reader_place r) ≡ Some x.endpoint
 
-abbrev at_of : Reader → Endpoint → ReaderAt
+abbrev pub at_of : Reader → Endpoint → ReaderAt
 at_of y h = record { reader = y; endpoint = h }
 
 both-parts : (o : Option Reader) (p : Option Endpoint) (x : ReaderAt) → option_and_then (λ (y : Reader). option_map (at_of y) p) o ≡ Some x → (o ≡ Some x.reader) × (p ≡ Some x.endpoint)
@@ -75,10 +75,10 @@ both-parts (Some y) (Some h) x is = let e = same_Some (at_of y h) x is in (ap (�
 pub parts-of : (state : State) (r : ℕ) (x : ReaderAt) → reader_at state r ≡ Some x → Parts state r x
 parts-of state r x is = let b = both-parts (named state.readers r) (named state.endpoints (reader_place r)) x is in record { reader = b.0; endpoint = b.1 }
 
-open-at : (state : State) (r : ℕ) (y : Reader) (h : Endpoint) → named state.readers r ≡ Some y → named state.endpoints (reader_place r) ≡ Some h → reader_at state r ≡ Some (at_of y h)
+pub open-at : (state : State) (r : ℕ) (y : Reader) (h : Endpoint) → named state.readers r ≡ Some y → named state.endpoints (reader_place r) ≡ Some h → reader_at state r ≡ Some (at_of y h)
 open-at state r y h reader endpoint = rw (reader, endpoint) refl
 
-same-at : (old new : State) (r : ℕ) → named new.readers r ≡ named old.readers r → named new.endpoints (reader_place r) ≡ named old.endpoints (reader_place r) → reader_at new r ≡ reader_at old r
+pub same-at : (old new : State) (r : ℕ) → named new.readers r ≡ named old.readers r → named new.endpoints (reader_place r) ≡ named old.endpoints (reader_place r) → reader_at new r ≡ reader_at old r
 same-at old new r reader endpoint = rw (reader, endpoint) refl
 
 at-later : (old new : List Event) (x : ReaderAt) (consumed : List Item) → Extends old new → FollowsAt old x consumed → FollowsAt new x consumed
@@ -125,8 +125,8 @@ nothing-is (t ∷ ts) consumed is = absurd (none-some consumed is)
 input-of : (h : Endpoint) → has_direction In (kept h) ≡ true → 128 ≤ h.address
 input-of h is = elim (cases_Bool (nat_le 128 h.address)) [ inl below ↦ leb-true 128 h.address below | inr other ↦ absurd (let e : same_direction Out In ≡ true = rw other at is in cc) ]
 
-abbrev new_reader : Endpoint → ℕ → Reader
-new_reader h size = record { bare = bare_of (fresh_reader (kept h) size); consumed = nothing_consumed h.tickets }
+abbrev pub new_reader : Endpoint → ℕ → Reader
+new_reader h size = record { bare = bare_of (fresh_reader (kept h) size); before = take h.taken h.tickets; given = []; consumed = nothing_consumed h.tickets }
 
 fresh-at : (past : List Event) (h : Endpoint) (size : ℕ) (consumed : List Item) → 128 ≤ h.address → nothing_consumed h.tickets ≡ Some consumed → FollowsAt past (at_of (new_reader h size) (as_streamed h)) consumed
 fresh-at past h size consumed input is =
@@ -139,7 +139,7 @@ fresh-at past h size consumed input is =
           (fresh_follows past (state_of_reader x) (ap (drop h.taken) none.0 ∙ drop-nothing h.taken) refl refl);
     }
 
-same-both : (x : ReaderAt) (y : Reader) (h : Endpoint) → x.reader ≡ y → x.endpoint ≡ h → at_of y h ≡ x
+pub same-both : (x : ReaderAt) (y : Reader) (h : Endpoint) → x.reader ≡ y → x.endpoint ≡ h → at_of y h ≡ x
 same-both x y h reader endpoint = ap (λ (z : Reader). at_of z h) (sym reader) ∙ ap (at_of x.reader) (sym endpoint)
 
 with_reader-changes : (state : State) (r p size : ℕ) (h : Endpoint) → IsApart p → (r < 64) → is_free state.readers r ≡ true → is_free state.endpoints (reader_place r) ≡ true → 128 ≤ h.address → Changes state (with_reader state r p size h) r
@@ -194,19 +194,19 @@ inner-follow state p r apart f = by (reader_at state r)
         (λ no_. f)
 
 -- behind a call of a reader
-abbrev called_at : State → ReaderAt → Option (List Item) → Reading HostState → ReaderAt
-called_at state x consumed w = at_of (record { bare = bare_of w.reader; consumed = consumed }) (called_endpoint (tickets_of state) (tickets_of (with_host state w.bus)) w.reader.endpoint.pending x.endpoint)
+abbrev pub called_at : State → ReaderAt → Option (List Item) → List ℕ → Reading HostState → ReaderAt
+called_at state x consumed bytes w = at_of (record x.reader { bare = bare_of w.reader; given = x.reader.given ++ bytes; consumed = consumed }) (called_endpoint (tickets_of state) (tickets_of (with_host state w.bus)) w.reader.endpoint.pending x.endpoint)
 
-called-follows : (state : State) (x : ReaderAt) (r0 : ReaderState) (w : Reading HostState) (before : List Item) (bytes : List ℕ) (now : Option (List Item)) → r0.endpoint ≡ kept x.endpoint → w.reader.endpoint ≡ record r0.endpoint { pending = w.reader.endpoint.pending } → 128 ≤ x.endpoint.address
-    → GoesOnToFollow (reading state.host r0) w (history_of x.endpoint before) bytes → FollowsAt w.bus.kernel.past (called_at state x now w) (before ++ map Byte bytes)
-called-follows state x r0 w before bytes now same rest input g =
+called-follows : (state : State) (x : ReaderAt) (r0 : ReaderState) (w : Reading HostState) (before : List Item) (bytes given : List ℕ) (now : Option (List Item)) → r0.endpoint ≡ kept x.endpoint → w.reader.endpoint ≡ record r0.endpoint { pending = w.reader.endpoint.pending } → 128 ≤ x.endpoint.address
+    → GoesOnToFollow (reading state.host r0) w (history_of x.endpoint before) bytes → FollowsAt w.bus.kernel.past (called_at state x now given w) (before ++ map Byte bytes)
+called-follows state x r0 w before bytes given now same rest input g =
     let k = x.endpoint.taken in
     let ts = x.endpoint.tickets in
     let back = w.reader.endpoint.pending in
     let numbers = numbers_from (tickets_of state) (tickets_of (with_host state w.bus) - tickets_of state) in
     let came : drop k ts ++ numbers ≡ g.taken ++ back = ap (λ (e : EndpointState). e.pending ++ numbers) (sym same) ∙ g.came in
     let parts = called-parts k ts numbers g.taken back came in
-    let x' = called_at state x now w in
+    let x' = called_at state x now given w in
     let endpoint : w.reader.endpoint ≡ kept x'.endpoint = rest ∙ ap (λ (e : EndpointState). record e { pending = back }) same ∙ ap (λ (l : List ℕ). record (kept x.endpoint) { pending = l }) (sym parts.1) in
     let reader : w.reader ≡ state_of_reader x' = ap (λ (e : EndpointState). reader_with e (bare_of w.reader)) endpoint in
     record {
@@ -216,9 +216,9 @@ called-follows state x r0 w before bytes now same rest input g =
           (follows-as w.bus.kernel.past w.reader (record { taken = take k ts ++ g.taken; consumed = before ++ map Byte bytes }) (take x'.endpoint.taken x'.endpoint.tickets) (before ++ map Byte bytes) parts.0 refl g.follows);
     }
 
-called-changes : (state : State) (r : ℕ) (x : ReaderAt) (now : Option (List Item)) (w : Reading HostState) → Parts state r x → ((consumed : List Item) → now ≡ Some consumed → FollowsAt w.bus.kernel.past (called_at state x now w) consumed) → Changes state (called state r now w) r
-called-changes state r x now w was here =
-    let change : Reader → Reader = λ y. record { bare = bare_of w.reader; consumed = now } in
+called-changes : (state : State) (r : ℕ) (x : ReaderAt) (now : Option (List Item)) (given : List ℕ) (w : Reading HostState) → Parts state r x → ((consumed : List Item) → now ≡ Some consumed → FollowsAt w.bus.kernel.past (called_at state x now given w) consumed) → Changes state (called state r now given w) r
+called-changes state r x now given w was here =
+    let change : Reader → Reader = λ y. record y { bare = bare_of w.reader; given = y.given ++ given; consumed = now } in
     let change_ : Endpoint → Endpoint = called_endpoint (tickets_of state) (tickets_of (with_host state w.bus)) w.reader.endpoint.pending in
     record {
       names = length-changed change state.readers r;
@@ -236,15 +236,15 @@ counted : (past : List Event) (r : ReaderState) (n : ℕ) (h : History) → Foll
 counted past r n h f = record { mine = f.mine; up = f.up; reaped = f.reaped; read = f.read }
 
 num-changes : (state : State) (r n : ℕ) (x : ReaderAt) → reader_at state r ≡ Some x → FramedFollow state → IsLawful (filled_to host_calls (n - 1) (reading state.host (with_count n (state_of_reader x)))).bus.kernel.past
-    → Changes state (called state r x.reader.consumed (filled_to host_calls (n - 1) (reading state.host (with_count n (state_of_reader x))))) r
+    → Changes state (called state r x.reader.consumed [] (filled_to host_calls (n - 1) (reading state.host (with_count n (state_of_reader x))))) r
 num-changes state r n x at f lawful =
     let first = reading state.host (with_count n (state_of_reader x)) in
     let last = filled_to host_calls (n - 1) first in
-    called-changes state r x x.reader.consumed last (parts-of state r x at) (λ consumed is.
+    called-changes state r x x.reader.consumed [] last (parts-of state r x at) (λ consumed is.
     let was = f.each r x consumed at is in
     let g = framed_submissions_follow (n - 1) first was.input lawful (history_of x.endpoint consumed) (counted state.host.kernel.past (state_of_reader x) n (history_of x.endpoint consumed) was.follows) in
-    subst (λ (items : List Item). FollowsAt last.bus.kernel.past (called_at state x x.reader.consumed last) items) (append-nil consumed)
-    (called-follows state x (with_count n (state_of_reader x)) last consumed [] x.reader.consumed refl (submissions_go_on (n - 1) first).endpoint was.input g))
+    subst (λ (items : List Item). FollowsAt last.bus.kernel.past (called_at state x x.reader.consumed [] last) items) (append-nil consumed)
+    (called-follows state x (with_count n (state_of_reader x)) last consumed [] [] x.reader.consumed refl (submissions_go_on (n - 1) first).endpoint was.input g))
 
 pub num-follow : (state : State) (r n : ℕ) → IsLawful (num_answer state r n).state.host.kernel.past → FramedFollow state → FramedFollow (num_answer state r n).state
 unfolding num_answer
@@ -254,7 +254,7 @@ num-follow state r n lawful f = by (reader_at state r) refl lawful
     by None at lawful = f
     by (Some x) at lawful =
         let first = reading state.host (with_count n (state_of_reader x)) in
-        let done = called state r x.reader.consumed (filled_to host_calls (n - 1) first) in
+        let done = called state r x.reader.consumed [] (filled_to host_calls (n - 1) first) in
         cond_both (nat_lt 64 n || bars_need state.host.kernel.past (length (pending x.endpoint)) (n - 1 - length (pending x.endpoint))) (barred state) (ok_answer done) (λ (a : Answer). IsLawful a.state.host.kernel.past → FramedFollow a.state)
         (λ yes_ _. f)
         (λ no_ legal. changes-follow state done r (submissions_go_on (n - 1) first).past (num-changes state r n x at f legal) f)
@@ -354,23 +354,23 @@ before-of Plain items o consumed is = absurd (none-some consumed is)
 before-of UntilShort items None consumed is = absurd (none-some consumed is)
 before-of UntilShort items (Some before) consumed is = record { framed = refl; before = before; was = refl; is = same_Some (before ++ items) consumed is }
 
-call-changes : (state : State) (framing : Framing) (r : ℕ) (x : ReaderAt) (items : List Item) (bytes : List ℕ) (w : Reading HostState) → items ≡ map Byte bytes → reader_at state r ≡ Some x → FramedFollow state → CallGoesOn (reading state.host (state_of_reader x)) w
-    → (framing ≡ UntilShort → KeepsToStream (reading state.host (state_of_reader x)) w bytes) → IsLawful w.bus.kernel.past → Changes state (called state r (consumed_with framing items x.reader.consumed) w) r
-call-changes state framing r x items bytes w alike at f goes keeps lawful =
+call-changes : (state : State) (framing : Framing) (r : ℕ) (x : ReaderAt) (items : List Item) (bytes given : List ℕ) (w : Reading HostState) → items ≡ map Byte bytes → reader_at state r ≡ Some x → FramedFollow state → CallGoesOn (reading state.host (state_of_reader x)) w
+    → (framing ≡ UntilShort → KeepsToStream (reading state.host (state_of_reader x)) w bytes) → IsLawful w.bus.kernel.past → Changes state (called state r (consumed_with framing items x.reader.consumed) given w) r
+call-changes state framing r x items bytes given w alike at f goes keeps lawful =
     let now = consumed_with framing items x.reader.consumed in
-    called-changes state r x now w (parts-of state r x at) (λ consumed is.
+    called-changes state r x now given w (parts-of state r x at) (λ consumed is.
     let b = before-of framing items x.reader.consumed consumed is in
     let was = f.each r x b.before at b.was in
     let g = keeps b.framed was.input lawful (history_of x.endpoint b.before) was.follows in
-    subst (λ (all : List Item). FollowsAt w.bus.kernel.past (called_at state x now w) all) (ap (λ (l : List Item). b.before ++ l) (sym alike) ∙ b.is)
-    (called-follows state x (state_of_reader x) w b.before bytes now refl goes.endpoint was.input g))
+    subst (λ (all : List Item). FollowsAt w.bus.kernel.past (called_at state x now given w) all) (ap (λ (l : List Item). b.before ++ l) (sym alike) ∙ b.is)
+    (called-follows state x (state_of_reader x) w b.before bytes given now refl goes.endpoint was.input g))
 
-call-follow : (state : State) (framing : Framing) (r : ℕ) (x : ReaderAt) (items : List Item) (bytes : List ℕ) (w : Reading HostState) → items ≡ map Byte bytes → reader_at state r ≡ Some x → FramedFollow state → CallGoesOn (reading state.host (state_of_reader x)) w
-    → (framing ≡ UntilShort → KeepsToStream (reading state.host (state_of_reader x)) w bytes) → IsLawful w.bus.kernel.past → FramedFollow (called state r (consumed_with framing items x.reader.consumed) w)
-call-follow state framing r x items bytes w alike at f goes keeps lawful =
-    changes-follow state (called state r (consumed_with framing items x.reader.consumed) w) r goes.past (call-changes state framing r x items bytes w alike at f goes keeps lawful) f
+call-follow : (state : State) (framing : Framing) (r : ℕ) (x : ReaderAt) (items : List Item) (bytes given : List ℕ) (w : Reading HostState) → items ≡ map Byte bytes → reader_at state r ≡ Some x → FramedFollow state → CallGoesOn (reading state.host (state_of_reader x)) w
+    → (framing ≡ UntilShort → KeepsToStream (reading state.host (state_of_reader x)) w bytes) → IsLawful w.bus.kernel.past → FramedFollow (called state r (consumed_with framing items x.reader.consumed) given w)
+call-follow state framing r x items bytes given w alike at f goes keeps lawful =
+    changes-follow state (called state r (consumed_with framing items x.reader.consumed) given w) r goes.past (call-changes state framing r x items bytes given w alike at f goes keeps lawful) f
 
-given-same : (a : Result (List ℕ) ReadFault) → bytes_given a ≡ given_by a
+pub given-same : (a : Result (List ℕ) ReadFault) → bytes_given a ≡ given_by a
 given-same (Ok bytes) = refl
 given-same (Err fault) = refl
 
@@ -388,7 +388,7 @@ read_as-follow : (state : State) (framing : Framing) (r timeout most : ℕ) (x :
 read_as-follow state framing r timeout most x line at f lawful =
     let w = reading state.host (state_of_reader x) in
     let a = read_came (is_until_short framing) timeout most w in
-    call-follow state framing r x (map Byte (bytes_given a.answer)) (given_by a.answer) a.left (ap (map Byte) (given-same a.answer)) at f (read_goes_on (is_until_short framing) timeout most w) (read-keeps_to framing timeout most w) lawful
+    call-follow state framing r x (map Byte (bytes_given a.answer)) (given_by a.answer) (bytes_given a.answer) a.left (ap (map Byte) (given-same a.answer)) at f (read_goes_on (is_until_short framing) timeout most w) (read-keeps_to framing timeout most w) lawful
 
 filled_as-follow : (state : State) (framing : Framing) (r timeout : ℕ) (x : ReaderAt) (line : Result (List ℕ) ReadFault → List ℕ) → reader_at state r ≡ Some x → FramedFollow state
     → IsLawful (filled_as state framing r x line (fill_came (is_until_short framing) timeout (reading state.host (state_of_reader x)))).state.host.kernel.past
@@ -396,7 +396,7 @@ filled_as-follow : (state : State) (framing : Framing) (r timeout : ℕ) (x : Re
 filled_as-follow state framing r timeout x line at f lawful =
     let w = reading state.host (state_of_reader x) in
     let a = fill_came (is_until_short framing) timeout w in
-    call-follow state framing r x [] [] a.left refl at f (fill_goes_on (is_until_short framing) timeout w) (fill-keeps_to framing timeout w) lawful
+    call-follow state framing r x [] [] [] a.left refl at f (fill_goes_on (is_until_short framing) timeout w) (fill-keeps_to framing timeout w) lawful
 
 abbrev Keeps : Answer → Type 0
 Keeps a = IsLawful a.state.host.kernel.past → FramedFollow a.state
@@ -452,11 +452,11 @@ poll_fill-follow state framing r f =
     bar-keeps state (bars_read state framing x) _ f (filled_as-follow state framing r 0 x (polled_given_line buffer_line) at f))
 
 -- what is taken off
-off-changes : (state : State) (framing : Framing) (r : ℕ) (x : ReaderAt) (items : List Item) (left : ReaderState) → reader_at state r ≡ Some x → FramedFollow state → left.endpoint ≡ kept x.endpoint
-    → ((h : History) → Follows state.host.kernel.past (state_of_reader x) h → Follows state.host.kernel.past left (record h { consumed = h.consumed ++ items })) → Changes state (read_off state framing r x items left) r
-off-changes state framing r x items left at f same keeps =
+off-changes : (state : State) (framing : Framing) (r : ℕ) (x : ReaderAt) (items : List Item) (bytes : List ℕ) (left : ReaderState) → reader_at state r ≡ Some x → FramedFollow state → left.endpoint ≡ kept x.endpoint
+    → ((h : History) → Follows state.host.kernel.past (state_of_reader x) h → Follows state.host.kernel.past left (record h { consumed = h.consumed ++ items })) → Changes state (read_off state framing r x items bytes left) r
+off-changes state framing r x items bytes left at f same keeps =
     let now = consumed_with framing items x.reader.consumed in
-    let change : Reader → Reader = λ y. record { bare = bare_of left; consumed = now } in
+    let change : Reader → Reader = λ y. record y { bare = bare_of left; given = y.given ++ bytes; consumed = now } in
     let old = parts-of state r x at in
     record {
       names = length-changed change state.readers r;
@@ -477,10 +477,10 @@ off-changes state framing r x items left at f same keeps =
           });
     }
 
-off-follow : (state : State) (framing : Framing) (r : ℕ) (x : ReaderAt) (items : List Item) (left : ReaderState) → reader_at state r ≡ Some x → FramedFollow state → left.endpoint ≡ kept x.endpoint
-    → ((h : History) → Follows state.host.kernel.past (state_of_reader x) h → Follows state.host.kernel.past left (record h { consumed = h.consumed ++ items })) → FramedFollow (read_off state framing r x items left)
-off-follow state framing r x items left at f same keeps =
-    changes-follow state (read_off state framing r x items left) r (extends-same state.host.kernel.past) (off-changes state framing r x items left at f same keeps) f
+off-follow : (state : State) (framing : Framing) (r : ℕ) (x : ReaderAt) (items : List Item) (bytes : List ℕ) (left : ReaderState) → reader_at state r ≡ Some x → FramedFollow state → left.endpoint ≡ kept x.endpoint
+    → ((h : History) → Follows state.host.kernel.past (state_of_reader x) h → Follows state.host.kernel.past left (record h { consumed = h.consumed ++ items })) → FramedFollow (read_off state framing r x items bytes left)
+off-follow state framing r x items bytes left at f same keeps =
+    changes-follow state (read_off state framing r x items bytes left) r (extends-same state.host.kernel.past) (off-changes state framing r x items bytes left at f same keeps) f
 
 pub consume-follow : (state : State) (framing : Framing) (r n : ℕ) → FramedFollow state → FramedFollow (consume_answer state framing r n).state
 unfolding consume_answer
@@ -489,11 +489,12 @@ consume-follow state framing r n f = by (reader_at state r) refl
     by : (o : Option ReaderAt) → reader_at state r ≡ o → FramedFollow (if_open o (consume_on state framing r n) (barred state)).state
     by None at = f
     by (Some x) at =
-        let items = map Byte (take n x.reader.bare.unread) in
+        let bytes = take n x.reader.bare.unread in
+        let items = map Byte bytes in
         let left = with_read n (state_of_reader x) in
-        cond_both (nat_lt (length x.reader.bare.unread) n) (barred state) (ok_answer (read_off state framing r x items left)) (λ (a : Answer). FramedFollow a.state)
+        cond_both (nat_lt (length x.reader.bare.unread) n) (barred state) (ok_answer (read_off state framing r x items bytes left)) (λ (a : Answer). FramedFollow a.state)
         (λ yes_. f)
-        (λ no_. off-follow state framing r x items left at f refl (λ h g. reading_follows state.host.kernel.past (state_of_reader x) h n g))
+        (λ no_. off-follow state framing r x items bytes left at f refl (λ h g. reading_follows state.host.kernel.past (state_of_reader x) h n g))
 
 pub consume_end-follow : (state : State) (r : ℕ) → FramedFollow state → FramedFollow (consume_end_answer state r).state
 unfolding consume_end_answer
@@ -503,8 +504,8 @@ consume_end-follow state r f = by (reader_at state r) refl
     by None at = f
     by (Some x) at =
         let left = without_end (state_of_reader x) in
-        cond_both (is_end (state_of_reader x)) (told (read_off state UntilShort r x (End ∷ []) left) (consumed_end_line (Ok tt))) (told state (consumed_end_line (Err (record {})))) (λ (a : Answer). FramedFollow a.state)
-        (λ is. off-follow state UntilShort r x (End ∷ []) left at f refl (λ h g. ending_follows state.host.kernel.past (state_of_reader x) h is g))
+        cond_both (is_end (state_of_reader x)) (told (read_off state UntilShort r x (End ∷ []) [] left) (consumed_end_line (Ok tt))) (told state (consumed_end_line (Err (record {})))) (λ (a : Answer). FramedFollow a.state)
+        (λ is. off-follow state UntilShort r x (End ∷ []) [] left at f refl (λ h g. ending_follows state.host.kernel.past (state_of_reader x) h is g))
         (λ no_. f)
 
 pub is_end-follow : (state : State) (r : ℕ) → FramedFollow state → FramedFollow (is_end_answer state r).state

@@ -28,7 +28,7 @@ control_with key t =
 way-stands : (h : HostState) (f : FutureState) (t : ℕ) → IsOnItsWay h f t → Stands (bus_of h) (control_with f.key t)
 way-stands h f t was = record { key_is_open = was.key_is_open; held = (was.held, tt, tt) }
 
-deadline-stays : (old new : List Event) (t d : ℕ) → Extends old new → deadline_of old t ≡ Some d → deadline_of new t ≡ Some d
+pub deadline-stays : (old new : List Event) (t d : ℕ) → Extends old new → deadline_of old t ≡ Some d → deadline_of new t ≡ Some d
 deadline-stays old new t d goes is = by (slice_get (tickets old) t) refl
   where
     by : (o : Option Ticket) → slice_get (tickets old) t ≡ o → deadline_of new t ≡ Some d
@@ -41,7 +41,7 @@ unfound-by old new t None goes at none = refl
 unfound-by old new t (Some done) goes at none =
     absurd (let there : true ≡ false = ap (λ d. is_some (option_map completion_of d)) (sym (completion-stays old new t done goes at)) ∙ none in cc)
 
-unfound : (old new : List Event) (t : ℕ) → Extends old new → is_some (transfer_completion new t) ≡ false → is_some (transfer_completion old t) ≡ false
+pub unfound : (old new : List Event) (t : ℕ) → Extends old new → is_some (transfer_completion new t) ≡ false → is_some (transfer_completion old t) ≡ false
 unfolding transfer_completion
 unfound old new t goes none = unfound-by old new t (completion old t) goes refl none
 

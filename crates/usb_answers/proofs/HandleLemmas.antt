@@ -1,7 +1,7 @@
 -- The endpoints of a whole script.
-use Rattle.std.proofs.Common.{◌≡◌, ◌≢◌, ℕ, ◌<◌, ◌+◌, ◌-◌, suc, zero, arith, false, List, [], ◌∷◌, ◌++◌, length, map, take, slice_get, Option, Some, None, refl, ap, sym, ◌∙◌, inl, inr}
+use Rattle.std.proofs.Common.{◌≡◌, ◌≢◌, ℕ, ◌<◌, ◌+◌, ◌-◌, suc, zero, arith, false, List, [], ◌∷◌, ◌++◌, length, map, take, slice_get, Option, Some, None, refl, ap, sym, ◌∙◌, subst, inl, inr}
 use Rattle.std.specs.Prelude.{option_and_then, All, count_by, ◌==◌}
-use Rattle.std.proofs.lemmas.Bool.{cases_eq, cases_lt}
+use Rattle.std.proofs.lemmas.Bool.{cases_eq, cases_lt, cond_both}
 use Rattle.std.proofs.lemmas.List.{length-replicate}
 use Rattle.std.proofs.lemmas.List.Elements.{All-append, All-nil, All-cons}
 use Rattle.std.proofs.lemmas.Option.{none-some}
@@ -30,11 +30,12 @@ use Rattle.usb_answers.specs.Readers.{reader_closed_at, reader_closed}
 use Rattle.usb_answers.specs.Writers.{writer_closed_at, writer_closed}
 use Rattle.usb_answers.specs.Closes.{closed_at, closed}
 use Rattle.usb_answers.specs.Answers.{answer}
+use Rattle.usb_answers.specs.Crowded.{bars_line}
 use Rattle.usb_answers.specs.Ends.{readers_closed, writers_closed, endpoints_closed, future_closed_at, future_closed_under, futures_closed, interfaces_closed, devices_closed, all_closed, ended}
 use Rattle.usb_answers.specs.Output.{start, behind, last_host, final_host}
 use Rattle.usb_answers.specs.Accounts.{Accounted}
 use Rattle.usb_answers.specs.Behind.{GoesOnTo, ScriptsGoOn}
-use Rattle.usb_answers.specs.Served.{ClosedEndpoint, closed_endpoints, IsServedInOrder, EndpointsAreServedInOrder, ScriptsAreCounted, closed_as, tickets_of_all, closed_under, closed_by, read_at_end, written_at_end, closed_at_end, closed_endpoints_from, control_ticket, control_tickets_from, control_tickets, lines_behind}
+use Rattle.usb_answers.specs.Served.{ClosedEndpoint, closed_endpoints, IsServedInOrder, EndpointsAreServedInOrder, ScriptsAreCounted, closed_as, tickets_of_all, closed_under, closed_by_call, closed_by, read_at_end, written_at_end, closed_at_end, closed_endpoints_from, control_ticket, control_tickets_from, control_tickets, lines_behind}
 use Rattle.usb_answers.specs.Fates.{fate_lines, fate_lines_from}
 use Rattle.usb_answers.specs.FinalFates.{FatesOfScripts}
 use Rattle.usb_answers.specs.Sums.{counts_of}
@@ -50,7 +51,7 @@ use Rattle.usb_answers.proofs.PrintLemmas.{Prints, prints-stay, taken_of, AllPri
 use Rattle.usb_answers.proofs.TakeLemmas.{answer-takes}
 
 -- the end closes the endpoints by number
-ends-step : (state : State) (lines : ℕ → List (List ℕ)) (k : ℕ) → Inv state → Step state (endpoints_closed state k) (closed_at_end state lines k) []
+pub ends-step : (state : State) (lines : ℕ → List (List ℕ)) (k : ℕ) → Inv state → Step state (endpoints_closed state k) (closed_at_end state lines k) []
 ends-step state lines zero inv = step-quiet inv (quiet-same state)
 ends-step state lines (suc k) inv =
     let first = ends-step state lines k inv in
@@ -78,7 +79,7 @@ none-below state (suc k) n below = closed-none (endpoints_closed state k) k n (�
     lower k n apart small = omega arith
 
 -- before that it closes the readers
-readers-step : (state : State) (lines : ℕ → List (List ℕ)) (k : ℕ) → Inv state → Step state (readers_closed state k) (read_at_end state lines k) []
+pub readers-step : (state : State) (lines : ℕ → List (List ℕ)) (k : ℕ) → Inv state → Step state (readers_closed state k) (read_at_end state lines k) []
 readers-step state lines zero inv = step-quiet inv (quiet-same state)
 readers-step state lines (suc k) inv =
     let first = readers-step state lines k inv in
@@ -104,7 +105,7 @@ readers-none state (suc k) r below =
     lower k n apart small = omega arith
 
 -- then it closes the writers
-writers-step : (state : State) (lines : ℕ → List (List ℕ)) (k : ℕ) → Inv state → Step state (writers_closed state k) (written_at_end state lines k) []
+pub writers-step : (state : State) (lines : ℕ → List (List ℕ)) (k : ℕ) → Inv state → Step state (writers_closed state k) (written_at_end state lines k) []
 writers-step state lines zero inv = step-quiet inv (quiet-same state)
 writers-step state lines (suc k) inv =
     let first = writers-step state lines k inv in
@@ -157,7 +158,7 @@ none-open state n below =
     ]
 
 -- futures are closed, and endpoints stay
-futures-step : (state : State) (k : ℕ) → Inv state → Step state (futures_closed state k) [] []
+pub futures-step : (state : State) (k : ℕ) → Inv state → Step state (futures_closed state k) [] []
 futures-step state zero inv = step-quiet inv (quiet-same state)
 futures-step state (suc k) inv = let first = futures-step state k inv in step-then first (future_closed-step (futures_closed state k) k first.inv)
 
@@ -179,7 +180,7 @@ reaped_below-count : (h : HostState) (n : ℕ) → KeepsCount h (reaped_below h 
 reaped_below-count h zero = count-same h
 reaped_below-count h (suc n) = count-trans h (reaped_below h n) (host_reaped (reaped_below h n) n) (reaped_below-count h n) (reaped-count (reaped_below h n) n)
 
-end-quiet : (state : State) → Quiet state (with_host (devices_closed (interfaces_closed state 64) 64) (finished (devices_closed (interfaces_closed state 64) 64).host))
+pub end-quiet : (state : State) → Quiet state (with_host (devices_closed (interfaces_closed state 64) 64) (finished (devices_closed (interfaces_closed state 64) 64).host))
 unfolding finished
 end-quiet state =
     let last = (devices_closed (interfaces_closed state 64) 64).host in
@@ -239,7 +240,7 @@ runs state lines (item ∷ items) inv =
     }
 
 -- the beginning
-inv-start : (items : List Item) → Inv (start items)
+pub inv-start : (items : List Item) → Inv (start items)
 unfolding start
 inv-start items =
     record {
@@ -269,11 +270,16 @@ closed_as-printed past lines (Some h) prints = All-cons (Printed past) (record {
 closed_under-printed : (state : State) (lines : ℕ → List (List ℕ)) (e : ℕ) → AllPrint state lines → All (Printed state.host.kernel.past) (closed_under state lines e)
 closed_under-printed state lines e prints = closed_as-printed state.host.kernel.past (lines e) (named state.endpoints e) (λ h is. prints e h is)
 
+closed_by_call-printed : (state : State) (lines : ℕ → List (List ℕ)) (item : Item) → AllPrint state lines → All (Printed state.host.kernel.past) (closed_by_call state lines item)
+closed_by_call-printed state lines (CloseEndpoint e) prints = closed_under-printed state lines (endpoint_place e) prints
+closed_by_call-printed state lines (CloseReader r) prints = closed_under-printed state lines (reader_place r) prints
+closed_by_call-printed state lines (CloseWriter w) prints = closed_under-printed state lines (writer_place w) prints
+closed_by_call-printed state lines item prints = All-nil (Printed state.host.kernel.past)
+
 closed_by-printed : (state : State) (lines : ℕ → List (List ℕ)) (item : Item) → AllPrint state lines → All (Printed state.host.kernel.past) (closed_by state lines item)
-closed_by-printed state lines (CloseEndpoint e) prints = closed_under-printed state lines (endpoint_place e) prints
-closed_by-printed state lines (CloseReader r) prints = closed_under-printed state lines (reader_place r) prints
-closed_by-printed state lines (CloseWriter w) prints = closed_under-printed state lines (writer_place w) prints
-closed_by-printed state lines item prints = All-nil (Printed state.host.kernel.past)
+closed_by-printed state lines item prints =
+    cond_both (bars_line state item) [] (closed_by_call state lines item) (λ (xs : List ClosedEndpoint). All (Printed state.host.kernel.past) xs)
+    (λ yes_. All-nil (Printed state.host.kernel.past)) (λ no_. closed_by_call-printed state lines item prints)
 
 -- a close leaves what was printed of others
 closed_at-named : (state : State) (e d : ℕ) (g : Endpoint) (o : Option Endpoint) → named (closed_at state e o).endpoints d ≡ Some g → named state.endpoints d ≡ Some g
@@ -431,8 +437,25 @@ leaves-end (Some (Ended was)) p end leaves is = ap (option_and_then ended_at) le
 goes-to : {old new : HostState} → LeavesTickets old new → GoesOnTo old new
 goes-to {old} {new} goes = record { journal = goes.past; ends = λ t end is. leaves-end (slice_get old.tickets t) (slice_get new.tickets t) end (goes.tickets t) is }
 
-inv-of : (items before : List Item) → Inv (behind (start items) before)
+pub inv-of : (items before : List Item) → Inv (behind (start items) before)
 inv-of items before = inv-behind (start items) before (inv-start items)
+
+last-behind : (state : State) (before rest : List Item) → last_host state (before ++ rest) ≡ last_host (behind state before) rest
+last-behind state [] rest = refl
+last-behind state (x ∷ xs) rest = last-behind (answer state x).state xs rest
+
+-- the host goes on to the last
+pub runs-go : (state : State) (items : List Item) → Inv state → LeavesTickets state.host (last_host state items)
+runs-go state items inv = (runs state (λ e. []) items inv).goes
+
+-- also from behind each line
+pub goes-last : (items before after : List Item) (item : Item) → items ≡ before ++ item ∷ after → LeavesTickets (answer (behind (start items) before) item).state.host (final_host items)
+unfolding final_host
+goes-last items before after item is =
+    let state = behind (start items) before in
+    let next = (answer state item).state in
+    let inv = (answer-step state (λ e. []) item (inv-of items before)).inv in
+    subst (LeavesTickets next.host) (sym (ap (last_host (start items)) is ∙ last-behind (start items) before (item ∷ after))) (runs next (λ e. []) after inv).goes
 
 pub scripts-go_on : ScriptsGoOn
 scripts-go_on =

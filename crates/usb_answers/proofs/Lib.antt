@@ -8,6 +8,8 @@ pub mod CountedNames
 pub mod ControlHosts
 pub mod ControlCode
 pub mod CountedDevices
+pub mod CrowdCode
+pub mod Crowds
 pub mod DeviceCalls
 pub mod DeviceHandles
 pub mod DeviceHosts
@@ -80,3 +82,12 @@ pub mod ReadersLeave
 pub mod WrittenWriters
 pub mod WrittenBehind
 pub mod WrittenLaw
+pub mod PrintedLaw
+pub mod FuturesAwaited
+pub mod ControlCame
+pub mod ControlsLaw
+pub mod WorkedPrinted
+pub mod HandedReaders
+pub mod HandedBehind
+pub mod HandedScripts
+pub mod WorkedHanded

@@ -363,10 +363,10 @@ pub record IsClosed (h : HostState) (e : Endpoint) (past : List Event) : Type 0 
   pub given : All (λ t. WasGiven past t (slice_get h.tickets t)) back
   pub rising : IsStrictlyIncreasing e.tickets
 
-taken-goes : (o p : Option HostTicket) → Leaves o p → o ≡ Some (Ended Taken) → p ≡ Some (Ended Taken)
+pub taken-goes : (o p : Option HostTicket) → Leaves o p → o ≡ Some (Ended Taken) → p ≡ Some (Ended Taken)
 taken-goes o p leaves is = rw is at leaves
 
-given-goes : (past : List Event) (t : ℕ) (o p : Option HostTicket) → Leaves o p → WasGiven past t o → WasGiven past t p
+pub given-goes : (past : List Event) (t : ℕ) (o p : Option HostTicket) → Leaves o p → WasGiven past t o → WasGiven past t p
 given-goes past t o p leaves (inl (dropped reaped is)) = inl (dropped reaped (rw is at leaves))
 given-goes past t o p leaves (inl (waits key open_ is)) =
     elim (rw is at leaves) [ inl still ↦ inl (waits key open_ still) | inr gone ↦ inr (open_, gone) ]
@@ -409,12 +409,12 @@ pub left-stays : (h : HostState) (e : EndpointState) (t : ℕ) → times t e.pen
 left-stays h e t none = stays-same h (left_by h e) t (left-apart h e t none)
 
 -- at the end each ticket has its end
-ended-given : (past : List Event) (t : ℕ) (o : Option HostTicket) → IsSome (option_and_then ended_at o) → WasGiven past t o → option_and_then ended_at o ≡ Some (end_given_up past t)
+pub ended-given : (past : List Event) (t : ℕ) (o : Option HostTicket) → IsSome (option_and_then ended_at o) → WasGiven past t o → option_and_then ended_at o ≡ Some (end_given_up past t)
 ended-given past t o some (inl (dropped reaped is)) = rw (is, reaped) refl
 ended-given past t o some (inl (waits key open_ is)) = let none : false ≡ true = rw is at some in absurd (cc)
 ended-given past t o some (inr reclaimed) = rw (reclaimed.1, reclaimed.0) refl
 
-given-within : (past : List Event) (ts : List HostTicket) (t : ℕ) → WasGiven past t (slice_get ts t) → t < length ts
+pub given-within : (past : List Event) (ts : List HostTicket) (t : ℕ) → WasGiven past t (slice_get ts t) → t < length ts
 given-within past ts t (inl (dropped reaped is)) = slice_get_within ts t (Ended Dropped) is
 given-within past ts t (inl (waits key open_ is)) = slice_get_within ts t (Abandoned key) is
 given-within past ts t (inr reclaimed) = slice_get_within ts t (Ended Reclaimed) reclaimed.1

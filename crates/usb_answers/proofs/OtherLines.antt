@@ -60,7 +60,7 @@ use Rattle.usb_answers.specs.Controls.{device_of_target, bars_control, control_o
 use Rattle.usb_answers.specs.Futures.{with_future, start_on, future_polled, future_waited, start_answer, poll_future_answer, wait_future_answer}
 use Rattle.usb_answers.specs.Steps.{lent, then_rested, stepped_all, steps_answer}
 use Rattle.usb_answers.specs.Buffers.{in_buffer, out_buffer}
-use Rattle.usb_answers.specs.Answers.{answer}
+use Rattle.usb_answers.specs.LineAnswers.{line_answer}
 use Rattle.usb_script.specs.Kinds.{is_of_reader, is_of_writer}
 
 -- the places of the endpoints of readers and writers
@@ -389,8 +389,8 @@ steps-leaves state steps = still refl refl refl
 abbrev pub is_streamed : Item → Bool
 is_streamed line = is_of_reader line || is_of_writer line
 
-pub others-leave : (state : State) (line : Item) → is_streamed line ≡ false → Leaves state (answer state line)
-unfolding answer
+pub others-leave : (state : State) (line : Item) → is_streamed line ≡ false → Leaves state (line_answer state line)
+unfolding line_answer
 others-leave state (item.Device k bus address speed configuration descriptors) is = still refl refl refl
 others-leave state (item.Driver k number) is = still refl refl refl
 others-leave state (item.Attribute path name value) is = still refl refl refl

@@ -6,13 +6,20 @@ use Rattle.usb_lines.specs.Completions.{polled_line}
 use Rattle.usb_answers.specs.State.{State}
 use Rattle.usb_answers.specs.ReaderAt.{endpoint_place}
 use Rattle.usb_answers.specs.Polls.{took, poll_answer}
+use Rattle.usb_answers.specs.LineAnswers.{line_answer}
 use Rattle.usb_answers.specs.Answers.{answer}
-use Rattle.usb_answers.specs.Places.{PollsAnswerForTheirPlace}
+use Rattle.usb_answers.specs.Output.{start, behind}
+use Rattle.usb_answers.specs.Places.{PollsAnswerForTheirPlace, PollsOfScriptsAnswer}
 
 took-line : (state : State) (e t : ℕ) (o : Option Completion) → (took polled_line state e t o).line ≡ polled_line o
 took-line state e t None = refl
 took-line state e t (Some c) = refl
 
 pub polls-for_their_place : PollsAnswerForTheirPlace
-unfolding answer poll_answer
-polls-for_their_place state e h t is at = rw (is, at) (took-line state (endpoint_place e) t (transfer_completion state.host.kernel.past t))
+unfolding answer line_answer poll_answer
+polls-for_their_place state e h t free is at =
+    rw (free, is, at) (took-line state (endpoint_place e) t (transfer_completion state.host.kernel.past t))
+
+-- so in each script
+pub polls-of_scripts : PollsOfScriptsAnswer
+polls-of_scripts items before after e all = polls-for_their_place (behind (start items) before) e

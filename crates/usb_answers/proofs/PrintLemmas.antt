@@ -22,7 +22,7 @@ use Rattle.usb_answers.specs.Served.{taken_under, was_streamed_under, lines_behi
 abbrev pub line_in : List Event → ℕ → List ℕ
 line_in past t = polled_line (transfer_completion past t)
 
-mapped-some : {X Y : Type 0} (f : X → Y) (o : Option X) (y : Y) → option_map f o ≡ Some y → (x : X) × (o ≡ Some x) × (f x ≡ y)
+pub mapped-some : {X Y : Type 0} (f : X → Y) (o : Option X) (y : Y) → option_map f o ≡ Some y → (x : X) × (o ≡ Some x) × (f x ≡ y)
 mapped-some f None y is = absurd (none-some y is)
 mapped-some f (Some x) y is = (x, refl, same_Some (f x) y is)
 

@@ -181,17 +181,18 @@ kept-read old new x y h came rest same =
 -- an answer that goes on to what a call left of host and reader
 pub record ComesTo (state : State) (r : ℕ) (new : HostState) (y : ReaderState) (line : List ℕ) (a : Answer) : Type 0 where
   pub consumed : Option (List Item)
-  pub is : a ≡ told (called state r consumed (reading new y)) line
+  pub bytes : List ℕ
+  pub is : a ≡ told (called state r consumed bytes (reading new y)) line
 
 module _ (old new : HostState) (x y : ReaderState) (came : TicketsCame (reading old x) (reading new y)) (rest : y.endpoint ≡ record x.endpoint { pending = y.endpoint.pending }) where
-  represents-called : (s : SessionState) (state : State) (r : ℕ) (at : ReaderAt) (consumed : Option (List Item)) → Represents s state → s.host ≡ old → HasReader s state r x at → Represents (with_reader_called s r new y) (called state r consumed (reading new y))
-  represents-called s state r at consumed rep host_was has =
+  represents-called : (s : SessionState) (state : State) (r : ℕ) (at : ReaderAt) (consumed : Option (List Item)) (bytes : List ℕ) → Represents s state → s.host ≡ old → HasReader s state r x at → Represents (with_reader_called s r new y) (called state r consumed bytes (reading new y))
+  represents-called s state r at consumed bytes rep host_was has =
       let host : old ≡ state.host = sym host_was ∙ host_is s state rep in
       let count = length (tickets state.host.kernel.past) in
       let kept_is : kept (called_endpoint count (length (tickets new.kernel.past)) y.endpoint.pending at.endpoint) ≡ y.endpoint =
       ap (λ (h : HostState). kept (called_endpoint (length (tickets h.kernel.past)) (length (tickets new.kernel.past)) y.endpoint.pending at.endpoint)) (sym host)
       ∙ kept-read old new x y at.endpoint came rest (ap (λ (z : ReaderState). z.endpoint) has.same) in
-      represents-reader s state r new x y at (called_endpoint count (length (tickets new.kernel.past)) y.endpoint.pending) (λ z. record { bare = bare_of y; consumed = consumed }) rep has kept_is (omega arith) refl
+      represents-reader s state r new x y at (called_endpoint count (length (tickets new.kernel.past)) y.endpoint.pending) (λ z. record z { bare = bare_of y; given = z.given ++ bytes; consumed = consumed }) rep has kept_is (omega arith) refl
 
   -- a call goes on to what it left
   pub reader-called : {E : Type 0} (before text : String Global) (result : Result Unit E) (line : List ℕ) (call : State → ℕ → ReaderAt → Answer) → OnOk result (string_bytes text ≡ string_bytes before ++ line)
@@ -201,8 +202,8 @@ module _ (old new : HostState) (x y : ReaderState) (came : TicketsCame (reading 
       λ s state r at rep host_was has.
       let c = comes state r at (sym (host_is s state rep) ∙ host_was) has.same in
       subst (Answered (with_reader_called s r new y) (string_bytes before) (string_bytes text)) (sym c.is)
-      (told-answered (with_reader_called s r new y) (called state r c.consumed (reading new y)) (string_bytes before) (string_bytes text) line
-      (represents-called s state r at c.consumed rep host_was has) printed)
+      (told-answered (with_reader_called s r new y) (called state r c.consumed c.bytes (reading new y)) (string_bytes before) (string_bytes text) line
+      (represents-called s state r at c.consumed c.bytes rep host_was has) printed)
 
 -- whether a call is barred
 bars_at : (framing : Framing) (host : HostState) (x : ReaderState) (state : State) (at : ReaderAt) → state.host ≡ host → state_of_reader at ≡ x → bars_read state framing at ≡ bars_need host.kernel.past (length x.endpoint.pending) (need_of framing x)
@@ -217,23 +218,24 @@ reads-barred framing host x before text result call bars printed =
     reader-told host x before text result condition_line (λ state r at. cond (bars_read state framing at) (barred state) (call state r at)) printed
     (λ state r at host_was same. ap (λ b. cond b (barred state) (call state r at)) (bars_at framing host x state at host_was same ∙ bars))
 
--- what a reading call gave is told, and the items that it took are consumed
-abbrev pub given_as : State → Framing → ℕ → ReaderAt → (Result (List ℕ) ReadFault → List Item) → (Result (List ℕ) ReadFault → List ℕ) → Given → Answer
-given_as state framing r at items line a = told (called state r (consumed_with framing (items a.answer) at.reader.consumed) a.left) (line a.answer)
+-- what a reading call gave is told, and the bytes that it took are consumed
+abbrev pub given_as : State → Framing → ℕ → ReaderAt → (Result (List ℕ) ReadFault → List ℕ) → (Result (List ℕ) ReadFault → List ℕ) → Given → Answer
+given_as state framing r at bytes line a = told (called state r (consumed_with framing (map Byte (bytes a.answer)) at.reader.consumed) (bytes a.answer) a.left) (line a.answer)
 
-pub reads-given : {E : Type 0} (framing : Framing) (old new : HostState) (x y : ReaderState) (before text : String Global) (result : Result Unit E) (answer : Result (List ℕ) ReadFault) (items : Result (List ℕ) ReadFault → List Item) (line : Result (List ℕ) ReadFault → List ℕ) (given : State → ReaderAt → Given)
+pub reads-given : {E : Type 0} (framing : Framing) (old new : HostState) (x y : ReaderState) (before text : String Global) (result : Result Unit E) (answer : Result (List ℕ) ReadFault) (bytes : Result (List ℕ) ReadFault → List ℕ) (line : Result (List ℕ) ReadFault → List ℕ) (given : State → ReaderAt → Given)
     → TicketsCame (reading old x) (reading new y) → y.endpoint ≡ record x.endpoint { pending = y.endpoint.pending }
     → bars_need old.kernel.past (length x.endpoint.pending) (need_of framing x) ≡ false
     → ((state : State) (at : ReaderAt) → state.host ≡ old → state_of_reader at ≡ x → given state at ≡ answered answer (reading new y))
     → OnOk result (string_bytes text ≡ string_bytes before ++ line answer)
-    → ReaderAnswers old new x y before text result (λ state r at. cond (bars_read state framing at) (barred state) (given_as state framing r at items line (given state at)))
-reads-given framing old new x y before text result answer items line given came rest free is printed =
-    reader-called old new x y came rest before text result (line answer) (λ state r at. cond (bars_read state framing at) (barred state) (given_as state framing r at items line (given state at))) printed
+    → ReaderAnswers old new x y before text result (λ state r at. cond (bars_read state framing at) (barred state) (given_as state framing r at bytes line (given state at)))
+reads-given framing old new x y before text result answer bytes line given came rest free is printed =
+    reader-called old new x y came rest before text result (line answer) (λ state r at. cond (bars_read state framing at) (barred state) (given_as state framing r at bytes line (given state at))) printed
     (λ state r at host_was same. record {
-      consumed = consumed_with framing (items answer) at.reader.consumed;
+      consumed = consumed_with framing (map Byte (bytes answer)) at.reader.consumed;
+      bytes = bytes answer;
       is =
-          ap (λ b. cond b (barred state) (given_as state framing r at items line (given state at))) (bars_at framing old x state at host_was same ∙ free)
-          ∙ ap (given_as state framing r at items line) (is state at host_was same);
+          ap (λ b. cond b (barred state) (given_as state framing r at bytes line (given state at))) (bars_at framing old x state at host_was same ∙ free)
+          ∙ ap (given_as state framing r at bytes line) (is state at host_was same);
     })
 
 -- a reader of which the host knows nothing was changed
@@ -260,7 +262,7 @@ module _ (framing : Framing) (old new : HostState) (x y : ReaderState) (goes : G
   pub read-gave : {E : Type 0} (before text : String Global) (result : Result Unit E) (most : ℕ) (answer : Result (List ℕ) ReadFault) → read_came (is_until_short framing) x.timeout most (reading old x) ≡ answered answer (reading new y)
       → OnOk result (string_bytes text ≡ string_bytes before ++ given_line read_line answer) → ReaderAnswers old new x y before text result (λ state r at. read_on state framing r most at)
   read-gave before text result most answer is printed =
-      reads-given framing old new x y before text result answer (λ a. map Byte (bytes_given a)) (given_line read_line)
+      reads-given framing old new x y before text result answer (λ a. bytes_given a) (given_line read_line)
       (λ state at. read_came (is_until_short framing) at.reader.bare.timeout most (reading state.host (state_of_reader at)))
       (tickets-read_by x.timeout most answer is) goes.endpoint free
       (λ state at host_was same.
@@ -271,7 +273,7 @@ module _ (framing : Framing) (old new : HostState) (x y : ReaderState) (goes : G
   pub poll_read-gave : {E : Type 0} (before text : String Global) (result : Result Unit E) (most : ℕ) (answer : Result (List ℕ) ReadFault) → read_came (is_until_short framing) 0 most (reading old x) ≡ answered answer (reading new y)
       → OnOk result (string_bytes text ≡ string_bytes before ++ polled_given_line read_line answer) → ReaderAnswers old new x y before text result (λ state r at. poll_read_on state framing r most at)
   poll_read-gave before text result most answer is printed =
-      reads-given framing old new x y before text result answer (λ a. map Byte (bytes_given a)) (polled_given_line read_line)
+      reads-given framing old new x y before text result answer (λ a. bytes_given a) (polled_given_line read_line)
       (λ state at. read_came (is_until_short framing) 0 most (reading state.host (state_of_reader at)))
       (tickets-read_by 0 most answer is) goes.endpoint free
       (λ state at host_was same.
@@ -320,7 +322,7 @@ pub num-barred : {E : Type 0} (host : HostState) (x : ReaderState) (n : ℕ) (be
 num-barred host x n before text result bars printed =
     reader-told host x before text result condition_line (λ state r at. num_on state r n at) printed
     (λ state r at host_was same.
-    ap (λ b. cond b (barred state) (ok_answer (called state r at.reader.consumed (filled_to host_calls (n - 1) (reading state.host (with_count n (state_of_reader at)))))))
+    ap (λ b. cond b (barred state) (ok_answer (called state r at.reader.consumed [] (filled_to host_calls (n - 1) (reading state.host (with_count n (state_of_reader at)))))))
     (bars_num host x n state at host_was same ∙ bars))
 
 pub num-made : {E : Type 0} (old new : HostState) (x y : ReaderState) (n : ℕ) (before text : String Global) (result : Result Unit E) → nat_lt 64 n || bars_need old.kernel.past (length x.endpoint.pending) (n - 1 - length x.endpoint.pending) ≡ false
@@ -332,12 +334,13 @@ num-made old new x y n before text result free is goes printed =
     reader-called old new x y came goes.endpoint before text result ok_line (λ state r at. num_on state r n at) printed
     (λ state r at host_was same. record {
       consumed = at.reader.consumed;
+      bytes = [];
       is =
-          ap (λ b. cond b (barred state) (ok_answer (called state r at.reader.consumed (filled_to host_calls (n - 1) (reading state.host (with_count n (state_of_reader at)))))))
+          ap (λ b. cond b (barred state) (ok_answer (called state r at.reader.consumed [] (filled_to host_calls (n - 1) (reading state.host (with_count n (state_of_reader at)))))))
           (bars_num old x n state at host_was same ∙ free)
-          ∙ ap (λ (h : HostState). ok_answer (called state r at.reader.consumed (filled_to host_calls (n - 1) (reading h (with_count n (state_of_reader at)))))) host_was
-          ∙ ap (λ (z : ReaderState). ok_answer (called state r at.reader.consumed (filled_to host_calls (n - 1) (reading old (with_count n z))))) same
-          ∙ ap (λ (w : Reading HostState). ok_answer (called state r at.reader.consumed w)) (sym is);
+          ∙ ap (λ (h : HostState). ok_answer (called state r at.reader.consumed [] (filled_to host_calls (n - 1) (reading h (with_count n (state_of_reader at)))))) host_was
+          ∙ ap (λ (z : ReaderState). ok_answer (called state r at.reader.consumed [] (filled_to host_calls (n - 1) (reading old (with_count n z))))) same
+          ∙ ap (λ (w : Reading HostState). ok_answer (called state r at.reader.consumed [] w)) (sym is);
     })
 
 -- a timeout was set
@@ -375,20 +378,20 @@ pub consume-barred : {E : Type 0} (framing : Framing) (host : HostState) (x : Re
 consume-barred framing host x n before text result more printed =
     reader-told host x before text result condition_line (λ state r at. consume_on state framing r n at) printed
     (λ state r at host_was same.
-    ap (λ b. cond b (barred state) (ok_answer (read_off state framing r at (map Byte (take n at.reader.bare.unread)) (with_read n (state_of_reader at)))))
+    ap (λ b. cond b (barred state) (ok_answer (read_off state framing r at (map Byte (take n at.reader.bare.unread)) (take n at.reader.bare.unread) (with_read n (state_of_reader at)))))
     (ap (λ (z : ReaderState). nat_lt (length z.unread) n) same ∙ more-yes (length x.unread) n more))
 
 pub consume-took : {E : Type 0} (framing : Framing) (host : HostState) (x y : ReaderState) (n : ℕ) (before text : String Global) (result : Result Unit E) → n ≤ length x.unread → y ≡ with_read n x → OnOk result (string_bytes text ≡ string_bytes before ++ ok_line) → ReaderAnswers host host x y before text result (λ state r at. consume_on state framing r n at)
 consume-took framing host x y n before text result few is printed =
     reader-off host host x y before text result ok_line (λ state r at. consume_on state framing r n at) (ap (λ (z : ReaderState). z.endpoint) is) printed
     (λ state r at host_was same. record {
-      change = λ z. record { bare = bare_of y; consumed = consumed_with framing (map Byte (take n at.reader.bare.unread)) at.reader.consumed };
+      change = λ z. record z { bare = bare_of y; given = z.given ++ take n at.reader.bare.unread; consumed = consumed_with framing (map Byte (take n at.reader.bare.unread)) at.reader.consumed };
       is =
-          ap (λ b. cond b (barred state) (ok_answer (read_off state framing r at (map Byte (take n at.reader.bare.unread)) (with_read n (state_of_reader at)))))
+          ap (λ b. cond b (barred state) (ok_answer (read_off state framing r at (map Byte (take n at.reader.bare.unread)) (take n at.reader.bare.unread) (with_read n (state_of_reader at)))))
           (ap (λ (z : ReaderState). nat_lt (length z.unread) n) same ∙ more-no (length x.unread) n few)
-          ∙ ap (λ (z : ReaderState). ok_answer (read_off state framing r at (map Byte (take n at.reader.bare.unread)) (with_read n z))) same
-          ∙ ap (λ (z : ReaderState). ok_answer (read_off state framing r at (map Byte (take n at.reader.bare.unread)) z)) (sym is)
-          ∙ ap (λ (h : HostState). ok_answer (record state { host = h; readers = change_named (λ z. record { bare = bare_of y; consumed = consumed_with framing (map Byte (take n at.reader.bare.unread)) at.reader.consumed }) state.readers r })) host_was;
+          ∙ ap (λ (z : ReaderState). ok_answer (read_off state framing r at (map Byte (take n at.reader.bare.unread)) (take n at.reader.bare.unread) (with_read n z))) same
+          ∙ ap (λ (z : ReaderState). ok_answer (read_off state framing r at (map Byte (take n at.reader.bare.unread)) (take n at.reader.bare.unread) z)) (sym is)
+          ∙ ap (λ (h : HostState). ok_answer (record state { host = h; readers = change_named (λ z. record z { bare = bare_of y; given = z.given ++ take n at.reader.bare.unread; consumed = consumed_with framing (map Byte (take n at.reader.bare.unread)) at.reader.consumed }) state.readers r })) host_was;
       bare = refl;
     })
 
@@ -398,19 +401,19 @@ pub end-taken : {E : Type 0} (host : HostState) (x y : ReaderState) (answer : Re
 end-taken host x y (Ok u) before text result ok err printed =
     reader-off host host x y before text result ok_line (λ state r at. consume_end_on state r at) (ap (λ (z : ReaderState). z.endpoint) ok.1) printed
     (λ state r at host_was same. record {
-      change = λ z. record { bare = bare_of y; consumed = consumed_with UntilShort (End ∷ []) at.reader.consumed };
+      change = λ z. record z { bare = bare_of y; given = z.given ++ []; consumed = consumed_with UntilShort (End ∷ []) at.reader.consumed };
       is =
-          ap (λ b. cond b (ok_answer (read_off state UntilShort r at (End ∷ []) (without_end (state_of_reader at)))) (told state (consumed_end_line (Err (record {}))))) (ap (λ (z : ReaderState). is_end z) same ∙ ok.0)
-          ∙ ap (λ (z : ReaderState). ok_answer (read_off state UntilShort r at (End ∷ []) (without_end z))) same
-          ∙ ap (λ (z : ReaderState). ok_answer (read_off state UntilShort r at (End ∷ []) z)) (sym ok.1)
-          ∙ ap (λ (h : HostState). ok_answer (record state { host = h; readers = change_named (λ z. record { bare = bare_of y; consumed = consumed_with UntilShort (End ∷ []) at.reader.consumed }) state.readers r })) host_was;
+          ap (λ b. cond b (ok_answer (read_off state UntilShort r at (End ∷ []) [] (without_end (state_of_reader at)))) (told state (consumed_end_line (Err (record {}))))) (ap (λ (z : ReaderState). is_end z) same ∙ ok.0)
+          ∙ ap (λ (z : ReaderState). ok_answer (read_off state UntilShort r at (End ∷ []) [] (without_end z))) same
+          ∙ ap (λ (z : ReaderState). ok_answer (read_off state UntilShort r at (End ∷ []) [] z)) (sym ok.1)
+          ∙ ap (λ (h : HostState). ok_answer (record state { host = h; readers = change_named (λ z. record z { bare = bare_of y; given = z.given ++ []; consumed = consumed_with UntilShort (End ∷ []) at.reader.consumed }) state.readers r })) host_was;
       bare = refl;
     })
 end-taken host x y (Err e) before text result ok err printed =
     subst (λ (z : ReaderState). ReaderAnswers host host x z before text result (λ state r at. consume_end_on state r at)) (sym err.1)
     (reader-told host x before text result (consumed_end_line (Err e)) (λ state r at. consume_end_on state r at) printed
     (λ state r at host_was same.
-    ap (λ b. cond b (ok_answer (read_off state UntilShort r at (End ∷ []) (without_end (state_of_reader at)))) (told state (consumed_end_line (Err (record {}))))) (ap (λ (z : ReaderState). is_end z) same ∙ err.0)))
+    ap (λ b. cond b (ok_answer (read_off state UntilShort r at (End ∷ []) [] (without_end (state_of_reader at)))) (told state (consumed_end_line (Err (record {}))))) (ap (λ (z : ReaderState). is_end z) same ∙ err.0)))
 
 pub end-rest : (x y : ReaderState) (answer : Result Unit ExpectedShortPacket) → OnOk answer ((is_end x ≡ true) × (y ≡ without_end x)) → OnErr answer ((is_end x ≡ false) × (y ≡ x)) → y.endpoint ≡ x.endpoint
 end-rest x y (Ok u) ok err = ap (λ (z : ReaderState). z.endpoint) ok.1

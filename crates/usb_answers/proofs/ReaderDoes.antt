@@ -75,7 +75,7 @@ timeout-does state r timeout = call-does (named state.readers r) _ (λ x is. end
 pub consume-does : (state : State) (framing : Framing) (r n : ℕ) → Does state (consume_answer state framing r n)
 unfolding consume_answer
 consume-does state framing r n = call-does (reader_at state r) _ (λ x is.
-    let next = read_off state framing r x (map Byte (take n x.reader.bare.unread)) (with_read n (state_of_reader x)) in
+    let next = read_off state framing r x (map Byte (take n x.reader.bare.unread)) (take n x.reader.bare.unread) (with_read n (state_of_reader x)) in
     bar-does {bars = nat_lt (length x.reader.bare.unread) n} {call = ok_answer next} (λ no_. ends refl (quiet-aside state next refl refl refl refl)))
 
 end-other : (b : Bool) → says_done (is_end_line b) ≡ false
@@ -128,15 +128,15 @@ module _ (few : Type 0) (a : Answer) (state : State) (e : ℕ) (h : Endpoint) (a
     submission = λ w l. leads-send few a state e h above here other w.bus w.reader.endpoint (fresh_buffer w.reader.size) l;
     end = λ w l. l;
     wait = λ w front others was l. leads-wait few a state e h above here other w.bus w.reader.endpoint front timeout l;
-    taking = λ w front others c was came l. leads-take few a state e h above here other w.bus w.reader.endpoint front others was l;
+    taking = λ w front others c was empty came l. leads-take few a state e h above here other w.bus w.reader.endpoint front others was l;
   }
 
-called-does : (state : State) (r : ℕ) (x : ReaderAt) (consumed : Option (List Item)) (w : Reading HostState) (line : List ℕ) → reader_at state r ≡ Some x → says_done line ≡ false
-    → (named state.endpoints (reader_place r) ≡ Some x.endpoint → x.endpoint.taken ≤ length x.endpoint.tickets → LeadsTo (TookFew state) (told (called state r consumed w) line) state (reader_place r) x.endpoint w)
-    → Does state (told (called state r consumed w) line)
-called-does state r x consumed w line is other leads =
+called-does : (state : State) (r : ℕ) (x : ReaderAt) (consumed : Option (List Item)) (bytes : List ℕ) (w : Reading HostState) (line : List ℕ) → reader_at state r ≡ Some x → says_done line ≡ false
+    → (named state.endpoints (reader_place r) ≡ Some x.endpoint → x.endpoint.taken ≤ length x.endpoint.tickets → LeadsTo (TookFew state) (told (called state r consumed bytes w) line) state (reader_place r) x.endpoint w)
+    → Does state (told (called state r consumed bytes w) line)
+called-does state r x consumed bytes w line is other leads =
     let here = at_reader state r x is in
-    called-acts state (told (called state r consumed w) line) (reader_place r) x.endpoint w.bus w.reader.endpoint here other refl refl refl (leads here)
+    called-acts state (told (called state r consumed bytes w) line) (reader_place r) x.endpoint w.bus w.reader.endpoint here other refl refl refl (leads here)
 
 -- how many are to be pending is set
 pub num-does : (state : State) (r n : ℕ) → Does state (num_answer state r n)
@@ -146,23 +146,23 @@ num-does state r n =
     bar-does (λ no_.
     let first = reading state.host (with_count n (state_of_reader x)) in
     let w = filled_to host_calls (n - 1) first in
-    let a = ok_answer (called state r x.reader.consumed w) in
+    let a = ok_answer (called state r x.reader.consumed [] w) in
     let few = TookFew state in
     let e = reader_place r in
-    called-does state r x x.reader.consumed w _ is refl
+    called-does state r x x.reader.consumed [] w _ is refl
     (λ here within.
     more-keeps false 0 (λ v. LeadsTo few a state e x.endpoint v) (leads-keep few a state e x.endpoint (above-place r) here refl 0) (n - 1 - length (pending x.endpoint)) first
     (leads-start few a state e x.endpoint (above-place r) here refl (kept x.endpoint) refl within))))
 
 -- the bytes that a reading call gives, or lends
-call-leads : (state : State) (r : ℕ) (x : ReaderAt) (consumed : Option (List Item)) (us : Bool) (timeout most : ℕ) (line : List ℕ) (w : Reading HostState) → w ≡ (read_came us timeout most (reading state.host (state_of_reader x))).left → reader_at state r ≡ Some x → says_done line ≡ false
-    → Does state (told (called state r consumed w) line)
-call-leads state r x consumed us timeout most line w came is other =
-    let a = told (called state r consumed w) line in
+call-leads : (state : State) (r : ℕ) (x : ReaderAt) (consumed : Option (List Item)) (bytes : List ℕ) (us : Bool) (timeout most : ℕ) (line : List ℕ) (w : Reading HostState) → w ≡ (read_came us timeout most (reading state.host (state_of_reader x))).left → reader_at state r ≡ Some x → says_done line ≡ false
+    → Does state (told (called state r consumed bytes w) line)
+call-leads state r x consumed bytes us timeout most line w came is other =
+    let a = told (called state r consumed bytes w) line in
     let few = TookFew state in
     let e = reader_place r in
     let first = reading state.host (state_of_reader x) in
-    called-does state r x consumed w line is other
+    called-does state r x consumed bytes w line is other
     (λ here within.
     subst_left few a state e x.endpoint (read_came us timeout most first).left w came
     (read-keeps us timeout (λ v. LeadsTo few a state e x.endpoint v) (leads-keep few a state e x.endpoint (above-place r) here other timeout) most first
@@ -172,15 +172,15 @@ call-leads state r x consumed us timeout most line w came is other =
     subst_left : (few : Type 0) (a : Answer) (state : State) (e : ℕ) (h : Endpoint) (v w : Reading HostState) → w ≡ v → LeadsTo few a state e h v → LeadsTo few a state e h w
     subst_left few a state e h v w same l = subst (λ (z : Reading HostState). LeadsTo few a state e h z) (sym same) l
 
-fill-leads : (state : State) (r : ℕ) (x : ReaderAt) (consumed : Option (List Item)) (us : Bool) (timeout : ℕ) (line : List ℕ) → reader_at state r ≡ Some x → says_done line ≡ false
-    → Does state (told (called state r consumed (fill_came us timeout (reading state.host (state_of_reader x))).left) line)
-fill-leads state r x consumed us timeout line is other =
+fill-leads : (state : State) (r : ℕ) (x : ReaderAt) (consumed : Option (List Item)) (bytes : List ℕ) (us : Bool) (timeout : ℕ) (line : List ℕ) → reader_at state r ≡ Some x → says_done line ≡ false
+    → Does state (told (called state r consumed bytes (fill_came us timeout (reading state.host (state_of_reader x))).left) line)
+fill-leads state r x consumed bytes us timeout line is other =
     let first = reading state.host (state_of_reader x) in
     let w = (fill_came us timeout first).left in
-    let a = told (called state r consumed w) line in
+    let a = told (called state r consumed bytes w) line in
     let few = TookFew state in
     let e = reader_place r in
-    called-does state r x consumed w line is other
+    called-does state r x consumed bytes w line is other
     (λ here within.
     fill-keeps us timeout (λ v. LeadsTo few a state e x.endpoint v) (leads-keep few a state e x.endpoint (above-place r) here other timeout) first
     (leads-start few a state e x.endpoint (above-place r) here other (kept x.endpoint) refl within))
@@ -214,14 +214,14 @@ read_as-does : (state : State) (framing : Framing) (r most timeout : ℕ) (x : R
 read_as-does state framing r most timeout x line is other =
     let came = read_came (is_until_short framing) timeout most (reading state.host (state_of_reader x)) in
     bar-does {bars = bars_read state framing x} {call = read_as state framing r x line came} (λ no_.
-    call-leads state r x (consumed_with framing (map Byte (bytes_given came.answer)) x.reader.consumed) (is_until_short framing) timeout most (line came.answer) came.left refl is (other came.answer))
+    call-leads state r x (consumed_with framing (map Byte (bytes_given came.answer)) x.reader.consumed) (bytes_given came.answer) (is_until_short framing) timeout most (line came.answer) came.left refl is (other came.answer))
 
 filled_as-does : (state : State) (framing : Framing) (r timeout : ℕ) (x : ReaderAt) (line : Result (List ℕ) ReadFault → List ℕ) → reader_at state r ≡ Some x → ((answer : Result (List ℕ) ReadFault) → says_done (line answer) ≡ false)
     → Does state (if bars_read state framing x then barred state else filled_as state framing r x line (fill_came (is_until_short framing) timeout (reading state.host (state_of_reader x))))
 filled_as-does state framing r timeout x line is other =
     let came = fill_came (is_until_short framing) timeout (reading state.host (state_of_reader x)) in
     bar-does {bars = bars_read state framing x} {call = filled_as state framing r x line came} (λ no_.
-    fill-leads state r x (consumed_with framing [] x.reader.consumed) (is_until_short framing) timeout (line came.answer) is (other came.answer))
+    fill-leads state r x (consumed_with framing [] x.reader.consumed) [] (is_until_short framing) timeout (line came.answer) is (other came.answer))
 
 pub read-does : (state : State) (framing : Framing) (r most : ℕ) (steps : List KernelStep) → Does state (read_answer state framing r most steps)
 unfolding read_answer

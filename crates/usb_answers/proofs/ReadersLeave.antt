@@ -27,7 +27,7 @@ use Rattle.usb_answers.specs.Submits.{has_direction}
 use Rattle.usb_answers.specs.Readers.{as_streamed, with_reader, is_free_reader, reader_on, reader_answer, without_reader, inner_answer, called, with_count, num_on, num_answer, with_timeout, timeout_on, timeout_answer, with_none, cancel_reader_on, cancel_reader_answer, closed_reader, close_reader_answer}
 use Rattle.usb_answers.specs.Reads.{is_until_short, consumed_with, bytes_given, bars_read, given_line, polled_given_line, read_as, filled_as, read_on, read_answer, poll_read_on, poll_read_answer, fill_on, fill_answer, poll_fill_on, poll_fill_answer, read_off, consume_on, consume_answer, is_end_answer, consume_end_on, consume_end_answer}
 use Rattle.usb_answers.specs.Steps.{lent, then_rested, stepped_all}
-use Rattle.usb_answers.specs.Answers.{answer}
+use Rattle.usb_answers.specs.LineAnswers.{line_answer}
 use Rattle.usb_script.specs.Kinds.{is_of_writer}
 use Rattle.usb_answers.proofs.OtherLines.{IsApart, place-apart, is_streamed, others-leave}
 use Rattle.usb_answers.proofs.StreamPlaces.{small-name, free-small, writer-streamed, writer-reader_apart, LeavesWriters, writers-left, length-changed}
@@ -95,8 +95,8 @@ inner-leaves state p r apart names =
     if-leaves state (is_free state.endpoints p) (ok_answer (without_reader state p r x)) (λ free. without_reader-leaves state p r x apart (small-reader state r x names at)))
 
 -- behind a call
-called-leaves : (state : State) (r : ℕ) (consumed : Option (List StreamItem)) (left : Reading HostState) → r < 64 → LeavesWriters state (called state r consumed left)
-called-leaves state r consumed left within =
+called-leaves : (state : State) (r : ℕ) (consumed : Option (List StreamItem)) (bytes : List ℕ) (left : Reading HostState) → r < 64 → LeavesWriters state (called state r consumed bytes left)
+called-leaves state r consumed bytes left within =
     keeps (length-changed _ state.readers r) refl (λ w small. named-change_other _ state.endpoints (reader_place r) (writer_place w) (writer-reader_apart w r within))
 
 -- `num`, `timeout`, `cancel` and `close`
@@ -105,8 +105,8 @@ unfolding num_answer
 num-leaves state r n names =
     open-leaves state (reader_at state r) (num_on state r n) (λ x at.
     let left = filled_to host_calls (n - 1) (reading state.host (with_count n (state_of_reader x))) in
-    bar-leaves state (nat_lt 64 n || bars_need state.host.kernel.past (length (pending x.endpoint)) (n - 1 - length (pending x.endpoint))) (ok_answer (called state r x.reader.consumed left))
-    (called-leaves state r x.reader.consumed left (small-reader state r x names at)))
+    bar-leaves state (nat_lt 64 n || bars_need state.host.kernel.past (length (pending x.endpoint)) (n - 1 - length (pending x.endpoint))) (ok_answer (called state r x.reader.consumed [] left))
+    (called-leaves state r x.reader.consumed [] left (small-reader state r x names at)))
 
 timeout-leaves : (state : State) (r timeout : ℕ) → Leaves state (timeout_answer state r timeout)
 unfolding timeout_answer
@@ -138,13 +138,13 @@ read_as-leaves : (state : State) (framing : Framing) (r : ℕ) (x : ReaderAt) (l
     → Leaves state (if bars_read state framing x then barred state else read_as state framing r x line a)
 read_as-leaves state framing r x line a names at =
     bar-leaves state (bars_read state framing x) (read_as state framing r x line a)
-    (called-leaves state r (consumed_with framing (map Byte (bytes_given a.answer)) x.reader.consumed) a.left (small-reader state r x names at))
+    (called-leaves state r (consumed_with framing (map Byte (bytes_given a.answer)) x.reader.consumed) (bytes_given a.answer) a.left (small-reader state r x names at))
 
 filled_as-leaves : (state : State) (framing : Framing) (r : ℕ) (x : ReaderAt) (line : Result (List ℕ) ReadFault → List ℕ) (a : Answered) → length state.readers ≡ 64 → reader_at state r ≡ Some x
     → Leaves state (if bars_read state framing x then barred state else filled_as state framing r x line a)
 filled_as-leaves state framing r x line a names at =
     bar-leaves state (bars_read state framing x) (filled_as state framing r x line a)
-    (called-leaves state r (consumed_with framing [] x.reader.consumed) a.left (small-reader state r x names at))
+    (called-leaves state r (consumed_with framing [] x.reader.consumed) [] a.left (small-reader state r x names at))
 
 read-leaves : (state : State) (framing : Framing) (r most : ℕ) (steps : List KernelStep) → length state.readers ≡ 64 → Leaves state (read_answer state framing r most steps)
 unfolding read_answer
@@ -173,16 +173,17 @@ poll_fill-leaves state framing r names =
     filled_as-leaves state framing r x (polled_given_line buffer_line) (fill_came (is_until_short framing) 0 (reading state.host (state_of_reader x))) names at)
 
 -- what is taken off
-off-leaves : (state : State) (framing : Framing) (r : ℕ) (x : ReaderAt) (items : List StreamItem) (left : ReaderState) → LeavesWriters state (read_off state framing r x items left)
-off-leaves state framing r x items left = still (length-changed _ state.readers r) refl refl
+off-leaves : (state : State) (framing : Framing) (r : ℕ) (x : ReaderAt) (items : List StreamItem) (bytes : List ℕ) (left : ReaderState) → LeavesWriters state (read_off state framing r x items bytes left)
+off-leaves state framing r x items bytes left = still (length-changed _ state.readers r) refl refl
 
 consume-leaves : (state : State) (framing : Framing) (r n : ℕ) → Leaves state (consume_answer state framing r n)
 unfolding consume_answer
 consume-leaves state framing r n =
     open-leaves state (reader_at state r) (consume_on state framing r n) (λ x at.
-    let items = map Byte (take n x.reader.bare.unread) in
+    let bytes = take n x.reader.bare.unread in
+    let items = map Byte bytes in
     let left = with_read n (state_of_reader x) in
-    bar-leaves state (nat_lt (length x.reader.bare.unread) n) (ok_answer (read_off state framing r x items left)) (off-leaves state framing r x items left))
+    bar-leaves state (nat_lt (length x.reader.bare.unread) n) (ok_answer (read_off state framing r x items bytes left)) (off-leaves state framing r x items bytes left))
 
 is_end-leaves : (state : State) (r : ℕ) → Leaves state (is_end_answer state r)
 unfolding is_end_answer
@@ -193,16 +194,16 @@ unfolding consume_end_answer
 consume_end-leaves state r =
     open-leaves state (reader_at state r) (consume_end_on state r) (λ x at.
     let left = without_end (state_of_reader x) in
-    cond_both (is_end (state_of_reader x)) (told (read_off state UntilShort r x (End ∷ []) left) (consumed_end_line (Ok tt))) (told state (consumed_end_line (Err (record {})))) (Leaves state)
-    (λ is. off-leaves state UntilShort r x (End ∷ []) left)
+    cond_both (is_end (state_of_reader x)) (told (read_off state UntilShort r x (End ∷ []) [] left) (consumed_end_line (Ok tt))) (told state (consumed_end_line (Err (record {})))) (Leaves state)
+    (λ is. off-leaves state UntilShort r x (End ∷ []) [] left)
     (λ no_. still refl refl refl))
 
 -- each line
-others-leave_writers : (state : State) (line : Item) → is_streamed line ≡ false → LeavesWriters state (answer state line).state
-others-leave_writers state line other = writers-left state (answer state line) (others-leave state line other)
+others-leave_writers : (state : State) (line : Item) → is_streamed line ≡ false → LeavesWriters state (line_answer state line).state
+others-leave_writers state line other = writers-left state (line_answer state line) (others-leave state line other)
 
-pub leaves-writers : (state : State) (line : Item) → length state.readers ≡ 64 → is_of_writer line ≡ false → LeavesWriters state (answer state line).state
-unfolding answer
+pub leaves-writers : (state : State) (line : Item) → length state.readers ≡ 64 → is_of_writer line ≡ false → LeavesWriters state (line_answer state line).state
+unfolding line_answer
 leaves-writers state (item.Reader r e size) names other = reader-leaves state r (endpoint_place e) size (place-apart e) names
 leaves-writers state (item.IntoInner e r) names other = inner-leaves state (endpoint_place e) r (place-apart e) names
 leaves-writers state (item.SetNumTransfers r n) names other = num-leaves state r n names

@@ -1,5 +1,5 @@
 -- What a call makes of the order of tickets and of their places.
-use Rattle.std.proofs.Common.{ℕ, zero, suc, arith, ◌≡◌, ◌<◌, ◌≢◌, ◌≤◌, ◌+◌, true, List, [], ◌∷◌, ◌++◌, length, drop, slice_get, Option, Some, None, inl, inr, refl, sym, ◌∙◌, ap, subst, append-nil}
+use Rattle.std.proofs.Common.{ℕ, zero, suc, arith, ◌≡◌, ◌<◌, ◌≢◌, ◌≤◌, ◌+◌, true, List, [], ◌∷◌, ◌++◌, map, length, drop, slice_get, Option, Some, None, inl, inr, refl, sym, ◌∙◌, ap, subst, append-nil}
 use Rattle.std.specs.Prelude.{All}
 use Rattle.std.specs.List.Sorted.{IsStrictlyIncreasing}
 use Rattle.std.specs.Option.{option_map}
@@ -34,14 +34,15 @@ use Rattle.usb_answers.specs.Writers.{writer_closed}
 use Rattle.usb_answers.specs.Ends.{future_closed_under}
 use Rattle.usb_answers.specs.Answers.{answer}
 use Rattle.usb_answers.specs.Accounts.{TookFew}
-use Rattle.usb_answers.specs.Served.{ClosedEndpoint, tickets_of_all, closed_under, closed_by, control_ticket}
+use Rattle.usb_answers.specs.ControlAnswers.{listed}
+use Rattle.usb_answers.specs.Served.{ClosedEndpoint, tickets_of_all, closed_under, closed_by, control_ticket_by, control_ticket}
 use Rattle.usb_names.proofs.NameLemmas.{place_of, free_place, free-within, named-change_same, named-change_other, named-freed, named-freed_other, named-set, named-set_other, length-change, length-freed, length-set_name}
 use Rattle.usb_answers.proofs.TimesLemmas.{one, times, times-append, among, among-once, tickets_in, ticket_in, times_open, times_awaited, listed-once, listed-apart, open-change, open-one, open-two}
 use Rattle.usb_answers.proofs.OrderLemmas.{IsHeld, Stays, held-stays, stays-keeps, leaves-is, leaves-held, InOrder, order-few, order-stays, order-keeps, order-fresh, order-push, order-within, order-takes, front-held, front-stands, pending-all, stays-same, left_by, LeavesTickets, goes-keeps, goes-then, goes-taken, goes-left, IsClosed, closed-goes, closed-order, left-stays}
-use Rattle.usb_answers.proofs.Does.{Quiet, Acts, SameTickets, moved, without_future_of, goes, opens, submits, fits, reads, starts, controls, frees, ends, takes, closes, moves, free-still}
+use Rattle.usb_answers.proofs.Does.{Quiet, ControlMove, Handed, Parted, handed_of, handed-append, handed-handed, handed-parted, Acts, SameTickets, moved, without_future_of, goes, opens, submits, fits, reads, starts, controls, frees, ends, takes, closes, moves, free-still}
 use Rattle.usb_answers.proofs.ReaderDoes.{reader_closed-does}
 use Rattle.usb_answers.proofs.WriterDoes.{writer_closed-does}
-use Rattle.usb_answers.proofs.ControlLines.{future_closed_under-does}
+use Rattle.usb_answers.proofs.ControlLines.{parted_by, control_moves, moves_parting, future_closed_under-does}
 use Rattle.usb_answers.proofs.EndpointLines.{closed-does}
 use Rattle.usb_answers.proofs.EveryLine.{answer-does}
 
@@ -247,7 +248,7 @@ step-take state e t h inv here front =
     }
 
 -- an endpoint is closed
-step-close : (state : State) (e : ℕ) (h : Endpoint) (lines : List (List ℕ)) → Inv state → named state.endpoints e ≡ Some h → Step state (without_endpoint state e h) (record { endpoint = h; past = state.host.kernel.past; lines = lines } ∷ []) []
+pub step-close : (state : State) (e : ℕ) (h : Endpoint) (lines : List (List ℕ)) → Inv state → named state.endpoints e ≡ Some h → Step state (without_endpoint state e h) (record { endpoint = h; past = state.host.kernel.past; lines = lines } ∷ []) []
 unfolding freed
 step-close state e h lines inv here =
     let host = left_by state.host (kept h) in
@@ -408,7 +409,7 @@ order-same host h g same i =
       rising = subst IsStrictlyIncreasing (sym same.tickets) i.rising;
     }
 
-step-move : (state : State) (from to : ℕ) (h g : Endpoint) → Inv state → named state.endpoints from ≡ Some h → is_free state.endpoints to ≡ true → SameTickets h g → ((64 ≤ from → h.was_streamed ≡ true) → g.was_streamed ≡ true) → Step state (moved state from to g) [] []
+pub step-move : (state : State) (from to : ℕ) (h g : Endpoint) → Inv state → named state.endpoints from ≡ Some h → is_free state.endpoints to ≡ true → SameTickets h g → ((64 ≤ from → h.was_streamed ≡ true) → g.was_streamed ≡ true) → Step state (moved state from to g) [] []
 unfolding set_name freed
 step-move state from to h g inv here free same read =
     let mid = freed state.endpoints from in
@@ -444,7 +445,7 @@ step-move state from to h g inv here free same read =
     }
 
 -- so is what an answer does
-acts-step : {few : Type 0} {a : Answer} {state : State} {closed : List ClosedEndpoint} {handed : List ℕ} → few → Acts few a state closed handed → Inv state → Step state a.state closed handed
+acts-step : {few : Type 0} {a : Answer} {state : State} {closed : List ClosedEndpoint} {handed : List ControlMove} → few → Acts few a state closed handed → Inv state → Step state a.state closed (handed_of handed)
 acts-step few (goes quiet rest) inv = let first = step-quiet inv quiet in step-then first (acts-step few rest first.inv)
 acts-step few (fits other rest) inv = acts-step few (rest few) inv
 acts-step {state} few (reads e t h above here front other rest) inv = let first = step-take state e t h inv here front in step-then first (acts-step few rest first.inv)
@@ -453,7 +454,9 @@ acts-step {state} few (opens e x free none zero_ outside rest) inv = let first =
 acts-step {state} few (submits e b h here within rest) inv = let first = step-push state e b h inv here in step-then first (acts-step few rest first.inv)
 acts-step {state} few (starts n request timeout device free rest) inv = let first = step-start state n request timeout device inv free in step-then first (acts-step few rest first.inv)
 acts-step {state} few (controls host one adds rest) inv = let first = step-control state host inv one (adds inv.count) in step-then first (acts-step few rest first.inv)
-acts-step {state} few (frees n f host here parts rest) inv = let first = step-free state n f host inv here parts in step-then first (acts-step few rest first.inv)
+acts-step {a} {state} {closed} few (frees {handed = moves_} n f host here parts rest) inv =
+    let first = step-free state n f host inv here parts in
+    subst (Step state a.state closed) (sym (handed-parted (listed f.ticket) moves_)) (step-then first (acts-step few rest first.inv))
 acts-step few (ends other quiet) inv = step-quiet inv quiet
 acts-step {state} few (takes e t h c here front came line quiet) inv = let first = step-take state e t h inv here (front few) in step-after first (step-quiet first.inv quiet)
 acts-step {state} few (closes e h lines here other quiet) inv = let first = step-close state e h lines inv here in step-after first (step-quiet first.inv quiet)
@@ -461,14 +464,27 @@ acts-step {state} few (closes e h lines here other quiet) inv = let first = step
 pub few-taken : (state : State) → Inv state → TookFew state
 few-taken state inv e h is = order-few state.host h (inv.order e h is)
 
+pub handed-moves : (state : State) (item : Item) (a : Answer) → handed_of (control_moves state item a) ≡ control_ticket_by state item a
+handed-moves state item a =
+    let none : handed_of (map Parted (parted_by state item a)) ≡ [] = ap handed_of (sym (append-nil (map Parted (parted_by state item a)))) ∙ handed-parted (parted_by state item a) [] in
+    handed-append (map Handed (control_ticket_by state item a)) (map Parted (parted_by state item a))
+    ∙ (ap (λ ts. handed_of (map Handed (control_ticket_by state item a)) ++ ts) none ∙ (append-nil (handed_of (map Handed (control_ticket_by state item a))) ∙ handed-handed (control_ticket_by state item a)))
+
 pub answer-step : (state : State) (lines : ℕ → List (List ℕ)) (item : Item) → Inv state → Step state (answer state item).state (closed_by state lines item) (control_ticket state item)
-answer-step state lines item inv = acts-step (few-taken state inv) (answer-does state lines item) inv
+answer-step state lines item inv =
+    let a = answer state item in
+    subst (Step state a.state (closed_by state lines item)) (handed-moves state item a) (acts-step (few-taken state inv) (answer-does state lines item) inv)
 
 pub closed-step : (state : State) (e : ℕ) (lines : ℕ → List (List ℕ)) → Inv state → Step state (closed state e) (closed_under state lines e) []
 closed-step state e lines inv = acts-step (few-taken state inv) (closed-does state e lines) inv
 
+pub none-handed : (o : Option FutureState) → handed_of (moves_parting o) ≡ []
+none-handed None = refl
+none-handed (Some f) = handed-parted (listed f.ticket) []
+
 pub future_closed-step : (state : State) (n : ℕ) → Inv state → Step state (future_closed_under state n) [] []
-future_closed-step state n inv = acts-step {few = Unit {0}} tt (future_closed_under-does state n) inv
+future_closed-step state n inv =
+    subst (Step state (future_closed_under state n) []) (none-handed (named state.futures n)) (acts-step {few = Unit {0}} tt (future_closed_under-does state n) inv)
 
 -- and what the end does with readers and writers
 pub reader_closed-step : (state : State) (r : ℕ) (lines : ℕ → List (List ℕ)) → Inv state → Step state (reader_closed state r) (closed_under state lines (reader_place r)) []

@@ -22,34 +22,34 @@ use Rattle.usb_answers.specs.Answers.{answer}
 use Rattle.usb_answers.specs.Served.{ClosedEndpoint, taken_under, was_streamed_under}
 use Rattle.usb_answers.specs.Places.{TakesOne, CompletionsAreTaken}
 use Rattle.usb_names.proofs.NameLemmas.{named_of, free_place, named-change_same, named-change_other, named-freed, named-freed_other, named-set, named-set_other}
-use Rattle.usb_answers.proofs.Does.{Quiet, Acts, moved, without_future_of, says_done, goes, opens, submits, fits, reads, starts, controls, frees, ends, takes, closes, moves, free-still}
+use Rattle.usb_answers.proofs.Does.{Quiet, ControlMove, Acts, moved, without_future_of, says_done, goes, opens, submits, fits, reads, starts, controls, frees, ends, takes, closes, moves, free-still}
 use Rattle.usb_answers.proofs.EveryLine.{answer-does}
 use Rattle.usb_answers.proofs.PrintLemmas.{transfer-stays, taken_of, taken_in, count-under, read-under, Takes, none, next}
 use Rattle.usb_answers.proofs.StepLemmas.{Inv, step-quiet, step-open, step-push, step-take, step-start, step-control, step-free, few-taken, answer-step}
 
 -- how many tickets were taken
-abbrev taken_by : Option Endpoint → ℕ
+abbrev pub taken_by : Option Endpoint → ℕ
 taken_by o = option_map_or (λ (h : Endpoint). h.taken) o 0
 
 abbrev read_by : Option Endpoint → Bool
 read_by o = option_map_or (λ (h : Endpoint). h.was_streamed) o false
 
 -- of what is open under a name no ticket more was taken, and a reader or writer that was made of it was so before
-record TakesNone (few : Type 0) (old new : State) (e : ℕ) : Type 0 where
-  read : was_streamed_under new e ≡ false → was_streamed_under old e ≡ false
-  count : taken_under new e ≡ taken_under old e
-  tickets : few → taken_in (named new.endpoints e) ≡ taken_in (named old.endpoints e)
+pub record TakesNone (few : Type 0) (old new : State) (e : ℕ) : Type 0 where
+  pub read : was_streamed_under new e ≡ false → was_streamed_under old e ≡ false
+  pub count : taken_under new e ≡ taken_under old e
+  pub tickets : few → taken_in (named new.endpoints e) ≡ taken_in (named old.endpoints e)
 
 none-then : {few : Type 0} {a b c : State} {e : ℕ} → TakesNone few a b e → TakesNone few b c e → TakesNone few a c e
 none-then first second = record { read = λ none_read. first.read (second.read none_read); count = second.count ∙ first.count; tickets = λ few. second.tickets few ∙ first.tickets few }
 
-none-same : {few : Type 0} (old new : State) (e : ℕ) → named new.endpoints e ≡ named old.endpoints e → TakesNone few old new e
+pub none-same : {few : Type 0} (old new : State) (e : ℕ) → named new.endpoints e ≡ named old.endpoints e → TakesNone few old new e
 none-same old new e same = record { read = λ none_read. ap read_by (sym same) ∙ none_read; count = ap taken_by same; tickets = λ few. ap taken_in same }
 
-none-quiet : {few : Type 0} {old new : State} (e : ℕ) → Quiet old new → TakesNone few old new e
+pub none-quiet : {few : Type 0} {old new : State} (e : ℕ) → Quiet old new → TakesNone few old new e
 none-quiet {old} {new} e quiet = none-same old new e (ap (λ (l : List (Option Endpoint)). named l e) quiet.endpoints)
 
-none-opened : {few : Type 0} (state : State) (e : ℕ) (x : Endpoint) → is_free state.endpoints e ≡ true → x.taken ≡ 0 → (d : ℕ) → TakesNone few state (record state { endpoints = set_name state.endpoints e x }) d
+pub none-opened : {few : Type 0} (state : State) (e : ℕ) (x : Endpoint) → is_free state.endpoints e ≡ true → x.taken ≡ 0 → (d : ℕ) → TakesNone few state (record state { endpoints = set_name state.endpoints e x }) d
 none-opened {few} state e x free zero_ d =
     let now = named-set state.endpoints e x free in
     let was : named state.endpoints e ≡ None = named_of state.endpoints e None (free_place state.endpoints e free) in
@@ -62,7 +62,7 @@ none-opened {few} state e x free zero_ d =
       | inr apart ↦ none-same state (record state { endpoints = set_name state.endpoints e x }) d (named-set_other state.endpoints e d x apart)
     ]
 
-none-submitted : {few : Type 0} (state : State) (e : ℕ) (b : BufferState) (h : Endpoint) → named state.endpoints e ≡ Some h → (few → h.taken ≤ length h.tickets) → (d : ℕ) → TakesNone few state (submitted state e b h) d
+pub none-submitted : {few : Type 0} (state : State) (e : ℕ) (b : BufferState) (h : Endpoint) → named state.endpoints e ≡ Some h → (few → h.taken ≤ length h.tickets) → (d : ℕ) → TakesNone few state (submitted state e b h) d
 none-submitted {few} state e b h here within d =
     let n = tickets_of state in
     let now = named-change_same (with_submission n) state.endpoints e ∙ ap (option_map (with_submission n)) here in
@@ -101,7 +101,7 @@ takes-next state a e t h g c here front came line quiet is unread =
 both-reads : (g : Endpoint) → g.was_streamed ≡ true → g.was_streamed ≡ false → ⊥
 both-reads g yes_ no_ = let wrong : true ≡ false = sym yes_ ∙ no_ in cc
 
-acts-takes : {few : Type 0} {a : Answer} {state : State} {closed : List ClosedEndpoint} {handed : List ℕ} → few → Inv a.state → Acts few a state closed handed → Inv state → (d : ℕ) (g : Endpoint) → named a.state.endpoints d ≡ Some g → g.was_streamed ≡ false → Takes state a d g
+acts-takes : {few : Type 0} {a : Answer} {state : State} {closed : List ClosedEndpoint} {handed : List ControlMove} → few → Inv a.state → Acts few a state closed handed → Inv state → (d : ℕ) (g : Endpoint) → named a.state.endpoints d ≡ Some g → g.was_streamed ≡ false → Takes state a d g
 acts-takes few last (goes quiet rest) inv d g is unread = takes-before few (none-quiet d quiet) (acts-takes few last rest (step-quiet inv quiet).inv d g is unread)
 acts-takes {state} few last (opens e x free empty zero_ outside rest) inv d g is unread = takes-before few (none-opened state e x free zero_ d) (acts-takes few last rest (step-open state e x inv free empty zero_ outside).inv d g is unread)
 acts-takes {state} few last (submits e b h here within rest) inv d g is unread = takes-before few (none-submitted state e b h here within d) (acts-takes few last rest (step-push state e b h inv here).inv d g is unread)
@@ -149,14 +149,14 @@ pub answer-takes : (state : State) (item : Item) → Inv state → (e : ℕ) (g 
 answer-takes state item inv = acts-takes (few-taken state inv) (answer-step state (λ e. []) item inv).inv (answer-does state (λ e. []) item) inv
 
 -- a line with a completion is printed only where a ticket is taken
-not-done : (line : List ℕ) (c : Completion) → says_done line ≡ false → line ≡ done_line c → ⊥
+pub not-done : (line : List ℕ) (c : Completion) → says_done line ≡ false → line ≡ done_line c → ⊥
 unfolding done_line
 not-done line c other is = let wrong : true ≡ false = sym (ap says_done is) ∙ other in cc
 
 one-before : (few : Type 0) (old new : State) (a : Answer) → ((e : ℕ) → TakesNone few old new e) → TakesOne new a → TakesOne old a
 one-before few old new a before one = (one.0, one.1 ∙ ap (λ n. n + 1) (before one.0).count)
 
-acts-done : {few : Type 0} {a : Answer} {state : State} {closed : List ClosedEndpoint} {handed : List ℕ} → Acts few a state closed handed → (c : Completion) → a.line ≡ done_line c → TakesOne state a
+acts-done : {few : Type 0} {a : Answer} {state : State} {closed : List ClosedEndpoint} {handed : List ControlMove} → Acts few a state closed handed → (c : Completion) → a.line ≡ done_line c → TakesOne state a
 acts-done {few} {a} {state} (goes {next = mid} quiet rest) c is = one-before few state mid a (λ d. none-quiet d quiet) (acts-done rest c is)
 acts-done {a} (fits other rest) c is = absurd (not-done a.line c other is)
 acts-done {a} (reads e t h above here front other rest) c is = absurd (not-done a.line c other is)

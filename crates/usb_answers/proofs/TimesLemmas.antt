@@ -8,6 +8,7 @@ use Rattle.std.proofs.lemmas.List.Elements.{All-nil, All-cons}
 use Rattle.usb_device.specs.Futures.{FutureState}
 use Rattle.usb_names.specs.Names.{named, change_at}
 use Rattle.usb_answers.specs.State.{Endpoint}
+use Rattle.usb_answers.specs.ControlAnswers.{listed}
 use Rattle.usb_names.proofs.NameLemmas.{place_of}
 
 abbrev pub one : ℕ → ℕ → ℕ
@@ -88,10 +89,6 @@ tickets_in h = h.tickets
 
 abbrev pub times_open : ℕ → List (Option Endpoint) → ℕ
 times_open t os = times_among tickets_in t os
-
-abbrev pub listed : Option ℕ → List ℕ
-listed None = []
-listed (Some t) = t ∷ []
 
 abbrev pub ticket_in : FutureState → List ℕ
 ticket_in f = listed f.ticket

@@ -12,7 +12,7 @@ use Rattle.usb_answers.proofs.WorkedOutput.{output_on_literals, items, IsWorkedO
 use Rattle.usb_answers.proofs.WorkedDevices.{bulk_device, with_endpoint}
 
 -- a control transfer of the vendor's request 30 to the device, with no value and no index
-abbrev vendor_request : ℕ → Setup
+abbrev pub vendor_request : ℕ → Setup
 vendor_request request = record { control_type = Vendor; recipient = recipient.Device; request = request; value = 0; index = 0 }
 
 -- control transfers that are awaited: data come and go, a string and the languages of strings are asked for, a descriptor that counts more bytes than came, and a halt

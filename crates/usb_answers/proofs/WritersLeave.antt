@@ -23,7 +23,7 @@ use Rattle.usb_answers.specs.Readers.{as_streamed}
 use Rattle.usb_answers.specs.Writers.{with_writer, is_free_writer, writer_on, writer_answer, without_writer, writer_inner_answer, transfers_on, writer_num_answer, write_timeout_on, write_timeout_answer, closed_writer, close_writer_answer}
 use Rattle.usb_answers.specs.Writes.{called_as, write_on, write_answer, poll_write_on, poll_write_answer, submit_buffer_on, submit_buffer_answer, submit_end_on, submit_end_answer, flush_on, flush_answer, poll_flush_on, poll_flush_answer, flush_end_on, flush_end_answer, poll_flush_end_on, poll_flush_end_answer}
 use Rattle.usb_answers.specs.Steps.{lent, then_rested, stepped_all}
-use Rattle.usb_answers.specs.Answers.{answer}
+use Rattle.usb_answers.specs.LineAnswers.{line_answer}
 use Rattle.usb_script.specs.Kinds.{is_of_reader}
 use Rattle.usb_answers.proofs.OtherLines.{IsApart, place-apart, is_streamed, others-leave}
 use Rattle.usb_answers.proofs.StreamPlaces.{reader-streamed, reader-writer_apart, LeavesReaders, readers-left}
@@ -165,11 +165,11 @@ poll_flush_end-leaves state w =
     called-leaves state w x (poll_finish_need (state_of_writer x)) (begun_calls x.writer.bare.begun) (polled flushed_line) (poll_flush_end_came (writing_at state x)))
 
 -- each line
-others-leave_readers : (state : State) (line : Item) → is_streamed line ≡ false → LeavesReaders state (answer state line).state
-others-leave_readers state line other = readers-left state (answer state line) (others-leave state line other)
+others-leave_readers : (state : State) (line : Item) → is_streamed line ≡ false → LeavesReaders state (line_answer state line).state
+others-leave_readers state line other = readers-left state (line_answer state line) (others-leave state line other)
 
-pub leaves-readers : (state : State) (line : Item) → is_of_reader line ≡ false → LeavesReaders state (answer state line).state
-unfolding answer
+pub leaves-readers : (state : State) (line : Item) → is_of_reader line ≡ false → LeavesReaders state (line_answer state line).state
+unfolding line_answer
 leaves-readers state (item.Writer w e size) other = writer-leaves state w (endpoint_place e) size (place-apart e)
 leaves-readers state (item.WriterIntoInner e w) other = inner-leaves state (endpoint_place e) w (place-apart e)
 leaves-readers state (item.SetWriterTransfers w n) other = num-leaves state w n

@@ -104,7 +104,7 @@ same-both : (x : WriterAt) (y : Writer) (h : Endpoint) → x.writer ≡ y → x.
 same-both x y h writer endpoint = ap (λ (z : Writer). at_of z h) (sym writer) ∙ ap (at_of x.writer) (sym endpoint)
 
 -- whatever comes
-at-later : (old new : List Event) (x : WriterAt) (c : WriterCalls) → Extends old new → TellsAt old x c → TellsAt new x c
+pub at-later : (old new : List Event) (x : WriterAt) (c : WriterCalls) → Extends old new → TellsAt old x c → TellsAt new x c
 at-later old new x c extends f =
     record {
       output = f.output;

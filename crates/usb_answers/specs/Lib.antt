@@ -35,6 +35,8 @@ pub mod Writes
 pub mod Ends
 pub mod Fates
 pub mod EndWords
+pub mod Crowded
+pub mod LineAnswers
 pub mod Answers
 pub mod Output
 pub mod Sums
@@ -55,3 +57,8 @@ pub mod Served
 pub mod Behind
 pub mod Framed
 pub mod WrittenScripts
+pub mod Printed
+pub mod ControlAnswers
+pub mod ClosedFutures
+pub mod ControlsServed
+pub mod Handed

@@ -1,5 +1,5 @@
 -- What is printed of an endpoint's tickets: where n were taken, it is the n-th that comes next, counted from 0.
-use Rattle.std.specs.Prelude.{ℕ, ◌≡◌, ◌+◌, slice_get, Some}
+use Rattle.std.specs.Prelude.{ℕ, ◌≡◌, ◌+◌, false, List, ◌∷◌, ◌++◌, slice_get, Some}
 use Rattle.usb_xfer.specs.declared.transfer.Completion.{Completion}
 use Rattle.usb_bus.specs.Completions.{transfer_completion}
 use Rattle.usb_script.specs.declared.item.Item.{Item}
@@ -9,15 +9,29 @@ use Rattle.usb_names.specs.Names.{named}
 use Rattle.usb_answers.specs.State.{State, Endpoint}
 use Rattle.usb_answers.specs.ReaderAt.{endpoint_place}
 use Rattle.usb_answers.specs.Answer.{Answer}
+use Rattle.usb_answers.specs.Crowded.{is_crowded}
 use Rattle.usb_answers.specs.Answers.{answer}
+use Rattle.usb_answers.specs.Output.{start, behind}
 use Rattle.usb_answers.specs.Served.{taken_under}
 
--- a poll answers for the endpoint's n-th ticket, counted from 0, where n were taken: with the completion that the journal has of it,
--- and `pending` exactly where it has none
-abbrev pub PollsAnswerForTheirPlace : Type 0
-PollsAnswerForTheirPlace =
-    (state : State) (e : ℕ) (h : Endpoint) (t : ℕ) → named state.endpoints (endpoint_place e) ≡ Some h → slice_get h.tickets h.taken ≡ Some t →
+-- while the session is not crowded, a poll answers for the endpoint's n-th ticket, counted from 0, where n were taken: with the
+-- completion that the journal has of it, and `pending` exactly where it has none
+abbrev pub PollAnswersForItsPlace : State → ℕ → Type 0
+PollAnswersForItsPlace state e =
+    (h : Endpoint) (t : ℕ) → is_crowded state ≡ false → named state.endpoints (endpoint_place e) ≡ Some h → slice_get h.tickets h.taken ≡ Some t →
     (answer state (Poll e)).line ≡ polled_line (transfer_completion state.host.kernel.past t)
+
+-- so does each poll of a script
+abbrev pub PollsAnswer : List Item → Type 0
+PollsAnswer items =
+    (before after : List Item) (e : ℕ) → before ++ Poll e ∷ after ≡ items → PollAnswersForItsPlace (behind (start items) before) e
+
+-- the law: from whatever state, and so in each script
+abbrev pub PollsAnswerForTheirPlace : Type 0
+PollsAnswerForTheirPlace = (state : State) (e : ℕ) → PollAnswersForItsPlace state e
+
+abbrev pub PollsOfScriptsAnswer : Type 0
+PollsOfScriptsAnswer = (items : List Item) → PollsAnswer items
 
 -- an answer takes a ticket from what is open under some name
 abbrev pub TakesOne : State → Answer → Type 0

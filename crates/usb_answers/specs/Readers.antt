@@ -1,6 +1,6 @@
 -- `reader`, `inner`, `num`, `timeout`, `cancel` and `close` of a reader, which are barred where it is not open (`reader`: where
 -- the endpoint isn't, or the reader's name is in use).
-use Rattle.std.specs.Prelude.{ℕ, ◌+◌, ◌-◌, ◌||◌, ◌&&◌, nat_lt, Bool, true, List, [], ◌++◌, length, Option, Some, None, if◌then◌else◌}
+use Rattle.std.specs.Prelude.{ℕ, ◌+◌, ◌-◌, ◌||◌, ◌&&◌, nat_lt, Bool, true, List, [], ◌++◌, length, take, Option, Some, None, if◌then◌else◌}
 use Rattle.usb_desc.specs.declared.types.Direction.TheVariants.{In}
 use Rattle.usb_endpoint.specs.Closes.{all_discarded, after_close}
 use Rattle.usb_host.specs.HostState.{HostState}
@@ -33,7 +33,12 @@ abbrev pub with_reader : State → ℕ → ℕ → ℕ → Endpoint → State
 with_reader state r e size h =
     record state {
       endpoints = set_name (freed state.endpoints e) (reader_place r) (as_streamed h);
-      readers = set_name state.readers r (record { bare = bare_of (fresh_reader (kept h) size); consumed = nothing_consumed h.tickets });
+      readers = set_name state.readers r (record {
+        bare = bare_of (fresh_reader (kept h) size);
+        before = take h.taken h.tickets;
+        given = [];
+        consumed = nothing_consumed h.tickets;
+      });
     }
 
 -- whether a reader's name may be opened: it and its place among the endpoints are free
@@ -72,13 +77,14 @@ called_endpoint old new pending h =
       taken = length (h.tickets ++ numbers_from old (new - old)) - length pending;
     }
 
--- the state behind a call of a reader, by what the call left of host and reader, and what the reader has consumed then
-abbrev pub called : State → ℕ → Option (List Item) → Reading HostState → State
-called state r consumed w =
+-- the state behind a call of a reader, by what the call left of host and reader, what the reader has consumed then, and the bytes
+-- that the call handed over
+abbrev pub called : State → ℕ → Option (List Item) → List ℕ → Reading HostState → State
+called state r consumed bytes w =
     record state {
       host = w.bus;
       endpoints = change_named (called_endpoint (tickets_of state) (tickets_of (with_host state w.bus)) w.reader.endpoint.pending) state.endpoints (reader_place r);
-      readers = change_named (λ x. record { bare = bare_of w.reader; consumed = consumed }) state.readers r;
+      readers = change_named (λ x. record x { bare = bare_of w.reader; given = x.given ++ bytes; consumed = consumed }) state.readers r;
     }
 
 -- a reader of which so many transfers are to be pending
@@ -89,7 +95,7 @@ with_count n r = record r { n = n }
 abbrev pub num_on : State → ℕ → ℕ → ReaderAt → Answer
 num_on state r n x =
     if nat_lt 64 n || bars_need state.host.kernel.past (length (pending x.endpoint)) (n - 1 - length (pending x.endpoint)) then barred state
-    else ok_answer (called state r x.reader.consumed (filled_to host_calls (n - 1) (reading state.host (with_count n (state_of_reader x)))))
+    else ok_answer (called state r x.reader.consumed [] (filled_to host_calls (n - 1) (reading state.host (with_count n (state_of_reader x)))))
 
 -- `num`: how many transfers are to be pending is set
 unfoldable pub num_answer : State → ℕ → ℕ → Answer

@@ -60,11 +60,11 @@ polled_given_line line answer = given_line line answer
 -- a call that takes the bytes that it gives
 abbrev pub read_as : State → Framing → ℕ → ReaderAt → (Result (List ℕ) ReadFault → List ℕ) → Answered → Answer
 read_as state framing r x line a =
-    told (called state r (consumed_with framing (map Byte (bytes_given a.answer)) x.reader.consumed) a.left) (line a.answer)
+    told (called state r (consumed_with framing (map Byte (bytes_given a.answer)) x.reader.consumed) (bytes_given a.answer) a.left) (line a.answer)
 
 -- one that lends them
 abbrev pub filled_as : State → Framing → ℕ → ReaderAt → (Result (List ℕ) ReadFault → List ℕ) → Answered → Answer
-filled_as state framing r x line a = told (called state r (consumed_with framing [] x.reader.consumed) a.left) (line a.answer)
+filled_as state framing r x line a = told (called state r (consumed_with framing [] x.reader.consumed) [] a.left) (line a.answer)
 
 -- a read of at most so many bytes, which waits
 abbrev pub read_on : State → Framing → ℕ → ℕ → ReaderAt → Answer
@@ -108,18 +108,19 @@ poll_fill_on state framing r x =
 unfoldable pub poll_fill_answer : State → Framing → ℕ → Answer
 poll_fill_answer state framing r = if_open (reader_at state r) (poll_fill_on state framing r) (barred state)
 
--- a reader as a call left it that asks nothing of the host, and these items consumed
-abbrev pub read_off : State → Framing → ℕ → ReaderAt → List Item → ReaderState → State
-read_off state framing r x items left =
+-- a reader as a call left it that asks nothing of the host, these items consumed, and these bytes handed over
+abbrev pub read_off : State → Framing → ℕ → ReaderAt → List Item → List ℕ → ReaderState → State
+read_off state framing r x items bytes left =
     record state {
-      readers = change_named (λ y. record { bare = bare_of left; consumed = consumed_with framing items x.reader.consumed }) state.readers r;
+      readers = change_named (λ y. record y { bare = bare_of left; given = y.given ++ bytes; consumed = consumed_with framing items x.reader.consumed })
+          state.readers r;
     }
 
 -- bytes are taken off, of those that stand
 abbrev pub consume_on : State → Framing → ℕ → ℕ → ReaderAt → Answer
 consume_on state framing r n x =
     if nat_lt (length x.reader.bare.unread) n then barred state
-    else ok_answer (read_off state framing r x (map Byte (take n x.reader.bare.unread)) (with_read n (state_of_reader x)))
+    else ok_answer (read_off state framing r x (map Byte (take n x.reader.bare.unread)) (take n x.reader.bare.unread) (with_read n (state_of_reader x)))
 
 -- `consume`, `sconsume`
 unfoldable pub consume_answer : State → Framing → ℕ → ℕ → Answer
@@ -133,7 +134,7 @@ is_end_answer state r = if_open (reader_at state r) (λ x. told state (is_end_li
 abbrev pub consume_end_on : State → ℕ → ReaderAt → Answer
 consume_end_on state r x =
     if is_end (state_of_reader x)
-    then told (read_off state UntilShort r x (End ∷ []) (without_end (state_of_reader x))) (consumed_end_line (Ok tt))
+    then told (read_off state UntilShort r x (End ∷ []) [] (without_end (state_of_reader x))) (consumed_end_line (Ok tt))
     else told state (consumed_end_line (Err (record {})))
 
 -- `endmsg`

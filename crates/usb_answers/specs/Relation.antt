@@ -5,7 +5,7 @@ use Rattle.usb_answers.specs.SessionState.{SessionState}
 use Rattle.usb_names.specs.Names.{named}
 use Rattle.usb_answers.specs.State.{State, Endpoint, Reader, Writer, kept}
 
--- what a session keeps of a state: of each endpoint the tickets that were not taken, of each reader not what it consumed, and of each
+-- what a session keeps of a state: of each endpoint the tickets that were not taken, of each reader not what it handed over or consumed, and of each
 -- writer not its calls
 abbrev pub session_of : State → SessionState
 session_of state =

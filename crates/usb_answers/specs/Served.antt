@@ -21,6 +21,7 @@ use Rattle.usb_answers.specs.ReaderAt.{endpoint_place, reader_place}
 use Rattle.usb_answers.specs.WriterAt.{writer_place}
 use Rattle.usb_script.specs.Kinds.{is_of_control}
 use Rattle.usb_answers.specs.Answer.{Answer}
+use Rattle.usb_answers.specs.Crowded.{bars_line}
 use Rattle.usb_answers.specs.Answers.{answer}
 use Rattle.usb_answers.specs.Ends.{readers_closed, writers_closed, endpoints_closed}
 use Rattle.usb_answers.specs.Output.{start, final_host}
@@ -58,12 +59,16 @@ closed_as past lines (Some e) = record { endpoint = e; past = past; lines = line
 abbrev pub closed_under : State → (ℕ → List (List ℕ)) → ℕ → List ClosedEndpoint
 closed_under state lines e = closed_as state.host.kernel.past (lines e) (named state.endpoints e)
 
--- the endpoint that an item closes, which may be a reader's or a writer's
+-- the endpoint that a call closes, which may be a reader's or a writer's
+abbrev pub closed_by_call : State → (ℕ → List (List ℕ)) → Item → List ClosedEndpoint
+closed_by_call state lines (CloseEndpoint e) = closed_under state lines (endpoint_place e)
+closed_by_call state lines (CloseReader r) = closed_under state lines (reader_place r)
+closed_by_call state lines (CloseWriter w) = closed_under state lines (writer_place w)
+closed_by_call state lines item = []
+
+-- the one that an item closes: none where the session is crowded
 abbrev pub closed_by : State → (ℕ → List (List ℕ)) → Item → List ClosedEndpoint
-closed_by state lines (CloseEndpoint e) = closed_under state lines (endpoint_place e)
-closed_by state lines (CloseReader r) = closed_under state lines (reader_place r)
-closed_by state lines (CloseWriter w) = closed_under state lines (writer_place w)
-closed_by state lines item = []
+closed_by state lines item = if bars_line state item then [] else closed_by_call state lines item
 
 -- those of readers that the end of the session closes, of the names below k in order
 abbrev pub read_at_end : State → (ℕ → List (List ℕ)) → ℕ → List ClosedEndpoint
@@ -90,10 +95,13 @@ closed_endpoints_from state lines (item ∷ items) = closed_by state lines item 
 unfoldable pub closed_endpoints : List Item → List ClosedEndpoint
 closed_endpoints items = closed_endpoints_from (start items) (λ e. []) items
 
--- the ticket of a control transfer that a line hands in, if it does: the next number
+-- the ticket of a control transfer that the answer of a line hands in, if it does: the next number
+abbrev pub control_ticket_by : State → Item → Answer → List ℕ
+control_ticket_by state item a =
+    if is_of_control item && nat_lt (tickets_of state) (tickets_of a.state) then tickets_of state ∷ [] else []
+
 abbrev pub control_ticket : State → Item → List ℕ
-control_ticket state item =
-    if is_of_control item && nat_lt (tickets_of state) (tickets_of (answer state item).state) then tickets_of state ∷ [] else []
+control_ticket state item = control_ticket_by state item (answer state item)
 
 abbrev pub control_tickets_from : State → List Item → List ℕ
 control_tickets_from state [] = []

@@ -25,11 +25,14 @@ pub record Endpoint : Type 0 where
   pub taken : ℕ
   pub was_streamed : Bool
 
--- an open reader but for its endpoint. While it is framed (its endpoint had no ticket before, and it is read until short
--- packets alone) also what it consumed: the bytes that reads handed over or `sconsume` took off, and the ends that
--- `endmsg` did
+-- an open reader but for its endpoint: the tickets that were taken of its endpoint before it was made, and the bytes that it
+-- handed over, by reads and by the taking off of bytes that stand. While it is framed (its endpoint had no ticket before, and it
+-- is read until short packets alone) also what it consumed: the bytes that reads handed over or `sconsume` took off, and the ends
+-- that `endmsg` did
 pub record Reader : Type 0 where
   pub bare : BareReader
+  pub before : List ℕ
+  pub given : List ℕ
   pub consumed : Option (List Item)
 
 -- an open writer but for its endpoint. While it alone used its endpoint (which had no ticket before) also its accepted calls,

@@ -1,26 +1,33 @@
 //! The answer to a line of a script.
 
 ghost use Rattle.std.specs.Prelude.{◌≡◌, ◌≤◌, ◌+◌, OnOk, IsTrue, string_bytes};
-ghost use Rattle.usb_script.specs.ItemKinds.{places_in};
+ghost use Rattle.usb_script.specs.ItemKinds.{steps_in, places_in};
 ghost use Rattle.usb_answers.specs.State.{State};
-ghost use Rattle.usb_answers.specs.Answered.{Answers};
+ghost use Rattle.usb_answers.specs.Answer.{barred};
+ghost use Rattle.usb_answers.specs.Steps.{stepped_all};
+ghost use Rattle.usb_answers.specs.Crowded.{bars_line};
+ghost use Rattle.usb_answers.specs.LineAnswers.{line_answer};
 ghost use Rattle.usb_answers.specs.Answers.{answer};
+ghost use Rattle.usb_answers.specs.Answered.{Answers};
+ghost use Rattle.usb_answers.specs.Relation.{Represents};
 ghost use Rattle.usb_script.specs.Kinds.{is_of_endpoint, is_of_interface, is_of_handle, is_of_reader, sets_reader, is_of_writer, sets_writer, is_of_control, asks_descriptor, is_of_tree};
 
 use crate::reader_calls::ReaderCall;
 use crate::session::Session;
 use crate::writer_calls::WriterCall;
 use usb_desc::NoMemory;
+use usb_lines::write_condition;
 use usb_script::Item;
+use usb_writer_lines::MOST_UNREAPED;
 
 impl Session {
     /// The answer to a call on an endpoint that is open.
-    #[tactic(auto, unfolding(crate::specs::Answers::answer))]
+    #[tactic(auto, unfolding(crate::specs::LineAnswers::line_answer))]
     fn answer_endpoint(&mut self, line: &mut String, item: Item) -> Result<(), NoMemory>
         requires kind { IsTrue (is_of_endpoint item) }
         requires spare { places_in item ≤ self.old.host.kernel.spare }
         ensures answered { Answers self.old self.new line.old line.new result
-            (λ state. answer state item) }
+            (λ state. line_answer state item) }
         ensures spare { OnOk result
             (self.old.host.kernel.spare ≤ self.new.host.kernel.spare + places_in item) }
     {
@@ -54,12 +61,12 @@ impl Session {
     }
 
     /// The answer to a call on an interface that is claimed, or on an endpoint.
-    #[tactic(auto, unfolding(crate::specs::Answers::answer))]
+    #[tactic(auto, unfolding(crate::specs::LineAnswers::line_answer))]
     fn answer_interface(&mut self, line: &mut String, item: Item) -> Result<(), NoMemory>
         requires kind { IsTrue (is_of_interface item) }
         requires spare { places_in item ≤ self.old.host.kernel.spare }
         ensures answered { Answers self.old self.new line.old line.new result
-            (λ state. answer state item) }
+            (λ state. line_answer state item) }
         ensures spare { OnOk result
             (self.old.host.kernel.spare ≤ self.new.host.kernel.spare + places_in item) }
     {
@@ -84,12 +91,12 @@ impl Session {
 
     /// The answer to a call on a device (`open` too), on an interface or on an endpoint, but for
     /// control transfers and readers.
-    #[tactic(auto, unfolding(crate::specs::Answers::answer))]
+    #[tactic(auto, unfolding(crate::specs::LineAnswers::line_answer))]
     fn answer_handle(&mut self, line: &mut String, item: Item) -> Result<(), NoMemory>
         requires kind { IsTrue (is_of_handle item) }
         requires spare { places_in item ≤ self.old.host.kernel.spare }
         ensures answered { Answers self.old self.new line.old line.new result
-            (λ state. answer state item) }
+            (λ state. line_answer state item) }
         ensures spare { OnOk result
             (self.old.host.kernel.spare ≤ self.new.host.kernel.spare + places_in item) }
     {
@@ -124,11 +131,11 @@ impl Session {
     }
 
     /// The answer to a call on the tree of attributes or on packets of udev.
-    #[tactic(auto, unfolding(crate::specs::Answers::answer))]
+    #[tactic(auto, unfolding(crate::specs::LineAnswers::line_answer))]
     fn answer_tree(&mut self, line: &mut String, item: Item) -> Result<(), NoMemory>
         requires kind { IsTrue (is_of_tree item) }
         ensures answered { Answers self.old self.new line.old line.new result
-            (λ state. answer state item) }
+            (λ state. line_answer state item) }
         ensures spare { OnOk result
             (self.old.host.kernel.spare ≤ self.new.host.kernel.spare + places_in item) }
     {
@@ -144,12 +151,12 @@ impl Session {
     }
 
     /// The answer to a call by which a reader is made of an endpoint, set, cancelled or closed.
-    #[tactic(auto, unfolding(crate::specs::Answers::answer))]
+    #[tactic(auto, unfolding(crate::specs::LineAnswers::line_answer))]
     fn answer_reader_setting(&mut self, line: &mut String, item: Item) -> Result<(), NoMemory>
         requires kind { IsTrue (sets_reader item) }
         requires spare { places_in item ≤ self.old.host.kernel.spare }
         ensures answered { Answers self.old self.new line.old line.new result
-            (λ state. answer state item) }
+            (λ state. line_answer state item) }
         ensures spare { OnOk result
             (self.old.host.kernel.spare ≤ self.new.host.kernel.spare + places_in item) }
     {
@@ -173,12 +180,12 @@ impl Session {
     }
 
     /// The answer to a call on a reader that is open.
-    #[tactic(auto, unfolding(crate::specs::Answers::answer))]
+    #[tactic(auto, unfolding(crate::specs::LineAnswers::line_answer))]
     fn answer_reader(&mut self, line: &mut String, item: Item) -> Result<(), NoMemory>
         requires kind { IsTrue (is_of_reader item) }
         requires spare { places_in item ≤ self.old.host.kernel.spare }
         ensures answered { Answers self.old self.new line.old line.new result
-            (λ state. answer state item) }
+            (λ state. line_answer state item) }
         ensures spare { OnOk result
             (self.old.host.kernel.spare ≤ self.new.host.kernel.spare + places_in item) }
     {
@@ -214,12 +221,12 @@ impl Session {
     }
 
     /// The answer to a call by which a writer is made of an endpoint, set or closed.
-    #[tactic(auto, unfolding(crate::specs::Answers::answer))]
+    #[tactic(auto, unfolding(crate::specs::LineAnswers::line_answer))]
     fn answer_writer_setting(&mut self, line: &mut String, item: Item) -> Result<(), NoMemory>
         requires kind { IsTrue (sets_writer item) }
         requires spare { places_in item ≤ self.old.host.kernel.spare }
         ensures answered { Answers self.old self.new line.old line.new result
-            (λ state. answer state item) }
+            (λ state. line_answer state item) }
         ensures spare { OnOk result
             (self.old.host.kernel.spare ≤ self.new.host.kernel.spare + places_in item) }
     {
@@ -242,12 +249,12 @@ impl Session {
     }
 
     /// The answer to a call on a writer that is open.
-    #[tactic(auto, unfolding(crate::specs::Answers::answer, crate::specs::Writes::write_answer, crate::specs::Writes::poll_write_answer))]
+    #[tactic(auto, unfolding(crate::specs::LineAnswers::line_answer, crate::specs::Writes::write_answer, crate::specs::Writes::poll_write_answer))]
     fn answer_writer(&mut self, line: &mut String, item: Item) -> Result<(), NoMemory>
         requires kind { IsTrue (is_of_writer item) }
         requires spare { places_in item ≤ self.old.host.kernel.spare }
         ensures answered { Answers self.old self.new line.old line.new result
-            (λ state. answer state item) }
+            (λ state. line_answer state item) }
         ensures spare { OnOk result
             (self.old.host.kernel.spare ≤ self.new.host.kernel.spare + places_in item) }
     {
@@ -277,12 +284,12 @@ impl Session {
     }
 
     /// The answer to a request for a descriptor.
-    #[tactic(auto, unfolding(crate::specs::Answers::answer))]
+    #[tactic(auto, unfolding(crate::specs::LineAnswers::line_answer))]
     fn answer_request(&mut self, line: &mut String, item: Item) -> Result<(), NoMemory>
         requires kind { IsTrue (asks_descriptor item) }
         requires spare { places_in item ≤ self.old.host.kernel.spare }
         ensures answered { Answers self.old self.new line.old line.new result
-            (λ state. answer state item) }
+            (λ state. line_answer state item) }
         ensures spare { OnOk result
             (self.old.host.kernel.spare ≤ self.new.host.kernel.spare + places_in item) }
     {
@@ -320,12 +327,12 @@ impl Session {
     }
 
     /// The answer to a control transfer, which is awaited or on its way.
-    #[tactic(auto, unfolding(crate::specs::Answers::answer))]
+    #[tactic(auto, unfolding(crate::specs::LineAnswers::line_answer))]
     fn answer_control(&mut self, line: &mut String, item: Item) -> Result<(), NoMemory>
         requires kind { IsTrue (is_of_control item) }
         requires spare { places_in item ≤ self.old.host.kernel.spare }
         ensures answered { Answers self.old self.new line.old line.new result
-            (λ state. answer state item) }
+            (λ state. line_answer state item) }
         ensures spare { OnOk result
             (self.old.host.kernel.spare ≤ self.new.host.kernel.spare + places_in item) }
     {
@@ -365,12 +372,12 @@ impl Session {
         }
     }
 
-    /// Appends the line that answers an item of a script, with its LF, and nothing where the item has no answer.
-    #[tactic(auto, unfolding(crate::specs::Answers::answer))]
-    pub fn answer(&mut self, line: &mut String, item: Item) -> Result<(), NoMemory>
+    /// The answer to a line while the session is not crowded.
+    #[tactic(auto, unfolding(crate::specs::LineAnswers::line_answer))]
+    fn answer_line(&mut self, line: &mut String, item: Item) -> Result<(), NoMemory>
         requires spare { places_in item ≤ self.old.host.kernel.spare }
         ensures answered { Answers self.old self.new line.old line.new result
-            (λ state. answer state item) }
+            (λ state. line_answer state item) }
         ensures spare { OnOk result
             (self.old.host.kernel.spare ≤ self.new.host.kernel.spare + places_in item) }
     {
@@ -433,5 +440,42 @@ impl Session {
             | Item::PollFlushEnd { .. } => self.answer_writer(line, item),
             item => self.answer_handle(line, item),
         }
+    }
+
+    /// Whether a line is a call in a crowded session: more tickets are unreaped than calls may hand in.
+    fn bars_line(&self, item: &Item) -> bool
+        ensures value { (state : State) → Represents self.now state →
+            result ≡ bars_line state item.now }
+    {
+        if !item.is_call() {
+            return false;
+        }
+        self.host.kernel().unreaped() > MOST_UNREAPED
+    }
+
+    /// The answer to such a line: it is barred, and its steps are applied.
+    fn answer_barred(&mut self, line: &mut String, item: Item) -> Result<(), NoMemory>
+        requires spare { places_in item ≤ self.old.host.kernel.spare }
+        ensures answered { Answers self.old self.new line.old line.new result
+            (λ state. barred (stepped_all state (steps_in item))) }
+        ensures spare { self.old.host.kernel.spare ≤ self.new.host.kernel.spare + places_in item }
+    {
+        let steps = item.into_steps(*line.allocator());
+        self.step_all(steps);
+        write_condition(line)
+    }
+
+    /// Appends the line that answers an item of a script, with its LF, and nothing where the item has no answer.
+    pub fn answer(&mut self, line: &mut String, item: Item) -> Result<(), NoMemory>
+        requires spare { places_in item ≤ self.old.host.kernel.spare }
+        ensures answered { Answers self.old self.new line.old line.new result
+            (λ state. answer state item) }
+        ensures spare { OnOk result
+            (self.old.host.kernel.spare ≤ self.new.host.kernel.spare + places_in item) }
+    {
+        if self.bars_line(&item) {
+            return self.answer_barred(line, item);
+        }
+        self.answer_line(line, item)
     }
 }

@@ -8,7 +8,6 @@ ghost use Rattle.usb_host.specs.HostFrames.{LineGoesOn};
 ghost use Rattle.usb_io.specs.AnyReaders.{reader_of};
 ghost use Rattle.usb_io.specs.Reads.{reading, GoesAlong, KeepsSettings};
 ghost use Rattle.usb_io.specs.contracts.any_reader.AnyReader.{the_row};
-ghost use Rattle.usb_streams.specs.HostReads.{fill_came};
 ghost use Rattle.usb_streams.specs.Lent.{FilledAs, PollFilledAs};
 ghost use Rattle.usb_answers.specs.Reads.{is_until_short, fill_on, poll_fill_on};
 ghost use Rattle.usb_answers.specs.OpenCalls.{CallKeeps};
@@ -32,8 +31,8 @@ fn fill_bytes<'a>(
     requires stands { Stands (bus_of host.old) (reader_of reader.old).endpoint }
     ensures* lent { sem 𝓛
         (Rests the_row reader.entry
-        (λ new. FilledAs (fill_came (is_until_short framing) (reader_of reader.old).timeout
-        (reading host.old (reader_of reader.old))) result (reading host.new (reader_of new))
+        (λ new. FilledAs (is_until_short framing) (reader_of reader.old).timeout
+        (reading host.old (reader_of reader.old)) (reading host.new (reader_of new)) result
         × LineGoesOn host.old host.new
         × GoesAlong (bus_of host.old) (bus_of host.new) (reader_of reader.old) (reader_of new)
         × KeepsSettings (reader_of reader.old) (reader_of new))) }
@@ -78,8 +77,8 @@ fn poll_fill_bytes<'a>(
     requires stands { Stands (bus_of host.old) (reader_of reader.old).endpoint }
     ensures* lent { sem 𝓛
         (Rests the_row reader.entry
-        (λ new. PollFilledAs (fill_came (is_until_short framing) 0
-        (reading host.old (reader_of reader.old))) result (reading host.new (reader_of new))
+        (λ new. PollFilledAs (is_until_short framing)
+        (reading host.old (reader_of reader.old)) (reading host.new (reader_of new)) result
         × LineGoesOn host.old host.new
         × GoesAlong (bus_of host.old) (bus_of host.new) (reader_of reader.old) (reader_of new)
         × KeepsSettings (reader_of reader.old) (reader_of new))) }

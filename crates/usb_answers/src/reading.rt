@@ -8,7 +8,7 @@ ghost use Rattle.usb_host.specs.HostFrames.{LineGoesOn};
 ghost use Rattle.usb_io.specs.AnyReaders.{reader_of};
 ghost use Rattle.usb_io.specs.Answers.{IsInTime};
 ghost use Rattle.usb_io.specs.Reads.{reading, GoesAlong};
-ghost use Rattle.usb_streams.specs.HostReads.{read_came, answered, FailedAs};
+ghost use Rattle.usb_streams.specs.HostReads.{read_came, answered, ReadFails};
 ghost use Rattle.usb_writer_lines.specs.Needs.{bars_need};
 ghost use Rattle.usb_answers.specs.Reads.{is_until_short, need_of, read_on, poll_read_on};
 ghost use Rattle.usb_answers.specs.OpenCalls.{CallKeeps};
@@ -57,9 +57,8 @@ fn read_bytes(
         (reading host.old (reader_of reader.old))
         ≡ answered (Ok (take n dest.new)) (reading host.new (reader_of reader.new))) }
     ensures failed { IfErr result
-        (λ e. FailedAs (read_came (is_until_short framing) (reader_of reader.old).timeout
-        (length dest.old) (reading host.old (reader_of reader.old))) e
-        (reading host.new (reader_of reader.new))) }
+        (ReadFails (is_until_short framing) (reader_of reader.old).timeout (length dest.old)
+        (reading host.old (reader_of reader.old)) (reading host.new (reader_of reader.new))) }
     ensures line { LineGoesOn host.old host.new }
     ensures goes { GoesAlong (bus_of host.old) (bus_of host.new) (reader_of reader.old)
         (reader_of reader.new) }
@@ -112,8 +111,8 @@ fn poll_bytes(
         ≡ answered (Ok (take n dest.new)) (reading host.new (reader_of reader.new)))) }
     ensures failed { IfReady result
         (λ r. IfErr r
-        (λ e. FailedAs (read_came (is_until_short framing) 0 (length dest.old)
-        (reading host.old (reader_of reader.old))) e (reading host.new (reader_of reader.new)))) }
+        (ReadFails (is_until_short framing) 0 (length dest.old)
+        (reading host.old (reader_of reader.old)) (reading host.new (reader_of reader.new)))) }
     ensures in_time { IfReady result (λ r. IfErr r IsInTime) }
     ensures pending { IfPending result
         (read_came (is_until_short framing) 0 (length dest.old)

@@ -1,5 +1,5 @@
 -- The messages that a reader ended are the first of those that a writer ended, over each script.
-use Rattle.std.proofs.Common.{ℕ, List, take-append-drop, sym, subst}
+use Rattle.std.proofs.Common.{ℕ, List, ◌++◌, take-append-drop, sym, subst}
 use Rattle.usb_kernel.specs.declared.event.Event.{Event}
 use Rattle.usb_kernel.specs.Legal.{IsLawful}
 use Rattle.usb_script.specs.declared.item.Item.{Item as Line}
@@ -15,11 +15,11 @@ use Rattle.usb_answers.specs.ReaderAt.{ReaderAt, state_of_reader}
 use Rattle.usb_answers.specs.WriterAt.{WriterAt}
 use Rattle.usb_answers.specs.Output.{start, final_host, behind}
 use Rattle.usb_answers.proofs.HandleLemmas.{scripts-go_on}
-use Rattle.usb_answers.proofs.WrittenWriters.{TellsAt}
+use Rattle.usb_answers.proofs.WrittenWriters.{TellsAt, at-later}
 use Rattle.usb_answers.proofs.WrittenBehind.{tell-at}
 use Rattle.usb_answers.proofs.FramedReaders.{FollowsAt, history_of}
-use Rattle.usb_answers.proofs.FramedBehind.{follow-at}
-use Rattle.usb_session.specs.Exchanges.{exchange_of, OnlyExchange, MessagesAlwaysArrive}
+use Rattle.usb_answers.proofs.FramedBehind.{behind-extends, follow-at}
+use Rattle.usb_session.specs.Exchanges.{exchange_of, OnlyExchange, MessagesAlwaysArrive, MessagesKeepArriving}
 
 arrive : (past : List Event) (x : WriterAt) (y : ReaderAt) (c : WriterCalls) (consumed : List Item) → TellsAt past x c → FollowsAt past y consumed → OnlyExchange past x y c → AreFirstOf (messages consumed) (messages (items_of c.accepted))
 arrive past x y c consumed tells follows only =
@@ -46,3 +46,12 @@ pub messages-arrive : (items : List Line) → IsLawful (final_host items).kernel
 messages-arrive items lawful before after all w r x y c consumed writer calls reader framed only =
     arrive (behind (start items) before).host.kernel.past x y c consumed ((tell-at scripts-go_on items before).each w x c writer calls)
     ((follow-at scripts-go_on items lawful before after all).each r y consumed reader framed) only
+
+-- so it is of the writer as it was before
+pub messages-keep-arriving : (items : List Line) → IsLawful (final_host items).kernel.past → MessagesKeepArriving items
+messages-keep-arriving items lawful before middle after all w r x y c consumed writer calls reader framed only =
+    let old = (behind (start items) before).host.kernel.past in
+    let new = (behind (start items) (before ++ middle)).host.kernel.past in
+    arrive new x y c consumed
+    (at-later old new x c (behind-extends scripts-go_on items before middle) ((tell-at scripts-go_on items before).each w x c writer calls))
+    ((follow-at scripts-go_on items lawful (before ++ middle) after all).each r y consumed reader framed) only

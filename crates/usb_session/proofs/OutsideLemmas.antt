@@ -59,6 +59,10 @@ took-more a b c xs room most before more fits =
       count = rw (length-append xs more.bytes) (omega (arith, count, fits));
     }
 
+-- what was taken before a call that took nothing
+pub took-kept : (a b c : Option (List ℕ)) (xs : List ℕ) (most : ℕ) → Consumes a b xs → Keeps b c → length xs ≤ most → TookAtMost most a c
+took-kept a b c xs most before kept fits = record { bytes = xs; taken = Consumes_kept a b c xs before kept; count = fits }
+
 -- what was read to the end of a source that tells its bytes is those bytes
 pub ReadWhole-known : (known bytes : List ℕ) (new : Option (List ℕ)) → ReadWhole (Some known) new bytes → known ≡ bytes
 ReadWhole-known known bytes None r = absurd r.taken

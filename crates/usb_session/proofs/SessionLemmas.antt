@@ -1,5 +1,5 @@
 -- Why a session fails.
-use Rattle.std.proofs.Common.{IfOk, IfErr, ◌≡◌, count_by, ℕ, ◌+◌, ◌<◌, ◌≤◌, List, length, Ok, Err, Some, None, ap, sym, ◌∙◌, refl, arith, length-append, ◌⊎◌, inl, inr, Result, ltb, false}
+use Rattle.std.proofs.Common.{IfOk, IfErr, IsErrOf, ◌≡◌, count_by, ℕ, ◌+◌, ◌<◌, ◌≤◌, List, length, Ok, Err, Some, None, ap, sym, ◌∙◌, refl, arith, length-append, ◌⊎◌, inl, inr, Result, ltb, false}
 use Rattle.std.specs.declared.option.Option.{Option}
 use Rattle.std.specs.Io.KnownBytes.{Consumes, Keeps}
 use Rattle.std.proofs.lemmas.Bool.Decides.{nat_tests}
@@ -8,12 +8,12 @@ use Rattle.usb_parse.specs.declared.error.SessionError.{SessionError}
 use Rattle.usb_parse.specs.declared.error.SessionError.TheVariants.{Malformed, TooLong, ReadFault, WriteFault, Memory}
 use Rattle.usb_parse.specs.Parse.{script_of, parse, or_malformed}
 use Rattle.usb_parse.specs.Outcome.{OrMemory}
-use Rattle.usb_session.specs.Causes.{ReadWhole}
+use Rattle.usb_session.specs.Causes.{ReadWhole, TookAtMost, EndsReading}
 use Rattle.usb_script.specs.ItemKinds.{is_call}
 use Rattle.usb_answers.specs.declared.summary.Summary.{Summary}
 use Rattle.usb_answers.specs.Output.{final_host}
 use Rattle.usb_answers.proofs.SumLemmas.{one_end_each}
-use Rattle.usb_session.specs.Session.{Streams, IsAnswered, HasReason, IsSmooth, IsQuiet, IsExact}
+use Rattle.usb_session.specs.Session.{Streams, ReadAs, IsAnswered, HasReason, IsSmooth, IsQuiet, IsExact, GaveTooMany, AnswersBytes}
 use Rattle.usb_session.specs.Program.{status_of, error_status}
 use Rattle.usb_session.proofs.OutsideLemmas.{ReadWhole-known}
 
@@ -71,6 +71,14 @@ parsing_reason s ReadFault bytes read few parsed kept = let m = small_is_malform
 parsing_reason s WriteFault bytes read few parsed kept = let m = small_is_malformed bytes WriteFault few parsed in let e = m.1 in cc
 parsing_reason s Memory bytes read few parsed kept = inl kept
 
+-- and the source has ended
+pub parsing_ends : (ended : Type 0) (bytes : List ℕ) (e : SessionError) → ended → length bytes < 1048577 → OrMemory {X = List Item} (Err e) (script_of bytes) → EndsReading {X = Summary} ended (Err e)
+parsing_ends ended bytes (Malformed line) has few parsed = has
+parsing_ends ended bytes TooLong has few parsed = let m = small_is_malformed bytes TooLong few parsed in let e = m.1 in cc
+parsing_ends ended bytes ReadFault has few parsed = let m = small_is_malformed bytes ReadFault few parsed in let e = m.1 in cc
+parsing_ends ended bytes WriteFault has few parsed = has
+parsing_ends ended bytes Memory has few parsed = tt
+
 -- each ticket of an answered script has one end
 pub answered-ends : (s : Streams) (summary : Summary) → IsAnswered s summary → summary.taken + summary.dropped + summary.reclaimed ≡ summary.tickets
 answered-ends s summary answered =
@@ -97,3 +105,74 @@ exact_of s bytes (Err e) ok err quiet = parse_alone s bytes e err quiet
 pub exact_status : {X : Type 0} (bytes : List ℕ) (r : Result X SessionError) → IsExact bytes r → (status_of r ≡ 7) ⊎ (status_of r ≡ status_of (script_of bytes))
 exact_status bytes (Ok x) exact = inr (sym (ap status_of exact.1))
 exact_status bytes (Err e) exact = elim exact [ inl is ↦ inl (ap error_status is) | inr is ↦ inr (sym (ap status_of is)) ]
+
+-- what a source that told its bytes gave in a call has one length
+same_length : (old new : Option (List ℕ)) (known xs ys : List ℕ) → old ≡ Some known → Consumes old new xs → Consumes old new ys → length xs ≡ length ys
+same_length None new known xs ys e p q = cc
+same_length (Some zs) None known xs ys e p q = absurd p
+same_length (Some zs) (Some ws) known xs ys e p q =
+    let first : length zs ≡ length xs + length ws = ap length p ∙ length-append xs ws in
+    let second : length zs ≡ length ys + length ws = ap length q ∙ length-append ys ws in omega arith
+
+-- what was read to its end and isn't too long is no longer than a script may be
+never_full : (s : Streams) (items : Result (List Item) SessionError) → ReadAs s items → (items ≡ Err TooLong → ⊥) → GaveTooMany s → ⊥
+never_full s items read other gave =
+    let same = same_length s.left s.left' gave.bytes read.bytes gave.taken.bytes gave.known read.read.taken gave.taken.taken in
+    let count = gave.taken.count in
+    other (sym read.parsed ∙ long_is_refused read.bytes (omega arith))
+
+-- nor is what was taken before a read that failed
+never_spared : (s : Streams) → TookAtMost 1048576 s.left s.left' → GaveTooMany s → ⊥
+never_spared s took gave =
+    let same = same_length s.left s.left' gave.bytes took.bytes gave.taken.bytes gave.known took.taken gave.taken.taken in
+    let count = gave.taken.count in
+    let most = took.count in omega arith
+
+-- the byte past the longest script was taken: the script is too long, or memory was lacking
+pub too_many_of : (s : Streams) (r : Result Summary SessionError) → IfOk r (IsAnswered s) → IfErr r (HasReason s) → (IsErrOf r ReadFault → TookAtMost 1048576 s.left s.left') → GaveTooMany s → (r ≡ Err TooLong) ⊎ (r ≡ Err Memory)
+too_many_of s (Ok summary) ok err spares gave = absurd (never_full s (Ok ok.items) ok.script (λ e. cc) gave)
+too_many_of s (Err (Malformed line)) ok err spares gave = absurd (never_full s (Err (Malformed line)) err.0 (λ e. cc) gave)
+too_many_of s (Err TooLong) ok err spares gave = inl refl
+too_many_of s (Err ReadFault) ok err spares gave = absurd (never_spared s (spares refl) gave)
+too_many_of s (Err WriteFault) ok err spares gave = absurd (never_full s (Ok err.1.items) err.1.script (λ e. cc) gave)
+too_many_of s (Err Memory) ok err spares gave = inr refl
+
+-- the source was read to its end: the answer is what its bytes parse to, or writing failed, or memory was lacking
+pub parsed_of : (s : Streams) (ended : Type 0) (bytes : List ℕ) (r : Result Summary SessionError) → IfOk r (IsAnswered s) → IfErr r (HasReason s) → EndsReading ended r → ended → s.left ≡ Some bytes → AnswersBytes bytes r
+parsed_of s ended bytes (Ok summary) ok err ends has known =
+    (ok.items, ap script_of (whole_of_known s.left s.left' bytes ok.script.bytes known ok.script.read) ∙ ok.script.parsed)
+parsed_of s ended bytes (Err (Malformed line)) ok err ends has known =
+    ap script_of (whole_of_known s.left s.left' bytes err.0.bytes known err.0.read) ∙ err.0.parsed
+parsed_of s ended bytes (Err TooLong) ok err ends has known = absurd (ends has)
+parsed_of s ended bytes (Err ReadFault) ok err ends has known = absurd (ends has)
+parsed_of s ended bytes (Err WriteFault) ok err ends has known =
+    (err.1.items, ap script_of (whole_of_known s.left s.left' bytes err.1.script.bytes known err.1.script.read) ∙ err.1.script.parsed)
+parsed_of s ended bytes (Err Memory) ok err ends has known = tt
+
+-- the same of statuses
+pub ended_status : {X : Type 0} (ended : Type 0) (r : Result X SessionError) → EndsReading ended r → (status_of r ≡ 0) ⊎ (status_of r ≡ 3) ⊎ (status_of r ≡ 6) → ended
+ended_status ended (Ok x) ends which = ends
+ended_status ended (Err (Malformed line)) ends which = ends
+ended_status ended (Err WriteFault) ends which = ends
+ended_status ended (Err TooLong) ends which = absurd (omega arith)
+ended_status ended (Err ReadFault) ends which = absurd (omega arith)
+ended_status ended (Err Memory) ends which = absurd (omega arith)
+
+pub goes_on_status : {X : Type 0} (ended : Type 0) (r : Result X SessionError) → EndsReading ended r → (status_of r ≡ 4) ⊎ (status_of r ≡ 5) → ended → ⊥
+goes_on_status ended (Ok x) ends which = absurd (omega arith)
+goes_on_status ended (Err (Malformed line)) ends which = absurd (omega arith)
+goes_on_status ended (Err WriteFault) ends which = absurd (omega arith)
+goes_on_status ended (Err TooLong) ends which = ends
+goes_on_status ended (Err ReadFault) ends which = ends
+goes_on_status ended (Err Memory) ends which = absurd (omega arith)
+
+pub parsed_status : {X : Type 0} (bytes : List ℕ) (r : Result X SessionError) → AnswersBytes bytes r → (status_of r ≡ status_of (script_of bytes)) ⊎ (status_of r ≡ 6) ⊎ (status_of r ≡ 7)
+parsed_status bytes (Ok x) answers = inl (sym (ap status_of answers.1))
+parsed_status bytes (Err (Malformed line)) answers = inl (sym (ap status_of answers))
+parsed_status bytes (Err TooLong) answers = inl (sym (ap status_of answers))
+parsed_status bytes (Err ReadFault) answers = inl (sym (ap status_of answers))
+parsed_status bytes (Err WriteFault) answers = inr (inl refl)
+parsed_status bytes (Err Memory) answers = inr (inr refl)
+
+pub too_many_status : {X : Type 0} (r : Result X SessionError) → (r ≡ Err TooLong) ⊎ (r ≡ Err Memory) → (status_of r ≡ 4) ⊎ (status_of r ≡ 7)
+too_many_status r which = elim which [ inl is ↦ inl (ap status_of is) | inr is ↦ inr (ap status_of is) ]

@@ -1,5 +1,5 @@
--- Messages that are echoed, over two scripts, computed by the definitions alone.
-use Rattle.std.proofs.Common.{◌≡◌, ℕ, ◌-◌, ◌^◌, arith, List, [], ◌∷◌, Some, None, true, false, refl, inl}
+-- Messages that are echoed, over four scripts, computed by the definitions alone.
+use Rattle.std.proofs.Common.{◌≡◌, ℕ, ◌-◌, ◌^◌, arith, List, [], ◌∷◌, ◌++◌, Some, None, true, false, refl, inl}
 use Rattle.usb_desc.specs.declared.types.TransferType.TheVariants.{Interrupt}
 use Rattle.usb_kernel.specs.declared.event.Event.{Event}
 use Rattle.usb_kernel.specs.declared.event.Event.TheVariants.{Submit, Reap}
@@ -21,10 +21,10 @@ use Rattle.usb_answers.specs.Output.{start, behind}
 use Rattle.usb_answers.proofs.WorkedOutput.{output_on_literals}
 use Rattle.usb_session.specs.Exchanges.{OnlyExchange}
 
--- behind the lines of a script: the writer and the reader of number 0, the calls of the one and what the other consumed, the
--- journal, on which the two do nothing but exchange messages, and the messages that were ended
-pub record HaveExchanged (state : State) (x : WriterAt) (y : ReaderAt) (c : WriterCalls) (consumed : List Item) (past : List Event) (read sent : List (List ℕ)) : Type 0 where
-  pub writer : writer_at state 0 ≡ Some x
+-- the writer of number 0 in one state, with its calls, and the reader of number 0 in the same or a later one, with what it
+-- consumed; the journal of the later state, on which the two do nothing but exchange messages; and the messages that were ended
+pub record HaveExchanged (first state : State) (x : WriterAt) (y : ReaderAt) (c : WriterCalls) (consumed : List Item) (past : List Event) (read sent : List (List ℕ)) : Type 0 where
+  pub writer : writer_at first 0 ≡ Some x
   pub calls : x.writer.calls ≡ Some c
   pub reader : reader_at state 0 ≡ Some y
   pub framed : y.reader.consumed ≡ Some consumed
@@ -60,10 +60,10 @@ writer_with tickets taken c =
       endpoint = record { device = 0; address = 2; kind = Interrupt; maximum = 4; key = 1; tickets = tickets; taken = taken; was_streamed = true };
     }
 
-abbrev pub reader_with : List Item → ReaderAt
-reader_with consumed =
+abbrev pub reader_with : List ℕ → List Item → ReaderAt
+reader_with given consumed =
     record {
-      reader = record { bare = record { n = 1; size = 12; timeout = 2 ^ 64 - 1; unread = []; ended = false; error = None }; consumed = Some consumed };
+      reader = record { bare = record { n = 1; size = 12; timeout = 2 ^ 64 - 1; unread = []; ended = false; error = None }; before = []; given = given; consumed = Some consumed };
       endpoint = record { device = 0; address = 129; kind = Interrupt; maximum = 4; key = 0; tickets = 1 ∷ []; taken = 1; was_streamed = true };
     }
 
@@ -84,7 +84,7 @@ abbrev pub five_past : List Event
 five_past =
     Reap 1 ∷ Reap 0 ∷ event.Echo 0 2 129 ∷ event.Echo 0 2 129 ∷ Submit 1 0 129 4 (Wanted 12) 12 None ∷ Submit 0 0 2 4 (Sent (1 ∷ 2 ∷ 3 ∷ 4 ∷ 5 ∷ [])) 8 None ∷ []
 
-pub five_bytes : HaveExchanged (behind_all five) (writer_with (0 ∷ []) 0 five_calls) (reader_with five_consumed) five_calls five_consumed five_past
+pub five_bytes : HaveExchanged (behind_all five) (behind_all five) (writer_with (0 ∷ []) 0 five_calls) (reader_with (1 ∷ 2 ∷ 3 ∷ 4 ∷ 5 ∷ []) five_consumed) five_calls five_consumed five_past
     ((1 ∷ 2 ∷ 3 ∷ 4 ∷ 5 ∷ []) ∷ []) ((1 ∷ 2 ∷ 3 ∷ 4 ∷ 5 ∷ []) ∷ [])
 unfolding output_on_literals
 five_bytes =
@@ -118,7 +118,7 @@ abbrev pub none_past : List Event
 none_past =
     Submit 2 0 2 4 (Sent (7 ∷ [])) 8 None ∷ Reap 1 ∷ Reap 0 ∷ event.Echo 0 2 129 ∷ Submit 1 0 129 4 (Wanted 12) 12 None ∷ Submit 0 0 2 4 (Sent []) 0 None ∷ []
 
-pub no_bytes : HaveExchanged (behind_all none) (writer_with (0 ∷ 2 ∷ []) 1 none_calls) (reader_with (End ∷ [])) none_calls (End ∷ []) none_past ([] ∷ []) ([] ∷ (7 ∷ []) ∷ [])
+pub no_bytes : HaveExchanged (behind_all none) (behind_all none) (writer_with (0 ∷ 2 ∷ []) 1 none_calls) (reader_with [] (End ∷ [])) none_calls (End ∷ []) none_past ([] ∷ []) ([] ∷ (7 ∷ []) ∷ [])
 unfolding output_on_literals
 no_bytes =
     record {
@@ -136,4 +136,62 @@ no_bytes =
           };
       are_read = refl;
       are_sent = refl;
+    }
+
+-- five bytes are written and echoed in two packets, of which one byte is read; then the writer is gone, by this line, and the other
+-- bytes are read
+abbrev pub five_sent : List Line
+five_sent =
+    opened
+    (item.Write 0 (1 ∷ 2 ∷ 3 ∷ 4 ∷ 5 ∷ []) [] ∷ item.SubmitEnd 0 ∷ item.Read UntilShort 0 1 (Echo 0 2 129 ∷ Echo 0 2 129 ∷ []) ∷ [])
+
+abbrev pub five_read : Line → List Line
+five_read gone = gone ∷ item.Read UntilShort 0 20 [] ∷ item.ConsumeEnd 0 ∷ []
+
+-- in both states the script is the whole one
+abbrev pub behind_first : List Line → List Line → State
+behind_first before middle = behind (start (before ++ middle)) before
+
+-- no writer of number 0 is open then, and yet its message is read
+pub record AreReadWithout (gone : Line) : Type 0 where
+  pub none : writer_at (behind_all (five_sent ++ five_read gone)) 0 ≡ None
+  pub exchanged : HaveExchanged (behind_first five_sent (five_read gone)) (behind_all (five_sent ++ five_read gone)) (writer_with (0 ∷ []) 0 five_calls)
+      (reader_with (1 ∷ 2 ∷ 3 ∷ 4 ∷ 5 ∷ []) five_consumed) five_calls five_consumed five_past ((1 ∷ 2 ∷ 3 ∷ 4 ∷ 5 ∷ []) ∷ []) ((1 ∷ 2 ∷ 3 ∷ 4 ∷ 5 ∷ []) ∷ [])
+
+-- it was closed
+pub closed_before : AreReadWithout (item.CloseWriter 0)
+unfolding output_on_literals
+closed_before =
+    record {
+      none = refl;
+      exchanged =
+          record {
+            writer = refl;
+            calls = refl;
+            reader = refl;
+            framed = refl;
+            journal = refl;
+            only = five_bytes.only;
+            are_read = refl;
+            are_sent = refl;
+          };
+    }
+
+-- or gave its endpoint back
+pub given_back_before : AreReadWithout (item.WriterIntoInner 2 0)
+unfolding output_on_literals
+given_back_before =
+    record {
+      none = refl;
+      exchanged =
+          record {
+            writer = refl;
+            calls = refl;
+            reader = refl;
+            framed = refl;
+            journal = refl;
+            only = five_bytes.only;
+            are_read = refl;
+            are_sent = refl;
+          };
     }

@@ -1,5 +1,5 @@
 -- What a call leaves behind at its source and its sink, and why it failed.
-use Rattle.std.specs.Prelude.{ℕ, ◌≡◌, ◌≢◌, ◌+◌, ◌-◌, ◌^◌, ◌≤◌, min, List, [], ◌++◌, length, OnOk, OnErr}
+use Rattle.std.specs.Prelude.{ℕ, ◌≡◌, ◌≢◌, ◌+◌, ◌-◌, ◌^◌, ◌≤◌, min, List, [], ◌++◌, length, OnOk, OnErr, Ok, Err}
 use Rattle.std.specs.declared.option.Option.{Option}
 use Rattle.std.specs.declared.result.Result.{Result}
 use Rattle.std.specs.Io.KnownBytes.{Appends, Consumes, IsAtEnd}
@@ -20,7 +20,7 @@ pub record CountsFaults {T E : Type 0} (before now : ℕ) (result : Result T E) 
   pub none : OnOk result (now ≡ before)
   pub one : OnErr result (RoseByOne before now)
 
--- one read failed, and it was the last
+-- of a source or a sink: one call failed, and it was the last
 pub record FailedLast (before now : ℕ) (last : Type 0) : Type 0 where
   pub one : RoseByOne before now
   pub failed : last
@@ -63,6 +63,16 @@ pub record ReadPiece (old new : Option (List ℕ)) (before after : List ℕ) (ro
   pub appended : after ≡ before ++ piece
   pub fits : length piece ≤ room
   pub end : length piece ≡ 0 → IsAtEnd new
+
+-- Of an answer, and of the statement that the source has ended behind it: it has where the whole script was read, and has not where
+-- the script was too long or a read failed. Where memory was wanting either may be
+abbrev pub EndsReading : {X : Type 0} → Type 0 → Result X SessionError → Type 0
+EndsReading ended (Ok x) = ended
+EndsReading ended (Err (Malformed line)) = ended
+EndsReading ended (Err WriteFault) = ended
+EndsReading ended (Err TooLong) = ¬ ended
+EndsReading ended (Err ReadFault) = ¬ ended
+EndsReading ended (Err Memory) = Unit {0}
 
 -- what reading a script may answer
 abbrev pub IsReadingError : SessionError → Type 0

@@ -42,3 +42,18 @@ MessagesArrive state =
 -- before the first line of a script and behind each
 abbrev pub MessagesAlwaysArrive : List Line → Type 0
 MessagesAlwaysArrive items = (before after : List Line) → before ++ after ≡ items → MessagesArrive (behind (start items) before)
+
+-- a writer as it is in one state, and a framed reader as it is in a later one: if up to then nothing else happened on the two
+-- endpoints, with the tickets that the writer has in the first, then the messages that the reader ended are the first of those
+-- that the writer ended by the first. (So the writer may be closed in the later state, or have given its endpoint back)
+abbrev pub MessagesStillArrive : State → State → Type 0
+MessagesStillArrive state later =
+    (w r : ℕ) (x : WriterAt) (y : ReaderAt) (c : WriterCalls) (consumed : List Item) →
+    writer_at state w ≡ Some x → x.writer.calls ≡ Some c → reader_at later r ≡ Some y → y.reader.consumed ≡ Some consumed →
+    OnlyExchange later.host.kernel.past x y c → AreFirstOf (messages consumed) (messages (items_of c.accepted))
+
+-- behind lines of a script, and behind the lines that follow them
+abbrev pub MessagesKeepArriving : List Line → Type 0
+MessagesKeepArriving items =
+    (before middle after : List Line) → (before ++ middle) ++ after ≡ items →
+    MessagesStillArrive (behind (start items) before) (behind (start items) (before ++ middle))

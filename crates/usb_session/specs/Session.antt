@@ -11,10 +11,14 @@ use Rattle.usb_host.specs.Finishes.{HasEnds, HasCompletions, KeepsNothing}
 use Rattle.usb_answers.specs.Output.{output, final_host}
 use Rattle.usb_answers.specs.Sums.{sum_of}
 use Rattle.usb_answers.specs.Served.{IsCounted, EndpointsAreServed}
+use Rattle.usb_answers.specs.Printed.{CompletionsArePrinted}
+use Rattle.usb_answers.specs.ControlsServed.{ControlsAreServed}
 use Rattle.usb_answers.specs.FinalFates.{HasFinalFates}
+use Rattle.usb_answers.specs.Places.{PollsAnswer}
 use Rattle.usb_answers.specs.Framed.{FramedReadersFollow}
+use Rattle.usb_answers.specs.Handed.{BytesAreHandedOver}
 use Rattle.usb_answers.specs.WrittenScripts.{WritersAreTold}
-use Rattle.usb_session.specs.Exchanges.{MessagesAlwaysArrive}
+use Rattle.usb_session.specs.Exchanges.{MessagesAlwaysArrive, MessagesKeepArriving}
 use Rattle.usb_answers.specs.declared.summary.Summary.{Summary}
 
 -- what a source and a sink tell of themselves before a call and after it
@@ -51,11 +55,15 @@ pub record ReadAs (s : Streams) (items : Result (List Item) SessionError) : Type
 
 -- a valid script was read, and its whole output was written; at its end the host has as many
 -- tickets as the journal, each with its end and its completion, and keeps no open device, no claimed
--- interface and no endpoint; each endpoint was served in the order of its submissions, there is one
--- final fate line for each ticket; and at every moment what a framed reader consumed is a prefix of
--- its stream, the tickets of a writer's endpoint carry what the writer wrote, and where a device
--- only echoes from the one to the other, the messages that the reader ended are the first of those
--- that the writer ended
+-- interface and no endpoint; each endpoint was served in the order of its submissions, each line
+-- that prints a completion took the ticket of which it is, each control transfer is answered with
+-- what came of it or given up when its future is closed, there is one final fate line for each
+-- ticket; while the session is not crowded, a poll answered with the completion that the journal has
+-- of the oldest pending transfer, and `pending` exactly where it has none; and at every moment what
+-- a framed reader consumed is a prefix of its stream, what any reader handed over and has unread are
+-- the bytes of the tickets that it took, the tickets of a writer's endpoint carry what the writer
+-- wrote, and where a device only echoes from the one to the other, the messages that the reader
+-- ended are the first of those that the writer ended, also once the writer is gone
 pub record IsAnswered (s : Streams) (summary : Summary) : Type 0 where
   pub items : List Item
   pub script : ReadAs s (Ok items)
@@ -66,10 +74,15 @@ pub record IsAnswered (s : Streams) (summary : Summary) : Type 0 where
   pub keeps_nothing : KeepsNothing (final_host items)
   pub counted : IsCounted items
   pub served : EndpointsAreServed items
+  pub printed : CompletionsArePrinted items
+  pub controls : ControlsAreServed items
   pub fates : HasFinalFates items
+  pub polled : PollsAnswer items
   pub framed : FramedReadersFollow items
+  pub handed : BytesAreHandedOver items
   pub told : WritersAreTold items
   pub exchanged : MessagesAlwaysArrive items
+  pub keeps_arriving : MessagesKeepArriving items
 
 -- a valid script was read, and a prefix of its output was written
 pub record IsCutOff (s : Streams) : Type 0 where
@@ -108,3 +121,17 @@ pub record IsQuiet (s : Streams) (bytes : List ℕ) : Type 0 where
 abbrev pub IsExact : {X : Type 0} → List ℕ → Result X SessionError → Type 0
 IsExact bytes (Ok x) = (items : List Item) × (script_of bytes ≡ Ok items)
 IsExact bytes (Err e) = (e ≡ Memory) ⊎ (script_of bytes ≡ Err e)
+
+-- before the call a source told its bytes, and in the call it gave one more than a script may have
+pub record GaveTooMany (s : Streams) : Type 0 where
+  pub bytes : List ℕ
+  pub known : s.left ≡ Some bytes
+  pub taken : TookTooMany s.left s.left'
+
+-- where the source's bytes are these and were read to the end: they parse, and the answer is Ok or writing failed; or the answer is
+-- the parse's error; or memory was lacking
+abbrev pub AnswersBytes : {X : Type 0} → List ℕ → Result X SessionError → Type 0
+AnswersBytes bytes (Ok x) = (items : List Item) × (script_of bytes ≡ Ok items)
+AnswersBytes bytes (Err WriteFault) = (items : List Item) × (script_of bytes ≡ Ok items)
+AnswersBytes bytes (Err Memory) = Unit {0}
+AnswersBytes bytes (Err e) = script_of bytes ≡ Err e

@@ -1,6 +1,7 @@
 //! The word `generate`: a run of a generated script, and its line.
 
-ghost use Rattle.std.specs.Prelude.{◌≡◌, ◌≤◌, ◌++◌, IfOk, IfErr, OnOk, string_bytes};
+ghost use Rattle.std.specs.Prelude.{◌≡◌, ◌≤◌, ◌++◌, IfOk, IfErr, OnOk, IsErrOf, string_bytes};
+ghost use Rattle.usb_session.specs.Causes.{FailedLast};
 ghost use Rattle.usb_session.specs.Generate.{counted, summary_line, generate_line};
 ghost use Rattle.usb_session.specs.OneLine.{WroteLine};
 
@@ -59,6 +60,9 @@ pub(crate) fn generate<K: Sink>(alloc: Global, n: u32, sink: &mut K) -> Result<(
     requires few { n ≤ 2000 }
     ensures wrote { WroteLine (generate_line n) (K.written sink.old) (K.written sink.new)
         (K.faults sink.old) (K.faults sink.new) result }
+    // After a write that failed nothing more is offered to the sink.
+    ensures stops { IsErrOf result SessionError.WriteFault →
+        FailedLast (K.faults sink.old) (K.faults sink.new) (K.has_failed sink.new) }
 {
     let summary = run_generated(alloc, n)?;
     let Ok(line) = summary_line(alloc, n, &summary) else {

@@ -1,6 +1,7 @@
 //! The word `live`: a run on two threads, and its line.
 
-ghost use Rattle.std.specs.Prelude.{◌≡◌, IfOk, string_bytes};
+ghost use Rattle.std.specs.Prelude.{◌≡◌, IfOk, IsErrOf, string_bytes};
+ghost use Rattle.usb_session.specs.Causes.{FailedLast};
 ghost use Rattle.usb_session.specs.Live.{run_line, live_line};
 ghost use Rattle.usb_session.specs.OneLine.{WroteLine};
 
@@ -41,6 +42,9 @@ pub(crate) fn live<R: Threads + Wait + Sync, K: Sink, G: Gate + Send>(
 ) -> Result<(), SessionError>
     ensures wrote { WroteLine (live_line n) (K.written sink.old) (K.written sink.new)
         (K.faults sink.old) (K.faults sink.new) result }
+    // After a write that failed nothing more is offered to the sink.
+    ensures stops { IsErrOf result SessionError.WriteFault →
+        FailedLast (K.faults sink.old) (K.faults sink.new) (K.has_failed sink.new) }
 {
     let Ok(run) = live_run(rt, alloc, n, gate, seen, None) else {
         return Err(SessionError::Memory);

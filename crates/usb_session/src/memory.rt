@@ -1,6 +1,6 @@
 //! A source and a sink in memory, for tests.
 
-ghost use Rattle.std.specs.Prelude.{◌≡◌, ◌<◌, ◌↔◌, ◌⊎◌, [], length, Some, IfOk, IsErr, Contains};
+ghost use Rattle.std.specs.Prelude.{◌≡◌, ◌<◌, ◌↔◌, ◌⊎◌, [], length, Some, IfOk, IsErr, IsOkAnd, IsTrue, false, Contains};
 ghost use Rattle.std.specs.Io.{ReadsAtMost, WritesAtMost};
 ghost use Rattle.std.specs.Io.KnownBytes.{ReadConsumes, WriteAppends};
 ghost use Rattle.usb_session.specs.Causes.{CountsFaults};
@@ -19,6 +19,7 @@ pub struct MemSource {
     calls: u64,
     fail_at: Vec<u64>,
     faults: u64,
+    has_ended: bool,
 }
 
 impl Model for MemSource {
@@ -27,7 +28,7 @@ impl Model for MemSource {
 
     ghost Value = { Input };
 
-    ghost view = { λ s. record { rest = drop s.at s.bytes.items; calls = s.calls; fail_at = s.fail_at.items; faults = s.faults } };
+    ghost view = { λ s. record { rest = drop s.at s.bytes.items; calls = s.calls; fail_at = s.fail_at.items; faults = s.faults; has_ended = s.has_ended } };
 
     ghost invariant = { λ s. s.at ≤ vec_len s.bytes };
 }
@@ -39,6 +40,7 @@ impl MemSource {
           calls = 0;
           fail_at = fail_at.items;
           faults = 0;
+          has_ended = false;
         } }
     {
         MemSource {
@@ -47,6 +49,7 @@ impl MemSource {
             calls: 0,
             fail_at,
             faults: 0,
+            has_ended: false,
         }
     }
 }
@@ -58,12 +61,17 @@ impl Source for MemSource {
 
     ghost has_failed = { λ s. Contains s.fail_at s.calls };
 
+    ghost has_ended = { λ s. IsTrue s.has_ended };
+
     // It fails exactly at the calls that were named.
     fn read(&mut self, buf: &mut [u8]) -> Result<usize, Failed>
+        requires { ¬ (IsTrue self.old.has_ended) }
         ensures bound { ReadsAtMost result buf.new }
         ensures bytes { ReadConsumes (Some self.old.rest) (Some self.new.rest) result buf.new }
         ensures cause { CountsFaults self.old.faults self.new.faults result }
         ensures last { IsErr result ↔ Contains self.new.fail_at self.new.calls }
+        ensures ended { IsTrue self.new.has_ended ↔ IsOkAnd result
+            (λ n. (n ≡ 0) × (0 < length buf.new)) }
         ensures calls { self.new.calls ≡ next_call self.old.calls }
         ensures schedule { self.new.fail_at ≡ self.old.fail_at }
     {
@@ -76,6 +84,7 @@ impl Source for MemSource {
         let len = rest.len().min(buf.len());
         buf[..len].copy_from_slice(&rest[..len]);
         self.at += len;
+        self.has_ended = len == 0 && !buf.is_empty();
         Ok(len)
     }
 }
@@ -88,6 +97,7 @@ pub struct MemSink {
     calls: u64,
     fail_at: Vec<u64>,
     faults: u64,
+    has_failed: bool,
 }
 
 impl Model for MemSink {
@@ -96,7 +106,7 @@ impl Model for MemSink {
 
     ghost Value = { Output };
 
-    ghost view = { λ s. record { bytes = s.bytes.items; room = s.room; calls = s.calls; fail_at = s.fail_at.items; faults = s.faults } };
+    ghost view = { λ s. record { bytes = s.bytes.items; room = s.room; calls = s.calls; fail_at = s.fail_at.items; faults = s.faults; has_failed = s.has_failed } };
 
     ghost invariant = { λ s. (vec_len s.bytes ≤ s.room) × (s.room ≤ vec_capacity s.bytes) };
 }
@@ -109,6 +119,7 @@ impl MemSink {
           calls = 0;
           fail_at = fail_at.items;
           faults = 0;
+          has_failed = false;
         }) }
     {
         let Ok(bytes) = Vec::with_capacity(alloc, room) else {
@@ -120,6 +131,7 @@ impl MemSink {
             calls: 0,
             fail_at,
             faults: 0,
+            has_failed: false,
         })
     }
 
@@ -135,12 +147,15 @@ impl Sink for MemSink {
 
     ghost faults = { λ s. s.faults };
 
+    ghost has_failed = { λ s. IsTrue s.has_failed };
+
     // It fails exactly at the calls that were named, and where the room is used up.
     fn write(&mut self, bytes: &[u8]) -> Result<usize, Failed>
         ensures bound { WritesAtMost result bytes.now }
         ensures some { 0 < length bytes.now → IfOk result (λ n. 0 < n) }
         ensures bytes { WriteAppends (Some self.old.bytes) (Some self.new.bytes) result bytes.now }
         ensures cause { CountsFaults self.old.faults self.new.faults result }
+        ensures last { IsErr result ↔ IsTrue self.new.has_failed }
         ensures calls { self.new.calls ≡ next_call self.old.calls }
         ensures schedule { (self.new.fail_at ≡ self.old.fail_at) × (self.new.room ≡ self.old.room) }
         ensures fails { IsErr result ↔ (Contains self.old.fail_at self.new.calls ⊎
@@ -149,7 +164,8 @@ impl Sink for MemSink {
         self.calls = self.calls.saturating_add(1);
         let free = self.room - self.bytes.len();
         let is_full = free == 0 && !bytes.is_empty();
-        if is_full || self.fail_at.contains(&self.calls) {
+        self.has_failed = is_full || self.fail_at.contains(&self.calls);
+        if self.has_failed {
             self.faults = self.faults.saturating_add(1);
             return Err(Failed);
         }

@@ -1,6 +1,6 @@
 //! Where a script comes from, and where its answers go.
 
-ghost use Rattle.std.specs.Prelude.{ℕ, List, ◌<◌, ◌↔◌, length, IfOk, OnOk, IsErr};
+ghost use Rattle.std.specs.Prelude.{ℕ, List, ◌≡◌, ◌<◌, ◌↔◌, length, IfOk, OnOk, IsErr, IsOkAnd, Some, codes};
 ghost use Rattle.std.specs.declared.option.Option.{Option};
 ghost use Rattle.std.specs.Io.{ReadsAtMost, WritesAtMost};
 ghost use Rattle.std.specs.Io.KnownBytes.{Keeps, ReadConsumes, WriteAppends};
@@ -14,6 +14,8 @@ use std::fmt;
 pub struct Failed;
 
 impl fmt::Display for Failed {
+    ghost output = { λ _. Some (codes "failed") };
+
     fn fmt<W: fmt::Write>(&self, f: &mut fmt::Formatter<W>) -> fmt::Result {
         f.write_str("failed")
     }
@@ -32,11 +34,18 @@ pub trait Source {
     // A statement: the last read failed.
     ghost has_failed: { Self → Type 0 };
 
+    // A statement: the last read had room, and found the end.
+    ghost has_ended: { Self → Type 0 };
+
+    // Behind the end nothing may be read.
     fn read(&mut self, buf: &mut [u8]) -> Result<usize, Failed>
+        requires { ¬ (has_ended self.old) }
         ensures bound { ReadsAtMost result buf.new }
         ensures bytes { ReadConsumes (left self.old) (left self.new) result buf.new }
         ensures cause { CountsFaults (faults self.old) (faults self.new) result }
-        ensures last { IsErr result ↔ has_failed self.new };
+        ensures last { IsErr result ↔ has_failed self.new }
+        ensures ended { has_ended self.new ↔ IsOkAnd result
+            (λ n. (n ≡ 0) × (0 < length buf.new)) };
 }
 
 /// Where bytes go.
@@ -47,11 +56,15 @@ pub trait Sink {
     // How many writes failed.
     ghost faults: { Self → ℕ };
 
+    // A statement: the last call failed.
+    ghost has_failed: { Self → Type 0 };
+
     fn write(&mut self, bytes: &[u8]) -> Result<usize, Failed>
         ensures bound { WritesAtMost result bytes.now }
         ensures some { 0 < length bytes.now → IfOk result (λ n. 0 < n) }
         ensures bytes { WriteAppends (written self.old) (written self.new) result bytes.now }
-        ensures cause { CountsFaults (faults self.old) (faults self.new) result };
+        ensures cause { CountsFaults (faults self.old) (faults self.new) result }
+        ensures last { IsErr result ↔ has_failed self.new };
 }
 
 /// A sink that may hold bytes that it took, until it is told to hand them on.
@@ -63,5 +76,6 @@ pub trait Gathers: Sink {
     fn hand_on(&mut self) -> Result<(), Failed>
         ensures done { OnOk result (is_handed_on self.new) }
         ensures bytes { Keeps (Self.written self.old) (Self.written self.new) }
-        ensures cause { CountsFaults (Self.faults self.old) (Self.faults self.new) result };
+        ensures cause { CountsFaults (Self.faults self.old) (Self.faults self.new) result }
+        ensures last { IsErr result ↔ Self.has_failed self.new };
 }

@@ -1,10 +1,10 @@
 //! The program.
 
-ghost use Rattle.std.specs.Prelude.{ℕ, List, IsOk, ◌≡◌, ◌≢◌, ◌⊎◌, ◌↔◌, ◌≤◌, ◌++◌, true, false, Some, map, string_bytes, decimal, IfSome, OnOk, OnErr};
+ghost use Rattle.std.specs.Prelude.{ℕ, List, IsOk, ◌≡◌, ◌≢◌, ◌⊎◌, ◌↔◌, ◌≤◌, ◌++◌, true, false, Some, None, map, string_bytes, decimal, IfSome, OnOk, OnErr};
 ghost use Rattle.std.specs.Io.KnownBytes.{Appends, Keeps};
 ghost use Rattle.usb_session.specs.Causes.{RoseByOne, CountsFaults, WrotePrefix, FailedLast, TookAtMost};
 ghost use Rattle.usb_parse.specs.Parse.{script_of};
-ghost use Rattle.usb_session.specs.Session.{streams, IsAnswered, HasReason, IsSmooth, IsQuiet};
+ghost use Rattle.usb_session.specs.Session.{streams, IsAnswered, HasReason, IsSmooth, IsQuiet, GaveTooMany};
 ghost use Rattle.usb_answers.specs.declared.summary.Summary.{Summary};
 ghost use Rattle.usb_session.specs.Live.{live_count, live_line};
 ghost use Rattle.usb_session.specs.Generate.{generate_count, generate_line};
@@ -166,6 +166,9 @@ pub fn end_program<K: Gathers, D: Sink>(status: u8, sink: &mut K, diag: &mut D) 
         (result ≡ 6) × RoseByOne (K.faults sink.old) (K.faults sink.new) }
     ensures line { status ≡ 0 → result ≢ 0 → Reports (D.written diag.old) (D.written diag.new)
         (D.faults diag.old) (D.faults diag.new) (error_line SessionError.WriteFault) }
+    // Whatever the status: nothing is held any more, or handing on failed.
+    ensures tried { K.is_handed_on sink.new
+        ⊎ FailedLast (K.faults sink.old) (K.faults sink.new) (K.has_failed sink.new) }
     ensures bytes { Keeps (K.written sink.old) (K.written sink.new) }
 {
     let handed_on = sink.hand_on();
@@ -173,6 +176,101 @@ pub fn end_program<K: Gathers, D: Sink>(status: u8, sink: &mut K, diag: &mut D) 
         return status;
     }
     let answer: Result<Summary, SessionError> = Err(SessionError::WriteFault);
+    report(diag, &answer);
+    status_of(&answer)
+}
+
+/// Answers words that ask for no transfers between threads, and says the status. What it may do is as its type says: it starts no
+/// thread, waits for none, asks no gate and sets no flag.
+fn answer_words<S: Source, K: Sink, D: Sink>(
+    alloc: Global,
+    words: &[String],
+    source: &mut S,
+    sink: &mut K,
+    diag: &mut D,
+) -> u8
+    requires goes_on { ¬ (S.has_ended source.old) }
+    requires no_transfers { live_count (map string_bytes words.now) ≡ None }
+    ensures usage { result ≡ 2 ↔ (is_usage (map string_bytes words.now) ≡ true) }
+    ensures usage_line { result ≡ 2 → Reports (D.written diag.old) (D.written diag.new)
+        (D.faults diag.old) (D.faults diag.new) usage_line }
+    // Nothing is read where no session is asked for, and nothing is written where the usage line is due.
+    ensures unread { is_session (map string_bytes words.now) ≡ false →
+        source.new ≡ source.old }
+    ensures unwritten { is_usage (map string_bytes words.now) ≡ true → sink.new ≡ sink.old }
+    ensures session { is_session (map string_bytes words.now) ≡ true → RunsSession
+        (streams S.left S.faults K.written K.faults source.old source.new sink.old sink.new)
+        (D.written diag.old) (D.written diag.new) (D.faults diag.old) (D.faults diag.new) result }
+    ensures generate { (n : ℕ) → generate_count (map string_bytes words.now) ≡ Some n →
+        RunsLine (generate_line n) (K.written sink.old) (K.written sink.new)
+        (K.faults sink.old) (K.faults sink.new) (D.written diag.old) (D.written diag.new)
+        (D.faults diag.old) (D.faults diag.new) result }
+    // Of a session: where the status is 0, the whole output was written.
+    ensures done { is_session (map string_bytes words.now) ≡ true → result ≡ 0 →
+        (summary : Summary) × IsAnswered
+        (streams S.left S.faults K.written K.faults source.old source.new sink.old sink.new)
+        summary }
+    ensures malformed { result ≡ 3 → (line : ℕ) × HasReason
+        (streams S.left S.faults K.written K.faults source.old source.new sink.old sink.new)
+        (SessionError.Malformed line) }
+    ensures too_long { result ≡ 4 → HasReason
+        (streams S.left S.faults K.written K.faults source.old source.new sink.old sink.new)
+        SessionError.TooLong }
+    ensures read_fault { result ≡ 5 → HasReason
+        (streams S.left S.faults K.written K.faults source.old source.new sink.old sink.new)
+        SessionError.ReadFault }
+    ensures write_fault { is_session (map string_bytes words.now) ≡ true → result ≡ 6 →
+        HasReason
+        (streams S.left S.faults K.written K.faults source.old source.new sink.old sink.new)
+        SessionError.WriteFault }
+    ensures memory { is_session (map string_bytes words.now) ≡ true → result ≡ 7 →
+        HasReason
+        (streams S.left S.faults K.written K.faults source.old source.new sink.old sink.new)
+        SessionError.Memory }
+    // Where nothing fails, the status is what the script's bytes parse to, or want of memory.
+    ensures exact { is_session (map string_bytes words.now) ≡ true →
+        (bytes : List ℕ) → IsQuiet
+        (streams S.left S.faults K.written K.faults source.old source.new sink.old sink.new) bytes →
+        (result ≡ 7) ⊎ (result ≡ status_of (script_of bytes)) }
+    // The source has ended exactly where the whole script was read (but for want of memory), and then the status is what its bytes
+    // parse to, or that of a write fault.
+    ensures ended { is_session (map string_bytes words.now) ≡ true →
+        (result ≡ 0) ⊎ (result ≡ 3) ⊎ (result ≡ 6) → S.has_ended source.new }
+    ensures goes_on { (result ≡ 4) ⊎ (result ≡ 5) → ¬ (S.has_ended source.new) }
+    ensures parsed { is_session (map string_bytes words.now) ≡ true →
+        S.has_ended source.new → (bytes : List ℕ) → S.left source.old ≡ Some bytes →
+        (result ≡ status_of (script_of bytes)) ⊎ (result ≡ 6) ⊎ (result ≡ 7) }
+    // The byte past the longest script is taken only where the script is too long, or memory was lacking.
+    ensures too_many { is_session (map string_bytes words.now) ≡ true → GaveTooMany
+        (streams S.left S.faults K.written K.faults source.old source.new sink.old sink.new) →
+        (result ≡ 4) ⊎ (result ≡ 7) }
+    // After a read that failed nothing more is read, and never more than one byte past the longest script.
+    ensures stops { result ≡ 5 →
+        FailedLast (S.faults source.old) (S.faults source.new) (S.has_failed source.new) }
+    ensures most { TookAtMost 1048577 (S.left source.old) (S.left source.new) }
+    // One write failed where the status is 6, and none where it is 0; then nothing is reported.
+    ensures once { result ≡ 6 → RoseByOne (K.faults sink.old) (K.faults sink.new) }
+    ensures quiet { result ≡ 0 → K.faults sink.new ≡ K.faults sink.old }
+    // After a write that failed nothing more is offered to the sink.
+    ensures stops_writing { result ≡ 6 →
+        FailedLast (K.faults sink.old) (K.faults sink.new) (K.has_failed sink.new) }
+    ensures untold { result ≡ 0 → diag.new ≡ diag.old }
+    // A valid script, whose source tells its bytes, is answered where no read or write fails, unless memory runs out.
+    ensures complete { is_session (map string_bytes words.now) ≡ true →
+        IsSmooth
+        (streams S.left S.faults K.written K.faults source.old source.new sink.old sink.new)
+        → (result ≡ 0) ⊎ (result ≡ 7) }
+{
+    if is_session(words) {
+        let answer = run_session(alloc, source, sink);
+        report(diag, &answer);
+        return status_of(&answer);
+    }
+    let Some(n) = generate_count(words) else {
+        report_usage(diag);
+        return USAGE;
+    };
+    let answer = generate(alloc, n, sink);
     report(diag, &answer);
     status_of(&answer)
 }
@@ -190,6 +288,7 @@ pub fn run_program<R: Threads + Wait + Sync, S: Source, K: Sink, D: Sink, G: Gat
     gate: G,
     seen: &Seen,
 ) -> u8
+    requires { ¬ (S.has_ended source.old) }
     ensures usage { result ≡ 2 ↔ (is_usage (map string_bytes words.now.items) ≡ true) }
     ensures usage_line { result ≡ 2 → Reports (D.written diag.old) (D.written diag.new)
         (D.faults diag.old) (D.faults diag.new) usage_line }
@@ -235,6 +334,18 @@ pub fn run_program<R: Threads + Wait + Sync, S: Source, K: Sink, D: Sink, G: Gat
         (bytes : List ℕ) → IsQuiet
         (streams S.left S.faults K.written K.faults source.old source.new sink.old sink.new) bytes →
         (result ≡ 7) ⊎ (result ≡ status_of (script_of bytes)) }
+    // The source has ended exactly where the whole script was read (but for want of memory), and then the status is what its bytes
+    // parse to, or that of a write fault.
+    ensures ended { is_session (map string_bytes words.now.items) ≡ true →
+        (result ≡ 0) ⊎ (result ≡ 3) ⊎ (result ≡ 6) → S.has_ended source.new }
+    ensures goes_on { (result ≡ 4) ⊎ (result ≡ 5) → ¬ (S.has_ended source.new) }
+    ensures parsed { is_session (map string_bytes words.now.items) ≡ true →
+        S.has_ended source.new → (bytes : List ℕ) → S.left source.old ≡ Some bytes →
+        (result ≡ status_of (script_of bytes)) ⊎ (result ≡ 6) ⊎ (result ≡ 7) }
+    // The byte past the longest script is taken only where the script is too long, or memory was lacking.
+    ensures too_many { is_session (map string_bytes words.now.items) ≡ true → GaveTooMany
+        (streams S.left S.faults K.written K.faults source.old source.new sink.old sink.new) →
+        (result ≡ 4) ⊎ (result ≡ 7) }
     // After a read that failed nothing more is read, and never more than one byte past the longest script.
     ensures stops { result ≡ 5 →
         FailedLast (S.faults source.old) (S.faults source.new) (S.has_failed source.new) }
@@ -242,6 +353,9 @@ pub fn run_program<R: Threads + Wait + Sync, S: Source, K: Sink, D: Sink, G: Gat
     // One write failed where the status is 6, and none where it is 0; then nothing is reported.
     ensures once { result ≡ 6 → RoseByOne (K.faults sink.old) (K.faults sink.new) }
     ensures quiet { result ≡ 0 → K.faults sink.new ≡ K.faults sink.old }
+    // After a write that failed nothing more is offered to the sink.
+    ensures stops_writing { result ≡ 6 →
+        FailedLast (K.faults sink.old) (K.faults sink.new) (K.has_failed sink.new) }
     ensures untold { result ≡ 0 → diag.new ≡ diag.old }
     // A valid script, whose source tells its bytes, is answered where no read or write fails, unless memory runs out.
     ensures complete { is_session (map string_bytes words.now.items) ≡ true →
@@ -249,19 +363,9 @@ pub fn run_program<R: Threads + Wait + Sync, S: Source, K: Sink, D: Sink, G: Gat
         (streams S.left S.faults K.written K.faults source.old source.new sink.old sink.new)
         → (result ≡ 0) ⊎ (result ≡ 7) }
 {
-    if is_session(words.as_slice()) {
-        let answer = run_session(alloc, source, sink);
-        report(diag, &answer);
-        return status_of(&answer);
-    }
-    if let Some(n) = generate_count(words.as_slice()) {
-        let answer = generate(alloc, n, sink);
-        report(diag, &answer);
-        return status_of(&answer);
-    }
-    let Some(n) = live_count(words.as_slice()) else {
-        report_usage(diag);
-        return USAGE;
+    let words = words.as_slice();
+    let Some(n) = live_count(words) else {
+        return answer_words(alloc, words, source, sink, diag);
     };
     let answer = live(rt, alloc, n, sink, gate, seen);
     report(diag, &answer);

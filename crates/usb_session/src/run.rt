@@ -1,6 +1,6 @@
 //! A whole session.
 
-ghost use Rattle.std.specs.Prelude.{◌≡◌, ◌≤◌, ◌<◌, ◌+◌, ℕ, List, length, IfOk, IfErr, OnOk, OnErr, IsErrOf};
+ghost use Rattle.std.specs.Prelude.{◌≡◌, ◌⊎◌, ◌≤◌, ◌<◌, ◌+◌, ℕ, List, length, IfOk, IfErr, OnOk, OnErr, IsErrOf};
 ghost use Rattle.std.specs.List.{All, count_by};
 ghost use Rattle.std.specs.Io.KnownBytes.{Appends};
 ghost use Rattle.usb_script.specs.declared.item.Item.{Item};
@@ -12,14 +12,18 @@ ghost use Rattle.usb_answers.specs.Fates.{fate_lines};
 ghost use Rattle.usb_answers.specs.Output.{output, start, final_host};
 ghost use Rattle.usb_answers.specs.Sums.{counts_of, sum_of};
 ghost use Rattle.usb_answers.specs.Served.{IsCounted, EndpointsAreServed};
+ghost use Rattle.usb_answers.specs.Printed.{CompletionsArePrinted};
+ghost use Rattle.usb_answers.specs.ControlsServed.{ControlsAreServed};
 ghost use Rattle.usb_answers.specs.FinalFates.{HasFinalFates};
+ghost use Rattle.usb_answers.specs.Places.{PollsAnswer};
 ghost use Rattle.usb_answers.specs.Framed.{FramedReadersFollow};
+ghost use Rattle.usb_answers.specs.Handed.{BytesAreHandedOver};
 ghost use Rattle.usb_answers.specs.WrittenScripts.{WritersAreTold};
 ghost use Rattle.usb_answers.specs.Relation.{Represents};
-ghost use Rattle.usb_session.specs.Exchanges.{MessagesAlwaysArrive};
+ghost use Rattle.usb_session.specs.Exchanges.{MessagesAlwaysArrive, MessagesKeepArriving};
 ghost use Rattle.usb_session.specs.Running.{AllAnswered};
-ghost use Rattle.usb_session.specs.Causes.{Rose, RoseByOne, Wrote, WrotePrefix, FailedLast, TookAtMost, IsWritingError};
-ghost use Rattle.usb_session.specs.Session.{streams, IsAnswered, HasReason, FaultsNeverFall, IsSmooth, IsQuiet, IsExact};
+ghost use Rattle.usb_session.specs.Causes.{Rose, RoseByOne, Wrote, WrotePrefix, FailedLast, TookAtMost, EndsReading, IsWritingError};
+ghost use Rattle.usb_session.specs.Session.{streams, IsAnswered, HasReason, FaultsNeverFall, IsSmooth, IsQuiet, IsExact, GaveTooMany, AnswersBytes};
 
 use crate::outside::{Failed, Sink, Source};
 use crate::reading::read_script;
@@ -34,7 +38,8 @@ fn write_piece<K: Sink>(sink: &mut K, bytes: &[u8]) -> Result<(), SessionError>
     ensures ok { OnOk result (Appends (K.written sink.old) (K.written sink.new) bytes.now) }
     ensures err { OnErr result (WrotePrefix (K.written sink.old) (K.written sink.new) bytes.now) }
     ensures cause { OnErr result (Rose (K.faults sink.old) (K.faults sink.new)) }
-    ensures once { OnErr result (RoseByOne (K.faults sink.old) (K.faults sink.new)) }
+    ensures stops { OnErr result
+        (FailedLast (K.faults sink.old) (K.faults sink.new) (K.has_failed sink.new)) }
     ensures quiet { OnOk result (K.faults sink.new ≡ K.faults sink.old) }
     ensures only { IfErr result (λ e. e ≡ SessionError.WriteFault) }
     ensures later { K.faults sink.old ≤ K.faults sink.new }
@@ -54,8 +59,8 @@ fn write_fates<K: Sink>(line: &mut String, host: &Host, sink: &mut K) -> Result<
         (WrotePrefix (K.written sink.old) (K.written sink.new) (fate_lines host.now)) }
     ensures cause { IsErrOf result SessionError.WriteFault →
         Rose (K.faults sink.old) (K.faults sink.new) }
-    ensures once { IsErrOf result SessionError.WriteFault →
-        RoseByOne (K.faults sink.old) (K.faults sink.new) }
+    ensures stops { IsErrOf result SessionError.WriteFault →
+        FailedLast (K.faults sink.old) (K.faults sink.new) (K.has_failed sink.new) }
     ensures quiet { OnOk result (K.faults sink.new ≡ K.faults sink.old) }
     ensures only { IfErr result IsWritingError }
     ensures later { K.faults sink.old ≤ K.faults sink.new }
@@ -88,8 +93,8 @@ fn answer_each<K: Sink>(
         (WrotePrefix (K.written sink.old) (K.written sink.new) (output items.items)) }
     ensures cause { IsErrOf result SessionError.WriteFault →
         Rose (K.faults sink.old) (K.faults sink.new) }
-    ensures once { IsErrOf result SessionError.WriteFault →
-        RoseByOne (K.faults sink.old) (K.faults sink.new) }
+    ensures stops { IsErrOf result SessionError.WriteFault →
+        FailedLast (K.faults sink.old) (K.faults sink.new) (K.has_failed sink.new) }
     ensures quiet { OnOk result (K.faults sink.new ≡ K.faults sink.old) }
     ensures only { IfErr result IsWritingError }
     ensures later { K.faults sink.old ≤ K.faults sink.new }
@@ -129,8 +134,8 @@ fn run_items<K: Sink>(
         (WrotePrefix (K.written sink.old) (K.written sink.new) (output items.items)) }
     ensures cause { IsErrOf result SessionError.WriteFault →
         Rose (K.faults sink.old) (K.faults sink.new) }
-    ensures once { IsErrOf result SessionError.WriteFault →
-        RoseByOne (K.faults sink.old) (K.faults sink.new) }
+    ensures stops { IsErrOf result SessionError.WriteFault →
+        FailedLast (K.faults sink.old) (K.faults sink.new) (K.has_failed sink.new) }
     ensures quiet { OnOk result (K.faults sink.new ≡ K.faults sink.old) }
     ensures only { IfErr result IsWritingError }
     ensures later { K.faults sink.old ≤ K.faults sink.new }
@@ -162,8 +167,8 @@ fn write_summary<K: Sink>(
         (WrotePrefix (K.written sink.old) (K.written sink.new) (fate_lines host.now)) }
     ensures cause { IsErrOf result SessionError.WriteFault →
         Rose (K.faults sink.old) (K.faults sink.new) }
-    ensures once { IsErrOf result SessionError.WriteFault →
-        RoseByOne (K.faults sink.old) (K.faults sink.new) }
+    ensures stops { IsErrOf result SessionError.WriteFault →
+        FailedLast (K.faults sink.old) (K.faults sink.new) (K.has_failed sink.new) }
     ensures quiet { OnOk result (K.faults sink.new ≡ K.faults sink.old) }
     ensures only { IfErr result IsWritingError }
     ensures later { K.faults sink.old ≤ K.faults sink.new }
@@ -189,16 +194,21 @@ fn answer_items<K: Sink>(
     ensures keeps_nothing { IfOk result (λ _. KeepsNothing (final_host items.items)) }
     ensures counted { IfOk result (λ _. IsCounted items.items) }
     ensures served { IfOk result (λ _. EndpointsAreServed items.items) }
+    ensures printed { IfOk result (λ _. CompletionsArePrinted items.items) }
+    ensures controls { IfOk result (λ _. ControlsAreServed items.items) }
     ensures fates { IfOk result (λ _. HasFinalFates items.items) }
+    ensures polled { IfOk result (λ _. PollsAnswer items.items) }
     ensures framed { IfOk result (λ _. FramedReadersFollow items.items) }
+    ensures handed { IfOk result (λ _. BytesAreHandedOver items.items) }
     ensures told { IfOk result (λ _. WritersAreTold items.items) }
     ensures exchanged { IfOk result (λ _. MessagesAlwaysArrive items.items) }
+    ensures keeps_arriving { IfOk result (λ _. MessagesKeepArriving items.items) }
     ensures err { OnErr result
         (WrotePrefix (K.written sink.old) (K.written sink.new) (output items.items)) }
     ensures cause { IsErrOf result SessionError.WriteFault →
         Rose (K.faults sink.old) (K.faults sink.new) }
-    ensures once { IsErrOf result SessionError.WriteFault →
-        RoseByOne (K.faults sink.old) (K.faults sink.new) }
+    ensures stops { IsErrOf result SessionError.WriteFault →
+        FailedLast (K.faults sink.old) (K.faults sink.new) (K.has_failed sink.new) }
     ensures quiet { OnOk result (K.faults sink.new ≡ K.faults sink.old) }
     ensures only { IfErr result IsWritingError }
     ensures later { K.faults sink.old ≤ K.faults sink.new }
@@ -216,6 +226,7 @@ fn answer_source<S: Source, K: Sink>(
     source: &mut S,
     sink: &mut K,
 ) -> Result<Summary, SessionError>
+    requires { ¬ (S.has_ended source.old) }
     ensures ok { IfOk result (IsAnswered
         (streams S.left S.faults K.written K.faults source.old source.new sink.old sink.new)) }
     ensures err { IfErr result (HasReason
@@ -224,9 +235,12 @@ fn answer_source<S: Source, K: Sink>(
         (streams S.left S.faults K.written K.faults source.old source.new sink.old sink.new) }
     ensures stops { IsErrOf result SessionError.ReadFault →
         FailedLast (S.faults source.old) (S.faults source.new) (S.has_failed source.new) }
+    ensures ends { EndsReading (S.has_ended source.new) result }
     ensures most { TookAtMost 1048577 (S.left source.old) (S.left source.new) }
-    ensures once { IsErrOf result SessionError.WriteFault →
-        RoseByOne (K.faults sink.old) (K.faults sink.new) }
+    ensures spares { IsErrOf result SessionError.ReadFault →
+        TookAtMost 1048576 (S.left source.old) (S.left source.new) }
+    ensures stops_writing { IsErrOf result SessionError.WriteFault →
+        FailedLast (K.faults sink.old) (K.faults sink.new) (K.has_failed sink.new) }
     ensures quiet { OnOk result (K.faults sink.new ≡ K.faults sink.old) }
 {
     let bytes = read_script(alloc, source)?;
@@ -247,6 +261,7 @@ pub fn run_session<S: Source, K: Sink>(
     source: &mut S,
     sink: &mut K,
 ) -> Result<Summary, SessionError>
+    requires { ¬ (S.has_ended source.old) }
     ensures ok { IfOk result (IsAnswered
         (streams S.left S.faults K.written K.faults source.old source.new sink.old sink.new)) }
     ensures err { IfErr result (HasReason
@@ -263,6 +278,15 @@ pub fn run_session<S: Source, K: Sink>(
     ensures exact { (bytes : List ℕ) → IsQuiet
         (streams S.left S.faults K.written K.faults source.old source.new sink.old sink.new) bytes →
         IsExact bytes result }
+    // The source has ended exactly where the whole script was read (but for want of memory), and then the answer is what its bytes
+    // parse to, or a write fault of a script that parses.
+    ensures reads_on { EndsReading (S.has_ended source.new) result }
+    ensures parsed { S.has_ended source.new → (bytes : List ℕ) → S.left source.old ≡ Some bytes →
+        AnswersBytes bytes result }
+    // The byte past the longest script is taken only where the script is too long, or memory was lacking.
+    ensures too_many { GaveTooMany
+        (streams S.left S.faults K.written K.faults source.old source.new sink.old sink.new) →
+        (result ≡ Err SessionError.TooLong) ⊎ (result ≡ Err SessionError.Memory) }
     // After a read that failed nothing more is read, and never more than one byte past the longest script.
     ensures stops { IsErrOf result SessionError.ReadFault →
         FailedLast (S.faults source.old) (S.faults source.new) (S.has_failed source.new) }
@@ -270,6 +294,9 @@ pub fn run_session<S: Source, K: Sink>(
     // One write failed where the answer says that writing did, and none where it is Ok.
     ensures once { IsErrOf result SessionError.WriteFault →
         RoseByOne (K.faults sink.old) (K.faults sink.new) }
+    // After a write that failed nothing more is offered to the sink.
+    ensures stops_writing { IsErrOf result SessionError.WriteFault →
+        FailedLast (K.faults sink.old) (K.faults sink.new) (K.has_failed sink.new) }
     ensures quiet { OnOk result (K.faults sink.new ≡ K.faults sink.old) }
 {
     answer_source(alloc, source, sink)

@@ -1,6 +1,6 @@
 //! A source and a sink that never fail.
 
-ghost use Rattle.std.specs.Prelude.{◌≡◌, ◌<◌, ◌↔◌, [], length, Some, None, IfOk, IsOk, IsErr, min, vec_len};
+ghost use Rattle.std.specs.Prelude.{◌≡◌, ◌<◌, ◌↔◌, [], length, Some, None, IfOk, IsOk, IsErr, IsOkAnd, IsTrue, false, min, vec_len};
 ghost use Rattle.std.specs.Io.{ReadsAtMost, WritesAtMost};
 ghost use Rattle.std.specs.Io.KnownBytes.{ReadConsumes, WriteAppends};
 ghost use Rattle.usb_session.specs.Causes.{CountsFaults};
@@ -13,14 +13,16 @@ use std::marker::Model;
 pub struct SureSource {
     bytes: Vec<u8>,
     at: usize,
+    has_ended: bool,
 }
 
 impl Model for SureSource {
-    ghost use Rattle.std.specs.Prelude.{List, ℕ, drop, ◌≤◌, vec_len};
+    ghost use Rattle.std.specs.Prelude.{drop, ◌≤◌, vec_len};
+    ghost use Rattle.usb_session.specs.Memory.{SureInput};
 
-    ghost Value = { List ℕ };
+    ghost Value = { SureInput };
 
-    ghost view = { λ s. drop s.at s.bytes.items };
+    ghost view = { λ s. record { rest = drop s.at s.bytes.items; has_ended = s.has_ended } };
 
     ghost invariant = { λ s. s.at ≤ vec_len s.bytes };
 }
@@ -28,30 +30,40 @@ impl Model for SureSource {
 impl SureSource {
     /// A source of these bytes.
     pub fn new(bytes: Vec<u8>) -> SureSource
-        ensures rest { result ≡ bytes.items }
+        ensures fresh { result ≡ record { rest = bytes.items; has_ended = false } }
     {
-        SureSource { bytes, at: 0 }
+        SureSource {
+            bytes,
+            at: 0,
+            has_ended: false,
+        }
     }
 }
 
 impl Source for SureSource {
-    ghost left = { λ s. Some s };
+    ghost left = { λ s. Some s.rest };
 
     ghost faults = { λ s. 0 };
 
     ghost has_failed = { λ s. ⊥ };
 
+    ghost has_ended = { λ s. IsTrue s.has_ended };
+
     fn read(&mut self, buf: &mut [u8]) -> Result<usize, Failed>
+        requires { ¬ (IsTrue self.old.has_ended) }
         ensures bound { ReadsAtMost result buf.new }
-        ensures bytes { ReadConsumes (Some self.old) (Some self.new) result buf.new }
+        ensures bytes { ReadConsumes (Some self.old.rest) (Some self.new.rest) result buf.new }
         ensures cause { CountsFaults 0 0 result }
         ensures last { IsErr result ↔ ⊥ }
+        ensures ended { IsTrue self.new.has_ended ↔ IsOkAnd result
+            (λ n. (n ≡ 0) × (0 < length buf.new)) }
         ensures ok { IsOk result }
     {
         let rest = &self.bytes[self.at..];
         let len = rest.len().min(buf.len());
         buf[..len].copy_from_slice(&rest[..len]);
         self.at += len;
+        self.has_ended = len == 0 && !buf.is_empty();
         Ok(len)
     }
 }
@@ -72,11 +84,14 @@ impl Sink for SureSink {
 
     ghost faults = { λ s. 0 };
 
+    ghost has_failed = { λ s. ⊥ };
+
     fn write(&mut self, bytes: &[u8]) -> Result<usize, Failed>
         ensures bound { WritesAtMost result bytes.now }
         ensures some { 0 < length bytes.now → IfOk result (λ n. 0 < n) }
         ensures bytes { WriteAppends None None result bytes.now }
         ensures cause { CountsFaults 0 0 result }
+        ensures last { IsErr result ↔ ⊥ }
         ensures whole { IfOk result (λ n. n ≡ length bytes.now) }
         ensures ok { IsOk result }
     {

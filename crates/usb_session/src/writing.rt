@@ -2,7 +2,7 @@
 
 ghost use Rattle.std.specs.Prelude.{◌≡◌, OnOk, OnErr};
 ghost use Rattle.std.specs.Io.KnownBytes.{Appends};
-ghost use Rattle.usb_session.specs.Causes.{CountsFaults, WrotePrefix, WrotePart};
+ghost use Rattle.usb_session.specs.Causes.{CountsFaults, FailedLast, WrotePrefix, WrotePart};
 
 use crate::outside::{Failed, Sink};
 
@@ -12,6 +12,9 @@ pub fn offer<K: Sink>(sink: &mut K, bytes: &[u8]) -> Result<(), Failed>
     ensures err { OnErr result (WrotePrefix (K.written sink.old) (K.written sink.new) bytes.now) }
     ensures part { OnErr result (WrotePart (K.written sink.old) (K.written sink.new) bytes.now) }
     ensures cause { CountsFaults (K.faults sink.old) (K.faults sink.new) result }
+    // After a write that failed nothing more is offered.
+    ensures stops { OnErr result
+        (FailedLast (K.faults sink.old) (K.faults sink.new) (K.has_failed sink.new)) }
 {
     let mut rest = bytes;
     while !rest.is_empty() {

@@ -11,7 +11,7 @@ use Rattle.usb_io.specs.Reads.{Reading, reading}
 use Rattle.usb_io.specs.Answers.{standing, CameToBytes, ReadTook, ReadFailed, IsReadError}
 use Rattle.usb_io.specs.declared.fault.ReadFault.{ReadFault}
 use Rattle.usb_io.specs.declared.fault.ReadFault.TheVariants.{Transfer, TimedOut, UnexpectedEof}
-use Rattle.usb_streams.specs.HostReads.{host_calls, answered, stop_answer, fill_came, read_of, read_came, FailedAs}
+use Rattle.usb_streams.specs.HostReads.{host_calls, answered, stop_answer, fill_came, read_of, read_came, FillFails, ReadFails}
 use Rattle.usb_streams.proofs.TurnsCome.{stand-came, stop-came, vain-came}
 
 -- the bytes that stand, where no error is to be told first
@@ -51,17 +51,17 @@ module _ (us : Bool) (timeout : ℕ) where
   fill-failed old new TimedOut h = vain-came us timeout old new h
   fill-failed old new UnexpectedEof h = stop-came us timeout old new h.1 ∙ ap (λ (a : Result (List ℕ) ReadFault). answered a new) (stop-end us h.0)
 
-  pub fill-error : (old new : Reading HostState) (e : Fail ReadFault) → IsReadError host_calls us timeout old new e → FailedAs (fill_came us timeout old) e new
+  pub fill-error : (old new : Reading HostState) (e : Fail ReadFault) → IsReadError host_calls us timeout old new e → FillFails us timeout old new e
   fill-error old new (Cause e) h = fill-failed old new e h
-  fill-error old new Memory h = tt
+  fill-error old new Memory h = h
 
   -- of a read
   pub read-failed : (most : ℕ) (old new : Reading HostState) (e : ReadFault) → ReadFailed host_calls us timeout old new e → read_came us timeout most old ≡ answered (Err e) new
   read-failed most old new e h = ap (read_of most) (fill-failed old new e h)
 
-  pub read-error : (most : ℕ) (old new : Reading HostState) (e : Fail ReadFault) → IsReadError host_calls us timeout old new e → FailedAs (read_came us timeout most old) e new
+  pub read-error : (most : ℕ) (old new : Reading HostState) (e : Fail ReadFault) → IsReadError host_calls us timeout old new e → ReadFails us timeout most old new e
   read-error most old new (Cause e) h = read-failed most old new e h
-  read-error most old new Memory h = tt
+  read-error most old new Memory h = h
 
   -- the bytes that a read handed over
   pub read-took : (old new : Reading HostState) (dest after : List ℕ) (n : ℕ) → ReadTook host_calls us timeout old new dest after n → read_came us timeout (length dest) old ≡ answered (Ok (take n after)) new

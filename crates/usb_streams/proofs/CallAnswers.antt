@@ -14,7 +14,7 @@ use Rattle.usb_io.specs.Answers.{ReadTook, ReadFailed, IsReadError}
 use Rattle.usb_io.specs.Lent.{Filled, PollFilled}
 use Rattle.usb_io.specs.declared.fault.ReadFault.{ReadFault}
 use Rattle.usb_io.specs.declared.fault.ReadFault.TheVariants.{TimedOut}
-use Rattle.usb_streams.specs.HostReads.{host_calls, answered, fill_came, read_came, FailedAs}
+use Rattle.usb_streams.specs.HostReads.{host_calls, answered, read_came, ReadFails}
 use Rattle.usb_streams.specs.Lent.{FilledAs, PollFilledAs}
 use Rattle.usb_streams.proofs.AnswersCome.{fill-bytes, fill-failed, fill-error, read-took, read-failed, read-error}
 use Rattle.usb_streams.proofs.LinesGoOn.{line-filled, line-filled_short, line-bytes, line-read, line-failed, line-error}
@@ -29,7 +29,7 @@ module _ (us : Bool) (timeout : ℕ) (old new : Reading HostState) (dest after :
   read-gives (Ok n) took = read-took us timeout old new dest after n took
   read-gives (Err e) took = tt
 
-  pub read-fails : (r : Count) → IfErr r (IsReadError host_calls us timeout old new) → IfErr r (λ e. FailedAs (read_came us timeout (length dest) old) e new)
+  pub read-fails : (r : Count) → IfErr r (IsReadError host_calls us timeout old new) → IfErr r (ReadFails us timeout (length dest) old new)
   read-fails (Ok n) failed = tt
   read-fails (Err e) failed = read-error us timeout (length dest) old new e failed
 
@@ -42,7 +42,7 @@ module _ (us : Bool) (timeout : ℕ) (old new : Reading HostState) (dest after :
   poll-gives (Ready r) took = read-gives r took
   poll-gives Pending took = tt
 
-  pub poll-fails : (p : Poll Count) → IfReady p (λ r. IfErr r (IsReadError host_calls us timeout old new)) → IfReady p (λ r. IfErr r (λ e. FailedAs (read_came us timeout (length dest) old) e new))
+  pub poll-fails : (p : Poll Count) → IfReady p (λ r. IfErr r (IsReadError host_calls us timeout old new)) → IfReady p (λ r. IfErr r (ReadFails us timeout (length dest) old new))
   poll-fails (Ready r) failed = read-fails r failed
   poll-fails Pending failed = tt
 
@@ -59,7 +59,7 @@ abbrev Lent : Type 0
 Lent = Result (Bor (List ℕ)) (Fail ReadFault)
 
 module _ (us : Bool) (timeout : ℕ) (old new : Reading HostState) where
-  pub fill-gives : (r : Lent) → Filled host_calls us timeout old new r → FilledAs (fill_came us timeout old) r new
+  pub fill-gives : (r : Lent) → Filled host_calls us timeout old new r → FilledAs us timeout old new r
   fill-gives (Ok s) filled = fill-bytes us timeout old new s.now filled
   fill-gives (Err e) filled = fill-error us timeout old new e filled
 
@@ -68,7 +68,7 @@ module _ (us : Bool) (timeout : ℕ) (old new : Reading HostState) where
   fill-line (Err e) filled = line-error us timeout old new e filled
 
 module _ (us : Bool) (old new : Reading HostState) where
-  pub poll_fill-gives : (p : Poll Lent) → PollFilled host_calls us old new p → PollFilledAs (fill_came us 0 old) p new
+  pub poll_fill-gives : (p : Poll Lent) → PollFilled host_calls us old new p → PollFilledAs us old new p
   poll_fill-gives (Ready r) filled = (fill-gives us 0 old new r filled.0, filled.1)
   poll_fill-gives Pending filled = fill-failed us 0 old new TimedOut filled
 

@@ -59,7 +59,7 @@ call-kept timeout first = record {
   submission = λ w so_far. call-trans first w (submit_one host_calls w) so_far (call-one w);
   end = λ w so_far. call-trans first w (ended_off w) so_far (call-off w);
   wait = λ w front others was so_far. call-trans first w (reading (host_waited w.bus front timeout).1 w.reader) so_far (call-waited w front timeout);
-  taking = λ w front others c was come so_far. call-trans first w (reading (host_taken w.bus front) (with_taken c others w.reader)) so_far (call-taken w front others c);
+  taking = λ w front others c was empty come so_far. call-trans first w (reading (host_taken w.bus front) (with_taken c others w.reader)) so_far (call-taken w front others c);
 }
 
 pub fill_goes_on : FillGoesOn
@@ -82,7 +82,7 @@ count-kept timeout = record {
   submission = λ w so_far. let one = entered-count w.bus w.reader.endpoint (fresh_buffer w.reader.size) in omega (arith, one.count, one.past, so_far);
   end = λ w so_far. so_far;
   wait = λ w front others was so_far. let same = waited-count w.bus front timeout in omega (arith, same.count, same.past, so_far);
-  taking = λ w front others c was come so_far. let same = taken-count w.bus front in omega (arith, same.count, same.past, so_far);
+  taking = λ w front others c was empty come so_far. let same = taken-count w.bus front in omega (arith, same.count, same.past, so_far);
 }
 
 pub fill-count : (us : Bool) (timeout : ℕ) (w : Reading HostState) → IsCounted w → IsCounted (fill_came us timeout w).left

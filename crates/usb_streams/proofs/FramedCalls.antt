@@ -33,7 +33,7 @@ use Rattle.usb_io.proofs.Following.{later_follows, submission_follows, taking_fo
 use Rattle.usb_io.proofs.FollowLemmas.{turns-ended}
 use Rattle.usb_streams.specs.Numbers.{numbers_from}
 use Rattle.usb_streams.specs.HostReads.{host_calls, Answered, stands_at, front_taken, after_wait, turn_at, turned_if, turned_on, handed_over, fill_came}
-use Rattle.usb_streams.specs.Framed.{ticket_count, given_by, GoesOnToFollow, FramedFillFollows, FramedReadFollows, FramedSubmissionsFollow, EmptyReadLeavesEnd}
+use Rattle.usb_streams.specs.Framed.{ticket_count, given_by, GoesOnToFollow, FramedFillFollows, FramedReadFollows, FramedSubmissionsFollow, EmptyReadLeavesEnd, EmptyFillLeavesEnd}
 use Rattle.usb_streams.proofs.FillKeeps.{Keeps, turned-keeps}
 
 -- the journal before a lawful one's last events is lawful
@@ -50,7 +50,7 @@ past-kept timeout past = record {
   submission = λ w so_far. extends-trans past w.bus.kernel.past (submit_one host_calls w).bus.kernel.past so_far (adds-entered w.bus w.reader.endpoint (fresh_buffer w.reader.size)).goes.past;
   end = λ w so_far. so_far;
   wait = λ w front others was so_far. extends-trans past w.bus.kernel.past (host_waited w.bus front timeout).1.kernel.past so_far (on-waited w.bus front timeout).past;
-  taking = λ w front others c was come so_far. subst (Extends past) (sym (taken-past w.bus front)) so_far;
+  taking = λ w front others c was empty come so_far. subst (Extends past) (sym (taken-past w.bus front)) so_far;
 }
 
 turned-extends : (n timeout : ℕ) (w : Reading HostState) → Extends w.bus.kernel.past (turned_on n true timeout w).left.bus.kernel.past
@@ -332,3 +332,6 @@ handed-end most (Ok bytes) v gives some is =
 pub empty_read_leaves_end : EmptyReadLeavesEnd
 empty_read_leaves_end timeout most w some is =
     let a = fill_came true timeout w in handed-end most a.answer a.left (fill-gives timeout w) some is
+
+pub empty_fill_leaves_end : EmptyFillLeavesEnd
+empty_fill_leaves_end timeout w is = (fill-gives timeout w [] is).end refl

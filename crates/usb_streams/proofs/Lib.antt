@@ -6,3 +6,4 @@ pub mod FillKeeps
 pub mod CallsGoOn
 pub mod TicketsCome
 pub mod FramedCalls
+pub mod HandedCalls

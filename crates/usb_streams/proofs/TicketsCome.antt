@@ -23,13 +23,13 @@ pub record TicketsCame (old new : Reading HostState) : Type 0 where
   pub more : count_of old ≤ count_of new
   pub same : pending_of old ++ numbers_from (count_of old) (count_of new - count_of old) ≡ taken ++ pending_of new
 
-came-same : (w : Reading HostState) → TicketsCame w w
+unfoldable pub came-same : (w : Reading HostState) → TicketsCame w w
 came-same w =
     let none : count_of w - count_of w ≡ 0 = omega arith in
     record { taken = []; more = omega arith; same = ap (λ (n : ℕ). pending_of w ++ numbers_from (count_of w) n) none ∙ append-nil (pending_of w) }
 
 -- a submission appends the next ticket
-came-one : (old w : Reading HostState) → TicketsCame old w → TicketsCame old (submit_one host_calls w)
+unfoldable pub came-one : (old w : Reading HostState) → TicketsCame old w → TicketsCame old (submit_one host_calls w)
 came-one old w came =
     let one = (entered-count w.bus w.reader.endpoint (fresh_buffer w.reader.size)).past in
     let more = came.more in
@@ -47,7 +47,7 @@ came-one old w came =
     }
 
 -- what leaves the number of tickets as it was, and takes so many of the pending ones
-came-on : (old w v : Reading HostState) (front : List ℕ) → count_of v ≡ count_of w → pending_of w ≡ front ++ pending_of v → TicketsCame old w → TicketsCame old v
+unfoldable pub came-on : (old w v : Reading HostState) (front : List ℕ) → count_of v ≡ count_of w → pending_of w ≡ front ++ pending_of v → TicketsCame old w → TicketsCame old v
 came-on old w v front same was came =
     let more = came.more in
     record {
@@ -65,7 +65,7 @@ came-kept timeout old = record {
   submission = came-one old;
   end = λ w came. record { taken = came.taken; more = came.more; same = came.same };
   wait = λ w front others was came. came-on old w (record { bus = (host_waited w.bus front timeout).1; reader = w.reader }) [] (waited-count w.bus front timeout).past refl came;
-  taking = λ w front others c was come came. came-on old w (record { bus = host_taken w.bus front; reader = with_taken c others w.reader }) (front ∷ []) (taken-count w.bus front).past was came;
+  taking = λ w front others c was empty come came. came-on old w (record { bus = host_taken w.bus front; reader = with_taken c others w.reader }) (front ∷ []) (taken-count w.bus front).past was came;
 }
 
 -- a call that lends the bytes

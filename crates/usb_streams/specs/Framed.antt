@@ -55,3 +55,9 @@ abbrev pub EmptyReadLeavesEnd : Type 0
 EmptyReadLeavesEnd =
     (timeout most : ℕ) (w : Reading HostState) → 1 ≤ most → (read_came true timeout most w).answer ≡ Ok [] →
     is_end (read_came true timeout most w).left.reader ≡ true
+
+-- and so does a call until a short packet that lends no byte
+abbrev pub EmptyFillLeavesEnd : Type 0
+EmptyFillLeavesEnd =
+    (timeout : ℕ) (w : Reading HostState) → (fill_came true timeout w).answer ≡ Ok [] →
+    is_end (fill_came true timeout w).left.reader ≡ true

@@ -1,7 +1,6 @@
 -- What reads of a reader at a host come to, as functions of the host and the reader.
 use Rattle.std.specs.Prelude.{ℕ, ◌≡◌, zero, suc, Bool, true, false, List, [], ◌∷◌, length, take, min, Option, Some, None, Result, Ok, Err}
 use Rattle.usb_desc.specs.declared.error.Fail.{Fail}
-use Rattle.usb_desc.specs.declared.error.Fail.TheVariants.{Cause, Memory}
 use Rattle.usb_xfer.specs.declared.transfer.Completion.{Completion}
 use Rattle.usb_bus.specs.Completions.{transfer_completion}
 use Rattle.usb_host.specs.HostState.{HostState}
@@ -11,8 +10,8 @@ use Rattle.usb_host.specs.HostTurns.{host_turned, host_turn}
 use Rattle.usb_host.specs.HostWaits.{host_waited}
 use Rattle.usb_host.specs.TicketEnds.{host_taken}
 use Rattle.usb_io.specs.Readers.{ReaderState, with_taken, with_read, turns}
-use Rattle.usb_io.specs.Reads.{BusCalls, Reading, bus_calls, reading, pending_of, begin_turn, most_turns}
-use Rattle.usb_io.specs.Answers.{standing}
+use Rattle.usb_io.specs.Reads.{BusCalls, Reading, bus_calls, reading, pending_of, begin_turn, most_turns, TurnedShort}
+use Rattle.usb_io.specs.Answers.{standing, FailsBy}
 use Rattle.usb_io.specs.declared.fault.ReadFault.{ReadFault}
 use Rattle.usb_io.specs.declared.fault.ReadFault.TheVariants.{TimedOut, UnexpectedEof}
 
@@ -103,7 +102,18 @@ read_of most a = handed_over most a.answer a.left
 abbrev pub read_came : Bool → ℕ → ℕ → Reading HostState → Answered
 read_came until_short timeout most w = read_of most (fill_came until_short timeout w)
 
--- a call failed as it says, unless memory was lacking
-abbrev pub FailedAs : Answered → Fail ReadFault → Reading HostState → Type 0
-FailedAs a (Cause e) left = a ≡ answered (Err e) left
-FailedAs a Memory left = Unit {0}
+-- a call failed as it says; or memory was lacking, and then this is so
+abbrev pub FailedAs : Answered → Type 0 → Reading HostState → Fail ReadFault → Type 0
+FailedAs a short left e = FailsBy e (λ f. a ≡ answered (Err f) left) short
+
+-- why a call failed that lends the bytes: as it says, or a turn found no memory. A turn begins only
+-- where no byte is unread, so none is lost
+abbrev pub FillFails : Bool → ℕ → Reading HostState → Reading HostState → Fail ReadFault → Type 0
+FillFails until_short timeout old new e =
+    FailedAs (fill_came until_short timeout old) (TurnedShort host_calls until_short timeout old new) new e
+
+-- why a read of at most so many bytes failed: the same, and it handed none over
+abbrev pub ReadFails : Bool → ℕ → ℕ → Reading HostState → Reading HostState → Fail ReadFault →
+    Type 0
+ReadFails until_short timeout most old new e =
+    FailedAs (read_came until_short timeout most old) (TurnedShort host_calls until_short timeout old new) new e

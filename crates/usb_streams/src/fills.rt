@@ -9,7 +9,6 @@ ghost use Rattle.usb_host.specs.HostFrames.{LineGoesOn};
 ghost use Rattle.usb_io.specs.AnyReaders.{reader_of};
 ghost use Rattle.usb_io.specs.Reads.{reading, GoesAlong, KeepsSettings};
 ghost use Rattle.usb_io.specs.contracts.any_reader.AnyReader.{the_row};
-ghost use Rattle.usb_streams.specs.HostReads.{fill_came};
 ghost use Rattle.usb_streams.specs.Lent.{FilledAs, PollFilledAs};
 
 use futures::task::Poll;
@@ -26,8 +25,8 @@ pub fn fill_buf<'a>(reader: &'a mut AnyReader, host: &mut Host) -> Result<&'a [u
     requires stands { Stands (bus_of host.old) (reader_of reader.old).endpoint }
     ensures* lent { sem 𝓛
         (Rests the_row reader.entry
-        (λ new. FilledAs (fill_came false (reader_of reader.old).timeout
-        (reading host.old (reader_of reader.old))) result (reading host.new (reader_of new))
+        (λ new. FilledAs false (reader_of reader.old).timeout
+        (reading host.old (reader_of reader.old)) (reading host.new (reader_of new)) result
         × LineGoesOn host.old host.new
         × GoesAlong (bus_of host.old) (bus_of host.new) (reader_of reader.old) (reader_of new)
         × KeepsSettings (reader_of reader.old) (reader_of new))) }
@@ -47,8 +46,8 @@ pub fn fill_until_short<'a>(
     requires stands { Stands (bus_of host.old) (reader_of reader.old).endpoint }
     ensures* lent { sem 𝓛
         (Rests the_row reader.entry
-        (λ new. FilledAs (fill_came true (reader_of reader.old).timeout
-        (reading host.old (reader_of reader.old))) result (reading host.new (reader_of new))
+        (λ new. FilledAs true (reader_of reader.old).timeout
+        (reading host.old (reader_of reader.old)) (reading host.new (reader_of new)) result
         × LineGoesOn host.old host.new
         × GoesAlong (bus_of host.old) (bus_of host.new) (reader_of reader.old) (reader_of new)
         × KeepsSettings (reader_of reader.old) (reader_of new))) }
@@ -64,8 +63,8 @@ pub fn poll_fill_buf<'a>(
     requires stands { Stands (bus_of host.old) (reader_of reader.old).endpoint }
     ensures* lent { sem 𝓛
         (Rests the_row reader.entry
-        (λ new. PollFilledAs (fill_came false 0
-        (reading host.old (reader_of reader.old))) result (reading host.new (reader_of new))
+        (λ new. PollFilledAs false
+        (reading host.old (reader_of reader.old)) (reading host.new (reader_of new)) result
         × LineGoesOn host.old host.new
         × GoesAlong (bus_of host.old) (bus_of host.new) (reader_of reader.old) (reader_of new)
         × KeepsSettings (reader_of reader.old) (reader_of new))) }
@@ -81,8 +80,8 @@ pub fn poll_fill_until_short<'a>(
     requires stands { Stands (bus_of host.old) (reader_of reader.old).endpoint }
     ensures* lent { sem 𝓛
         (Rests the_row reader.entry
-        (λ new. PollFilledAs (fill_came true 0
-        (reading host.old (reader_of reader.old))) result (reading host.new (reader_of new))
+        (λ new. PollFilledAs true
+        (reading host.old (reader_of reader.old)) (reading host.new (reader_of new)) result
         × LineGoesOn host.old host.new
         × GoesAlong (bus_of host.old) (bus_of host.new) (reader_of reader.old) (reader_of new)
         × KeepsSettings (reader_of reader.old) (reader_of new))) }

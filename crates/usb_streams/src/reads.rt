@@ -8,7 +8,7 @@ ghost use Rattle.usb_host.specs.HostFrames.{LineGoesOn};
 ghost use Rattle.usb_io.specs.AnyReaders.{reader_of};
 ghost use Rattle.usb_io.specs.Answers.{IsInTime};
 ghost use Rattle.usb_io.specs.Reads.{reading, GoesAlong, KeepsSettings};
-ghost use Rattle.usb_streams.specs.HostReads.{read_came, answered, FailedAs};
+ghost use Rattle.usb_streams.specs.HostReads.{read_came, answered, ReadFails};
 
 use futures::task::Poll;
 use usb_desc::Fail;
@@ -34,8 +34,8 @@ pub fn read(
         (reading host.old (reader_of reader.old))
         ≡ answered (Ok (take n dest.new)) (reading host.new (reader_of reader.new))) }
     ensures failed { IfErr result
-        (λ e. FailedAs (read_came false (reader_of reader.old).timeout (length dest.old)
-        (reading host.old (reader_of reader.old))) e (reading host.new (reader_of reader.new))) }
+        (ReadFails false (reader_of reader.old).timeout (length dest.old)
+        (reading host.old (reader_of reader.old)) (reading host.new (reader_of reader.new))) }
     ensures kept { OnErr result (dest.new ≡ dest.old) }
     ensures line { LineGoesOn host.old host.new }
     ensures goes { GoesAlong (bus_of host.old) (bus_of host.new) (reader_of reader.old)
@@ -62,8 +62,8 @@ pub fn read_until_short(
         (reading host.old (reader_of reader.old))
         ≡ answered (Ok (take n dest.new)) (reading host.new (reader_of reader.new))) }
     ensures failed { IfErr result
-        (λ e. FailedAs (read_came true (reader_of reader.old).timeout (length dest.old)
-        (reading host.old (reader_of reader.old))) e (reading host.new (reader_of reader.new))) }
+        (ReadFails true (reader_of reader.old).timeout (length dest.old)
+        (reading host.old (reader_of reader.old)) (reading host.new (reader_of reader.new))) }
     ensures kept { OnErr result (dest.new ≡ dest.old) }
     ensures line { LineGoesOn host.old host.new }
     ensures goes { GoesAlong (bus_of host.old) (bus_of host.new) (reader_of reader.old)
@@ -87,8 +87,8 @@ pub fn poll_read(
         ≡ answered (Ok (take n dest.new)) (reading host.new (reader_of reader.new)))) }
     ensures failed { IfReady result
         (λ r. IfErr r
-        (λ e. FailedAs (read_came false 0 (length dest.old)
-        (reading host.old (reader_of reader.old))) e (reading host.new (reader_of reader.new)))) }
+        (ReadFails false 0 (length dest.old)
+        (reading host.old (reader_of reader.old)) (reading host.new (reader_of reader.new)))) }
     ensures in_time { IfReady result (λ r. IfErr r IsInTime) }
     ensures pending { IfPending result
         (read_came false 0 (length dest.old) (reading host.old (reader_of reader.old))
@@ -117,8 +117,8 @@ pub fn poll_read_until_short(
         ≡ answered (Ok (take n dest.new)) (reading host.new (reader_of reader.new)))) }
     ensures failed { IfReady result
         (λ r. IfErr r
-        (λ e. FailedAs (read_came true 0 (length dest.old)
-        (reading host.old (reader_of reader.old))) e (reading host.new (reader_of reader.new)))) }
+        (ReadFails true 0 (length dest.old)
+        (reading host.old (reader_of reader.old)) (reading host.new (reader_of reader.new)))) }
     ensures in_time { IfReady result (λ r. IfErr r IsInTime) }
     ensures pending { IfPending result
         (read_came true 0 (length dest.old) (reading host.old (reader_of reader.old))

@@ -1,11 +1,11 @@
 //! Settings of a reader at a host.
 
-ghost use Rattle.std.specs.Prelude.{◌≡◌, ◌-◌, ◌≤◌, OnOk};
+ghost use Rattle.std.specs.Prelude.{◌≡◌, ◌-◌, ◌≤◌, OnOk, OnErr};
 ghost use Rattle.usb_endpoint.specs.Handles.{Stands};
 ghost use Rattle.usb_host.specs.HostBus.{bus_of};
 ghost use Rattle.usb_host.specs.HostFrames.{LineGoesOn};
 ghost use Rattle.usb_io.specs.AnyReaders.{reader_of};
-ghost use Rattle.usb_io.specs.Reads.{reading, filled_to, GoesAlong};
+ghost use Rattle.usb_io.specs.Reads.{reading, filled_to, FilledShort, GoesAlong};
 ghost use Rattle.usb_streams.specs.HostReads.{host_calls};
 
 use usb_desc::NoMemory;
@@ -24,6 +24,10 @@ pub fn set_num_transfers(reader: &mut AnyReader, host: &mut Host, n: usize) -> R
         (reading host.new (reader_of reader.new)
         ≡ filled_to host_calls (n - 1)
         (reading host.old (record (reader_of reader.old) { n = n }))) }
+    ensures err { OnErr result
+        (FilledShort host_calls (n - 1)
+        (reading host.old (record (reader_of reader.old) { n = n }))
+        (reading host.new (reader_of reader.new))) }
     ensures line { LineGoesOn host.old host.new }
     ensures goes { GoesAlong (bus_of host.old) (bus_of host.new) (reader_of reader.old)
         (reader_of reader.new) }

@@ -178,6 +178,10 @@ fn write_order(out: &mut String, bytes: &[u8]) -> Result<(), AllocError> {
 }
 
 fn write_settings(out: &mut String, interface: &InterfaceDescriptors) -> Result<(), AllocError> {
+    // what is written is that of a copy
+    let Ok(interface) = interface.clone() else {
+        return Err(AllocError);
+    };
     let first = interface.first_alt_setting().alternate_setting();
     write_numbers(
         out,

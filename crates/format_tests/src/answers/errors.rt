@@ -61,9 +61,9 @@ fn error_without_code(name: &str) -> Error {
     }
 }
 
-/// The kind and the text of a fault.
+/// The kind and the text of a copy of a fault.
 pub fn write_fault(out: &mut String, cause: &str) -> Result<(), AllocError> {
-    match fault_of(*out.allocator(), cause) {
+    match copied_fault(*out.allocator(), cause) {
         Ok(fault) => show_fault(out, &fault),
         Err(NoMemory) => Err(AllocError),
     }
@@ -76,6 +76,11 @@ fn show_fault(out: &mut String, fault: &IoFault) -> Result<(), AllocError> {
         out.push_str(", and another text in its field")?;
     }
     Ok(())
+}
+
+fn copied_fault(alloc: Global, cause: &str) -> Result<IoFault, NoMemory> {
+    let fault = fault_of(alloc, cause)?;
+    fault.clone()
 }
 
 fn fault_of(alloc: Global, cause: &str) -> Result<IoFault, NoMemory> {

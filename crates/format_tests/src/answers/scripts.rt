@@ -5,7 +5,7 @@ use crate::answers::descriptors::write_bytes;
 use std::alloc::{AllocError, Global};
 use usb_desc::NoMemory;
 use usb_generated::generate;
-use usb_parse::parse_script;
+use usb_parse::{Script, SessionError, parse_script};
 use usb_script::{ControlTarget, Item};
 
 /// What is told by this word of a script whose lines are parted by |, or why it is refused. In the
@@ -34,8 +34,17 @@ pub fn write_generated(out: &mut String, messages: &str) -> Result<(), AllocErro
     }
 }
 
+/// A copy of the script.
+fn copied_script(alloc: Global, bytes: &[u8]) -> Result<Script, SessionError> {
+    let script = parse_script(alloc, bytes)?;
+    match script.clone() {
+        Ok(copy) => Ok(copy),
+        Err(NoMemory) => Err(SessionError::Memory),
+    }
+}
+
 fn write_parsed(out: &mut String, word: &str, bytes: &[u8]) -> Result<(), AllocError> {
-    match parse_script(*out.allocator(), bytes) {
+    match copied_script(*out.allocator(), bytes) {
         Ok(script) => {
             let written = write_told(out, word, script.items());
             drop(script);
@@ -81,32 +90,39 @@ fn kind_of(item: &Item) -> &'static str {
     }
 }
 
-/// Writes of the first item whom a control transfer goes to and its setup packet, the index of a
-/// string, or the type and the direction of an endpoint.
+/// Writes the fields of a copy of the first item.
 fn write_fields(out: &mut String, items: &[Item]) -> Result<(), AllocError> {
-    match items.first() {
-        Some(
-            Item::ControlIn {
-                target,
-                setup,
-                length,
-                ..
-            },
-        ) => write_packet(out, *target, &setup.control_in(*length).setup_packet()),
-        Some(
-            Item::StartControlOut {
-                target,
-                setup,
-                bytes,
-                ..
-            },
-        ) => write_packet(
+    let Some(first) = items.first() else {
+        return out.push_str("nothing");
+    };
+    match first.clone() {
+        Ok(copy) => write_item(out, &copy),
+        Err(NoMemory) => Err(AllocError),
+    }
+}
+
+/// Writes of an item whom a control transfer goes to and its setup packet, the index of a
+/// string, or the type and the direction of an endpoint.
+fn write_item(out: &mut String, item: &Item) -> Result<(), AllocError> {
+    match item {
+        Item::ControlIn {
+            target,
+            setup,
+            length,
+            ..
+        } => write_packet(out, *target, &setup.control_in(*length).setup_packet()),
+        Item::StartControlOut {
+            target,
+            setup,
+            bytes,
+            ..
+        } => write_packet(
             out,
             *target,
             &setup.control_out(bytes.as_slice()).setup_packet(),
         ),
-        Some(Item::StringDescriptor { index, .. }) => write!(out, "{}", index.get()),
-        Some(Item::Endpoint { kind, .. }) => {
+        Item::StringDescriptor { index, .. } => write!(out, "{}", index.get()),
+        Item::Endpoint { kind, .. } => {
             write!(out, "{:?} {:?}", kind.transfer_type(), kind.direction())
         }
         _ => out.push_str("nothing"),

@@ -183,7 +183,8 @@ pub const FILLS: &[Step] = &[
 fn readers_and_std_give_what_came(rt: HostRuntime) -> Result<(), std::test::Fail> {
     expect(&rt, rt.alloc(), &Case::Messages)?;
     expect(&rt, rt.alloc(), &Case::Reads)?;
-    expect(&rt, rt.alloc(), &Case::Fills)
+    expect(&rt, rt.alloc(), &Case::Fills)?;
+    expect(&rt, rt.alloc(), &Case::Transfers)
 }
 
 /// Makes the steps with a new reader, which is closed again. Says whether each gave what it should.
@@ -255,6 +256,30 @@ fn is_right(
         }
         Step::ConsumeEnd => reader.until_short_packet().consume_end().is_ok(),
         Step::HasError => reader.has_error(),
+    }
+}
+
+/// Whether this reader keeps three transfers on its way, the last of which it submits as it turns.
+/// It is closed.
+fn keeps_three(reader: EndpointRead<Bulk>, bus: &mut KernelBus) -> bool
+    requires stands { Stands (bus_of bus.old) reader.endpoint }
+{
+    let keeps_three = reader.num_transfers() == 3 && reader.pending() == 2;
+    reader.close(bus);
+    keeps_three
+}
+
+/// Whether a reader is made with a number of transfers.
+pub fn has_transfers(alloc: Global, bus: &mut KernelBus) -> bool {
+    let Ok(reader) = new_reader(alloc, bus) else {
+        return false;
+    };
+    match reader.with_num_transfers(bus, 3) {
+        Ok(reader) => keeps_three(reader, bus),
+        Err(reader) => {
+            reader.close(bus);
+            false
+        }
     }
 }
 

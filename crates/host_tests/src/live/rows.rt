@@ -344,9 +344,9 @@ fn wakes<R: Wait + RandomSource + AllocGlobal>(
 
 #[test]
 fn errors_have_their_texts(rt: HostRuntime) -> Result<(), Fail> {
-    let full = LiveError::Full(Buffer::new(rt.alloc(), 1)?);
+    let full = LiveError::Full(Buffer::new(rt.alloc(), 1)?).clone()?;
     assert!(rt; prints(rt.alloc(), &full, "all 64 cells are occupied"));
-    let memory = LiveError::Memory(Buffer::new(rt.alloc(), 1)?);
+    let memory = LiveError::Memory(Buffer::new(rt.alloc(), 1)?).clone()?;
     assert!(rt; prints(rt.alloc(), &memory, "out of memory"));
     Ok(())
 }

@@ -3,10 +3,10 @@ use Rattle.usb_session.specs.Live.{live_line}
 use Rattle.usb_session.proofs.LiveLemmas.{all-taken}
 use Rattle.usb_session.proofs.live.live.Goals as goal
 
-pub returns : goal.returns
-returns g c =
+pub returns-clause-wrote : goal.returns-clause-wrote
+returns-clause-wrote g c =
     let run = c.in-Ok.run' in
     let patient = c.in-Ok.ensures.patient refl in
     let text : c.as_bytes.result.now ≡ live_line c.args.n =
     c.as_bytes.ensures.value ∙ (c.in-Ok-run_line.ensures.text ∙ all-taken c.args.n run.submitted run.taken run.dropped run.reclaimed patient.0 patient.1 c.in-Ok.ensures.each) in
-    record { wrote = (c.in-Err.ensures.cause.one, rw text at c.in-Err.ensures.part) }
+    (c.in-Err.ensures.cause.one, rw text at c.in-Err.ensures.part)

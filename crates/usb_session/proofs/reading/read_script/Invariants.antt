@@ -7,6 +7,7 @@ invariant-pieces g l = record {
   taken : Consumes (g.S.Source.left l.initial.source) (g.S.Source.left l.source) l.bytes.items;
   few : vec_len l.bytes ≤ 1048577;
   quiet : g.S.Source.faults l.source ≡ g.S.Source.faults l.initial.source;
+  goes_on : g.S.Source.has_ended l.source → ⊥;
 }
 
 abbrev pub decreases-pieces : goal.decreases-pieces

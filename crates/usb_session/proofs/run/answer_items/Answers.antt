@@ -5,9 +5,13 @@ use Rattle.usb_host.specs.HostState.{HostState}
 use Rattle.usb_host.specs.Finishes.{HasEnds, HasCompletions, KeepsNothing}
 use Rattle.usb_answers.specs.Sums.{counts_of, sum_of}
 use Rattle.usb_answers.proofs.HandleLemmas.{served-handles, final-counted, fates-of_scripts}
+use Rattle.usb_answers.proofs.PlaceLemmas.{polls-of_scripts}
+use Rattle.usb_answers.proofs.PrintedLaw.{scripts-print}
+use Rattle.usb_answers.proofs.ControlsLaw.{scripts-serve_controls}
 use Rattle.usb_answers.proofs.FramedScripts.{framed-scripts}
+use Rattle.usb_answers.proofs.HandedScripts.{handed-scripts}
 use Rattle.usb_answers.proofs.WrittenLaw.{written-scripts}
-use Rattle.usb_session.proofs.Exchanges.{messages-arrive}
+use Rattle.usb_session.proofs.Exchanges.{messages-arrive, messages-keep-arriving}
 use Rattle.usb_session.proofs.RunLemmas.{answered-end, answered-cut, answered-sum, always-ok}
 use Rattle.usb_session.proofs.run.answer_items.Goals as goal
 
@@ -41,15 +45,28 @@ pub returns-clause-served : goal.returns-clause-served
 returns-clause-served g c =
     always-ok c.write_summary-answer.result (served-handles c.args.items.items (subst (λ (h : HostState). HasEnds h.tickets) c.in_ok-host.ensures.host c.in_ok-host.ensures.ended))
 
+pub returns-clause-printed : goal.returns-clause-printed
+returns-clause-printed g c = always-ok c.write_summary-answer.result (scripts-print c.args.items.items)
+
+pub returns-clause-controls : goal.returns-clause-controls
+returns-clause-controls g c =
+    always-ok c.write_summary-answer.result (scripts-serve_controls c.args.items.items (subst (λ (h : HostState). HasEnds h.tickets) c.in_ok-host.ensures.host c.in_ok-host.ensures.ended))
+
 pub returns-clause-fates : goal.returns-clause-fates
 returns-clause-fates g c =
     always-ok c.write_summary-answer.result
     (fates-of_scripts c.args.items.items (subst (λ (h : HostState). HasEnds h.tickets) c.in_ok-host.ensures.host c.in_ok-host.ensures.ended)
     (subst (λ (h : HostState). HasCompletions h.kernel.past) c.in_ok-host.ensures.host c.in_ok-host.ensures.reaped))
 
+pub returns-clause-polled : goal.returns-clause-polled
+returns-clause-polled g c = always-ok c.write_summary-answer.result (polls-of_scripts c.args.items.items)
+
 pub returns-clause-framed : goal.returns-clause-framed
 returns-clause-framed g c =
     always-ok c.write_summary-answer.result (framed-scripts c.args.items.items (subst (λ (h : HostState). IsLawful h.kernel.past) c.in_ok-host.ensures.host c.in_ok-host.ensures.lawful))
+
+pub returns-clause-handed : goal.returns-clause-handed
+returns-clause-handed g c = always-ok c.write_summary-answer.result (handed-scripts c.args.items.items)
 
 pub returns-clause-told : goal.returns-clause-told
 returns-clause-told g c = always-ok c.write_summary-answer.result (written-scripts c.args.items.items)
@@ -57,3 +74,7 @@ returns-clause-told g c = always-ok c.write_summary-answer.result (written-scrip
 pub returns-clause-exchanged : goal.returns-clause-exchanged
 returns-clause-exchanged g c =
     always-ok c.write_summary-answer.result (messages-arrive c.args.items.items (subst (λ (h : HostState). IsLawful h.kernel.past) c.in_ok-host.ensures.host c.in_ok-host.ensures.lawful))
+
+pub returns-clause-keeps_arriving : goal.returns-clause-keeps_arriving
+returns-clause-keeps_arriving g c =
+    always-ok c.write_summary-answer.result (messages-keep-arriving c.args.items.items (subst (λ (h : HostState). IsLawful h.kernel.past) c.in_ok-host.ensures.host c.in_ok-host.ensures.lawful))

@@ -1,4 +1,5 @@
-use Rattle.std.proofs.Common.{◌≡◌, drop, sym, ◌∙◌}
+use Rattle.std.proofs.Common.{◌≡◌, drop, ap, sym, ◌∙◌}
+use Rattle.usb_session.specs.Memory.{SureInput}
 use Rattle.usb_session.proofs.MemoryLemmas.{read_moves, read_ends}
 use Rattle.usb_session.proofs.sure.SureSourceSource.read.Goals as goal
 
@@ -10,7 +11,7 @@ returns-clause-bytes c =
     let n = c.min-len.result in
     let copied = rw c.deref.ensures.value at c.copy_from_slice.ensures.after in
     let least = rw c.deref.ensures.value at c.min-len.ensures in
-    let rest : c.args.self.now ≡ drop at bytes = sym c.self.view_is in (
+    let rest : c.args.self.now.rest ≡ drop at bytes = ap (λ (v : SureInput). v.rest) (sym c.self.view_is) in (
       rest ∙ read_moves bytes c.args.buf.now front at n copied least,
       λ none some. read_ends bytes c.args.buf.now front at n copied least none some,
     )

@@ -1,0 +1,42 @@
+-- The futures that a script closes, or that the end of its session closes: each with its ticket, and the journal right before.
+use Rattle.std.specs.Prelude.{ℕ, zero, suc, List, [], ◌∷◌, ◌++◌, map, Option, Some, None}
+use Rattle.usb_kernel.specs.declared.event.Event.{Event}
+use Rattle.usb_device.specs.Futures.{FutureState}
+use Rattle.usb_names.specs.Names.{named}
+use Rattle.usb_script.specs.declared.item.Item.{Item}
+use Rattle.usb_script.specs.declared.item.Item.TheVariants.{CloseFuture}
+use Rattle.usb_answers.specs.State.{State}
+use Rattle.usb_answers.specs.Answer.{Answer}
+use Rattle.usb_answers.specs.Answers.{answer}
+use Rattle.usb_answers.specs.Ends.{readers_closed, writers_closed, endpoints_closed, futures_closed}
+use Rattle.usb_answers.specs.Output.{start}
+use Rattle.usb_answers.specs.ControlAnswers.{listed, future_gone}
+
+-- a future that is closed: its ticket, and the journal right before
+pub record ClosedFuture : Type 0 where
+  pub ticket : ℕ
+  pub past : List Event
+
+-- a future that is closed now, if there is one
+abbrev pub future_closed_as : List Event → Option FutureState → List ClosedFuture
+future_closed_as past None = []
+future_closed_as past (Some f) = map (λ t. record { ticket = t; past = past }) (listed f.ticket)
+
+-- the future that the answer of a line closes
+abbrev pub future_closed_by : State → Item → Answer → List ClosedFuture
+future_closed_by state (CloseFuture n) a = future_closed_as state.host.kernel.past (future_gone state a.state n)
+future_closed_by state item a = []
+
+-- those that the end of the session closes, of the names below k in order
+abbrev pub futures_at_end : State → ℕ → List ClosedFuture
+futures_at_end state zero = []
+futures_at_end state (suc k) = futures_at_end state k ++ future_closed_as (futures_closed state k).host.kernel.past (named (futures_closed state k).futures k)
+
+-- those that these items close, and then the end of the session
+abbrev pub closed_futures_from : State → List Item → List ClosedFuture
+closed_futures_from state [] = futures_at_end (endpoints_closed (writers_closed (readers_closed state 64) 64) 64) 64
+closed_futures_from state (item ∷ items) = future_closed_by state item (answer state item) ++ closed_futures_from (answer state item).state items
+
+-- those of a script
+unfoldable pub closed_futures : List Item → List ClosedFuture
+closed_futures items = closed_futures_from (start items) items

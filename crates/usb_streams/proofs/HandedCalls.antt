@@ -1,0 +1,184 @@
+-- Calls on a reader hand over the bytes of the transfers that they take, in order.
+use Rattle.std.proofs.Common.{◌∙◌, ◌≡◌, ℕ, zero, suc, Bool, true, false, List, [], ◌∷◌, ◌++◌, length, take, drop, take-append-drop, append-nil, append_assoc, Option, Some, None, Result, Ok, Err, refl, ap, sym, subst, ◌-◌}
+use Rattle.std.specs.Prelude.{All, IsSome, is_some, min}
+use Rattle.std.specs.Option.{option_map}
+use Rattle.std.proofs.lemmas.Bool.{false≢true}
+use Rattle.std.proofs.lemmas.List.Concat.{flat_map-append}
+use Rattle.std.proofs.lemmas.List.Elements.{All-nil, All-cons, All-head, All-tail, All-append, All-weaker}
+use Rattle.usb_xfer.specs.declared.transfer.Completion.{Completion}
+use Rattle.usb_xfer.specs.declared.error.TransferError.{TransferError}
+use Rattle.usb_kernel.specs.declared.event.Event.{Event}
+use Rattle.usb_kernel.specs.declared.submission.Done.{Done}
+use Rattle.usb_kernel.specs.Completions.{completion}
+use Rattle.usb_kernel.specs.Extends.{Extends}
+use Rattle.usb_kernel.proofs.Extends.{completion-stays}
+use Rattle.usb_bus.specs.Completions.{completion_of, transfer_completion}
+use Rattle.usb_host.specs.HostState.{HostState}
+use Rattle.usb_host.specs.HostBus.{bus_of}
+use Rattle.usb_host.specs.HostWaits.{host_waited}
+use Rattle.usb_host.specs.TicketEnds.{host_taken}
+use Rattle.usb_host.proofs.CountLemmas.{waited-count, taken-count}
+use Rattle.usb_host.proofs.FollowLemmas.{adds-entered, on-waited, taken-past}
+use Rattle.usb_io.specs.Readers.{ReaderState, no_bytes, bytes_in, fresh_buffer, with_taken, turns}
+use Rattle.usb_io.specs.Reads.{Reading, reading, pending_of, submit_one, begin_turn, filled_to, most_turns}
+use Rattle.usb_io.specs.Answers.{without_bytes, standing}
+use Rattle.usb_io.specs.declared.fault.ReadFault.{ReadFault}
+use Rattle.usb_io.specs.declared.fault.ReadFault.TheVariants.{TimedOut, UnexpectedEof}
+use Rattle.usb_streams.specs.HostReads.{host_calls, Answered, stands_at, front_taken, after_wait, turn_at, turned_if, turned_on, handed_over, fill_came}
+use Rattle.usb_streams.specs.Framed.{given_by}
+use Rattle.usb_streams.specs.Handed.{completed_bytes, HandsOver, FillHandsOver, ReadHandsOver, SubmissionsHandOver}
+use Rattle.usb_streams.proofs.FillKeeps.{Keeps, turns-empty, fill-keeps, more-keeps}
+use Rattle.usb_streams.proofs.TicketsCome.{TicketsCame, came-same, came-one, came-on}
+
+-- a ticket that has its completion
+abbrev HasIts : List Event → ℕ → Type 0
+HasIts past t = IsSome (transfer_completion past t)
+
+-- keeps it
+completion-by : (old new : List Event) (t : ℕ) (o : Option Done) → Extends old new → completion old t ≡ o → is_some (option_map completion_of o) ≡ true → option_map completion_of (completion new t) ≡ option_map completion_of o
+completion-by old new t None extends at complete = absurd (false≢true complete)
+completion-by old new t (Some done) extends at complete = ap (option_map completion_of) (completion-stays old new t done extends at)
+
+completion-later : (old new : List Event) (t : ℕ) → Extends old new → HasIts old t → transfer_completion new t ≡ transfer_completion old t
+unfolding transfer_completion
+completion-later old new t extends complete = completion-by old new t (completion old t) extends refl complete
+
+pub complete-later : (old new : List Event) (ts : List ℕ) → Extends old new → All (HasIts old) ts → All (HasIts new) ts
+complete-later old new ts extends all =
+    All-weaker (HasIts old) (HasIts new) (λ t is. ap (λ (o : Option Completion). is_some o) (completion-later old new t extends is) ∙ is) ts all
+
+-- and so its bytes
+abbrev bytes_at : List Event → ℕ → List ℕ
+bytes_at past t = bytes_in (option_map (λ (c : Completion). c.buffer) (transfer_completion past t))
+
+pub bytes-later : (old new : List Event) (ts : List ℕ) → Extends old new → All (HasIts old) ts → completed_bytes new ts ≡ completed_bytes old ts
+bytes-later old new [] extends all = refl
+bytes-later old new (t ∷ ts) extends all =
+    let first : bytes_at new t ≡ bytes_at old t = ap (λ (o : Option Completion). bytes_in (option_map (λ (c : Completion). c.buffer) o)) (completion-later old new t extends (All-head (HasIts old) t ts all)) in
+    let others = bytes-later old new ts extends (All-tail (HasIts old) t ts all) in
+    ap (λ (bytes : List ℕ). bytes ++ completed_bytes new ts) first ∙ ap (λ (bytes : List ℕ). bytes_at old t ++ bytes) others
+
+pub bytes-append : (past : List Event) (ts us : List ℕ) → completed_bytes past (ts ++ us) ≡ completed_bytes past ts ++ completed_bytes past us
+bytes-append past ts us = flat_map-append (bytes_at past) ts us
+
+no_bytes-true : (bytes : List ℕ) → no_bytes bytes ≡ true → bytes ≡ []
+no_bytes-true [] is = refl
+no_bytes-true (b ∷ bytes) is = absurd (false≢true is)
+
+-- what is unread is what was unread first, and then the bytes of the tickets that were taken
+record Brings (old w : Reading HostState) : Type 0 where
+  tickets : TicketsCame old w
+  complete : All (HasIts w.bus.kernel.past) tickets.taken
+  bytes : old.reader.unread ++ completed_bytes w.bus.kernel.past tickets.taken ≡ w.reader.unread
+
+brings-same : (w : Reading HostState) → Brings w w
+unfolding came-same
+brings-same w = record { tickets = came-same w; complete = All-nil (HasIts w.bus.kernel.past); bytes = append-nil w.reader.unread }
+
+-- the journal goes on
+brings-later : (old w v : Reading HostState) (g : Brings old w) (next : TicketsCame old v) → next.taken ≡ g.tickets.taken → v.reader.unread ≡ w.reader.unread → Extends w.bus.kernel.past v.bus.kernel.past → Brings old v
+brings-later old w v g next same unread extends =
+    let past = w.bus.kernel.past in
+    let now = v.bus.kernel.past in
+    record {
+      tickets = next;
+      complete = subst (λ (ts : List ℕ). All (HasIts now) ts) (sym same) (complete-later past now g.tickets.taken extends g.complete);
+      bytes =
+          ap (λ (ts : List ℕ). old.reader.unread ++ completed_bytes now ts) same
+          ∙ ap (λ (bytes : List ℕ). old.reader.unread ++ bytes) (bytes-later past now g.tickets.taken extends g.complete)
+          ∙ g.bytes ∙ sym unread;
+    }
+
+-- the front is taken, where nothing is unread
+brings-taken : (old w : Reading HostState) (front : ℕ) (others : List ℕ) (c : Completion) → pending_of w ≡ front ∷ others → no_bytes w.reader.unread ≡ true → transfer_completion w.bus.kernel.past front ≡ Some c → Brings old w → Brings old (reading (host_taken w.bus front) (with_taken c others w.reader))
+unfolding came-on
+brings-taken old w front others c was empty come g =
+    let past = w.bus.kernel.past in
+    let v : Reading HostState = reading (host_taken w.bus front) (with_taken c others w.reader) in
+    let taken = g.tickets.taken in
+    let its : HasIts past front = ap (λ (o : Option Completion). is_some o) come in
+    let one : completed_bytes past (front ∷ []) ≡ c.buffer.bytes = append-nil (bytes_at past front) ∙ ap (λ (o : Option Completion). bytes_in (option_map (λ (d : Completion). d.buffer) o)) come in
+    let same : v.bus.kernel.past ≡ past = taken-past w.bus front in
+    record {
+      tickets = came-on old w v (front ∷ []) (taken-count w.bus front).past was g.tickets;
+      complete = subst (λ (p : List Event). All (HasIts p) (taken ++ front ∷ [])) (sym same) (All-append (HasIts past) taken (front ∷ []) g.complete (All-cons (HasIts past) front [] its (All-nil (HasIts past))));
+      bytes =
+          ap (λ (p : List Event). old.reader.unread ++ completed_bytes p (taken ++ front ∷ [])) same
+          ∙ ap (λ (bytes : List ℕ). old.reader.unread ++ bytes) (bytes-append past taken (front ∷ []))
+          ∙ sym (append_assoc old.reader.unread (completed_bytes past taken) (completed_bytes past (front ∷ [])))
+          ∙ ap (λ (bytes : List ℕ). bytes ++ completed_bytes past (front ∷ [])) (g.bytes ∙ no_bytes-true w.reader.unread empty)
+          ∙ one;
+    }
+
+brings-kept : (timeout : ℕ) (old : Reading HostState) → Keeps timeout (Brings old)
+unfolding came-one came-on
+brings-kept timeout old = record {
+  submission = λ w g. brings-later old w (submit_one host_calls w) g (came-one old w g.tickets) refl refl (adds-entered w.bus w.reader.endpoint (fresh_buffer w.reader.size)).goes.past;
+  end = λ w g. record { tickets = record { taken = g.tickets.taken; more = g.tickets.more; same = g.tickets.same }; complete = g.complete; bytes = g.bytes };
+  wait = λ w front others was g.
+      let v : Reading HostState = reading (host_waited w.bus front timeout).1 w.reader in
+      brings-later old w v g (came-on old w v [] (waited-count w.bus front timeout).past refl g.tickets) (append-nil g.tickets.taken) refl (on-waited w.bus front timeout).past;
+  taking = λ w front others c was empty come g. brings-taken old w front others c was empty come g;
+}
+
+-- the bytes that a call answers are those that stand behind it
+abbrev Lends : Answered → Type 0
+Lends a = (bytes : List ℕ) → a.answer ≡ Ok bytes → bytes ≡ a.left.reader.unread
+
+standing-bytes : (unread : List ℕ) (error : Option TransferError) (bytes : List ℕ) → standing unread error ≡ Ok bytes → bytes ≡ unread
+standing-bytes [] None bytes is = let e : Ok [] ≡ Ok bytes = is in cc
+standing-bytes [] (Some e) bytes is = absurd (let x : without_bytes (Some e) ≡ Ok bytes = is in cc)
+standing-bytes (b ∷ unread) error bytes is = let e : Ok (b ∷ unread) ≡ Ok bytes = is in cc
+
+stands-lends : (w : Reading HostState) → Lends (stands_at w)
+stands-lends w bytes is = standing-bytes w.reader.unread w.reader.error bytes is
+
+fault-lends : (a : Answered) (e : ReadFault) → a.answer ≡ Err e → Lends a
+fault-lends a e fails bytes is = absurd (let x : Err e ≡ Ok bytes = sym fails ∙ is in cc)
+
+after-lends : (found : Bool) (b : HostState) (r : ReaderState) (front : ℕ) (others : List ℕ) (further : Reading HostState → Answered) → ((v : Reading HostState) → Lends (further v)) → Lends (after_wait found b r front others further)
+after-lends true b r front others further next = next (front_taken b r front others (transfer_completion b.kernel.past front))
+after-lends false b r front others further next = fault-lends (after_wait false b r front others further) TimedOut refl
+
+turn-lends : (us : Bool) (timeout : ℕ) (ts : List ℕ) (w : Reading HostState) (further : Reading HostState → Answered) → no_bytes w.reader.unread ≡ true → ((v : Reading HostState) → Lends (further v)) → Lends (turn_at us timeout ts w further)
+turn-lends false timeout [] w further empty next = λ bytes is. (let e : Ok [] ≡ Ok bytes = is in let none : bytes ≡ [] = cc in none) ∙ sym (no_bytes-true w.reader.unread empty)
+turn-lends true timeout [] w further empty next = fault-lends (turn_at true timeout [] w further) UnexpectedEof refl
+turn-lends us timeout (front ∷ others) w further empty next =
+    let p = host_waited w.bus front timeout in after-lends p.0 p.1 w.reader front others further next
+
+turned-if-lends : (b us : Bool) (timeout : ℕ) (w : Reading HostState) (further : Reading HostState → Answered) → turns us w.reader ≡ b → ((v : Reading HostState) → Lends (further v)) → Lends (turned_if b us timeout w further)
+turned-if-lends false us timeout w further is next = stands-lends w
+turned-if-lends true us timeout w further is next = let begun = begin_turn host_calls w in turn-lends us timeout (pending_of begun) begun further (turns-empty us w is) next
+
+turned-lends : (n : ℕ) (us : Bool) (timeout : ℕ) (w : Reading HostState) → Lends (turned_on n us timeout w)
+turned-lends zero us timeout w = fault-lends (turned_on zero us timeout w) TimedOut refl
+turned-lends (suc n) us timeout w = turned-if-lends (turns us w.reader) us timeout w (λ v. turned_on n us timeout v) refl (λ v. turned-lends n us timeout v)
+
+fill-lends : (us : Bool) (timeout : ℕ) (w : Reading HostState) → Lends (fill_came us timeout w)
+unfolding fill_came
+fill-lends us timeout w = turned-lends (suc (most_turns (bus_of w.bus) w.reader)) us timeout w
+
+-- they are handed over
+brings-over : (old new : Reading HostState) → Brings old new → HandsOver old new []
+brings-over old new g = record { taken = g.tickets.taken; tickets = g.tickets.same; complete = g.complete; bytes = g.bytes }
+
+fill-brings : (us : Bool) (timeout : ℕ) (w : Reading HostState) → Brings w (fill_came us timeout w).left
+fill-brings us timeout w = fill-keeps us timeout (Brings w) (brings-kept timeout w) w (brings-same w)
+
+pub fill_hands_over : FillHandsOver
+fill_hands_over us timeout w = brings-over w (fill_came us timeout w).left (fill-brings us timeout w)
+
+handed-hands : (most : ℕ) (a : Result (List ℕ) ReadFault) (old v : Reading HostState) → ((bytes : List ℕ) → a ≡ Ok bytes → bytes ≡ v.reader.unread) → Brings old v → HandsOver old (handed_over most a v).left (given_by (handed_over most a v).answer)
+handed-hands most (Err e) old v lends g = brings-over old v g
+handed-hands most (Ok bytes) old v lends g =
+    let n = min most (length bytes) in
+    let parts : take n bytes ++ drop n v.reader.unread ≡ v.reader.unread = ap (λ (xs : List ℕ). take n xs ++ drop n v.reader.unread) (lends bytes refl) ∙ take-append-drop n v.reader.unread in
+    record { taken = g.tickets.taken; tickets = g.tickets.same; complete = g.complete; bytes = g.bytes ∙ sym parts }
+
+pub read_hands_over : ReadHandsOver
+read_hands_over us timeout most w =
+    let a = fill_came us timeout w in handed-hands most a.answer w a.left (fill-lends us timeout w) (fill-brings us timeout w)
+
+pub submissions_hand_over : SubmissionsHandOver
+submissions_hand_over goal w =
+    brings-over w (filled_to host_calls goal w) (more-keeps false 0 (Brings w) (brings-kept 0 w) (goal - length (pending_of w)) w (brings-same w))

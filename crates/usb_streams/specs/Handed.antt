@@ -1,0 +1,46 @@
+-- What calls on a reader hand over of the transfers that they take, at a host.
+use Rattle.std.specs.Prelude.{ℕ, ◌≡◌, ◌-◌, Bool, List, [], ◌++◌, All, IsSome}
+use Rattle.std.specs.List.{flat_map}
+use Rattle.std.specs.Option.{option_map}
+use Rattle.usb_xfer.specs.declared.transfer.Completion.{Completion}
+use Rattle.usb_kernel.specs.declared.event.Event.{Event}
+use Rattle.usb_bus.specs.Completions.{transfer_completion}
+use Rattle.usb_host.specs.HostState.{HostState}
+use Rattle.usb_io.specs.Readers.{bytes_in}
+use Rattle.usb_io.specs.Reads.{Reading, pending_of, filled_to}
+use Rattle.usb_streams.specs.Numbers.{numbers_from}
+use Rattle.usb_streams.specs.HostReads.{host_calls, fill_came, read_came}
+use Rattle.usb_streams.specs.Framed.{ticket_count, given_by}
+
+-- the bytes of the completions that a journal has of these tickets, joined
+abbrev pub completed_bytes : List Event → List ℕ → List ℕ
+completed_bytes past ts =
+    flat_map (λ t. bytes_in (option_map (λ (c : Completion). c.buffer) (transfer_completion past t))) ts
+
+-- of the tickets that were pending and those that came, the first were taken, each with its
+-- completion, and the others are pending. What was unread, and then the bytes of these
+-- completions, is what was handed over, and then what is unread
+pub record HandsOver (old new : Reading HostState) (given : List ℕ) : Type 0 where
+  pub taken : List ℕ
+  pub tickets : pending_of old ++ numbers_from (ticket_count old) (ticket_count new - ticket_count old)
+      ≡ taken ++ pending_of new
+  pub complete : All (λ t. IsSome (transfer_completion new.bus.kernel.past t)) taken
+  pub bytes : old.reader.unread ++ completed_bytes new.bus.kernel.past taken ≡ given ++ new.reader.unread
+
+-- so it is of a call that lends the bytes
+abbrev pub FillHandsOver : Type 0
+FillHandsOver =
+    (until_short : Bool) (timeout : ℕ) (w : Reading HostState) →
+    HandsOver w (fill_came until_short timeout w).left []
+
+-- of a read
+abbrev pub ReadHandsOver : Type 0
+ReadHandsOver =
+    (until_short : Bool) (timeout most : ℕ) (w : Reading HostState) →
+    HandsOver w (read_came until_short timeout most w).left
+    (given_by (read_came until_short timeout most w).answer)
+
+-- and of the submissions of a number of transfers that is set
+abbrev pub SubmissionsHandOver : Type 0
+SubmissionsHandOver =
+    (goal : ℕ) (w : Reading HostState) → HandsOver w (filled_to host_calls goal w) []
