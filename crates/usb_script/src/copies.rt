@@ -28,6 +28,20 @@ macro_rules! copy {
     };
 }
 
+// The copy of an item by the method for its form, or else by the arm that it matches.
+macro_rules! copy_by_kind {
+    (
+        $item:expr;
+        $($($variant:ident)+ => $copied:ident;)*
+        $(| $pattern:pat => $copy:expr,)*
+    ) => {
+        match $item {
+            $($(Item::$variant { .. })|+ => $item.$copied(),)*
+            $($pattern => $copy,)*
+        }
+    };
+}
+
 impl Clone for Item {
     ghost is_clone = { λ item copy. copy ≡ item };
 
@@ -44,90 +58,25 @@ impl Item {
     pub fn clone(&self) -> Result<Item, NoMemory>
         ensures same { IfOk result (λ copy. copy ≡ self.now) }
     {
-        match self {
-            Item::Device { .. }
-            | Item::Driver { .. }
-            | Item::Attribute { .. }
-            | Item::Denied { .. }
-            | Item::Child { .. }
-            | Item::Link { .. }
-            | Item::Entry { .. }
-            | Item::Root { .. }
-            | Item::Uevent { .. } => self.copied_setup(),
-            Item::List
-            | Item::Buses
-            | Item::Probe { .. }
-            | Item::Match { .. }
-            | Item::Hotplug
-            | Item::OpenPath { .. } => self.copied_tree_call(),
-            Item::Now => Ok(Item::Now),
-            Item::Steps(steps) => Ok(Item::Steps(steps.clone()?)),
-            Item::ControlIn { .. }
-            | Item::ControlOut { .. }
-            | Item::GetDescriptor { .. }
-            | Item::SupportedLanguages { .. }
-            | Item::StringDescriptor { .. }
-            | Item::StartControlIn { .. }
-            | Item::StartControlOut { .. }
-            | Item::PollFuture { .. }
-            | Item::WaitFuture { .. }
-            | Item::CloseFuture { .. } => self.copied_control_call(),
-            Item::Reader { .. }
-            | Item::IntoInner { .. }
-            | Item::SetNumTransfers { .. }
-            | Item::SetReadTimeout { .. }
-            | Item::CancelReader { .. }
-            | Item::CloseReader { .. }
-            | Item::Read { .. }
-            | Item::PollRead { .. }
-            | Item::FillBuf { .. }
-            | Item::PollFillBuf { .. }
-            | Item::Consume { .. }
-            | Item::IsEnd { .. }
-            | Item::ConsumeEnd { .. } => self.copied_reader_call(),
-            Item::Writer { .. }
-            | Item::WriterIntoInner { .. }
-            | Item::SetWriterTransfers { .. }
-            | Item::SetWriteTimeout { .. }
-            | Item::CloseWriter { .. }
-            | Item::Write { .. }
-            | Item::PollWrite { .. }
-            | Item::Submit { .. }
-            | Item::SubmitEnd { .. }
-            | Item::Flush { .. }
-            | Item::PollFlush { .. }
-            | Item::FlushEnd { .. }
-            | Item::PollFlushEnd { .. } => self.copied_writer_call(),
-            Item::Open { .. }
-            | Item::DeviceDescriptor { .. }
-            | Item::Descriptors { .. }
-            | Item::CloneDevice { .. }
-            | Item::CloseDevice { .. }
-            | Item::ActiveConfiguration { .. }
-            | Item::Speed { .. }
-            | Item::SetConfiguration { .. }
-            | Item::Reset { .. }
-            | Item::DetachDriver { .. }
-            | Item::AttachDriver { .. }
-            | Item::Claim { .. }
-            | Item::DetachAndClaim { .. }
-            | Item::CloneInterface { .. }
-            | Item::CloseInterface { .. }
-            | Item::SetAltSetting { .. }
-            | Item::GetAltSetting { .. }
-            | Item::InterfaceDescriptor { .. }
-            | Item::Release { .. }
-            | Item::Endpoint { .. }
-            | Item::SubmitIn { .. }
-            | Item::SubmitOut { .. }
-            | Item::Pending { .. }
-            | Item::Poll { .. }
-            | Item::Wait { .. }
-            | Item::TransferIn { .. }
-            | Item::TransferOut { .. }
-            | Item::Cancel { .. }
-            | Item::ClearHalt { .. }
-            | Item::CloseEndpoint { .. } => self.copied_device_call(),
+        copy_by_kind! {
+            self;
+            Device Driver Attribute Denied Child Link Entry Root Uevent => copied_setup;
+            List Buses Probe Match Hotplug OpenPath => copied_tree_call;
+            Open DeviceDescriptor Descriptors CloneDevice CloseDevice ActiveConfiguration Speed
+            SetConfiguration Reset DetachDriver AttachDriver Claim DetachAndClaim
+            CloneInterface CloseInterface SetAltSetting GetAltSetting InterfaceDescriptor Release
+            Endpoint SubmitIn SubmitOut Pending Poll Wait TransferIn TransferOut Cancel ClearHalt
+            CloseEndpoint => copied_device_call;
+            ControlIn ControlOut GetDescriptor SupportedLanguages StringDescriptor
+            StartControlIn StartControlOut PollFuture WaitFuture CloseFuture
+            => copied_control_call;
+            Reader IntoInner SetNumTransfers SetReadTimeout CancelReader CloseReader
+            Read PollRead FillBuf PollFillBuf Consume IsEnd ConsumeEnd => copied_reader_call;
+            Writer WriterIntoInner SetWriterTransfers SetWriteTimeout CloseWriter
+            Write PollWrite Submit SubmitEnd Flush PollFlush FlushEnd PollFlushEnd
+            => copied_writer_call;
+            | Item::Now => Ok(Item::Now),
+            | Item::Steps(steps) => Ok(Item::Steps(steps.clone()?)),
         }
     }
 
