@@ -877,4 +877,5 @@ def main():
     print(f"the scripts that were answered have none of: {', '.join(missing)}" if missing else "each kind of line, step, answer and status occurred")
 
 
-main()
+if __name__ == "__main__":
+    main()
