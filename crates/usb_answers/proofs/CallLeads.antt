@@ -6,9 +6,9 @@ use Rattle.usb_xfer.specs.BufferState.{BufferState}
 use Rattle.usb_kernel.specs.Tickets.{tickets}
 use Rattle.usb_endpoint.specs.EndpointState.{EndpointState}
 use Rattle.usb_endpoint.specs.Submits.{entered}
+use Rattle.usb_endpoint.specs.Waits.{waited}
 use Rattle.usb_host.specs.HostState.{HostState}
-use Rattle.usb_host.specs.HostCalls.{host_submitted, host_refused}
-use Rattle.usb_host.specs.HostWaits.{host_waited}
+use Rattle.usb_host.specs.HostCalls.{host_calls}
 use Rattle.usb_host.specs.TicketEnds.{host_taken}
 use Rattle.usb_host.proofs.CountLemmas.{entered-count, waited-count, taken-count}
 use Rattle.usb_host.proofs.FollowLemmas.{on-waited}
@@ -88,13 +88,13 @@ module _ (few : Type 0) (a : Answer) (state : State) (e : ℕ) (h : Endpoint) (a
   here-now g = named-change_same (λ (x : Endpoint). g) state.endpoints e ∙ ap (option_map (λ (x : Endpoint). g)) here
 
   -- a submission
-  pub leads-send : (host : HostState) (x : EndpointState) (b : BufferState) → Leads few a state e h host x → Leads few a state e h (entered host_submitted host_refused host x b) (record x { pending = x.pending ++ count_in host ∷ [] })
+  pub leads-send : (host : HostState) (x : EndpointState) (b : BufferState) → Leads few a state e h host x → Leads few a state e h (entered host_calls host x b) (record x { pending = x.pending ++ count_in host ∷ [] })
   leads-send host x b l =
       let m = tickets_of state in
       let n = count_in host in
       let g = by_now h l.tickets l.taken in
       let mid = at_call state e g host in
-      let after = entered host_submitted host_refused host x b in
+      let after = entered host_calls host x b in
       let one = (entered-count host x b).past in
       let more = l.more in
       let next : count_in after - m ≡ suc (n - m) = omega (arith, one, more) in
@@ -115,12 +115,12 @@ module _ (few : Type 0) (a : Answer) (state : State) (e : ℕ) (h : Endpoint) (a
         kept_is = ap (λ (z : EndpointState). record z { pending = x.pending ++ n ∷ [] }) l.kept_is;
         leads = λ rest. l.leads (submits e b g (here-now g) (λ few_. l.within)
             (goes (quiet-path (submitted mid e b g) (at_call state e (by_now h all l.taken) after)
-            (ap (λ (z : EndpointState). entered host_submitted host_refused host z b) (sym kept_g))
+            (ap (λ (z : EndpointState). entered host_calls host z b) (sym kept_g))
             (sym (const-change (with_submission n) g state.endpoints e)) refl) rest));
       }
 
   -- a wait
-  pub leads-wait : (host : HostState) (x : EndpointState) (front timeout : ℕ) → Leads few a state e h host x → Leads few a state e h (host_waited host front timeout).1 x
+  pub leads-wait : (host : HostState) (x : EndpointState) (front timeout : ℕ) → Leads few a state e h host x → Leads few a state e h (waited host_calls front timeout host) x
   leads-wait host x front timeout l =
       let m = tickets_of state in
       let count = waited-count host front timeout in

@@ -16,11 +16,12 @@ use Rattle.usb_ledger.specs.Entries.{HostTicket}
 use Rattle.usb_desc.specs.Fields.{direction_of_address}
 use Rattle.usb_xfer.specs.Transfers.{request_in}
 use Rattle.usb_xfer.specs.declared.transfer.TransferData.{TransferData}
+use Rattle.usb_endpoint.specs.Waits.{is_reaped}
 use Rattle.usb_host.specs.HostState.{HostState}
 use Rattle.usb_host.specs.Controls.{control_submission, deadline_after, request_started}
-use Rattle.usb_host.specs.HostCalls.{host_left}
-use Rattle.usb_host.specs.HostWaits.{is_found}
+use Rattle.usb_host.specs.HostCalls.{host_left, host_calls}
 use Rattle.usb_host.specs.TicketEnds.{host_taken, host_abandoned}
+use Rattle.usb_host.proofs.AwaitLemmas.{awaited-finds}
 use Rattle.usb_host.proofs.CloseLemmas.{left-tickets}
 use Rattle.usb_host.proofs.ControlLemmas.{started-due}
 use Rattle.usb_host.proofs.CountLemmas.{rest-count}
@@ -57,7 +58,7 @@ use Rattle.usb_answers.proofs.PrintLemmas.{transfer-stays, mapped-some, not_more
 use Rattle.usb_answers.proofs.Does.{Quiet, quiet-stepped}
 use Rattle.usb_answers.proofs.StepLemmas.{Inv}
 use Rattle.usb_answers.proofs.ControlLines.{handed_in, gone_if, future_parted, parted_by, parted-quiet, open-not_free, awaited-quiet}
-use Rattle.usb_answers.proofs.FuturesAwaited.{AllAwait, awaited-finds}
+use Rattle.usb_answers.proofs.FuturesAwaited.{AllAwait}
 
 -- a line tells what the journal of a host has as the completion of the ticket, which was taken
 pub record Came (h : HostState) (x : ControlAnswer) : Type 0 where
@@ -138,7 +139,7 @@ module _ (h : HostState) (device : ℕ) (request : TransferData) (timeout : ℕ)
       let first : IsHeld begun its = record { hold = adds.hold; is = ap (slice_get begun.tickets) (sym counted) ∙ adds.last } in
       held-stays begun over its (stays-keeps begun over its (on-awaited begun its (deadline_after h.kernel.clock timeout))) first
 
-  over-found : is_found over its ≡ true
+  over-found : is_reaped host_calls its over ≡ true
   over-found =
       awaited-finds its (deadline_after h.kernel.clock timeout) begun (λ none. started-due h (control_submission h device request timeout) (deadline_after h.kernel.clock timeout) refl none)
 
@@ -236,7 +237,7 @@ wait-tells state n steps inv all = by (named state.futures n) refl
         let mid = future_awaited now.host f in
         let was = inv.waits n f t here awaits.is in
         let held : IsHeld mid t = held-stays now.host mid t (stays-keeps now.host mid t (awaited-quiet now f.deadline f.ticket).keeps) (record { hold = was.hold; is = was.is }) in
-        let found : is_found mid t ≡ true = subst (λ (o : Option ℕ). is_found (awaited_by now.host f.deadline o) t ≡ true) (sym awaits.is) (awaited-finds t f.deadline now.host awaits.due) in
+        let found : is_reaped host_calls t mid ≡ true = subst (λ (o : Option ℕ). is_reaped host_calls t (awaited_by now.host f.deadline o) ≡ true) (sym awaits.is) (awaited-finds t f.deadline now.host awaits.due) in
         let came = some-of (transfer_completion mid.kernel.past t) found in
         let line : came_line received_line (future_answer mid f) ≡ received_line (control_answer f.direction came.0) = ap (came_line received_line) (answer-with mid f t awaits.is ∙ ap (option_map (control_answer f.direction)) came.1) in
         future-tells state n f (then_rested (future_waited now n f)) mid t came.0 awaits.is (freed-free state.futures n f here) held came.1 line (on-rest (future_taken mid f))

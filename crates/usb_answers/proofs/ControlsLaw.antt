@@ -1,15 +1,12 @@
 -- The control transfers of a whole script.
-use Rattle.std.proofs.Common.{◌≡◌, ◌≢◌, ℕ, ◌<◌, ◌≤◌, ◌+◌, zero, suc, arith, true, List, [], ◌∷◌, ◌++◌, map, length, Option, Some, None, refl, ap, sym, ◌∙◌, subst, append-nil, inl, inr}
-use Rattle.std.specs.Prelude.{All, count_by, option_and_then, ◌==◌, slice_get}
+use Rattle.std.proofs.Common.{◌≡◌, ◌≢◌, ℕ, ◌<◌, ◌+◌, zero, suc, arith, List, [], ◌∷◌, ◌++◌, map, length, Option, Some, None, refl, ap, sym, ◌∙◌, append-nil, inl, inr}
+use Rattle.std.specs.Prelude.{All, option_and_then, slice_get}
 use Rattle.std.proofs.lemmas.Bool.{cases_eq}
 use Rattle.std.proofs.lemmas.List.{length-replicate, map-append}
 use Rattle.std.proofs.lemmas.List.Elements.{All-append, All-nil}
 use Rattle.std.proofs.lemmas.Option.{none-some}
-use Rattle.usb_xfer.specs.declared.transfer.Completion.{Completion}
-use Rattle.usb_kernel.specs.declared.event.Event.{Event}
 use Rattle.usb_kernel.proofs.Extends.{extends-same}
-use Rattle.usb_device.specs.Futures.{FutureState, control_answer}
-use Rattle.usb_lines.specs.Controls.{received_line}
+use Rattle.usb_device.specs.Futures.{FutureState}
 use Rattle.usb_ledger.specs.EndedTickets.{ended_at}
 use Rattle.usb_host.specs.HostState.{HostState}
 use Rattle.usb_host.specs.Finishes.{HasEnds}
@@ -18,27 +15,25 @@ use Rattle.usb_names.proofs.NameLemmas.{named-freed, named-freed_other, named-re
 use Rattle.usb_script.specs.declared.item.Item.{Item}
 use Rattle.usb_script.specs.declared.item.Item.TheVariants as item
 use Rattle.usb_answers.specs.State.{State}
-use Rattle.usb_answers.specs.Answer.{Answer}
 use Rattle.usb_answers.specs.Answers.{answer}
-use Rattle.usb_script.specs.Kinds.{awaits_control}
 use Rattle.usb_answers.specs.Ends.{readers_closed, writers_closed, endpoints_closed, future_closed_at, future_closed_under, futures_closed, ended, all_closed}
 use Rattle.usb_answers.specs.Output.{start, behind, last_host, final_host}
-use Rattle.usb_answers.specs.Served.{control_ticket, control_tickets_from, control_tickets, end_given_up}
-use Rattle.usb_answers.specs.ControlAnswers.{ControlAnswer, told_of, listed, future_gone, answered_future, answered_by, control_answers_from, control_answers}
+use Rattle.usb_answers.specs.Served.{control_ticket, control_tickets_from, control_tickets}
+use Rattle.usb_answers.specs.ControlAnswers.{ControlAnswer, listed, answered_by, control_answers_from, control_answers}
 use Rattle.usb_answers.specs.ClosedFutures.{ClosedFuture, future_closed_as, future_closed_by, futures_at_end, closed_futures_from, closed_futures}
-use Rattle.usb_answers.specs.ControlsServed.{IsAnsweredAsItCame, IsGivenUp, tickets_parted, ControlsAreServed, ScriptsServeControls}
-use Rattle.usb_answers.proofs.Does.{ControlMove, Handed, Parted, handed_of, parted_of, handed-append, handed-handed, handed-parted, parted-handed, parted-parted}
+use Rattle.usb_answers.specs.ControlsServed.{IsAnsweredAsItCame, IsGivenUp, tickets_parted, ScriptsServeControls}
+use Rattle.usb_answers.proofs.Does.{Parted, handed_of, parted_of, parted-handed, parted-parted}
 use Rattle.usb_answers.proofs.ControlLines.{future_parted, parted_by, control_moves, moves_parting, future_closed_under-does}
 use Rattle.usb_answers.proofs.EndpointLines.{closed-does}
 use Rattle.usb_answers.proofs.ReaderDoes.{reader_closed-does}
 use Rattle.usb_answers.proofs.WriterDoes.{writer_closed-does}
 use Rattle.usb_answers.proofs.EveryLine.{answer-does}
-use Rattle.usb_answers.proofs.OrderLemmas.{LeavesTickets, goes-keeps, ended-given, given-within}
-use Rattle.usb_answers.proofs.TimesLemmas.{one, times, times-append, counts-times, ticket_in, times_awaited, times-none, times-replicate}
+use Rattle.usb_answers.proofs.OrderLemmas.{goes-keeps, ended-given, given-within}
+use Rattle.usb_answers.proofs.TimesLemmas.{times, times-append, counts-times, ticket_in, times_awaited, times-none, times-replicate}
 use Rattle.usb_answers.proofs.StepLemmas.{Inv, few-taken, answer-step, handed-moves, none-handed, future_closed-step}
 use Rattle.usb_answers.proofs.HandleLemmas.{readers-step, writers-step, ends-step, futures-step, end-quiet, inv-start, inv-of, runs-go}
 use Rattle.usb_answers.proofs.FuturesAwaited.{AllAwait, Parting, parting-then, parting-same, acts-parting}
-use Rattle.usb_answers.proofs.ControlCame.{tickets_told, tickets_closed, future-given, both_by, both-parted, Came, came-on, Gave, gave-on, Tells, answer-tells, answer-came, answer-gives, closed_under-gives}
+use Rattle.usb_answers.proofs.ControlCame.{tickets_told, tickets_closed, future-given, both_by, both-parted, Came, came-on, Gave, gave-on, answer-tells, answer-came, answer-gives, closed_under-gives}
 
 told-append : (t : ℕ) (xs ys : List ControlAnswer) → times t (tickets_told (xs ++ ys)) ≡ times t (tickets_told xs) + times t (tickets_told ys)
 told-append t xs ys = ap (times t) (map-append (λ (x : ControlAnswer). x.ticket) xs ys) ∙ times-append t (tickets_told xs) (tickets_told ys)

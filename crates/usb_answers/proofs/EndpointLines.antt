@@ -1,8 +1,8 @@
 -- What the lines on endpoints do.
-use Rattle.std.proofs.Common.{◌≡◌, ℕ, ◌≤◌, arith, List, [], ◌∷◌, ◌++◌, length, drop, length-drop, Option, Some, None, Result, Bool, true, false, refl, ap, sym, ◌∙◌, slice_get}
+use Rattle.std.proofs.Common.{◌≡◌, ℕ, ◌≤◌, arith, List, [], ◌∷◌, ◌++◌, length, drop, length-drop, Option, Some, None, Result, true, false, refl, ap, sym, ◌∙◌, slice_get}
 use Rattle.std.specs.Prelude.{not, ◌||◌, ◌==◌, nat_le, is_some}
 use Rattle.std.specs.Option.{option_map}
-use Rattle.std.proofs.lemmas.Bool.{cond_both, or_parts, eqb-true, not-false}
+use Rattle.std.proofs.lemmas.Bool.{or_parts, eqb-true, not-false}
 use Rattle.usb_desc.specs.declared.types.Direction.{Direction}
 use Rattle.usb_desc.specs.declared.types.TransferType.{TransferType}
 use Rattle.usb_xfer.specs.BufferState.{BufferState}
@@ -16,10 +16,9 @@ use Rattle.usb_kernel.specs.Info.{unreaped}
 use Rattle.usb_kernel.proofs.Places.{slice_get-append_seam}
 use Rattle.usb_bus.specs.Completions.{transfer_completion}
 use Rattle.usb_endpoint.specs.EndpointState.{EndpointState}
-use Rattle.usb_host.specs.HostState.{HostState}
-use Rattle.usb_host.specs.HostCalls.{host_halt_result, host_halt_cleared}
-use Rattle.usb_host.specs.HostWaits.{host_waited}
-use Rattle.usb_host.specs.HostBlocking.{host_blocked}
+use Rattle.usb_endpoint.specs.Waits.{waited}
+use Rattle.usb_endpoint.specs.Blocking.{blocked}
+use Rattle.usb_host.specs.HostCalls.{host_halt_result, host_halt_cleared, host_calls}
 use Rattle.usb_host.specs.EndpointOpens.{host_asked, host_tries, with_endpoint}
 use Rattle.usb_host.proofs.CountLemmas.{asked-count, entered-count, waited-count, blocked-count, all_discarded-count}
 use Rattle.usb_host.proofs.FollowLemmas.{on-asked, on-waited, on-blocked, on-all_discarded}
@@ -32,15 +31,15 @@ use Rattle.usb_answers.specs.Answer.{told, barred, ok_answer, silent, if_open}
 use Rattle.usb_answers.specs.OpenAt.{InterfaceAt, interface_at}
 use Rattle.usb_answers.specs.Endpoints.{new_endpoint, endpoint_as, endpoint_answer}
 use Rattle.usb_answers.specs.Submits.{with_submission, submitted, submit_answer, has_direction}
-use Rattle.usb_answers.specs.Polls.{one_taken, taken_from, took, polled, poll_answer}
-use Rattle.usb_answers.specs.Waits.{wait_ended, waited, wait_answer}
-use Rattle.usb_answers.specs.Transfers.{bars_transfer, with_taken, transferred, transfer_answer}
+use Rattle.usb_answers.specs.Polls.{one_taken, taken_from, took, poll_on, poll_answer}
+use Rattle.usb_answers.specs.Waits.{wait_on, wait_answer}
+use Rattle.usb_answers.specs.Transfers.{bars_transfer, with_taken, transfer_made, transfer_answer}
 use Rattle.usb_answers.specs.Halts.{clear_halt_answer}
 use Rattle.usb_answers.specs.Closes.{cancel_answer, without_endpoint, close_answer, closed_at, closed}
 use Rattle.usb_answers.specs.Steps.{lent, steps_answer}
 use Rattle.usb_answers.specs.Served.{closed_as, closed_under}
 use Rattle.usb_names.proofs.NameLemmas.{named-change_same, change-change}
-use Rattle.usb_answers.proofs.Does.{Quiet, Acts, Does, says_done, goes, opens, submits, ends, takes, closes, quiet-aside, quiet-same, quiet-stepped, told-does, barred-does, free-does, bar-does, try-does, ok-does, call-does, stepping-does, host-does, result-other}
+use Rattle.usb_answers.proofs.Does.{Acts, Does, says_done, goes, opens, submits, ends, takes, closes, quiet-aside, quiet-same, quiet-stepped, told-does, barred-does, free-does, bar-does, try-does, ok-does, call-does, stepping-does, host-does, result-other}
 use Rattle.usb_answers.proofs.DeviceHosts.{halt-aside}
 
 -- an endpoint is opened
@@ -71,30 +70,25 @@ took-does : (line : Option Completion → List ℕ) (state : State) (e t : ℕ) 
 took-does line state e t h None other done here front is = told-does state (line None) other
 took-does line state e t h (Some c) other done here front is = takes e t h c here (λ few. front) is (done c) (quiet-same (taken_from state e t))
 
-polled-does : (state : State) (e : ℕ) (h : Endpoint) (o : Option ℕ) → named state.endpoints e ≡ Some h → slice_get h.tickets h.taken ≡ o → Does state (polled state e o)
-polled-does state e h None here front = barred-does state
-polled-does state e h (Some t) here front = took-does polled_line state e t h (transfer_completion state.host.kernel.past t) refl (λ c. refl) here front refl
+poll_on-does : (state : State) (e : ℕ) (h : Endpoint) (o : Option ℕ) → named state.endpoints e ≡ Some h → slice_get h.tickets h.taken ≡ o → Does state (poll_on state e o)
+poll_on-does state e h None here front = barred-does state
+poll_on-does state e h (Some t) here front = took-does polled_line state e t h (transfer_completion state.host.kernel.past t) refl (λ c. refl) here front refl
 
 pub poll-does : (state : State) (e : ℕ) → Does state (poll_answer state e)
 unfolding poll_answer
-poll-does state e = call-does (named state.endpoints e) _ (λ h here. polled-does state e h (slice_get h.tickets h.taken) here refl)
+poll-does state e = call-does (named state.endpoints e) _ (λ h here. poll_on-does state e h (slice_get h.tickets h.taken) here refl)
 
-wait_ended-does : (state : State) (e t : ℕ) (h : Endpoint) (p : Bool × HostState) → named state.endpoints e ≡ Some h → slice_get h.tickets h.taken ≡ Some t → Quiet state (with_host state p.1) → Does state (wait_ended state e t p)
-wait_ended-does state e t h p here front quiet =
-    cond_both p.0 _ (told (with_host state p.1) (waited_line None)) (Does state)
-    (λ yes_. goes quiet (took-does waited_line (with_host state p.1) e t h (transfer_completion p.1.kernel.past t) refl (λ c. refl) here front refl))
-    (λ no_. ends refl quiet)
-
-waited-does : (state : State) (e timeout : ℕ) (h : Endpoint) (o : Option ℕ) → named state.endpoints e ≡ Some h → slice_get h.tickets h.taken ≡ o → Does state (waited state e timeout o)
-waited-does state e timeout h None here front = barred-does state
-waited-does state e timeout h (Some t) here front =
-    wait_ended-does state e t h (host_waited state.host t timeout) here front
-    (record { keeps = on-waited state.host t timeout; count = waited-count state.host t timeout; endpoints = refl; futures = refl })
+wait_on-does : (state : State) (e timeout : ℕ) (h : Endpoint) (o : Option ℕ) → named state.endpoints e ≡ Some h → slice_get h.tickets h.taken ≡ o → Does state (wait_on state e timeout o)
+wait_on-does state e timeout h None here front = barred-does state
+wait_on-does state e timeout h (Some t) here front =
+    let mid = with_host state (waited host_calls t timeout state.host) in
+    goes (record { keeps = on-waited state.host t timeout; count = waited-count state.host t timeout; endpoints = refl; futures = refl })
+    (took-does waited_line mid e t h (transfer_completion mid.host.kernel.past t) refl (λ c. refl) here front refl)
 
 pub wait-does : (state : State) (e timeout : ℕ) (steps : List KernelStep) → Does state (wait_answer state e timeout steps)
 unfolding wait_answer
 wait-does state e timeout steps =
-    stepping-does (named state.endpoints e) _ (λ h here. waited-does (lent state steps) e timeout h (slice_get h.tickets h.taken) here refl)
+    stepping-does (named state.endpoints e) _ (λ h here. wait_on-does (lent state steps) e timeout h (slice_get h.tickets h.taken) here refl)
 
 -- a blocking transfer at an endpoint where none is pending: its ticket is submitted, comes, and is taken
 transfer-free : (past : List Event) (direction : Direction) (h : EndpointState) → bars_transfer past direction h ≡ false → length h.pending ≡ 0
@@ -118,17 +112,17 @@ some-of (Some x) is = (x, refl)
 pushed-front : (n : ℕ) (xs : List ℕ) (x : ℕ) → n ≤ length xs → length (drop n xs) ≡ 0 → slice_get (xs ++ x ∷ []) n ≡ Some x
 pushed-front n xs x within none = let all : n ≡ length xs = omega (arith, length-drop n xs) in ap (slice_get (xs ++ x ∷ [])) all ∙ slice_get-append_seam xs x
 
-transferred-does : (state : State) (e : ℕ) (b : BufferState) (timeout : ℕ) (h : Endpoint) → named state.endpoints e ≡ Some h → length (pending h) ≡ 0 → Does state (transferred state e b timeout h)
-transferred-does state e b timeout h here none =
+transfer_made-does : (state : State) (e : ℕ) (b : BufferState) (timeout : ℕ) (h : Endpoint) → named state.endpoints e ≡ Some h → length (pending h) ≡ 0 → Does state (transfer_made state e b timeout h)
+transfer_made-does state e b timeout h here none =
     let n = tickets_of state in
     let sent = submitted state e b h in
-    let last = with_host sent (host_blocked sent.host n timeout) in
+    let last = with_host sent (blocked host_calls n timeout sent.host) in
     let one = entered-count state.host (kept h) b in
     let found = some-of (transfer_completion last.host.kernel.past n) (blocked-found sent.host n timeout (omega (arith, one.past))) in
     submits e b h here (λ few. few e h here) (goes (record { keeps = on-blocked sent.host n timeout; count = blocked-count sent.host n timeout; endpoints = refl; futures = refl })
     (takes e n (with_submission n h) found.0 (named-change_same (with_submission n) state.endpoints e ∙ ap (option_map (with_submission n)) here)
     (λ few. pushed-front h.taken h.tickets n (few e h here) none) found.1 (ap waited_line found.1)
-    (quiet-aside (taken_from last e n) (transferred state e b timeout h).state refl refl (sym (pushed-taken n state.endpoints e)) refl)))
+    (quiet-aside (taken_from last e n) (transfer_made state e b timeout h).state refl refl (sym (pushed-taken n state.endpoints e)) refl)))
 
 pub transfer-does : (state : State) (direction : Direction) (e : ℕ) (b : BufferState) (timeout : ℕ) (steps : List KernelStep) → Does state (transfer_answer state direction e b timeout steps)
 unfolding transfer_answer
@@ -136,7 +130,7 @@ transfer-does state direction e b timeout steps =
     let now = lent state steps in
     stepping-does (named state.endpoints e) _ (λ h here.
     bar-does
-    (λ allowed. transferred-does now e b timeout h here (transfer-free now.host.kernel.past direction (kept h) allowed)))
+    (λ allowed. transfer_made-does now e b timeout h here (transfer-free now.host.kernel.past direction (kept h) allowed)))
 
 -- the pending transfers of an endpoint are discarded
 pub cancel-does : (state : State) (e : ℕ) → Does state (cancel_answer state e)

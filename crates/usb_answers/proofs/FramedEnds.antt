@@ -11,6 +11,7 @@ use Rattle.usb_error.specs.FaultState.{FaultState}
 use Rattle.usb_kernel.specs.declared.event.Event.{Event}
 use Rattle.usb_simulated.specs.declared.step.KernelStep.{KernelStep}
 use Rattle.usb_host.specs.HostState.{HostState}
+use Rattle.usb_host.specs.HostCalls.{host_calls}
 use Rattle.usb_io.specs.Readers.{no_bytes, is_end}
 use Rattle.usb_io.specs.Reads.{Reading, reading}
 use Rattle.usb_io.specs.Streams.{Item, Byte, End, stream_of, delivered}
@@ -18,8 +19,8 @@ use Rattle.usb_io.specs.Following.{IsPrefixOf}
 use Rattle.usb_io.specs.StreamFaults.{read_fault}
 use Rattle.usb_io.specs.declared.fault.ReadFault.{ReadFault}
 use Rattle.usb_io.specs.declared.fault.ReadFault.TheVariants.{Transfer, TimedOut, UnexpectedEof}
+use Rattle.usb_io.specs.Answers.{fill_came, read_came}
 use Rattle.usb_io.proofs.Following.{consumed_is_prefix, end_is_next}
-use Rattle.usb_streams.specs.HostReads.{fill_came, read_came}
 use Rattle.usb_streams.proofs.FramedCalls.{empty_read_leaves_end, empty_fill_leaves_end}
 use Rattle.usb_stream_lines.specs.Faults.{io_line}
 use Rattle.usb_stream_lines.specs.Reads.{read_line, buffer_line}
@@ -133,17 +134,17 @@ open-ends print none state r call ends = by (reader_at state r) refl
     by (Some x0) was x at is = ends x0 was x at is
 
 read_as-ends : (state : State) (r timeout most : ℕ) (x0 : ReaderAt) (line : Result (List ℕ) ReadFault → List ℕ) → 1 ≤ most → ((a : Result (List ℕ) ReadFault) → line a ≡ read_line [] → a ≡ Ok []) → reader_at state r ≡ Some x0
-    → Ends read_line r (read_as state UntilShort r x0 line (read_came true timeout most (reading state.host (state_of_reader x0))))
+    → Ends read_line r (read_as state UntilShort r x0 line (read_came host_calls true timeout most (reading state.host (state_of_reader x0))))
 read_as-ends state r timeout most x0 line some none was x at is =
     let w = reading state.host (state_of_reader x0) in
-    let a = read_came true timeout most w in
+    let a = read_came host_calls true timeout most w in
     as-end state r x0 x (consumed_with UntilShort (map Byte (bytes_given a.answer)) x0.reader.consumed) (bytes_given a.answer) a.left was (empty_read_leaves_end timeout most w some (none a.answer is)) at
 
 filled_as-ends : (state : State) (r timeout : ℕ) (x0 : ReaderAt) (line : Result (List ℕ) ReadFault → List ℕ) → ((a : Result (List ℕ) ReadFault) → line a ≡ buffer_line [] → a ≡ Ok []) → reader_at state r ≡ Some x0
-    → Ends buffer_line r (filled_as state UntilShort r x0 line (fill_came true timeout (reading state.host (state_of_reader x0))))
+    → Ends buffer_line r (filled_as state UntilShort r x0 line (fill_came host_calls true timeout (reading state.host (state_of_reader x0))))
 filled_as-ends state r timeout x0 line none was x at is =
     let w = reading state.host (state_of_reader x0) in
-    let a = fill_came true timeout w in
+    let a = fill_came host_calls true timeout w in
     as-end state r x0 x (consumed_with UntilShort [] x0.reader.consumed) [] a.left was (empty_fill_leaves_end timeout w (none a.answer is)) at
 
 pub read-ends : (state : State) (r most : ℕ) (steps : List KernelStep) → 1 ≤ most → Ends read_line r (read_answer state UntilShort r most steps)
@@ -152,7 +153,7 @@ read-ends state r most steps some =
     let now = lent state steps in
     let line = given_line read_line in
     stepping-ends read_line read-none state r steps (read_on now UntilShort r most) (λ x0 was.
-    bar-ends read_line read-none now r (bars_read now UntilShort x0) (read_as now UntilShort r x0 line (read_came true x0.reader.bare.timeout most (reading now.host (state_of_reader x0))))
+    bar-ends read_line read-none now r (bars_read now UntilShort x0) (read_as now UntilShort r x0 line (read_came host_calls true x0.reader.bare.timeout most (reading now.host (state_of_reader x0))))
     (read_as-ends now r x0.reader.bare.timeout most x0 line some (given-none read_line read-none) was))
 
 pub poll_read-ends : (state : State) (r most : ℕ) → 1 ≤ most → Ends read_line r (poll_read_answer state UntilShort r most)
@@ -160,7 +161,7 @@ unfolding poll_read_answer
 poll_read-ends state r most some =
     let line = polled_given_line read_line in
     open-ends read_line read-none state r (poll_read_on state UntilShort r most) (λ x0 was.
-    bar-ends read_line read-none state r (bars_read state UntilShort x0) (read_as state UntilShort r x0 line (read_came true 0 most (reading state.host (state_of_reader x0))))
+    bar-ends read_line read-none state r (bars_read state UntilShort x0) (read_as state UntilShort r x0 line (read_came host_calls true 0 most (reading state.host (state_of_reader x0))))
     (read_as-ends state r 0 most x0 line some (polled-none read_line read-none) was))
 
 pub fill-ends : (state : State) (r : ℕ) (steps : List KernelStep) → Ends buffer_line r (fill_answer state UntilShort r steps)
@@ -169,7 +170,7 @@ fill-ends state r steps =
     let now = lent state steps in
     let line = given_line buffer_line in
     stepping-ends buffer_line buffer-none state r steps (fill_on now UntilShort r) (λ x0 was.
-    bar-ends buffer_line buffer-none now r (bars_read now UntilShort x0) (filled_as now UntilShort r x0 line (fill_came true x0.reader.bare.timeout (reading now.host (state_of_reader x0))))
+    bar-ends buffer_line buffer-none now r (bars_read now UntilShort x0) (filled_as now UntilShort r x0 line (fill_came host_calls true x0.reader.bare.timeout (reading now.host (state_of_reader x0))))
     (filled_as-ends now r x0.reader.bare.timeout x0 line (given-none buffer_line buffer-none) was))
 
 pub poll_fill-ends : (state : State) (r : ℕ) → Ends buffer_line r (poll_fill_answer state UntilShort r)
@@ -177,7 +178,7 @@ unfolding poll_fill_answer
 poll_fill-ends state r =
     let line = polled_given_line buffer_line in
     open-ends buffer_line buffer-none state r (poll_fill_on state UntilShort r) (λ x0 was.
-    bar-ends buffer_line buffer-none state r (bars_read state UntilShort x0) (filled_as state UntilShort r x0 line (fill_came true 0 (reading state.host (state_of_reader x0))))
+    bar-ends buffer_line buffer-none state r (bars_read state UntilShort x0) (filled_as state UntilShort r x0 line (fill_came host_calls true 0 (reading state.host (state_of_reader x0))))
     (filled_as-ends state r 0 x0 line (polled-none buffer_line buffer-none) was))
 
 -- the stream of a reader's endpoint

@@ -13,7 +13,7 @@ use Rattle.usb_simulated.specs.declared.step.KernelStep.{KernelStep}
 use Rattle.usb_endpoint.specs.EndpointState.{EndpointState}
 use Rattle.usb_endpoint.specs.Closes.{all_discarded}
 use Rattle.usb_host.specs.HostState.{HostState}
-use Rattle.usb_host.specs.HostCalls.{host_discarded}
+use Rattle.usb_host.specs.HostCalls.{host_discarded, host_calls}
 use Rattle.usb_host.specs.EndpointRefusals.{same_direction}
 use Rattle.usb_host.proofs.FollowLemmas.{on-rest, on-all_discarded}
 use Rattle.usb_io.specs.Readers.{ReaderState, fresh_reader, with_read, without_end, is_end}
@@ -21,9 +21,9 @@ use Rattle.usb_io.specs.Reads.{Reading, reading, filled_to}
 use Rattle.usb_io.specs.Streams.{Item, Byte, End}
 use Rattle.usb_io.specs.Following.{History, no_history, Follows}
 use Rattle.usb_io.specs.declared.fault.ReadFault.{ReadFault}
+use Rattle.usb_io.specs.Answers.{fill_came, read_came}
 use Rattle.usb_io.proofs.Following.{fresh_follows, later_follows, reading_follows, ending_follows}
 use Rattle.usb_streams.specs.Numbers.{numbers_from}
-use Rattle.usb_streams.specs.HostReads.{host_calls, fill_came, read_came}
 use Rattle.usb_streams.specs.Laws.{CallGoesOn}
 use Rattle.usb_streams.specs.Framed.{given_by, GoesOnToFollow, KeepsToStream}
 use Rattle.usb_streams.proofs.CallsGoOn.{fill_goes_on, read_goes_on, submissions_go_on}
@@ -374,28 +374,28 @@ pub given-same : (a : Result (List ℕ) ReadFault) → bytes_given a ≡ given_b
 given-same (Ok bytes) = refl
 given-same (Err fault) = refl
 
-read-keeps_to : (framing : Framing) (timeout most : ℕ) (w : Reading HostState) → framing ≡ UntilShort → KeepsToStream w (read_came (is_until_short framing) timeout most w).left (given_by (read_came (is_until_short framing) timeout most w).answer)
+read-keeps_to : (framing : Framing) (timeout most : ℕ) (w : Reading HostState) → framing ≡ UntilShort → KeepsToStream w (read_came host_calls (is_until_short framing) timeout most w).left (given_by (read_came host_calls (is_until_short framing) timeout most w).answer)
 read-keeps_to Plain timeout most w framed = absurd (cc)
 read-keeps_to UntilShort timeout most w framed = framed_read_follows timeout most w
 
-fill-keeps_to : (framing : Framing) (timeout : ℕ) (w : Reading HostState) → framing ≡ UntilShort → KeepsToStream w (fill_came (is_until_short framing) timeout w).left []
+fill-keeps_to : (framing : Framing) (timeout : ℕ) (w : Reading HostState) → framing ≡ UntilShort → KeepsToStream w (fill_came host_calls (is_until_short framing) timeout w).left []
 fill-keeps_to Plain timeout w framed = absurd (cc)
 fill-keeps_to UntilShort timeout w framed = framed_fill_follows timeout w
 
 read_as-follow : (state : State) (framing : Framing) (r timeout most : ℕ) (x : ReaderAt) (line : Result (List ℕ) ReadFault → List ℕ) → reader_at state r ≡ Some x → FramedFollow state
-    → IsLawful (read_as state framing r x line (read_came (is_until_short framing) timeout most (reading state.host (state_of_reader x)))).state.host.kernel.past
-    → FramedFollow (read_as state framing r x line (read_came (is_until_short framing) timeout most (reading state.host (state_of_reader x)))).state
+    → IsLawful (read_as state framing r x line (read_came host_calls (is_until_short framing) timeout most (reading state.host (state_of_reader x)))).state.host.kernel.past
+    → FramedFollow (read_as state framing r x line (read_came host_calls (is_until_short framing) timeout most (reading state.host (state_of_reader x)))).state
 read_as-follow state framing r timeout most x line at f lawful =
     let w = reading state.host (state_of_reader x) in
-    let a = read_came (is_until_short framing) timeout most w in
+    let a = read_came host_calls (is_until_short framing) timeout most w in
     call-follow state framing r x (map Byte (bytes_given a.answer)) (given_by a.answer) (bytes_given a.answer) a.left (ap (map Byte) (given-same a.answer)) at f (read_goes_on (is_until_short framing) timeout most w) (read-keeps_to framing timeout most w) lawful
 
 filled_as-follow : (state : State) (framing : Framing) (r timeout : ℕ) (x : ReaderAt) (line : Result (List ℕ) ReadFault → List ℕ) → reader_at state r ≡ Some x → FramedFollow state
-    → IsLawful (filled_as state framing r x line (fill_came (is_until_short framing) timeout (reading state.host (state_of_reader x)))).state.host.kernel.past
-    → FramedFollow (filled_as state framing r x line (fill_came (is_until_short framing) timeout (reading state.host (state_of_reader x)))).state
+    → IsLawful (filled_as state framing r x line (fill_came host_calls (is_until_short framing) timeout (reading state.host (state_of_reader x)))).state.host.kernel.past
+    → FramedFollow (filled_as state framing r x line (fill_came host_calls (is_until_short framing) timeout (reading state.host (state_of_reader x)))).state
 filled_as-follow state framing r timeout x line at f lawful =
     let w = reading state.host (state_of_reader x) in
-    let a = fill_came (is_until_short framing) timeout w in
+    let a = fill_came host_calls (is_until_short framing) timeout w in
     call-follow state framing r x [] [] [] a.left refl at f (fill_goes_on (is_until_short framing) timeout w) (fill-keeps_to framing timeout w) lawful
 
 abbrev Keeps : Answer → Type 0

@@ -1,16 +1,14 @@
 -- Futures that are open under a name: each has its ticket, and its deadline is the ticket's.
-use Rattle.std.proofs.Common.{◌≡◌, ◌≢◌, ℕ, zero, suc, arith, ◌<◌, ◌≤◌, ◌+◌, Bool, true, false, List, [], ◌∷◌, ◌++◌, map, length, slice_get, Option, Some, None, inl, inr, refl, ap, sym, ◌∙◌, subst, append-nil}
-use Rattle.std.proofs.lemmas.Bool.{cases_eq, cases_Bool}
+use Rattle.std.proofs.Common.{◌≡◌, ℕ, arith, ◌+◌, true, false, List, [], ◌∷◌, ◌++◌, map, length, Option, Some, None, inl, inr, refl, ap, sym, ◌∙◌, subst, append-nil}
+use Rattle.std.proofs.lemmas.Bool.{cases_eq}
 use Rattle.std.proofs.lemmas.Option.{none-some, same_Some}
 use Rattle.usb_kernel.specs.Extends.{Extends}
-use Rattle.usb_kernel.specs.Tickets.{tickets}
-use Rattle.usb_kernel.proofs.Extends.{extends-same}
 use Rattle.usb_xfer.specs.declared.transfer.TransferData.{TransferData}
+use Rattle.usb_endpoint.specs.Waits.{is_reaped}
 use Rattle.usb_host.specs.HostState.{HostState}
 use Rattle.usb_host.specs.Controls.{control_submission, deadline_after}
-use Rattle.usb_host.specs.HostWaits.{is_found}
-use Rattle.usb_host.specs.HostAwaits.{deadline_of, host_awaited, host_turned_until}
-use Rattle.usb_host.proofs.AwaitLemmas.{awaited-found, left_until, until-keeps}
+use Rattle.usb_host.specs.HostAwaits.{deadline_of}
+use Rattle.usb_host.specs.HostCalls.{host_calls}
 use Rattle.usb_host.proofs.ControlLemmas.{started-due}
 use Rattle.usb_host.proofs.StartedLemmas.{Parts}
 use Rattle.usb_device.specs.Futures.{FutureState, fresh_future}
@@ -26,33 +24,14 @@ use Rattle.usb_answers.specs.Served.{ClosedEndpoint}
 use Rattle.usb_answers.specs.ControlAnswers.{listed}
 use Rattle.usb_answers.proofs.FutureLemmas.{deadline-stays, unfound}
 use Rattle.usb_answers.proofs.TimesLemmas.{one, times, times-append, ticket_in, times_awaited, open-change}
-use Rattle.usb_answers.proofs.Does.{Quiet, ControlMove, Handed, Parted, handed_of, parted_of, handed-append, parted-append, handed-parted, parted-parted, Acts, moved, without_future_of, goes, opens, submits, fits, reads, starts, controls, frees, ends, takes, closes, moves}
+use Rattle.usb_answers.proofs.Does.{ControlMove, Handed, Parted, handed_of, parted_of, handed-append, parted-append, handed-parted, parted-parted, Acts, moved, without_future_of, goes, opens, submits, fits, reads, starts, controls, frees, ends, takes, closes, moves}
 use Rattle.usb_answers.proofs.StepLemmas.{Inv, step-quiet, step-open, step-push, step-take, step-close, step-move, step-start, step-control, step-free}
-
--- a wait for a ticket goes on until it is found: at its deadline it is, at the latest
-module _ (t d : ℕ) where
-  finds-within : (n : ℕ) (h : HostState) → left_until t h < n → (is_found h t ≡ false → deadline_of h.kernel.past t ≡ Some d) → is_found (host_awaited h t d) t ≡ true
-  finds-within zero h few due = absurd (omega arith)
-  finds-within (suc n) h few due =
-      elim (cases_Bool (is_found h t)) [
-        | inl found ↦ subst (λ (g : HostState). is_found g t ≡ true) (sym (awaited-found t h d found)) found
-        | inr none ↦
-            let g = host_turned_until h d in
-            let keeps = until-keeps t d h g refl none (due none) in
-            subst (λ (x : HostState). is_found x t ≡ true) keeps.awaits (finds-within n g (below (left_until t g) (left_until t h) n keeps.less few) (λ open_. keeps.due))
-      ]
-    where
-      below : (a b n : ℕ) → a < b → b < suc n → a < n
-      below a b n less few = omega arith
-
-  pub awaited-finds : (h : HostState) → (is_found h t ≡ false → deadline_of h.kernel.past t ≡ Some d) → is_found (host_awaited h t d) t ≡ true
-  awaited-finds h due = finds-within (suc (left_until t h)) h (omega arith) due
 
 -- a future has its ticket, and while that is not reaped its deadline
 pub record Awaits (h : HostState) (f : FutureState) : Type 0 where
   pub ticket : ℕ
   pub is : f.ticket ≡ Some ticket
-  pub due : is_found h ticket ≡ false → deadline_of h.kernel.past ticket ≡ Some f.deadline
+  pub due : is_reaped host_calls ticket h ≡ false → deadline_of h.kernel.past ticket ≡ Some f.deadline
 
 pub awaits-on : (old new : HostState) (f : FutureState) → Extends old.kernel.past new.kernel.past → Awaits old f → Awaits new f
 awaits-on old new f later was =

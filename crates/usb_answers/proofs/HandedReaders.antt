@@ -13,14 +13,14 @@ use Rattle.usb_simulated.specs.declared.step.KernelStep.{KernelStep}
 use Rattle.usb_endpoint.specs.EndpointState.{EndpointState}
 use Rattle.usb_endpoint.specs.Closes.{all_discarded}
 use Rattle.usb_host.specs.HostState.{HostState}
-use Rattle.usb_host.specs.HostCalls.{host_discarded}
+use Rattle.usb_host.specs.HostCalls.{host_discarded, host_calls}
 use Rattle.usb_host.proofs.FollowLemmas.{on-rest, on-all_discarded}
 use Rattle.usb_io.specs.Readers.{ReaderState, with_read, without_end, is_end}
 use Rattle.usb_io.specs.Reads.{Reading, reading, filled_to}
 use Rattle.usb_io.specs.Streams.{Item, Byte, End}
 use Rattle.usb_io.specs.declared.fault.ReadFault.{ReadFault}
+use Rattle.usb_io.specs.Answers.{fill_came, read_came}
 use Rattle.usb_streams.specs.Numbers.{numbers_from}
-use Rattle.usb_streams.specs.HostReads.{host_calls, fill_came, read_came}
 use Rattle.usb_streams.specs.Handed.{completed_bytes, HandsOver}
 use Rattle.usb_streams.proofs.CallsGoOn.{fill_goes_on, read_goes_on, submissions_go_on}
 use Rattle.usb_streams.proofs.HandedCalls.{complete-later, bytes-later, bytes-append, fill_hands_over, read_hands_over, submissions_hand_over}
@@ -303,20 +303,20 @@ stepped-hand state steps f = rested-hand (lent state steps) (lent-hand state ste
 
 -- reading calls
 read_as-hand : (state : State) (framing : Framing) (r timeout most : ℕ) (x : ReaderAt) (line : Result (List ℕ) ReadFault → List ℕ) → reader_at state r ≡ Some x → AllHandOver state
-    → AllHandOver (read_as state framing r x line (read_came (is_until_short framing) timeout most (reading state.host (state_of_reader x)))).state
+    → AllHandOver (read_as state framing r x line (read_came host_calls (is_until_short framing) timeout most (reading state.host (state_of_reader x)))).state
 read_as-hand state framing r timeout most x line at f =
     let us = is_until_short framing in
     let w = reading state.host (state_of_reader x) in
-    let a = read_came us timeout most w in
+    let a = read_came host_calls us timeout most w in
     called-hand state r x (state_of_reader x) (consumed_with framing (map Byte (bytes_given a.answer)) x.reader.consumed) (bytes_given a.answer) a.left at refl refl (read_goes_on us timeout most w).past
     (subst (λ (bytes : List ℕ). HandsOver w a.left bytes) (sym (given-same a.answer)) (read_hands_over us timeout most w)) f
 
 filled_as-hand : (state : State) (framing : Framing) (r timeout : ℕ) (x : ReaderAt) (line : Result (List ℕ) ReadFault → List ℕ) → reader_at state r ≡ Some x → AllHandOver state
-    → AllHandOver (filled_as state framing r x line (fill_came (is_until_short framing) timeout (reading state.host (state_of_reader x)))).state
+    → AllHandOver (filled_as state framing r x line (fill_came host_calls (is_until_short framing) timeout (reading state.host (state_of_reader x)))).state
 filled_as-hand state framing r timeout x line at f =
     let us = is_until_short framing in
     let w = reading state.host (state_of_reader x) in
-    called-hand state r x (state_of_reader x) (consumed_with framing [] x.reader.consumed) [] (fill_came us timeout w).left at refl refl (fill_goes_on us timeout w).past (fill_hands_over us timeout w) f
+    called-hand state r x (state_of_reader x) (consumed_with framing [] x.reader.consumed) [] (fill_came host_calls us timeout w).left at refl refl (fill_goes_on us timeout w).past (fill_hands_over us timeout w) f
 
 -- a call that may be barred
 bar-hand : (state : State) (bars : Bool) (call : Answer) → AllHandOver state → AllHandOver call.state → AllHandOver (if bars then barred state else call).state

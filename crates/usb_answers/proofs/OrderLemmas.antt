@@ -20,7 +20,7 @@ use Rattle.usb_host.specs.HostState.{HostState}
 use Rattle.usb_ledger.specs.EndedTickets.{end_at, ended_at}
 use Rattle.usb_host.specs.Finishes.{HasEnds}
 use Rattle.usb_host.specs.TicketEnds.{host_taken, host_abandoned}
-use Rattle.usb_host.specs.HostCalls.{host_discarded, host_left}
+use Rattle.usb_host.specs.HostCalls.{host_discarded, host_left, host_calls}
 use Rattle.usb_host.proofs.CloseLemmas.{discards-tickets, discards-completion, abandoned-past, abandoned-others, left-tickets}
 use Rattle.usb_host.proofs.FollowLemmas.{Follows, KeepsTickets, on-all_discarded, on-left, taken-past, taken-others, taken-here, GivenUp, dropped, waits, abandoned-here}
 use Rattle.usb_answers.specs.State.{Endpoint, pending, kept}
@@ -252,7 +252,7 @@ abbrev given_up_by : HostState → EndpointState → HostState
 given_up_by h e = all_abandoned host_abandoned (discarded_by h e) e.pending
 
 abbrev pub left_by : HostState → EndpointState → HostState
-left_by h e = after_close host_discarded host_abandoned host_left h e
+left_by h e = after_close host_calls h e
 
 pub before-past : (h : HostState) (e : EndpointState) → Extends h.kernel.past (given_up_by h e).kernel.past
 before-past h e =

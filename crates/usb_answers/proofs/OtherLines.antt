@@ -23,11 +23,12 @@ use Rattle.usb_script.specs.declared.item.Item.{Item}
 use Rattle.usb_script.specs.declared.item.Item.TheVariants as item
 use Rattle.usb_xfer.specs.declared.transfer.TransferData.{TransferData}
 use Rattle.usb_host.specs.HostState.{HostState}
-use Rattle.usb_host.specs.HostWaits.{host_waited}
+use Rattle.usb_endpoint.specs.Waits.{waited}
 use Rattle.usb_host.specs.Owners.{is_shared}
 use Rattle.usb_host.specs.Opens.{host_opened, open_key}
 use Rattle.usb_host.specs.InterfaceClaims.{claim_tried, claimed_key, host_claimed}
 use Rattle.usb_host.specs.EndpointOpens.{host_asked, host_tries}
+use Rattle.usb_host.specs.HostCalls.{host_calls}
 use Rattle.usb_device.specs.Futures.{FutureState, future_answer}
 use Rattle.usb_bus.specs.Completions.{transfer_completion}
 use Rattle.usb_lines.specs.Completions.{polled_line, waited_line}
@@ -51,9 +52,9 @@ use Rattle.usb_answers.specs.Settings.{set_alt_setting_answer, get_alt_setting_a
 use Rattle.usb_answers.specs.Endpoints.{new_endpoint, endpoint_as, endpoint_asked, endpoint_on, endpoint_answer}
 use Rattle.usb_answers.specs.Submits.{bars_submission, with_submission, submitted, submit_on, submit_answer}
 use Rattle.usb_answers.specs.Pending.{pending_answer}
-use Rattle.usb_answers.specs.Polls.{one_taken, took, polled, poll_answer}
-use Rattle.usb_answers.specs.Waits.{waited, wait_answer}
-use Rattle.usb_answers.specs.Transfers.{bars_transfer, with_taken, transferred, transfer_on, transfer_answer}
+use Rattle.usb_answers.specs.Polls.{one_taken, took, poll_on, poll_answer}
+use Rattle.usb_answers.specs.Waits.{wait_on, wait_answer}
+use Rattle.usb_answers.specs.Transfers.{bars_transfer, with_taken, transfer_made, transfer_on, transfer_answer}
 use Rattle.usb_answers.specs.Halts.{clear_halt_answer}
 use Rattle.usb_answers.specs.Closes.{cancel_answer, close_answer, close_future_answer, close_device_answer, without_interface, close_interface_answer, release_on, release_answer}
 use Rattle.usb_answers.specs.Controls.{device_of_target, bars_control, control_on, control_answer, request_for, request_with}
@@ -309,31 +310,30 @@ took-leaves : (line : Option Completion → List ℕ) (state : State) (host : Ho
 took-leaves line state host p t None apart = still refl refl refl
 took-leaves line state host p t (Some c) apart = changes one_taken apart refl refl refl
 
-polled-leaves : (state : State) (p : ℕ) (o : Option ℕ) → IsApart p → Leaves state (polled state p o)
-polled-leaves state p None apart = still refl refl refl
-polled-leaves state p (Some t) apart = took-leaves polled_line state state.host p t (transfer_completion state.host.kernel.past t) apart
+poll_on-leaves : (state : State) (p : ℕ) (o : Option ℕ) → IsApart p → Leaves state (poll_on state p o)
+poll_on-leaves state p None apart = still refl refl refl
+poll_on-leaves state p (Some t) apart = took-leaves polled_line state state.host p t (transfer_completion state.host.kernel.past t) apart
 
 poll-leaves : (state : State) (p : ℕ) → IsApart p → Leaves state (poll_answer state p)
 unfolding poll_answer
-poll-leaves state p apart = on-leaves (named state.endpoints p) _ (λ h. polled-leaves state p (slice_get h.tickets h.taken) apart)
+poll-leaves state p apart = on-leaves (named state.endpoints p) _ (λ h. poll_on-leaves state p (slice_get h.tickets h.taken) apart)
 
-waited-leaves : (state : State) (p timeout : ℕ) (o : Option ℕ) → IsApart p → Leaves state (waited state p timeout o)
-waited-leaves state p timeout None apart = still refl refl refl
-waited-leaves state p timeout (Some t) apart =
-    let q = host_waited state.host t timeout in
-    let c = transfer_completion q.1.kernel.past t in
-    if-leaves state q.0 (took waited_line (with_host state q.1) p t c) (told (with_host state q.1) (waited_line None)) (took-leaves waited_line state q.1 p t c apart) (still refl refl refl)
+wait_on-leaves : (state : State) (p timeout : ℕ) (o : Option ℕ) → IsApart p → Leaves state (wait_on state p timeout o)
+wait_on-leaves state p timeout None apart = still refl refl refl
+wait_on-leaves state p timeout (Some t) apart =
+    let mid = waited host_calls t timeout state.host in
+    took-leaves waited_line state mid p t (transfer_completion mid.kernel.past t) apart
 
 wait-leaves : (state : State) (p timeout : ℕ) (steps : List KernelStep) → IsApart p → Leaves state (wait_answer state p timeout steps)
 unfolding wait_answer
-wait-leaves state p timeout steps apart = stepping-leaves (named state.endpoints p) _ (λ h. waited-leaves (lent state steps) p timeout (slice_get h.tickets h.taken) apart)
+wait-leaves state p timeout steps apart = stepping-leaves (named state.endpoints p) _ (λ h. wait_on-leaves (lent state steps) p timeout (slice_get h.tickets h.taken) apart)
 
 transfer-leaves : (state : State) (direction : Direction) (p : ℕ) (b : BufferState) (timeout : ℕ) (steps : List KernelStep) → IsApart p → Leaves state (transfer_answer state direction p b timeout steps)
 unfolding transfer_answer
 transfer-leaves state direction p b timeout steps apart =
     let now = lent state steps in
     stepping-leaves (named state.endpoints p) (transfer_on now direction p b timeout) (λ h.
-    bar-leaves now (bars_transfer now.host.kernel.past direction (kept h)) (transferred now p b timeout h) (changes (with_taken (tickets_of now)) apart refl refl refl))
+    bar-leaves now (bars_transfer now.host.kernel.past direction (kept h)) (transfer_made now p b timeout h) (changes (with_taken (tickets_of now)) apart refl refl refl))
 
 cancel-leaves : (state : State) (p : ℕ) → Leaves state (cancel_answer state p)
 unfolding cancel_answer

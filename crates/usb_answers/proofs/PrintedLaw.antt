@@ -1,14 +1,12 @@
 -- What lines print of the tickets that they take.
-use Rattle.std.proofs.Common.{◌≡◌, ◌≢◌, ℕ, ◌+◌, List, [], ◌∷◌, ◌++◌, Option, Some, refl, ap, sym, ◌∙◌, subst, slice_get}
+use Rattle.std.proofs.Common.{◌≡◌, ℕ, ◌+◌, List, [], Option, Some, refl, ap, sym, ◌∙◌, subst, slice_get}
 use Rattle.std.specs.Option.{option_map}
 use Rattle.usb_xfer.specs.declared.transfer.Completion.{Completion}
 use Rattle.usb_kernel.specs.declared.event.Event.{Event}
 use Rattle.usb_kernel.specs.Extends.{Extends}
 use Rattle.usb_bus.specs.Completions.{transfer_completion}
-use Rattle.usb_host.specs.HostState.{HostState}
 use Rattle.usb_host.proofs.FollowLemmas.{taken-past}
 use Rattle.usb_lines.specs.Completions.{done_line}
-use Rattle.usb_script.specs.declared.item.Item.{Item}
 use Rattle.usb_names.specs.Names.{named, set_name}
 use Rattle.usb_names.proofs.NameLemmas.{named-change_same, named-change_other}
 use Rattle.usb_answers.specs.State.{State, Endpoint, with_host}
@@ -16,7 +14,6 @@ use Rattle.usb_answers.specs.Answer.{Answer}
 use Rattle.usb_answers.specs.Submits.{submitted}
 use Rattle.usb_answers.specs.Polls.{one_taken, taken_from}
 use Rattle.usb_answers.specs.Futures.{with_future}
-use Rattle.usb_answers.specs.Answers.{answer}
 use Rattle.usb_answers.specs.Output.{start, behind, final_host}
 use Rattle.usb_answers.specs.Served.{ClosedEndpoint, taken_under}
 use Rattle.usb_answers.specs.Printed.{TookAndPrinted, ScriptsPrintCompletions}

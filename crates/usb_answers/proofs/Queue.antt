@@ -1,19 +1,20 @@
 -- What calls on an open endpoint answer.
-use Rattle.std.proofs.Common.{◌≡◌, ℕ, ◌≤◌, ◌+◌, suc, zero, arith, List, [], ◌∷◌, ◌++◌, length, drop, Option, Some, Result, Ok, Err, refl, ap, sym, ◌∙◌, subst, slice_get, String, string_bytes}
+use Rattle.std.proofs.Common.{◌≡◌, ℕ, ◌≤◌, ◌+◌, suc, zero, arith, List, [], ◌∷◌, ◌++◌, length, drop, Option, Some, None, Result, Ok, Err, refl, ap, sym, ◌∙◌, subst, slice_get, String, string_bytes}
 use Rattle.std.specs.Prelude.{OnOk}
 use Rattle.std.specs.Option.{option_map}
 use Rattle.std.specs.declared.alloc.Global.{Global}
 use Rattle.std.proofs.lemmas.Option.{same_Some}
 use Rattle.usb_xfer.specs.declared.transfer.Completion.{Completion}
 use Rattle.usb_kernel.specs.Extends.{Extends}
+use Rattle.usb_kernel.proofs.Extends.{extends-same}
 use Rattle.usb_bus.specs.Completions.{transfer_completion}
 use Rattle.usb_endpoint.specs.EndpointState.{EndpointState}
-use Rattle.usb_endpoint.specs.Handles.{TookNext}
+use Rattle.usb_endpoint.specs.Waits.{Polled, came, taken_if, polled_of, polled}
 use Rattle.usb_host.specs.HostState.{HostState}
-use Rattle.usb_host.specs.HostBus.{bus_of}
 use Rattle.usb_host.specs.HostFrames.{LineGoesOn}
+use Rattle.usb_host.specs.HostCalls.{host_calls}
 use Rattle.usb_host.specs.TicketEnds.{host_taken}
-use Rattle.usb_host.proofs.CallFrames.{keeps-taken}
+use Rattle.usb_host.proofs.CallFrames.{keeps-open, keeps-taken}
 use Rattle.usb_host.proofs.WaitFrames.{line-keeps}
 use Rattle.usb_host.proofs.FollowLemmas.{taken-past}
 use Rattle.usb_names.specs.Names.{named, change_named}
@@ -87,20 +88,49 @@ drop_on (x ∷ xs) (suc n) t ts is =
     let s : suc n + 1 ≡ suc (n + 1) = omega arith in
     (rw s more.0, omega (arith, more.1))
 
--- it is taken
-pub took-comes : (print : Option Completion → List ℕ) (host now : HostState) (x y : EndpointState) (c : Completion) (t : TookNext bus_of host_taken host x c now y) (state : State) (e : ℕ) (h : Endpoint) → state.host ≡ host → kept h ≡ x → Comes state e h now y one_taken (print (Some c)) (took print state e t.front (transfer_completion state.host.kernel.past t.front))
-took-comes print host now x y c t state e h host_was same =
-    let more = drop_on h.tickets h.taken t.front t.others (ap (λ (z : EndpointState). z.pending) same ∙ t.was) in
-    record {
-      is =
-          ap (took print state e t.front) (ap (λ (g : HostState). transfer_completion g.kernel.past t.front) host_was ∙ t.completion_is)
-          ∙ ap (λ (g : HostState). told (record state { host = g; endpoints = change_named one_taken state.endpoints e }) (print (Some c))) (ap (λ (g : HostState). host_taken g t.front) host_was ∙ sym t.rest);
-      kept_is = ap (λ (l : List ℕ). record (kept h) { pending = l }) more.0 ∙ ap (λ (z : EndpointState). record z { pending = t.others }) same ∙ sym t.next_is;
-      few = more.1;
-    }
+-- it is taken where it is reaped at the host (mid) that the call came to. It is the first of these
+module _ {E : Type 0} (print : Option Completion → List ℕ) (old mid now : HostState) (x y : EndpointState) (before text : String Global) (result : Result Unit E) (call : State → ℕ → Endpoint → Answer) (t : ℕ) (ts : List ℕ) (r : Option Completion)
+    (was : x.pending ≡ t ∷ ts) (printed : OnOk result (string_bytes text ≡ string_bytes before ++ print r))
+    (takes : (state : State) (e : ℕ) (h : Endpoint) → state.host ≡ old → slice_get h.tickets h.taken ≡ Some t → call state e h ≡ took print (with_host state mid) e t (transfer_completion mid.kernel.past t)) where
+  took-answers : (o : Option Completion) → transfer_completion mid.kernel.past t ≡ o → taken_if host_calls mid x t ts o ≡ came r now y → CallAnswers old now x y before text result call
+  took-answers None none is =
+      call-host old now x y before text result (print r) call (sym (ap (λ (p : Polled HostState). p.endpoint) is)) printed
+      (λ state e h host_was same.
+      takes state e h host_was (front_kept h x (t ∷ ts) same was)
+      ∙ ap (took print (with_host state mid) e t) none
+      ∙ ap (λ (p : Polled HostState). told (with_host state p.bus) (print p.completion)) is)
+  took-answers (Some c) come is =
+      call-comes old now x y before text result one_taken (print r) call printed
+      (λ state e h host_was same few.
+      let more = drop_on h.tickets h.taken t ts (ap (λ (z : EndpointState). z.pending) same ∙ was) in
+      record {
+        is =
+            takes state e h host_was (front_kept h x (t ∷ ts) same was)
+            ∙ ap (took print (with_host state mid) e t) come
+            ∙ ap (λ (p : Polled HostState). told (record state { host = p.bus; endpoints = change_named one_taken state.endpoints e }) (print p.completion)) is;
+        kept_is = ap (λ (l : List ℕ). record (kept h) { pending = l }) more.0 ∙ ap (λ (z : EndpointState). record z { pending = ts }) same ∙ ap (λ (p : Polled HostState). p.endpoint) is;
+        few = more.1;
+      })
 
-pub took-line : (host now : HostState) (x y : EndpointState) (c : Completion) → TookNext bus_of host_taken host x c now y → LineGoesOn host now
-took-line host now x y c t = subst (LineGoesOn host) (sym t.rest) (line-keeps host (host_taken host t.front) (keeps-taken host t.front))
+  pub front-answers : polled host_calls mid x ≡ came r now y → CallAnswers old now x y before text result call
+  front-answers is = took-answers (transfer_completion mid.kernel.past t) refl (sym (ap (polled_of host_calls mid x) was) ∙ is)
 
-pub took-past : (host now : HostState) (x y : EndpointState) (c : Completion) → TookNext bus_of host_taken host x c now y → Extends host.kernel.past now.kernel.past
-took-past host now x y c t = record { more = []; is = ap (λ (h : HostState). h.kernel.past) t.rest ∙ taken-past host t.front }
+-- what a poll keeps of a host, and of the endpoint
+module _ (mid : HostState) (x : EndpointState) where
+  taken_if-keeps : (P : Polled HostState → Type 0) (t : ℕ) (ts : List ℕ) (o : Option Completion) → P (came None mid x) → ((c : Completion) → P (came (Some c) (host_taken mid t) (record x { pending = ts }))) → P (taken_if host_calls mid x t ts o)
+  taken_if-keeps P t ts None here taken = here
+  taken_if-keeps P t ts (Some c) here taken = taken c
+
+  polled_of-keeps : (P : Polled HostState → Type 0) (l : List ℕ) → P (came None mid x) → ((t : ℕ) (ts : List ℕ) (c : Completion) → P (came (Some c) (host_taken mid t) (record x { pending = ts }))) → P (polled_of host_calls mid x l)
+  polled_of-keeps P [] here taken = here
+  polled_of-keeps P (t ∷ ts) here taken = taken_if-keeps P t ts (transfer_completion mid.kernel.past t) here (taken t ts)
+
+  module _ (r : Option Completion) (now : HostState) (y : EndpointState) (is : polled host_calls mid x ≡ came r now y) where
+    pub polled-goes : LineGoesOn mid now
+    polled-goes = subst (λ (p : Polled HostState). LineGoesOn mid p.bus) is (polled_of-keeps (λ p. LineGoesOn mid p.bus) x.pending (line-keeps mid mid (keeps-open mid)) (λ t ts c. line-keeps mid (host_taken mid t) (keeps-taken mid t)))
+
+    pub polled-past : Extends mid.kernel.past now.kernel.past
+    polled-past = subst (λ (p : Polled HostState). Extends mid.kernel.past p.bus.kernel.past) is (polled_of-keeps (λ p. Extends mid.kernel.past p.bus.kernel.past) x.pending (extends-same mid.kernel.past) (λ t ts c. record { more = []; is = taken-past mid t }))
+
+    pub polled-rest : y ≡ record x { pending = y.pending }
+    polled-rest = subst (λ (p : Polled HostState). p.endpoint ≡ record x { pending = p.endpoint.pending }) is (polled_of-keeps (λ p. p.endpoint ≡ record x { pending = p.endpoint.pending }) x.pending refl (λ t ts c. refl))

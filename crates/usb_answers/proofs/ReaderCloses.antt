@@ -8,8 +8,7 @@ use Rattle.usb_endpoint.specs.Handles.{KeepsOthers}
 use Rattle.usb_endpoint.specs.Closes.{after_close}
 use Rattle.usb_host.specs.HostState.{HostState}
 use Rattle.usb_host.specs.HostBus.{bus_of}
-use Rattle.usb_host.specs.HostCalls.{host_discarded, host_left}
-use Rattle.usb_host.specs.TicketEnds.{host_abandoned}
+use Rattle.usb_host.specs.HostCalls.{host_calls}
 use Rattle.usb_io.specs.declared.any_reader.AnyReader.{AnyReader}
 use Rattle.usb_lines.specs.Calls.{condition_line, ok_line}
 use Rattle.usb_answers.specs.declared.session.Session.TheInside.{Inside}
@@ -36,7 +35,7 @@ freed-place i mid r x sound was rest =
     let places = places-made i sound in
     freed-reader_after i.endpoints.items i.readers.items i.writers.items places r mid (within-64 i.readers.items r x places.readers was) rest
 
-pub closed_reader-sound : (i : Inside) (now : HostState) (mid : List (Option AnyReader)) (r : ℕ) (x : AnyReader) → IsSound (made_of i) → named i.readers.items r ≡ Some x → mid ≡ freed i.readers.items r → now ≡ after_close host_discarded host_abandoned host_left i.host (endpoint_of x) → KeepsOthers (bus_of i.host) (bus_of now) (endpoint_of x).key → IsSound (made_reading i now mid)
+pub closed_reader-sound : (i : Inside) (now : HostState) (mid : List (Option AnyReader)) (r : ℕ) (x : AnyReader) → IsSound (made_of i) → named i.readers.items r ≡ Some x → mid ≡ freed i.readers.items r → now ≡ after_close host_calls i.host (endpoint_of x) → KeepsOthers (bus_of i.host) (bus_of now) (endpoint_of x).key → IsSound (made_reading i now mid)
 closed_reader-sound i now mid r x sound was rest bus others =
     let after = endpoints_with i.endpoints.items mid i.writers.items in
     sound-readers (record (made_of i) { host = now; endpoints = after }) (map (option_map bare_reader_of) mid)
@@ -57,7 +56,7 @@ is_some-reader i S r x sound view was = sym (ap is_some (reader-made i S r x sou
 pub is_none-reader : (i : Inside) (S : SessionState) (r : ℕ) → r < 64 → IsSound (made_of i) → made_of i ≡ S → named i.readers.items r ≡ None → false ≡ is_some (named S.endpoints (reader_place r))
 is_none-reader i S r below sound view none = sym (ap is_some (no_endpoint i S r below sound view none))
 
-pub closed_reader-represents : (i : Inside) (S : SessionState) (now : HostState) (mid : List (Option AnyReader)) (r : ℕ) (x : AnyReader) → IsSound (made_of i) → made_of i ≡ S → named i.readers.items r ≡ Some x → mid ≡ freed i.readers.items r → now ≡ after_close host_discarded host_abandoned host_left i.host (endpoint_of x) → (state : State) → Represents S state → Represents (made_reading i now mid) (reader_closed state r)
+pub closed_reader-represents : (i : Inside) (S : SessionState) (now : HostState) (mid : List (Option AnyReader)) (r : ℕ) (x : AnyReader) → IsSound (made_of i) → made_of i ≡ S → named i.readers.items r ≡ Some x → mid ≡ freed i.readers.items r → now ≡ after_close host_calls i.host (endpoint_of x) → (state : State) → Represents S state → Represents (made_reading i now mid) (reader_closed state r)
 unfolding reader_closed
 closed_reader-represents i S now mid r x sound view was rest bus state is =
     let p = reader_place r in
@@ -65,7 +64,7 @@ closed_reader-represents i S now mid r x sound view was rest bus state is =
     let o = open_at S state p (endpoint_of x) is (reader-made i S r x sound view was) in
     rw o.is
     (represents-readers (record (made_of i) { host = now; endpoints = after })
-    (record state { host = after_close host_discarded host_abandoned host_left state.host (kept o.entry); endpoints = freed state.endpoints p })
+    (record state { host = after_close host_calls state.host (kept o.entry); endpoints = freed state.endpoints p })
     (map (option_map bare_reader_of) mid) (freed state.readers r)
     (after-represents i S now after p (endpoint_of x) view (freed-place i mid r x sound was rest) bus state is o)
     (ap (map (option_map bare_reader_of)) rest ∙ map-freed bare_reader_of i.readers.items r ∙ ap (λ (v : SessionState). freed v.readers r) (view ∙ is.is) ∙ sym (map-freed (λ (z : Reader). z.bare) state.readers r)))

@@ -14,14 +14,15 @@ use Rattle.usb_endpoint.specs.Closes.{all_discarded}
 use Rattle.usb_host.specs.HostState.{HostState}
 use Rattle.usb_host.specs.HostBus.{bus_of}
 use Rattle.usb_host.specs.HostFrames.{LineGoesOn}
-use Rattle.usb_host.specs.HostCalls.{host_discarded}
+use Rattle.usb_host.specs.HostCalls.{host_discarded, host_calls}
 use Rattle.usb_io.specs.Readers.{ReaderState, with_read, without_end, is_end}
 use Rattle.usb_io.specs.Reads.{Reading, reading, GoesAlong, filled_to}
 use Rattle.usb_io.specs.Streams.{Item, Byte, End}
 use Rattle.usb_io.specs.declared.fault.ReadFault.{ReadFault}
 use Rattle.usb_io.specs.declared.fault.ReadFault.TheVariants.{Transfer, TimedOut, UnexpectedEof}
 use Rattle.usb_io.specs.declared.until_short.ExpectedShortPacket.{ExpectedShortPacket}
-use Rattle.usb_streams.specs.HostReads.{Answered as Given, answered, host_calls, fill_came, read_came}
+use Rattle.usb_io.specs.Answers.{Read, fill_came, read_came}
+use Rattle.usb_io.specs.Answered.{answered}
 use Rattle.usb_streams.specs.Numbers.{numbers_from}
 use Rattle.usb_streams.proofs.TicketsCome.{TicketsCame, fill-tickets, read-tickets, filled-tickets}
 use Rattle.usb_stream_lines.specs.Faults.{read_fault_line}
@@ -219,10 +220,10 @@ reads-barred framing host x before text result call bars printed =
     (λ state r at host_was same. ap (λ b. cond b (barred state) (call state r at)) (bars_at framing host x state at host_was same ∙ bars))
 
 -- what a reading call gave is told, and the bytes that it took are consumed
-abbrev pub given_as : State → Framing → ℕ → ReaderAt → (Result (List ℕ) ReadFault → List ℕ) → (Result (List ℕ) ReadFault → List ℕ) → Given → Answer
+abbrev pub given_as : State → Framing → ℕ → ReaderAt → (Result (List ℕ) ReadFault → List ℕ) → (Result (List ℕ) ReadFault → List ℕ) → Read HostState → Answer
 given_as state framing r at bytes line a = told (called state r (consumed_with framing (map Byte (bytes a.answer)) at.reader.consumed) (bytes a.answer) a.left) (line a.answer)
 
-pub reads-given : {E : Type 0} (framing : Framing) (old new : HostState) (x y : ReaderState) (before text : String Global) (result : Result Unit E) (answer : Result (List ℕ) ReadFault) (bytes : Result (List ℕ) ReadFault → List ℕ) (line : Result (List ℕ) ReadFault → List ℕ) (given : State → ReaderAt → Given)
+pub reads-given : {E : Type 0} (framing : Framing) (old new : HostState) (x y : ReaderState) (before text : String Global) (result : Result Unit E) (answer : Result (List ℕ) ReadFault) (bytes : Result (List ℕ) ReadFault → List ℕ) (line : Result (List ℕ) ReadFault → List ℕ) (given : State → ReaderAt → Read HostState)
     → TicketsCame (reading old x) (reading new y) → y.endpoint ≡ record x.endpoint { pending = y.endpoint.pending }
     → bars_need old.kernel.past (length x.endpoint.pending) (need_of framing x) ≡ false
     → ((state : State) (at : ReaderAt) → state.host ≡ old → state_of_reader at ≡ x → given state at ≡ answered answer (reading new y))
@@ -253,55 +254,55 @@ keeps-rest host x y stands same =
 
 -- what a read gave
 module _ (framing : Framing) (old new : HostState) (x y : ReaderState) (goes : GoesAlong (bus_of old) (bus_of new) x y) (free : bars_need old.kernel.past (length x.endpoint.pending) (need_of framing x) ≡ false) where
-  tickets-read_by : (timeout most : ℕ) (answer : Result (List ℕ) ReadFault) → read_came (is_until_short framing) timeout most (reading old x) ≡ answered answer (reading new y) → TicketsCame (reading old x) (reading new y)
-  tickets-read_by timeout most answer is = subst (λ (a : Given). TicketsCame (reading old x) a.left) is (read-tickets (is_until_short framing) timeout most (reading old x))
+  tickets-read_by : (timeout most : ℕ) (answer : Result (List ℕ) ReadFault) → read_came host_calls (is_until_short framing) timeout most (reading old x) ≡ answered answer (reading new y) → TicketsCame (reading old x) (reading new y)
+  tickets-read_by timeout most answer is = subst (λ (a : Read HostState). TicketsCame (reading old x) a.left) is (read-tickets (is_until_short framing) timeout most (reading old x))
 
-  tickets-fill_by : (timeout : ℕ) (answer : Result (List ℕ) ReadFault) → fill_came (is_until_short framing) timeout (reading old x) ≡ answered answer (reading new y) → TicketsCame (reading old x) (reading new y)
-  tickets-fill_by timeout answer is = subst (λ (a : Given). TicketsCame (reading old x) a.left) is (fill-tickets (is_until_short framing) timeout (reading old x))
+  tickets-fill_by : (timeout : ℕ) (answer : Result (List ℕ) ReadFault) → fill_came host_calls (is_until_short framing) timeout (reading old x) ≡ answered answer (reading new y) → TicketsCame (reading old x) (reading new y)
+  tickets-fill_by timeout answer is = subst (λ (a : Read HostState). TicketsCame (reading old x) a.left) is (fill-tickets (is_until_short framing) timeout (reading old x))
 
-  pub read-gave : {E : Type 0} (before text : String Global) (result : Result Unit E) (most : ℕ) (answer : Result (List ℕ) ReadFault) → read_came (is_until_short framing) x.timeout most (reading old x) ≡ answered answer (reading new y)
+  pub read-gave : {E : Type 0} (before text : String Global) (result : Result Unit E) (most : ℕ) (answer : Result (List ℕ) ReadFault) → read_came host_calls (is_until_short framing) x.timeout most (reading old x) ≡ answered answer (reading new y)
       → OnOk result (string_bytes text ≡ string_bytes before ++ given_line read_line answer) → ReaderAnswers old new x y before text result (λ state r at. read_on state framing r most at)
   read-gave before text result most answer is printed =
       reads-given framing old new x y before text result answer (λ a. bytes_given a) (given_line read_line)
-      (λ state at. read_came (is_until_short framing) at.reader.bare.timeout most (reading state.host (state_of_reader at)))
+      (λ state at. read_came host_calls (is_until_short framing) at.reader.bare.timeout most (reading state.host (state_of_reader at)))
       (tickets-read_by x.timeout most answer is) goes.endpoint free
       (λ state at host_was same.
-      ap (λ (h : HostState). read_came (is_until_short framing) at.reader.bare.timeout most (reading h (state_of_reader at))) host_was
-      ∙ ap (λ (z : ReaderState). read_came (is_until_short framing) z.timeout most (reading old z)) same ∙ is)
+      ap (λ (h : HostState). read_came host_calls (is_until_short framing) at.reader.bare.timeout most (reading h (state_of_reader at))) host_was
+      ∙ ap (λ (z : ReaderState). read_came host_calls (is_until_short framing) z.timeout most (reading old z)) same ∙ is)
       printed
 
-  pub poll_read-gave : {E : Type 0} (before text : String Global) (result : Result Unit E) (most : ℕ) (answer : Result (List ℕ) ReadFault) → read_came (is_until_short framing) 0 most (reading old x) ≡ answered answer (reading new y)
+  pub poll_read-gave : {E : Type 0} (before text : String Global) (result : Result Unit E) (most : ℕ) (answer : Result (List ℕ) ReadFault) → read_came host_calls (is_until_short framing) 0 most (reading old x) ≡ answered answer (reading new y)
       → OnOk result (string_bytes text ≡ string_bytes before ++ polled_given_line read_line answer) → ReaderAnswers old new x y before text result (λ state r at. poll_read_on state framing r most at)
   poll_read-gave before text result most answer is printed =
       reads-given framing old new x y before text result answer (λ a. bytes_given a) (polled_given_line read_line)
-      (λ state at. read_came (is_until_short framing) 0 most (reading state.host (state_of_reader at)))
+      (λ state at. read_came host_calls (is_until_short framing) 0 most (reading state.host (state_of_reader at)))
       (tickets-read_by 0 most answer is) goes.endpoint free
       (λ state at host_was same.
-      ap (λ (h : HostState). read_came (is_until_short framing) 0 most (reading h (state_of_reader at))) host_was
-      ∙ ap (λ (z : ReaderState). read_came (is_until_short framing) 0 most (reading old z)) same ∙ is)
+      ap (λ (h : HostState). read_came host_calls (is_until_short framing) 0 most (reading h (state_of_reader at))) host_was
+      ∙ ap (λ (z : ReaderState). read_came host_calls (is_until_short framing) 0 most (reading old z)) same ∙ is)
       printed
 
   -- and a call that lends the bytes
-  pub fill-gave : {E : Type 0} (before text : String Global) (result : Result Unit E) (answer : Result (List ℕ) ReadFault) → fill_came (is_until_short framing) x.timeout (reading old x) ≡ answered answer (reading new y)
+  pub fill-gave : {E : Type 0} (before text : String Global) (result : Result Unit E) (answer : Result (List ℕ) ReadFault) → fill_came host_calls (is_until_short framing) x.timeout (reading old x) ≡ answered answer (reading new y)
       → OnOk result (string_bytes text ≡ string_bytes before ++ given_line buffer_line answer) → ReaderAnswers old new x y before text result (λ state r at. fill_on state framing r at)
   fill-gave before text result answer is printed =
       reads-given framing old new x y before text result answer (λ a. []) (given_line buffer_line)
-      (λ state at. fill_came (is_until_short framing) at.reader.bare.timeout (reading state.host (state_of_reader at)))
+      (λ state at. fill_came host_calls (is_until_short framing) at.reader.bare.timeout (reading state.host (state_of_reader at)))
       (tickets-fill_by x.timeout answer is) goes.endpoint free
       (λ state at host_was same.
-      ap (λ (h : HostState). fill_came (is_until_short framing) at.reader.bare.timeout (reading h (state_of_reader at))) host_was
-      ∙ ap (λ (z : ReaderState). fill_came (is_until_short framing) z.timeout (reading old z)) same ∙ is)
+      ap (λ (h : HostState). fill_came host_calls (is_until_short framing) at.reader.bare.timeout (reading h (state_of_reader at))) host_was
+      ∙ ap (λ (z : ReaderState). fill_came host_calls (is_until_short framing) z.timeout (reading old z)) same ∙ is)
       printed
 
-  pub poll_fill-gave : {E : Type 0} (before text : String Global) (result : Result Unit E) (answer : Result (List ℕ) ReadFault) → fill_came (is_until_short framing) 0 (reading old x) ≡ answered answer (reading new y)
+  pub poll_fill-gave : {E : Type 0} (before text : String Global) (result : Result Unit E) (answer : Result (List ℕ) ReadFault) → fill_came host_calls (is_until_short framing) 0 (reading old x) ≡ answered answer (reading new y)
       → OnOk result (string_bytes text ≡ string_bytes before ++ polled_given_line buffer_line answer) → ReaderAnswers old new x y before text result (λ state r at. poll_fill_on state framing r at)
   poll_fill-gave before text result answer is printed =
       reads-given framing old new x y before text result answer (λ a. []) (polled_given_line buffer_line)
-      (λ state at. fill_came (is_until_short framing) 0 (reading state.host (state_of_reader at)))
+      (λ state at. fill_came host_calls (is_until_short framing) 0 (reading state.host (state_of_reader at)))
       (tickets-fill_by 0 answer is) goes.endpoint free
       (λ state at host_was same.
-      ap (λ (h : HostState). fill_came (is_until_short framing) 0 (reading h (state_of_reader at))) host_was
-      ∙ ap (λ (z : ReaderState). fill_came (is_until_short framing) 0 (reading old z)) same ∙ is)
+      ap (λ (h : HostState). fill_came host_calls (is_until_short framing) 0 (reading h (state_of_reader at))) host_was
+      ∙ ap (λ (z : ReaderState). fill_came host_calls (is_until_short framing) 0 (reading old z)) same ∙ is)
       printed
 
 -- a poll that is not pending is told as what waits is

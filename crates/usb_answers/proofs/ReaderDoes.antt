@@ -6,6 +6,7 @@ use Rattle.std.proofs.lemmas.Bool.{cond_both, and_parts}
 use Rattle.std.proofs.lemmas.Option.{none-some, same_Some}
 use Rattle.usb_simulated.specs.declared.step.KernelStep.{KernelStep}
 use Rattle.usb_host.specs.HostState.{HostState}
+use Rattle.usb_host.specs.HostCalls.{host_calls}
 use Rattle.usb_host.proofs.CountLemmas.{all_discarded-count}
 use Rattle.usb_host.proofs.FollowLemmas.{on-all_discarded}
 use Rattle.usb_io.specs.Readers.{fresh_buffer, with_read, is_end}
@@ -13,8 +14,8 @@ use Rattle.usb_io.specs.Reads.{Reading, reading, filled_to}
 use Rattle.usb_io.specs.Streams.{Item, Byte}
 use Rattle.usb_io.specs.declared.fault.ReadFault.{ReadFault}
 use Rattle.usb_io.specs.declared.fault.ReadFault.TheVariants.{Transfer, TimedOut, UnexpectedEof}
-use Rattle.usb_streams.specs.HostReads.{host_calls, fill_came, read_came}
-use Rattle.usb_streams.proofs.FillKeeps.{Keeps, fill-keeps, read-keeps, more-keeps}
+use Rattle.usb_io.specs.Answers.{fill_came, read_came}
+use Rattle.usb_io.proofs.ReadKeeps.{Keeps, fill-keeps, read-keeps, filled-keeps}
 use Rattle.usb_stream_lines.specs.Faults.{io_line, read_fault_line}
 use Rattle.usb_stream_lines.specs.Reads.{read_line, buffer_line, is_end_line, consumed_end_line}
 use Rattle.usb_words.specs.declared.framing.Framing.{Framing}
@@ -123,12 +124,12 @@ abbrev LeadsTo : Type 0 → Answer → State → ℕ → Endpoint → Reading Ho
 LeadsTo few a state e h w = Leads few a state e h w.bus w.reader.endpoint
 
 module _ (few : Type 0) (a : Answer) (state : State) (e : ℕ) (h : Endpoint) (above : 64 ≤ e) (here : named state.endpoints e ≡ Some h) (other : says_done a.line ≡ false) where
-  leads-keep : (timeout : ℕ) → Keeps timeout (λ w. LeadsTo few a state e h w)
-  leads-keep timeout = record {
+  leads-keep : (us : Bool) (timeout : ℕ) → Keeps host_calls us timeout (λ w. LeadsTo few a state e h w)
+  leads-keep us timeout = record {
     submission = λ w l. leads-send few a state e h above here other w.bus w.reader.endpoint (fresh_buffer w.reader.size) l;
-    end = λ w l. l;
+    end = λ w goes l. l;
     wait = λ w front others was l. leads-wait few a state e h above here other w.bus w.reader.endpoint front timeout l;
-    taking = λ w front others c was empty came l. leads-take few a state e h above here other w.bus w.reader.endpoint front others was l;
+    taking = λ w front others c was goes came l. leads-take few a state e h above here other w.bus w.reader.endpoint front others was l;
   }
 
 called-does : (state : State) (r : ℕ) (x : ReaderAt) (consumed : Option (List Item)) (bytes : List ℕ) (w : Reading HostState) (line : List ℕ) → reader_at state r ≡ Some x → says_done line ≡ false
@@ -151,11 +152,11 @@ num-does state r n =
     let e = reader_place r in
     called-does state r x x.reader.consumed [] w _ is refl
     (λ here within.
-    more-keeps false 0 (λ v. LeadsTo few a state e x.endpoint v) (leads-keep few a state e x.endpoint (above-place r) here refl 0) (n - 1 - length (pending x.endpoint)) first
+    filled-keeps host_calls false 0 (λ v. LeadsTo few a state e x.endpoint v) (leads-keep few a state e x.endpoint (above-place r) here refl false 0) (n - 1) first
     (leads-start few a state e x.endpoint (above-place r) here refl (kept x.endpoint) refl within))))
 
 -- the bytes that a reading call gives, or lends
-call-leads : (state : State) (r : ℕ) (x : ReaderAt) (consumed : Option (List Item)) (bytes : List ℕ) (us : Bool) (timeout most : ℕ) (line : List ℕ) (w : Reading HostState) → w ≡ (read_came us timeout most (reading state.host (state_of_reader x))).left → reader_at state r ≡ Some x → says_done line ≡ false
+call-leads : (state : State) (r : ℕ) (x : ReaderAt) (consumed : Option (List Item)) (bytes : List ℕ) (us : Bool) (timeout most : ℕ) (line : List ℕ) (w : Reading HostState) → w ≡ (read_came host_calls us timeout most (reading state.host (state_of_reader x))).left → reader_at state r ≡ Some x → says_done line ≡ false
     → Does state (told (called state r consumed bytes w) line)
 call-leads state r x consumed bytes us timeout most line w came is other =
     let a = told (called state r consumed bytes w) line in
@@ -164,8 +165,8 @@ call-leads state r x consumed bytes us timeout most line w came is other =
     let first = reading state.host (state_of_reader x) in
     called-does state r x consumed bytes w line is other
     (λ here within.
-    subst_left few a state e x.endpoint (read_came us timeout most first).left w came
-    (read-keeps us timeout (λ v. LeadsTo few a state e x.endpoint v) (leads-keep few a state e x.endpoint (above-place r) here other timeout) most first
+    subst_left few a state e x.endpoint (read_came host_calls us timeout most first).left w came
+    (read-keeps host_calls us timeout (λ v. LeadsTo few a state e x.endpoint v) (leads-keep few a state e x.endpoint (above-place r) here other us timeout) most first
     (λ v n l. l)
     (leads-start few a state e x.endpoint (above-place r) here other (kept x.endpoint) refl within)))
   where
@@ -173,16 +174,16 @@ call-leads state r x consumed bytes us timeout most line w came is other =
     subst_left few a state e h v w same l = subst (λ (z : Reading HostState). LeadsTo few a state e h z) (sym same) l
 
 fill-leads : (state : State) (r : ℕ) (x : ReaderAt) (consumed : Option (List Item)) (bytes : List ℕ) (us : Bool) (timeout : ℕ) (line : List ℕ) → reader_at state r ≡ Some x → says_done line ≡ false
-    → Does state (told (called state r consumed bytes (fill_came us timeout (reading state.host (state_of_reader x))).left) line)
+    → Does state (told (called state r consumed bytes (fill_came host_calls us timeout (reading state.host (state_of_reader x))).left) line)
 fill-leads state r x consumed bytes us timeout line is other =
     let first = reading state.host (state_of_reader x) in
-    let w = (fill_came us timeout first).left in
+    let w = (fill_came host_calls us timeout first).left in
     let a = told (called state r consumed bytes w) line in
     let few = TookFew state in
     let e = reader_place r in
     called-does state r x consumed bytes w line is other
     (λ here within.
-    fill-keeps us timeout (λ v. LeadsTo few a state e x.endpoint v) (leads-keep few a state e x.endpoint (above-place r) here other timeout) first
+    fill-keeps host_calls us timeout (λ v. LeadsTo few a state e x.endpoint v) (leads-keep few a state e x.endpoint (above-place r) here other us timeout) first
     (leads-start few a state e x.endpoint (above-place r) here other (kept x.endpoint) refl within))
 
 -- none of their lines is that of a completion
@@ -210,16 +211,16 @@ buffer-other bytes = refl
 
 -- of a reader that is open
 read_as-does : (state : State) (framing : Framing) (r most timeout : ℕ) (x : ReaderAt) (line : Result (List ℕ) ReadFault → List ℕ) → reader_at state r ≡ Some x → ((answer : Result (List ℕ) ReadFault) → says_done (line answer) ≡ false)
-    → Does state (if bars_read state framing x then barred state else read_as state framing r x line (read_came (is_until_short framing) timeout most (reading state.host (state_of_reader x))))
+    → Does state (if bars_read state framing x then barred state else read_as state framing r x line (read_came host_calls (is_until_short framing) timeout most (reading state.host (state_of_reader x))))
 read_as-does state framing r most timeout x line is other =
-    let came = read_came (is_until_short framing) timeout most (reading state.host (state_of_reader x)) in
+    let came = read_came host_calls (is_until_short framing) timeout most (reading state.host (state_of_reader x)) in
     bar-does {bars = bars_read state framing x} {call = read_as state framing r x line came} (λ no_.
     call-leads state r x (consumed_with framing (map Byte (bytes_given came.answer)) x.reader.consumed) (bytes_given came.answer) (is_until_short framing) timeout most (line came.answer) came.left refl is (other came.answer))
 
 filled_as-does : (state : State) (framing : Framing) (r timeout : ℕ) (x : ReaderAt) (line : Result (List ℕ) ReadFault → List ℕ) → reader_at state r ≡ Some x → ((answer : Result (List ℕ) ReadFault) → says_done (line answer) ≡ false)
-    → Does state (if bars_read state framing x then barred state else filled_as state framing r x line (fill_came (is_until_short framing) timeout (reading state.host (state_of_reader x))))
+    → Does state (if bars_read state framing x then barred state else filled_as state framing r x line (fill_came host_calls (is_until_short framing) timeout (reading state.host (state_of_reader x))))
 filled_as-does state framing r timeout x line is other =
-    let came = fill_came (is_until_short framing) timeout (reading state.host (state_of_reader x)) in
+    let came = fill_came host_calls (is_until_short framing) timeout (reading state.host (state_of_reader x)) in
     bar-does {bars = bars_read state framing x} {call = filled_as state framing r x line came} (λ no_.
     fill-leads state r x (consumed_with framing [] x.reader.consumed) [] (is_until_short framing) timeout (line came.answer) is (other came.answer))
 

@@ -6,11 +6,12 @@ use Rattle.std.proofs.lemmas.Option.{none-some}
 use Rattle.usb_desc.specs.declared.types.Direction.TheVariants.{In}
 use Rattle.usb_simulated.specs.declared.step.KernelStep.{KernelStep}
 use Rattle.usb_host.specs.HostState.{HostState}
+use Rattle.usb_host.specs.HostCalls.{host_calls}
 use Rattle.usb_io.specs.Readers.{ReaderState, with_read, without_end, is_end}
 use Rattle.usb_io.specs.Reads.{Reading, reading, filled_to}
 use Rattle.usb_io.specs.Streams.{Item as StreamItem, Byte, End}
 use Rattle.usb_io.specs.declared.fault.ReadFault.{ReadFault}
-use Rattle.usb_streams.specs.HostReads.{Answered, host_calls, fill_came, read_came}
+use Rattle.usb_io.specs.Answers.{Read, fill_came, read_came}
 use Rattle.usb_stream_lines.specs.Reads.{read_line, buffer_line, is_end_line, consumed_end_line}
 use Rattle.usb_words.specs.declared.framing.Framing.{Framing}
 use Rattle.usb_words.specs.declared.framing.Framing.TheVariants.{UntilShort}
@@ -134,13 +135,13 @@ close-leaves state r =
     })
 
 -- reading calls
-read_as-leaves : (state : State) (framing : Framing) (r : ℕ) (x : ReaderAt) (line : Result (List ℕ) ReadFault → List ℕ) (a : Answered) → length state.readers ≡ 64 → reader_at state r ≡ Some x
+read_as-leaves : (state : State) (framing : Framing) (r : ℕ) (x : ReaderAt) (line : Result (List ℕ) ReadFault → List ℕ) (a : Read HostState) → length state.readers ≡ 64 → reader_at state r ≡ Some x
     → Leaves state (if bars_read state framing x then barred state else read_as state framing r x line a)
 read_as-leaves state framing r x line a names at =
     bar-leaves state (bars_read state framing x) (read_as state framing r x line a)
     (called-leaves state r (consumed_with framing (map Byte (bytes_given a.answer)) x.reader.consumed) (bytes_given a.answer) a.left (small-reader state r x names at))
 
-filled_as-leaves : (state : State) (framing : Framing) (r : ℕ) (x : ReaderAt) (line : Result (List ℕ) ReadFault → List ℕ) (a : Answered) → length state.readers ≡ 64 → reader_at state r ≡ Some x
+filled_as-leaves : (state : State) (framing : Framing) (r : ℕ) (x : ReaderAt) (line : Result (List ℕ) ReadFault → List ℕ) (a : Read HostState) → length state.readers ≡ 64 → reader_at state r ≡ Some x
     → Leaves state (if bars_read state framing x then barred state else filled_as state framing r x line a)
 filled_as-leaves state framing r x line a names at =
     bar-leaves state (bars_read state framing x) (filled_as state framing r x line a)
@@ -151,26 +152,26 @@ unfolding read_answer
 read-leaves state framing r most steps names =
     let now = lent state steps in
     stepping-leaves state steps (reader_at state r) (read_on now framing r most) (λ x at.
-    read_as-leaves now framing r x (given_line read_line) (read_came (is_until_short framing) x.reader.bare.timeout most (reading now.host (state_of_reader x))) names at)
+    read_as-leaves now framing r x (given_line read_line) (read_came host_calls (is_until_short framing) x.reader.bare.timeout most (reading now.host (state_of_reader x))) names at)
 
 poll_read-leaves : (state : State) (framing : Framing) (r most : ℕ) → length state.readers ≡ 64 → Leaves state (poll_read_answer state framing r most)
 unfolding poll_read_answer
 poll_read-leaves state framing r most names =
     open-leaves state (reader_at state r) (poll_read_on state framing r most) (λ x at.
-    read_as-leaves state framing r x (polled_given_line read_line) (read_came (is_until_short framing) 0 most (reading state.host (state_of_reader x))) names at)
+    read_as-leaves state framing r x (polled_given_line read_line) (read_came host_calls (is_until_short framing) 0 most (reading state.host (state_of_reader x))) names at)
 
 fill-leaves : (state : State) (framing : Framing) (r : ℕ) (steps : List KernelStep) → length state.readers ≡ 64 → Leaves state (fill_answer state framing r steps)
 unfolding fill_answer
 fill-leaves state framing r steps names =
     let now = lent state steps in
     stepping-leaves state steps (reader_at state r) (fill_on now framing r) (λ x at.
-    filled_as-leaves now framing r x (given_line buffer_line) (fill_came (is_until_short framing) x.reader.bare.timeout (reading now.host (state_of_reader x))) names at)
+    filled_as-leaves now framing r x (given_line buffer_line) (fill_came host_calls (is_until_short framing) x.reader.bare.timeout (reading now.host (state_of_reader x))) names at)
 
 poll_fill-leaves : (state : State) (framing : Framing) (r : ℕ) → length state.readers ≡ 64 → Leaves state (poll_fill_answer state framing r)
 unfolding poll_fill_answer
 poll_fill-leaves state framing r names =
     open-leaves state (reader_at state r) (poll_fill_on state framing r) (λ x at.
-    filled_as-leaves state framing r x (polled_given_line buffer_line) (fill_came (is_until_short framing) 0 (reading state.host (state_of_reader x))) names at)
+    filled_as-leaves state framing r x (polled_given_line buffer_line) (fill_came host_calls (is_until_short framing) 0 (reading state.host (state_of_reader x))) names at)
 
 -- what is taken off
 off-leaves : (state : State) (framing : Framing) (r : ℕ) (x : ReaderAt) (items : List StreamItem) (bytes : List ℕ) (left : ReaderState) → LeavesWriters state (read_off state framing r x items bytes left)

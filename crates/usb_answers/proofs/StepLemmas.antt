@@ -13,7 +13,7 @@ use Rattle.usb_endpoint.specs.Submits.{entered}
 use Rattle.usb_xfer.specs.declared.transfer.TransferData.{TransferData}
 use Rattle.usb_host.specs.HostState.{HostState}
 use Rattle.usb_host.specs.Controls.{control_submission, request_started}
-use Rattle.usb_host.specs.HostCalls.{host_submitted, host_refused}
+use Rattle.usb_host.specs.HostCalls.{host_calls}
 use Rattle.usb_host.specs.TicketEnds.{host_taken}
 use Rattle.usb_host.proofs.CountLemmas.{KeepsCount, CountsOneMore, taken-count, closed-count, entered-count}
 use Rattle.usb_host.proofs.FollowLemmas.{KeepsTickets, on-same, adds-entered, taken-others}
@@ -172,7 +172,7 @@ pub step-push : (state : State) (e : ℕ) (b : BufferState) (h : Endpoint) → I
 unfolding change_named
 step-push state e b h inv here =
     let n = tickets_of state in
-    let host = entered host_submitted host_refused state.host (kept h) b in
+    let host = entered host_calls state.host (kept h) b in
     let adds = adds-entered state.host (kept h) b in
     let count = entered-count state.host (kept h) b in
     let es = change_named (with_submission n) state.endpoints e in

@@ -14,7 +14,7 @@ use Rattle.usb_endpoint.specs.Closes.{all_discarded}
 use Rattle.usb_host.specs.HostState.{HostState}
 use Rattle.usb_host.specs.HostFrames.{LineGoesOn}
 use Rattle.usb_host.proofs.HostKeeps.{KeepsOpen}
-use Rattle.usb_host.specs.HostCalls.{host_submitted, host_refused, host_discarded}
+use Rattle.usb_host.specs.HostCalls.{host_discarded, host_calls}
 use Rattle.usb_host.proofs.HostFrames.{uses-discarded}
 use Rattle.usb_host.proofs.FollowLemmas.{adds-entered}
 use Rattle.usb_host.proofs.CallFrames.{keeps-open, keeps-submitted, keeps-refused}
@@ -32,7 +32,7 @@ use Rattle.usb_answers.proofs.Queue.{call-comes, call-told, call-host}
 abbrev submit_seen : State → Direction → ℕ → BufferState → HostState → EndpointState → Bool → Answer
 submit_seen state direction e b g z bars =
     if bars then barred state
-    else ok_answer (record state { host = entered host_submitted host_refused g z b; endpoints = change_named (with_submission (length (tickets g.kernel.past))) state.endpoints e })
+    else ok_answer (record state { host = entered host_calls g z b; endpoints = change_named (with_submission (length (tickets g.kernel.past))) state.endpoints e })
 
 submit-seen : (state : State) (direction : Direction) (e : ℕ) (b : BufferState) (h : Endpoint) (old : HostState) (x : EndpointState) (bars : Bool) → state.host ≡ old → kept h ≡ x → bars_submission old.kernel.past direction x ≡ bars → submit_on state direction e b h ≡ submit_seen state direction e b old x bars
 submit-seen state direction e b h old x bars host_was same is =
@@ -51,7 +51,7 @@ kept-ticket h t few = ap (λ (l : List ℕ). record (kept h) { pending = l }) (d
 more_few : (n t : ℕ) (ts : List ℕ) → n ≤ length ts → n ≤ length (ts ++ t ∷ [])
 more_few n t ts few = omega (arith, length-append ts (t ∷ []))
 
-pub submit-made : {E : Type 0} (host now : HostState) (x y : EndpointState) (before text : String Global) (result : Result Unit E) (direction : Direction) (b : BufferState) → bars_submission host.kernel.past direction x ≡ false → now ≡ entered host_submitted host_refused host x b → y ≡ record x { pending = x.pending ++ length (tickets host.kernel.past) ∷ [] } → OnOk result (string_bytes text ≡ string_bytes before ++ ok_line) → CallAnswers host now x y before text result (λ state e h. submit_on state direction e b h)
+pub submit-made : {E : Type 0} (host now : HostState) (x y : EndpointState) (before text : String Global) (result : Result Unit E) (direction : Direction) (b : BufferState) → bars_submission host.kernel.past direction x ≡ false → now ≡ entered host_calls host x b → y ≡ record x { pending = x.pending ++ length (tickets host.kernel.past) ∷ [] } → OnOk result (string_bytes text ≡ string_bytes before ++ ok_line) → CallAnswers host now x y before text result (λ state e h. submit_on state direction e b h)
 submit-made host now x y before text result direction b bars bus pending printed =
     let t = length (tickets host.kernel.past) in
     call-comes host now x y before text result (with_submission t) ok_line (λ state e h. submit_on state direction e b h) printed
@@ -64,21 +64,21 @@ submit-made host now x y before text result direction b bars bus pending printed
       few = more_few h.taken t h.tickets few;
     })
 
-keeps-handed : (h : HostState) (e : EndpointState) (b : BufferState) (valid : Bool) → KeepsOpen h (handed_over host_submitted host_refused h (route_of e) (transfer_by (route_of e) b) valid)
+keeps-handed : (h : HostState) (e : EndpointState) (b : BufferState) (valid : Bool) → KeepsOpen h (handed_over host_calls h (route_of e) (transfer_by (route_of e) b) valid)
 keeps-handed h e b true = keeps-submitted h (route_of e) (transfer_by (route_of e) b)
 keeps-handed h e b false = keeps-refused h (route_of e) (transfer_by (route_of e) b) 22
 
-pub line-entered : (h : HostState) (e : EndpointState) (b : BufferState) → LineGoesOn h (entered host_submitted host_refused h e b)
-line-entered h e b = line-keeps h (entered host_submitted host_refused h e b) (keeps-handed h e b (is_valid e b))
+pub line-entered : (h : HostState) (e : EndpointState) (b : BufferState) → LineGoesOn h (entered host_calls h e b)
+line-entered h e b = line-keeps h (entered host_calls h e b) (keeps-handed h e b (is_valid e b))
 
-pub submit-line : (r : Result Unit BufferState) (host now : HostState) (x y : EndpointState) (b : BufferState) → OnOk r (now ≡ entered host_submitted host_refused host x b) → OnErr r ((y ≡ x) × (now ≡ host)) → LineGoesOn host now
+pub submit-line : (r : Result Unit BufferState) (host now : HostState) (x y : EndpointState) (b : BufferState) → OnOk r (now ≡ entered host_calls host x b) → OnErr r ((y ≡ x) × (now ≡ host)) → LineGoesOn host now
 submit-line (Ok done) host now x y b ok err = subst (LineGoesOn host) (sym ok) (line-entered host x b)
 submit-line (Err back) host now x y b ok err = subst (LineGoesOn host) (sym err.1) (line-keeps host host (keeps-open host))
 
-pub past-entered : (h : HostState) (e : EndpointState) (b : BufferState) → Extends h.kernel.past (entered host_submitted host_refused h e b).kernel.past
+pub past-entered : (h : HostState) (e : EndpointState) (b : BufferState) → Extends h.kernel.past (entered host_calls h e b).kernel.past
 past-entered h e b = (adds-entered h e b).goes.past
 
-pub submit-past : (r : Result Unit BufferState) (host now : HostState) (x y : EndpointState) (b : BufferState) → OnOk r (now ≡ entered host_submitted host_refused host x b) → OnErr r ((y ≡ x) × (now ≡ host)) → Extends host.kernel.past now.kernel.past
+pub submit-past : (r : Result Unit BufferState) (host now : HostState) (x y : EndpointState) (b : BufferState) → OnOk r (now ≡ entered host_calls host x b) → OnErr r ((y ≡ x) × (now ≡ host)) → Extends host.kernel.past now.kernel.past
 submit-past (Ok done) host now x y b ok err = subst (λ (h : HostState). Extends host.kernel.past h.kernel.past) (sym ok) (past-entered host x b)
 submit-past (Err back) host now x y b ok err = subst (λ (h : HostState). Extends host.kernel.past h.kernel.past) (sym err.1) (extends-same host.kernel.past)
 

@@ -13,6 +13,10 @@ use Rattle.usb_kernel.specs.Timers.{timer_turned}
 use Rattle.usb_kernel.specs.Completions.{completion}
 use Rattle.usb_kernel.specs.Info.{unreaped}
 use Rattle.usb_bus.specs.Completions.{transfer_completion}
+use Rattle.usb_endpoint.specs.Waits.{waited}
+use Rattle.usb_endpoint.specs.Blocking.{waited_by_seconds}
+use Rattle.usb_io.specs.Reads.{turned}
+use Rattle.usb_io.specs.Fronts.{drained}
 use Rattle.usb_ledger.specs.Owners.{is_used_among, is_owned_among}
 use Rattle.usb_ledger.specs.Releases.{claim_ended, claim_of, endpoints_left}
 use Rattle.usb_host.specs.Releases.{endpoint_left, owner_gone, settled}
@@ -25,9 +29,7 @@ use Rattle.usb_host.specs.Controls.{host_started}
 use Rattle.usb_host.specs.HostAwaits.{host_awaited}
 use Rattle.usb_host.specs.HostCalls.{host_submitted, host_refused, host_discarded, host_left}
 use Rattle.usb_host.specs.TicketEnds.{host_ended, host_taken, host_abandoned, came}
-use Rattle.usb_host.specs.HostTurns.{host_stepped, host_reaped}
-use Rattle.usb_host.specs.HostWaits.{host_waited}
-use Rattle.usb_host.specs.HostBlocking.{host_blocked}
+use Rattle.usb_host.specs.HostTurns.{host_stepped, host_reaped, host_turned, host_turn}
 use Rattle.usb_host.specs.Handles.{handle_cloned, handle_closed}
 use Rattle.usb_host.specs.OnDevices.{host_detached, host_attached, host_reset, host_configured, host_speed_asked}
 use Rattle.usb_host.specs.OnInterfaces.{alt_setting_set}
@@ -63,8 +65,6 @@ use Rattle.usb_answers.specs.Halts.{clear_halt_answer}
 use Rattle.usb_stream_lines.specs.Faults.{io_line}
 use Rattle.usb_stream_lines.specs.Reads.{read_line, buffer_line}
 use Rattle.usb_stream_lines.specs.Writes.{wrote_line}
-use Rattle.usb_streams.specs.HostReads.{fill_came}
-use Rattle.usb_writes.specs.HostWrites.{drained}
 use Rattle.usb_answers.specs.Readers.{reader_answer, inner_answer, num_answer, timeout_answer, cancel_reader_answer, close_reader_answer, reader_closed}
 use Rattle.usb_answers.specs.Reads.{read_answer, poll_read_answer, fill_answer, poll_fill_answer, consume_answer, is_end_answer, consume_end_answer}
 use Rattle.usb_answers.specs.Writers.{writer_answer, writer_inner_answer, writer_num_answer, write_timeout_answer, close_writer_answer, writer_closed}
@@ -80,7 +80,7 @@ use Rattle.usb_answers.specs.Output.{start, output}
 
 -- all that an output unfolds
 unfoldable pub output_on_literals : ⊤
-unfolding output start answer line_answer reader_answer inner_answer num_answer timeout_answer cancel_reader_answer close_reader_answer reader_closed read_answer poll_read_answer fill_answer poll_fill_answer consume_answer is_end_answer consume_end_answer fill_came read_line buffer_line io_line writer_answer writer_inner_answer writer_num_answer write_timeout_answer close_writer_answer writer_closed write_answer poll_write_answer submit_buffer_answer submit_end_answer flush_answer poll_flush_answer flush_end_answer poll_flush_end_answer drained wrote_line control_answer start_answer poll_future_answer wait_future_answer close_future_answer future_closed_under host_started host_awaited timer_turned data_line failed_line languages_told string_told utf16_chars encode now_answer open_answer device_descriptor_answer descriptors_answer claim_answer endpoint_answer submit_answer pending_answer poll_answer wait_answer transfer_answer cancel_answer close_answer clone_device_answer clone_interface_answer active_answer speed_answer set_configuration_answer reset_answer detach_answer attach_answer set_alt_setting_answer get_alt_setting_answer interface_descriptor_answer clear_halt_answer close_device_answer close_interface_answer release_answer steps_answer stepped_all closed interface_closed name_closed all_closed ended fate_line fate_lines named is_free change_named freed set_name is_used_among is_owned_among claim_ended claim_of owner_gone settled endpoint_left endpoints_left device_changed called descriptors_tried open_tried host_opened open_key host_claimed host_asked endpoint_of_setting host_tries host_submitted host_refused host_discarded host_left host_ended host_taken host_abandoned came host_stepped host_reaped host_waited host_blocked handle_closed handle_cloned after_reset host_detached host_attached host_reset host_configured host_speed_asked speed_of_code alt_setting_set finished transfer_completion completion unreaped chain groups concatenated configurations interfaces_among hex_word error_line done_line count_line now_line ticket_line device_line class_words product_words string_words class_code endpoint_words interface_words setting_words configuration_words descriptors_line configuration_line no_configuration_line speed_line alt_setting_line digits encode_with
+unfolding output start answer line_answer reader_answer inner_answer num_answer timeout_answer cancel_reader_answer close_reader_answer reader_closed read_answer poll_read_answer fill_answer poll_fill_answer consume_answer is_end_answer consume_end_answer turned read_line buffer_line io_line writer_answer writer_inner_answer writer_num_answer write_timeout_answer close_writer_answer writer_closed write_answer poll_write_answer submit_buffer_answer submit_end_answer flush_answer poll_flush_answer flush_end_answer poll_flush_end_answer drained wrote_line control_answer start_answer poll_future_answer wait_future_answer close_future_answer future_closed_under host_started host_awaited timer_turned data_line failed_line languages_told string_told utf16_chars encode now_answer open_answer device_descriptor_answer descriptors_answer claim_answer endpoint_answer submit_answer pending_answer poll_answer wait_answer transfer_answer cancel_answer close_answer clone_device_answer clone_interface_answer active_answer speed_answer set_configuration_answer reset_answer detach_answer attach_answer set_alt_setting_answer get_alt_setting_answer interface_descriptor_answer clear_halt_answer close_device_answer close_interface_answer release_answer steps_answer stepped_all closed interface_closed name_closed all_closed ended fate_line fate_lines named is_free change_named freed set_name is_used_among is_owned_among claim_ended claim_of owner_gone settled endpoint_left endpoints_left device_changed called descriptors_tried open_tried host_opened open_key host_claimed host_asked endpoint_of_setting host_tries host_submitted host_refused host_discarded host_left host_ended host_taken host_abandoned came host_stepped host_reaped host_turned host_turn waited waited_by_seconds handle_closed handle_cloned after_reset host_detached host_attached host_reset host_configured host_speed_asked speed_of_code alt_setting_set finished transfer_completion completion unreaped chain groups concatenated configurations interfaces_among hex_word error_line done_line count_line now_line ticket_line device_line class_words product_words string_words class_code endpoint_words interface_words setting_words configuration_words descriptors_line configuration_line no_configuration_line speed_line alt_setting_line digits encode_with
 output_on_literals = tt
 
 -- a line of a script, the item that it is, and the line that it is answered, which is empty where it has no answer

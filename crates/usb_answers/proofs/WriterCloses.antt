@@ -8,8 +8,7 @@ use Rattle.usb_endpoint.specs.Handles.{KeepsOthers}
 use Rattle.usb_endpoint.specs.Closes.{after_close}
 use Rattle.usb_host.specs.HostState.{HostState}
 use Rattle.usb_host.specs.HostBus.{bus_of}
-use Rattle.usb_host.specs.HostCalls.{host_discarded, host_left}
-use Rattle.usb_host.specs.TicketEnds.{host_abandoned}
+use Rattle.usb_host.specs.HostCalls.{host_calls}
 use Rattle.usb_writes.specs.declared.any_writer.AnyWriter.{AnyWriter}
 use Rattle.usb_lines.specs.Calls.{condition_line, ok_line}
 use Rattle.usb_answers.specs.declared.session.Session.TheInside.{Inside}
@@ -30,7 +29,7 @@ use Rattle.usb_answers.proofs.OpenPlaces.{named-writer, freed-writer_after}
 use Rattle.usb_answers.proofs.TakenOut.{places-made}
 use Rattle.usb_answers.proofs.WriterCalled.{made_writing, writer-made}
 
-pub closed_writer-sound : (i : Inside) (now : HostState) (mid : List (Option AnyWriter)) (w : ℕ) (x : AnyWriter) → IsSound (made_of i) → named i.writers.items w ≡ Some x → mid ≡ freed i.writers.items w → now ≡ after_close host_discarded host_abandoned host_left i.host (writer_endpoint x) → KeepsOthers (bus_of i.host) (bus_of now) (writer_endpoint x).key → IsSound (made_writing i now mid)
+pub closed_writer-sound : (i : Inside) (now : HostState) (mid : List (Option AnyWriter)) (w : ℕ) (x : AnyWriter) → IsSound (made_of i) → named i.writers.items w ≡ Some x → mid ≡ freed i.writers.items w → now ≡ after_close host_calls i.host (writer_endpoint x) → KeepsOthers (bus_of i.host) (bus_of now) (writer_endpoint x).key → IsSound (made_writing i now mid)
 closed_writer-sound i now mid w x sound was rest bus others =
     let after = endpoints_with i.endpoints.items i.readers.items mid in
     sound-writers (record (made_of i) { host = now; endpoints = after }) (map (option_map bare_writer_of) mid)
@@ -51,7 +50,7 @@ is_some-writer i S w x sound view was = sym (ap is_some (writer-made i S w x sou
 pub is_none-writer : (i : Inside) (S : SessionState) (w : ℕ) → IsSound (made_of i) → made_of i ≡ S → named i.writers.items w ≡ None → false ≡ is_some (named S.endpoints (writer_place w))
 is_none-writer i S w sound view none = sym (ap is_some (no_endpoint i S w sound view none))
 
-pub closed_writer-represents : (i : Inside) (S : SessionState) (now : HostState) (mid : List (Option AnyWriter)) (w : ℕ) (x : AnyWriter) → IsSound (made_of i) → made_of i ≡ S → named i.writers.items w ≡ Some x → mid ≡ freed i.writers.items w → now ≡ after_close host_discarded host_abandoned host_left i.host (writer_endpoint x) → (state : State) → Represents S state → Represents (made_writing i now mid) (writer_closed state w)
+pub closed_writer-represents : (i : Inside) (S : SessionState) (now : HostState) (mid : List (Option AnyWriter)) (w : ℕ) (x : AnyWriter) → IsSound (made_of i) → made_of i ≡ S → named i.writers.items w ≡ Some x → mid ≡ freed i.writers.items w → now ≡ after_close host_calls i.host (writer_endpoint x) → (state : State) → Represents S state → Represents (made_writing i now mid) (writer_closed state w)
 unfolding writer_closed
 closed_writer-represents i S now mid w x sound view was rest bus state is =
     let p = writer_place w in
@@ -59,7 +58,7 @@ closed_writer-represents i S now mid w x sound view was rest bus state is =
     let o = open_at S state p (writer_endpoint x) is (writer-made i S w x sound view was) in
     rw o.is
     (represents-writers (record (made_of i) { host = now; endpoints = after })
-    (record state { host = after_close host_discarded host_abandoned host_left state.host (kept o.entry); endpoints = freed state.endpoints p })
+    (record state { host = after_close host_calls state.host (kept o.entry); endpoints = freed state.endpoints p })
     (map (option_map bare_writer_of) mid) (freed state.writers w)
     (after-represents i S now after p (writer_endpoint x) view (freed-writer_after i.endpoints.items i.readers.items i.writers.items (places-made i sound) w mid rest) bus state is o)
     (ap (map (option_map bare_writer_of)) rest ∙ map-freed bare_writer_of i.writers.items w ∙ ap (λ (v : SessionState). freed v.writers w) (view ∙ is.is) ∙ sym (map-freed (λ (z : Writer). z.bare) state.writers w)))

@@ -8,17 +8,18 @@ use Rattle.std.proofs.lemmas.List.{append_assoc, append-nil}
 use Rattle.usb_xfer.specs.BufferState.{BufferState}
 use Rattle.usb_kernel.specs.Tickets.{tickets}
 use Rattle.usb_endpoint.specs.EndpointState.{EndpointState}
+use Rattle.usb_endpoint.specs.Waits.{waited}
 use Rattle.usb_host.specs.HostState.{HostState}
-use Rattle.usb_host.specs.HostWaits.{host_waited}
 use Rattle.usb_host.specs.TicketEnds.{host_taken}
+use Rattle.usb_host.specs.HostCalls.{host_calls}
 use Rattle.usb_host.proofs.CountLemmas.{entered-count, waited-count, taken-count}
 use Rattle.usb_io.specs.Writers.{WriterState, Writing, writing, send, with_taken}
 use Rattle.usb_io.specs.Writes.{Call}
 use Rattle.usb_io.specs.Carried.{written_calls}
 use Rattle.usb_io.specs.declared.fault.WriteFault.{WriteFault}
-use Rattle.usb_streams.specs.HostReads.{host_calls}
+use Rattle.usb_io.specs.Answered.{Answered as Given}
+use Rattle.usb_io.specs.WriteAnswers.{write_came, flush_came, flush_end_came, poll_flush_end_came, submit_came, submit_end_came}
 use Rattle.usb_streams.specs.Numbers.{numbers_from}
-use Rattle.usb_writes.specs.HostWrites.{Answered as Given, write_came, flush_came, flush_end_came, poll_flush_end_came, submit_came, submit_end_came}
 use Rattle.usb_writes.specs.Told.{WriterCalls, with_calls, failures_of, count_of}
 use Rattle.usb_writes.proofs.WritesKeep.{Keeps, write-keeps, flush-keeps, flush_end-keeps, poll_flush_end-keeps, submit-keeps, submit_end-keeps}
 use Rattle.usb_writer_lines.specs.Needs.{bars_call, write_need}
@@ -98,27 +99,27 @@ follows-kept : (old : Writing HostState) → Keeps (Follows old)
 follows-kept old = record {
   set = λ w buffer begun came. record { taken = came.taken; more = came.more; same = came.same; rest = came.rest };
   submission = follows-sent old;
-  wait = λ w timeout front others was came. follows-on old w (writing (host_waited w.bus front timeout).1 w.writer) [] (waited-count w.bus front timeout).past refl refl came;
+  wait = λ w timeout front others was came. follows-on old w (writing (waited host_calls front timeout w.bus) w.writer) [] (waited-count w.bus front timeout).past refl refl came;
   taking = λ w front others c was here came. follows-on old w (writing (host_taken w.bus front) (with_taken c others w.writer)) (front ∷ []) (taken-count w.bus front).past was refl came;
 }
 
 -- each call
-pub write-follows : (timeout : ℕ) (src : List ℕ) (w : Writing HostState) → Follows w (write_came timeout src w).left
+pub write-follows : (timeout : ℕ) (src : List ℕ) (w : Writing HostState) → Follows w (write_came host_calls timeout src w).left
 write-follows timeout src w = write-keeps (Follows w) (follows-kept w) timeout src w (follows-same w)
 
-pub flush-follows : (timeout : ℕ) (w : Writing HostState) → Follows w (flush_came timeout w).left
+pub flush-follows : (timeout : ℕ) (w : Writing HostState) → Follows w (flush_came host_calls timeout w).left
 flush-follows timeout w = flush-keeps (Follows w) (follows-kept w) timeout w (follows-same w)
 
-pub flush_end-follows : (timeout : ℕ) (w : Writing HostState) → Follows w (flush_end_came timeout w).left
+pub flush_end-follows : (timeout : ℕ) (w : Writing HostState) → Follows w (flush_end_came host_calls timeout w).left
 flush_end-follows timeout w = flush_end-keeps (Follows w) (follows-kept w) timeout w (follows-same w)
 
-pub poll_flush_end-follows : (w : Writing HostState) → Follows w (poll_flush_end_came w).left
+pub poll_flush_end-follows : (w : Writing HostState) → Follows w (poll_flush_end_came host_calls w).left
 poll_flush_end-follows w = poll_flush_end-keeps (Follows w) (follows-kept w) w (follows-same w)
 
-pub submit-follows : (w : Writing HostState) → Follows w (submit_came w)
+pub submit-follows : (w : Writing HostState) → Follows w (submit_came host_calls w)
 submit-follows w = submit-keeps (Follows w) (follows-kept w) w (follows-same w)
 
-pub submit_end-follows : (w : Writing HostState) → Follows w (submit_end_came w)
+pub submit_end-follows : (w : Writing HostState) → Follows w (submit_end_came host_calls w)
 submit_end-follows w = submit_end-keeps (Follows w) (follows-kept w) w (follows-same w)
 
 -- the endpoint behind a call
@@ -194,12 +195,12 @@ represents-called s state w old x v at calls came rep host_was has =
     represents-writer s state w v.bus x v.writer at f (λ z. record { bare = bare_writer v.writer; calls = calls }) rep has kept_is (omega arith) refl
 
 -- a call, by what it comes to at the host
-abbrev pub called_by : {A : Type 0} → (Writing HostState → Given A) → (WriterState → ℕ) → (WriterState → Result A WriteFault → List Call) → (Result A WriteFault → List ℕ) → State → ℕ → WriterAt → Answer
+abbrev pub called_by : {A : Type 0} → (Writing HostState → Given A WriteFault (Writing HostState)) → (WriterState → ℕ) → (WriterState → Result A WriteFault → List Call) → (Result A WriteFault → List ℕ) → State → ℕ → WriterAt → Answer
 called_by came need calls line state w at =
     called_as state w at (need (state_of_writer at)) (calls (state_of_writer at) (came (writing_at state at)).answer) line (came (writing_at state at))
 
 -- it is answered in a session as at the host
-pub writer-answers : {A E : Type 0} (came : Writing HostState → Given A) (need : WriterState → ℕ) (calls : WriterState → Result A WriteFault → List Call) (line : Result A WriteFault → List ℕ) (old new : HostState) (x y : WriterState)
+pub writer-answers : {A E : Type 0} (came : Writing HostState → Given A WriteFault (Writing HostState)) (need : WriterState → ℕ) (calls : WriterState → Result A WriteFault → List Call) (line : Result A WriteFault → List ℕ) (old new : HostState) (x y : WriterState)
     (before text : String Global) (result : Result Unit E) → Follows (writing old x) (came (writing old x)).left
     → Prints (bars_call (writing old x) (need x)) line (came (writing old x)) before text (writing old x) (writing new y) result
     → WriterAnswers old new x y before text result (called_by came need calls line)
@@ -226,8 +227,8 @@ writer-answers {A} came need calls line old new x y before text (Ok done) follow
 
 -- a write, of the bytes of this slice (l)
 pub write-answers : {E : Type 0} (timeout : WriterState → ℕ) (src l : List ℕ) (line : Result ℕ WriteFault → List ℕ) (old new : HostState) (x y : WriterState) (before text : String Global) (result : Result Unit E) → l ≡ src
-    → Prints (bars_call (writing old x) (write_need x)) line (write_came (timeout x) l (writing old x)) before text (writing old x) (writing new y) result
-    → WriterAnswers old new x y before text result (called_by (λ v. write_came (timeout v.writer) src v) write_need (λ z r. written_calls src r) line)
+    → Prints (bars_call (writing old x) (write_need x)) line (write_came host_calls (timeout x) l (writing old x)) before text (writing old x) (writing new y) result
+    → WriterAnswers old new x y before text result (called_by (λ v. write_came host_calls (timeout v.writer) src v) write_need (λ z r. written_calls src r) line)
 write-answers timeout src l line old new x y before text result same prints =
-    writer-answers (λ v. write_came (timeout v.writer) src v) write_need (λ z r. written_calls src r) line old new x y before text result (write-follows (timeout x) src (writing old x))
-    (subst (λ (bytes : List ℕ). Prints (bars_call (writing old x) (write_need x)) line (write_came (timeout x) bytes (writing old x)) before text (writing old x) (writing new y) result) same prints)
+    writer-answers (λ v. write_came host_calls (timeout v.writer) src v) write_need (λ z r. written_calls src r) line old new x y before text result (write-follows (timeout x) src (writing old x))
+    (subst (λ (bytes : List ℕ). Prints (bars_call (writing old x) (write_need x)) line (write_came host_calls (timeout x) bytes (writing old x)) before text (writing old x) (writing new y) result) same prints)

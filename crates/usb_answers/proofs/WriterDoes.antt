@@ -6,12 +6,14 @@ use Rattle.std.proofs.lemmas.Bool.{and_parts}
 use Rattle.std.proofs.lemmas.Option.{none-some, same_Some}
 use Rattle.usb_simulated.specs.declared.step.KernelStep.{KernelStep}
 use Rattle.usb_host.specs.HostState.{HostState}
+use Rattle.usb_host.specs.HostCalls.{host_calls}
 use Rattle.usb_io.specs.Writers.{Writing}
 use Rattle.usb_io.specs.Writes.{Call, Flush, Finish}
 use Rattle.usb_io.specs.Carried.{begun_calls, written_calls}
 use Rattle.usb_io.specs.declared.fault.WriteFault.{WriteFault}
 use Rattle.usb_io.specs.declared.fault.WriteFault.TheVariants.{Transfer, TimedOut}
-use Rattle.usb_writes.specs.HostWrites.{Answered, write_came, flush_came, flush_end_came, poll_flush_end_came, submit_came, submit_end_came}
+use Rattle.usb_io.specs.Answered.{Answered}
+use Rattle.usb_io.specs.WriteAnswers.{write_came, flush_came, flush_end_came, poll_flush_end_came, submit_came, submit_end_came}
 use Rattle.usb_writes.specs.Told.{with_calls, failures_of}
 use Rattle.usb_writes.proofs.WritesKeep.{Keeps, submit-keeps, submit_end-keeps, write-keeps, flush-keeps, flush_end-keeps, poll_flush_end-keeps}
 use Rattle.usb_stream_lines.specs.Faults.{io_line, write_fault_line}
@@ -115,7 +117,7 @@ module _ (few : Type 0) (a : Answer) (state : State) (e : ℕ) (h : Endpoint) (a
 abbrev KeptBy : Writing HostState → Writing HostState → Type 1
 KeptBy old new = (P : Writing HostState → Type 0) → Keeps P → P old → P new
 
-called_as-does : {A : Type 0} (state : State) (w : ℕ) (x : WriterAt) (need : ℕ) (calls : List Call) (line : Result A WriteFault → List ℕ) (came : Answered A) → writer_at state w ≡ Some x → ((r : Result A WriteFault) → says_done (line r) ≡ false) → KeptBy (writing_at state x) came.left
+called_as-does : {A : Type 0} (state : State) (w : ℕ) (x : WriterAt) (need : ℕ) (calls : List Call) (line : Result A WriteFault → List ℕ) (came : Answered A WriteFault (Writing HostState)) → writer_at state w ≡ Some x → ((r : Result A WriteFault) → says_done (line r) ≡ false) → KeptBy (writing_at state x) came.left
     → Does state (called_as state w x need calls line came)
 called_as-does state w x need calls line came is other keeps =
     let e = writer_place w in
@@ -149,10 +151,10 @@ polled-other line other (Err (Transfer e)) = other (Err (Transfer e))
 polled-other line other (Err TimedOut) = refl
 
 -- writes
-wrote_as-does : (state : State) (w timeout : ℕ) (src : List ℕ) (x : WriterAt) (line : Result ℕ WriteFault → List ℕ) → writer_at state w ≡ Some x → ((r : Result ℕ WriteFault) → says_done (line r) ≡ false) → Does state (wrote_as state w src x line (write_came timeout src (writing_at state x)))
+wrote_as-does : (state : State) (w timeout : ℕ) (src : List ℕ) (x : WriterAt) (line : Result ℕ WriteFault → List ℕ) → writer_at state w ≡ Some x → ((r : Result ℕ WriteFault) → says_done (line r) ≡ false) → Does state (wrote_as state w src x line (write_came host_calls timeout src (writing_at state x)))
 wrote_as-does state w timeout src x line is other =
     let v = writing_at state x in
-    called_as-does state w x (write_need (state_of_writer x)) (written_calls src (write_came timeout src v).answer) line (write_came timeout src v) is other (λ P keeps at_v. write-keeps P keeps timeout src v at_v)
+    called_as-does state w x (write_need (state_of_writer x)) (written_calls src (write_came host_calls timeout src v).answer) line (write_came host_calls timeout src v) is other (λ P keeps at_v. write-keeps P keeps timeout src v at_v)
 
 pub write-does : (state : State) (w : ℕ) (src : List ℕ) (steps : List KernelStep) → Does state (write_answer state w src steps)
 unfolding write_answer
@@ -170,21 +172,21 @@ unfolding submit_buffer_answer
 submit_buffer-does state w =
     call-does (writer_at state w) (λ x. submit_buffer_on state w x) (λ x is.
     let v = writing_at state x in
-    called_as-does state w x (flush_need (state_of_writer x)) (Flush ∷ []) flushed_line (submitted_to (submit_came v)) is flushed-other (λ P keeps at_v. submit-keeps P keeps v at_v))
+    called_as-does state w x (flush_need (state_of_writer x)) (Flush ∷ []) flushed_line (submitted_to (submit_came host_calls v)) is flushed-other (λ P keeps at_v. submit-keeps P keeps v at_v))
 
 pub submit_end-does : (state : State) (w : ℕ) → Does state (submit_end_answer state w)
 unfolding submit_end_answer
 submit_end-does state w =
     call-does (writer_at state w) (λ x. submit_end_on state w x) (λ x is.
     let v = writing_at state x in
-    called_as-does state w x (finish_need (state_of_writer x)) (Finish ∷ []) flushed_line (submitted_to (submit_end_came v)) is flushed-other (λ P keeps at_v. submit_end-keeps P keeps v at_v))
+    called_as-does state w x (finish_need (state_of_writer x)) (Finish ∷ []) flushed_line (submitted_to (submit_end_came host_calls v)) is flushed-other (λ P keeps at_v. submit_end-keeps P keeps v at_v))
 
 -- flushes
 flushed_as-does : (state : State) (w timeout : ℕ) (x : WriterAt) (line : Result (Unit {0}) WriteFault → List ℕ) → writer_at state w ≡ Some x → ((r : Result (Unit {0}) WriteFault) → says_done (line r) ≡ false)
-    → Does state (called_as state w x (flush_need (state_of_writer x)) (Flush ∷ []) line (flush_came timeout (writing_at state x)))
+    → Does state (called_as state w x (flush_need (state_of_writer x)) (Flush ∷ []) line (flush_came host_calls timeout (writing_at state x)))
 flushed_as-does state w timeout x line is other =
     let v = writing_at state x in
-    called_as-does state w x (flush_need (state_of_writer x)) (Flush ∷ []) line (flush_came timeout v) is other (λ P keeps at_v. flush-keeps P keeps timeout v at_v)
+    called_as-does state w x (flush_need (state_of_writer x)) (Flush ∷ []) line (flush_came host_calls timeout v) is other (λ P keeps at_v. flush-keeps P keeps timeout v at_v)
 
 pub flush-does : (state : State) (w : ℕ) (steps : List KernelStep) → Does state (flush_answer state w steps)
 unfolding flush_answer
@@ -202,12 +204,12 @@ flush_end-does state w steps =
     stepping-does (writer_at state w) (λ x. flush_end_on (lent state steps) w x) (λ x is.
     let v = writing_at (lent state steps) x in
     let timeout = x.writer.bare.timeout in
-    called_as-does (lent state steps) w x (finish_need (state_of_writer x)) (Finish ∷ []) flushed_line (flush_end_came timeout v) is flushed-other (λ P keeps at_v. flush_end-keeps P keeps timeout v at_v))
+    called_as-does (lent state steps) w x (finish_need (state_of_writer x)) (Finish ∷ []) flushed_line (flush_end_came host_calls timeout v) is flushed-other (λ P keeps at_v. flush_end-keeps P keeps timeout v at_v))
 
 pub poll_flush_end-does : (state : State) (w : ℕ) → Does state (poll_flush_end_answer state w)
 unfolding poll_flush_end_answer
 poll_flush_end-does state w =
     call-does (writer_at state w) (λ x. poll_flush_end_on state w x) (λ x is.
     let v = writing_at state x in
-    called_as-does state w x (poll_finish_need (state_of_writer x)) (begun_calls x.writer.bare.begun) (polled flushed_line) (poll_flush_end_came v) is (polled-other flushed_line flushed-other)
+    called_as-does state w x (poll_finish_need (state_of_writer x)) (begun_calls x.writer.bare.begun) (polled flushed_line) (poll_flush_end_came host_calls v) is (polled-other flushed_line flushed-other)
     (λ P keeps at_v. poll_flush_end-keeps P keeps v at_v))

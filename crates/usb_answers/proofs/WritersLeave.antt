@@ -5,9 +5,13 @@ use Rattle.std.proofs.lemmas.Bool.{cond_both}
 use Rattle.usb_desc.specs.declared.types.Direction.TheVariants.{Out}
 use Rattle.usb_simulated.specs.declared.step.KernelStep.{KernelStep}
 use Rattle.usb_io.specs.declared.fault.WriteFault.{WriteFault}
+use Rattle.usb_host.specs.HostState.{HostState}
+use Rattle.usb_io.specs.Writers.{Writing}
 use Rattle.usb_io.specs.Writes.{Call, Flush, Finish}
 use Rattle.usb_io.specs.Carried.{written_calls, begun_calls}
-use Rattle.usb_writes.specs.HostWrites.{Answered, write_came, flush_came, flush_end_came, poll_flush_end_came, submit_came, submit_end_came}
+use Rattle.usb_io.specs.Answered.{Answered}
+use Rattle.usb_io.specs.WriteAnswers.{write_came, flush_came, flush_end_came, poll_flush_end_came, submit_came, submit_end_came}
+use Rattle.usb_host.specs.HostCalls.{host_calls}
 use Rattle.usb_writer_lines.specs.Needs.{bars_call, write_need, flush_need, finish_need, poll_finish_need}
 use Rattle.usb_writer_lines.specs.Printed.{written_line, flushed_line, polled, submitted_to}
 use Rattle.usb_script.specs.declared.item.Item.{Item}
@@ -106,7 +110,7 @@ close-leaves state w =
     })
 
 -- the calls that submit or take transfers
-called-leaves : {A : Type 0} (state : State) (w : ℕ) (x : WriterAt) (need : ℕ) (calls : List Call) (line : Result A WriteFault → List ℕ) (a : Answered A) → Leaves state (called_as state w x need calls line a)
+called-leaves : {A : Type 0} (state : State) (w : ℕ) (x : WriterAt) (need : ℕ) (calls : List Call) (line : Result A WriteFault → List ℕ) (a : Answered A WriteFault (Writing HostState)) → Leaves state (called_as state w x need calls line a)
 called-leaves state w x need calls line a =
     bar-leaves state (bars_call (writing_at state x) need) _
     (record { readers = refl; endpoints = λ r small. named-change_other _ state.endpoints (writer_place w) (reader_place r) (reader-writer_apart r w small) })
@@ -116,53 +120,53 @@ unfolding write_answer
 write-leaves state w src steps =
     let now = lent state steps in
     stepping-leaves state steps (writer_at state w) (write_on now w src) (λ x.
-    let a = write_came x.writer.bare.timeout src (writing_at now x) in
+    let a = write_came host_calls x.writer.bare.timeout src (writing_at now x) in
     called-leaves now w x (write_need (state_of_writer x)) (written_calls src a.answer) written_line a)
 
 poll_write-leaves : (state : State) (w : ℕ) (src : List ℕ) → Leaves state (poll_write_answer state w src)
 unfolding poll_write_answer
 poll_write-leaves state w src =
     open-leaves state (writer_at state w) (poll_write_on state w src) (λ x.
-    let a = write_came 0 src (writing_at state x) in
+    let a = write_came host_calls 0 src (writing_at state x) in
     called-leaves state w x (write_need (state_of_writer x)) (written_calls src a.answer) (polled written_line) a)
 
 submit-leaves : (state : State) (w : ℕ) → Leaves state (submit_buffer_answer state w)
 unfolding submit_buffer_answer
 submit-leaves state w =
     open-leaves state (writer_at state w) (submit_buffer_on state w) (λ x.
-    called-leaves state w x (flush_need (state_of_writer x)) (Flush ∷ []) flushed_line (submitted_to (submit_came (writing_at state x))))
+    called-leaves state w x (flush_need (state_of_writer x)) (Flush ∷ []) flushed_line (submitted_to (submit_came host_calls (writing_at state x))))
 
 submit_end-leaves : (state : State) (w : ℕ) → Leaves state (submit_end_answer state w)
 unfolding submit_end_answer
 submit_end-leaves state w =
     open-leaves state (writer_at state w) (submit_end_on state w) (λ x.
-    called-leaves state w x (finish_need (state_of_writer x)) (Finish ∷ []) flushed_line (submitted_to (submit_end_came (writing_at state x))))
+    called-leaves state w x (finish_need (state_of_writer x)) (Finish ∷ []) flushed_line (submitted_to (submit_end_came host_calls (writing_at state x))))
 
 flush-leaves : (state : State) (w : ℕ) (steps : List KernelStep) → Leaves state (flush_answer state w steps)
 unfolding flush_answer
 flush-leaves state w steps =
     let now = lent state steps in
     stepping-leaves state steps (writer_at state w) (flush_on now w) (λ x.
-    called-leaves now w x (flush_need (state_of_writer x)) (Flush ∷ []) flushed_line (flush_came x.writer.bare.timeout (writing_at now x)))
+    called-leaves now w x (flush_need (state_of_writer x)) (Flush ∷ []) flushed_line (flush_came host_calls x.writer.bare.timeout (writing_at now x)))
 
 poll_flush-leaves : (state : State) (w : ℕ) → Leaves state (poll_flush_answer state w)
 unfolding poll_flush_answer
 poll_flush-leaves state w =
     open-leaves state (writer_at state w) (poll_flush_on state w) (λ x.
-    called-leaves state w x (flush_need (state_of_writer x)) (Flush ∷ []) (polled flushed_line) (flush_came 0 (writing_at state x)))
+    called-leaves state w x (flush_need (state_of_writer x)) (Flush ∷ []) (polled flushed_line) (flush_came host_calls 0 (writing_at state x)))
 
 flush_end-leaves : (state : State) (w : ℕ) (steps : List KernelStep) → Leaves state (flush_end_answer state w steps)
 unfolding flush_end_answer
 flush_end-leaves state w steps =
     let now = lent state steps in
     stepping-leaves state steps (writer_at state w) (flush_end_on now w) (λ x.
-    called-leaves now w x (finish_need (state_of_writer x)) (Finish ∷ []) flushed_line (flush_end_came x.writer.bare.timeout (writing_at now x)))
+    called-leaves now w x (finish_need (state_of_writer x)) (Finish ∷ []) flushed_line (flush_end_came host_calls x.writer.bare.timeout (writing_at now x)))
 
 poll_flush_end-leaves : (state : State) (w : ℕ) → Leaves state (poll_flush_end_answer state w)
 unfolding poll_flush_end_answer
 poll_flush_end-leaves state w =
     open-leaves state (writer_at state w) (poll_flush_end_on state w) (λ x.
-    called-leaves state w x (poll_finish_need (state_of_writer x)) (begun_calls x.writer.bare.begun) (polled flushed_line) (poll_flush_end_came (writing_at state x)))
+    called-leaves state w x (poll_finish_need (state_of_writer x)) (begun_calls x.writer.bare.begun) (polled flushed_line) (poll_flush_end_came host_calls (writing_at state x)))
 
 -- each line
 others-leave_readers : (state : State) (line : Item) → is_streamed line ≡ false → LeavesReaders state (line_answer state line).state

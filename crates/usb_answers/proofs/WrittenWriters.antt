@@ -14,15 +14,17 @@ use Rattle.usb_simulated.specs.declared.step.KernelStep.{KernelStep}
 use Rattle.usb_endpoint.specs.EndpointState.{EndpointState}
 use Rattle.usb_host.specs.HostState.{HostState}
 use Rattle.usb_host.specs.EndpointRefusals.{same_direction}
+use Rattle.usb_host.specs.HostCalls.{host_calls}
 use Rattle.usb_host.proofs.FollowLemmas.{on-rest}
 use Rattle.usb_io.specs.declared.fault.WriteFault.{WriteFault}
 use Rattle.usb_io.specs.Readers.{rounded}
 use Rattle.usb_io.specs.Writers.{WriterState, Writing, fresh_writer}
 use Rattle.usb_io.specs.Writes.{Call, Flush, Finish}
 use Rattle.usb_io.specs.Carried.{AllCarry, WriterHistory, nothing_written, Tells, written_calls, begun_calls}
+use Rattle.usb_io.specs.Answered.{Answered}
+use Rattle.usb_io.specs.WriteAnswers.{write_came, flush_came, flush_end_came, poll_flush_end_came, submit_came, submit_end_came}
 use Rattle.usb_io.proofs.CarriedLaws.{fresh_tells, later_tells}
 use Rattle.usb_streams.specs.Numbers.{numbers_from}
-use Rattle.usb_writes.specs.HostWrites.{Answered, write_came, flush_came, flush_end_came, poll_flush_end_came, submit_came, submit_end_came}
 use Rattle.usb_writes.specs.Laws.{CallGoesOn}
 use Rattle.usb_writes.specs.Told.{WriterCalls, no_calls, with_calls, failures_of, failures_at, IsComplete, CallTells}
 use Rattle.usb_writes.proofs.CallsGoOn.{write_goes_on, flush_goes_on, flush_end_goes_on, poll_flush_end_goes_on, submit_goes_on, submit_end_goes_on}
@@ -396,11 +398,11 @@ unfolding stepped_all
 stepped-tell state steps f = rested-tell (lent state steps) (lent-tell state steps f)
 
 -- what a call is to its writer where it is made
-record ToldCall {A : Type 0} (state : State) (x : WriterAt) (calls : List Call) (a : Answered A) : Type 0 where
+record ToldCall {A : Type 0} (state : State) (x : WriterAt) (calls : List Call) (a : Answered A WriteFault (Writing HostState)) : Type 0 where
   goes : CallGoesOn (writing_at state x) a.left
   tells : x.endpoint.address < 128 → CallTells (writing_at state x) a.left calls (failures_of a.answer)
 
-called_as-tell : {A : Type 0} (state : State) (w : ℕ) (x : WriterAt) (need : ℕ) (calls : List Call) (line : Result A WriteFault → List ℕ) (a : Answered A) → writer_at state w ≡ Some x → ToldCall state x calls a → AllTell state → AllTell (called_as state w x need calls line a).state
+called_as-tell : {A : Type 0} (state : State) (w : ℕ) (x : WriterAt) (need : ℕ) (calls : List Call) (line : Result A WriteFault → List ℕ) (a : Answered A WriteFault (Writing HostState)) → writer_at state w ≡ Some x → ToldCall state x calls a → AllTell state → AllTell (called_as state w x need calls line a).state
 called_as-tell state w x need calls line a at t f =
     let now = option_map (with_calls calls (failures_of a.answer)) x.writer.calls in
     cond_both (bars_call (writing_at state x) need) (barred state) (told (writer_called state w now a.left) (line a.answer)) (λ (b : Answer). AllTell b.state)
@@ -429,7 +431,7 @@ write-tell state w src steps f =
     stepping-tell state w steps (write_on now w src) f (λ x at.
     let timeout = x.writer.bare.timeout in
     let v = writing_at now x in
-    let a = write_came timeout src v in
+    let a = write_came host_calls timeout src v in
     called_as-tell now w x (write_need (state_of_writer x)) (written_calls src a.answer) written_line a at (record { goes = write_goes_on timeout src v; tells = write-tells timeout src v }) (lent-tell state steps f))
 
 pub poll_write-tell : (state : State) (w : ℕ) (src : List ℕ) → AllTell state → AllTell (poll_write_answer state w src).state
@@ -437,7 +439,7 @@ unfolding poll_write_answer
 poll_write-tell state w src f =
     open-tell state w (poll_write_on state w src) f (λ x at.
     let v = writing_at state x in
-    let a = write_came 0 src v in
+    let a = write_came host_calls 0 src v in
     called_as-tell state w x (write_need (state_of_writer x)) (written_calls src a.answer) (polled written_line) a at (record { goes = write_goes_on 0 src v; tells = write-tells 0 src v }) f)
 
 pub submit-tell : (state : State) (w : ℕ) → AllTell state → AllTell (submit_buffer_answer state w).state
@@ -445,14 +447,14 @@ unfolding submit_buffer_answer
 submit-tell state w f =
     open-tell state w (submit_buffer_on state w) f (λ x at.
     let v = writing_at state x in
-    called_as-tell state w x (flush_need (state_of_writer x)) (Flush ∷ []) flushed_line (submitted_to (submit_came v)) at (record { goes = submit_goes_on v; tells = submit-tells v }) f)
+    called_as-tell state w x (flush_need (state_of_writer x)) (Flush ∷ []) flushed_line (submitted_to (submit_came host_calls v)) at (record { goes = submit_goes_on v; tells = submit-tells v }) f)
 
 pub submit_end-tell : (state : State) (w : ℕ) → AllTell state → AllTell (submit_end_answer state w).state
 unfolding submit_end_answer
 submit_end-tell state w f =
     open-tell state w (submit_end_on state w) f (λ x at.
     let v = writing_at state x in
-    called_as-tell state w x (finish_need (state_of_writer x)) (Finish ∷ []) flushed_line (submitted_to (submit_end_came v)) at (record { goes = submit_end_goes_on v; tells = submit_end-tells v }) f)
+    called_as-tell state w x (finish_need (state_of_writer x)) (Finish ∷ []) flushed_line (submitted_to (submit_end_came host_calls v)) at (record { goes = submit_end_goes_on v; tells = submit_end-tells v }) f)
 
 pub flush-tell : (state : State) (w : ℕ) (steps : List KernelStep) → AllTell state → AllTell (flush_answer state w steps).state
 unfolding flush_answer
@@ -461,14 +463,14 @@ flush-tell state w steps f =
     stepping-tell state w steps (flush_on now w) f (λ x at.
     let timeout = x.writer.bare.timeout in
     let v = writing_at now x in
-    called_as-tell now w x (flush_need (state_of_writer x)) (Flush ∷ []) flushed_line (flush_came timeout v) at (record { goes = flush_goes_on timeout v; tells = flush-tells timeout v }) (lent-tell state steps f))
+    called_as-tell now w x (flush_need (state_of_writer x)) (Flush ∷ []) flushed_line (flush_came host_calls timeout v) at (record { goes = flush_goes_on timeout v; tells = flush-tells timeout v }) (lent-tell state steps f))
 
 pub poll_flush-tell : (state : State) (w : ℕ) → AllTell state → AllTell (poll_flush_answer state w).state
 unfolding poll_flush_answer
 poll_flush-tell state w f =
     open-tell state w (poll_flush_on state w) f (λ x at.
     let v = writing_at state x in
-    called_as-tell state w x (flush_need (state_of_writer x)) (Flush ∷ []) (polled flushed_line) (flush_came 0 v) at (record { goes = flush_goes_on 0 v; tells = flush-tells 0 v }) f)
+    called_as-tell state w x (flush_need (state_of_writer x)) (Flush ∷ []) (polled flushed_line) (flush_came host_calls 0 v) at (record { goes = flush_goes_on 0 v; tells = flush-tells 0 v }) f)
 
 pub flush_end-tell : (state : State) (w : ℕ) (steps : List KernelStep) → AllTell state → AllTell (flush_end_answer state w steps).state
 unfolding flush_end_answer
@@ -477,11 +479,11 @@ flush_end-tell state w steps f =
     stepping-tell state w steps (flush_end_on now w) f (λ x at.
     let timeout = x.writer.bare.timeout in
     let v = writing_at now x in
-    called_as-tell now w x (finish_need (state_of_writer x)) (Finish ∷ []) flushed_line (flush_end_came timeout v) at (record { goes = flush_end_goes_on timeout v; tells = flush_end-tells timeout v }) (lent-tell state steps f))
+    called_as-tell now w x (finish_need (state_of_writer x)) (Finish ∷ []) flushed_line (flush_end_came host_calls timeout v) at (record { goes = flush_end_goes_on timeout v; tells = flush_end-tells timeout v }) (lent-tell state steps f))
 
 pub poll_flush_end-tell : (state : State) (w : ℕ) → AllTell state → AllTell (poll_flush_end_answer state w).state
 unfolding poll_flush_end_answer
 poll_flush_end-tell state w f =
     open-tell state w (poll_flush_end_on state w) f (λ x at.
     let v = writing_at state x in
-    called_as-tell state w x (poll_finish_need (state_of_writer x)) (begun_calls x.writer.bare.begun) (polled flushed_line) (poll_flush_end_came v) at (record { goes = poll_flush_end_goes_on v; tells = poll_flush_end-tells v }) f)
+    called_as-tell state w x (poll_finish_need (state_of_writer x)) (begun_calls x.writer.bare.begun) (polled flushed_line) (poll_flush_end_came host_calls v) at (record { goes = poll_flush_end_goes_on v; tells = poll_flush_end-tells v }) f)

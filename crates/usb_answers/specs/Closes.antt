@@ -5,8 +5,7 @@
 -- interface is closed; a release is refused where the interface has another owner.
 use Rattle.std.specs.Prelude.{ℕ, Option, Some, None, if◌then◌else◌}
 use Rattle.usb_endpoint.specs.Closes.{all_discarded, after_close}
-use Rattle.usb_host.specs.HostCalls.{host_discarded, host_left}
-use Rattle.usb_host.specs.TicketEnds.{host_abandoned}
+use Rattle.usb_host.specs.HostCalls.{host_discarded, host_calls}
 use Rattle.usb_device.specs.HandleStates.{InterfaceState}
 use Rattle.usb_host.specs.Handles.{device_closed, handle_closed}
 use Rattle.usb_device.specs.Futures.{FutureState, future_closed}
@@ -28,7 +27,7 @@ cancel_answer state e = if_open (named state.endpoints e) (λ h. ok_answer (canc
 -- an endpoint is closed, and its name is free
 abbrev pub without_endpoint : State → ℕ → Endpoint → State
 without_endpoint state e h =
-    record state { host = after_close host_discarded host_abandoned host_left state.host (kept h); endpoints = freed state.endpoints e }
+    record state { host = after_close host_calls state.host (kept h); endpoints = freed state.endpoints e }
 
 -- the answer to `close` of an endpoint
 unfoldable pub close_answer : State → ℕ → Answer

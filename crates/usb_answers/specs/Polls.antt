@@ -23,10 +23,10 @@ took line state e t None = told state (line None)
 took line state e t (Some completion) = told (taken_from state e t) (line (Some completion))
 
 -- a poll is barred where nothing is pending
-abbrev pub polled : State → ℕ → Option ℕ → Answer
-polled state e None = barred state
-polled state e (Some t) = took polled_line state e t (transfer_completion state.host.kernel.past t)
+abbrev pub poll_on : State → ℕ → Option ℕ → Answer
+poll_on state e None = barred state
+poll_on state e (Some t) = took polled_line state e t (transfer_completion state.host.kernel.past t)
 
 -- a poll of an endpoint that is not open is barred. Where n tickets were taken, the oldest pending one is the endpoint's n-th, counted from 0
 unfoldable pub poll_answer : State → ℕ → Answer
-poll_answer state e = if_open (named state.endpoints e) (λ h. polled state e (slice_get h.tickets h.taken)) (barred state)
+poll_answer state e = if_open (named state.endpoints e) (λ h. poll_on state e (slice_get h.tickets h.taken)) (barred state)

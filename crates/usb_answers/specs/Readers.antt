@@ -4,12 +4,11 @@ use Rattle.std.specs.Prelude.{ℕ, ◌+◌, ◌-◌, ◌||◌, ◌&&◌, nat_lt,
 use Rattle.usb_desc.specs.declared.types.Direction.TheVariants.{In}
 use Rattle.usb_endpoint.specs.Closes.{all_discarded, after_close}
 use Rattle.usb_host.specs.HostState.{HostState}
-use Rattle.usb_host.specs.HostCalls.{host_discarded, host_left}
-use Rattle.usb_host.specs.TicketEnds.{host_abandoned}
+use Rattle.usb_host.specs.HostCalls.{host_discarded}
 use Rattle.usb_io.specs.Readers.{ReaderState, fresh_reader}
 use Rattle.usb_io.specs.Reads.{Reading, reading, filled_to}
 use Rattle.usb_io.specs.Streams.{Item}
-use Rattle.usb_streams.specs.HostReads.{host_calls}
+use Rattle.usb_host.specs.HostCalls.{host_calls}
 use Rattle.usb_streams.specs.Numbers.{numbers_from}
 use Rattle.usb_names.specs.Names.{named, is_free, freed, set_name, change_named}
 use Rattle.usb_writer_lines.specs.Needs.{bars_need}
@@ -130,7 +129,7 @@ cancel_reader_answer state r = if_open (reader_at state r) (cancel_reader_on sta
 abbrev pub closed_reader : State → ℕ → Endpoint → State
 closed_reader state r h =
     record state {
-      host = after_close host_discarded host_abandoned host_left state.host (kept h);
+      host = after_close host_calls state.host (kept h);
       endpoints = freed state.endpoints (reader_place r);
       readers = freed state.readers r;
     }

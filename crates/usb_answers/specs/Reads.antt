@@ -8,7 +8,9 @@ use Rattle.usb_io.specs.Reads.{reading}
 use Rattle.usb_io.specs.Streams.{Item, Byte, End}
 use Rattle.usb_io.specs.declared.fault.ReadFault.{ReadFault}
 use Rattle.usb_io.specs.declared.fault.ReadFault.TheVariants.{TimedOut}
-use Rattle.usb_streams.specs.HostReads.{Answered, fill_came, read_came}
+use Rattle.usb_io.specs.Answers.{Read, fill_came, read_came}
+use Rattle.usb_host.specs.HostState.{HostState}
+use Rattle.usb_host.specs.HostCalls.{host_calls}
 use Rattle.usb_streams.specs.Needs.{read_need}
 use Rattle.usb_stream_lines.specs.Faults.{read_fault_line}
 use Rattle.usb_stream_lines.specs.Reads.{read_line, buffer_line, is_end_line, consumed_end_line}
@@ -58,19 +60,19 @@ polled_given_line line (Err TimedOut) = pending_line
 polled_given_line line answer = given_line line answer
 
 -- a call that takes the bytes that it gives
-abbrev pub read_as : State → Framing → ℕ → ReaderAt → (Result (List ℕ) ReadFault → List ℕ) → Answered → Answer
+abbrev pub read_as : State → Framing → ℕ → ReaderAt → (Result (List ℕ) ReadFault → List ℕ) → Read HostState → Answer
 read_as state framing r x line a =
     told (called state r (consumed_with framing (map Byte (bytes_given a.answer)) x.reader.consumed) (bytes_given a.answer) a.left) (line a.answer)
 
 -- one that lends them
-abbrev pub filled_as : State → Framing → ℕ → ReaderAt → (Result (List ℕ) ReadFault → List ℕ) → Answered → Answer
+abbrev pub filled_as : State → Framing → ℕ → ReaderAt → (Result (List ℕ) ReadFault → List ℕ) → Read HostState → Answer
 filled_as state framing r x line a = told (called state r (consumed_with framing [] x.reader.consumed) [] a.left) (line a.answer)
 
 -- a read of at most so many bytes, which waits
 abbrev pub read_on : State → Framing → ℕ → ℕ → ReaderAt → Answer
 read_on state framing r most x =
     if bars_read state framing x then barred state
-    else read_as state framing r x (given_line read_line) (read_came (is_until_short framing) x.reader.bare.timeout most (reading state.host (state_of_reader x)))
+    else read_as state framing r x (given_line read_line) (read_came host_calls (is_until_short framing) x.reader.bare.timeout most (reading state.host (state_of_reader x)))
 
 -- `read`, `sread`
 unfoldable pub read_answer : State → Framing → ℕ → ℕ → List KernelStep → Answer
@@ -81,7 +83,7 @@ read_answer state framing r most steps =
 abbrev pub poll_read_on : State → Framing → ℕ → ℕ → ReaderAt → Answer
 poll_read_on state framing r most x =
     if bars_read state framing x then barred state
-    else read_as state framing r x (polled_given_line read_line) (read_came (is_until_short framing) 0 most (reading state.host (state_of_reader x)))
+    else read_as state framing r x (polled_given_line read_line) (read_came host_calls (is_until_short framing) 0 most (reading state.host (state_of_reader x)))
 
 -- `pollread`, `pollsread`
 unfoldable pub poll_read_answer : State → Framing → ℕ → ℕ → Answer
@@ -91,7 +93,7 @@ poll_read_answer state framing r most = if_open (reader_at state r) (poll_read_o
 abbrev pub fill_on : State → Framing → ℕ → ReaderAt → Answer
 fill_on state framing r x =
     if bars_read state framing x then barred state
-    else filled_as state framing r x (given_line buffer_line) (fill_came (is_until_short framing) x.reader.bare.timeout (reading state.host (state_of_reader x)))
+    else filled_as state framing r x (given_line buffer_line) (fill_came host_calls (is_until_short framing) x.reader.bare.timeout (reading state.host (state_of_reader x)))
 
 -- `fill`, `sfill`
 unfoldable pub fill_answer : State → Framing → ℕ → List KernelStep → Answer
@@ -102,7 +104,7 @@ fill_answer state framing r steps =
 abbrev pub poll_fill_on : State → Framing → ℕ → ReaderAt → Answer
 poll_fill_on state framing r x =
     if bars_read state framing x then barred state
-    else filled_as state framing r x (polled_given_line buffer_line) (fill_came (is_until_short framing) 0 (reading state.host (state_of_reader x)))
+    else filled_as state framing r x (polled_given_line buffer_line) (fill_came host_calls (is_until_short framing) 0 (reading state.host (state_of_reader x)))
 
 -- `pollfill`, `pollsfill`
 unfoldable pub poll_fill_answer : State → Framing → ℕ → Answer

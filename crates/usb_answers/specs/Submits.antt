@@ -7,7 +7,7 @@ use Rattle.usb_kernel.specs.declared.event.Event.{Event}
 use Rattle.usb_kernel.specs.Info.{unreaped}
 use Rattle.usb_endpoint.specs.EndpointState.{EndpointState}
 use Rattle.usb_endpoint.specs.Submits.{entered}
-use Rattle.usb_host.specs.HostCalls.{host_submitted, host_refused}
+use Rattle.usb_host.specs.HostCalls.{host_calls}
 use Rattle.usb_host.specs.EndpointRefusals.{same_direction}
 use Rattle.usb_names.specs.Names.{named, change_named}
 use Rattle.usb_answers.specs.State.{State, Endpoint, kept, tickets_of}
@@ -30,7 +30,7 @@ with_submission t h = record h { tickets = h.tickets ++ t ∷ [] }
 abbrev pub submitted : State → ℕ → BufferState → Endpoint → State
 submitted state e b h =
     record state {
-      host = entered host_submitted host_refused state.host (kept h) b;
+      host = entered host_calls state.host (kept h) b;
       endpoints = change_named (with_submission (tickets_of state)) state.endpoints e;
     }
 

@@ -8,9 +8,9 @@ use Rattle.usb_kernel.specs.Info.{unreaped}
 use Rattle.usb_bus.specs.Completions.{transfer_completion}
 use Rattle.usb_endpoint.specs.EndpointState.{EndpointState}
 use Rattle.usb_endpoint.specs.Submits.{entered}
+use Rattle.usb_endpoint.specs.Blocking.{blocked}
 use Rattle.usb_host.specs.HostState.{HostState}
-use Rattle.usb_host.specs.HostCalls.{host_submitted, host_refused}
-use Rattle.usb_host.specs.HostBlocking.{host_blocked}
+use Rattle.usb_host.specs.HostCalls.{host_calls}
 use Rattle.usb_host.specs.TicketEnds.{host_taken}
 use Rattle.usb_lines.specs.Completions.{waited_line}
 use Rattle.usb_names.specs.Names.{named, change_named}
@@ -35,15 +35,15 @@ transfer_ended state e t host =
     (waited_line (transfer_completion host.kernel.past t))
 
 -- the buffer is submitted as the next ticket, its completion is waited for, and it is taken
-abbrev pub transferred : State → ℕ → BufferState → ℕ → Endpoint → Answer
-transferred state e b timeout h =
+abbrev pub transfer_made : State → ℕ → BufferState → ℕ → Endpoint → Answer
+transfer_made state e b timeout h =
     transfer_ended state e (tickets_of state)
-    (host_blocked (entered host_submitted host_refused state.host (kept h) b) (tickets_of state) timeout)
+    (blocked host_calls (tickets_of state) timeout (entered host_calls state.host (kept h) b))
 
 -- on an endpoint that is open (h)
 abbrev pub transfer_on : State → Direction → ℕ → BufferState → ℕ → Endpoint → Answer
 transfer_on state direction e b timeout h =
-    if bars_transfer state.host.kernel.past direction (kept h) then barred state else transferred state e b timeout h
+    if bars_transfer state.host.kernel.past direction (kept h) then barred state else transfer_made state e b timeout h
 
 -- the steps of a barred call are applied all the same
 unfoldable pub transfer_answer : State → Direction → ℕ → BufferState → ℕ → List KernelStep → Answer

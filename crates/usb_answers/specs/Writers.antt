@@ -3,8 +3,7 @@
 use Rattle.std.specs.Prelude.{ℕ, ◌&&◌, Bool, List, [], Option, Some, None, if◌then◌else◌}
 use Rattle.usb_desc.specs.declared.types.Direction.TheVariants.{Out}
 use Rattle.usb_endpoint.specs.Closes.{after_close}
-use Rattle.usb_host.specs.HostCalls.{host_discarded, host_left}
-use Rattle.usb_host.specs.TicketEnds.{host_abandoned}
+use Rattle.usb_host.specs.HostCalls.{host_calls}
 use Rattle.usb_io.specs.Writers.{fresh_writer}
 use Rattle.usb_writes.specs.Told.{WriterCalls, no_calls}
 use Rattle.usb_names.specs.Names.{named, is_free, freed, set_name, change_named}
@@ -87,7 +86,7 @@ write_timeout_answer state w timeout = if_open (named state.writers w) (λ x. wr
 abbrev pub closed_writer : State → ℕ → Endpoint → State
 closed_writer state w h =
     record state {
-      host = after_close host_discarded host_abandoned host_left state.host (kept h);
+      host = after_close host_calls state.host (kept h);
       endpoints = freed state.endpoints (writer_place w);
       writers = freed state.writers w;
     }

@@ -8,7 +8,9 @@ use Rattle.usb_io.specs.declared.fault.WriteFault.{WriteFault}
 use Rattle.usb_io.specs.Writers.{Writing}
 use Rattle.usb_io.specs.Writes.{Call, Flush, Finish}
 use Rattle.usb_io.specs.Carried.{written_calls, begun_calls}
-use Rattle.usb_writes.specs.HostWrites.{Answered, write_came, flush_came, flush_end_came, poll_flush_end_came, submit_came, submit_end_came}
+use Rattle.usb_io.specs.Answered.{Answered}
+use Rattle.usb_io.specs.WriteAnswers.{write_came, flush_came, flush_end_came, poll_flush_end_came, submit_came, submit_end_came}
+use Rattle.usb_host.specs.HostCalls.{host_calls}
 use Rattle.usb_writes.specs.Told.{WriterCalls, with_calls, failures_of}
 use Rattle.usb_writer_lines.specs.Needs.{bars_call, write_need, flush_need, finish_need, poll_finish_need}
 use Rattle.usb_writer_lines.specs.Printed.{written_line, flushed_line, polled, submitted_to}
@@ -30,18 +32,18 @@ writer_called state w calls v =
     }
 
 -- a call that may need so many submissions, counts as these accepted calls, prints this line and answers so
-abbrev pub called_as : {A : Type 0} → State → ℕ → WriterAt → ℕ → List Call → (Result A WriteFault → List ℕ) → Answered A → Answer
+abbrev pub called_as : {A : Type 0} → State → ℕ → WriterAt → ℕ → List Call → (Result A WriteFault → List ℕ) → Answered A WriteFault (Writing HostState) → Answer
 called_as state w x need calls line a =
     if bars_call (writing_at state x) need then barred state
     else told (writer_called state w (option_map (with_calls calls (failures_of a.answer)) x.writer.calls) a.left) (line a.answer)
 
 -- a write of bytes (src) counts as those that it accepted
-abbrev pub wrote_as : State → ℕ → List ℕ → WriterAt → (Result ℕ WriteFault → List ℕ) → Answered ℕ → Answer
+abbrev pub wrote_as : State → ℕ → List ℕ → WriterAt → (Result ℕ WriteFault → List ℕ) → Answered ℕ WriteFault (Writing HostState) → Answer
 wrote_as state w src x line a = called_as state w x (write_need (state_of_writer x)) (written_calls src a.answer) line a
 
 -- one that waits
 abbrev pub write_on : State → ℕ → List ℕ → WriterAt → Answer
-write_on state w src x = wrote_as state w src x written_line (write_came x.writer.bare.timeout src (writing_at state x))
+write_on state w src x = wrote_as state w src x written_line (write_came host_calls x.writer.bare.timeout src (writing_at state x))
 
 -- `write`
 unfoldable pub write_answer : State → ℕ → List ℕ → List KernelStep → Answer
@@ -50,7 +52,7 @@ write_answer state w src steps =
 
 -- one that doesn't wait
 abbrev pub poll_write_on : State → ℕ → List ℕ → WriterAt → Answer
-poll_write_on state w src x = wrote_as state w src x (polled written_line) (write_came 0 src (writing_at state x))
+poll_write_on state w src x = wrote_as state w src x (polled written_line) (write_came host_calls 0 src (writing_at state x))
 
 -- `pollwrite`
 unfoldable pub poll_write_answer : State → ℕ → List ℕ → Answer
@@ -59,7 +61,7 @@ poll_write_answer state w src = if_open (writer_at state w) (poll_write_on state
 -- a submission of what stands is a flush that waits for nothing
 abbrev pub submit_buffer_on : State → ℕ → WriterAt → Answer
 submit_buffer_on state w x =
-    called_as state w x (flush_need (state_of_writer x)) (Flush ∷ []) flushed_line (submitted_to (submit_came (writing_at state x)))
+    called_as state w x (flush_need (state_of_writer x)) (Flush ∷ []) flushed_line (submitted_to (submit_came host_calls (writing_at state x)))
 
 -- `wsubmit`
 unfoldable pub submit_buffer_answer : State → ℕ → Answer
@@ -68,7 +70,7 @@ submit_buffer_answer state w = if_open (writer_at state w) (submit_buffer_on sta
 -- the end of a message
 abbrev pub submit_end_on : State → ℕ → WriterAt → Answer
 submit_end_on state w x =
-    called_as state w x (finish_need (state_of_writer x)) (Finish ∷ []) flushed_line (submitted_to (submit_end_came (writing_at state x)))
+    called_as state w x (finish_need (state_of_writer x)) (Finish ∷ []) flushed_line (submitted_to (submit_end_came host_calls (writing_at state x)))
 
 -- `wend`
 unfoldable pub submit_end_answer : State → ℕ → Answer
@@ -77,7 +79,7 @@ submit_end_answer state w = if_open (writer_at state w) (submit_end_on state w) 
 -- a flush, with a wait for each transfer that is pending
 abbrev pub flush_on : State → ℕ → WriterAt → Answer
 flush_on state w x =
-    called_as state w x (flush_need (state_of_writer x)) (Flush ∷ []) flushed_line (flush_came x.writer.bare.timeout (writing_at state x))
+    called_as state w x (flush_need (state_of_writer x)) (Flush ∷ []) flushed_line (flush_came host_calls x.writer.bare.timeout (writing_at state x))
 
 -- `flush`
 unfoldable pub flush_answer : State → ℕ → List KernelStep → Answer
@@ -87,7 +89,7 @@ flush_answer state w steps =
 -- and without a wait
 abbrev pub poll_flush_on : State → ℕ → WriterAt → Answer
 poll_flush_on state w x =
-    called_as state w x (flush_need (state_of_writer x)) (Flush ∷ []) (polled flushed_line) (flush_came 0 (writing_at state x))
+    called_as state w x (flush_need (state_of_writer x)) (Flush ∷ []) (polled flushed_line) (flush_came host_calls 0 (writing_at state x))
 
 -- `pollflush`
 unfoldable pub poll_flush_answer : State → ℕ → Answer
@@ -96,7 +98,7 @@ poll_flush_answer state w = if_open (writer_at state w) (poll_flush_on state w) 
 -- a flush to the end of a message, with a wait for each transfer that is pending
 abbrev pub flush_end_on : State → ℕ → WriterAt → Answer
 flush_end_on state w x =
-    called_as state w x (finish_need (state_of_writer x)) (Finish ∷ []) flushed_line (flush_end_came x.writer.bare.timeout (writing_at state x))
+    called_as state w x (finish_need (state_of_writer x)) (Finish ∷ []) flushed_line (flush_end_came host_calls x.writer.bare.timeout (writing_at state x))
 
 -- `flushend`
 unfoldable pub flush_end_answer : State → ℕ → List KernelStep → Answer
@@ -106,7 +108,7 @@ flush_end_answer state w steps =
 -- and without a wait: it ends the message where no end has begun
 abbrev pub poll_flush_end_on : State → ℕ → WriterAt → Answer
 poll_flush_end_on state w x =
-    called_as state w x (poll_finish_need (state_of_writer x)) (begun_calls x.writer.bare.begun) (polled flushed_line) (poll_flush_end_came (writing_at state x))
+    called_as state w x (poll_finish_need (state_of_writer x)) (begun_calls x.writer.bare.begun) (polled flushed_line) (poll_flush_end_came host_calls (writing_at state x))
 
 -- `pollflushend`
 unfoldable pub poll_flush_end_answer : State → ℕ → Answer

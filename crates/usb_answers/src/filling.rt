@@ -5,10 +5,11 @@ ghost use Rattle.std.specs.Io.BufRead.{Rests};
 ghost use Rattle.usb_endpoint.specs.Handles.{Stands};
 ghost use Rattle.usb_host.specs.HostBus.{bus_of};
 ghost use Rattle.usb_host.specs.HostFrames.{LineGoesOn};
+ghost use Rattle.usb_host.specs.HostCalls.{host_calls};
 ghost use Rattle.usb_io.specs.AnyReaders.{reader_of};
 ghost use Rattle.usb_io.specs.Reads.{reading, GoesAlong, KeepsSettings};
 ghost use Rattle.usb_io.specs.contracts.any_reader.AnyReader.{the_row};
-ghost use Rattle.usb_streams.specs.Lent.{FilledAs, PollFilledAs};
+ghost use Rattle.usb_io.specs.Lent.{Filled, PollFilled};
 ghost use Rattle.usb_answers.specs.Reads.{is_until_short, fill_on, poll_fill_on};
 ghost use Rattle.usb_answers.specs.OpenCalls.{CallKeeps};
 ghost use Rattle.usb_answers.specs.ReaderCalls.{ReaderAnswers};
@@ -31,7 +32,7 @@ fn fill_bytes<'a>(
     requires stands { Stands (bus_of host.old) (reader_of reader.old).endpoint }
     ensures* lent { sem 𝓛
         (Rests the_row reader.entry
-        (λ new. FilledAs (is_until_short framing) (reader_of reader.old).timeout
+        (λ new. Filled host_calls (is_until_short framing) (reader_of reader.old).timeout
         (reading host.old (reader_of reader.old)) (reading host.new (reader_of new)) result
         × LineGoesOn host.old host.new
         × GoesAlong (bus_of host.old) (bus_of host.new) (reader_of reader.old) (reader_of new)
@@ -77,7 +78,7 @@ fn poll_fill_bytes<'a>(
     requires stands { Stands (bus_of host.old) (reader_of reader.old).endpoint }
     ensures* lent { sem 𝓛
         (Rests the_row reader.entry
-        (λ new. PollFilledAs (is_until_short framing)
+        (λ new. PollFilled host_calls (is_until_short framing)
         (reading host.old (reader_of reader.old)) (reading host.new (reader_of new)) result
         × LineGoesOn host.old host.new
         × GoesAlong (bus_of host.old) (bus_of host.new) (reader_of reader.old) (reader_of new)

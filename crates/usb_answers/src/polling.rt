@@ -6,7 +6,7 @@ ghost use Rattle.usb_endpoint.specs.AnyEndpoints.{state_of};
 ghost use Rattle.usb_host.specs.HostBus.{bus_of};
 ghost use Rattle.usb_answers.specs.ReaderAt.{endpoint_place};
 ghost use Rattle.usb_answers.specs.Pending.{pending_answer};
-ghost use Rattle.usb_answers.specs.Polls.{polled, poll_answer};
+ghost use Rattle.usb_answers.specs.Polls.{poll_on, poll_answer};
 ghost use Rattle.usb_answers.specs.Answered.{Answers};
 ghost use Rattle.usb_answers.specs.OpenCalls.{CallKeeps, CallAnswers};
 
@@ -24,7 +24,7 @@ fn poll_open(endpoint: &mut AnyEndpoint, host: &mut Host, line: &mut String) -> 
     requires stands { Stands (bus_of host.old) (state_of endpoint.old) }
     ensures keeps { CallKeeps host.old host.new (state_of endpoint.old) (state_of endpoint.new) }
     ensures answered { CallAnswers host.old host.new (state_of endpoint.old) (state_of endpoint.new)
-        line.old line.new result (λ state e h. polled state e (slice_get h.tickets h.taken)) }
+        line.old line.new result (λ state e h. poll_on state e (slice_get h.tickets h.taken)) }
 {
     if endpoint.pending() == 0 {
         return write_condition(line);

@@ -5,10 +5,11 @@ ghost use Rattle.usb_endpoint.specs.Handles.{Stands};
 ghost use Rattle.usb_endpoint.specs.Polls.{IfReady, IfPending};
 ghost use Rattle.usb_host.specs.HostBus.{bus_of};
 ghost use Rattle.usb_host.specs.HostFrames.{LineGoesOn};
+ghost use Rattle.usb_host.specs.HostCalls.{host_calls};
 ghost use Rattle.usb_io.specs.AnyReaders.{reader_of};
-ghost use Rattle.usb_io.specs.Answers.{IsInTime};
+ghost use Rattle.usb_io.specs.Answers.{IsInTime, read_came, ReadFails};
 ghost use Rattle.usb_io.specs.Reads.{reading, GoesAlong};
-ghost use Rattle.usb_streams.specs.HostReads.{read_came, answered, ReadFails};
+ghost use Rattle.usb_io.specs.Answered.{answered};
 ghost use Rattle.usb_writer_lines.specs.Needs.{bars_need};
 ghost use Rattle.usb_answers.specs.Reads.{is_until_short, need_of, read_on, poll_read_on};
 ghost use Rattle.usb_answers.specs.OpenCalls.{CallKeeps};
@@ -53,12 +54,13 @@ fn read_bytes(
     requires stands { Stands (bus_of host.old) (reader_of reader.old).endpoint }
     ensures few { IfOk result (λ n. n ≤ length dest.old) }
     ensures read { IfOk result
-        (λ n. read_came (is_until_short framing) (reader_of reader.old).timeout (length dest.old)
-        (reading host.old (reader_of reader.old))
+        (λ n. read_came host_calls (is_until_short framing) (reader_of reader.old).timeout
+        (length dest.old) (reading host.old (reader_of reader.old))
         ≡ answered (Ok (take n dest.new)) (reading host.new (reader_of reader.new))) }
     ensures failed { IfErr result
-        (ReadFails (is_until_short framing) (reader_of reader.old).timeout (length dest.old)
-        (reading host.old (reader_of reader.old)) (reading host.new (reader_of reader.new))) }
+        (ReadFails host_calls (is_until_short framing) (reader_of reader.old).timeout
+        (length dest.old) (reading host.old (reader_of reader.old))
+        (reading host.new (reader_of reader.new))) }
     ensures line { LineGoesOn host.old host.new }
     ensures goes { GoesAlong (bus_of host.old) (bus_of host.new) (reader_of reader.old)
         (reader_of reader.new) }
@@ -106,16 +108,16 @@ fn poll_bytes(
     requires stands { Stands (bus_of host.old) (reader_of reader.old).endpoint }
     ensures few { IfReady result (λ r. IfOk r (λ n. n ≤ length dest.old)) }
     ensures read { IfReady result
-        (λ r. IfOk r (λ n. read_came (is_until_short framing) 0 (length dest.old)
+        (λ r. IfOk r (λ n. read_came host_calls (is_until_short framing) 0 (length dest.old)
         (reading host.old (reader_of reader.old))
         ≡ answered (Ok (take n dest.new)) (reading host.new (reader_of reader.new)))) }
     ensures failed { IfReady result
         (λ r. IfErr r
-        (ReadFails (is_until_short framing) 0 (length dest.old)
+        (ReadFails host_calls (is_until_short framing) 0 (length dest.old)
         (reading host.old (reader_of reader.old)) (reading host.new (reader_of reader.new)))) }
     ensures in_time { IfReady result (λ r. IfErr r IsInTime) }
     ensures pending { IfPending result
-        (read_came (is_until_short framing) 0 (length dest.old)
+        (read_came host_calls (is_until_short framing) 0 (length dest.old)
         (reading host.old (reader_of reader.old))
         ≡ answered (Err ReadFault.TimedOut) (reading host.new (reader_of reader.new))) }
     ensures line { LineGoesOn host.old host.new }

@@ -15,7 +15,7 @@ use crate::buffers::{in_buffer, out_buffer};
 use crate::session::Session;
 use crate::submitting::has_direction;
 use usb_desc::{Direction, NoMemory};
-use usb_device::{Host, blocking_is_by_steps};
+use usb_device::Host;
 use usb_endpoint::AnyEndpoint;
 use usb_lines::{write_condition, write_waited};
 use usb_names::{put_at, take_at};
@@ -50,9 +50,7 @@ fn transfer_open(
     if bars_transfer(host, direction, endpoint) {
         return write_condition(line);
     }
-    let tried = endpoint.transfer_blocking(host, buffer, timeout.nanoseconds());
-    blocking_is_by_steps();
-    match tried {
+    match endpoint.transfer_blocking(host, buffer, timeout.nanoseconds()) {
         Ok(completion) => write_waited(line, &Some(completion)),
         Err(_) => Err(NoMemory),
     }

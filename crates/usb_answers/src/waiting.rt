@@ -5,13 +5,13 @@ ghost use Rattle.usb_endpoint.specs.Handles.{Stands};
 ghost use Rattle.usb_endpoint.specs.AnyEndpoints.{state_of};
 ghost use Rattle.usb_host.specs.HostBus.{bus_of};
 ghost use Rattle.usb_answers.specs.ReaderAt.{endpoint_place};
-ghost use Rattle.usb_answers.specs.Waits.{waited, wait_answer};
+ghost use Rattle.usb_answers.specs.Waits.{wait_on, wait_answer};
 ghost use Rattle.usb_answers.specs.Answered.{Answers};
 ghost use Rattle.usb_answers.specs.OpenCalls.{CallKeeps, CallAnswers};
 
 use crate::session::Session;
 use usb_desc::NoMemory;
-use usb_device::{Host, wait_is_by_steps};
+use usb_device::Host;
 use usb_endpoint::AnyEndpoint;
 use usb_lines::{write_condition, write_waited};
 use usb_names::{put_at, take_at};
@@ -28,13 +28,12 @@ fn wait_open(
     ensures keeps { CallKeeps host.old host.new (state_of endpoint.old) (state_of endpoint.new) }
     ensures answered { CallAnswers host.old host.new (state_of endpoint.old) (state_of endpoint.new)
         line.old line.new result
-        (λ state e h. waited state e timeout (slice_get h.tickets h.taken)) }
+        (λ state e h. wait_on state e timeout (slice_get h.tickets h.taken)) }
 {
     if endpoint.pending() == 0 {
         return write_condition(line);
     }
     let done = endpoint.wait_next_complete(host, timeout.nanoseconds());
-    wait_is_by_steps();
     write_waited(line, &done)
 }
 

@@ -18,6 +18,7 @@ use Rattle.usb_kernel.specs.Submits.{kernel_submitted, kernel_refused}
 use Rattle.usb_bus.specs.declared.route.Route.{Route}
 use Rattle.usb_bus.specs.declared.route.Turn.{Turn}
 use Rattle.usb_bus.specs.BusState.{BusState}
+use Rattle.usb_bus.specs.BusCalls.{BusCalls}
 use Rattle.usb_bus.specs.Completions.{transfer_completion}
 use Rattle.usb_bus.specs.Routes.{submission_of}
 use Rattle.usb_bus.specs.Holds.{Hold, value_for}
@@ -119,3 +120,21 @@ bus_halt_result h device endpoint = ok_unless (errno_of h.kernel device call.Hal
 -- a step of the simulation between two calls
 abbrev pub bus_stepped : KernelBusState → KernelStep → KernelBusState
 bus_stepped h s = record h { kernel = after_step h.kernel s }
+
+-- what calls leave of the bus
+abbrev pub kernel_bus_calls : BusCalls KernelBusState
+kernel_bus_calls =
+    record {
+      state = bus_of;
+      submitted = bus_submitted;
+      refused = bus_refused;
+      discarded = bus_discarded;
+      abandoned = bus_without;
+      taken = bus_without;
+      closed = bus_closed;
+      turned = bus_turned;
+      turn_of = bus_turn;
+      idled = bus_idled;
+      halt_cleared = bus_halt_cleared;
+      halt_result = bus_halt_result;
+    }

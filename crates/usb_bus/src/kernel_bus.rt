@@ -7,7 +7,7 @@ ghost use Rattle.usb_simulated.specs.Errnos.{IsErrno};
 ghost use Rattle.usb_kernel.specs.Submits.{submit_refusal};
 ghost use Rattle.usb_xfer.specs.Transfers.{IsFilled};
 ghost use Rattle.usb_bus.specs.KernelBusState.{KernelBusState};
-ghost use Rattle.usb_bus.specs.KernelBusCalls.{bus_of, owner_at, key_at, bus_value, bus_submitted, bus_refused, bus_discarded, bus_without, bus_closed, bus_turned, bus_turn, bus_idled, bus_halt_cleared, bus_halt_result, bus_stepped};
+ghost use Rattle.usb_bus.specs.KernelBusCalls.{bus_of, owner_at, key_at, bus_value, bus_submitted, bus_refused, bus_discarded, bus_without, bus_closed, bus_turned, bus_turn, bus_idled, bus_halt_cleared, bus_halt_result, bus_stepped, kernel_bus_calls};
 ghost use Rattle.usb_bus.specs.KernelBusLaws.{bus_of-without_owner, bus_value-holds};
 ghost use Rattle.usb_bus.specs.Routes.{AsksWhole};
 
@@ -227,27 +227,7 @@ impl Slots<TransferData> for KernelBus {
 }
 
 impl Bus for KernelBus {
-    ghost state = { bus_of };
-
-    ghost submitted = { bus_submitted };
-
-    ghost refused = { bus_refused };
-
-    ghost discarded = { bus_discarded };
-
-    ghost abandoned = { bus_without };
-
-    ghost closed = { bus_closed };
-
-    ghost turned = { bus_turned };
-
-    ghost turn_of = { bus_turn };
-
-    ghost idled = { bus_idled };
-
-    ghost halt_cleared = { bus_halt_cleared };
-
-    ghost halt_result = { bus_halt_result };
+    ghost calls = { kernel_bus_calls };
 
     fn submit(
         &mut self,
@@ -303,6 +283,8 @@ impl Bus for KernelBus {
     ghost stands_is = { λ x t. refl };
 
     ghost value_is = { bus_value-holds };
+
+    ghost taken_is = { λ x t. refl };
 
     ghost state_taken = { bus_of-without_owner };
 }

@@ -11,7 +11,7 @@ use Rattle.usb_simulated.specs.declared.step.KernelStep.{KernelStep}
 use Rattle.usb_kernel.specs.declared.submission.Done.{Done}
 use Rattle.usb_kernel.specs.Tickets.{tickets}
 use Rattle.usb_kernel.specs.declared.submission.Submission.{Submission}
-use Rattle.usb_kernel.specs.Completions.{completion, waiting, lowest, reapable}
+use Rattle.usb_kernel.specs.Completions.{completion, reapable}
 use Rattle.usb_kernel.specs.Steps.{after_step, step_done, after_reap}
 use Rattle.usb_kernel.proofs.Places.{slice_get-append_left, slice_get-set_other}
 use Rattle.usb_bus.specs.declared.route.Route.{Route}
@@ -22,14 +22,14 @@ use Rattle.usb_ledger.specs.declared.opened.OpenDevice.{OpenDevice}
 use Rattle.usb_ledger.specs.Entries.{HostTicket, HostEndpoint, ClaimedInterface, fresh_interface, HeldBy, Abandoned, Ended}
 use Rattle.usb_host.specs.HostState.{HostState}
 use Rattle.usb_ledger.specs.EndedTickets.{end_at, ended_at}
+use Rattle.usb_host.proofs.TurnKeeps.{IsKept, kept-turned, kept-awaited}
 use Rattle.usb_device.specs.EndLaws.{KeepsEnds, EndsStay}
 use Rattle.usb_host.specs.Releases.{endpoint_left, settled, owner_gone}
 use Rattle.usb_host.specs.TicketEnds.{ended_as, host_ended, host_taken, given_up, host_abandoned, reclaimed_if, came}
-use Rattle.usb_host.specs.HostTurns.{host_stepped, host_reaped, reaped_of, turned_of, host_turned, all_stepped, host_rest}
-use Rattle.usb_host.specs.HostWaits.{is_found, reap_and}
-use Rattle.usb_host.specs.HostAwaits.{sought_reaps, sought_steps, host_awaited}
+use Rattle.usb_host.specs.HostTurns.{host_stepped, host_reaped, host_turned, all_stepped, host_rest}
+use Rattle.usb_host.specs.HostAwaits.{host_awaited}
 use Rattle.usb_host.specs.Controls.{host_started}
-use Rattle.usb_host.specs.HostCalls.{host_idled, submitted_with, host_submitted, refused_with, host_refused, host_discarded, closed_if, host_left}
+use Rattle.usb_host.specs.HostCalls.{submitted_with, host_submitted, refused_with, host_refused, host_discarded, closed_if, host_left}
 use Rattle.usb_host.specs.Finishes.{discarded_below, reaped_below, finished}
 use Rattle.usb_host.specs.Handles.{handle_added, handle_cloned, handle_gone, handle_closed}
 use Rattle.usb_ledger.specs.Owners.{has_living}
@@ -111,58 +111,12 @@ reaped-ends : (h : HostState) (t : ℕ) → KeepsEnds h (host_reaped h t)
 unfolding host_reaped
 reaped-ends h t = came-ends (record h { kernel = record h.kernel { past = after_reap h.kernel.past t } }) (reapable h.kernel.past t)
 
-reaped_of-ends : (h : HostState) (o : Option ℕ) → KeepsEnds h (reaped_of h o)
-reaped_of-ends h None = same h
-reaped_of-ends h (Some t) = reaped-ends h t
-
-turned_of-ends : (h : HostState) (steps : List KernelStep) → KeepsEnds h (turned_of h steps)
-turned_of-ends h [] = reaped_of-ends h (lowest h.kernel.past)
-turned_of-ends h (s ∷ ss) = stepped-ends (record h { steps = ss }) s
-
-turned-ends : (h : HostState) → KeepsEnds h (host_turned h)
-unfolding host_turned
-turned-ends h = turned_of-ends h h.steps
-
 all_stepped-ends : (h : HostState) (steps : List KernelStep) → KeepsEnds h (all_stepped h steps)
 all_stepped-ends h [] = same h
 all_stepped-ends h (s ∷ ss) = then h (host_stepped h s) (all_stepped (host_stepped h s) ss) (stepped-ends h s) (all_stepped-ends (host_stepped h s) ss)
 
 rest-ends : (h : HostState) → KeepsEnds h (host_rest h)
 rest-ends h = all_stepped-ends (record h { steps = [] }) h.steps
-
--- a wait for a control transfer
-reap_and-ends : (h : HostState) (o : Option ℕ) (further : HostState → Bool × HostState) → ((g : HostState) → KeepsEnds g (further g).1) → KeepsEnds h (reap_and o h further).1
-reap_and-ends h None further each = same h
-reap_and-ends h (Some u) further each = then h (host_reaped h u) (further (host_reaped h u)).1 (reaped-ends h u) (each (host_reaped h u))
-
-sought_reaps-ends : (n : ℕ) (h : HostState) (t : ℕ) → KeepsEnds h (sought_reaps n h t).1
-sought_reaps-ends zero h t = same h
-sought_reaps-ends (suc n) h t =
-    let further = λ (g : HostState). sought_reaps n g t in
-    elim (is_found h t) as (λ v. KeepsEnds h (cond v (true, h) (reap_and (lowest h.kernel.past) h further)).1) [
-      | true ↦ same h
-      | false ↦ reap_and-ends h (lowest h.kernel.past) further (λ g. sought_reaps-ends n g t)
-    ]
-
-sought_steps-ends : (steps : List KernelStep) (h : HostState) (t : ℕ) → KeepsEnds h (sought_steps steps h t).1
-sought_steps-ends [] h t = sought_reaps-ends (length (waiting h.kernel.past)) h t
-sought_steps-ends (s ∷ ss) h t =
-    let next = host_stepped (record h { steps = ss }) s in
-    elim (is_found h t) as (λ v. KeepsEnds h (cond v (true, h) (sought_steps ss next t)).1) [
-      | true ↦ same h
-      | false ↦ then h next (sought_steps ss next t).1 (stepped-ends (record h { steps = ss }) s) (sought_steps-ends ss next t)
-    ]
-
-awaited-ends : (h : HostState) (t deadline : ℕ) → KeepsEnds h (host_awaited h t deadline)
-unfolding host_awaited
-awaited-ends h t deadline =
-    let p = sought_steps h.steps h t in
-    let last = (sought_steps p.1.steps (host_idled p.1 deadline) t).1 in
-    let first : KeepsEnds h p.1 = sought_steps-ends h.steps h t in
-    elim p.0 as (λ v. KeepsEnds h (cond v p.1 last)) [
-      | true ↦ first
-      | false ↦ then h p.1 last first (sought_steps-ends p.1.steps (host_idled p.1 deadline) t)
-    ]
 
 -- a control transfer that starts
 started-ends : (h : HostState) (s : Submission) → KeepsEnds h (host_started h s)
@@ -189,6 +143,24 @@ refused-ends h to t errno = refused-by h to t errno (buffer_held t.held)
 discarded-ends : (h : HostState) (t : ℕ) → KeepsEnds h (host_discarded h t)
 unfolding host_discarded
 discarded-ends h t u end at = at
+
+-- turns, and a wait for a control transfer
+ends_kept : IsKept KeepsEnds
+ends_kept =
+    record {
+      same = same;
+      more = then;
+      step = λ h s ss is. stepped-ends (record h { steps = ss }) s;
+      reap = reaped-ends;
+      discard = discarded-ends;
+      idle = λ h until. same h;
+    }
+
+turned-ends : (h : HostState) → KeepsEnds h (host_turned h)
+turned-ends h = kept-turned KeepsEnds ends_kept h
+
+awaited-ends : (h : HostState) (t deadline : ℕ) → KeepsEnds h (host_awaited h t deadline)
+awaited-ends h t deadline = kept-awaited KeepsEnds ends_kept h t deadline
 
 closed-by : (h : HostState) (k : ℕ) (o : Option HostEndpoint) → KeepsEnds h (closed_if h k o)
 unfolding settled endpoint_left

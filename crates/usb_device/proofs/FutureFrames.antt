@@ -14,13 +14,13 @@ use Rattle.usb_kernel.proofs.Extends.{extends-same, ticket-stays, completion-sta
 use Rattle.usb_bus.specs.BusState.{BusState, without_owner, without_key}
 use Rattle.usb_bus.specs.Completions.{completion_of, transfer_completion}
 use Rattle.usb_endpoint.specs.Handles.{KeepsOthers}
+use Rattle.usb_endpoint.specs.Waits.{is_reaped}
 use Rattle.usb_registry.proofs.SerialLemmas.{cases_Option}
 use Rattle.usb_xfer.specs.declared.transfer.TransferData.{TransferData}
 use Rattle.usb_host.specs.HostState.{HostState}
 use Rattle.usb_host.specs.HostBus.{bus_of, owner_at, key_at}
-use Rattle.usb_host.specs.HostCalls.{host_left}
+use Rattle.usb_host.specs.HostCalls.{host_left, host_calls}
 use Rattle.usb_host.specs.HostFrames.{ClaimsGoOn, HostGoesOn}
-use Rattle.usb_host.specs.HostWaits.{is_found}
 use Rattle.usb_host.specs.HostAwaits.{deadline_of}
 use Rattle.usb_device.specs.HandleStates.{InterfaceState, StandsDevice, StandsInterface}
 use Rattle.usb_host.specs.TicketEnds.{host_taken, host_abandoned}
@@ -34,8 +34,8 @@ use Rattle.usb_ledger.proofs.DeviceLemmas.{there-same, opened-same}
 use Rattle.usb_device.proofs.DeviceLemmas.{kept-stands}
 use Rattle.usb_device.proofs.StandLemmas.{StandsInterface-same}
 use Rattle.usb_device.proofs.FreshKeys.{key-within}
-use Rattle.usb_host.proofs.WaitFrames.{went-nowhere}
-use Rattle.usb_host.proofs.ControlLemmas.{started-key, started-held, started-due, started-line, started-interfaces, started-past, started-others, went-awaited}
+use Rattle.usb_host.proofs.WaitFrames.{went-nowhere, went-awaited}
+use Rattle.usb_host.proofs.ControlLemmas.{started-key, started-held, started-due, started-line, started-interfaces, started-past, started-others}
 
 -- what a call of a future leaves as it was: the line, the open devices, the claimed interfaces with
 -- an open handle, and the journal, which goes on
@@ -183,7 +183,7 @@ mapped-none : {A B : Type 0} (f : A → B) (o : Option A) → is_some (option_ma
 mapped-none f None is = refl
 mapped-none f (Some x) is = absurd (cc)
 
-found-none : (h g : HostState) (t : ℕ) → Extends h.kernel.past g.kernel.past → is_found g t ≡ false → is_found h t ≡ false
+found-none : (h g : HostState) (t : ℕ) → Extends h.kernel.past g.kernel.past → is_reaped host_calls t g ≡ false → is_reaped host_calls t h ≡ false
 unfolding transfer_completion
 found-none h g t goes none =
     elim (cases_Option (completion h.kernel.past t)) [

@@ -1,13 +1,15 @@
 -- The open devices of a host over all calls.
-use Rattle.std.proofs.Common.{ℕ, zero, suc, ◌≡◌, arith, Bool, true, cond, List, [], ◌∷◌, length, slice_get, Option, Some, None, refl, ap, sym, ◌∙◌, Result, Ok, Err, inl, inr}
+use Rattle.std.proofs.Common.{ℕ, zero, suc, ◌≡◌, arith, Bool, cond, List, length, slice_get, Option, Some, None, refl, ap, sym, ◌∙◌, Result, Ok, Err, inl, inr}
 use Rattle.std.specs.Prelude.{is_some, nat_lt}
 use Rattle.std.proofs.lemmas.Bool.{cond_both, cases_eq}
 use Rattle.usb_simulated.specs.declared.step.KernelStep.{KernelStep}
 use Rattle.usb_kernel.specs.declared.submission.Done.{Done}
-use Rattle.usb_kernel.specs.Completions.{completion, waiting, lowest, reapable}
+use Rattle.usb_kernel.specs.Completions.{completion, reapable}
 use Rattle.usb_kernel.specs.Steps.{after_step, step_done, after_reap}
 use Rattle.usb_kernel.specs.Tickets.{tickets}
 use Rattle.usb_error.specs.ErrorState.{ErrorState}
+use Rattle.usb_endpoint.specs.Waits.{waited}
+use Rattle.usb_endpoint.specs.Blocking.{blocked}
 use Rattle.usb_registry.specs.History.{value_at}
 use Rattle.usb_registry.proofs.ValueLemmas.{value-push}
 use Rattle.usb_ledger.specs.Entries.{ClaimedInterface, HostTicket, HeldBy, Abandoned, Ended}
@@ -17,13 +19,11 @@ use Rattle.usb_ledger.specs.declared.opened.OpenDevice.{OpenDevice}
 use Rattle.usb_ledger.specs.Devices.{device_changed, handle_more, handle_less}
 use Rattle.usb_ledger.specs.Owners.{has_living}
 use Rattle.usb_host.specs.HostState.{HostState}
-use Rattle.usb_host.specs.HostFrames.{ClaimsGoOn}
+use Rattle.usb_host.specs.HostFrames.{ClaimsGoOn, LineGoesOn, HostGoesOn}
 use Rattle.usb_host.specs.TicketEnds.{ended_as, host_ended, host_taken, given_up, host_abandoned, came}
 use Rattle.usb_host.specs.HostTurns.{with_past, host_stepped, host_reaped, host_turned, host_rest}
-use Rattle.usb_host.specs.HostCalls.{host_submitted, host_refused, host_discarded, host_left, host_timed, host_idled}
-use Rattle.usb_host.specs.HostWaits.{is_found, reap_and, host_waited}
-use Rattle.usb_host.specs.HostBlocking.{host_blocked}
-use Rattle.usb_host.specs.HostAwaits.{sought_reaps, sought_steps, host_awaited}
+use Rattle.usb_host.specs.HostCalls.{host_submitted, host_refused, host_discarded, host_left, host_timed, host_idled, host_calls}
+use Rattle.usb_host.specs.HostAwaits.{host_awaited}
 use Rattle.usb_host.specs.Controls.{host_started}
 use Rattle.usb_host.specs.Finishes.{discarded_below, reaped_below, finished}
 use Rattle.usb_device.specs.HandleStates.{InterfaceState, StandsDevice, StandsInterface}
@@ -37,7 +37,7 @@ use Rattle.usb_device.specs.HeldLaws.{KeepsDevices, KeepsOtherDevices, KeepsHeld
 use Rattle.usb_host.proofs.HostFrames.{ended_as-is, ended_as-goes, came-is, came-goes}
 use Rattle.usb_host.proofs.ClaimFrames.{goes-same, goes-refl, goes-trans}
 use Rattle.usb_host.proofs.CallFrames.{keeps-submitted, keeps-refused, line-left, interfaces-left}
-use Rattle.usb_host.proofs.WaitFrames.{went-rest, went-turned, went-waited, went-blocked}
+use Rattle.usb_host.proofs.WaitFrames.{went-rest, went-turned, went-waited, went-blocked, went-awaited}
 use Rattle.usb_host.proofs.HostKeeps.{KeepsOpen}
 use Rattle.usb_host.proofs.ControlLemmas.{started-line, started-interfaces}
 use Rattle.usb_host.proofs.InterfaceFrames.{asked-is, asked-counts}
@@ -122,50 +122,12 @@ timed-leaves h = record { devices = refl; interfaces = goes-refl h.interfaces }
 idled-leaves : (h : HostState) (until : ℕ) → LeavesDevices h (host_idled h until)
 idled-leaves h until = record { devices = refl; interfaces = goes-refl h.interfaces }
 
-turned-leaves : (h : HostState) → LeavesDevices h (host_turned h)
-turned-leaves h = let went = (went-turned h).line in record { devices = went.devices; interfaces = went.interfaces }
+-- turns and waits
+line-leaves : (old new : HostState) → LineGoesOn old new → LeavesDevices old new
+line-leaves old new line = record { devices = line.devices; interfaces = line.interfaces }
 
-rest-leaves : (h : HostState) → LeavesDevices h (host_rest h)
-rest-leaves h = let went = (went-rest h).line in record { devices = went.devices; interfaces = went.interfaces }
-
-waited-leaves : (h : HostState) (t timeout : ℕ) → LeavesDevices h (host_waited h t timeout).1
-waited-leaves h t timeout = let went = (went-waited h t timeout).line in record { devices = went.devices; interfaces = went.interfaces }
-
-blocked-leaves : (h : HostState) (t timeout : ℕ) → LeavesDevices h (host_blocked h t timeout)
-blocked-leaves h t timeout = let went = (went-blocked h t timeout).line in record { devices = went.devices; interfaces = went.interfaces }
-
--- a wait with no timeout of its own
-found-or : (h : HostState) (found : Bool) (p : Bool × HostState) → LeavesDevices h p.1 → LeavesDevices h (cond found (true, h) p).1
-found-or h found p leaves = cond_both found (true, h) p (λ (q : Bool × HostState). LeavesDevices h q.1) (λ yes_. leaves-refl h) (λ no_. leaves)
-
-reaped-further : (h : HostState) (o : Option ℕ) (further : HostState → Bool × HostState) → ((g : HostState) → LeavesDevices g (further g).1) → LeavesDevices h (reap_and o h further).1
-reaped-further h None further each = leaves-refl h
-reaped-further h (Some u) further each = let next = host_reaped h u in leaves-trans h next (further next).1 (reaped-leaves h u) (each next)
-
-sought_reaps-leaves : (n : ℕ) (h : HostState) (t : ℕ) → LeavesDevices h (sought_reaps n h t).1
-sought_reaps-leaves zero h t = leaves-refl h
-sought_reaps-leaves (suc n) h t =
-    let further = λ (g : HostState). sought_reaps n g t in
-    found-or h (is_found h t) (reap_and (lowest h.kernel.past) h further) (reaped-further h (lowest h.kernel.past) further (λ g. sought_reaps-leaves n g t))
-
-sought_steps-leaves : (steps : List KernelStep) (h : HostState) (t : ℕ) → LeavesDevices h (sought_steps steps h t).1
-sought_steps-leaves [] h t = sought_reaps-leaves (length (waiting h.kernel.past)) h t
-sought_steps-leaves (s ∷ ss) h t =
-    let before = record h { steps = ss } in
-    let next = host_stepped before s in
-    let stepped = stepped-leaves before s in
-    let more = sought_steps-leaves ss next t in
-    found-or h (is_found h t) (sought_steps ss next t) (leaves-trans h next (sought_steps ss next t).1 (record { devices = stepped.devices; interfaces = stepped.interfaces }) more)
-
-awaited-leaves : (h : HostState) (t deadline : ℕ) → LeavesDevices h (host_awaited h t deadline)
-unfolding host_awaited
-awaited-leaves h t deadline =
-    let p = sought_steps h.steps h t in
-    let idled = host_idled p.1 deadline in
-    let after = (sought_steps p.1.steps idled t).1 in
-    let first = sought_steps-leaves h.steps h t in
-    cond_both p.0 p.1 after (LeavesDevices h) (λ yes_. first)
-    (λ no_. leaves-trans h p.1 after first (leaves-trans p.1 idled after (idled-leaves p.1 deadline) (sought_steps-leaves p.1.steps idled t)))
+went-held : (old new : HostState) → HostGoesOn old new → KeepsHeld old new
+went-held old new went = leaves-held old new (line-leaves old new went.line)
 
 -- the end
 discarded_below-leaves : (h : HostState) (k : ℕ) → LeavesDevices h (discarded_below h k)
@@ -307,13 +269,13 @@ devices_stay_held =
       start = held-start;
       step = λ h s. leaves-held h (host_stepped h s) (stepped-leaves h s);
       reap = λ h t. leaves-held h (host_reaped h t) (reaped-leaves h t);
-      rest = λ h. leaves-held h (host_rest h) (rest-leaves h);
-      turn = λ h. leaves-held h (host_turned h) (turned-leaves h);
+      rest = λ h. went-held h (host_rest h) (went-rest h);
+      turn = λ h. went-held h (host_turned h) (went-turned h);
       timer = λ h. leaves-held h (host_timed h) (timed-leaves h);
       idle = λ h until. leaves-held h (host_idled h until) (idled-leaves h until);
-      wait = λ h t timeout. leaves-held h (host_waited h t timeout).1 (waited-leaves h t timeout);
-      block = λ h t timeout. leaves-held h (host_blocked h t timeout) (blocked-leaves h t timeout);
-      await_ticket = λ h t deadline. leaves-held h (host_awaited h t deadline) (awaited-leaves h t deadline);
+      wait = λ h t timeout. went-held h (waited host_calls t timeout h) (went-waited h t timeout);
+      block = λ h t timeout. went-held h (blocked host_calls t timeout h) (went-blocked h t timeout);
+      await_ticket = λ h t deadline. went-held h (host_awaited h t deadline) (went-awaited h t deadline);
       submit = λ h to t. leaves-held h (host_submitted h to t) (leaves-open h (host_submitted h to t) (keeps-submitted h to t));
       refuse = λ h to t errno. leaves-held h (host_refused h to t errno) (leaves-open h (host_refused h to t errno) (keeps-refused h to t errno));
       start_control = λ h s. same-held h (host_started h s) (started-line h s).devices (started-interfaces h s);

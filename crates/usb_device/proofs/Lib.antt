@@ -1,7 +1,5 @@
 pub mod DeviceLemmas
 pub mod StandLemmas
-pub mod HostBlockingLemmas
-pub mod HandleFrames
 pub mod FreshKeys
 pub mod FutureFrames
 pub mod EndLemmas

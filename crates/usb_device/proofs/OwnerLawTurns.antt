@@ -1,4 +1,4 @@
--- The owners of interfaces over steps, reaps and turns.
+-- The owners of interfaces over steps, reaps and discards.
 use Rattle.std.proofs.Common.{ℕ, zero, suc, ◌≡◌, ◌+◌, Bool, true, false, cond, List, [], ◌∷◌, length, set, slice_get, Option, Some, None, refl, ap, ◌∙◌}
 use Rattle.std.specs.Prelude.{is_some, ◌&&◌, ◌||◌}
 use Rattle.usb_simulated.specs.declared.step.KernelStep.{KernelStep}
@@ -6,7 +6,7 @@ use Rattle.usb_kernel.specs.declared.submission.Done.{Done}
 use Rattle.usb_kernel.specs.ClaimLaws.{is_claimed}
 use Rattle.usb_kernel.specs.Value.{KernelState}
 use Rattle.usb_kernel.specs.Tickets.{tickets}
-use Rattle.usb_kernel.specs.Completions.{completion, lowest, reapable}
+use Rattle.usb_kernel.specs.Completions.{completion, reapable}
 use Rattle.usb_kernel.specs.Steps.{after_step, step_done, after_reap}
 use Rattle.usb_registry.specs.History.{value_at}
 use Rattle.usb_ledger.specs.declared.ends.TicketEnd.{TicketEnd}
@@ -16,7 +16,7 @@ use Rattle.usb_host.specs.HostState.{HostState}
 use Rattle.usb_ledger.specs.Owners.{is_ticket_of, lives, is_of, lives_on}
 use Rattle.usb_device.specs.OwnerLaws.{KeepsClaims}
 use Rattle.usb_host.specs.TicketEnds.{with_ticket, ended_as, host_ended, host_taken, given_up, host_abandoned, reclaimed_if, came}
-use Rattle.usb_host.specs.HostTurns.{with_past, host_stepped, host_reaped, reaped_of, turned_of, host_turned, all_stepped, host_rest}
+use Rattle.usb_host.specs.HostTurns.{with_past, host_stepped, host_reaped, all_stepped, host_rest}
 use Rattle.usb_host.specs.HostCalls.{host_discarded}
 use Rattle.usb_host.specs.Finishes.{discarded_below, reaped_below, finished}
 use Rattle.usb_device.proofs.OwnerLawLists.{any-put}
@@ -73,7 +73,7 @@ pub abandoned-owned : (h : HostState) (t : ℕ) → KeepsClaims h (host_abandone
 unfolding host_abandoned
 abandoned-owned h t = abandoned-by h t (is_some (completion h.kernel.past t))
 
--- completions that come, steps and turns
+-- completions that come, and steps
 reclaimed-owned : (h : HostState) (t : ℕ) (o : Option HostTicket) → KeepsClaims h (reclaimed_if h t o)
 reclaimed-owned h t None = stays h
 reclaimed-owned h t (Some (HeldBy hold)) = stays h
@@ -96,20 +96,6 @@ unfolding host_reaped
 reaped-owned h t =
     let past = after_reap h.kernel.past t in
     follow h (with_past h past) (host_reaped h t) (kernel-owned h (record h.kernel { past = past }) (λ d n. refl)) (came-owned (with_past h past) (reapable h.kernel.past t))
-
-reaped_of-owned : (h : HostState) (o : Option ℕ) → KeepsClaims h (reaped_of h o)
-reaped_of-owned h None = stays h
-reaped_of-owned h (Some t) = reaped-owned h t
-
-turned_of-owned : (h : HostState) (steps : List KernelStep) → KeepsClaims h (turned_of h steps)
-turned_of-owned h [] = reaped_of-owned h (lowest h.kernel.past)
-turned_of-owned h (s ∷ ss) =
-    let next = record h { steps = ss } in
-    follow h next (host_stepped next s) (steps-owned h ss) (stepped-owned next s)
-
-pub turned-owned : (h : HostState) → KeepsClaims h (host_turned h)
-unfolding host_turned
-turned-owned h = turned_of-owned h h.steps
 
 all_stepped-owned : (h : HostState) (steps : List KernelStep) → KeepsClaims h (all_stepped h steps)
 all_stepped-owned h [] = stays h

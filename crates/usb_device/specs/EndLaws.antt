@@ -14,7 +14,7 @@ use Rattle.usb_host.specs.HostState.{HostState}
 use Rattle.usb_ledger.specs.EndedTickets.{end_at}
 use Rattle.usb_host.specs.HostBus.{bus_of}
 use Rattle.usb_host.specs.HostTurns.{host_stepped, host_turned, host_reaped, host_rest}
-use Rattle.usb_host.specs.HostCalls.{host_submitted, host_refused, host_discarded, host_left, host_timed, host_idled, host_halt_cleared}
+use Rattle.usb_host.specs.HostCalls.{host_submitted, host_refused, host_discarded, host_left, host_timed, host_idled, host_halt_cleared, host_calls}
 use Rattle.usb_host.specs.TicketEnds.{host_taken, host_abandoned}
 use Rattle.usb_host.specs.HostAwaits.{host_awaited}
 use Rattle.usb_host.specs.Controls.{host_started}
@@ -77,7 +77,7 @@ abbrev pub DroppedWhereReaped : Type 0
 DroppedWhereReaped =
     (h : HostState) (e : EndpointState) (i t : ℕ) → Stands (bus_of h) e →
     slice_get e.pending i ≡ Some t →
-    end_at (after_close host_discarded host_abandoned host_left h e).tickets t ≡
+    end_at (after_close host_calls h e).tickets t ≡
     (if is_some (completion h.kernel.past t) then Some Dropped else None)
 
 -- and so is that of a future that is closed

@@ -9,10 +9,10 @@ use Rattle.usb_xfer.specs.declared.transfer.Completion.{Completion}
 use Rattle.usb_kernel.specs.Tickets.{tickets}
 use Rattle.usb_bus.specs.Completions.{transfer_completion}
 use Rattle.usb_xfer.specs.declared.transfer.TransferData.{TransferData}
+use Rattle.usb_endpoint.specs.Waits.{is_reaped}
 use Rattle.usb_host.specs.HostState.{HostState}
 use Rattle.usb_host.specs.HostBus.{owner_at, key_at}
-use Rattle.usb_host.specs.HostCalls.{host_left}
-use Rattle.usb_host.specs.HostWaits.{is_found}
+use Rattle.usb_host.specs.HostCalls.{host_left, host_calls}
 use Rattle.usb_host.specs.HostAwaits.{deadline_of, host_awaited}
 use Rattle.usb_host.specs.TicketEnds.{host_taken, host_abandoned}
 use Rattle.usb_host.specs.Controls.{deadline_after}
@@ -30,7 +30,7 @@ pub record FutureState : Type 0 where
 pub record IsOnItsWay (h : HostState) (f : FutureState) (t : ℕ) : Type 0 where
   pub key_is_open : key_at h.endpoints f.key ≡ true
   pub held : owner_at h.tickets t ≡ Some f.key
-  pub due : is_found h t ≡ false → deadline_of h.kernel.past t ≡ Some f.deadline
+  pub due : is_reaped host_calls t h ≡ false → deadline_of h.kernel.past t ≡ Some f.deadline
 
 -- a future stands where its ticket, if it has one still, is on its way
 pub record StandsFuture (h : HostState) (f : FutureState) : Type 0 where

@@ -5,14 +5,14 @@ use Rattle.usb_simulated.specs.declared.step.KernelStep.{KernelStep}
 use Rattle.usb_kernel.specs.declared.submission.Submission.{Submission}
 use Rattle.usb_kernel.specs.Value.{KernelState}
 use Rattle.usb_bus.specs.declared.route.Route.{Route}
+use Rattle.usb_endpoint.specs.Waits.{waited}
+use Rattle.usb_endpoint.specs.Blocking.{blocked}
 use Rattle.usb_registry.specs.History.{value_at}
 use Rattle.usb_ledger.specs.declared.ends.TicketEnd.{TicketEnd}
 use Rattle.usb_ledger.specs.declared.opened.OpenDevice.{OpenDevice}
 use Rattle.usb_host.specs.HostState.{HostState, host_of}
 use Rattle.usb_host.specs.HostTurns.{host_stepped, host_reaped, host_turned, host_rest}
-use Rattle.usb_host.specs.HostCalls.{host_submitted, host_refused, host_discarded, host_left, host_timed, host_idled, host_halt_cleared}
-use Rattle.usb_host.specs.HostWaits.{host_waited}
-use Rattle.usb_host.specs.HostBlocking.{host_blocked}
+use Rattle.usb_host.specs.HostCalls.{host_submitted, host_refused, host_discarded, host_left, host_timed, host_idled, host_halt_cleared, host_calls}
 use Rattle.usb_host.specs.HostAwaits.{host_awaited}
 use Rattle.usb_host.specs.Controls.{host_started}
 use Rattle.usb_host.specs.TicketEnds.{host_ended, host_taken, host_abandoned}
@@ -58,8 +58,8 @@ pub record DevicesStayHeld : Type 0 where
   pub turn : (h : HostState) → KeepsHeld h (host_turned h)
   pub timer : (h : HostState) → KeepsHeld h (host_timed h)
   pub idle : (h : HostState) (until : ℕ) → KeepsHeld h (host_idled h until)
-  pub wait : (h : HostState) (t timeout : ℕ) → KeepsHeld h (host_waited h t timeout).1
-  pub block : (h : HostState) (t timeout : ℕ) → KeepsHeld h (host_blocked h t timeout)
+  pub wait : (h : HostState) (t timeout : ℕ) → KeepsHeld h (waited host_calls t timeout h)
+  pub block : (h : HostState) (t timeout : ℕ) → KeepsHeld h (blocked host_calls t timeout h)
   pub await_ticket : (h : HostState) (t deadline : ℕ) → KeepsHeld h (host_awaited h t deadline)
   pub submit : (h : HostState) (to : Route) (t : TransferData) → KeepsHeld h (host_submitted h to t)
   pub refuse : (h : HostState) (to : Route) (t : TransferData) (errno : ℕ) →

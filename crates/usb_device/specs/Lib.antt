@@ -3,7 +3,7 @@ pub mod HandleCalls
 pub mod Futures
 pub mod ControlCalls
 pub mod DescriptorCalls
-pub mod WaitLaws
+pub mod LineLaws
 pub mod EndLaws
 pub mod OwnerLaws
 pub mod DeviceLaws

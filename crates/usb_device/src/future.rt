@@ -6,7 +6,6 @@ ghost use Rattle.usb_error.specs.Outcomes.{result_map};
 ghost use Rattle.usb_endpoint.specs.Polls.{IfReady, IfPending};
 ghost use Rattle.usb_host.specs.HostBus.{owner_at, key_at};
 ghost use Rattle.usb_host.specs.HostCalls.{host_left};
-ghost use Rattle.usb_host.specs.HostWaits.{is_found};
 ghost use Rattle.usb_host.specs.TicketEnds.{host_taken};
 ghost use Rattle.usb_device.specs.Futures.{FutureState, StandsFuture, spent_future, future_taken, future_closed, future_awaited, future_answer, control_answer};
 

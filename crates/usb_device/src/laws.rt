@@ -1,22 +1,11 @@
-//! Laws of waits, of ends and of claims at a host. Each is the contract of a function that does
+//! Laws of lines, of ends and of claims at a host. Each is the contract of a function that does
 //! nothing.
 
 ghost use Rattle.usb_device.specs.HeldLaws.{DevicesStayHeld};
 ghost use Rattle.usb_device.specs.ClosedLaws.{ClosedKeepsNothing};
 ghost use Rattle.usb_device.specs.EndLaws.{EndsStay, DroppedWhereReaped, FutureDroppedWhereReaped};
 ghost use Rattle.usb_device.specs.OwnerLaws.{ClaimsStayOwned};
-ghost use Rattle.usb_device.specs.WaitLaws.{WaitIsBySteps, BlockingIsBySteps, TurnGoesOn, WaitGoesOn, BlockingGoesOn, AwaitGoesOn, RestGoesOn, RestLeavesNone, LineUsesPlaces};
-
-/// A wait for a ticket goes by the steps of the line that are left, and then by reaps.
-pub fn wait_is_by_steps()
-    ensures { WaitIsBySteps }
-{}
-
-/// A blocking transfer is a wait, and where that is in vain a discard and waits of a second (10^9
-/// nanoseconds), each of which has taken a step of the line if it is in vain too.
-pub fn blocking_is_by_steps()
-    ensures { BlockingIsBySteps }
-{}
+ghost use Rattle.usb_device.specs.LineLaws.{TurnGoesOn, WaitGoesOn, BlockingGoesOn, AwaitGoesOn, RestGoesOn, RestLeavesNone, LineUsesPlaces};
 
 /// What takes steps of a line takes them from its front. At the line's end all are taken, and each
 /// has used a place of the kernel.

@@ -15,9 +15,8 @@ mod laws;
 pub use device::{Device, Interface};
 pub use future::{OnHost, TransferFuture};
 pub use laws::{
-    blocking_is_by_steps, claims_are_owned, devices_are_held, lines_go_on,
-    nothing_is_kept_once_all_is_closed, tickets_end_once, wait_is_by_steps,
-    what_is_reaped_is_dropped,
+    claims_are_owned, devices_are_held, lines_go_on, nothing_is_kept_once_all_is_closed,
+    tickets_end_once, what_is_reaped_is_dropped,
 };
 pub use usb_bus::{Bus, Route, Turn};
 pub use usb_desc::{

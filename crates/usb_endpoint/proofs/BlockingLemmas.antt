@@ -1,5 +1,5 @@
 -- Waits for a ticket that is finished.
-use Rattle.std.proofs.Common.{ℕ, ◌<◌, ◌≡◌, Bool, true, false, List, [], ◌∷◌, ◌++◌, length, Option, Some, None, slice_get, refl, sym, ◌∙◌, ap, inl, inr}
+use Rattle.std.proofs.Common.{ℕ, ◌<◌, ◌≡◌, true, false, List, [], ◌∷◌, ◌++◌, length, Option, Some, None, slice_get, refl, sym, ◌∙◌, ap, inl, inr}
 use Rattle.std.proofs.lemmas.Option.{none-some, slice_get_within}
 use Rattle.std.specs.Prelude.{IsSome, is_some}
 use Rattle.std.specs.Option.{option_map}
@@ -18,19 +18,11 @@ use Rattle.usb_bus.specs.declared.route.Route.{Route}
 use Rattle.usb_bus.specs.Routes.{submission_of}
 use Rattle.usb_bus.specs.Submitted.{Entered}
 use Rattle.usb_endpoint.specs.Closes.{all_discarded}
-use Rattle.usb_bus.specs.declared.route.Turn.{Turn}
 use Rattle.usb_bus.specs.BusState.{BusState}
 use Rattle.usb_bus.specs.Later.{Extends}
 use Rattle.usb_bus.specs.Completions.{completion_of, transfer_completion}
-use Rattle.usb_endpoint.specs.EndpointState.{EndpointState}
-use Rattle.usb_endpoint.specs.Blocking.{IsFinished, or_else}
-use Rattle.usb_endpoint.specs.Waits.{TimeWasUp, EndedWhy, waited, front_of}
-
-pub or_else-found : {S : Type 0} (o : Option (Bool × S)) (next : S → Option S) (s : S) → o ≡ Some (true, s) → or_else o next ≡ Some s
-or_else-found o next s is = rw is refl
-
-pub or_else-more : {S : Type 0} (o : Option (Bool × S)) (next : S → Option S) (s x : S) → o ≡ Some (false, s) → next s ≡ Some x → or_else o next ≡ Some x
-or_else-more o next s x is after = rw is after
+use Rattle.usb_endpoint.specs.Blocking.{IsFinished}
+use Rattle.usb_endpoint.specs.Waits.{TimeWasUp, EndedWhy, front_of}
 
 -- as a journal goes on, a finished ticket stays finished
 pub IsFinished-later : (old new : List Event) (t : ℕ) → TicketStays → StatusStays → Extends old new → IsFinished old t → IsFinished new t
@@ -78,11 +70,6 @@ pub IsFinished-discarded : (past : List Event) (t : ℕ) (s : Ticket) → Ticket
 IsFinished-discarded past t s stays extends finishes is =
     let status = option_some _ (finishes past t (slice_get_within (tickets past) t s is)) in
     record { ticket = s; is = stays past (after_discard past t) t s (extends past t) is; errno = status.0; status = status.1 }
-
--- the wait of an endpoint that is what it was
-pub waited-front : {S : Type 0} (state : S → BusState) (turned : S → S) (turn_of : S → Turn) (timeout : ℕ) (e first : EndpointState) (s : S) (looks : ℕ) (x : Option (Bool × S)) → e ≡ first
-    → waited state turned turn_of (front_of e.pending) timeout (state s).clock looks s ≡ x → waited state turned turn_of (front_of first.pending) timeout (state s).clock looks s ≡ x
-waited-front state turned turn_of timeout e first s looks x same is = rw (← same) is
 
 -- the ticket that a submission got
 last-is : {A : Type 0} (xs : List A) (x : A) → slice_get (xs ++ x ∷ []) (length xs) ≡ Some x

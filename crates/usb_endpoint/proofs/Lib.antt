@@ -5,6 +5,8 @@ pub mod CloseLemmas
 pub mod WaitLemmas
 pub mod OrderLemmas
 pub mod EndLemmas
-pub mod Determined
+pub mod PollLemmas
 pub mod BlockingLemmas
+pub mod SecondLemmas
+pub mod WaitKeeps
 pub mod AllStandLemmas

@@ -1,46 +1,83 @@
 -- The turns of a wait.
-use Rattle.std.proofs.Common.{ℕ, zero, suc, arith, ◌≡◌, ◌≤◌, ◌<◌, ◌-◌, Bool, true, false, List, [], ◌∷◌, ◌++◌, Option, Some, refl, sym, ◌∙◌, ap, append_assoc, inl, inr}
+use Rattle.std.proofs.Common.{ℕ, zero, suc, arith, ◌≡◌, ◌≤◌, ◌<◌, ◌-◌, true, false, [], ◌++◌, length, Some, None, refl, sym, ◌∙◌, ap, append_assoc, inl, inr}
 use Rattle.std.proofs.lemmas.Bool.{le-leb}
 use Rattle.std.proofs.lemmas.Bool.Decides.{leb_tells}
-use Rattle.std.specs.Prelude.{is_some, nat_le}
+use Rattle.std.specs.Prelude.{nat_le}
+use Rattle.usb_xfer.specs.declared.transfer.Completion.{Completion}
 use Rattle.usb_bus.specs.declared.route.Turn.{Turn}
 use Rattle.usb_bus.specs.declared.route.Turn.TheVariants.{Stepped, Reaped, TimeUp}
 use Rattle.usb_bus.specs.BusState.{BusState}
+use Rattle.usb_bus.specs.BusCalls.{BusCalls}
 use Rattle.usb_bus.specs.Turns.{Falls}
 use Rattle.usb_bus.specs.Later.{IsLater, GoesOn}
-use Rattle.usb_bus.specs.Completions.{transfer_completion}
 use Rattle.usb_endpoint.specs.EndpointState.{EndpointState}
-use Rattle.usb_endpoint.specs.Waits.{waited, front_of, time_is_up}
+use Rattle.usb_endpoint.specs.Waits.{Polled, came, polled, front_of, time_is_up, is_reaped, waited_from, waited, wait_next}
+use Rattle.usb_endpoint.proofs.PollLemmas.{found-reaped, none-found}
 
-module _ {S : Type 0} (state : S → BusState) (turned : S → S) (turn_of : S → Turn) (t timeout start : ℕ) where
-  pub waited-found : (s : S) → is_some (transfer_completion (state s).past t) ≡ true → waited state turned turn_of t timeout start (suc zero) s ≡ Some (true, s)
-  waited-found s found = rw found refl
+-- the looks so far of a wait that began on a bus (first): what is left of it is a wait from here (s), which has looks enough
+pub record Looks {S : Type 0} (k : BusCalls S) (t timeout : ℕ) (first s : S) : Type 0 where
+  pub left : ℕ
+  pub enough : (k.state s).turns_left < left
+  pub is : waited k t timeout first ≡ waited_from k t timeout (k.state first).clock left s
 
-  pub waited-late : (s : S) → is_some (transfer_completion (state s).past t) ≡ false → nat_le timeout ((state s).clock - start) ≡ true → waited state turned turn_of t timeout start (suc zero) s ≡ Some (false, s)
-  waited-late s none late = rw (none, late) refl
+pub looks-first : {S : Type 0} (k : BusCalls S) (t timeout : ℕ) (s : S) → Looks k t timeout s s
+unfolding waited
+looks-first k t timeout s = record { left = suc (k.state s).turns_left; enough = omega arith; is = refl }
 
-  pub waited-up : (s : S) → is_some (transfer_completion (state s).past t) ≡ false → nat_le timeout ((state s).clock - start) ≡ false → time_is_up (turn_of s) ≡ true → waited state turned turn_of t timeout start (suc zero) s ≡ Some (false, turned s)
-  waited-up s none early up = rw (none, early, up) refl
+module _ {S : Type 0} (k : BusCalls S) (t timeout start : ℕ) (s : S) where
+  found-at : (n m : ℕ) → m < n → is_reaped k t s ≡ true → waited_from k t timeout start n s ≡ s
+  found-at zero m some found = absurd (omega arith)
+  found-at (suc n) m some found = rw found refl
 
-  pub waited-more : (s : S) (n : ℕ) (x : Bool × S) → is_some (transfer_completion (state s).past t) ≡ false → nat_le timeout ((state s).clock - start) ≡ false → time_is_up (turn_of s) ≡ false
-      → waited state turned turn_of t timeout start n (turned s) ≡ Some x → waited state turned turn_of t timeout start (suc n) s ≡ Some x
-  waited-more s n x none early up rest = rw (none, early, up) rest
+  late-at : (n m : ℕ) → m < n → is_reaped k t s ≡ false → nat_le timeout ((k.state s).clock - start) ≡ true → waited_from k t timeout start n s ≡ s
+  late-at zero m some none late = absurd (omega arith)
+  late-at (suc n) m some none late = rw (none, late) refl
 
-module _ {S : Type 0} (state : S → BusState) (turned : S → S) (turn_of : S → Turn) (t timeout start n : ℕ) (s : S) where
-  pub waited-eq_found : is_some (transfer_completion (state s).past t) ≡ true → waited state turned turn_of t timeout start (suc n) s ≡ Some (true, s)
-  waited-eq_found found = rw found refl
+  up-at : (n m : ℕ) → m < n → is_reaped k t s ≡ false → nat_le timeout ((k.state s).clock - start) ≡ false → time_is_up (k.turn_of s) ≡ true → waited_from k t timeout start n s ≡ k.turned s
+  up-at zero m some none early up = absurd (omega arith)
+  up-at (suc n) m some none early up = rw (none, early, up) refl
 
-  pub waited-eq_late : is_some (transfer_completion (state s).past t) ≡ false → nat_le timeout ((state s).clock - start) ≡ true → waited state turned turn_of t timeout start (suc n) s ≡ Some (false, s)
-  waited-eq_late none late = rw (none, late) refl
+  more-at : (n m : ℕ) → m < n → is_reaped k t s ≡ false → nat_le timeout ((k.state s).clock - start) ≡ false → time_is_up (k.turn_of s) ≡ false → (l : ℕ) × (n ≡ suc l) × (waited_from k t timeout start n s ≡ waited_from k t timeout start l (k.turned s))
+  more-at zero m some none early on = absurd (omega arith)
+  more-at (suc n) m some none early on = (n, refl, rw (none, early, on) refl)
 
-  pub waited-eq_up : is_some (transfer_completion (state s).past t) ≡ false → nat_le timeout ((state s).clock - start) ≡ false → time_is_up (turn_of s) ≡ true → waited state turned turn_of t timeout start (suc n) s ≡ Some (false, turned s)
-  waited-eq_up none early up = rw (none, early, up) refl
+module _ {S : Type 0} (k : BusCalls S) (t timeout : ℕ) (first s : S) (looks : Looks k t timeout first s) where
+  pub waited-found : is_reaped k t s ≡ true → waited k t timeout first ≡ s
+  waited-found found = looks.is ∙ found-at k t timeout (k.state first).clock s looks.left _ looks.enough found
 
-  pub waited-eq_more : is_some (transfer_completion (state s).past t) ≡ false → nat_le timeout ((state s).clock - start) ≡ false → time_is_up (turn_of s) ≡ false → waited state turned turn_of t timeout start (suc n) s ≡ waited state turned turn_of t timeout start n (turned s)
-  waited-eq_more none early up = rw (none, early, up) refl
+  pub waited-late : is_reaped k t s ≡ false → nat_le timeout ((k.state s).clock - (k.state first).clock) ≡ true → waited k t timeout first ≡ s
+  waited-late none late = looks.is ∙ late-at k t timeout (k.state first).clock s looks.left _ looks.enough none late
 
-pub front-same : (e first : EndpointState) (f : ℕ) (others : List ℕ) → e ≡ first → e.pending ≡ f ∷ others → f ≡ front_of first.pending
-front-same e first f others same was = sym (ap front_of was) ∙ ap (λ (x : EndpointState). front_of x.pending) same
+  pub waited-up : is_reaped k t s ≡ false → nat_le timeout ((k.state s).clock - (k.state first).clock) ≡ false → time_is_up (k.turn_of s) ≡ true → waited k t timeout first ≡ k.turned s
+  waited-up none early up = looks.is ∙ up-at k t timeout (k.state first).clock s looks.left _ looks.enough none early up
+
+  pub looks-more : is_reaped k t s ≡ false → nat_le timeout ((k.state s).clock - (k.state first).clock) ≡ false → time_is_up (k.turn_of s) ≡ false → (k.state (k.turned s)).turns_left < (k.state s).turns_left
+      → Looks k t timeout first (k.turned s)
+  looks-more none early on falls =
+      let more = more-at k t timeout (k.state first).clock s looks.left _ looks.enough none early on in
+      let enough = looks.enough in
+      let one = more.1 in
+      record { left = more.0; enough = omega (arith, enough, falls, one); is = looks.is ∙ more.2 }
+
+-- on the bus after the turn, whatever it is called
+pub Looks-at : {S : Type 0} (k : BusCalls S) (t timeout : ℕ) (first s s' : S) → s' ≡ k.turned s → ((k.state (k.turned s)).turns_left < (k.state s).turns_left → Looks k t timeout first (k.turned s)) → (k.state s').turns_left < (k.state s).turns_left
+    → Looks k t timeout first s'
+Looks-at k t timeout first s s' after looks falls = rw after (looks (rw after at falls))
+
+-- a wait that ended on this bus (s), and then the poll
+pub wait_next-is : {S : Type 0} (k : BusCalls S) (timeout : ℕ) (first s : S) (e : EndpointState) (p : Polled S) → waited k (front_of e.pending) timeout first ≡ s → polled k s e ≡ p → wait_next k timeout first e ≡ p
+wait_next-is k timeout first s e p ended is = ap (λ x. polled k x e) ended ∙ is
+
+-- the poll that a wait ends with: it took the front, or left all as it was
+pub wait-found : {S : Type 0} (k : BusCalls S) (timeout : ℕ) (s s' : S) (e e' : EndpointState) (c : Completion) → wait_next k timeout s e ≡ came (Some c) s' e' → is_reaped k (front_of e.pending) (waited k (front_of e.pending) timeout s) ≡ true
+wait-found k timeout s s' e e' c is = found-reaped k (waited k (front_of e.pending) timeout s) s' e e' c is
+
+pub wait-vain : {S : Type 0} (k : BusCalls S) (timeout : ℕ) (s s' : S) (e e' : EndpointState) → 0 < length e.pending → wait_next k timeout s e ≡ came None s' e'
+    → (s' ≡ waited k (front_of e.pending) timeout s) × (e' ≡ e) × (is_reaped k (front_of e.pending) (waited k (front_of e.pending) timeout s) ≡ false)
+wait-vain k timeout s s' e e' some is = none-found k (waited k (front_of e.pending) timeout s) s' e e' some is
+
+pub IsLater-same : (a : BusState) → IsLater a a
+IsLater-same a = record { past = record { more = []; is = refl }; clock = omega arith; owner = refl; keys = refl }
 
 pub IsLater-trans : (a b c : BusState) → IsLater a b → IsLater b c → IsLater a c
 IsLater-trans a b c x y =
@@ -76,9 +113,6 @@ late_if t a b now now' start late x y z = le-leb t (a - b) (omega arith)
 
 pub early_if : (t a b now now' start : ℕ) → now - start < t → now ≡ now' → now' ≡ a → start ≡ b → nat_le t (a - b) ≡ false
 early_if t a b now now' start early x y z = elim (leb_tells t (a - b)) [ inl w ↦ (let le : t ≤ a - b = w.1 in absurd (omega arith)) | inr w ↦ w.0 ]
-
-pub ended_at : {S : Type 0} (o : Option (Bool × S)) (s s' : S) → o ≡ Some (false, s) → s' ≡ s → o ≡ Some (false, s')
-ended_at o s s' is same = rw same is
 
 pub Falls-strict : (turn : Turn) (old new : ℕ) → time_is_up turn ≡ false → Falls turn old new → new < old
 Falls-strict Stepped old new is less = less

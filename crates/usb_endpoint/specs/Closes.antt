@@ -1,5 +1,6 @@
 -- How pending tickets are discarded and given up.
 use Rattle.std.specs.Prelude.{ℕ, List, [], ◌∷◌}
+use Rattle.usb_bus.specs.BusCalls.{BusCalls}
 use Rattle.usb_endpoint.specs.EndpointState.{EndpointState}
 
 -- the discards of a list of tickets, from the last to the first
@@ -12,9 +13,7 @@ abbrev pub all_abandoned : {S : Type 0} → (S → ℕ → S) → S → List ℕ
 all_abandoned abandoned s [] = s
 all_abandoned abandoned s (t ∷ ts) = all_abandoned abandoned (abandoned s t) ts
 
--- a closed endpoint has discarded its tickets, given them up, and left the bus (`discarded`,
--- `abandoned` and `closed` give the bus after its calls `discard`, `abandon` and `leave`)
-abbrev pub after_close : {S : Type 0} → (S → ℕ → S) → (S → ℕ → S) → (S → ℕ → S) → S →
-    EndpointState → S
-after_close discarded abandoned closed s e =
-    closed (all_abandoned abandoned (all_discarded discarded s e.pending) e.pending) e.key
+-- a closed endpoint has discarded its tickets, given them up, and left the bus
+abbrev pub after_close : {S : Type 0} → BusCalls S → S → EndpointState → S
+after_close k s e =
+    k.closed (all_abandoned k.abandoned (all_discarded k.discarded s e.pending) e.pending) e.key

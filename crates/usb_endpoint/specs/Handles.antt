@@ -1,8 +1,6 @@
--- What a handle's calls ask of a bus, what they keep true, and what they give.
-use Rattle.std.specs.Prelude.{ℕ, ◌≡◌, ◌≢◌, true, List, [], ◌∷◌, Option, Some, None}
-use Rattle.usb_xfer.specs.declared.transfer.Completion.{Completion}
+-- What a handle's calls ask of a bus, and what they keep true.
+use Rattle.std.specs.Prelude.{ℕ, ◌≡◌, ◌≢◌, true, List, [], ◌∷◌, Option, Some}
 use Rattle.usb_bus.specs.BusState.{BusState}
-use Rattle.usb_bus.specs.Completions.{transfer_completion}
 use Rattle.usb_endpoint.specs.EndpointState.{EndpointState}
 
 -- a ticket is none of these
@@ -24,23 +22,3 @@ pub record Stands (b : BusState) (e : EndpointState) : Type 0 where
 pub record KeepsOthers (old new : BusState) (key : ℕ) : Type 0 where
   pub tickets : (t k : ℕ) → k ≢ key → old.owner t ≡ Some k → new.owner t ≡ Some k
   pub keys : (k : ℕ) → k ≢ key → old.keys k ≡ true → new.keys k ≡ true
-
--- the front is reaped: it was taken, with the completion that the journal has for it
-pub record TookNext {S : Type 0} (state : S → BusState) (taken : S → ℕ → S) (old : S)
-    (e : EndpointState) (c : Completion) (new : S) (next : EndpointState) : Type 0 where
-  pub front : ℕ
-  pub others : List ℕ
-  pub was : e.pending ≡ front ∷ others
-  pub completion_is : transfer_completion (state old).past front ≡ Some c
-  pub next_is : next ≡ record e { pending = others }
-  pub rest : new ≡ taken old front
-
--- the front is not reaped, and nothing changed
-pub record LeftNext {S : Type 0} (state : S → BusState) (old : S) (e : EndpointState) (new : S)
-    (next : EndpointState) : Type 0 where
-  pub front : ℕ
-  pub others : List ℕ
-  pub was : e.pending ≡ front ∷ others
-  pub none : transfer_completion (state old).past front ≡ None
-  pub next_is : next ≡ e
-  pub rest : new ≡ old

@@ -1,6 +1,12 @@
 -- What a poll answers.
+use Rattle.std.specs.Prelude.{Option, Some, None}
 use Rattle.futures.specs.declared.task.Poll.{Poll}
 use Rattle.futures.specs.declared.task.Poll.TheVariants.{Ready, Pending}
+
+-- the value of a poll, if it is ready
+abbrev pub in_poll : {A : Type 0} → Poll A → Option A
+in_poll (Ready x) = Some x
+in_poll Pending = None
 
 -- a fact of the value of a poll that is ready
 abbrev pub IfReady : {A : Type 0} → Poll A → (A → Type 0) → Type 0

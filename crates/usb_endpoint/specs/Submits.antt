@@ -7,6 +7,7 @@ use Rattle.usb_xfer.specs.Transfers.{filled_transfer, buffer_held}
 use Rattle.usb_kernel.specs.WholePackets.{is_whole}
 use Rattle.usb_bus.specs.declared.route.Route.{Route}
 use Rattle.usb_bus.specs.BusState.{BusState}
+use Rattle.usb_bus.specs.BusCalls.{BusCalls}
 use Rattle.usb_bus.specs.Submitted.{Entered}
 use Rattle.usb_endpoint.specs.EndpointState.{EndpointState, route_of}
 
@@ -20,17 +21,14 @@ transfer_by to b = filled_transfer to.endpoint to.kind b
 
 -- a transfer that is valid is submitted. Another one is refused with 22 (EINVAL), whatever the
 -- kernel would answer
-abbrev pub handed_over : {S : Type 0} → (S → Route → TransferData → S) →
-    (S → Route → TransferData → ℕ → S) → S → Route → TransferData → Bool → S
-handed_over submitted refused old to transfer valid =
-    if valid then submitted old to transfer else refused old to transfer 22
+abbrev pub handed_over : {S : Type 0} → BusCalls S → S → Route → TransferData → Bool → S
+handed_over k old to transfer valid =
+    if valid then k.submitted old to transfer else k.refused old to transfer 22
 
--- a bus after a buffer was handed in at an endpoint (e), where `submitted` and `refused` give the
--- bus after its calls `submit` and `refuse`
-abbrev pub entered : {S : Type 0} → (S → Route → TransferData → S) →
-    (S → Route → TransferData → ℕ → S) → S → EndpointState → BufferState → S
-entered submitted refused old e b =
-    handed_over submitted refused old (route_of e) (transfer_by (route_of e) b) (is_valid e b)
+-- a bus after a buffer was handed in at an endpoint (e)
+abbrev pub entered : {S : Type 0} → BusCalls S → S → EndpointState → BufferState → S
+entered k old e b =
+    handed_over k old (route_of e) (transfer_by (route_of e) b) (is_valid e b)
 
 -- a buffer became the next ticket, which is refused with 22 where it is not valid
 pub record Enters (old new : BusState) (to : Route) (b : BufferState) (valid : Bool) : Type 0 where

@@ -1,14 +1,39 @@
--- How a wait for the front of a handle goes.
-use Rattle.std.specs.Prelude.{ℕ, ◌≡◌, ◌<◌, ◌⊎◌, ◌-◌, Bool, true, false, List, [], ◌∷◌, Option, Some, None, is_some, IsSome, nat_le, if◌then◌else◌, zero, suc}
+-- What a poll of an endpoint and a wait for the front of its queue come to, on any bus.
+use Rattle.std.specs.Prelude.{ℕ, zero, suc, ◌≡◌, ◌<◌, ◌⊎◌, ◌-◌, Bool, true, false, List, [], ◌∷◌, Option, Some, None, is_some, IsSome, nat_le}
 use Rattle.usb_xfer.specs.declared.transfer.Completion.{Completion}
 use Rattle.usb_kernel.specs.Completions.{lowest}
 use Rattle.usb_bus.specs.declared.route.Turn.{Turn}
 use Rattle.usb_bus.specs.declared.route.Turn.TheVariants.{Stepped, Reaped, TimeUp}
 use Rattle.usb_bus.specs.BusState.{BusState}
+use Rattle.usb_bus.specs.BusCalls.{BusCalls}
 use Rattle.usb_bus.specs.Later.{IsLater}
 use Rattle.usb_bus.specs.Completions.{transfer_completion}
 use Rattle.usb_endpoint.specs.EndpointState.{EndpointState}
-use Rattle.usb_endpoint.specs.Handles.{TookNext}
+
+-- the completion of the front, if it came, and what is left of the bus and of the endpoint
+pub record Polled (S : Type 0) : Type 0 where
+  pub completion : Option Completion
+  pub bus : S
+  pub endpoint : EndpointState
+
+abbrev pub came : {S : Type 0} → Option Completion → S → EndpointState → Polled S
+came completion bus endpoint = record { completion = completion; bus = bus; endpoint = endpoint }
+
+-- the front is taken where the journal has its completion
+abbrev pub taken_if : {S : Type 0} → BusCalls S → S → EndpointState → ℕ → List ℕ →
+    Option Completion → Polled S
+taken_if k s e front others None = came None s e
+taken_if k s e front others (Some c) =
+    came (Some c) (k.taken s front) (record e { pending = others })
+
+abbrev pub polled_of : {S : Type 0} → BusCalls S → S → EndpointState → List ℕ → Polled S
+polled_of k s e [] = came None s e
+polled_of k s e (front ∷ others) =
+    taken_if k s e front others (transfer_completion (k.state s).past front)
+
+-- a poll
+abbrev pub polled : {S : Type 0} → BusCalls S → S → EndpointState → Polled S
+polled k s e = polled_of k s e e.pending
 
 abbrev pub front_of : List ℕ → ℕ
 front_of [] = 0
@@ -19,35 +44,34 @@ time_is_up Stepped = false
 time_is_up Reaped = false
 time_is_up TimeUp = true
 
--- A look at the ticket, then at the clock, then a turn, and so on: whether the ticket was found
--- reaped, and what is left then. The last number bounds the looks: with too small a number there is
--- no answer.
-abbrev pub waited : {S : Type 0} → (S → BusState) → (S → S) → (S → Turn) → ℕ → ℕ → ℕ → ℕ → S →
-    Option (Bool × S)
-waited state turned turn_of t timeout start zero s = None
-waited state turned turn_of t timeout start (suc n) s =
-    if is_some (transfer_completion (state s).past t) then Some (true, s)
-    else if nat_le timeout ((state s).clock - start) then Some (false, s)
-    else if time_is_up (turn_of s) then Some (false, turned s)
-    else waited state turned turn_of t timeout start n (turned s)
+-- whether a ticket is reaped, and so found by a wait for it
+abbrev pub is_reaped : {S : Type 0} → BusCalls S → ℕ → S → Bool
+is_reaped k t s = is_some (transfer_completion (k.state s).past t)
 
--- a wait that found the front and took it
-pub record WaitedNext {S : Type 0} (state : S → BusState) (turned : S → S) (turn_of : S → Turn)
-    (taken : S → ℕ → S) (timeout : ℕ) (old : S) (e : EndpointState) (c : Completion) (new : S)
-    (next : EndpointState) : Type 0 where
-  pub looks : ℕ
-  pub mid : S
-  pub found : waited state turned turn_of (front_of e.pending) timeout (state old).clock looks old ≡
-      Some (true, mid)
-  pub took : TookNext state taken mid e c new next
+-- what is left where all is done, and else what comes next. (What comes next is computed only where
+-- it is used, so the numbers that end the recursions below may be large)
+abbrev pub unless : {S : Type 0} → Bool → S → (S → S) → S
+unless true s next = s
+unless false s next = next s
 
--- a wait that ended without it
-pub record WaitedInVain {S : Type 0} (state : S → BusState) (turned : S → S) (turn_of : S → Turn)
-    (timeout : ℕ) (old : S) (e : EndpointState) (new : S) (next : EndpointState) : Type 0 where
-  pub looks : ℕ
-  pub ended : waited state turned turn_of (front_of e.pending) timeout (state old).clock looks old ≡
-      Some (false, new)
-  pub next_is : next ≡ e
+-- A look at the ticket, then at the clock, then a turn, and so on: the bus where the ticket is
+-- reaped, the time since the start is over, or time is up. The last number only ends the recursion.
+abbrev pub waited_from : {S : Type 0} → BusCalls S → ℕ → ℕ → ℕ → ℕ → S → S
+waited_from k t timeout start zero s = s
+waited_from k t timeout start (suc n) s =
+    unless (is_reaped k t s) s (λ s.
+    unless (nat_le timeout ((k.state s).clock - start)) s (λ s.
+    unless (time_is_up (k.turn_of s)) (k.turned s) (waited_from k t timeout start n)))
+
+-- the bus after a wait for a ticket that starts now. Each turn but the last lowers the number of
+-- turns that are left, so the number of looks is never used up
+unfoldable pub waited : {S : Type 0} → BusCalls S → ℕ → ℕ → S → S
+waited k t timeout s =
+    waited_from k t timeout (k.state s).clock (suc (k.state s).turns_left) s
+
+-- a wait for the front of an endpoint
+abbrev pub wait_next : {S : Type 0} → BusCalls S → ℕ → S → EndpointState → Polled S
+wait_next k timeout s e = polled k (waited k (front_of e.pending) timeout s) e
 
 -- at some moment the ticket was not reaped, and no ticket was finished and not reaped
 pub record TimeWasUp (old : BusState) (t : ℕ) : Type 0 where

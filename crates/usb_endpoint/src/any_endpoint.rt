@@ -1,16 +1,15 @@
 //! Endpoints of any type and direction, side by side.
 
-ghost use Rattle.std.specs.Prelude.{◌≡◌, ◌<◌, ◌++◌, ◌∷◌, [], None, length, IfOk, OnOk, OnErr, IfErr, IfSome, IfNone};
+ghost use Rattle.std.specs.Prelude.{◌≡◌, ◌<◌, ◌++◌, ◌∷◌, [], Some, length, IfOk, OnOk, OnErr, IfErr};
 ghost use Rattle.usb_kernel.specs.Tickets.{tickets};
-ghost use Rattle.usb_bus.specs.Completions.{transfer_completion};
 ghost use Rattle.usb_error.specs.Errors.{clear_halt_error};
 ghost use Rattle.usb_endpoint.specs.AnyEndpoints.{state_of};
 ghost use Rattle.usb_endpoint.specs.CallErrors.{or_error};
 ghost use Rattle.usb_endpoint.specs.Submits.{entered};
-ghost use Rattle.usb_endpoint.specs.Polls.{IfReady, IfPending};
-ghost use Rattle.usb_endpoint.specs.Handles.{TookNext, LeftNext, Stands, KeepsOthers};
-ghost use Rattle.usb_endpoint.specs.Waits.{WaitedNext, WaitedInVain, front_of};
-ghost use Rattle.usb_endpoint.specs.Blocking.{Transferred};
+ghost use Rattle.usb_endpoint.specs.Polls.{in_poll};
+ghost use Rattle.usb_endpoint.specs.Handles.{Stands, KeepsOthers};
+ghost use Rattle.usb_endpoint.specs.Waits.{came, polled, wait_next};
+ghost use Rattle.usb_endpoint.specs.Blocking.{transferred};
 ghost use Rattle.usb_endpoint.specs.Closes.{all_discarded, after_close};
 
 use crate::endpoint::Endpoint;
@@ -58,15 +57,15 @@ impl AnyEndpoint {
     /// changed.
     pub fn submit<B: Bus>(&mut self, bus: &mut B, buf: Buffer) -> Result<(), Buffer>
         requires few { length (state_of self.old).pending < 64 }
-        requires stands { Stands (B.state bus.old) (state_of self.old) }
+        requires stands { Stands (B.calls.state bus.old) (state_of self.old) }
         ensures pending { OnOk result (state_of self.new ≡ record (state_of self.old) {
           pending = (state_of self.old).pending ++ length
-              (tickets (B.state bus.old).past) ∷ [];
+              (tickets (B.calls.state bus.old).past) ∷ [];
         }) }
         ensures bus { OnOk result
-            (bus.new ≡ entered B.submitted B.refused bus.old (state_of self.old) buf) }
-        ensures stands { Stands (B.state bus.new) (state_of self.new) }
-        ensures others { KeepsOthers (B.state bus.old) (B.state bus.new) (state_of self.old).key }
+            (bus.new ≡ entered B.calls bus.old (state_of self.old) buf) }
+        ensures stands { Stands (B.calls.state bus.new) (state_of self.new) }
+        ensures others { KeepsOthers (B.calls.state bus.old) (B.calls.state bus.new) (state_of self.old).key }
         ensures err { OnErr result ((state_of self.new ≡ state_of self.old) × (bus.new ≡ bus.old)) }
         ensures back { IfErr result (λ back. back ≡ buf) }
     {
@@ -81,13 +80,11 @@ impl AnyEndpoint {
     /// The completion of the first pending transfer, which is taken, where it is there.
     pub fn poll_next_complete<B: Bus>(&mut self, bus: &mut B) -> Poll<Completion>
         requires some { 0 < length (state_of self.old).pending }
-        requires stands { Stands (B.state bus.old) (state_of self.old) }
-        ensures ready { IfReady result (λ c.
-            TookNext B.state B.taken bus.old (state_of self.old) c bus.new (state_of self.new)) }
-        ensures pending { IfPending result
-            (LeftNext B.state bus.old (state_of self.old) bus.new (state_of self.new)) }
-        ensures stands { Stands (B.state bus.new) (state_of self.new) }
-        ensures others { KeepsOthers (B.state bus.old) (B.state bus.new) (state_of self.old).key }
+        requires stands { Stands (B.calls.state bus.old) (state_of self.old) }
+        ensures polled { polled B.calls bus.old (state_of self.old)
+            ≡ came (in_poll result) bus.new (state_of self.new) }
+        ensures stands { Stands (B.calls.state bus.new) (state_of self.new) }
+        ensures others { KeepsOthers (B.calls.state bus.old) (B.calls.state bus.new) (state_of self.old).key }
     {
         match self {
             AnyEndpoint::BulkIn(endpoint) => endpoint.poll_next_complete(bus),
@@ -101,18 +98,11 @@ impl AnyEndpoint {
     /// of the bus's clock.
     pub fn wait_next_complete<B: Bus>(&mut self, bus: &mut B, timeout: u64) -> Option<Completion>
         requires some { 0 < length (state_of self.old).pending }
-        requires stands { Stands (B.state bus.old) (state_of self.old) }
-        ensures found { IfSome result (λ c.
-            WaitedNext B.state B.turned B.turn_of B.taken timeout bus.old (state_of self.old) c
-            bus.new (state_of self.new)) }
-        ensures ended { IfNone result
-            (WaitedInVain B.state B.turned B.turn_of timeout bus.old (state_of self.old) bus.new
-            (state_of self.new)) }
-        ensures unreaped { IfNone result
-            (transfer_completion (B.state bus.new).past (front_of (state_of self.old).pending) ≡
-            None) }
-        ensures stands { Stands (B.state bus.new) (state_of self.new) }
-        ensures others { KeepsOthers (B.state bus.old) (B.state bus.new) (state_of self.old).key }
+        requires stands { Stands (B.calls.state bus.old) (state_of self.old) }
+        ensures waited { wait_next B.calls timeout bus.old (state_of self.old)
+            ≡ came result bus.new (state_of self.new) }
+        ensures stands { Stands (B.calls.state bus.new) (state_of self.new) }
+        ensures others { KeepsOthers (B.calls.state bus.old) (B.calls.state bus.new) (state_of self.old).key }
     {
         match self {
             AnyEndpoint::BulkIn(endpoint) => endpoint.wait_next_complete(bus, timeout),
@@ -131,12 +121,12 @@ impl AnyEndpoint {
         timeout: u64,
     ) -> Result<Completion, Buffer>
         requires none { (state_of self.old).pending ≡ [] }
-        requires stands { Stands (B.state bus.old) (state_of self.old) }
+        requires stands { Stands (B.calls.state bus.old) (state_of self.old) }
         ensures transferred { IfOk result (λ c.
-            Transferred B.state B.submitted B.refused B.turned B.turn_of B.discarded B.taken timeout
-            bus.old (state_of self.old) buf c bus.new) }
-        ensures stands { Stands (B.state bus.new) (state_of self.new) }
-        ensures others { KeepsOthers (B.state bus.old) (B.state bus.new) (state_of self.old).key }
+            transferred B.calls timeout bus.old (state_of self.old) buf
+            ≡ came (Some c) bus.new (state_of self.new)) }
+        ensures stands { Stands (B.calls.state bus.new) (state_of self.new) }
+        ensures others { KeepsOthers (B.calls.state bus.old) (B.calls.state bus.new) (state_of self.old).key }
         ensures rest { state_of self.new ≡ state_of self.old }
         ensures err { OnErr result (bus.new ≡ bus.old) }
         ensures back { IfErr result (λ back. back ≡ buf) }
@@ -151,10 +141,10 @@ impl AnyEndpoint {
 
     /// Discards the pending transfers that are not finished, from the last to the first.
     pub fn cancel_all<B: Bus>(&mut self, bus: &mut B)
-        requires stands { Stands (B.state bus.old) (state_of self.old) }
-        ensures bus { bus.new ≡ all_discarded B.discarded bus.old (state_of self.old).pending }
-        ensures stands { Stands (B.state bus.new) (state_of self.new) }
-        ensures others { KeepsOthers (B.state bus.old) (B.state bus.new) (state_of self.old).key }
+        requires stands { Stands (B.calls.state bus.old) (state_of self.old) }
+        ensures bus { bus.new ≡ all_discarded B.calls.discarded bus.old (state_of self.old).pending }
+        ensures stands { Stands (B.calls.state bus.new) (state_of self.new) }
+        ensures others { KeepsOthers (B.calls.state bus.old) (B.calls.state bus.new) (state_of self.old).key }
         ensures rest { state_of self.new ≡ state_of self.old }
     {
         match self {
@@ -167,13 +157,13 @@ impl AnyEndpoint {
 
     /// Clears the halt of the endpoint. What is pending stays so.
     pub fn clear_halt<B: Bus>(&mut self, bus: &mut B) -> Result<(), Error>
-        requires stands { Stands (B.state bus.old) (state_of self.old) }
+        requires stands { Stands (B.calls.state bus.old) (state_of self.old) }
         ensures result { result ≡ or_error clear_halt_error
-            (B.halt_result bus.old (state_of self.old).device (state_of self.old).address) }
+            (B.calls.halt_result bus.old (state_of self.old).device (state_of self.old).address) }
         ensures bus { bus.new
-            ≡ B.halt_cleared bus.old (state_of self.old).device (state_of self.old).address }
-        ensures stands { Stands (B.state bus.new) (state_of self.new) }
-        ensures others { KeepsOthers (B.state bus.old) (B.state bus.new) (state_of self.old).key }
+            ≡ B.calls.halt_cleared bus.old (state_of self.old).device (state_of self.old).address }
+        ensures stands { Stands (B.calls.state bus.new) (state_of self.new) }
+        ensures others { KeepsOthers (B.calls.state bus.old) (B.calls.state bus.new) (state_of self.old).key }
         ensures rest { state_of self.new ≡ state_of self.old }
     {
         match self {
@@ -186,10 +176,10 @@ impl AnyEndpoint {
 
     /// Cancels the pending transfers, gives them up and leaves the bus.
     pub fn close<B: Bus>(self, bus: &mut B)
-        requires stands { Stands (B.state bus.old) (state_of self) }
-        ensures bus { bus.new ≡ after_close B.discarded B.abandoned B.closed bus.old
+        requires stands { Stands (B.calls.state bus.old) (state_of self) }
+        ensures bus { bus.new ≡ after_close B.calls bus.old
             (state_of self) }
-        ensures others { KeepsOthers (B.state bus.old) (B.state bus.new) (state_of self).key }
+        ensures others { KeepsOthers (B.calls.state bus.old) (B.calls.state bus.new) (state_of self).key }
     {
         match self {
             AnyEndpoint::BulkIn(endpoint) => endpoint.close(bus),

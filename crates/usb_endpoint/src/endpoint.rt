@@ -9,8 +9,9 @@ ghost use Rattle.usb_bus.specs.Later.{GoesOn};
 ghost use Rattle.usb_error.specs.Errors.{clear_halt_error};
 ghost use Rattle.usb_endpoint.specs.CallErrors.{or_error};
 ghost use Rattle.usb_endpoint.specs.EndpointState.{route_of};
-ghost use Rattle.usb_endpoint.specs.Polls.{IfReady, IfPending};
-ghost use Rattle.usb_endpoint.specs.Handles.{TookNext, LeftNext, Stands, KeepsOthers};
+ghost use Rattle.usb_endpoint.specs.Polls.{in_poll};
+ghost use Rattle.usb_endpoint.specs.Handles.{Stands, KeepsOthers};
+ghost use Rattle.usb_endpoint.specs.Waits.{polled, came};
 ghost use Rattle.usb_endpoint.specs.Submits.{is_valid, entered, Enters};
 ghost use Rattle.usb_endpoint.specs.Closes.{all_discarded, all_abandoned, after_close};
 
@@ -153,18 +154,18 @@ impl<T: EndpointType, D: EndpointDirection> Endpoint<T, D> {
     /// The buffer, where memory is wanted. Nothing has changed.
     pub fn submit<B: Bus>(&mut self, bus: &mut B, buf: Buffer) -> Result<(), Buffer>
         requires few { length self.old.pending < 64 }
-        requires stands { Stands (B.state bus.old) self.old }
+        requires stands { Stands (B.calls.state bus.old) self.old }
         ensures pending { OnOk result (self.new ≡ record self.old {
-          pending = self.old.pending ++ length (tickets (B.state bus.old).past) ∷ [];
+          pending = self.old.pending ++ length (tickets (B.calls.state bus.old).past) ∷ [];
         }) }
-        ensures bus { OnOk result (bus.new ≡ entered B.submitted B.refused bus.old self.old buf) }
+        ensures bus { OnOk result (bus.new ≡ entered B.calls bus.old self.old buf) }
         ensures enters { OnOk result
-            (Enters (B.state bus.old) (B.state bus.new) (route_of self.old) buf
+            (Enters (B.calls.state bus.old) (B.calls.state bus.new) (route_of self.old) buf
             (is_valid self.old buf)) }
         ensures left { 128 ≤ self.old.address
-            → (B.state bus.new).turns_left ≤ (B.state bus.old).turns_left }
-        ensures stands { Stands (B.state bus.new) self.new }
-        ensures others { KeepsOthers (B.state bus.old) (B.state bus.new) self.old.key }
+            → (B.calls.state bus.new).turns_left ≤ (B.calls.state bus.old).turns_left }
+        ensures stands { Stands (B.calls.state bus.new) self.new }
+        ensures others { KeepsOthers (B.calls.state bus.old) (B.calls.state bus.new) self.old.key }
         ensures rest { self.new ≡ record self.old { pending = self.new.pending } }
         ensures err { OnErr result ((self.new ≡ self.old) × (bus.new ≡ bus.old)) }
         ensures back { IfErr result (λ back. back ≡ buf) }
@@ -187,13 +188,11 @@ impl<T: EndpointType, D: EndpointDirection> Endpoint<T, D> {
     /// transfers behind it wait, also those that were finished before it.
     pub fn poll_next_complete<B: Bus>(&mut self, bus: &mut B) -> Poll<Completion>
         requires some { 0 < length self.old.pending }
-        requires stands { Stands (B.state bus.old) self.old }
-        ensures ready { IfReady result (λ c.
-            TookNext B.state B.taken bus.old self.old c bus.new self.new) }
-        ensures pending { IfPending result (LeftNext B.state bus.old self.old bus.new self.new) }
-        ensures goes_on { GoesOn (B.state bus.old) (B.state bus.new) }
-        ensures stands { Stands (B.state bus.new) self.new }
-        ensures others { KeepsOthers (B.state bus.old) (B.state bus.new) self.old.key }
+        requires stands { Stands (B.calls.state bus.old) self.old }
+        ensures polled { polled B.calls bus.old self.old ≡ came (in_poll result) bus.new self.new }
+        ensures goes_on { GoesOn (B.calls.state bus.old) (B.calls.state bus.new) }
+        ensures stands { Stands (B.calls.state bus.new) self.new }
+        ensures others { KeepsOthers (B.calls.state bus.old) (B.calls.state bus.new) self.old.key }
         ensures rest { self.new ≡ record self.old { pending = self.new.pending } }
     {
         match take_completed_from_queue(&mut self.pending, bus) {
@@ -205,14 +204,14 @@ impl<T: EndpointType, D: EndpointDirection> Endpoint<T, D> {
     /// Discards the pending transfers that are not finished, from the last to the first. They stay
     /// pending.
     pub fn cancel_all<B: Bus>(&mut self, bus: &mut B)
-        requires stands { Stands (B.state bus.old) self.old }
-        ensures bus { bus.new ≡ all_discarded B.discarded bus.old self.old.pending }
-        ensures state { B.state bus.new ≡ record (B.state bus.old) {
-          past = all_discarded after_discard (B.state bus.old).past self.old.pending;
-          turns_left = (B.state bus.new).turns_left;
+        requires stands { Stands (B.calls.state bus.old) self.old }
+        ensures bus { bus.new ≡ all_discarded B.calls.discarded bus.old self.old.pending }
+        ensures state { B.calls.state bus.new ≡ record (B.calls.state bus.old) {
+          past = all_discarded after_discard (B.calls.state bus.old).past self.old.pending;
+          turns_left = (B.calls.state bus.new).turns_left;
         } }
-        ensures stands { Stands (B.state bus.new) self.new }
-        ensures others { KeepsOthers (B.state bus.old) (B.state bus.new) self.old.key }
+        ensures stands { Stands (B.calls.state bus.new) self.new }
+        ensures others { KeepsOthers (B.calls.state bus.old) (B.calls.state bus.new) self.old.key }
         ensures rest { self.new ≡ self.old }
     {
         'tickets: for i in (0..self.pending.len()).rev() {
@@ -223,13 +222,13 @@ impl<T: EndpointType, D: EndpointDirection> Endpoint<T, D> {
     /// Clears the halt of the endpoint (USB 2.0, section 9.4.1: ENDPOINT_HALT). What is pending stays
     /// so. A refusal of the kernel is the error.
     pub fn clear_halt<B: Bus>(&mut self, bus: &mut B) -> Result<(), Error>
-        requires stands { Stands (B.state bus.old) self.old }
+        requires stands { Stands (B.calls.state bus.old) self.old }
         ensures result { result ≡ or_error clear_halt_error
-            (B.halt_result bus.old self.old.device self.old.address) }
-        ensures bus { bus.new ≡ B.halt_cleared bus.old self.old.device self.old.address }
-        ensures state { B.state bus.new ≡ B.state bus.old }
-        ensures stands { Stands (B.state bus.new) self.new }
-        ensures others { KeepsOthers (B.state bus.old) (B.state bus.new) self.old.key }
+            (B.calls.halt_result bus.old self.old.device self.old.address) }
+        ensures bus { bus.new ≡ B.calls.halt_cleared bus.old self.old.device self.old.address }
+        ensures state { B.calls.state bus.new ≡ B.calls.state bus.old }
+        ensures stands { Stands (B.calls.state bus.new) self.new }
+        ensures others { KeepsOthers (B.calls.state bus.old) (B.calls.state bus.new) self.old.key }
         ensures rest { self.new ≡ self.old }
     {
         match bus.clear_halt(self.device, self.address) {
@@ -241,15 +240,15 @@ impl<T: EndpointType, D: EndpointDirection> Endpoint<T, D> {
     /// Cancels the pending transfers, gives them up and leaves the bus.
     #[tactic(auto, using(crate::proofs::HandleLemmas::others_in_turn))]
     pub fn close<B: Bus>(mut self, bus: &mut B)
-        requires stands { Stands (B.state bus.old) self }
-        ensures bus { bus.new ≡ after_close B.discarded B.abandoned B.closed bus.old self }
-        ensures state { B.state bus.new ≡ record (B.state bus.old) {
-          past = all_discarded after_discard (B.state bus.old).past self.pending;
-          owner = all_abandoned without_owner (B.state bus.old).owner self.pending;
-          keys = without_key (B.state bus.old).keys self.key;
-          turns_left = (B.state bus.new).turns_left;
+        requires stands { Stands (B.calls.state bus.old) self }
+        ensures bus { bus.new ≡ after_close B.calls bus.old self }
+        ensures state { B.calls.state bus.new ≡ record (B.calls.state bus.old) {
+          past = all_discarded after_discard (B.calls.state bus.old).past self.pending;
+          owner = all_abandoned without_owner (B.calls.state bus.old).owner self.pending;
+          keys = without_key (B.calls.state bus.old).keys self.key;
+          turns_left = (B.calls.state bus.new).turns_left;
         } }
-        ensures others { KeepsOthers (B.state bus.old) (B.state bus.new) self.key }
+        ensures others { KeepsOthers (B.calls.state bus.old) (B.calls.state bus.new) self.key }
     {
         self.cancel_all(bus);
         self.give_up(bus);
@@ -257,13 +256,13 @@ impl<T: EndpointType, D: EndpointDirection> Endpoint<T, D> {
 
     /// Gives the pending transfers up, from the first on, and leaves the bus.
     fn give_up<B: Bus>(self, bus: &mut B)
-        requires stands { Stands (B.state bus.old) self }
-        ensures bus { bus.new ≡ B.closed (all_abandoned B.abandoned bus.old self.pending) self.key }
-        ensures state { B.state bus.new ≡ record (B.state bus.old) {
-          owner = all_abandoned without_owner (B.state bus.old).owner self.pending;
-          keys = without_key (B.state bus.old).keys self.key;
+        requires stands { Stands (B.calls.state bus.old) self }
+        ensures bus { bus.new ≡ B.calls.closed (all_abandoned B.calls.abandoned bus.old self.pending) self.key }
+        ensures state { B.calls.state bus.new ≡ record (B.calls.state bus.old) {
+          owner = all_abandoned without_owner (B.calls.state bus.old).owner self.pending;
+          keys = without_key (B.calls.state bus.old).keys self.key;
         } }
-        ensures others { KeepsOthers (B.state bus.old) (B.state bus.new) self.key }
+        ensures others { KeepsOthers (B.calls.state bus.old) (B.calls.state bus.new) self.key }
     {
         let Endpoint {
             device: _,

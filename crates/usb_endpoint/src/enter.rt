@@ -44,18 +44,18 @@ fn hand_over<B: Bus>(
     transfer: Idle<TransferData>,
     is_valid: bool,
 ) -> Result<Pending<TransferData>, Idle<TransferData>>
-    requires key { (B.state bus.old).keys to.key ≡ true }
+    requires key { (B.calls.state bus.old).keys to.key ≡ true }
     requires goes { GoesBy transfer to }
     requires whole { is_valid ≡ true → AsksWhole transfer to }
-    ensures ticket { IfOk result (λ p. p ≡ length (tickets (B.state bus.old).past)) }
+    ensures ticket { IfOk result (λ p. p ≡ length (tickets (B.calls.state bus.old).past)) }
     ensures fresh { OnOk result
-        ((B.state bus.old).owner (length (tickets (B.state bus.old).past)) ≡ None) }
+        ((B.calls.state bus.old).owner (length (tickets (B.calls.state bus.old).past)) ≡ None) }
     ensures state { OnOk result
-        (HandsOver (B.state bus.old) (B.state bus.new) to transfer.held is_valid) }
+        (HandsOver (B.calls.state bus.old) (B.calls.state bus.new) to transfer.held is_valid) }
     ensures left { OnOk result
-        (128 ≤ to.endpoint → (B.state bus.new).turns_left ≤ (B.state bus.old).turns_left) }
+        (128 ≤ to.endpoint → (B.calls.state bus.new).turns_left ≤ (B.calls.state bus.old).turns_left) }
     ensures ok { OnOk result
-        (bus.new ≡ handed_over B.submitted B.refused bus.old to transfer is_valid) }
+        (bus.new ≡ handed_over B.calls bus.old to transfer is_valid) }
     ensures err { OnErr result (bus.new ≡ bus.old) }
     ensures back { IfErr result (λ back. back ≡ transfer) }
 {
@@ -74,16 +74,16 @@ pub(crate) fn enter<B: Bus>(
     buf: Buffer,
     is_valid: bool,
 ) -> Result<Pending<TransferData>, Buffer>
-    requires key { (B.state bus.old).keys to.key ≡ true }
+    requires key { (B.calls.state bus.old).keys to.key ≡ true }
     requires whole { is_valid ≡ true → IsWhole (submission_of to buf) }
-    ensures ticket { IfOk result (λ p. p ≡ length (tickets (B.state bus.old).past)) }
+    ensures ticket { IfOk result (λ p. p ≡ length (tickets (B.calls.state bus.old).past)) }
     ensures fresh { OnOk result
-        ((B.state bus.old).owner (length (tickets (B.state bus.old).past)) ≡ None) }
-    ensures state { OnOk result (Enters (B.state bus.old) (B.state bus.new) to buf is_valid) }
+        ((B.calls.state bus.old).owner (length (tickets (B.calls.state bus.old).past)) ≡ None) }
+    ensures state { OnOk result (Enters (B.calls.state bus.old) (B.calls.state bus.new) to buf is_valid) }
     ensures left { OnOk result
-        (128 ≤ to.endpoint → (B.state bus.new).turns_left ≤ (B.state bus.old).turns_left) }
+        (128 ≤ to.endpoint → (B.calls.state bus.new).turns_left ≤ (B.calls.state bus.old).turns_left) }
     ensures ok { OnOk result
-        (bus.new ≡ handed_over B.submitted B.refused bus.old to (transfer_by to buf) is_valid) }
+        (bus.new ≡ handed_over B.calls bus.old to (transfer_by to buf) is_valid) }
     ensures err { OnErr result (bus.new ≡ bus.old) }
     ensures back { IfErr result (λ back. back ≡ buf) }
 {

@@ -11,7 +11,5 @@ mod waits;
 
 pub use any_endpoint::AnyEndpoint;
 pub use endpoint::Endpoint;
-pub use laws::{
-    calls_keep_other_endpoints, completions_come_in_order, tickets_end_once, waits_have_one_outcome,
-};
+pub use laws::{calls_keep_other_endpoints, completions_come_in_order, tickets_end_once};
 pub use next_complete::NextComplete;

@@ -2,8 +2,9 @@
 
 ghost use Rattle.std.specs.Prelude.{◌≡◌, ◌<◌, length};
 ghost use Rattle.usb_bus.specs.Later.{GoesOn};
-ghost use Rattle.usb_endpoint.specs.Polls.{IfReady, IfPending};
-ghost use Rattle.usb_endpoint.specs.Handles.{TookNext, LeftNext, Stands, KeepsOthers};
+ghost use Rattle.usb_endpoint.specs.Polls.{in_poll};
+ghost use Rattle.usb_endpoint.specs.Handles.{Stands, KeepsOthers};
+ghost use Rattle.usb_endpoint.specs.Waits.{polled, came};
 
 use crate::endpoint::Endpoint;
 use futures::task::Poll;
@@ -22,16 +23,13 @@ impl<'a, T: EndpointType, D: EndpointDirection> NextComplete<'a, T, D> {
     /// The completion of the endpoint's first pending transfer, which is taken, where it is there.
     pub fn poll<B: Bus>(&mut self, bus: &mut B) -> Poll<Completion>
         requires some { 0 < length self.old.endpoint.now.pending }
-        requires stands { Stands (B.state bus.old) self.old.endpoint.now }
+        requires stands { Stands (B.calls.state bus.old) self.old.endpoint.now }
         ensures same_endpoint { self.new.endpoint.ghost_name ≡ self.old.endpoint.ghost_name }
-        ensures ready { IfReady result (λ c.
-            TookNext B.state B.taken bus.old self.old.endpoint.now c
-            bus.new self.new.endpoint.now) }
-        ensures pending { IfPending result
-            (LeftNext B.state bus.old self.old.endpoint.now bus.new self.new.endpoint.now) }
-        ensures goes_on { GoesOn (B.state bus.old) (B.state bus.new) }
-        ensures stands { Stands (B.state bus.new) self.new.endpoint.now }
-        ensures others { KeepsOthers (B.state bus.old) (B.state bus.new) self.old.endpoint.now.key }
+        ensures polled { polled B.calls bus.old self.old.endpoint.now
+            ≡ came (in_poll result) bus.new self.new.endpoint.now }
+        ensures goes_on { GoesOn (B.calls.state bus.old) (B.calls.state bus.new) }
+        ensures stands { Stands (B.calls.state bus.new) self.new.endpoint.now }
+        ensures others { KeepsOthers (B.calls.state bus.old) (B.calls.state bus.new) self.old.endpoint.now.key }
         ensures rest { self.new.endpoint.now ≡ record self.old.endpoint.now {
           pending = self.new.endpoint.now.pending;
         } }

@@ -1,11 +1,10 @@
 //! Waits for the completions of an endpoint.
 
-ghost use Rattle.std.specs.Prelude.{◌≡◌, ◌<◌, [], None, length, IfSome, IfNone, IfOk, OnErr, IfErr};
-ghost use Rattle.usb_bus.specs.Completions.{transfer_completion};
+ghost use Rattle.std.specs.Prelude.{◌≡◌, ◌<◌, [], Some, length, IfSome, IfNone, IfOk, OnErr, IfErr};
 ghost use Rattle.usb_bus.specs.Later.{GoesOn};
 ghost use Rattle.usb_endpoint.specs.Handles.{Stands, KeepsOthers};
-ghost use Rattle.usb_endpoint.specs.Waits.{WaitedNext, WaitedInVain, EndedWhy, FoundWhy, front_of, time_is_up};
-ghost use Rattle.usb_endpoint.specs.Blocking.{IsFinished, WaitedOn, Transferred};
+ghost use Rattle.usb_endpoint.specs.Waits.{came, polled, wait_next, EndedWhy, FoundWhy, front_of, time_is_up};
+ghost use Rattle.usb_endpoint.specs.Blocking.{IsFinished, waited_by_seconds, transferred};
 
 use crate::endpoint::Endpoint;
 use futures::task::Poll;
@@ -28,21 +27,16 @@ impl<T: EndpointType, D: EndpointDirection> Endpoint<T, D> {
     /// more to do.
     pub fn wait_next_complete<B: Bus>(&mut self, bus: &mut B, timeout: u64) -> Option<Completion>
         requires some { 0 < length self.old.pending }
-        requires stands { Stands (B.state bus.old) self.old }
-        ensures found { IfSome result (λ c.
-            WaitedNext B.state B.turned B.turn_of B.taken timeout bus.old self.old c
-            bus.new self.new) }
-        ensures ended { IfNone result
-            (WaitedInVain B.state B.turned B.turn_of timeout bus.old self.old bus.new self.new) }
+        requires stands { Stands (B.calls.state bus.old) self.old }
+        ensures waited { wait_next B.calls timeout bus.old self.old
+            ≡ came result bus.new self.new }
         ensures found_why { IfSome result (λ _.
-            FoundWhy (B.state bus.old) (B.state bus.new) (front_of self.old.pending)) }
+            FoundWhy (B.calls.state bus.old) (B.calls.state bus.new) (front_of self.old.pending)) }
         ensures why { IfNone result
-            (EndedWhy (B.state bus.old) (B.state bus.new) (front_of self.old.pending) timeout) }
-        ensures unreaped { IfNone result
-            (transfer_completion (B.state bus.new).past (front_of self.old.pending) ≡ None) }
-        ensures goes_on { GoesOn (B.state bus.old) (B.state bus.new) }
-        ensures stands { Stands (B.state bus.new) self.new }
-        ensures others { KeepsOthers (B.state bus.old) (B.state bus.new) self.old.key }
+            (EndedWhy (B.calls.state bus.old) (B.calls.state bus.new) (front_of self.old.pending) timeout) }
+        ensures goes_on { GoesOn (B.calls.state bus.old) (B.calls.state bus.new) }
+        ensures stands { Stands (B.calls.state bus.new) self.new }
+        ensures others { KeepsOthers (B.calls.state bus.old) (B.calls.state bus.new) self.old.key }
         ensures rest { self.new ≡ record self.old { pending = self.new.pending } }
     {
         let start = bus.now();
@@ -63,12 +57,13 @@ impl<T: EndpointType, D: EndpointDirection> Endpoint<T, D> {
     /// completion.
     fn wait_finished<B: Bus>(&mut self, bus: &mut B) -> Completion
         requires some { 0 < length self.old.pending }
-        requires stands { Stands (B.state bus.old) self.old }
-        requires finished { IsFinished (B.state bus.old).past (front_of self.old.pending) }
-        ensures found { WaitedOn B.state B.turned B.turn_of B.taken bus.old self.old result
-            bus.new self.new }
-        ensures stands { Stands (B.state bus.new) self.new }
-        ensures others { KeepsOthers (B.state bus.old) (B.state bus.new) self.old.key }
+        requires stands { Stands (B.calls.state bus.old) self.old }
+        requires finished { IsFinished (B.calls.state bus.old).past (front_of self.old.pending) }
+        ensures found { polled B.calls
+            (waited_by_seconds B.calls (front_of self.old.pending) bus.old) self.old
+            ≡ came (Some result) bus.new self.new }
+        ensures stands { Stands (B.calls.state bus.new) self.new }
+        ensures others { KeepsOthers (B.calls.state bus.old) (B.calls.state bus.new) self.old.key }
     {
         finished_can_be_reaped();
         extensions_keep_tickets();
@@ -94,12 +89,11 @@ impl<T: EndpointType, D: EndpointDirection> Endpoint<T, D> {
         timeout: u64,
     ) -> Result<Completion, Buffer>
         requires none { self.old.pending ≡ [] }
-        requires stands { Stands (B.state bus.old) self.old }
+        requires stands { Stands (B.calls.state bus.old) self.old }
         ensures transferred { IfOk result (λ c.
-            Transferred B.state B.submitted B.refused B.turned B.turn_of B.discarded B.taken timeout
-            bus.old self.old buf c bus.new) }
-        ensures stands { Stands (B.state bus.new) self.new }
-        ensures others { KeepsOthers (B.state bus.old) (B.state bus.new) self.old.key }
+            transferred B.calls timeout bus.old self.old buf ≡ came (Some c) bus.new self.new) }
+        ensures stands { Stands (B.calls.state bus.new) self.new }
+        ensures others { KeepsOthers (B.calls.state bus.old) (B.calls.state bus.new) self.old.key }
         ensures rest { self.new ≡ self.old }
         ensures err { OnErr result (bus.new ≡ bus.old) }
         ensures back { IfErr result (λ back. back ≡ buf) }

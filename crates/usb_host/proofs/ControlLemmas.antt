@@ -1,5 +1,5 @@
--- Control transfers that start at a host, and waits for them.
-use Rattle.std.proofs.Common.{ℕ, zero, suc, arith, ◌≡◌, Bool, true, false, cond, List, [], ◌∷◌, ◌++◌, length, is_some, Option, Some, None, refl, ap, ◌∙◌}
+-- Control transfers that start at a host.
+use Rattle.std.proofs.Common.{ℕ, zero, suc, arith, ◌≡◌, true, false, cond, List, [], ◌∷◌, ◌++◌, length, is_some, Option, Some, None, refl, ap, ◌∙◌}
 use Rattle.std.specs.Prelude.{nat_le, option_and_then}
 use Rattle.std.specs.Option.{option_map, option_map_or}
 use Rattle.std.proofs.lemmas.List.{map-append}
@@ -11,7 +11,6 @@ use Rattle.usb_kernel.specs.declared.event.Body.TheVariants.{Wanted, Sent}
 use Rattle.usb_kernel.specs.declared.submission.Submission.{Submission}
 use Rattle.usb_kernel.specs.Value.{KernelState}
 use Rattle.usb_kernel.specs.Tickets.{Ticket, tickets}
-use Rattle.usb_kernel.specs.Completions.{waiting, lowest}
 use Rattle.usb_kernel.specs.Extends.{Extends}
 use Rattle.usb_kernel.specs.Submissions.{IsWhole, WantsWhole, ticket_of}
 use Rattle.usb_kernel.specs.Submits.{submit_refusal, submit_or_refuse, kernel_submitted}
@@ -20,6 +19,7 @@ use Rattle.usb_kernel.proofs.Completions.{completion-refused}
 use Rattle.usb_kernel.proofs.Extends.{extends-event}
 use Rattle.usb_bus.specs.Completions.{transfer_completion}
 use Rattle.usb_endpoint.specs.Handles.{KeepsOthers}
+use Rattle.usb_endpoint.specs.Waits.{is_reaped}
 use Rattle.usb_ledger.specs.declared.opened.OpenDevice.{OpenDevice}
 use Rattle.usb_ledger.specs.declared.slot.TicketState.TheVariants as slot
 use Rattle.usb_ledger.specs.Entries.{Hold, HostTicket, HeldBy, HostEndpoint, control_endpoint}
@@ -27,17 +27,12 @@ use Rattle.usb_ledger.specs.LedgerState.{LedgerState}
 use Rattle.usb_registry.proofs.ValueLemmas.{value-last}
 use Rattle.usb_host.specs.HostState.{HostState}
 use Rattle.usb_host.specs.HostBus.{bus_of, held_as, owner_at, key_at}
-use Rattle.usb_host.specs.HostCalls.{host_idled}
+use Rattle.usb_host.specs.HostCalls.{host_calls}
 use Rattle.usb_host.specs.HostFacts.{host_made}
-use Rattle.usb_host.specs.HostFrames.{HostGoesOn}
-use Rattle.usb_host.specs.HostTurns.{host_stepped}
-use Rattle.usb_host.specs.HostWaits.{is_found, reap_and}
-use Rattle.usb_host.specs.HostAwaits.{deadline_of, sought_reaps, sought_steps, host_awaited}
+use Rattle.usb_host.specs.HostAwaits.{deadline_of}
 use Rattle.usb_host.specs.Controls.{host_started}
 use Rattle.usb_host.proofs.HostKeeps.{KeepsLine}
-use Rattle.usb_host.proofs.HostFrames.{uses-stepped, uses-idled}
 use Rattle.usb_host.proofs.EndpointLemmas.{key-kept}
-use Rattle.usb_host.proofs.WaitFrames.{went-nowhere, went-trans, went-uses, went-stepped, went-reap_and, went-or_then}
 
 -- what is asked for is the maximum, once
 pub whole-once : (s : Submission) → s.maximum ≡ s.buffer.requested → IsWhole s
@@ -70,7 +65,7 @@ unfolding transfer_completion
 entered-due past s None d due none = ap (option_and_then (λ (t : Ticket). t.deadline)) (slice_get-append_seam (tickets past) (ticket_of s)) ∙ due
 entered-due past s (Some errno) d due none = let x = rw (completion-refused past s (length (tickets past)) errno) at none in absurd (cc)
 
-pub started-due : (h : HostState) (s : Submission) (d : ℕ) → s.deadline ≡ Some d → is_found (host_started h s) (length (tickets h.kernel.past)) ≡ false → deadline_of (host_started h s).kernel.past (length (tickets h.kernel.past)) ≡ Some d
+pub started-due : (h : HostState) (s : Submission) (d : ℕ) → s.deadline ≡ Some d → is_reaped host_calls (length (tickets h.kernel.past)) (host_started h s) ≡ false → deadline_of (host_started h s).kernel.past (length (tickets h.kernel.past)) ≡ Some d
 unfolding host_started
 started-due h s d due none = entered-due h.kernel.past s (submit_refusal h.kernel.devices h.kernel.armed s.device) d due none
 
@@ -99,29 +94,3 @@ started-others h s key =
       tickets = λ t k other held. owner-push h.tickets _ t k held;
       keys = λ k other open_. key-kept h.endpoints (control_endpoint s.endpoint) k open_;
     }
-
--- a wait ends nothing that is held
-went-looked : (b : Bool) (h : HostState) (p : Bool × HostState) → HostGoesOn h p.1 → HostGoesOn h (cond b (true, h) p).1
-went-looked true h p goes = went-nowhere h
-went-looked false h p goes = goes
-
-went-sought_reaps : (n : ℕ) (h : HostState) (t : ℕ) → HostGoesOn h (sought_reaps n h t).1
-went-sought_reaps zero h t = went-nowhere h
-went-sought_reaps (suc n) h t =
-    let further = λ (g : HostState). sought_reaps n g t in
-    went-looked (is_found h t) h (reap_and (lowest h.kernel.past) h further) (went-reap_and 0 0 0 h (lowest h.kernel.past) further (λ g. went-sought_reaps n g t))
-
-went-sought_steps : (ss : List KernelStep) (h : HostState) (t : ℕ) → h.steps ≡ ss → HostGoesOn h (sought_steps ss h t).1
-went-sought_steps [] h t same = went-sought_reaps (length (waiting h.kernel.past)) h t
-went-sought_steps (s ∷ ss) h t same =
-    let next = host_stepped (record h { steps = ss }) s in
-    went-looked (is_found h t) h (sought_steps ss next t)
-    (went-trans h next (sought_steps ss next t).1 (went-stepped h s ss same) (went-sought_steps ss next t (uses-stepped (record h { steps = ss }) s).steps))
-
-pub went-awaited : (h : HostState) (t deadline : ℕ) → HostGoesOn h (host_awaited h t deadline)
-unfolding host_awaited
-went-awaited h t deadline =
-    went-or_then h (sought_steps h.steps h t) (λ g. (sought_steps g.steps (host_idled g deadline) t).1) (went-sought_steps h.steps h t refl)
-    (λ g.
-    let next = host_idled g deadline in
-    went-trans g next (sought_steps g.steps next t).1 (went-uses g next (uses-idled g deadline)) (went-sought_steps g.steps next t refl))

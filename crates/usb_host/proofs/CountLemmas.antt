@@ -1,6 +1,6 @@
 -- The number of tickets over the calls of a host: as many at the host as in the journal.
-use Rattle.std.proofs.Common.{ℕ, zero, suc, arith, ◌≡◌, ◌+◌, Bool, true, false, List, [], ◌∷◌, length, length-set, length-append, slice_get, Option, Some, None, Result, Ok, Err, refl, ◌∙◌, ap}
-use Rattle.std.specs.Prelude.{is_some, if◌then◌else◌}
+use Rattle.std.proofs.Common.{ℕ, arith, ◌≡◌, ◌+◌, Bool, List, [], ◌∷◌, length, length-set, length-append, slice_get, Option, Some, None, Result, Ok, Err, refl, ◌∙◌, ap}
+use Rattle.std.specs.Prelude.{is_some, max}
 use Rattle.std.proofs.lemmas.Bool.{cond_both}
 use Rattle.usb_xfer.specs.BufferState.{BufferState}
 use Rattle.usb_kernel.specs.declared.event.Event.{Event}
@@ -9,15 +9,17 @@ use Rattle.usb_simulated.specs.declared.step.KernelStep.{KernelStep}
 use Rattle.usb_kernel.specs.declared.submission.Submission.{Submission}
 use Rattle.usb_kernel.specs.declared.submission.Done.{Done}
 use Rattle.usb_kernel.specs.Tickets.{Ticket, tickets}
-use Rattle.usb_kernel.specs.Completions.{completion, lowest, reapable, waiting}
+use Rattle.usb_kernel.specs.Completions.{completion, reapable}
 use Rattle.usb_kernel.specs.Submits.{submit_refusal, submit_or_refuse}
 use Rattle.usb_kernel.specs.Steps.{after_step, after_reap, after_discard, step_done}
-use Rattle.usb_kernel.proofs.Completions.{tickets-reap, tickets-discard, tickets-step}
+use Rattle.usb_kernel.proofs.Completions.{tickets-reap, tickets-discard, tickets-step, tickets-turned}
 use Rattle.usb_bus.specs.declared.route.Route.{Route}
 use Rattle.usb_bus.specs.Routes.{submission_of}
 use Rattle.usb_endpoint.specs.EndpointState.{EndpointState, route_of}
 use Rattle.usb_endpoint.specs.Submits.{is_valid, transfer_by, entered}
 use Rattle.usb_endpoint.specs.Closes.{all_discarded, all_abandoned, after_close}
+use Rattle.usb_endpoint.specs.Waits.{waited}
+use Rattle.usb_endpoint.specs.Blocking.{blocked}
 use Rattle.usb_ledger.specs.declared.ends.TicketEnd.{TicketEnd}
 use Rattle.usb_ledger.specs.declared.ends.TicketEnd.TheVariants.{Taken, Dropped, Reclaimed}
 use Rattle.usb_registry.specs.History.{value_at}
@@ -27,15 +29,14 @@ use Rattle.usb_host.specs.HostState.{HostState}
 use Rattle.usb_host.specs.Releases.{endpoint_left, settled, owner_gone}
 use Rattle.usb_host.specs.TicketEnds.{ended_as, host_ended, host_taken, given_up, host_abandoned, reclaimed_if, came}
 use Rattle.usb_host.specs.HostTurns.{with_past, host_stepped, host_reaped, all_stepped, host_rest}
-use Rattle.usb_host.specs.HostCalls.{host_submitted, host_refused, host_discarded, closed_if, host_left}
-use Rattle.usb_host.specs.HostWaits.{is_found, is_late, reap_and, wait_reaps, wait_steps, host_waited}
-use Rattle.usb_host.specs.HostBlocking.{or_then, waited_by_seconds, host_blocked}
+use Rattle.usb_host.specs.HostCalls.{host_submitted, host_refused, host_discarded, host_idled, closed_if, host_left, host_calls}
 use Rattle.usb_host.specs.Handles.{handle_gone, handle_closed}
 use Rattle.usb_error.specs.ErrorState.{ErrorState}
 use Rattle.usb_kernel.specs.Calls.{called}
 use Rattle.usb_host.specs.InterfaceClaims.{claim_tried, kernel_claimed, claimed_by, claimed_on, host_claimed}
 use Rattle.usb_host.specs.EndpointOpens.{asked_on, host_asked}
 use Rattle.usb_host.proofs.KernelFrames.{kernel_claimed-is}
+use Rattle.usb_host.proofs.TurnKeeps.{IsKept, kept-waited, kept-blocked}
 
 -- no ticket was added
 pub record KeepsCount (old new : HostState) : Type 0 where
@@ -122,51 +123,25 @@ pub rest-count : (h : HostState) → KeepsCount h (host_rest h)
 rest-count h = let all = all_stepped-count (record h { steps = [] }) h.steps in record { count = all.count; past = all.past }
 
 -- waits and blocking transfers
-module _ (t timeout start : ℕ) where
-  reap_and-count : (h : HostState) (o : Option ℕ) (further : HostState → Bool × HostState) → ((g : HostState) → KeepsCount g (further g).1) → KeepsCount h (reap_and o h further).1
-  reap_and-count h None further keeps = count-same h
-  reap_and-count h (Some u) further keeps = count-trans h (host_reaped h u) (further (host_reaped h u)).1 (reaped-count h u) (keeps (host_reaped h u))
+idled-count : (h : HostState) (until : ℕ) → KeepsCount h (host_idled h until)
+idled-count h until = record { count = refl; past = ap (λ (ts : List Ticket). length ts) (tickets-turned (max h.kernel.clock until) h.kernel.past) }
 
-  -- a look at the ticket, a look at the clock, and what comes then
-  looks-count : (h : HostState) (next : Bool × HostState) → KeepsCount h next.1 → KeepsCount h (if is_found h t then (true, h) else if is_late h timeout start then (false, h) else next).1
-  looks-count h next keeps =
-      cond_both (is_found h t) (true, h) (if is_late h timeout start then (false, h) else next) (λ (p : Bool × HostState). KeepsCount h p.1)
-      (λ yes_. count-same h)
-      (λ no_. cond_both (is_late h timeout start) (false, h) next (λ (p : Bool × HostState). KeepsCount h p.1) (λ late. count-same h) (λ early. keeps))
+pub count_kept : IsKept KeepsCount
+count_kept =
+    record {
+      same = count-same;
+      more = count-trans;
+      step = λ h s ss is. let one = stepped-count (record h { steps = ss }) s in record { count = one.count; past = one.past };
+      reap = reaped-count;
+      discard = discarded-count;
+      idle = idled-count;
+    }
 
-  reaps-count : (n : ℕ) (h : HostState) → KeepsCount h (wait_reaps n h t timeout start).1
-  reaps-count zero h = count-same h
-  reaps-count (suc n) h =
-      looks-count h (reap_and (lowest h.kernel.past) h (λ g. wait_reaps n g t timeout start))
-      (reap_and-count h (lowest h.kernel.past) (λ g. wait_reaps n g t timeout start) (λ g. reaps-count n g))
+pub waited-count : (h : HostState) (t timeout : ℕ) → KeepsCount h (waited host_calls t timeout h)
+waited-count h t timeout = kept-waited KeepsCount count_kept h t timeout
 
-  pub steps-count : (ss : List KernelStep) (h : HostState) → KeepsCount h (wait_steps ss h t timeout start).1
-  steps-count [] h = reaps-count (length (waiting h.kernel.past)) h
-  steps-count (s ∷ ss) h =
-      let next = host_stepped (record h { steps = ss }) s in
-      let one = stepped-count (record h { steps = ss }) s in
-      looks-count h (wait_steps ss next t timeout start)
-      (count-trans h next (wait_steps ss next t timeout start).1 (record { count = one.count; past = one.past }) (steps-count ss next))
-
-pub waited-count : (h : HostState) (t timeout : ℕ) → KeepsCount h (host_waited h t timeout).1
-unfolding host_waited
-waited-count h t timeout = steps-count t timeout h.kernel.clock h.steps h
-
-or_then-count : (h : HostState) (p : Bool × HostState) (next : HostState → HostState) → KeepsCount h p.1 → ((g : HostState) → KeepsCount g (next g)) → KeepsCount h (or_then p next)
-or_then-count h p next keeps further =
-    cond_both p.0 p.1 (next p.1) (KeepsCount h) (λ yes_. keeps) (λ no_. count-trans h p.1 (next p.1) keeps (further p.1))
-
-by_seconds-count : (n : ℕ) (h : HostState) (t : ℕ) → KeepsCount h (waited_by_seconds n h t)
-by_seconds-count zero h t = count-same h
-by_seconds-count (suc n) h t =
-    or_then-count h (host_waited h t 1000000000) (λ g. waited_by_seconds n g t) (waited-count h t 1000000000) (λ g. by_seconds-count n g t)
-
-pub blocked-count : (h : HostState) (t timeout : ℕ) → KeepsCount h (host_blocked h t timeout)
-unfolding host_blocked
-blocked-count h t timeout =
-    or_then-count h (host_waited h t timeout) (λ g. waited_by_seconds (suc (length g.steps)) (host_discarded g t) t) (waited-count h t timeout)
-    (λ g. count-trans g (host_discarded g t) (waited_by_seconds (suc (length g.steps)) (host_discarded g t) t) (discarded-count g t)
-    (by_seconds-count (suc (length g.steps)) (host_discarded g t) t))
+pub blocked-count : (h : HostState) (t timeout : ℕ) → KeepsCount h (blocked host_calls t timeout h)
+blocked-count h t timeout = kept-blocked KeepsCount count_kept h t timeout
 
 -- the discards of a queue, and the close of an endpoint
 pub all_discarded-count : (h : HostState) (ts : List ℕ) → KeepsCount h (all_discarded host_discarded h ts)
@@ -188,7 +163,7 @@ pub left-count : (h : HostState) (k : ℕ) → KeepsCount h (host_left h k)
 unfolding host_left
 left-count h k = closed_if-count h k (value_at h.endpoints k)
 
-pub closed-count : (h : HostState) (e : EndpointState) → KeepsCount h (after_close host_discarded host_abandoned host_left h e)
+pub closed-count : (h : HostState) (e : EndpointState) → KeepsCount h (after_close host_calls h e)
 closed-count h e =
     let first = all_discarded host_discarded h e.pending in
     let second = all_abandoned host_abandoned first e.pending in
@@ -249,7 +224,7 @@ refused-count h to b errno =
       past = submit_event-count h.kernel.past (length (tickets h.kernel.past)) (submission_of to b) (Some errno);
     }
 
-pub entered-count : (h : HostState) (e : EndpointState) (b : BufferState) → CountsOneMore h (entered host_submitted host_refused h e b)
+pub entered-count : (h : HostState) (e : EndpointState) (b : BufferState) → CountsOneMore h (entered host_calls h e b)
 entered-count h e b =
     cond_both (is_valid e b) (host_submitted h (route_of e) (transfer_by (route_of e) b)) (host_refused h (route_of e) (transfer_by (route_of e) b) 22) (CountsOneMore h)
     (λ yes_. submitted-count h (route_of e) b) (λ no_. refused-count h (route_of e) b 22)

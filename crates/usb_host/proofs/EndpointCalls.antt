@@ -6,7 +6,7 @@ use Rattle.usb_endpoint.specs.Submits.{is_valid, transfer_by, entered}
 use Rattle.usb_endpoint.specs.Closes.{all_discarded, all_abandoned, after_close}
 use Rattle.usb_host.specs.HostState.{HostState}
 use Rattle.usb_host.specs.TicketEnds.{host_abandoned}
-use Rattle.usb_host.specs.HostCalls.{host_submitted, host_refused, host_discarded, host_left}
+use Rattle.usb_host.specs.HostCalls.{host_submitted, host_refused, host_discarded, host_left, host_calls}
 use Rattle.usb_host.specs.HostFrames.{HostGoesOn}
 use Rattle.usb_host.proofs.HostKeeps.{KeepsLine, KeepsOpen}
 use Rattle.usb_host.specs.HostFrames.{ClaimsGoOn}
@@ -16,7 +16,7 @@ use Rattle.usb_host.proofs.HostFrames.{uses-discarded}
 use Rattle.usb_host.proofs.WaitFrames.{went-uses, went-nowhere, went-trans}
 
 -- a submission keeps what is open, valid or not
-pub keeps-entered : (h : HostState) (e : EndpointState) (b : BufferState) → KeepsOpen h (entered host_submitted host_refused h e b)
+pub keeps-entered : (h : HostState) (e : EndpointState) (b : BufferState) → KeepsOpen h (entered host_calls h e b)
 keeps-entered h e b =
     elim (is_valid e b) as (λ v. KeepsOpen h (cond v (host_submitted h (route_of e) (transfer_by (route_of e) b)) (host_refused h (route_of e) (transfer_by (route_of e) b) 22))) [
       | true ↦ keeps-submitted h (route_of e) (transfer_by (route_of e) b)
@@ -58,13 +58,13 @@ given_up-all h e =
     let mid = all_discarded host_discarded h e.pending in
     keeps-trans h mid (all_abandoned host_abandoned mid e.pending) (keeps-all_discarded h e.pending) (keeps-all_abandoned mid e.pending)
 
-pub line-closed : (h : HostState) (e : EndpointState) → KeepsLine h (after_close host_discarded host_abandoned host_left h e)
+pub line-closed : (h : HostState) (e : EndpointState) → KeepsLine h (after_close host_calls h e)
 line-closed h e =
     let keeps = given_up-all h e in
     let left = line-left (all_abandoned host_abandoned (all_discarded host_discarded h e.pending) e.pending) e.key in
     record { steps = left.steps ∙ keeps.line.steps; spare = left.spare ∙ keeps.line.spare; devices = left.devices ∙ keeps.line.devices }
 
-pub interfaces-closed : (h : HostState) (e : EndpointState) → ClaimsGoOn h.interfaces (after_close host_discarded host_abandoned host_left h e).interfaces
+pub interfaces-closed : (h : HostState) (e : EndpointState) → ClaimsGoOn h.interfaces (after_close host_calls h e).interfaces
 interfaces-closed h e =
     let given = all_abandoned host_abandoned (all_discarded host_discarded h e.pending) e.pending in
     goes-trans h.interfaces given.interfaces (host_left given e.key).interfaces (given_up-all h e).interfaces (interfaces-left given e.key)

@@ -1,6 +1,6 @@
 -- What becomes of tickets while nothing is taken and no endpoint is closed.
 use Rattle.std.proofs.Common.{ℕ, zero, suc, arith, ◌≡◌, ◌≢◌, ◌<◌, ◌⊎◌, Bool, true, false, List, [], ◌∷◌, ◌++◌, length, set, slice_get, Option, Some, None, Result, Ok, Err, inl, inr, refl, ◌∙◌, ap}
-use Rattle.std.specs.Prelude.{if◌then◌else◌, is_some}
+use Rattle.std.specs.Prelude.{is_some}
 use Rattle.std.proofs.lemmas.Bool.{cases_eq, cases_Bool, cond_both}
 use Rattle.std.proofs.lemmas.Option.{none-some}
 use Rattle.usb_xfer.specs.BufferState.{BufferState}
@@ -11,7 +11,7 @@ use Rattle.usb_kernel.specs.declared.submission.Done.{Done}
 use Rattle.usb_kernel.specs.declared.submission.Submission.{Submission}
 use Rattle.usb_kernel.specs.Extends.{Extends}
 use Rattle.usb_kernel.specs.Tickets.{tickets}
-use Rattle.usb_kernel.specs.Completions.{completion, lowest, reapable, waiting}
+use Rattle.usb_kernel.specs.Completions.{completion, reapable}
 use Rattle.usb_kernel.specs.Steps.{after_step, after_reap, step_done}
 use Rattle.usb_kernel.specs.Submits.{submit_refusal, submit_or_refuse}
 use Rattle.usb_kernel.proofs.Extends.{extends-same, extends-event, extends-trans}
@@ -21,6 +21,8 @@ use Rattle.usb_bus.specs.Routes.{submission_of}
 use Rattle.usb_endpoint.specs.EndpointState.{EndpointState, route_of}
 use Rattle.usb_endpoint.specs.Submits.{is_valid, transfer_by, entered}
 use Rattle.usb_endpoint.specs.Closes.{all_discarded}
+use Rattle.usb_endpoint.specs.Waits.{waited}
+use Rattle.usb_endpoint.specs.Blocking.{blocked}
 use Rattle.usb_ledger.specs.declared.ends.TicketEnd.TheVariants.{Taken, Dropped, Reclaimed}
 use Rattle.usb_registry.specs.History.{value_at}
 use Rattle.usb_ledger.specs.declared.opened.OpenDevice.{OpenDevice}
@@ -29,9 +31,7 @@ use Rattle.usb_host.specs.HostState.{HostState}
 use Rattle.usb_host.specs.Releases.{endpoint_left, settled, owner_gone}
 use Rattle.usb_host.specs.TicketEnds.{host_ended, host_taken, host_abandoned, reclaimed_if, came}
 use Rattle.usb_host.specs.HostTurns.{host_stepped, host_reaped, all_stepped, host_rest}
-use Rattle.usb_host.specs.HostCalls.{host_submitted, host_refused, host_discarded, closed_if, host_left}
-use Rattle.usb_host.specs.HostWaits.{is_found, is_late, reap_and, wait_reaps, wait_steps, host_waited}
-use Rattle.usb_host.specs.HostBlocking.{or_then, waited_by_seconds, host_blocked}
+use Rattle.usb_host.specs.HostCalls.{host_submitted, host_refused, host_discarded, host_idled, closed_if, host_left, host_calls}
 use Rattle.usb_host.specs.Finishes.{discarded_below, reaped_below, finished}
 use Rattle.usb_host.specs.Handles.{handle_gone, handle_closed}
 use Rattle.usb_error.specs.ErrorState.{ErrorState}
@@ -39,7 +39,8 @@ use Rattle.usb_kernel.specs.Calls.{called}
 use Rattle.usb_host.specs.InterfaceClaims.{claim_tried, kernel_claimed, claimed_by, claimed_on, host_claimed}
 use Rattle.usb_host.specs.EndpointOpens.{asked_on, host_asked}
 use Rattle.usb_host.proofs.CloseLemmas.{ended-past, ended-others, by_set}
-use Rattle.usb_host.proofs.HostFrames.{uses-stepped, uses-reaped, uses-discarded}
+use Rattle.usb_host.proofs.HostFrames.{uses-stepped, uses-reaped, uses-discarded, uses-idled}
+use Rattle.usb_host.proofs.TurnKeeps.{IsKept, kept-waited, kept-blocked}
 use Rattle.usb_host.proofs.KernelFrames.{kernel_claimed-is}
 
 -- a ticket that is held or has its end stays so; one that was given up may be reclaimed
@@ -141,49 +142,25 @@ pub on-rest : (h : HostState) → KeepsTickets h (host_rest h)
 on-rest h = let all = on-all_stepped (record h { steps = [] }) h.steps in record { past = all.past; tickets = all.tickets }
 
 -- waits and blocking transfers
-module _ (t timeout start : ℕ) where
-  on-reap_and : (h : HostState) (o : Option ℕ) (further : HostState → Bool × HostState) → ((g : HostState) → KeepsTickets g (further g).1) → KeepsTickets h (reap_and o h further).1
-  on-reap_and h None further goes = on-same h
-  on-reap_and h (Some u) further goes = on-then h (host_reaped h u) (further (host_reaped h u)).1 (on-reaped h u) (goes (host_reaped h u))
+on-idled : (h : HostState) (until : ℕ) → KeepsTickets h (host_idled h until)
+on-idled h until = record { past = (uses-idled h until).later.past; tickets = (on-same h).tickets }
 
-  on-looks : (h : HostState) (next : Bool × HostState) → KeepsTickets h next.1 → KeepsTickets h (if is_found h t then (true, h) else if is_late h timeout start then (false, h) else next).1
-  on-looks h next goes =
-      cond_both (is_found h t) (true, h) (if is_late h timeout start then (false, h) else next) (λ (p : Bool × HostState). KeepsTickets h p.1)
-      (λ yes_. on-same h)
-      (λ no_. cond_both (is_late h timeout start) (false, h) next (λ (p : Bool × HostState). KeepsTickets h p.1) (λ late. on-same h) (λ early. goes))
+pub tickets_kept : IsKept KeepsTickets
+tickets_kept =
+    record {
+      same = on-same;
+      more = on-then;
+      step = λ h s ss is. let one = on-stepped (record h { steps = ss }) s in record { past = one.past; tickets = one.tickets };
+      reap = on-reaped;
+      discard = on-discarded;
+      idle = on-idled;
+    }
 
-  on-reaps : (n : ℕ) (h : HostState) → KeepsTickets h (wait_reaps n h t timeout start).1
-  on-reaps zero h = on-same h
-  on-reaps (suc n) h =
-      on-looks h (reap_and (lowest h.kernel.past) h (λ g. wait_reaps n g t timeout start))
-      (on-reap_and h (lowest h.kernel.past) (λ g. wait_reaps n g t timeout start) (λ g. on-reaps n g))
+pub on-waited : (h : HostState) (t timeout : ℕ) → KeepsTickets h (waited host_calls t timeout h)
+on-waited h t timeout = kept-waited KeepsTickets tickets_kept h t timeout
 
-  pub on-steps : (ss : List KernelStep) (h : HostState) → KeepsTickets h (wait_steps ss h t timeout start).1
-  on-steps [] h = on-reaps (length (waiting h.kernel.past)) h
-  on-steps (s ∷ ss) h =
-      let next = host_stepped (record h { steps = ss }) s in
-      let one = on-stepped (record h { steps = ss }) s in
-      on-looks h (wait_steps ss next t timeout start)
-      (on-then h next (wait_steps ss next t timeout start).1 (record { past = one.past; tickets = one.tickets }) (on-steps ss next))
-
-pub on-waited : (h : HostState) (t timeout : ℕ) → KeepsTickets h (host_waited h t timeout).1
-unfolding host_waited
-on-waited h t timeout = on-steps t timeout h.kernel.clock h.steps h
-
-on-or_then : (h : HostState) (p : Bool × HostState) (next : HostState → HostState) → KeepsTickets h p.1 → ((g : HostState) → KeepsTickets g (next g)) → KeepsTickets h (or_then p next)
-on-or_then h p next goes further =
-    cond_both p.0 p.1 (next p.1) (KeepsTickets h) (λ yes_. goes) (λ no_. on-then h p.1 (next p.1) goes (further p.1))
-
-on-by_seconds : (n : ℕ) (h : HostState) (t : ℕ) → KeepsTickets h (waited_by_seconds n h t)
-on-by_seconds zero h t = on-same h
-on-by_seconds (suc n) h t = on-or_then h (host_waited h t 1000000000) (λ g. waited_by_seconds n g t) (on-waited h t 1000000000) (λ g. on-by_seconds n g t)
-
-pub on-blocked : (h : HostState) (t timeout : ℕ) → KeepsTickets h (host_blocked h t timeout)
-unfolding host_blocked
-on-blocked h t timeout =
-    on-or_then h (host_waited h t timeout) (λ g. waited_by_seconds (suc (length g.steps)) (host_discarded g t) t) (on-waited h t timeout)
-    (λ g. on-then g (host_discarded g t) (waited_by_seconds (suc (length g.steps)) (host_discarded g t) t) (on-discarded g t)
-    (on-by_seconds (suc (length g.steps)) (host_discarded g t) t))
+pub on-blocked : (h : HostState) (t timeout : ℕ) → KeepsTickets h (blocked host_calls t timeout h)
+on-blocked h t timeout = kept-blocked KeepsTickets tickets_kept h t timeout
 
 pub on-all_discarded : (h : HostState) (ts : List ℕ) → KeepsTickets h (all_discarded host_discarded h ts)
 on-all_discarded h [] = on-same h
@@ -285,7 +262,7 @@ adds-refused h to b errno =
       last = slice_get-append_seam h.tickets _;
     }
 
-pub adds-entered : (h : HostState) (e : EndpointState) (b : BufferState) → Adds h (entered host_submitted host_refused h e b)
+pub adds-entered : (h : HostState) (e : EndpointState) (b : BufferState) → Adds h (entered host_calls h e b)
 adds-entered h e b =
     cond_both (is_valid e b) (host_submitted h (route_of e) (transfer_by (route_of e) b)) (host_refused h (route_of e) (transfer_by (route_of e) b) 22) (Adds h)
     (λ yes_. adds-submitted h (route_of e) b) (λ no_. adds-refused h (route_of e) b 22)

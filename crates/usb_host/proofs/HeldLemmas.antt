@@ -14,7 +14,7 @@ use Rattle.usb_ledger.specs.Entries.{HostTicket, Hold, HeldBy}
 use Rattle.usb_host.specs.HostState.{HostState}
 use Rattle.usb_host.specs.HostBus.{owner_at, bus_of}
 use Rattle.usb_host.specs.TicketEnds.{host_taken, host_abandoned}
-use Rattle.usb_host.specs.HostCalls.{host_submitted, host_refused, host_discarded, host_left}
+use Rattle.usb_host.specs.HostCalls.{host_submitted, host_refused, host_discarded, host_calls}
 use Rattle.usb_host.specs.HostFrames.{HostGoesOn}
 use Rattle.usb_host.proofs.CallFrames.{bus-taken, bus-abandoned, bus-left}
 use Rattle.usb_host.proofs.EndpointCalls.{went-all_discarded}
@@ -59,7 +59,7 @@ all_abandoned-held h (t ∷ ts) u k own =
     (here.1, λ there. others.1 (Contains-behind t ts u (λ same. here.0 (sym same)) there))
 
 -- so are the pending tickets of an endpoint that is closed
-pub closed-held : (h : HostState) (e : EndpointState) (u k : ℕ) → owner_at (after_close host_discarded host_abandoned host_left h e).tickets u ≡ Some k → (owner_at h.tickets u ≡ Some k) × (Contains e.pending u → ⊥)
+pub closed-held : (h : HostState) (e : EndpointState) (u k : ℕ) → owner_at (after_close host_calls h e).tickets u ≡ Some k → (owner_at h.tickets u ≡ Some k) × (Contains e.pending u → ⊥)
 closed-held h e u k own =
     let first = all_discarded host_discarded h e.pending in
     let second = all_abandoned host_abandoned first e.pending in
@@ -84,7 +84,7 @@ refused-held : (h : HostState) (to : Route) (b : BufferState) (errno : ℕ) → 
 unfolding host_refused
 refused-held h to b errno t k own = owner-last h.tickets (record { key = to.key; endpoint = to.endpoint; kind = to.kind }) t k own
 
-pub entered-held : (h : HostState) (e : EndpointState) (b : BufferState) (t k : ℕ) → owner_at (entered host_submitted host_refused h e b).tickets t ≡ Some k → ((t ≡ length h.tickets) × (k ≡ e.key)) ⊎ (owner_at h.tickets t ≡ Some k)
+pub entered-held : (h : HostState) (e : EndpointState) (b : BufferState) (t k : ℕ) → owner_at (entered host_calls h e b).tickets t ≡ Some k → ((t ≡ length h.tickets) × (k ≡ e.key)) ⊎ (owner_at h.tickets t ≡ Some k)
 entered-held h e b =
     cond_both (is_valid e b) (host_submitted h (route_of e) (transfer_by (route_of e) b)) (host_refused h (route_of e) (transfer_by (route_of e) b) 22) (IsNewOr h e.key)
     (λ yes_. submitted-held h (route_of e) b) (λ no_. refused-held h (route_of e) b 22)

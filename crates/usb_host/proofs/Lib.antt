@@ -12,9 +12,10 @@ pub mod WorkedRows
 pub mod WorkedWaits
 pub mod ClaimFrames
 pub mod HostKeeps
+pub mod TurnKeeps
 pub mod HostFrames
 pub mod WaitFrames
-pub mod HostWaitLemmas
+pub mod TurnLemmas
 pub mod AwaitLemmas
 pub mod CallFrames
 pub mod InterfaceFrames

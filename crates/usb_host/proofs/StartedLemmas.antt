@@ -1,17 +1,14 @@
 -- What a control transfer makes of the tickets of a host: it starts, it is awaited, and it is taken or given up.
-use Rattle.std.proofs.Common.{ℕ, zero, suc, arith, ◌≡◌, ◌≢◌, ◌≤◌, Bool, true, List, [], ◌∷◌, length, length-append, slice_get, Option, Some, None, inl, inr, ◌⊎◌, refl, sym, ◌∙◌, ap, subst}
-use Rattle.std.specs.Prelude.{max, if◌then◌else◌, option_and_then}
+use Rattle.std.proofs.Common.{ℕ, zero, suc, arith, ◌≡◌, ◌≢◌, ◌≤◌, List, [], ◌∷◌, length, length-append, slice_get, Option, Some, None, inl, inr, ◌⊎◌, refl, sym, ◌∙◌, ap, subst}
+use Rattle.std.specs.Prelude.{option_and_then}
 use Rattle.std.specs.Option.{option_map}
-use Rattle.std.proofs.lemmas.Bool.{cases_eq, cond_both}
+use Rattle.std.proofs.lemmas.Bool.{cases_eq}
 use Rattle.std.proofs.lemmas.Option.{none-some, same_Some, slice_get_past}
-use Rattle.usb_simulated.specs.declared.step.KernelStep.{KernelStep}
 use Rattle.usb_kernel.specs.declared.submission.Submission.{Submission}
 use Rattle.usb_kernel.specs.Extends.{Extends}
-use Rattle.usb_kernel.specs.Tickets.{Ticket, tickets}
-use Rattle.usb_kernel.specs.Completions.{waiting, lowest}
+use Rattle.usb_kernel.specs.Tickets.{tickets}
 use Rattle.usb_kernel.specs.Submits.{submit_refusal}
 use Rattle.usb_kernel.proofs.Extends.{extends-trans}
-use Rattle.usb_kernel.proofs.Completions.{tickets-turned}
 use Rattle.usb_kernel.proofs.Places.{slice_get-append_seam}
 use Rattle.usb_bus.specs.BusState.{BusState}
 use Rattle.usb_registry.specs.History.{value_at}
@@ -20,15 +17,13 @@ use Rattle.usb_host.specs.HostState.{HostState}
 use Rattle.usb_host.specs.HostBus.{held_as, owner_at}
 use Rattle.usb_host.specs.Controls.{host_started}
 use Rattle.usb_host.specs.TicketEnds.{host_taken, host_abandoned}
-use Rattle.usb_host.specs.HostTurns.{host_stepped, host_reaped}
-use Rattle.usb_host.specs.HostCalls.{host_idled, host_left}
-use Rattle.usb_host.specs.HostWaits.{is_found, reap_and}
-use Rattle.usb_host.specs.HostAwaits.{sought_reaps, sought_steps, host_awaited}
-use Rattle.usb_host.proofs.HostFrames.{uses-idled}
+use Rattle.usb_host.specs.HostCalls.{host_left}
+use Rattle.usb_host.specs.HostAwaits.{host_awaited}
+use Rattle.usb_host.proofs.TurnKeeps.{kept-awaited}
 use Rattle.usb_host.proofs.CallFrames.{bus-left}
 use Rattle.usb_host.proofs.CloseLemmas.{abandoned-past, abandoned-others, left-tickets}
-use Rattle.usb_host.proofs.CountLemmas.{KeepsCount, CountsOneMore, count-same, count-trans, stepped-count, reaped-count, taken-count, abandoned-count, left-count, submit_event-count}
-use Rattle.usb_host.proofs.FollowLemmas.{Follows, KeepsTickets, Adds, on-same, on-then, on-stepped, on-reaped, on-left, follows-push, submit_event-on, taken-past, taken-others}
+use Rattle.usb_host.proofs.CountLemmas.{KeepsCount, CountsOneMore, count_kept, count-same, count-trans, taken-count, abandoned-count, left-count, submit_event-count}
+use Rattle.usb_host.proofs.FollowLemmas.{Follows, KeepsTickets, Adds, tickets_kept, on-same, on-then, on-left, follows-push, submit_event-on, taken-past, taken-others}
 use Rattle.usb_host.proofs.HeldLemmas.{HoldsNoMore, taken-held, abandoned-held, owner-last}
 
 -- a request is handed in: one more ticket, which is held under the next key
@@ -58,76 +53,11 @@ started-owner h s t k own =
     owner-last h.tickets (record { key = length h.endpoints; endpoint = s.endpoint; kind = s.kind }) t k own
 
 -- a wait until a ticket is found
-on-idled : (h : HostState) (d : ℕ) → KeepsTickets h (host_idled h d)
-on-idled h d = record { past = (uses-idled h d).later.past; tickets = (on-same h).tickets }
-
-idled-count : (h : HostState) (d : ℕ) → KeepsCount h (host_idled h d)
-idled-count h d = record { count = refl; past = ap (λ (ts : List Ticket). length ts) (tickets-turned (max h.kernel.clock d) h.kernel.past) }
-
--- what each turn of a wait keeps, the whole wait keeps
-record IsKept (Keeps : HostState → HostState → Type 0) : Type 0 where
-  same : (h : HostState) → Keeps h h
-  more : (a b c : HostState) → Keeps a b → Keeps b c → Keeps a c
-  reap : (h : HostState) (u : ℕ) → Keeps h (host_reaped h u)
-  step : (h : HostState) (ss : List KernelStep) (s : KernelStep) → Keeps h (host_stepped (record h { steps = ss }) s)
-  idle : (h : HostState) (d : ℕ) → Keeps h (host_idled h d)
-
-module _ (Keeps : HostState → HostState → Type 0) (kept : IsKept Keeps) (t : ℕ) where
-  kept-looks : (h : HostState) (next : Bool × HostState) → Keeps h next.1 → Keeps h (if is_found h t then (true, h) else next).1
-  kept-looks h next goes =
-      cond_both (is_found h t) (true, h) next (λ (p : Bool × HostState). Keeps h p.1) (λ yes_. kept.same h) (λ no_. goes)
-
-  kept-reap_and : (h : HostState) (o : Option ℕ) (further : HostState → Bool × HostState) → ((g : HostState) → Keeps g (further g).1) → Keeps h (reap_and o h further).1
-  kept-reap_and h None further goes = kept.same h
-  kept-reap_and h (Some u) further goes = kept.more h (host_reaped h u) (further (host_reaped h u)).1 (kept.reap h u) (goes (host_reaped h u))
-
-  kept-reaps : (n : ℕ) (h : HostState) → Keeps h (sought_reaps n h t).1
-  kept-reaps zero h = kept.same h
-  kept-reaps (suc n) h =
-      kept-looks h (reap_and (lowest h.kernel.past) h (λ g. sought_reaps n g t))
-      (kept-reap_and h (lowest h.kernel.past) (λ g. sought_reaps n g t) (λ g. kept-reaps n g))
-
-  kept-sought : (ss : List KernelStep) (h : HostState) → Keeps h (sought_steps ss h t).1
-  kept-sought [] h = kept-reaps (length (waiting h.kernel.past)) h
-  kept-sought (s ∷ ss) h =
-      let next = host_stepped (record h { steps = ss }) s in
-      kept-looks h (sought_steps ss next t) (kept.more h next (sought_steps ss next t).1 (kept.step h ss s) (kept-sought ss next))
-
-  kept-awaited : (h : HostState) (d : ℕ) → Keeps h (host_awaited h t d)
-  unfolding host_awaited
-  kept-awaited h d =
-      let p = sought_steps h.steps h t in
-      let last = host_idled p.1 d in
-      cond_both p.0 p.1 (sought_steps p.1.steps last t).1 (Keeps h)
-      (λ yes_. kept-sought h.steps h)
-      (λ no_. kept.more h p.1 (sought_steps p.1.steps last t).1 (kept-sought h.steps h)
-      (kept.more p.1 last (sought_steps p.1.steps last t).1 (kept.idle p.1 d) (kept-sought p.1.steps last)))
-
 pub on-awaited : (h : HostState) (t d : ℕ) → KeepsTickets h (host_awaited h t d)
-on-awaited h t d = kept-awaited KeepsTickets keeps t h d
-  where
-    keeps : IsKept KeepsTickets
-    keeps =
-        record {
-          same = on-same;
-          more = on-then;
-          reap = on-reaped;
-          step = λ h ss s. let one = on-stepped (record h { steps = ss }) s in record { past = one.past; tickets = one.tickets };
-          idle = on-idled;
-        }
+on-awaited h t d = kept-awaited KeepsTickets tickets_kept h t d
 
 pub awaited-count : (h : HostState) (t d : ℕ) → KeepsCount h (host_awaited h t d)
-awaited-count h t d = kept-awaited KeepsCount keeps t h d
-  where
-    keeps : IsKept KeepsCount
-    keeps =
-        record {
-          same = count-same;
-          more = count-trans;
-          reap = reaped-count;
-          step = λ h ss s. let one = stepped-count (record h { steps = ss }) s in record { count = one.count; past = one.past };
-          idle = idled-count;
-        }
+awaited-count h t d = kept-awaited KeepsCount count_kept h t d
 
 -- while a host goes on, whoever holds a ticket held it before
 abbrev owner_of : Option HostTicket → Option ℕ

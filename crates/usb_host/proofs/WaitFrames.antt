@@ -1,18 +1,18 @@
 -- What the turns and the waits of a host leave as it was.
-use Rattle.std.proofs.Common.{ℕ, zero, suc, arith, ◌≡◌, ◌≤◌, ◌+◌, Bool, true, false, cond, List, [], ◌∷◌, ◌++◌, length, Option, Some, None, refl, sym, ◌∙◌, ap, append_assoc, append-nil, length-append}
-use Rattle.std.specs.Prelude.{if◌then◌else◌}
+use Rattle.std.proofs.Common.{ℕ, arith, ◌≡◌, ◌≤◌, ◌+◌, List, [], ◌∷◌, ◌++◌, length, sym, ◌∙◌, ap, append_assoc, append-nil, length-append}
 use Rattle.usb_simulated.specs.declared.step.KernelStep.{KernelStep}
-use Rattle.usb_kernel.specs.Completions.{waiting, lowest}
+use Rattle.usb_endpoint.specs.Waits.{waited}
+use Rattle.usb_endpoint.specs.Blocking.{blocked}
 use Rattle.usb_host.specs.HostState.{HostState}
 use Rattle.usb_host.specs.HostBus.{bus_of}
-use Rattle.usb_host.specs.HostTurns.{host_stepped, host_reaped, reaped_of, turned_of, host_turned, host_rest}
-use Rattle.usb_host.specs.HostCalls.{host_discarded}
-use Rattle.usb_host.specs.HostWaits.{is_found, is_late, reap_and, wait_reaps, wait_steps, host_waited}
-use Rattle.usb_host.specs.HostBlocking.{or_then, waited_by_seconds, host_blocked}
+use Rattle.usb_host.specs.HostTurns.{host_stepped, host_reaped, host_turned, host_rest}
+use Rattle.usb_host.specs.HostCalls.{host_discarded, host_idled, host_calls}
+use Rattle.usb_host.specs.HostAwaits.{host_turned_until, host_awaited}
 use Rattle.usb_host.specs.HostFrames.{LineGoesOn, HostGoesOn}
 use Rattle.usb_host.proofs.HostKeeps.{UsesPlaces, KeepsOpen}
+use Rattle.usb_host.proofs.TurnKeeps.{IsKept, kept-turned, kept-waited, kept-blocked, kept-until, kept-awaited}
 use Rattle.usb_host.proofs.ClaimFrames.{goes-trans}
-use Rattle.usb_host.proofs.HostFrames.{uses-none, uses-stepped, uses-reaped, uses-discarded, uses-all, later-trans}
+use Rattle.usb_host.proofs.HostFrames.{uses-none, uses-stepped, uses-reaped, uses-discarded, uses-idled, uses-all, later-trans}
 
 pub line-trans : (a b c : HostState) → LineGoesOn a b → LineGoesOn b c → LineGoesOn a c
 line-trans a b c first second =
@@ -59,7 +59,7 @@ went-trans a b c first second =
     record { line = line-trans a b c first.line second.line; later = later-trans (bus_of a) (bus_of b) (bus_of c) first.later second.later }
 
 -- the next step of the line
-pub went-stepped : (h : HostState) (s : KernelStep) (ss : List KernelStep) → h.steps ≡ s ∷ ss → HostGoesOn h (host_stepped (record h { steps = ss }) s)
+went-stepped : (h : HostState) (s : KernelStep) (ss : List KernelStep) → h.steps ≡ s ∷ ss → HostGoesOn h (host_stepped (record h { steps = ss }) s)
 went-stepped h s ss same =
     let uses = uses-stepped (record h { steps = ss }) s in
     record {
@@ -74,17 +74,32 @@ went-stepped h s ss same =
       later = record { past = uses.later.past; clock = uses.later.clock; owner = uses.later.owner; keys = uses.later.keys };
     }
 
-went-reaped_of : (h : HostState) (o : Option ℕ) → HostGoesOn h (reaped_of h o)
-went-reaped_of h None = went-nowhere h
-went-reaped_of h (Some t) = went-uses h (host_reaped h t) (uses-reaped h t)
-
-went-turned_of : (h : HostState) (ss : List KernelStep) → h.steps ≡ ss → HostGoesOn h (turned_of h ss)
-went-turned_of h [] same = went-reaped_of h (lowest h.kernel.past)
-went-turned_of h (s ∷ ss) same = went-stepped h s ss same
+-- what a host does by itself goes on
+went_kept : IsKept HostGoesOn
+went_kept =
+    record {
+      same = went-nowhere;
+      more = went-trans;
+      step = went-stepped;
+      reap = λ h t. went-uses h (host_reaped h t) (uses-reaped h t);
+      discard = λ h t. went-uses h (host_discarded h t) (uses-discarded h t);
+      idle = λ h until. went-uses h (host_idled h until) (uses-idled h until);
+    }
 
 pub went-turned : (h : HostState) → HostGoesOn h (host_turned h)
-unfolding host_turned
-went-turned h = went-turned_of h h.steps refl
+went-turned h = kept-turned HostGoesOn went_kept h
+
+pub went-waited : (h : HostState) (t timeout : ℕ) → HostGoesOn h (waited host_calls t timeout h)
+went-waited h t timeout = kept-waited HostGoesOn went_kept h t timeout
+
+pub went-blocked : (h : HostState) (t timeout : ℕ) → HostGoesOn h (blocked host_calls t timeout h)
+went-blocked h t timeout = kept-blocked HostGoesOn went_kept h t timeout
+
+pub went-until : (h : HostState) (deadline : ℕ) → HostGoesOn h (host_turned_until h deadline)
+went-until h deadline = kept-until HostGoesOn went_kept h deadline
+
+pub went-awaited : (h : HostState) (t deadline : ℕ) → HostGoesOn h (host_awaited h t deadline)
+went-awaited h t deadline = kept-awaited HostGoesOn went_kept h t deadline
 
 -- the rest of the line
 pub went-rest : (h : HostState) → HostGoesOn h (host_rest h)
@@ -101,49 +116,6 @@ went-rest h =
       };
       later = record { past = uses.later.past; clock = uses.later.clock; owner = uses.later.owner; keys = uses.later.keys };
     }
-
--- what holds of each of three outcomes
-of_three : (P : Bool × HostState → Type 0) (a b : Bool) (x y z : Bool × HostState) → P x → P y → P z → P (if a then x else if b then y else z)
-of_three P true b x y z px py pz = px
-of_three P false true x y z px py pz = py
-of_three P false false x y z px py pz = pz
-
-module _ (t timeout start : ℕ) where
-  pub went-reap_and : (h : HostState) (o : Option ℕ) (further : HostState → Bool × HostState) → ((g : HostState) → HostGoesOn g (further g).1) → HostGoesOn h (reap_and o h further).1
-  went-reap_and h None further goes = went-nowhere h
-  went-reap_and h (Some u) further goes = went-trans h (host_reaped h u) (further (host_reaped h u)).1 (went-uses h (host_reaped h u) (uses-reaped h u)) (goes (host_reaped h u))
-
-  pub went-reaps : (n : ℕ) (h : HostState) → HostGoesOn h (wait_reaps n h t timeout start).1
-  went-reaps zero h = went-nowhere h
-  went-reaps (suc n) h =
-      of_three (λ p. HostGoesOn h p.1) (is_found h t) (is_late h timeout start) (true, h) (false, h) (reap_and (lowest h.kernel.past) h (λ g. wait_reaps n g t timeout start))
-      (went-nowhere h) (went-nowhere h) (went-reap_and h (lowest h.kernel.past) (λ g. wait_reaps n g t timeout start) (λ g. went-reaps n g))
-
-  pub went-steps : (ss : List KernelStep) (h : HostState) → h.steps ≡ ss → HostGoesOn h (wait_steps ss h t timeout start).1
-  went-steps [] h same = went-reaps (length (waiting h.kernel.past)) h
-  went-steps (s ∷ ss) h same =
-      let next = host_stepped (record h { steps = ss }) s in
-      of_three (λ p. HostGoesOn h p.1) (is_found h t) (is_late h timeout start) (true, h) (false, h) (wait_steps ss next t timeout start)
-      (went-nowhere h) (went-nowhere h)
-      (went-trans h next (wait_steps ss next t timeout start).1 (went-stepped h s ss same) (went-steps ss next (uses-stepped (record h { steps = ss }) s).steps))
-
-pub went-waited : (h : HostState) (t timeout : ℕ) → HostGoesOn h (host_waited h t timeout).1
-unfolding host_waited
-went-waited h t timeout = went-steps t timeout h.kernel.clock h.steps h refl
-
-pub went-or_then : (h : HostState) (p : Bool × HostState) (next : HostState → HostState) → HostGoesOn h p.1 → ((g : HostState) → HostGoesOn g (next g)) → HostGoesOn h (or_then p next)
-went-or_then h p next goes further = elim p.0 as (λ b. HostGoesOn h (cond b p.1 (next p.1))) [ true ↦ goes | false ↦ went-trans h p.1 (next p.1) goes (further p.1) ]
-
-pub went-by_seconds : (n : ℕ) (h : HostState) (t : ℕ) → HostGoesOn h (waited_by_seconds n h t)
-went-by_seconds zero h t = went-nowhere h
-went-by_seconds (suc n) h t = went-or_then h (host_waited h t 1000000000) (λ g. waited_by_seconds n g t) (went-waited h t 1000000000) (λ g. went-by_seconds n g t)
-
-pub went-blocked : (h : HostState) (t timeout : ℕ) → HostGoesOn h (host_blocked h t timeout)
-unfolding host_blocked
-went-blocked h t timeout =
-    went-or_then h (host_waited h t timeout) (λ g. waited_by_seconds (suc (length g.steps)) (host_discarded g t) t) (went-waited h t timeout)
-    (λ g. went-trans g (host_discarded g t) (waited_by_seconds (suc (length g.steps)) (host_discarded g t) t) (went-uses g (host_discarded g t) (uses-discarded g t))
-    (went-by_seconds (suc (length g.steps)) (host_discarded g t) t))
 
 -- the places for the steps that are left stay
 pub line-spare : (old new : HostState) → LineGoesOn old new → length old.steps ≤ old.kernel.spare → new.kernel.spare + length old.steps ≡ old.kernel.spare + length new.steps

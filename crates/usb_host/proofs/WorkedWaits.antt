@@ -8,13 +8,13 @@ use Rattle.usb_simulated.specs.declared.step.KernelStep.{KernelStep}
 use Rattle.usb_simulated.specs.declared.step.KernelStep.TheVariants as step
 use Rattle.usb_kernel.specs.Completions.{completion}
 use Rattle.usb_bus.specs.Completions.{transfer_completion}
+use Rattle.usb_endpoint.specs.Waits.{is_reaped, waited}
+use Rattle.usb_endpoint.specs.Blocking.{waited_by_seconds, blocked}
 use Rattle.usb_ledger.specs.Entries.{HeldBy}
 use Rattle.usb_host.specs.HostState.{HostState}
 use Rattle.usb_host.specs.TicketEnds.{came}
-use Rattle.usb_host.specs.HostTurns.{host_stepped, host_reaped}
-use Rattle.usb_host.specs.HostCalls.{host_discarded}
-use Rattle.usb_host.specs.HostWaits.{host_waited}
-use Rattle.usb_host.specs.HostBlocking.{host_blocked}
+use Rattle.usb_host.specs.HostTurns.{host_stepped, host_reaped, host_turned, host_turn}
+use Rattle.usb_host.specs.HostCalls.{host_discarded, host_calls}
 
 -- ticket 0 is a transfer of 8 bytes on endpoint 81 of device 0, in packets of at most 4
 abbrev submitted : Event
@@ -37,50 +37,58 @@ abbrev line : List KernelStep
 line = step.Clock 5 ∷ step.Packet 0 129 (7 ∷ []) ∷ step.Reap None ∷ step.Clock 100 ∷ []
 
 -- a wait of 10 nanoseconds finds it before the last step
-pub found : (host_waited (with_steps line) 0 10).0 ≡ true
-unfolding host_waited host_stepped host_reaped came completion transfer_completion
+pub found : is_reaped host_calls 0 (waited host_calls 0 10 (with_steps line)) ≡ true
+unfolding waited host_turned host_turn host_stepped host_reaped came completion transfer_completion
 found = refl
 
-pub found_steps : (host_waited (with_steps line) 0 10).1.steps ≡ step.Clock 100 ∷ []
-unfolding host_waited host_stepped host_reaped came completion transfer_completion
+pub found_steps : (waited host_calls 0 10 (with_steps line)).steps ≡ step.Clock 100 ∷ []
+unfolding waited host_turned host_turn host_stepped host_reaped came completion transfer_completion
 found_steps = refl
 
 -- a wait of 5 is over at the first step
-pub late : (host_waited (with_steps line) 0 5).0 ≡ false
-unfolding host_waited host_stepped host_reaped came completion transfer_completion
+pub late : is_reaped host_calls 0 (waited host_calls 0 5 (with_steps line)) ≡ false
+unfolding waited host_turned host_turn host_stepped host_reaped came completion transfer_completion
 late = refl
 
-pub late_steps : (host_waited (with_steps line) 0 5).1.steps ≡ step.Packet 0 129 (7 ∷ []) ∷ step.Reap None ∷ step.Clock 100 ∷ []
-unfolding host_waited host_stepped host_reaped came completion transfer_completion
+pub late_steps : (waited host_calls 0 5 (with_steps line)).steps ≡ step.Packet 0 129 (7 ∷ []) ∷ step.Reap None ∷ step.Clock 100 ∷ []
+unfolding waited host_turned host_turn host_stepped host_reaped came completion transfer_completion
 late_steps = refl
 
--- a wait of nothing takes no step
-pub at_once : (host_waited (with_steps line) 0 0) ≡ (false, with_steps line)
-unfolding host_waited host_stepped host_reaped came completion transfer_completion
+-- a wait of nothing takes no step, and finds nothing
+pub at_once : waited host_calls 0 0 (with_steps line) ≡ with_steps line
+unfolding waited host_turned host_turn host_stepped host_reaped came completion transfer_completion
 at_once = refl
 
+pub at_once_none : is_reaped host_calls 0 (waited host_calls 0 0 (with_steps line)) ≡ false
+unfolding waited host_turned host_turn host_stepped host_reaped came completion transfer_completion
+at_once_none = refl
+
 -- where no step reaps it, the wait does
-pub reaped : (host_waited (with_steps (step.Packet 0 129 (7 ∷ []) ∷ [])) 0 10).1.kernel.past ≡ Reap 0 ∷ Packet 0 129 (7 ∷ []) ∷ submitted ∷ []
-unfolding host_waited host_stepped host_reaped came completion transfer_completion
+pub reaped : (waited host_calls 0 10 (with_steps (step.Packet 0 129 (7 ∷ []) ∷ []))).kernel.past ≡ Reap 0 ∷ Packet 0 129 (7 ∷ []) ∷ submitted ∷ []
+unfolding waited host_turned host_turn host_stepped host_reaped came completion transfer_completion
 reaped = refl
 
 -- with no step and no ticket that is finished, time is up
-pub up : (host_waited (with_steps []) 0 10) ≡ (false, with_steps [])
-unfolding host_waited host_stepped host_reaped came completion transfer_completion
+pub up : waited host_calls 0 10 (with_steps []) ≡ with_steps []
+unfolding waited host_turned host_turn host_stepped host_reaped came completion transfer_completion
 up = refl
+
+pub up_none : is_reaped host_calls 0 (waited host_calls 0 10 (with_steps [])) ≡ false
+unfolding waited host_turned host_turn host_stepped host_reaped came completion transfer_completion
+up_none = refl
 
 -- a blocking transfer of 5 is discarded then. Waits of a second are over at 3 and at 5 seconds, and the last one reaps it; a packet that
 -- comes after the discard is nobody's
 pub cancelled :
-    (host_blocked (with_steps (step.Clock 5 ∷ step.Clock 3000000000 ∷ step.Clock 5000000000 ∷ step.Packet 0 129 (7 ∷ []) ∷ [])) 0 5).kernel.past ≡ Reap 0 ∷ Discard 0 ∷ submitted ∷ []
-unfolding host_waited host_blocked host_discarded host_stepped host_reaped came completion transfer_completion
+    (blocked host_calls 0 5 (with_steps (step.Clock 5 ∷ step.Clock 3000000000 ∷ step.Clock 5000000000 ∷ step.Packet 0 129 (7 ∷ []) ∷ []))).kernel.past ≡ Reap 0 ∷ Discard 0 ∷ submitted ∷ []
+unfolding waited waited_by_seconds host_turned host_turn host_discarded host_stepped host_reaped came completion transfer_completion
 cancelled = refl
 
-pub cancelled_steps : (host_blocked (with_steps (step.Clock 5 ∷ step.Clock 3000000000 ∷ step.Clock 5000000000 ∷ step.Packet 0 129 (7 ∷ []) ∷ [])) 0 5).steps ≡ []
-unfolding host_waited host_blocked host_discarded host_stepped host_reaped came completion transfer_completion
+pub cancelled_steps : (blocked host_calls 0 5 (with_steps (step.Clock 5 ∷ step.Clock 3000000000 ∷ step.Clock 5000000000 ∷ step.Packet 0 129 (7 ∷ []) ∷ []))).steps ≡ []
+unfolding waited waited_by_seconds host_turned host_turn host_discarded host_stepped host_reaped came completion transfer_completion
 cancelled_steps = refl
 
 -- one that is finished in time is not discarded
-pub in_time : (host_blocked (with_steps line) 0 10).kernel.past ≡ Reap 0 ∷ Packet 0 129 (7 ∷ []) ∷ submitted ∷ []
-unfolding host_waited host_blocked host_discarded host_stepped host_reaped came completion transfer_completion
+pub in_time : (blocked host_calls 0 10 (with_steps line)).kernel.past ≡ Reap 0 ∷ Packet 0 129 (7 ∷ []) ∷ submitted ∷ []
+unfolding waited waited_by_seconds host_turned host_turn host_discarded host_stepped host_reaped came completion transfer_completion
 in_time = refl

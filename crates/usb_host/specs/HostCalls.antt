@@ -13,12 +13,15 @@ use Rattle.usb_kernel.specs.Submits.{kernel_submitted, kernel_refused}
 use Rattle.usb_kernel.specs.Timers.{timer_turned}
 use Rattle.usb_kernel.specs.Steps.{after_discard}
 use Rattle.usb_bus.specs.declared.route.Route.{Route}
+use Rattle.usb_bus.specs.BusCalls.{BusCalls}
 use Rattle.usb_bus.specs.Routes.{submission_of}
 use Rattle.usb_registry.specs.History.{value_at}
 use Rattle.usb_ledger.specs.Entries.{HostEndpoint, HeldBy}
 use Rattle.usb_host.specs.HostState.{HostState}
 use Rattle.usb_host.specs.Releases.{settled}
-use Rattle.usb_host.specs.HostTurns.{with_past}
+use Rattle.usb_host.specs.TicketEnds.{host_taken, host_abandoned}
+use Rattle.usb_host.specs.HostTurns.{with_past, host_turned, host_turn}
+use Rattle.usb_host.specs.HostBus.{bus_of}
 
 -- the endpoint of a route holds the next ticket
 abbrev pub with_held : HostState → Route → TransferData → KernelState → HostState
@@ -84,3 +87,21 @@ host_halt_result h device endpoint = ok_unless (errno_of h.kernel device call.Ha
 abbrev pub host_halt_cleared : HostState → ℕ → ℕ → HostState
 host_halt_cleared h device endpoint =
     record h { kernel = called h.kernel device call.Halt no_rules same }
+
+-- what a host is to its endpoints, and what their calls leave of it (`BusCalls`: usb_bus)
+abbrev pub host_calls : BusCalls HostState
+host_calls =
+    record {
+      state = bus_of;
+      submitted = host_submitted;
+      refused = host_refused;
+      discarded = host_discarded;
+      abandoned = host_abandoned;
+      taken = host_taken;
+      closed = host_left;
+      turned = host_turned;
+      turn_of = host_turn;
+      idled = host_idled;
+      halt_cleared = host_halt_cleared;
+      halt_result = host_halt_result;
+    }

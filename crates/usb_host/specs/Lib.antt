@@ -20,8 +20,6 @@ pub mod OnInterfaces
 pub mod HostFacts
 pub mod HostBusFacts
 pub mod HostLaws
-pub mod HostWaits
-pub mod HostBlocking
 pub mod HostAwaits
 pub mod HostFrames
 pub mod Controls

@@ -4,9 +4,9 @@ ghost use Rattle.std.specs.Prelude.{◌≡◌, Some, true, false, IsSome};
 ghost use Rattle.usb_bus.specs.Completions.{transfer_completion};
 ghost use Rattle.usb_host.specs.HostAwaits.{deadline_of, host_awaited, host_turned_until};
 ghost use Rattle.usb_host.specs.HostBus.{hold_at, owner_at, key_at};
-ghost use Rattle.usb_host.specs.HostCalls.{host_left};
+ghost use Rattle.usb_endpoint.specs.Waits.{is_reaped};
+ghost use Rattle.usb_host.specs.HostCalls.{host_left, host_calls};
 ghost use Rattle.usb_host.specs.HostFrames.{HostGoesOn};
-ghost use Rattle.usb_host.specs.HostWaits.{is_found};
 ghost use Rattle.usb_host.specs.TicketEnds.{host_taken};
 
 use crate::host::Host;
@@ -29,10 +29,10 @@ impl Host {
     /// the ticket's deadline, at which the timer discards the ticket if it is not finished.
     pub fn await_ticket(&mut self, ticket: u64, deadline: u64)
         requires held { IsSome (hold_at self.old.tickets ticket) }
-        requires deadline { is_found self.old ticket ≡ false →
+        requires deadline { is_reaped host_calls ticket self.old ≡ false →
             deadline_of self.old.kernel.past ticket ≡ Some deadline }
         ensures awaited { self.new ≡ host_awaited self.old ticket deadline }
-        ensures found { is_found self.new ticket ≡ true }
+        ensures found { is_reaped host_calls ticket self.new ≡ true }
         ensures went { HostGoesOn self.old self.new }
     {
         'turns: while !self.has_come(ticket) {
@@ -44,7 +44,7 @@ impl Host {
     pub fn take_control(&mut self, key: usize, ticket: u64) -> Completion
         requires held { owner_at self.old.tickets ticket ≡ Some key }
         requires key { key_at self.old.endpoints key ≡ true }
-        requires found { is_found self.old ticket ≡ true }
+        requires found { is_reaped host_calls ticket self.old ≡ true }
         ensures host { self.new ≡ host_left (host_taken self.old ticket) key }
         ensures completion { transfer_completion self.old.kernel.past ticket ≡ Some result }
     {

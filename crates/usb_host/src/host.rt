@@ -18,10 +18,10 @@ ghost use Rattle.usb_bus.specs.Completions.{CompletesOnly};
 ghost use Rattle.usb_ledger.specs.declared.opened.OpenDevice.{OpenDevice};
 ghost use Rattle.usb_host.specs.HostState.{HostState, host_of};
 ghost use Rattle.usb_ledger.specs.EndedTickets.{end_at};
-ghost use Rattle.usb_host.specs.HostBus.{bus_of, hold_at, owner_at, key_at, host_value};
+ghost use Rattle.usb_host.specs.HostBus.{hold_at, owner_at, key_at, host_value};
 ghost use Rattle.usb_host.specs.HostBusFacts.{bus_of-taken};
 ghost use Rattle.usb_host.specs.HeldTransfers.{host_transfer};
-ghost use Rattle.usb_host.specs.HostCalls.{host_submitted, host_refused, host_discarded, host_left, host_timed, host_idled, host_halt_result, host_halt_cleared};
+ghost use Rattle.usb_host.specs.HostCalls.{host_submitted, host_refused, host_discarded, host_left, host_timed, host_idled, host_halt_result, host_halt_cleared, host_calls};
 ghost use Rattle.usb_host.specs.HostFrames.{HostGoesOn};
 ghost use Rattle.usb_host.specs.Finishes.{finished, HasEnds, HasCompletions};
 ghost use Rattle.usb_host.specs.HostFacts.{TicketsAgree, host_made};
@@ -445,27 +445,7 @@ impl Slots<TransferData> for Host {
 }
 
 impl Bus for Host {
-    ghost state = { bus_of };
-
-    ghost submitted = { host_submitted };
-
-    ghost refused = { host_refused };
-
-    ghost discarded = { host_discarded };
-
-    ghost abandoned = { host_abandoned };
-
-    ghost closed = { host_left };
-
-    ghost turned = { host_turned };
-
-    ghost turn_of = { host_turn };
-
-    ghost idled = { host_idled };
-
-    ghost halt_cleared = { host_halt_cleared };
-
-    ghost halt_result = { host_halt_result };
+    ghost calls = { host_calls };
 
     fn submit(
         &mut self,
@@ -523,6 +503,8 @@ impl Bus for Host {
     ghost stands_is = { held-owned };
 
     ghost value_is = { value-held };
+
+    ghost taken_is = { λ h t. refl };
 
     ghost state_taken = { bus_of-taken };
 }

@@ -17,7 +17,7 @@ use Rattle.usb_bus.specs.Routes.{submission_of}
 use Rattle.usb_endpoint.specs.EndpointState.{EndpointState, route_of}
 use Rattle.usb_endpoint.specs.Submits.{Enters}
 use Rattle.usb_io.specs.Readers.{no_bytes}
-use Rattle.usb_io.specs.Reads.{BusCalls}
+use Rattle.usb_bus.specs.BusCalls.{BusCalls}
 use Rattle.usb_io.specs.Writers.{WriterState, Writing, writing, out_buffer, empty_buffer, send, sent, sent_end, kept_buffer, with_taken, KeepsWriter}
 use Rattle.usb_io.specs.WriteAnswers.{accepted, accepted_count, accepts, AcceptsNone}
 use Rattle.usb_io.specs.Writes.{Call, Accept, Flush, Finish, Written, written, flushes, ending, accepts as accepts_of}

@@ -1,42 +1,27 @@
--- How a writer takes the fronts of its queue.
-use Rattle.std.specs.Prelude.{ℕ, ◌≡◌, Bool, true, false, List, [], ◌∷◌, length, Some, None, Result, Ok, Err, is_none, nat_le, nat_lt, ◌&&◌}
-use Rattle.usb_xfer.specs.declared.error.TransferError.{TransferError}
+-- How a writer takes the fronts of its queue, on any bus.
+use Rattle.std.specs.Prelude.{ℕ, Bool, true, false, List, [], ◌∷◌, length, Option, Some, None, Ok, Err, is_none, nat_le, nat_lt, ◌&&◌}
 use Rattle.usb_xfer.specs.declared.transfer.Completion.{Completion}
-use Rattle.usb_bus.specs.Completions.{transfer_completion}
-use Rattle.usb_endpoint.specs.Waits.{waited}
+use Rattle.usb_bus.specs.BusCalls.{BusCalls}
+use Rattle.usb_endpoint.specs.EndpointState.{EndpointState}
+use Rattle.usb_endpoint.specs.Waits.{Polled, wait_next}
 use Rattle.usb_io.specs.declared.fault.WriteFault.{WriteFault}
 use Rattle.usb_io.specs.declared.fault.WriteFault.TheVariants.{Transfer, TimedOut}
 use Rattle.usb_io.specs.declared.fronts.Taken.{Taken}
 use Rattle.usb_io.specs.declared.fronts.Taken.TheVariants.{Took, NotCome}
-use Rattle.usb_io.specs.Reads.{BusCalls}
+use Rattle.usb_io.specs.Answered.{Answered, answered}
 use Rattle.usb_io.specs.Writers.{WriterState, Writing, writing, with_taken}
 
--- a wait took the front, whose status is this
-pub record TookOne {S : Type 0} (k : BusCalls S) (timeout : ℕ) (old new : Writing S) (status : Result (Unit {0}) TransferError) : Type 0 where
-  pub front : ℕ
-  pub others : List ℕ
-  pub was : old.writer.endpoint.pending ≡ front ∷ others
-  pub looks : ℕ
-  pub mid : S
-  pub found : waited k.state k.turned k.turn_of front timeout (k.state old.bus).clock looks old.bus ≡ Some (true, mid)
-  pub c : Completion
-  pub completion_is : transfer_completion (k.state mid).past front ≡ Some c
-  pub status_is : status ≡ c.status
-  pub is : new ≡ writing (k.taken mid front) (with_taken c others old.writer)
+-- a wait took the front, or was in vain
+abbrev pub front_kept : {S : Type 0} → WriterState → S → EndpointState → Option Completion → Taken × Writing S
+front_kept w bus endpoint None = (NotCome, writing bus (record w { endpoint = endpoint }))
+front_kept w bus endpoint (Some c) = (Took c.status, writing bus (with_taken c endpoint.pending (record w { endpoint = endpoint })))
 
--- or was in vain
-pub record MissedOne {S : Type 0} (k : BusCalls S) (timeout : ℕ) (old new : Writing S) : Type 0 where
-  pub front : ℕ
-  pub others : List ℕ
-  pub was : old.writer.endpoint.pending ≡ front ∷ others
-  pub looks : ℕ
-  pub ended : waited k.state k.turned k.turn_of front timeout (k.state old.bus).clock looks old.bus ≡ Some (false, new.bus)
-  pub none : transfer_completion (k.state new.bus).past front ≡ None
-  pub same : new.writer ≡ old.writer
+abbrev pub wait_kept : {S : Type 0} → WriterState → Polled S → Taken × Writing S
+wait_kept w p = front_kept w p.bus p.endpoint p.completion
 
-abbrev pub CameOne : {S : Type 0} → BusCalls S → ℕ → Writing S → Writing S → Taken → Type 0
-CameOne k timeout old new (Took status) = TookOne k timeout old new status
-CameOne k timeout old new NotCome = MissedOne k timeout old new
+-- a wait for the front
+abbrev pub taken_once : {S : Type 0} → BusCalls S → ℕ → Writing S → Taken × Writing S
+taken_once k timeout w = wait_kept w.writer (wait_next k timeout w.bus w.writer.endpoint)
 
 -- whether fronts are to be taken: by a flushing call while any is pending, by a write while no
 -- buffer stands and at least as many as are to be are pending
@@ -44,34 +29,30 @@ abbrev pub waits_on : Bool → WriterState → Bool
 waits_on true w = nat_lt 0 (length w.endpoint.pending)
 waits_on false w = is_none w.buffer && nat_le w.n (length w.endpoint.pending)
 
--- fronts that were taken one after another, none of which failed: what is left after each
-abbrev pub Takes : {S : Type 0} → BusCalls S → Bool → ℕ → List (Writing S) → Writing S → Writing S → Type 0
-Takes k flushing timeout [] old new = old ≡ new
-Takes k flushing timeout (w ∷ ws) old new = (waits_on flushing old.writer ≡ true) × TookOne k timeout old w (Ok tt) × Takes k flushing timeout ws w new
+-- what calls answer that take fronts, which give nothing
+abbrev pub Drained : Type 0 → Type 0
+Drained S = Answered (Unit {0}) WriteFault (Writing S)
 
--- until no more are to be taken
-pub record DrainedAll {S : Type 0} (k : BusCalls S) (flushing : Bool) (timeout : ℕ) (old new : Writing S) : Type 0 where
-  pub ws : List (Writing S)
-  pub are : Takes k flushing timeout ws old new
-  pub done : waits_on flushing new.writer ≡ false
+-- a front that went well was taken, and the call goes on (further); else that is the answer
+abbrev pub after_front : {S : Type 0} → Taken → Writing S → (Writing S → Drained S) → Drained S
+after_front (Took (Ok u)) w further = further w
+after_front (Took (Err e)) w further = answered (Err (Transfer e)) w
+after_front NotCome w further = answered (Err TimedOut) w
 
--- or until one failed
-pub record DrainFailed {S : Type 0} (k : BusCalls S) (flushing : Bool) (timeout : ℕ) (old new : Writing S) (e : TransferError) : Type 0 where
-  pub ws : List (Writing S)
-  pub last : Writing S
-  pub are : Takes k flushing timeout ws old last
-  pub goes : waits_on flushing last.writer ≡ true
-  pub took : TookOne k timeout last new (Err e)
+-- a front is taken, where any is to be. (It is computed only where it is)
+abbrev pub drained_if : {S : Type 0} → Bool → (Writing S → Drained S) → Writing S → Drained S
+drained_if false next w = answered (Ok tt) w
+drained_if true next w = next w
 
--- or until one was not there
-pub record DrainMissed {S : Type 0} (k : BusCalls S) (flushing : Bool) (timeout : ℕ) (old new : Writing S) : Type 0 where
-  pub ws : List (Writing S)
-  pub last : Writing S
-  pub are : Takes k flushing timeout ws old last
-  pub goes : waits_on flushing last.writer ≡ true
-  pub missed : MissedOne k timeout last new
+-- front after front of these, which are pending
+abbrev pub drained_of : {S : Type 0} → BusCalls S → Bool → ℕ → List ℕ → Writing S → Drained S
+drained_of k flushing timeout [] w = answered (Ok tt) w
+drained_of k flushing timeout (front ∷ others) w =
+    drained_if (waits_on flushing w.writer)
+    (λ w. after_front (taken_once k timeout w).0 (taken_once k timeout w).1 (drained_of k flushing timeout others)) w
 
--- why fronts were not all taken
-abbrev pub DrainFault : {S : Type 0} → BusCalls S → Bool → ℕ → Writing S → Writing S → WriteFault → Type 0
-DrainFault k flushing timeout old new (Transfer e) = DrainFailed k flushing timeout old new e
-DrainFault k flushing timeout old new TimedOut = DrainMissed k flushing timeout old new
+-- fronts are taken while any are to be, until one fails or is not there: by a flushing call, or by a
+-- write, with a timeout in nanoseconds. A poll is one with no time, and is pending where this
+-- answers `TimedOut`
+unfoldable pub drained : {S : Type 0} → BusCalls S → Bool → ℕ → Writing S → Drained S
+drained k flushing timeout w = drained_of k flushing timeout w.writer.endpoint.pending w

@@ -1,11 +1,11 @@
--- What the writes and flushes of a writer answer.
-use Rattle.std.specs.Prelude.{ℕ, ◌≡◌, ◌≢◌, ◌-◌, ◌++◌, ◌==◌, true, false, List, [], length, take, min, Some, unwrap_or, if◌then◌else◌}
+-- What the writes and flushes of a writer answer, on any bus.
+use Rattle.std.specs.Prelude.{ℕ, ◌≡◌, ◌≢◌, ◌-◌, ◌++◌, ◌==◌, false, true, List, [], length, take, min, Some, unwrap_or, Result, Ok, Err, if◌then◌else◌}
 use Rattle.usb_desc.specs.declared.error.Fail.{Fail}
+use Rattle.usb_bus.specs.BusCalls.{BusCalls}
 use Rattle.usb_io.specs.declared.fault.WriteFault.{WriteFault}
-use Rattle.usb_io.specs.declared.fault.WriteFault.TheVariants.{TimedOut}
-use Rattle.usb_io.specs.Answers.{FailsBy}
-use Rattle.usb_io.specs.Fronts.{DrainedAll, DrainMissed, DrainFault}
-use Rattle.usb_io.specs.Reads.{BusCalls}
+use Rattle.usb_io.specs.declared.fault.WriteFault.TheVariants.{Transfer, TimedOut}
+use Rattle.usb_io.specs.Answered.{Answered, answered, FailsBy, FailedAs}
+use Rattle.usb_io.specs.Fronts.{Drained, drained}
 use Rattle.usb_io.specs.Writers.{WriterState, Writing, out_buffer, not_begun, send, sent, sent_end, EndShort}
 
 -- these bytes stand, or are submitted where they are a whole transfer
@@ -26,60 +26,36 @@ pub record AcceptsNone {S : Type 0} (old new : Writing S) : Type 0 where
   pub bytes : unwrap_or new.writer.buffer [] ≡ unwrap_or old.writer.buffer []
   pub rest : new.writer ≡ record old.writer { buffer = new.writer.buffer }
 
--- a write took fronts while it had to, and then accepted what fits
-pub record Wrote {S : Type 0} (k : BusCalls S) (timeout : ℕ) (src : List ℕ) (old new : Writing S) (n : ℕ) : Type 0 where
-  pub mid : Writing S
-  pub came : DrainedAll k false timeout (not_begun old) mid
-  pub count : n ≡ accepted_count src mid.writer
-  pub is : new ≡ accepts k src mid
+-- the fronts that a write takes. No end has begun then
+abbrev pub write_drained : {S : Type 0} → BusCalls S → ℕ → Writing S → Drained S
+write_drained k timeout w = drained k false timeout (not_begun w)
 
--- or found no memory for it
-pub record WroteNone {S : Type 0} (k : BusCalls S) (timeout : ℕ) (old new : Writing S) : Type 0 where
-  pub mid : Writing S
-  pub came : DrainedAll k false timeout (not_begun old) mid
-  pub none : AcceptsNone mid new
+-- then bytes are accepted, as many as fit
+abbrev pub accepting : {S : Type 0} → BusCalls S → List ℕ → Result (Unit {0}) WriteFault → Writing S → Answered ℕ WriteFault (Writing S)
+accepting k src (Ok u) w = answered (Ok (accepted_count src w.writer)) (accepts k src w)
+accepting k src (Err f) w = answered (Err f) w
 
--- why a write accepted nothing: a front failed or was not there, or memory was lacking
-abbrev pub IsWriteError : {S : Type 0} → BusCalls S → ℕ → Writing S → Writing S → Fail WriteFault → Type 0
-IsWriteError k timeout old new e =
-    FailsBy e (DrainFault k false timeout (not_begun old) new) (WroteNone k timeout old new)
+abbrev pub accepting_of : {S : Type 0} → BusCalls S → List ℕ → Drained S → Answered ℕ WriteFault (Writing S)
+accepting_of k src d = accepting k src d.answer d.left
 
--- a poll of a write found no front
-abbrev pub WritePending : {S : Type 0} → BusCalls S → Writing S → Writing S → Type 0
-WritePending k old new = DrainMissed k false 0 (not_begun old) new
+-- a write of bytes: how many it accepts
+abbrev pub write_came : {S : Type 0} → BusCalls S → ℕ → List ℕ → Writing S → Answered ℕ WriteFault (Writing S)
+write_came k timeout src w = accepting_of k src (write_drained k timeout w)
 
 -- what a flush submits before it takes fronts, and what one to an end does
-abbrev pub flush_start : {S : Type 0} → BusCalls S → Writing S → Writing S
-flush_start k w = sent k w.writer.buffer (not_begun w)
+abbrev pub submit_came : {S : Type 0} → BusCalls S → Writing S → Writing S
+submit_came k w = sent k w.writer.buffer (not_begun w)
 
-abbrev pub end_start : {S : Type 0} → BusCalls S → Writing S → Writing S
-end_start k w = sent_end k w.writer.buffer (not_begun w)
+abbrev pub submit_end_came : {S : Type 0} → BusCalls S → Writing S → Writing S
+submit_end_came k w = sent_end k w.writer.buffer (not_begun w)
 
--- a flush submitted, and took all
-abbrev pub Flushed : {S : Type 0} → BusCalls S → ℕ → Writing S → Writing S → Type 0
-Flushed k timeout old new = DrainedAll k true timeout (flush_start k old) new
+-- a flush: what stands is submitted, and all that is pending is taken
+abbrev pub flush_came : {S : Type 0} → BusCalls S → ℕ → Writing S → Drained S
+flush_came k timeout w = drained k true timeout (submit_came k w)
 
--- why one answers an error: a front failed or was not there, or memory was lacking, with nothing
--- submitted
-abbrev pub IsFlushError : {S : Type 0} → BusCalls S → ℕ → Writing S → Writing S → Fail WriteFault → Type 0
-IsFlushError k timeout old new e = FailsBy e (DrainFault k true timeout (flush_start k old) new) (new ≡ not_begun old)
-
--- a poll of one found no front
-abbrev pub FlushPending : {S : Type 0} → BusCalls S → Writing S → Writing S → Type 0
-FlushPending k old new = DrainMissed k true 0 (flush_start k old) new
-
--- a flush to an end submitted one, and took all
-abbrev pub FlushedEnd : {S : Type 0} → BusCalls S → ℕ → Writing S → Writing S → Type 0
-FlushedEnd k timeout old new = DrainedAll k true timeout (end_start k old) new
-
--- why one answers an error
-abbrev pub IsFlushEndError : {S : Type 0} → BusCalls S → ℕ → Writing S → Writing S → Fail WriteFault → Type 0
-IsFlushEndError k timeout old new e =
-    FailsBy e (DrainFault k true timeout (end_start k old) new) (EndShort k old.writer.buffer (not_begun old) new)
-
--- a poll does not time out
-abbrev pub IsWrittenInTime : Fail WriteFault → Type 0
-IsWrittenInTime e = FailsBy e (λ f. f ≢ TimedOut) (Unit {0})
+-- a flush to an end: an end is submitted, and all that is pending is taken
+abbrev pub flush_end_came : {S : Type 0} → BusCalls S → ℕ → Writing S → Drained S
+flush_end_came k timeout w = drained k true timeout (submit_end_came k w)
 
 -- a poll to an end submits one where none has begun, which has begun then
 abbrev pub with_end_begun : {S : Type 0} → Writing S → Writing S
@@ -88,27 +64,49 @@ with_end_begun w = record w { writer = record w.writer { begun = true } }
 abbrev pub begun_end : {S : Type 0} → BusCalls S → Writing S → Writing S
 begun_end k w = if w.writer.begun then w else with_end_begun (sent_end k w.writer.buffer w)
 
--- it took all, and begins anew
-pub record PolledEnd {S : Type 0} (k : BusCalls S) (old new : Writing S) : Type 0 where
-  pub mid : Writing S
-  pub came : DrainedAll k true 0 (begun_end k old) mid
-  pub is : new ≡ not_begun mid
+-- and begins anew behind one that is ready
+abbrev pub ending : {S : Type 0} → Result (Unit {0}) WriteFault → Writing S → Drained S
+ending (Ok u) w = answered (Ok u) (not_begun w)
+ending (Err (Transfer e)) w = answered (Err (Transfer e)) (not_begun w)
+ending (Err TimedOut) w = answered (Err TimedOut) w
 
--- or one failed, and it begins anew
-pub record PolledEndFailed {S : Type 0} (k : BusCalls S) (old new : Writing S) (f : WriteFault) : Type 0 where
-  pub mid : Writing S
-  pub came : DrainFault k true 0 (begun_end k old) mid f
-  pub is : new ≡ not_begun mid
+abbrev pub ending_of : {S : Type 0} → Drained S → Drained S
+ending_of d = ending d.answer d.left
 
--- or an end found no memory, and none has begun
+-- a poll of a flush to an end
+abbrev pub poll_flush_end_came : {S : Type 0} → BusCalls S → Writing S → Drained S
+poll_flush_end_came k w = ending_of (drained k true 0 (begun_end k w))
+
+-- a write without memory took its fronts, and accepted nothing
+pub record WriteShort {S : Type 0} (k : BusCalls S) (timeout : ℕ) (old new : Writing S) : Type 0 where
+  pub drained : (write_drained k timeout old).answer ≡ Ok tt
+  pub none : AcceptsNone (write_drained k timeout old).left new
+
+-- why a write failed
+abbrev pub WriteFails : {S : Type 0} → BusCalls S → ℕ → List ℕ → Writing S → Writing S → Fail WriteFault → Type 0
+WriteFails k timeout src old new e = FailedAs (write_came k timeout src old) (WriteShort k timeout old new) new e
+
+-- a flush without memory submitted nothing
+abbrev pub FlushFails : {S : Type 0} → BusCalls S → ℕ → Writing S → Writing S → Fail WriteFault → Type 0
+FlushFails k timeout old new e = FailedAs (flush_came k timeout old) (new ≡ not_begun old) new e
+
+-- an end without memory submitted nothing, or the buffer without the empty transfer
+abbrev pub SubmitEndShort : {S : Type 0} → BusCalls S → Writing S → Writing S → Type 0
+SubmitEndShort k old new = EndShort k old.writer.buffer (not_begun old) new
+
+-- so did a flush to an end
+abbrev pub FlushEndFails : {S : Type 0} → BusCalls S → ℕ → Writing S → Writing S → Fail WriteFault → Type 0
+FlushEndFails k timeout old new e = FailedAs (flush_end_came k timeout old) (SubmitEndShort k old new) new e
+
+-- a poll to an end found no memory for one, where none had begun, and none has begun
 pub record PolledEndShort {S : Type 0} (k : BusCalls S) (old new : Writing S) : Type 0 where
   pub none : old.writer.begun ≡ false
   pub short : EndShort k old.writer.buffer old new
 
--- why a poll to an end answers an error
-abbrev pub IsPollEndError : {S : Type 0} → BusCalls S → Writing S → Writing S → Fail WriteFault → Type 0
-IsPollEndError k old new e = FailsBy e (PolledEndFailed k old new) (PolledEndShort k old new)
+-- why one failed
+abbrev pub PollFlushEndFails : {S : Type 0} → BusCalls S → Writing S → Writing S → Fail WriteFault → Type 0
+PollFlushEndFails k old new e = FailedAs (poll_flush_end_came k old) (PolledEndShort k old new) new e
 
--- or found no front
-abbrev pub EndPending : {S : Type 0} → BusCalls S → Writing S → Writing S → Type 0
-EndPending k old new = DrainMissed k true 0 (begun_end k old) new
+-- a poll does not time out
+abbrev pub IsWrittenInTime : Fail WriteFault → Type 0
+IsWrittenInTime e = FailsBy e (λ f. f ≢ TimedOut) (Unit {0})

@@ -7,7 +7,7 @@ ghost use Rattle.usb_endpoint.specs.Handles.{Stands};
 ghost use Rattle.usb_io.specs.AnyReaders.{reader_of};
 ghost use Rattle.usb_io.specs.Following.{FollowsOn};
 ghost use Rattle.usb_io.specs.Lent.{Filled, PollFilled};
-ghost use Rattle.usb_io.specs.Reads.{reading, bus_calls, GoesAlong, KeepsSettings};
+ghost use Rattle.usb_io.specs.Reads.{reading, GoesAlong, KeepsSettings};
 ghost use Rattle.usb_io.specs.contracts.any_reader.AnyReader.{the_row};
 
 use crate::any_reader::AnyReader;
@@ -23,13 +23,13 @@ impl AnyReader {
     ///
     /// Those of `read`.
     pub fn fill_buf<B: Bus>(&mut self, bus: &mut B) -> Result<&[u8], Fail<ReadFault>>
-        requires stands { Stands (B.state bus.old) (reader_of self.old).endpoint }
+        requires stands { Stands (B.calls.state bus.old) (reader_of self.old).endpoint }
         ensures* lent { sem 𝓛
             (Rests the_row self.entry
-            (λ new. Filled (bus_calls B.state B.submitted B.refused B.turned B.turn_of B.taken)
-            false (reader_of self.old).timeout (reading bus.old (reader_of self.old))
-            (reading bus.new (reader_of new)) result
-            × GoesAlong (B.state bus.old) (B.state bus.new) (reader_of self.old) (reader_of new)
+            (λ new. Filled B.calls false (reader_of self.old).timeout
+            (reading bus.old (reader_of self.old)) (reading bus.new (reader_of new)) result
+            × GoesAlong (B.calls.state bus.old) (B.calls.state bus.new) (reader_of self.old)
+            (reader_of new)
             × KeepsSettings (reader_of self.old) (reader_of new))) }
     {
         match self {
@@ -40,13 +40,13 @@ impl AnyReader {
 
     /// `fill_buf`, which is pending where the front is not there.
     pub fn poll_fill_buf<B: Bus>(&mut self, bus: &mut B) -> Poll<Result<&[u8], Fail<ReadFault>>>
-        requires stands { Stands (B.state bus.old) (reader_of self.old).endpoint }
+        requires stands { Stands (B.calls.state bus.old) (reader_of self.old).endpoint }
         ensures* lent { sem 𝓛
             (Rests the_row self.entry
-            (λ new. PollFilled (bus_calls B.state B.submitted B.refused B.turned B.turn_of B.taken)
-            false (reading bus.old (reader_of self.old))
+            (λ new. PollFilled B.calls false (reading bus.old (reader_of self.old))
             (reading bus.new (reader_of new)) result
-            × GoesAlong (B.state bus.old) (B.state bus.new) (reader_of self.old) (reader_of new)
+            × GoesAlong (B.calls.state bus.old) (B.calls.state bus.new) (reader_of self.old)
+            (reader_of new)
             × KeepsSettings (reader_of self.old) (reader_of new))) }
     {
         match self {
@@ -61,15 +61,15 @@ impl AnyReader {
     ///
     /// Those of `read_until_short`.
     pub fn fill_until_short<B: Bus>(&mut self, bus: &mut B) -> Result<&[u8], Fail<ReadFault>>
-        requires stands { Stands (B.state bus.old) (reader_of self.old).endpoint }
+        requires stands { Stands (B.calls.state bus.old) (reader_of self.old).endpoint }
         ensures* lent { sem 𝓛
             (Rests the_row self.entry
-            (λ new. Filled (bus_calls B.state B.submitted B.refused B.turned B.turn_of B.taken)
-            true (reader_of self.old).timeout (reading bus.old (reader_of self.old))
-            (reading bus.new (reader_of new)) result
-            × GoesAlong (B.state bus.old) (B.state bus.new) (reader_of self.old) (reader_of new)
+            (λ new. Filled B.calls true (reader_of self.old).timeout
+            (reading bus.old (reader_of self.old)) (reading bus.new (reader_of new)) result
+            × GoesAlong (B.calls.state bus.old) (B.calls.state bus.new) (reader_of self.old)
+            (reader_of new)
             × KeepsSettings (reader_of self.old) (reader_of new)
-            × FollowsOn (B.state bus.old) (B.state bus.new) (reader_of self.old)
+            × FollowsOn (B.calls.state bus.old) (B.calls.state bus.new) (reader_of self.old)
             (reader_of new))) }
     {
         match self {
@@ -83,15 +83,15 @@ impl AnyReader {
         &mut self,
         bus: &mut B,
     ) -> Poll<Result<&[u8], Fail<ReadFault>>>
-        requires stands { Stands (B.state bus.old) (reader_of self.old).endpoint }
+        requires stands { Stands (B.calls.state bus.old) (reader_of self.old).endpoint }
         ensures* lent { sem 𝓛
             (Rests the_row self.entry
-            (λ new. PollFilled (bus_calls B.state B.submitted B.refused B.turned B.turn_of B.taken)
-            true (reading bus.old (reader_of self.old))
+            (λ new. PollFilled B.calls true (reading bus.old (reader_of self.old))
             (reading bus.new (reader_of new)) result
-            × GoesAlong (B.state bus.old) (B.state bus.new) (reader_of self.old) (reader_of new)
+            × GoesAlong (B.calls.state bus.old) (B.calls.state bus.new) (reader_of self.old)
+            (reader_of new)
             × KeepsSettings (reader_of self.old) (reader_of new)
-            × FollowsOn (B.state bus.old) (B.state bus.new) (reader_of self.old)
+            × FollowsOn (B.calls.state bus.old) (B.calls.state bus.new) (reader_of self.old)
             (reader_of new))) }
     {
         match self {

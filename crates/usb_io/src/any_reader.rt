@@ -6,7 +6,7 @@ ghost use Rattle.usb_endpoint.specs.Closes.{all_discarded, after_close};
 ghost use Rattle.usb_endpoint.specs.Handles.{Stands, KeepsOthers};
 ghost use Rattle.usb_io.specs.AnyReaders.{reader_of};
 ghost use Rattle.usb_io.specs.Readers.{rounded, fresh_reader, with_read, is_end as is_end_of, without_end};
-ghost use Rattle.usb_io.specs.Reads.{reading, bus_calls, filled_to, FilledShort, GoesAlong};
+ghost use Rattle.usb_io.specs.Reads.{reading, filled_to, FilledShort, GoesAlong};
 
 use crate::reader::EndpointRead;
 use crate::until_short::ExpectedShortPacket;
@@ -68,10 +68,9 @@ impl AnyReader {
 
     /// Closes the endpoint.
     pub fn close<B: Bus>(self, bus: &mut B)
-        requires stands { Stands (B.state bus.old) (reader_of self).endpoint }
-        ensures bus { bus.new ≡ after_close B.discarded B.abandoned B.closed bus.old
-            (reader_of self).endpoint }
-        ensures others { KeepsOthers (B.state bus.old) (B.state bus.new)
+        requires stands { Stands (B.calls.state bus.old) (reader_of self).endpoint }
+        ensures bus { bus.new ≡ after_close B.calls bus.old (reader_of self).endpoint }
+        ensures others { KeepsOthers (B.calls.state bus.old) (B.calls.state bus.new)
             (reader_of self).endpoint.key }
     {
         match self {
@@ -147,17 +146,17 @@ impl AnyReader {
     /// Want of memory. The number is set, and some transfers may be submitted.
     pub fn set_num_transfers<B: Bus>(&mut self, bus: &mut B, n: usize) -> Result<(), NoMemory>
         requires few { n ≤ 64 }
-        requires stands { Stands (B.state bus.old) (reader_of self.old).endpoint }
+        requires stands { Stands (B.calls.state bus.old) (reader_of self.old).endpoint }
         ensures ok { OnOk result
             (reading bus.new (reader_of self.new)
-            ≡ filled_to (bus_calls B.state B.submitted B.refused B.turned B.turn_of B.taken)
+            ≡ filled_to B.calls
             (n - 1) (reading bus.old (record (reader_of self.old) { n = n }))) }
         ensures err { OnErr result
-            (FilledShort (bus_calls B.state B.submitted B.refused B.turned B.turn_of B.taken)
+            (FilledShort B.calls
             (n - 1) (reading bus.old (record (reader_of self.old) { n = n }))
             (reading bus.new (reader_of self.new))) }
-        ensures goes { GoesAlong (B.state bus.old) (B.state bus.new) (reader_of self.old)
-            (reader_of self.new) }
+        ensures goes { GoesAlong (B.calls.state bus.old) (B.calls.state bus.new)
+            (reader_of self.old) (reader_of self.new) }
     {
         match self {
             AnyReader::Bulk(reader) => reader.set_num_transfers(bus, n),
@@ -167,12 +166,12 @@ impl AnyReader {
 
     /// Cancels the pending transfers, and keeps none pending from then on.
     pub fn cancel_all<B: Bus>(&mut self, bus: &mut B)
-        requires stands { Stands (B.state bus.old) (reader_of self.old).endpoint }
+        requires stands { Stands (B.calls.state bus.old) (reader_of self.old).endpoint }
         ensures bus { bus.new
-            ≡ all_discarded B.discarded bus.old (reader_of self.old).endpoint.pending }
+            ≡ all_discarded B.calls.discarded bus.old (reader_of self.old).endpoint.pending }
         ensures reader { reader_of self.new ≡ record (reader_of self.old) { n = 0 } }
-        ensures stands { Stands (B.state bus.new) (reader_of self.new).endpoint }
-        ensures others { KeepsOthers (B.state bus.old) (B.state bus.new)
+        ensures stands { Stands (B.calls.state bus.new) (reader_of self.new).endpoint }
+        ensures others { KeepsOthers (B.calls.state bus.old) (B.calls.state bus.new)
             (reader_of self.old).endpoint.key }
     {
         match self {

@@ -1,12 +1,13 @@
 //! The reads of readers of any type.
 
-ghost use Rattle.std.specs.Prelude.{◌≡◌, true, false, take, IfOk, IfErr, OnErr};
+ghost use Rattle.std.specs.Prelude.{◌≡◌, ◌≤◌, true, false, length, take, drop, Ok, Err, IfOk, IfErr, OnErr};
 ghost use Rattle.usb_endpoint.specs.Handles.{Stands};
 ghost use Rattle.usb_endpoint.specs.Polls.{IfReady, IfPending};
-ghost use Rattle.usb_io.specs.Answers.{ReadTook, ReadFailed, IsReadError, IsInTime};
+ghost use Rattle.usb_io.specs.Answered.{answered};
+ghost use Rattle.usb_io.specs.Answers.{read_came, ReadFails, IsInTime};
 ghost use Rattle.usb_io.specs.AnyReaders.{reader_of};
 ghost use Rattle.usb_io.specs.Following.{FollowsOn, FollowsRead};
-ghost use Rattle.usb_io.specs.Reads.{reading, bus_calls, GoesAlong, KeepsSettings};
+ghost use Rattle.usb_io.specs.Reads.{reading, GoesAlong, KeepsSettings};
 
 use crate::any_reader::AnyReader;
 use crate::fault::ReadFault;
@@ -22,18 +23,19 @@ impl AnyReader {
     /// The error of a transfer, once its bytes are read, at this read and each later one; that the front was not there in time;
     /// want of memory, with some transfers submitted.
     pub fn read<B: Bus>(&mut self, bus: &mut B, dest: &mut [u8]) -> Result<usize, Fail<ReadFault>>
-        requires stands { Stands (B.state bus.old) (reader_of self.old).endpoint }
-        ensures took { IfOk result
-            (λ n. ReadTook (bus_calls B.state B.submitted B.refused B.turned B.turn_of B.taken)
-            false (reader_of self.old).timeout (reading bus.old (reader_of self.old))
-            (reading bus.new (reader_of self.new)) dest.old dest.new n) }
-        ensures failed { IfErr result
-            (IsReadError (bus_calls B.state B.submitted B.refused B.turned B.turn_of B.taken)
-            false (reader_of self.old).timeout (reading bus.old (reader_of self.old))
+        requires stands { Stands (B.calls.state bus.old) (reader_of self.old).endpoint }
+        ensures few { IfOk result (λ n. n ≤ length dest.old) }
+        ensures read { IfOk result
+            (λ n. read_came B.calls false (reader_of self.old).timeout (length dest.old)
+            (reading bus.old (reader_of self.old)) ≡ answered (Ok (take n dest.new))
             (reading bus.new (reader_of self.new))) }
+        ensures behind { IfOk result (λ n. drop n dest.new ≡ drop n dest.old) }
+        ensures failed { IfErr result
+            (ReadFails B.calls false (reader_of self.old).timeout (length dest.old)
+            (reading bus.old (reader_of self.old)) (reading bus.new (reader_of self.new))) }
         ensures kept { OnErr result (dest.new ≡ dest.old) }
-        ensures goes { GoesAlong (B.state bus.old) (B.state bus.new) (reader_of self.old)
-            (reader_of self.new) }
+        ensures goes { GoesAlong (B.calls.state bus.old) (B.calls.state bus.new)
+            (reader_of self.old) (reader_of self.new) }
         ensures settings { KeepsSettings (reader_of self.old) (reader_of self.new) }
     {
         match self {
@@ -52,23 +54,24 @@ impl AnyReader {
         bus: &mut B,
         dest: &mut [u8],
     ) -> Result<usize, Fail<ReadFault>>
-        requires stands { Stands (B.state bus.old) (reader_of self.old).endpoint }
-        ensures took { IfOk result
-            (λ n. ReadTook (bus_calls B.state B.submitted B.refused B.turned B.turn_of B.taken)
-            true (reader_of self.old).timeout (reading bus.old (reader_of self.old))
-            (reading bus.new (reader_of self.new)) dest.old dest.new n) }
-        ensures failed { IfErr result
-            (IsReadError (bus_calls B.state B.submitted B.refused B.turned B.turn_of B.taken)
-            true (reader_of self.old).timeout (reading bus.old (reader_of self.old))
+        requires stands { Stands (B.calls.state bus.old) (reader_of self.old).endpoint }
+        ensures few { IfOk result (λ n. n ≤ length dest.old) }
+        ensures read { IfOk result
+            (λ n. read_came B.calls true (reader_of self.old).timeout (length dest.old)
+            (reading bus.old (reader_of self.old)) ≡ answered (Ok (take n dest.new))
             (reading bus.new (reader_of self.new))) }
+        ensures behind { IfOk result (λ n. drop n dest.new ≡ drop n dest.old) }
+        ensures failed { IfErr result
+            (ReadFails B.calls true (reader_of self.old).timeout (length dest.old)
+            (reading bus.old (reader_of self.old)) (reading bus.new (reader_of self.new))) }
         ensures kept { OnErr result (dest.new ≡ dest.old) }
-        ensures goes { GoesAlong (B.state bus.old) (B.state bus.new) (reader_of self.old)
-            (reader_of self.new) }
+        ensures goes { GoesAlong (B.calls.state bus.old) (B.calls.state bus.new)
+            (reader_of self.old) (reader_of self.new) }
         ensures follows { IfOk result
-            (λ n. FollowsRead (B.state bus.old) (B.state bus.new) (reader_of self.old)
+            (λ n. FollowsRead (B.calls.state bus.old) (B.calls.state bus.new) (reader_of self.old)
             (reader_of self.new) (take n dest.new)) }
         ensures fails { OnErr result
-            (FollowsOn (B.state bus.old) (B.state bus.new) (reader_of self.old)
+            (FollowsOn (B.calls.state bus.old) (B.calls.state bus.new) (reader_of self.old)
             (reader_of self.new)) }
         ensures settings { KeepsSettings (reader_of self.old) (reader_of self.new) }
     {
@@ -84,26 +87,22 @@ impl AnyReader {
         bus: &mut B,
         dest: &mut [u8],
     ) -> Poll<Result<usize, Fail<ReadFault>>>
-        requires stands { Stands (B.state bus.old) (reader_of self.old).endpoint }
-        ensures took { IfReady result
-            (λ r. IfOk r (λ n. ReadTook
-            (bus_calls B.state B.submitted B.refused B.turned B.turn_of B.taken) false 0
-            (reading bus.old (reader_of self.old)) (reading bus.new (reader_of self.new))
-            dest.old dest.new n)) }
-        ensures failed { IfReady result
-            (λ r. IfErr r
-            (IsReadError (bus_calls B.state B.submitted B.refused B.turned B.turn_of B.taken)
-            false 0 (reading bus.old (reader_of self.old))
+        requires stands { Stands (B.calls.state bus.old) (reader_of self.old).endpoint }
+        ensures few { IfReady result (λ r. IfOk r (λ n. n ≤ length dest.old)) }
+        ensures read { IfReady result (λ r. IfOk r (λ n. read_came B.calls false 0 (length dest.old)
+            (reading bus.old (reader_of self.old)) ≡ answered (Ok (take n dest.new))
             (reading bus.new (reader_of self.new)))) }
+        ensures behind { IfReady result (λ r. IfOk r (λ n. drop n dest.new ≡ drop n dest.old)) }
+        ensures failed { IfReady result (λ r. IfErr r (ReadFails B.calls false 0 (length dest.old)
+            (reading bus.old (reader_of self.old)) (reading bus.new (reader_of self.new)))) }
         ensures in_time { IfReady result (λ r. IfErr r IsInTime) }
         ensures kept { IfReady result (λ r. OnErr r (dest.new ≡ dest.old)) }
         ensures untouched { IfPending result (dest.new ≡ dest.old) }
-        ensures pending { IfPending result
-            (ReadFailed (bus_calls B.state B.submitted B.refused B.turned B.turn_of B.taken) false 0
-            (reading bus.old (reader_of self.old)) (reading bus.new (reader_of self.new))
-            ReadFault.TimedOut) }
-        ensures goes { GoesAlong (B.state bus.old) (B.state bus.new) (reader_of self.old)
-            (reader_of self.new) }
+        ensures pending { IfPending result (read_came B.calls false 0 (length dest.old)
+            (reading bus.old (reader_of self.old)) ≡ answered (Err ReadFault.TimedOut)
+            (reading bus.new (reader_of self.new))) }
+        ensures goes { GoesAlong (B.calls.state bus.old) (B.calls.state bus.new)
+            (reader_of self.old) (reader_of self.new) }
         ensures settings { KeepsSettings (reader_of self.old) (reader_of self.new) }
     {
         match self {
@@ -118,35 +117,31 @@ impl AnyReader {
         bus: &mut B,
         dest: &mut [u8],
     ) -> Poll<Result<usize, Fail<ReadFault>>>
-        requires stands { Stands (B.state bus.old) (reader_of self.old).endpoint }
-        ensures took { IfReady result
-            (λ r. IfOk r (λ n. ReadTook
-            (bus_calls B.state B.submitted B.refused B.turned B.turn_of B.taken) true 0
-            (reading bus.old (reader_of self.old)) (reading bus.new (reader_of self.new))
-            dest.old dest.new n)) }
-        ensures failed { IfReady result
-            (λ r. IfErr r
-            (IsReadError (bus_calls B.state B.submitted B.refused B.turned B.turn_of B.taken)
-            true 0 (reading bus.old (reader_of self.old))
+        requires stands { Stands (B.calls.state bus.old) (reader_of self.old).endpoint }
+        ensures few { IfReady result (λ r. IfOk r (λ n. n ≤ length dest.old)) }
+        ensures read { IfReady result (λ r. IfOk r (λ n. read_came B.calls true 0 (length dest.old)
+            (reading bus.old (reader_of self.old)) ≡ answered (Ok (take n dest.new))
             (reading bus.new (reader_of self.new)))) }
+        ensures behind { IfReady result (λ r. IfOk r (λ n. drop n dest.new ≡ drop n dest.old)) }
+        ensures failed { IfReady result (λ r. IfErr r (ReadFails B.calls true 0 (length dest.old)
+            (reading bus.old (reader_of self.old)) (reading bus.new (reader_of self.new)))) }
         ensures in_time { IfReady result (λ r. IfErr r IsInTime) }
         ensures kept { IfReady result (λ r. OnErr r (dest.new ≡ dest.old)) }
         ensures untouched { IfPending result (dest.new ≡ dest.old) }
-        ensures pending { IfPending result
-            (ReadFailed (bus_calls B.state B.submitted B.refused B.turned B.turn_of B.taken) true 0
-            (reading bus.old (reader_of self.old)) (reading bus.new (reader_of self.new))
-            ReadFault.TimedOut) }
-        ensures goes { GoesAlong (B.state bus.old) (B.state bus.new) (reader_of self.old)
-            (reader_of self.new) }
+        ensures pending { IfPending result (read_came B.calls true 0 (length dest.old)
+            (reading bus.old (reader_of self.old)) ≡ answered (Err ReadFault.TimedOut)
+            (reading bus.new (reader_of self.new))) }
+        ensures goes { GoesAlong (B.calls.state bus.old) (B.calls.state bus.new)
+            (reader_of self.old) (reader_of self.new) }
         ensures follows { IfReady result
-            (λ r. IfOk r (λ n. FollowsRead (B.state bus.old) (B.state bus.new) (reader_of self.old)
-            (reader_of self.new) (take n dest.new))) }
+            (λ r. IfOk r (λ n. FollowsRead (B.calls.state bus.old) (B.calls.state bus.new)
+            (reader_of self.old) (reader_of self.new) (take n dest.new))) }
         ensures fails { IfReady result
             (λ r. OnErr r
-            (FollowsOn (B.state bus.old) (B.state bus.new) (reader_of self.old)
+            (FollowsOn (B.calls.state bus.old) (B.calls.state bus.new) (reader_of self.old)
             (reader_of self.new))) }
         ensures waits { IfPending result
-            (FollowsOn (B.state bus.old) (B.state bus.new) (reader_of self.old)
+            (FollowsOn (B.calls.state bus.old) (B.calls.state bus.new) (reader_of self.old)
             (reader_of self.new)) }
         ensures settings { KeepsSettings (reader_of self.old) (reader_of self.new) }
     {

@@ -8,7 +8,7 @@ ghost use Rattle.usb_io.specs.Answers.{answer as answer_of};
 ghost use Rattle.usb_io.specs.Following.{FollowsOn};
 ghost use Rattle.usb_io.specs.Lent.{Filled, StdFilled};
 ghost use Rattle.usb_io.specs.Readers.{with_read};
-ghost use Rattle.usb_io.specs.Reads.{reading, bus_calls, GoesAlong, KeepsSettings, CameTo, TurnedShort};
+ghost use Rattle.usb_io.specs.Reads.{reading, GoesAlong, KeepsSettings, turned, TurnedShort};
 ghost use Rattle.usb_io.specs.Slices.{IfOkBytes};
 ghost use Rattle.usb_io.specs.contracts.read_on.ReadOn.{the_row};
 
@@ -27,19 +27,17 @@ impl<'a, T: BulkOrInterrupt, B: Bus> ReadOn<'a, T, B> {
         ensures same_bus { self.new.bus.ghost_name ≡ self.old.bus.ghost_name }
         ensures until_short { self.new.until_short ≡ self.old.until_short }
         ensures came { IfOk result
-            (λ o. CameTo (bus_calls B.state B.submitted B.refused B.turned B.turn_of B.taken)
-            self.old.until_short self.old.reader.now.timeout
+            (λ o. turned B.calls self.old.until_short self.old.reader.now.timeout
             (reading self.old.bus.now self.old.reader.now)
-            (reading self.new.bus.now self.new.reader.now) o) }
+            ≡ (o, reading self.new.bus.now self.new.reader.now)) }
         ensures err { OnErr result
-            (TurnedShort (bus_calls B.state B.submitted B.refused B.turned B.turn_of B.taken)
-            self.old.until_short self.old.reader.now.timeout
+            (TurnedShort B.calls self.old.until_short self.old.reader.now.timeout
             (reading self.old.bus.now self.old.reader.now)
             (reading self.new.bus.now self.new.reader.now)) }
-        ensures goes { GoesAlong (B.state self.old.bus.now) (B.state self.new.bus.now)
+        ensures goes { GoesAlong (B.calls.state self.old.bus.now) (B.calls.state self.new.bus.now)
             self.old.reader.now self.new.reader.now }
         ensures follows { self.old.until_short ≡ true
-            → FollowsOn (B.state self.old.bus.now) (B.state self.new.bus.now)
+            → FollowsOn (B.calls.state self.old.bus.now) (B.calls.state self.new.bus.now)
             self.old.reader.now self.new.reader.now }
         ensures settings { KeepsSettings self.old.reader.now self.new.reader.now }
     {
@@ -56,22 +54,22 @@ impl<'a, T: BulkOrInterrupt, B: Bus> ReadOn<'a, T, B> {
     }
 
     /// The bytes that stand, after turns where there are none.
+    #[tactic(auto, using(crate::proofs::AnswerLemmas::fill_is))]
     fn fill_some(&mut self) -> Result<&[u8], Fail<ReadFault>>
         ensures* lent { sem 𝓛
             (Rests (the_row (record { mir = named 0; lft = [] }) T.row B.row _ _ _) self.entry
             (λ new. (new.reader.ghost_name ≡ self.old.reader.ghost_name)
             × (new.bus.ghost_name ≡ self.old.bus.ghost_name)
             × (new.until_short ≡ self.old.until_short)
-            × Filled (bus_calls B.state B.submitted B.refused B.turned B.turn_of B.taken)
-            self.old.until_short self.old.reader.now.timeout
+            × Filled B.calls self.old.until_short self.old.reader.now.timeout
             (reading self.old.bus.now self.old.reader.now)
             (reading new.bus.now new.reader.now) result
-            × GoesAlong (B.state self.old.bus.now) (B.state new.bus.now) self.old.reader.now
-            new.reader.now
+            × GoesAlong (B.calls.state self.old.bus.now) (B.calls.state new.bus.now)
+            self.old.reader.now new.reader.now
             × KeepsSettings self.old.reader.now new.reader.now
             × (self.old.until_short ≡ true
-            → FollowsOn (B.state self.old.bus.now) (B.state new.bus.now) self.old.reader.now
-            new.reader.now))) }
+            → FollowsOn (B.calls.state self.old.bus.now) (B.calls.state new.bus.now)
+            self.old.reader.now new.reader.now))) }
     {
         let turned = match self.turn() {
             Ok(turned) => turned,
@@ -90,16 +88,15 @@ impl<'a, T: BulkOrInterrupt, B: Bus> ReadOn<'a, T, B> {
             (λ new. (new.reader.ghost_name ≡ self.old.reader.ghost_name)
             × (new.bus.ghost_name ≡ self.old.bus.ghost_name)
             × (new.until_short ≡ self.old.until_short)
-            × StdFilled (bus_calls B.state B.submitted B.refused B.turned B.turn_of B.taken)
-            self.old.until_short self.old.reader.now.timeout
+            × StdFilled B.calls self.old.until_short self.old.reader.now.timeout
             (reading self.old.bus.now self.old.reader.now)
             (reading new.bus.now new.reader.now) result
-            × GoesAlong (B.state self.old.bus.now) (B.state new.bus.now) self.old.reader.now
-            new.reader.now
+            × GoesAlong (B.calls.state self.old.bus.now) (B.calls.state new.bus.now)
+            self.old.reader.now new.reader.now
             × KeepsSettings self.old.reader.now new.reader.now
             × (self.old.until_short ≡ true
-            → FollowsOn (B.state self.old.bus.now) (B.state new.bus.now) self.old.reader.now
-            new.reader.now))) }
+            → FollowsOn (B.calls.state self.old.bus.now) (B.calls.state new.bus.now)
+            self.old.reader.now new.reader.now))) }
     {
         match self.fill_some() {
             Ok(bytes) => Ok(bytes),
@@ -129,16 +126,15 @@ impl<'a, B: Bus> BufRead for ReadOn<'a, Bulk, B> {
             (λ new. (new.reader.ghost_name ≡ self.old.reader.ghost_name)
             × (new.bus.ghost_name ≡ self.old.bus.ghost_name)
             × (new.until_short ≡ self.old.until_short)
-            × StdFilled (bus_calls B.state B.submitted B.refused B.turned B.turn_of B.taken)
-            self.old.until_short self.old.reader.now.timeout
+            × StdFilled B.calls self.old.until_short self.old.reader.now.timeout
             (reading self.old.bus.now self.old.reader.now)
             (reading new.bus.now new.reader.now) result
-            × GoesAlong (B.state self.old.bus.now) (B.state new.bus.now) self.old.reader.now
-            new.reader.now
+            × GoesAlong (B.calls.state self.old.bus.now) (B.calls.state new.bus.now)
+            self.old.reader.now new.reader.now
             × KeepsSettings self.old.reader.now new.reader.now
             × (self.old.until_short ≡ true
-            → FollowsOn (B.state self.old.bus.now) (B.state new.bus.now) self.old.reader.now
-            new.reader.now))) }
+            → FollowsOn (B.calls.state self.old.bus.now) (B.calls.state new.bus.now)
+            self.old.reader.now new.reader.now))) }
     {
         self.fill_std()
     }
@@ -165,16 +161,15 @@ impl<'a, B: Bus> BufRead for ReadOn<'a, Interrupt, B> {
             (λ new. (new.reader.ghost_name ≡ self.old.reader.ghost_name)
             × (new.bus.ghost_name ≡ self.old.bus.ghost_name)
             × (new.until_short ≡ self.old.until_short)
-            × StdFilled (bus_calls B.state B.submitted B.refused B.turned B.turn_of B.taken)
-            self.old.until_short self.old.reader.now.timeout
+            × StdFilled B.calls self.old.until_short self.old.reader.now.timeout
             (reading self.old.bus.now self.old.reader.now)
             (reading new.bus.now new.reader.now) result
-            × GoesAlong (B.state self.old.bus.now) (B.state new.bus.now) self.old.reader.now
-            new.reader.now
+            × GoesAlong (B.calls.state self.old.bus.now) (B.calls.state new.bus.now)
+            self.old.reader.now new.reader.now
             × KeepsSettings self.old.reader.now new.reader.now
             × (self.old.until_short ≡ true
-            → FollowsOn (B.state self.old.bus.now) (B.state new.bus.now) self.old.reader.now
-            new.reader.now))) }
+            → FollowsOn (B.calls.state self.old.bus.now) (B.calls.state new.bus.now)
+            self.old.reader.now new.reader.now))) }
     {
         self.fill_std()
     }

@@ -6,7 +6,7 @@ ghost use Rattle.std.specs.Io.BufRead.{Rests};
 ghost use Rattle.usb_endpoint.specs.Handles.{Stands};
 ghost use Rattle.usb_io.specs.Following.{FollowsOn};
 ghost use Rattle.usb_io.specs.Lent.{Filled, PollFilled};
-ghost use Rattle.usb_io.specs.Reads.{reading, bus_calls, GoesAlong, KeepsSettings};
+ghost use Rattle.usb_io.specs.Reads.{reading, GoesAlong, KeepsSettings};
 ghost use Rattle.usb_io.specs.contracts.reader.EndpointRead.{the_row};
 
 use crate::fault::ReadFault;
@@ -18,21 +18,22 @@ use usb_xfer::BulkOrInterrupt;
 
 impl<T: BulkOrInterrupt> EndpointRead<T> {
     /// Turns, and lends what stands.
+    #[tactic(auto, using(crate::proofs::AnswerLemmas::fill_is))]
     fn fill_within<B: Bus>(
         &mut self,
         bus: &mut B,
         until_short: bool,
         timeout: u64,
     ) -> Result<&[u8], Fail<ReadFault>>
-        requires stands { Stands (B.state bus.old) self.old.endpoint }
+        requires stands { Stands (B.calls.state bus.old) self.old.endpoint }
         ensures* lent { sem 𝓛
             (Rests (the_row T.row T.EndpointType) self.entry
-            (λ new. Filled (bus_calls B.state B.submitted B.refused B.turned B.turn_of B.taken)
-            until_short timeout (reading bus.old self.old) (reading bus.new new) result
-            × GoesAlong (B.state bus.old) (B.state bus.new) self.old new
+            (λ new. Filled B.calls until_short timeout (reading bus.old self.old)
+            (reading bus.new new) result
+            × GoesAlong (B.calls.state bus.old) (B.calls.state bus.new) self.old new
             × KeepsSettings self.old new
             × (until_short ≡ true
-            → FollowsOn (B.state bus.old) (B.state bus.new) self.old new))) }
+            → FollowsOn (B.calls.state bus.old) (B.calls.state bus.new) self.old new))) }
     {
         let turned = match self.turn(bus, until_short, timeout) {
             Ok(turned) => turned,
@@ -45,21 +46,21 @@ impl<T: BulkOrInterrupt> EndpointRead<T> {
     }
 
     /// A fill that only looks at the front: a wait of no time.
+    #[tactic(auto, using(crate::proofs::AnswerLemmas::fill_is))]
     fn poll_fill_within<B: Bus>(
         &mut self,
         bus: &mut B,
         until_short: bool,
     ) -> Poll<Result<&[u8], Fail<ReadFault>>>
-        requires stands { Stands (B.state bus.old) self.old.endpoint }
+        requires stands { Stands (B.calls.state bus.old) self.old.endpoint }
         ensures* lent { sem 𝓛
             (Rests (the_row T.row T.EndpointType) self.entry
-            (λ new. PollFilled
-            (bus_calls B.state B.submitted B.refused B.turned B.turn_of B.taken) until_short
-            (reading bus.old self.old) (reading bus.new new) result
-            × GoesAlong (B.state bus.old) (B.state bus.new) self.old new
+            (λ new. PollFilled B.calls until_short (reading bus.old self.old) (reading bus.new new)
+            result
+            × GoesAlong (B.calls.state bus.old) (B.calls.state bus.new) self.old new
             × KeepsSettings self.old new
             × (until_short ≡ true
-            → FollowsOn (B.state bus.old) (B.state bus.new) self.old new))) }
+            → FollowsOn (B.calls.state bus.old) (B.calls.state bus.new) self.old new))) }
     {
         let turned = match self.turn(bus, until_short, 0) {
             Ok(turned) => turned,
@@ -78,12 +79,12 @@ impl<T: BulkOrInterrupt> EndpointRead<T> {
     ///
     /// Those of `read`.
     pub fn fill_buf<B: Bus>(&mut self, bus: &mut B) -> Result<&[u8], Fail<ReadFault>>
-        requires stands { Stands (B.state bus.old) self.old.endpoint }
+        requires stands { Stands (B.calls.state bus.old) self.old.endpoint }
         ensures* lent { sem 𝓛
             (Rests (the_row T.row T.EndpointType) self.entry
-            (λ new. Filled (bus_calls B.state B.submitted B.refused B.turned B.turn_of B.taken)
-            false self.old.timeout (reading bus.old self.old) (reading bus.new new) result
-            × GoesAlong (B.state bus.old) (B.state bus.new) self.old new
+            (λ new. Filled B.calls false self.old.timeout (reading bus.old self.old)
+            (reading bus.new new) result
+            × GoesAlong (B.calls.state bus.old) (B.calls.state bus.new) self.old new
             × KeepsSettings self.old new)) }
     {
         let timeout = self.timeout;
@@ -92,13 +93,11 @@ impl<T: BulkOrInterrupt> EndpointRead<T> {
 
     /// `fill_buf`, which is pending where the front is not there.
     pub fn poll_fill_buf<B: Bus>(&mut self, bus: &mut B) -> Poll<Result<&[u8], Fail<ReadFault>>>
-        requires stands { Stands (B.state bus.old) self.old.endpoint }
+        requires stands { Stands (B.calls.state bus.old) self.old.endpoint }
         ensures* lent { sem 𝓛
             (Rests (the_row T.row T.EndpointType) self.entry
-            (λ new. PollFilled
-            (bus_calls B.state B.submitted B.refused B.turned B.turn_of B.taken) false
-            (reading bus.old self.old) (reading bus.new new) result
-            × GoesAlong (B.state bus.old) (B.state bus.new) self.old new
+            (λ new. PollFilled B.calls false (reading bus.old self.old) (reading bus.new new) result
+            × GoesAlong (B.calls.state bus.old) (B.calls.state bus.new) self.old new
             × KeepsSettings self.old new)) }
     {
         self.poll_fill_within(bus, false)
@@ -106,14 +105,14 @@ impl<T: BulkOrInterrupt> EndpointRead<T> {
 
     /// `fill_buf`, which stops at an end.
     pub(crate) fn fill_until_short<B: Bus>(&mut self, bus: &mut B) -> Result<&[u8], Fail<ReadFault>>
-        requires stands { Stands (B.state bus.old) self.old.endpoint }
+        requires stands { Stands (B.calls.state bus.old) self.old.endpoint }
         ensures* lent { sem 𝓛
             (Rests (the_row T.row T.EndpointType) self.entry
-            (λ new. Filled (bus_calls B.state B.submitted B.refused B.turned B.turn_of B.taken)
-            true self.old.timeout (reading bus.old self.old) (reading bus.new new) result
-            × GoesAlong (B.state bus.old) (B.state bus.new) self.old new
+            (λ new. Filled B.calls true self.old.timeout (reading bus.old self.old)
+            (reading bus.new new) result
+            × GoesAlong (B.calls.state bus.old) (B.calls.state bus.new) self.old new
             × KeepsSettings self.old new
-            × FollowsOn (B.state bus.old) (B.state bus.new) self.old new)) }
+            × FollowsOn (B.calls.state bus.old) (B.calls.state bus.new) self.old new)) }
     {
         let timeout = self.timeout;
         self.fill_within(bus, true, timeout)
@@ -124,15 +123,13 @@ impl<T: BulkOrInterrupt> EndpointRead<T> {
         &mut self,
         bus: &mut B,
     ) -> Poll<Result<&[u8], Fail<ReadFault>>>
-        requires stands { Stands (B.state bus.old) self.old.endpoint }
+        requires stands { Stands (B.calls.state bus.old) self.old.endpoint }
         ensures* lent { sem 𝓛
             (Rests (the_row T.row T.EndpointType) self.entry
-            (λ new. PollFilled
-            (bus_calls B.state B.submitted B.refused B.turned B.turn_of B.taken) true
-            (reading bus.old self.old) (reading bus.new new) result
-            × GoesAlong (B.state bus.old) (B.state bus.new) self.old new
+            (λ new. PollFilled B.calls true (reading bus.old self.old) (reading bus.new new) result
+            × GoesAlong (B.calls.state bus.old) (B.calls.state bus.new) self.old new
             × KeepsSettings self.old new
-            × FollowsOn (B.state bus.old) (B.state bus.new) self.old new)) }
+            × FollowsOn (B.calls.state bus.old) (B.calls.state bus.new) self.old new)) }
     {
         self.poll_fill_within(bus, true)
     }

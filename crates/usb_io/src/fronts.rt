@@ -1,9 +1,9 @@
 //! How a writer takes the fronts of its queue.
 
-ghost use Rattle.std.specs.Prelude.{◌≡◌, ◌<◌, [], true, length, OnOk, IfErr};
+ghost use Rattle.std.specs.Prelude.{◌≡◌, ◌<◌, [], true, false, length, OnOk};
 ghost use Rattle.usb_endpoint.specs.Handles.{Stands, KeepsOthers};
-ghost use Rattle.usb_io.specs.Reads.{bus_calls};
-ghost use Rattle.usb_io.specs.Fronts.{CameOne, waits_on, DrainedAll, DrainFault};
+ghost use Rattle.usb_io.specs.Answered.{answered};
+ghost use Rattle.usb_io.specs.Fronts.{taken_once, waits_on, drained};
 ghost use Rattle.usb_io.specs.Writers.{writing, with_taken, KeepsWriter};
 ghost use Rattle.usb_io.specs.Carried.{TellsOn};
 
@@ -41,15 +41,17 @@ impl<T: BulkOrInterrupt> EndpointWrite<T> {
     /// Waits for the front and takes it.
     fn take<B: Bus>(&mut self, bus: &mut B, timeout: u64) -> Taken
         requires some { 0 < length self.old.endpoint.pending }
-        requires stands { Stands (B.state bus.old) self.old.endpoint }
-        ensures came { CameOne (bus_calls B.state B.submitted B.refused B.turned B.turn_of B.taken)
-            timeout (writing bus.old self.old) (writing bus.new self.new) result }
+        requires stands { Stands (B.calls.state bus.old) self.old.endpoint }
+        ensures came { taken_once B.calls timeout (writing bus.old self.old)
+            ≡ (result, writing bus.new self.new) }
         ensures rest { self.new.endpoint
             ≡ record self.old.endpoint { pending = self.new.endpoint.pending } }
-        ensures tells { TellsOn (B.state bus.old) (B.state bus.new) self.old self.new [] }
+        ensures tells { TellsOn (B.calls.state bus.old) (B.calls.state bus.new)
+            self.old self.new [] }
         ensures settings { KeepsWriter self.old self.new }
-        ensures stands { Stands (B.state bus.new) self.new.endpoint }
-        ensures others { KeepsOthers (B.state bus.old) (B.state bus.new) self.old.endpoint.key }
+        ensures stands { Stands (B.calls.state bus.new) self.new.endpoint }
+        ensures others { KeepsOthers (B.calls.state bus.old) (B.calls.state bus.new)
+            self.old.endpoint.key }
     {
         match self.endpoint.wait_next_complete(bus, timeout) {
             Some(completion) => {
@@ -80,18 +82,17 @@ impl<T: BulkOrInterrupt> EndpointWrite<T> {
         flushing: bool,
         timeout: u64,
     ) -> Result<(), WriteFault>
-        requires stands { Stands (B.state bus.old) self.old.endpoint }
-        ensures all { OnOk result
-            (DrainedAll (bus_calls B.state B.submitted B.refused B.turned B.turn_of B.taken)
-            flushing timeout (writing bus.old self.old) (writing bus.new self.new)) }
-        ensures failed { IfErr result
-            (DrainFault (bus_calls B.state B.submitted B.refused B.turned B.turn_of B.taken)
-            flushing timeout (writing bus.old self.old) (writing bus.new self.new)) }
-        ensures tells { TellsOn (B.state bus.old) (B.state bus.new) self.old self.new [] }
+        requires stands { Stands (B.calls.state bus.old) self.old.endpoint }
+        ensures drained { drained B.calls flushing timeout (writing bus.old self.old)
+            ≡ answered result (writing bus.new self.new) }
+        ensures done { OnOk result (waits_on flushing self.new ≡ false) }
+        ensures tells { TellsOn (B.calls.state bus.old) (B.calls.state bus.new)
+            self.old self.new [] }
         ensures key { self.new.endpoint.key ≡ self.old.endpoint.key }
         ensures settings { KeepsWriter self.old self.new }
-        ensures stands { Stands (B.state bus.new) self.new.endpoint }
-        ensures others { KeepsOthers (B.state bus.old) (B.state bus.new) self.old.endpoint.key }
+        ensures stands { Stands (B.calls.state bus.new) self.new.endpoint }
+        ensures others { KeepsOthers (B.calls.state bus.old) (B.calls.state bus.new)
+            self.old.endpoint.key }
     {
         'fronts: while self.goes(flushing) {
             match self.take(bus, timeout) {

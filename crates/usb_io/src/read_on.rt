@@ -21,16 +21,17 @@ pub struct ReadOn<'a, T: BulkOrInterrupt, B: Bus> {
     pub bus: &'a mut B,
     /// Whether reads stop at short packets.
     pub until_short: bool,
-    ghost key_is_open: { (B.state bus.now).keys reader.now.endpoint.key ≡ true },
-    ghost held: { IsHeld (B.state bus.now) reader.now.endpoint } by { IsHeld-prop (B.state bus.now) reader.now.endpoint },
+    ghost key_is_open: { (B.calls.state bus.now).keys reader.now.endpoint.key ≡ true },
+    ghost held: { IsHeld (B.calls.state bus.now) reader.now.endpoint } by { IsHeld-prop (B.calls.state bus.now) reader.now.endpoint },
 }
 
 impl<'a, T: BulkOrInterrupt, B: Bus> ReadOn<'a, T, B> {
-    ghost use Rattle.std.specs.Prelude.{◌≡◌, IfOk, IfErr, OnErr, take, true};
+    ghost use Rattle.std.specs.Prelude.{◌≡◌, ◌≤◌, Ok, IfOk, IfErr, OnErr, length, take, drop, true};
     ghost use Rattle.std.specs.Io.{ReadsAtMost};
-    ghost use Rattle.usb_io.specs.Answers.{ReadTook, IsReadError};
+    ghost use Rattle.usb_io.specs.Answered.{answered};
+    ghost use Rattle.usb_io.specs.Answers.{read_came, ReadFails};
     ghost use Rattle.usb_io.specs.Following.{FollowsOn, FollowsRead};
-    ghost use Rattle.usb_io.specs.Reads.{reading, bus_calls, GoesAlong, KeepsSettings};
+    ghost use Rattle.usb_io.specs.Reads.{reading, GoesAlong, KeepsSettings};
     ghost use Rattle.usb_io.specs.StdErrors.{IsStdError};
 
     /// Reads up to as many bytes as fit.
@@ -38,26 +39,27 @@ impl<'a, T: BulkOrInterrupt, B: Bus> ReadOn<'a, T, B> {
         ensures same_reader { self.new.reader.ghost_name ≡ self.old.reader.ghost_name }
         ensures same_bus { self.new.bus.ghost_name ≡ self.old.bus.ghost_name }
         ensures until_short { self.new.until_short ≡ self.old.until_short }
-        ensures took { IfOk result
-            (λ n. ReadTook (bus_calls B.state B.submitted B.refused B.turned B.turn_of B.taken)
-            self.old.until_short self.old.reader.now.timeout
-            (reading self.old.bus.now self.old.reader.now)
-            (reading self.new.bus.now self.new.reader.now) dest.old dest.new n) }
+        ensures few { IfOk result (λ n. n ≤ length dest.old) }
+        ensures read { IfOk result
+            (λ n. read_came B.calls self.old.until_short self.old.reader.now.timeout (length
+            dest.old)
+            (reading self.old.bus.now self.old.reader.now) ≡ answered (Ok (take n dest.new))
+            (reading self.new.bus.now self.new.reader.now)) }
+        ensures behind { IfOk result (λ n. drop n dest.new ≡ drop n dest.old) }
         ensures failed { IfErr result
-            (IsReadError (bus_calls B.state B.submitted B.refused B.turned B.turn_of B.taken)
-            self.old.until_short self.old.reader.now.timeout
+            (ReadFails B.calls self.old.until_short self.old.reader.now.timeout (length dest.old)
             (reading self.old.bus.now self.old.reader.now)
             (reading self.new.bus.now self.new.reader.now)) }
         ensures kept { OnErr result (dest.new ≡ dest.old) }
-        ensures goes { GoesAlong (B.state self.old.bus.now) (B.state self.new.bus.now)
+        ensures goes { GoesAlong (B.calls.state self.old.bus.now) (B.calls.state self.new.bus.now)
             self.old.reader.now self.new.reader.now }
         ensures follows { self.old.until_short ≡ true
             → IfOk result
-            (λ n. FollowsRead (B.state self.old.bus.now) (B.state self.new.bus.now)
+            (λ n. FollowsRead (B.calls.state self.old.bus.now) (B.calls.state self.new.bus.now)
             self.old.reader.now self.new.reader.now (take n dest.new)) }
         ensures fails { self.old.until_short ≡ true
             → OnErr result
-            (FollowsOn (B.state self.old.bus.now) (B.state self.new.bus.now)
+            (FollowsOn (B.calls.state self.old.bus.now) (B.calls.state self.new.bus.now)
             self.old.reader.now self.new.reader.now) }
         ensures settings { KeepsSettings self.old.reader.now self.new.reader.now }
     {
@@ -72,26 +74,27 @@ impl<'a, T: BulkOrInterrupt, B: Bus> ReadOn<'a, T, B> {
         ensures same_reader { self.new.reader.ghost_name ≡ self.old.reader.ghost_name }
         ensures same_bus { self.new.bus.ghost_name ≡ self.old.bus.ghost_name }
         ensures until_short { self.new.until_short ≡ self.old.until_short }
-        ensures took { IfOk result
-            (λ n. ReadTook (bus_calls B.state B.submitted B.refused B.turned B.turn_of B.taken)
-            self.old.until_short self.old.reader.now.timeout
-            (reading self.old.bus.now self.old.reader.now)
-            (reading self.new.bus.now self.new.reader.now) dest.old dest.new n) }
+        ensures few { IfOk result (λ n. n ≤ length dest.old) }
+        ensures read { IfOk result
+            (λ n. read_came B.calls self.old.until_short self.old.reader.now.timeout (length
+            dest.old)
+            (reading self.old.bus.now self.old.reader.now) ≡ answered (Ok (take n dest.new))
+            (reading self.new.bus.now self.new.reader.now)) }
+        ensures behind { IfOk result (λ n. drop n dest.new ≡ drop n dest.old) }
         ensures failed { IfErr result
-            (IsStdError (bus_calls B.state B.submitted B.refused B.turned B.turn_of B.taken)
-            self.old.until_short self.old.reader.now.timeout
+            (IsStdError B.calls self.old.until_short self.old.reader.now.timeout
             (reading self.old.bus.now self.old.reader.now)
             (reading self.new.bus.now self.new.reader.now)) }
         ensures kept { OnErr result (dest.new ≡ dest.old) }
-        ensures goes { GoesAlong (B.state self.old.bus.now) (B.state self.new.bus.now)
+        ensures goes { GoesAlong (B.calls.state self.old.bus.now) (B.calls.state self.new.bus.now)
             self.old.reader.now self.new.reader.now }
         ensures follows { self.old.until_short ≡ true
             → IfOk result
-            (λ n. FollowsRead (B.state self.old.bus.now) (B.state self.new.bus.now)
+            (λ n. FollowsRead (B.calls.state self.old.bus.now) (B.calls.state self.new.bus.now)
             self.old.reader.now self.new.reader.now (take n dest.new)) }
         ensures fails { self.old.until_short ≡ true
             → OnErr result
-            (FollowsOn (B.state self.old.bus.now) (B.state self.new.bus.now)
+            (FollowsOn (B.calls.state self.old.bus.now) (B.calls.state self.new.bus.now)
             self.old.reader.now self.new.reader.now) }
         ensures settings { KeepsSettings self.old.reader.now self.new.reader.now }
     {
@@ -141,12 +144,13 @@ pub(crate) fn std_error(fail: Fail<ReadFault>) -> io::Error
 }
 
 impl<'a, B: Bus> Read for ReadOn<'a, Bulk, B> {
-    ghost use Rattle.std.specs.Prelude.{◌≡◌, IfOk, IfErr, OnErr, None, take, true};
+    ghost use Rattle.std.specs.Prelude.{◌≡◌, ◌≤◌, Ok, IfOk, IfErr, OnErr, None, length, take, drop, true};
     ghost use Rattle.std.specs.Io.{ReadsAtMost};
     ghost use Rattle.std.specs.Io.KnownBytes.{ReadConsumes};
-    ghost use Rattle.usb_io.specs.Answers.{ReadTook};
+    ghost use Rattle.usb_io.specs.Answered.{answered};
+    ghost use Rattle.usb_io.specs.Answers.{read_came};
     ghost use Rattle.usb_io.specs.Following.{FollowsOn, FollowsRead};
-    ghost use Rattle.usb_io.specs.Reads.{reading, bus_calls, GoesAlong, KeepsSettings};
+    ghost use Rattle.usb_io.specs.Reads.{reading, GoesAlong, KeepsSettings};
     ghost use Rattle.usb_io.specs.StdErrors.{IsStdError};
 
     fn read(&mut self, buf: &mut [u8]) -> io::Result<usize>
@@ -155,26 +159,26 @@ impl<'a, B: Bus> Read for ReadOn<'a, Bulk, B> {
         ensures same_reader { self.new.reader.ghost_name ≡ self.old.reader.ghost_name }
         ensures same_bus { self.new.bus.ghost_name ≡ self.old.bus.ghost_name }
         ensures until_short { self.new.until_short ≡ self.old.until_short }
-        ensures took { IfOk result
-            (λ n. ReadTook (bus_calls B.state B.submitted B.refused B.turned B.turn_of B.taken)
-            self.old.until_short self.old.reader.now.timeout
-            (reading self.old.bus.now self.old.reader.now)
-            (reading self.new.bus.now self.new.reader.now) buf.old buf.new n) }
+        ensures few { IfOk result (λ n. n ≤ length buf.old) }
+        ensures read { IfOk result
+            (λ n. read_came B.calls self.old.until_short self.old.reader.now.timeout (length
+            buf.old) (reading self.old.bus.now self.old.reader.now) ≡ answered (Ok (take n buf.new))
+            (reading self.new.bus.now self.new.reader.now)) }
+        ensures behind { IfOk result (λ n. drop n buf.new ≡ drop n buf.old) }
         ensures failed { IfErr result
-            (IsStdError (bus_calls B.state B.submitted B.refused B.turned B.turn_of B.taken)
-            self.old.until_short self.old.reader.now.timeout
+            (IsStdError B.calls self.old.until_short self.old.reader.now.timeout
             (reading self.old.bus.now self.old.reader.now)
             (reading self.new.bus.now self.new.reader.now)) }
         ensures kept { OnErr result (buf.new ≡ buf.old) }
-        ensures goes { GoesAlong (B.state self.old.bus.now) (B.state self.new.bus.now)
+        ensures goes { GoesAlong (B.calls.state self.old.bus.now) (B.calls.state self.new.bus.now)
             self.old.reader.now self.new.reader.now }
         ensures follows { self.old.until_short ≡ true
             → IfOk result
-            (λ n. FollowsRead (B.state self.old.bus.now) (B.state self.new.bus.now)
+            (λ n. FollowsRead (B.calls.state self.old.bus.now) (B.calls.state self.new.bus.now)
             self.old.reader.now self.new.reader.now (take n buf.new)) }
         ensures fails { self.old.until_short ≡ true
             → OnErr result
-            (FollowsOn (B.state self.old.bus.now) (B.state self.new.bus.now)
+            (FollowsOn (B.calls.state self.old.bus.now) (B.calls.state self.new.bus.now)
             self.old.reader.now self.new.reader.now) }
         ensures settings { KeepsSettings self.old.reader.now self.new.reader.now }
     {
@@ -183,12 +187,13 @@ impl<'a, B: Bus> Read for ReadOn<'a, Bulk, B> {
 }
 
 impl<'a, B: Bus> Read for ReadOn<'a, Interrupt, B> {
-    ghost use Rattle.std.specs.Prelude.{◌≡◌, IfOk, IfErr, OnErr, None, take, true};
+    ghost use Rattle.std.specs.Prelude.{◌≡◌, ◌≤◌, Ok, IfOk, IfErr, OnErr, None, length, take, drop, true};
     ghost use Rattle.std.specs.Io.{ReadsAtMost};
     ghost use Rattle.std.specs.Io.KnownBytes.{ReadConsumes};
-    ghost use Rattle.usb_io.specs.Answers.{ReadTook};
+    ghost use Rattle.usb_io.specs.Answered.{answered};
+    ghost use Rattle.usb_io.specs.Answers.{read_came};
     ghost use Rattle.usb_io.specs.Following.{FollowsOn, FollowsRead};
-    ghost use Rattle.usb_io.specs.Reads.{reading, bus_calls, GoesAlong, KeepsSettings};
+    ghost use Rattle.usb_io.specs.Reads.{reading, GoesAlong, KeepsSettings};
     ghost use Rattle.usb_io.specs.StdErrors.{IsStdError};
 
     fn read(&mut self, buf: &mut [u8]) -> io::Result<usize>
@@ -197,26 +202,26 @@ impl<'a, B: Bus> Read for ReadOn<'a, Interrupt, B> {
         ensures same_reader { self.new.reader.ghost_name ≡ self.old.reader.ghost_name }
         ensures same_bus { self.new.bus.ghost_name ≡ self.old.bus.ghost_name }
         ensures until_short { self.new.until_short ≡ self.old.until_short }
-        ensures took { IfOk result
-            (λ n. ReadTook (bus_calls B.state B.submitted B.refused B.turned B.turn_of B.taken)
-            self.old.until_short self.old.reader.now.timeout
-            (reading self.old.bus.now self.old.reader.now)
-            (reading self.new.bus.now self.new.reader.now) buf.old buf.new n) }
+        ensures few { IfOk result (λ n. n ≤ length buf.old) }
+        ensures read { IfOk result
+            (λ n. read_came B.calls self.old.until_short self.old.reader.now.timeout (length
+            buf.old) (reading self.old.bus.now self.old.reader.now) ≡ answered (Ok (take n buf.new))
+            (reading self.new.bus.now self.new.reader.now)) }
+        ensures behind { IfOk result (λ n. drop n buf.new ≡ drop n buf.old) }
         ensures failed { IfErr result
-            (IsStdError (bus_calls B.state B.submitted B.refused B.turned B.turn_of B.taken)
-            self.old.until_short self.old.reader.now.timeout
+            (IsStdError B.calls self.old.until_short self.old.reader.now.timeout
             (reading self.old.bus.now self.old.reader.now)
             (reading self.new.bus.now self.new.reader.now)) }
         ensures kept { OnErr result (buf.new ≡ buf.old) }
-        ensures goes { GoesAlong (B.state self.old.bus.now) (B.state self.new.bus.now)
+        ensures goes { GoesAlong (B.calls.state self.old.bus.now) (B.calls.state self.new.bus.now)
             self.old.reader.now self.new.reader.now }
         ensures follows { self.old.until_short ≡ true
             → IfOk result
-            (λ n. FollowsRead (B.state self.old.bus.now) (B.state self.new.bus.now)
+            (λ n. FollowsRead (B.calls.state self.old.bus.now) (B.calls.state self.new.bus.now)
             self.old.reader.now self.new.reader.now (take n buf.new)) }
         ensures fails { self.old.until_short ≡ true
             → OnErr result
-            (FollowsOn (B.state self.old.bus.now) (B.state self.new.bus.now)
+            (FollowsOn (B.calls.state self.old.bus.now) (B.calls.state self.new.bus.now)
             self.old.reader.now self.new.reader.now) }
         ensures settings { KeepsSettings self.old.reader.now self.new.reader.now }
     {
@@ -230,7 +235,7 @@ impl<T: BulkOrInterrupt> EndpointRead<T> {
 
     /// The reader on this bus, for std's traits.
     pub fn on<'a, B: Bus>(&'a mut self, bus: &'a mut B) -> ReadOn<'a, T, B>
-        requires stands { Stands (B.state bus.old) self.old.endpoint }
+        requires stands { Stands (B.calls.state bus.old) self.old.endpoint }
         ensures reader { (result.reader.ghost_name ≡ self.entry.ghost_name)
             × (result.reader.now ≡ self.old) }
         ensures bus { (result.bus.ghost_name ≡ bus.entry.ghost_name)
@@ -246,7 +251,7 @@ impl<T: BulkOrInterrupt> EndpointRead<T> {
 
     /// The reader on this bus, for reads by std's traits that stop at short packets.
     pub fn until_short_packet_on<'a, B: Bus>(&'a mut self, bus: &'a mut B) -> ReadOn<'a, T, B>
-        requires stands { Stands (B.state bus.old) self.old.endpoint }
+        requires stands { Stands (B.calls.state bus.old) self.old.endpoint }
         ensures reader { (result.reader.ghost_name ≡ self.entry.ghost_name)
             × (result.reader.now ≡ self.old) }
         ensures bus { (result.bus.ghost_name ≡ bus.entry.ghost_name)

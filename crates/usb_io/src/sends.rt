@@ -3,9 +3,8 @@
 ghost use Rattle.std.specs.Prelude.{◌≡◌, ◌+◌, ◌<◌, ◌≤◌, ◌∷◌, [], false, length, None, IfErr, OnOk, OnErr};
 ghost use Rattle.usb_endpoint.specs.Handles.{Stands, KeepsOthers};
 ghost use Rattle.usb_kernel.specs.WholePackets.{is_whole};
-ghost use Rattle.usb_io.specs.Reads.{bus_calls};
 ghost use Rattle.usb_io.specs.Writers.{writing, not_begun, empty_buffer, send, sent, sent_end, end_need, EndShort, KeepsWriter};
-ghost use Rattle.usb_io.specs.WriteAnswers.{begun_end};
+ghost use Rattle.usb_io.specs.WriteAnswers.{begun_end, submit_came, submit_end_came, SubmitEndShort};
 ghost use Rattle.usb_io.specs.Carried.{CarriesOn, sent_bytes, ended_bytes, begun_calls, TellsOn, TellsShort};
 ghost use Rattle.usb_io.specs.Writes.{Flush, Finish};
 
@@ -23,39 +22,37 @@ impl<T: BulkOrInterrupt> EndpointWrite<T> {
     pub(crate) fn send<B: Bus>(&mut self, bus: &mut B, buffer: Buffer) -> Result<(), Buffer>
         requires none { self.old.buffer ≡ None }
         requires few { length self.old.endpoint.pending < 64 }
-        requires stands { Stands (B.state bus.old) self.old.endpoint }
+        requires stands { Stands (B.calls.state bus.old) self.old.endpoint }
         ensures ok { OnOk result
-            (writing bus.new self.new
-            ≡ send (bus_calls B.state B.submitted B.refused B.turned B.turn_of B.taken) buffer
-            (writing bus.old self.old)) }
+            (writing bus.new self.new ≡ send B.calls buffer (writing bus.old self.old)) }
         ensures carries { OnOk result
-            (CarriesOn (B.state bus.old) (B.state bus.new) self.old.endpoint self.new.endpoint
-            (buffer.bytes ∷ [])) }
+            (CarriesOn (B.calls.state bus.old) (B.calls.state bus.new) self.old.endpoint
+            self.new.endpoint (buffer.bytes ∷ [])) }
         ensures err { OnErr result (writing bus.new self.new ≡ writing bus.old self.old) }
         ensures back { IfErr result (λ back. back ≡ buffer) }
         ensures key { self.new.endpoint.key ≡ self.old.endpoint.key }
         ensures settings { KeepsWriter self.old self.new }
-        ensures stands { Stands (B.state bus.new) self.new.endpoint }
-        ensures others { KeepsOthers (B.state bus.old) (B.state bus.new) self.old.endpoint.key }
+        ensures stands { Stands (B.calls.state bus.new) self.new.endpoint }
+        ensures others { KeepsOthers (B.calls.state bus.old) (B.calls.state bus.new)
+            self.old.endpoint.key }
     {
         self.endpoint.submit(bus, buffer)
     }
 
     /// Submits the buffer that stands, where it is not empty. Without memory nothing has changed.
     fn send_buffer<B: Bus>(&mut self, bus: &mut B) -> Result<(), NoMemory>
-        requires stands { Stands (B.state bus.old) self.old.endpoint }
+        requires stands { Stands (B.calls.state bus.old) self.old.endpoint }
         ensures ok { OnOk result
-            (writing bus.new self.new
-            ≡ sent (bus_calls B.state B.submitted B.refused B.turned B.turn_of B.taken)
-            self.old.buffer (writing bus.old self.old)) }
+            (writing bus.new self.new ≡ sent B.calls self.old.buffer (writing bus.old self.old)) }
         ensures carries { OnOk result
-            (CarriesOn (B.state bus.old) (B.state bus.new) self.old.endpoint self.new.endpoint
-            (sent_bytes self.old.buffer)) }
+            (CarriesOn (B.calls.state bus.old) (B.calls.state bus.new) self.old.endpoint
+            self.new.endpoint (sent_bytes self.old.buffer)) }
         ensures err { OnErr result (writing bus.new self.new ≡ writing bus.old self.old) }
         ensures key { self.new.endpoint.key ≡ self.old.endpoint.key }
         ensures settings { KeepsWriter self.old self.new }
-        ensures stands { Stands (B.state bus.new) self.new.endpoint }
-        ensures others { KeepsOthers (B.state bus.old) (B.state bus.new) self.old.endpoint.key }
+        ensures stands { Stands (B.calls.state bus.new) self.new.endpoint }
+        ensures others { KeepsOthers (B.calls.state bus.old) (B.calls.state bus.new)
+            self.old.endpoint.key }
     {
         match self.buffer.take() {
             None => Ok(()),
@@ -77,18 +74,17 @@ impl<T: BulkOrInterrupt> EndpointWrite<T> {
     fn send_empty<B: Bus>(&mut self, bus: &mut B) -> Result<(), NoMemory>
         requires none { self.old.buffer ≡ None }
         requires few { length self.old.endpoint.pending < 64 }
-        requires stands { Stands (B.state bus.old) self.old.endpoint }
+        requires stands { Stands (B.calls.state bus.old) self.old.endpoint }
         ensures ok { OnOk result
-            (writing bus.new self.new
-            ≡ send (bus_calls B.state B.submitted B.refused B.turned B.turn_of B.taken)
-            empty_buffer (writing bus.old self.old)) }
+            (writing bus.new self.new ≡ send B.calls empty_buffer (writing bus.old self.old)) }
         ensures carries { OnOk result
-            (CarriesOn (B.state bus.old) (B.state bus.new) self.old.endpoint self.new.endpoint
-            ([] ∷ [])) }
+            (CarriesOn (B.calls.state bus.old) (B.calls.state bus.new) self.old.endpoint
+            self.new.endpoint ([] ∷ [])) }
         ensures err { OnErr result (writing bus.new self.new ≡ writing bus.old self.old) }
         ensures settings { KeepsWriter self.old self.new }
-        ensures stands { Stands (B.state bus.new) self.new.endpoint }
-        ensures others { KeepsOthers (B.state bus.old) (B.state bus.new) self.old.endpoint.key }
+        ensures stands { Stands (B.calls.state bus.new) self.new.endpoint }
+        ensures others { KeepsOthers (B.calls.state bus.old) (B.calls.state bus.new)
+            self.old.endpoint.key }
     {
         let buffer = self.endpoint.allocate(0)?;
         match self.send(bus, buffer) {
@@ -119,23 +115,23 @@ impl<T: BulkOrInterrupt> EndpointWrite<T> {
     fn send_end<B: Bus>(&mut self, bus: &mut B) -> Result<(), NoMemory>
         requires few { length self.old.endpoint.pending
             + end_need self.old.endpoint.maximum self.old.buffer ≤ 64 }
-        requires stands { Stands (B.state bus.old) self.old.endpoint }
+        requires stands { Stands (B.calls.state bus.old) self.old.endpoint }
         ensures ok { OnOk result
             (writing bus.new self.new
-            ≡ sent_end (bus_calls B.state B.submitted B.refused B.turned B.turn_of B.taken)
-            self.old.buffer (writing bus.old self.old)) }
+            ≡ sent_end B.calls self.old.buffer (writing bus.old self.old)) }
         ensures carries { OnOk result
-            (CarriesOn (B.state bus.old) (B.state bus.new) self.old.endpoint self.new.endpoint
-            (ended_bytes self.old.endpoint.maximum self.old.buffer)) }
+            (CarriesOn (B.calls.state bus.old) (B.calls.state bus.new) self.old.endpoint
+            self.new.endpoint (ended_bytes self.old.endpoint.maximum self.old.buffer)) }
         ensures err { OnErr result
-            (EndShort (bus_calls B.state B.submitted B.refused B.turned B.turn_of B.taken)
-            self.old.buffer (writing bus.old self.old) (writing bus.new self.new)) }
+            (EndShort B.calls self.old.buffer (writing bus.old self.old)
+            (writing bus.new self.new)) }
         ensures short { OnErr result
-            (TellsShort (B.state bus.old) (B.state bus.new) self.old self.new) }
+            (TellsShort (B.calls.state bus.old) (B.calls.state bus.new) self.old self.new) }
         ensures key { self.new.endpoint.key ≡ self.old.endpoint.key }
         ensures settings { KeepsWriter self.old self.new }
-        ensures stands { Stands (B.state bus.new) self.new.endpoint }
-        ensures others { KeepsOthers (B.state bus.old) (B.state bus.new) self.old.endpoint.key }
+        ensures stands { Stands (B.calls.state bus.new) self.new.endpoint }
+        ensures others { KeepsOthers (B.calls.state bus.old) (B.calls.state bus.new)
+            self.old.endpoint.key }
     {
         let Some(buffer) = self.buffer.take() else {
             return self.send_empty(bus);
@@ -155,24 +151,23 @@ impl<T: BulkOrInterrupt> EndpointWrite<T> {
     pub(crate) fn begin_end<B: Bus>(&mut self, bus: &mut B) -> Result<(), NoMemory>
         requires few { self.old.begun ≡ false → length self.old.endpoint.pending
             + end_need self.old.endpoint.maximum self.old.buffer ≤ 64 }
-        requires stands { Stands (B.state bus.old) self.old.endpoint }
+        requires stands { Stands (B.calls.state bus.old) self.old.endpoint }
         ensures ok { OnOk result
-            (writing bus.new self.new
-            ≡ begun_end (bus_calls B.state B.submitted B.refused B.turned B.turn_of B.taken)
-            (writing bus.old self.old)) }
+            (writing bus.new self.new ≡ begun_end B.calls (writing bus.old self.old)) }
         ensures none { OnErr result (self.old.begun ≡ false) }
         ensures err { OnErr result
-            (EndShort (bus_calls B.state B.submitted B.refused B.turned B.turn_of B.taken)
-            self.old.buffer (writing bus.old self.old) (writing bus.new self.new)) }
+            (EndShort B.calls self.old.buffer (writing bus.old self.old)
+            (writing bus.new self.new)) }
         ensures tells { OnOk result
-            (TellsOn (B.state bus.old) (B.state bus.new) self.old self.new
+            (TellsOn (B.calls.state bus.old) (B.calls.state bus.new) self.old self.new
             (begun_calls self.old.begun)) }
         ensures short { OnErr result
-            (TellsShort (B.state bus.old) (B.state bus.new) self.old self.new) }
+            (TellsShort (B.calls.state bus.old) (B.calls.state bus.new) self.old self.new) }
         ensures key { self.new.endpoint.key ≡ self.old.endpoint.key }
         ensures settings { KeepsWriter self.old self.new }
-        ensures stands { Stands (B.state bus.new) self.new.endpoint }
-        ensures others { KeepsOthers (B.state bus.old) (B.state bus.new) self.old.endpoint.key }
+        ensures stands { Stands (B.calls.state bus.new) self.new.endpoint }
+        ensures others { KeepsOthers (B.calls.state bus.old) (B.calls.state bus.new)
+            self.old.endpoint.key }
     {
         if self.begun {
             return Ok(());
@@ -192,21 +187,21 @@ impl<T: BulkOrInterrupt> EndpointWrite<T> {
     ///
     /// Want of memory. Nothing has changed, but that no end has begun.
     pub fn submit<B: Bus>(&mut self, bus: &mut B) -> Result<(), NoMemory>
-        requires stands { Stands (B.state bus.old) self.old.endpoint }
+        requires stands { Stands (B.calls.state bus.old) self.old.endpoint }
         ensures ok { OnOk result
-            (writing bus.new self.new
-            ≡ sent (bus_calls B.state B.submitted B.refused B.turned B.turn_of B.taken)
-            self.old.buffer (not_begun (writing bus.old self.old))) }
+            (writing bus.new self.new ≡ submit_came B.calls (writing bus.old self.old)) }
         ensures err { OnErr result
             (writing bus.new self.new ≡ not_begun (writing bus.old self.old)) }
         ensures flushes { OnOk result
-            (TellsOn (B.state bus.old) (B.state bus.new) self.old self.new (Flush ∷ [])) }
+            (TellsOn (B.calls.state bus.old) (B.calls.state bus.new) self.old self.new
+            (Flush ∷ [])) }
         ensures nothing { OnErr result
-            (TellsOn (B.state bus.old) (B.state bus.new) self.old self.new []) }
+            (TellsOn (B.calls.state bus.old) (B.calls.state bus.new) self.old self.new []) }
         ensures key { self.new.endpoint.key ≡ self.old.endpoint.key }
         ensures settings { KeepsWriter self.old self.new }
-        ensures stands { Stands (B.state bus.new) self.new.endpoint }
-        ensures others { KeepsOthers (B.state bus.old) (B.state bus.new) self.old.endpoint.key }
+        ensures stands { Stands (B.calls.state bus.new) self.new.endpoint }
+        ensures others { KeepsOthers (B.calls.state bus.old) (B.calls.state bus.new)
+            self.old.endpoint.key }
     {
         self.begun = false;
         self.send_buffer(bus)
@@ -222,22 +217,21 @@ impl<T: BulkOrInterrupt> EndpointWrite<T> {
     pub fn submit_end<B: Bus>(&mut self, bus: &mut B) -> Result<(), NoMemory>
         requires few { length self.old.endpoint.pending
             + end_need self.old.endpoint.maximum self.old.buffer ≤ 64 }
-        requires stands { Stands (B.state bus.old) self.old.endpoint }
+        requires stands { Stands (B.calls.state bus.old) self.old.endpoint }
         ensures ok { OnOk result
-            (writing bus.new self.new
-            ≡ sent_end (bus_calls B.state B.submitted B.refused B.turned B.turn_of B.taken)
-            self.old.buffer (not_begun (writing bus.old self.old))) }
+            (writing bus.new self.new ≡ submit_end_came B.calls (writing bus.old self.old)) }
         ensures err { OnErr result
-            (EndShort (bus_calls B.state B.submitted B.refused B.turned B.turn_of B.taken)
-            self.old.buffer (not_begun (writing bus.old self.old)) (writing bus.new self.new)) }
+            (SubmitEndShort B.calls (writing bus.old self.old) (writing bus.new self.new)) }
         ensures finishes { OnOk result
-            (TellsOn (B.state bus.old) (B.state bus.new) self.old self.new (Finish ∷ [])) }
+            (TellsOn (B.calls.state bus.old) (B.calls.state bus.new) self.old self.new
+            (Finish ∷ [])) }
         ensures short { OnErr result
-            (TellsShort (B.state bus.old) (B.state bus.new) self.old self.new) }
+            (TellsShort (B.calls.state bus.old) (B.calls.state bus.new) self.old self.new) }
         ensures key { self.new.endpoint.key ≡ self.old.endpoint.key }
         ensures settings { KeepsWriter self.old self.new }
-        ensures stands { Stands (B.state bus.new) self.new.endpoint }
-        ensures others { KeepsOthers (B.state bus.old) (B.state bus.new) self.old.endpoint.key }
+        ensures stands { Stands (B.calls.state bus.new) self.new.endpoint }
+        ensures others { KeepsOthers (B.calls.state bus.old) (B.calls.state bus.new)
+            self.old.endpoint.key }
     {
         self.begun = false;
         self.send_end(bus)

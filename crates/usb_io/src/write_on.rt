@@ -20,16 +20,16 @@ pub struct WriteOn<'a, T: BulkOrInterrupt, B: Bus> {
     pub writer: &'a mut EndpointWrite<T>,
     /// The bus that it writes by.
     pub bus: &'a mut B,
-    ghost key_is_open: { (B.state bus.now).keys writer.now.endpoint.key ≡ true },
-    ghost held: { IsHeld (B.state bus.now) writer.now.endpoint } by { IsHeld-prop (B.state bus.now) writer.now.endpoint },
+    ghost key_is_open: { (B.calls.state bus.now).keys writer.now.endpoint.key ≡ true },
+    ghost held: { IsHeld (B.calls.state bus.now) writer.now.endpoint } by { IsHeld-prop (B.calls.state bus.now) writer.now.endpoint },
 }
 
 impl<'a, T: BulkOrInterrupt, B: Bus> WriteOn<'a, T, B> {
-    ghost use Rattle.std.specs.Prelude.{◌≡◌, IfOk, IfErr, OnOk};
+    ghost use Rattle.std.specs.Prelude.{◌≡◌, Ok, IfOk, IfErr, OnOk};
     ghost use Rattle.std.specs.Io.{WritesAtMost};
-    ghost use Rattle.usb_io.specs.Reads.{bus_calls};
+    ghost use Rattle.usb_io.specs.Answered.{answered};
     ghost use Rattle.usb_io.specs.Writers.{writing, KeepsWriter};
-    ghost use Rattle.usb_io.specs.WriteAnswers.{Wrote, IsWriteError, Flushed, IsFlushError};
+    ghost use Rattle.usb_io.specs.WriteAnswers.{write_came, WriteFails, flush_came, FlushFails};
     ghost use Rattle.usb_io.specs.Carried.{written_calls, flushed_calls, TellsOn};
     ghost use Rattle.usb_io.specs.StdErrors.{IsStdWriteError, IsStdFlushError, TellsStdFlush};
 
@@ -38,14 +38,14 @@ impl<'a, T: BulkOrInterrupt, B: Bus> WriteOn<'a, T, B> {
         ensures same_writer { self.new.writer.ghost_name ≡ self.old.writer.ghost_name }
         ensures same_bus { self.new.bus.ghost_name ≡ self.old.bus.ghost_name }
         ensures wrote { IfOk result
-            (Wrote (bus_calls B.state B.submitted B.refused B.turned B.turn_of B.taken)
-            self.old.writer.now.timeout src.now (writing self.old.bus.now self.old.writer.now)
-            (writing self.new.bus.now self.new.writer.now)) }
+            (λ n. write_came B.calls self.old.writer.now.timeout src.now
+            (writing self.old.bus.now self.old.writer.now)
+            ≡ answered (Ok n) (writing self.new.bus.now self.new.writer.now)) }
         ensures failed { IfErr result
-            (IsWriteError (bus_calls B.state B.submitted B.refused B.turned B.turn_of B.taken)
-            self.old.writer.now.timeout (writing self.old.bus.now self.old.writer.now)
+            (WriteFails B.calls self.old.writer.now.timeout src.now
+            (writing self.old.bus.now self.old.writer.now)
             (writing self.new.bus.now self.new.writer.now)) }
-        ensures tells { TellsOn (B.state self.old.bus.now) (B.state self.new.bus.now)
+        ensures tells { TellsOn (B.calls.state self.old.bus.now) (B.calls.state self.new.bus.now)
             self.old.writer.now self.new.writer.now (written_calls src.now result) }
         ensures settings { KeepsWriter self.old.writer.now self.new.writer.now }
     {
@@ -58,14 +58,14 @@ impl<'a, T: BulkOrInterrupt, B: Bus> WriteOn<'a, T, B> {
         ensures same_writer { self.new.writer.ghost_name ≡ self.old.writer.ghost_name }
         ensures same_bus { self.new.bus.ghost_name ≡ self.old.bus.ghost_name }
         ensures wrote { IfOk result
-            (Wrote (bus_calls B.state B.submitted B.refused B.turned B.turn_of B.taken)
-            self.old.writer.now.timeout src.now (writing self.old.bus.now self.old.writer.now)
-            (writing self.new.bus.now self.new.writer.now)) }
+            (λ n. write_came B.calls self.old.writer.now.timeout src.now
+            (writing self.old.bus.now self.old.writer.now)
+            ≡ answered (Ok n) (writing self.new.bus.now self.new.writer.now)) }
         ensures failed { IfErr result
-            (IsStdWriteError (bus_calls B.state B.submitted B.refused B.turned B.turn_of B.taken)
-            self.old.writer.now.timeout (writing self.old.bus.now self.old.writer.now)
+            (IsStdWriteError B.calls self.old.writer.now.timeout src.now
+            (writing self.old.bus.now self.old.writer.now)
             (writing self.new.bus.now self.new.writer.now)) }
-        ensures tells { TellsOn (B.state self.old.bus.now) (B.state self.new.bus.now)
+        ensures tells { TellsOn (B.calls.state self.old.bus.now) (B.calls.state self.new.bus.now)
             self.old.writer.now self.new.writer.now (written_calls src.now result) }
         ensures settings { KeepsWriter self.old.writer.now self.new.writer.now }
     {
@@ -80,14 +80,14 @@ impl<'a, T: BulkOrInterrupt, B: Bus> WriteOn<'a, T, B> {
         ensures same_writer { self.new.writer.ghost_name ≡ self.old.writer.ghost_name }
         ensures same_bus { self.new.bus.ghost_name ≡ self.old.bus.ghost_name }
         ensures flushed { OnOk result
-            (Flushed (bus_calls B.state B.submitted B.refused B.turned B.turn_of B.taken)
-            self.old.writer.now.timeout (writing self.old.bus.now self.old.writer.now)
-            (writing self.new.bus.now self.new.writer.now)) }
+            (flush_came B.calls self.old.writer.now.timeout
+            (writing self.old.bus.now self.old.writer.now)
+            ≡ answered (Ok tt) (writing self.new.bus.now self.new.writer.now)) }
         ensures failed { IfErr result
-            (IsFlushError (bus_calls B.state B.submitted B.refused B.turned B.turn_of B.taken)
-            self.old.writer.now.timeout (writing self.old.bus.now self.old.writer.now)
+            (FlushFails B.calls self.old.writer.now.timeout
+            (writing self.old.bus.now self.old.writer.now)
             (writing self.new.bus.now self.new.writer.now)) }
-        ensures tells { TellsOn (B.state self.old.bus.now) (B.state self.new.bus.now)
+        ensures tells { TellsOn (B.calls.state self.old.bus.now) (B.calls.state self.new.bus.now)
             self.old.writer.now self.new.writer.now (flushed_calls result) }
         ensures settings { KeepsWriter self.old.writer.now self.new.writer.now }
     {
@@ -99,15 +99,15 @@ impl<'a, T: BulkOrInterrupt, B: Bus> WriteOn<'a, T, B> {
         ensures same_writer { self.new.writer.ghost_name ≡ self.old.writer.ghost_name }
         ensures same_bus { self.new.bus.ghost_name ≡ self.old.bus.ghost_name }
         ensures flushed { OnOk result
-            (Flushed (bus_calls B.state B.submitted B.refused B.turned B.turn_of B.taken)
-            self.old.writer.now.timeout (writing self.old.bus.now self.old.writer.now)
-            (writing self.new.bus.now self.new.writer.now)) }
+            (flush_came B.calls self.old.writer.now.timeout
+            (writing self.old.bus.now self.old.writer.now)
+            ≡ answered (Ok tt) (writing self.new.bus.now self.new.writer.now)) }
         ensures failed { IfErr result
-            (IsStdFlushError (bus_calls B.state B.submitted B.refused B.turned B.turn_of B.taken)
-            self.old.writer.now.timeout (writing self.old.bus.now self.old.writer.now)
+            (IsStdFlushError B.calls self.old.writer.now.timeout
+            (writing self.old.bus.now self.old.writer.now)
             (writing self.new.bus.now self.new.writer.now)) }
-        ensures tells { TellsStdFlush (B.state self.old.bus.now) (B.state self.new.bus.now)
-            self.old.writer.now self.new.writer.now result }
+        ensures tells { TellsStdFlush (B.calls.state self.old.bus.now)
+            (B.calls.state self.new.bus.now) self.old.writer.now self.new.writer.now result }
         ensures settings { KeepsWriter self.old.writer.now self.new.writer.now }
     {
         match self.flush_some() {
@@ -130,12 +130,12 @@ fn std_error(fail: Fail<WriteFault>) -> io::Error
 }
 
 impl<'a, B: Bus> Write for WriteOn<'a, Bulk, B> {
-    ghost use Rattle.std.specs.Prelude.{◌≡◌, IfOk, IfErr, OnOk, None};
+    ghost use Rattle.std.specs.Prelude.{◌≡◌, Ok, IfOk, IfErr, OnOk, None};
     ghost use Rattle.std.specs.Io.{WritesAtMost};
     ghost use Rattle.std.specs.Io.KnownBytes.{WriteAppends, Keeps};
-    ghost use Rattle.usb_io.specs.Reads.{bus_calls};
+    ghost use Rattle.usb_io.specs.Answered.{answered};
     ghost use Rattle.usb_io.specs.Writers.{writing, KeepsWriter};
-    ghost use Rattle.usb_io.specs.WriteAnswers.{Wrote, Flushed};
+    ghost use Rattle.usb_io.specs.WriteAnswers.{write_came, flush_came};
     ghost use Rattle.usb_io.specs.Carried.{written_calls, TellsOn};
     ghost use Rattle.usb_io.specs.StdErrors.{IsStdWriteError, IsStdFlushError, TellsStdFlush};
 
@@ -145,14 +145,14 @@ impl<'a, B: Bus> Write for WriteOn<'a, Bulk, B> {
         ensures same_writer { self.new.writer.ghost_name ≡ self.old.writer.ghost_name }
         ensures same_bus { self.new.bus.ghost_name ≡ self.old.bus.ghost_name }
         ensures wrote { IfOk result
-            (Wrote (bus_calls B.state B.submitted B.refused B.turned B.turn_of B.taken)
-            self.old.writer.now.timeout buf.now (writing self.old.bus.now self.old.writer.now)
-            (writing self.new.bus.now self.new.writer.now)) }
+            (λ n. write_came B.calls self.old.writer.now.timeout buf.now
+            (writing self.old.bus.now self.old.writer.now)
+            ≡ answered (Ok n) (writing self.new.bus.now self.new.writer.now)) }
         ensures failed { IfErr result
-            (IsStdWriteError (bus_calls B.state B.submitted B.refused B.turned B.turn_of B.taken)
-            self.old.writer.now.timeout (writing self.old.bus.now self.old.writer.now)
+            (IsStdWriteError B.calls self.old.writer.now.timeout buf.now
+            (writing self.old.bus.now self.old.writer.now)
             (writing self.new.bus.now self.new.writer.now)) }
-        ensures tells { TellsOn (B.state self.old.bus.now) (B.state self.new.bus.now)
+        ensures tells { TellsOn (B.calls.state self.old.bus.now) (B.calls.state self.new.bus.now)
             self.old.writer.now self.new.writer.now (written_calls buf.now result) }
         ensures settings { KeepsWriter self.old.writer.now self.new.writer.now }
     {
@@ -164,15 +164,15 @@ impl<'a, B: Bus> Write for WriteOn<'a, Bulk, B> {
         ensures same_writer { self.new.writer.ghost_name ≡ self.old.writer.ghost_name }
         ensures same_bus { self.new.bus.ghost_name ≡ self.old.bus.ghost_name }
         ensures flushed { OnOk result
-            (Flushed (bus_calls B.state B.submitted B.refused B.turned B.turn_of B.taken)
-            self.old.writer.now.timeout (writing self.old.bus.now self.old.writer.now)
-            (writing self.new.bus.now self.new.writer.now)) }
+            (flush_came B.calls self.old.writer.now.timeout
+            (writing self.old.bus.now self.old.writer.now)
+            ≡ answered (Ok tt) (writing self.new.bus.now self.new.writer.now)) }
         ensures failed { IfErr result
-            (IsStdFlushError (bus_calls B.state B.submitted B.refused B.turned B.turn_of B.taken)
-            self.old.writer.now.timeout (writing self.old.bus.now self.old.writer.now)
+            (IsStdFlushError B.calls self.old.writer.now.timeout
+            (writing self.old.bus.now self.old.writer.now)
             (writing self.new.bus.now self.new.writer.now)) }
-        ensures tells { TellsStdFlush (B.state self.old.bus.now) (B.state self.new.bus.now)
-            self.old.writer.now self.new.writer.now result }
+        ensures tells { TellsStdFlush (B.calls.state self.old.bus.now)
+            (B.calls.state self.new.bus.now) self.old.writer.now self.new.writer.now result }
         ensures settings { KeepsWriter self.old.writer.now self.new.writer.now }
     {
         self.flush_std()
@@ -180,12 +180,12 @@ impl<'a, B: Bus> Write for WriteOn<'a, Bulk, B> {
 }
 
 impl<'a, B: Bus> Write for WriteOn<'a, Interrupt, B> {
-    ghost use Rattle.std.specs.Prelude.{◌≡◌, IfOk, IfErr, OnOk, None};
+    ghost use Rattle.std.specs.Prelude.{◌≡◌, Ok, IfOk, IfErr, OnOk, None};
     ghost use Rattle.std.specs.Io.{WritesAtMost};
     ghost use Rattle.std.specs.Io.KnownBytes.{WriteAppends, Keeps};
-    ghost use Rattle.usb_io.specs.Reads.{bus_calls};
+    ghost use Rattle.usb_io.specs.Answered.{answered};
     ghost use Rattle.usb_io.specs.Writers.{writing, KeepsWriter};
-    ghost use Rattle.usb_io.specs.WriteAnswers.{Wrote, Flushed};
+    ghost use Rattle.usb_io.specs.WriteAnswers.{write_came, flush_came};
     ghost use Rattle.usb_io.specs.Carried.{written_calls, TellsOn};
     ghost use Rattle.usb_io.specs.StdErrors.{IsStdWriteError, IsStdFlushError, TellsStdFlush};
 
@@ -195,14 +195,14 @@ impl<'a, B: Bus> Write for WriteOn<'a, Interrupt, B> {
         ensures same_writer { self.new.writer.ghost_name ≡ self.old.writer.ghost_name }
         ensures same_bus { self.new.bus.ghost_name ≡ self.old.bus.ghost_name }
         ensures wrote { IfOk result
-            (Wrote (bus_calls B.state B.submitted B.refused B.turned B.turn_of B.taken)
-            self.old.writer.now.timeout buf.now (writing self.old.bus.now self.old.writer.now)
-            (writing self.new.bus.now self.new.writer.now)) }
+            (λ n. write_came B.calls self.old.writer.now.timeout buf.now
+            (writing self.old.bus.now self.old.writer.now)
+            ≡ answered (Ok n) (writing self.new.bus.now self.new.writer.now)) }
         ensures failed { IfErr result
-            (IsStdWriteError (bus_calls B.state B.submitted B.refused B.turned B.turn_of B.taken)
-            self.old.writer.now.timeout (writing self.old.bus.now self.old.writer.now)
+            (IsStdWriteError B.calls self.old.writer.now.timeout buf.now
+            (writing self.old.bus.now self.old.writer.now)
             (writing self.new.bus.now self.new.writer.now)) }
-        ensures tells { TellsOn (B.state self.old.bus.now) (B.state self.new.bus.now)
+        ensures tells { TellsOn (B.calls.state self.old.bus.now) (B.calls.state self.new.bus.now)
             self.old.writer.now self.new.writer.now (written_calls buf.now result) }
         ensures settings { KeepsWriter self.old.writer.now self.new.writer.now }
     {
@@ -214,15 +214,15 @@ impl<'a, B: Bus> Write for WriteOn<'a, Interrupt, B> {
         ensures same_writer { self.new.writer.ghost_name ≡ self.old.writer.ghost_name }
         ensures same_bus { self.new.bus.ghost_name ≡ self.old.bus.ghost_name }
         ensures flushed { OnOk result
-            (Flushed (bus_calls B.state B.submitted B.refused B.turned B.turn_of B.taken)
-            self.old.writer.now.timeout (writing self.old.bus.now self.old.writer.now)
-            (writing self.new.bus.now self.new.writer.now)) }
+            (flush_came B.calls self.old.writer.now.timeout
+            (writing self.old.bus.now self.old.writer.now)
+            ≡ answered (Ok tt) (writing self.new.bus.now self.new.writer.now)) }
         ensures failed { IfErr result
-            (IsStdFlushError (bus_calls B.state B.submitted B.refused B.turned B.turn_of B.taken)
-            self.old.writer.now.timeout (writing self.old.bus.now self.old.writer.now)
+            (IsStdFlushError B.calls self.old.writer.now.timeout
+            (writing self.old.bus.now self.old.writer.now)
             (writing self.new.bus.now self.new.writer.now)) }
-        ensures tells { TellsStdFlush (B.state self.old.bus.now) (B.state self.new.bus.now)
-            self.old.writer.now self.new.writer.now result }
+        ensures tells { TellsStdFlush (B.calls.state self.old.bus.now)
+            (B.calls.state self.new.bus.now) self.old.writer.now self.new.writer.now result }
         ensures settings { KeepsWriter self.old.writer.now self.new.writer.now }
     {
         self.flush_std()
@@ -234,7 +234,7 @@ impl<T: BulkOrInterrupt> EndpointWrite<T> {
 
     /// The writer on this bus, for std's trait.
     pub fn on<'a, B: Bus>(&'a mut self, bus: &'a mut B) -> WriteOn<'a, T, B>
-        requires stands { Stands (B.state bus.old) self.old.endpoint }
+        requires stands { Stands (B.calls.state bus.old) self.old.endpoint }
         ensures writer { (result.writer.ghost_name ≡ self.entry.ghost_name)
             × (result.writer.now ≡ self.old) }
         ensures bus { (result.bus.ghost_name ≡ bus.entry.ghost_name)

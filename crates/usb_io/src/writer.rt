@@ -149,9 +149,10 @@ impl<T: BulkOrInterrupt> EndpointWrite<T> {
     /// Closes the endpoint: pending transfers are cancelled, and bytes that were accepted and not
     /// submitted are gone.
     pub fn close<B: Bus>(self, bus: &mut B)
-        requires stands { Stands (B.state bus.old) self.endpoint }
-        ensures bus { bus.new ≡ after_close B.discarded B.abandoned B.closed bus.old self.endpoint }
-        ensures others { KeepsOthers (B.state bus.old) (B.state bus.new) self.endpoint.key }
+        requires stands { Stands (B.calls.state bus.old) self.endpoint }
+        ensures bus { bus.new ≡ after_close B.calls bus.old self.endpoint }
+        ensures others { KeepsOthers (B.calls.state bus.old) (B.calls.state bus.new)
+            self.endpoint.key }
     {
         self.into_inner().close(bus);
     }

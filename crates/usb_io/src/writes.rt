@@ -1,12 +1,12 @@
 //! The writes and flushes of a writer.
 
-ghost use Rattle.std.specs.Prelude.{◌≡◌, ◌+◌, ◌<◌, ◌≤◌, ◌++◌, [], true, false, length, take, unwrap_or, None, IfOk, IfErr, OnOk, OnErr};
+ghost use Rattle.std.specs.Prelude.{◌≡◌, ◌+◌, ◌<◌, ◌≤◌, ◌++◌, [], false, length, take, unwrap_or, None, Ok, Err, IfOk, IfErr, OnOk, OnErr};
 ghost use Rattle.usb_endpoint.specs.Handles.{Stands, KeepsOthers};
 ghost use Rattle.usb_endpoint.specs.Polls.{IfReady, IfPending};
-ghost use Rattle.usb_io.specs.Reads.{bus_calls};
+ghost use Rattle.usb_io.specs.Answered.{answered};
 ghost use Rattle.usb_io.specs.Fronts.{waits_on};
 ghost use Rattle.usb_io.specs.Writers.{writing, out_buffer, end_need, KeepsWriter};
-ghost use Rattle.usb_io.specs.WriteAnswers.{accepts, accepted_count, AcceptsNone, Wrote, IsWriteError, WritePending, IsWrittenInTime, Flushed, IsFlushError, FlushPending, FlushedEnd, IsFlushEndError, PolledEnd, IsPollEndError, EndPending};
+ghost use Rattle.usb_io.specs.WriteAnswers.{accepts, accepted_count, AcceptsNone, write_came, WriteFails, IsWrittenInTime, flush_came, FlushFails, flush_end_came, FlushEndFails, poll_flush_end_came, PollFlushEndFails};
 ghost use Rattle.usb_io.specs.Carried.{CarriesOn, full_bytes, written_calls, poll_written_calls, flushed_calls, poll_flushed_calls, TellsOn, TellsEnd, TellsPolledEnd};
 
 use crate::fault::WriteFault;
@@ -35,21 +35,20 @@ impl<T: BulkOrInterrupt> EndpointWrite<T> {
     /// Accepts what fits, and submits a full buffer. Without memory it accepts nothing.
     fn accept<B: Bus>(&mut self, bus: &mut B, src: &[u8]) -> Result<usize, NoMemory>
         requires goes { waits_on false self.old ≡ false }
-        requires stands { Stands (B.state bus.old) self.old.endpoint }
+        requires stands { Stands (B.calls.state bus.old) self.old.endpoint }
         ensures count { IfOk result (λ n. n ≡ accepted_count src.now self.old) }
         ensures ok { OnOk result
-            (writing bus.new self.new
-            ≡ accepts (bus_calls B.state B.submitted B.refused B.turned B.turn_of B.taken)
-            src.now (writing bus.old self.old)) }
+            (writing bus.new self.new ≡ accepts B.calls src.now (writing bus.old self.old)) }
         ensures carries { OnOk result
-            (CarriesOn (B.state bus.old) (B.state bus.new) self.old.endpoint self.new.endpoint
-            (full_bytes self.old.size (unwrap_or self.old.buffer []
+            (CarriesOn (B.calls.state bus.old) (B.calls.state bus.new) self.old.endpoint
+            self.new.endpoint (full_bytes self.old.size (unwrap_or self.old.buffer []
             ++ take (accepted_count src.now self.old) src.now))) }
         ensures none { OnErr result
             (AcceptsNone (writing bus.old self.old) (writing bus.new self.new)) }
         ensures settings { KeepsWriter self.old self.new }
-        ensures stands { Stands (B.state bus.new) self.new.endpoint }
-        ensures others { KeepsOthers (B.state bus.old) (B.state bus.new) self.old.endpoint.key }
+        ensures stands { Stands (B.calls.state bus.new) self.new.endpoint }
+        ensures others { KeepsOthers (B.calls.state bus.old) (B.calls.state bus.new)
+            self.old.endpoint.key }
     {
         let mut buffer = self.next_out_buffer()?;
         let held = buffer.len();
@@ -76,19 +75,20 @@ impl<T: BulkOrInterrupt> EndpointWrite<T> {
         src: &[u8],
         timeout: u64,
     ) -> Result<usize, Fail<WriteFault>>
-        requires stands { Stands (B.state bus.old) self.old.endpoint }
+        requires stands { Stands (B.calls.state bus.old) self.old.endpoint }
         ensures wrote { IfOk result
-            (Wrote (bus_calls B.state B.submitted B.refused B.turned B.turn_of B.taken)
-            timeout src.now (writing bus.old self.old) (writing bus.new self.new)) }
+            (λ n. write_came B.calls timeout src.now (writing bus.old self.old)
+            ≡ answered (Ok n) (writing bus.new self.new)) }
         ensures failed { IfErr result
-            (IsWriteError (bus_calls B.state B.submitted B.refused B.turned B.turn_of B.taken)
-            timeout (writing bus.old self.old) (writing bus.new self.new)) }
-        ensures tells { TellsOn (B.state bus.old) (B.state bus.new) self.old self.new
+            (WriteFails B.calls timeout src.now (writing bus.old self.old)
+            (writing bus.new self.new)) }
+        ensures tells { TellsOn (B.calls.state bus.old) (B.calls.state bus.new) self.old self.new
             (written_calls src.now result) }
         ensures key { self.new.endpoint.key ≡ self.old.endpoint.key }
         ensures settings { KeepsWriter self.old self.new }
-        ensures stands { Stands (B.state bus.new) self.new.endpoint }
-        ensures others { KeepsOthers (B.state bus.old) (B.state bus.new) self.old.endpoint.key }
+        ensures stands { Stands (B.calls.state bus.new) self.new.endpoint }
+        ensures others { KeepsOthers (B.calls.state bus.old) (B.calls.state bus.new)
+            self.old.endpoint.key }
     {
         self.begun = false;
         match self.drain(bus, false, timeout) {
@@ -109,18 +109,19 @@ impl<T: BulkOrInterrupt> EndpointWrite<T> {
     /// The error of a transfer that was taken; that the front was not there in time; want of
     /// memory. No byte is accepted then.
     pub fn write<B: Bus>(&mut self, bus: &mut B, src: &[u8]) -> Result<usize, Fail<WriteFault>>
-        requires stands { Stands (B.state bus.old) self.old.endpoint }
+        requires stands { Stands (B.calls.state bus.old) self.old.endpoint }
         ensures wrote { IfOk result
-            (Wrote (bus_calls B.state B.submitted B.refused B.turned B.turn_of B.taken)
-            self.old.timeout src.now (writing bus.old self.old) (writing bus.new self.new)) }
+            (λ n. write_came B.calls self.old.timeout src.now (writing bus.old self.old)
+            ≡ answered (Ok n) (writing bus.new self.new)) }
         ensures failed { IfErr result
-            (IsWriteError (bus_calls B.state B.submitted B.refused B.turned B.turn_of B.taken)
-            self.old.timeout (writing bus.old self.old) (writing bus.new self.new)) }
-        ensures tells { TellsOn (B.state bus.old) (B.state bus.new) self.old self.new
+            (WriteFails B.calls self.old.timeout src.now (writing bus.old self.old)
+            (writing bus.new self.new)) }
+        ensures tells { TellsOn (B.calls.state bus.old) (B.calls.state bus.new) self.old self.new
             (written_calls src.now result) }
         ensures settings { KeepsWriter self.old self.new }
-        ensures stands { Stands (B.state bus.new) self.new.endpoint }
-        ensures others { KeepsOthers (B.state bus.old) (B.state bus.new) self.old.endpoint.key }
+        ensures stands { Stands (B.calls.state bus.new) self.new.endpoint }
+        ensures others { KeepsOthers (B.calls.state bus.old) (B.calls.state bus.new)
+            self.old.endpoint.key }
     {
         let timeout = self.timeout;
         self.write_within(bus, src, timeout)
@@ -132,24 +133,25 @@ impl<T: BulkOrInterrupt> EndpointWrite<T> {
         bus: &mut B,
         src: &[u8],
     ) -> Poll<Result<usize, Fail<WriteFault>>>
-        requires stands { Stands (B.state bus.old) self.old.endpoint }
+        requires stands { Stands (B.calls.state bus.old) self.old.endpoint }
         ensures wrote { IfReady result
             (λ r. IfOk r
-            (Wrote (bus_calls B.state B.submitted B.refused B.turned B.turn_of B.taken) 0
-            src.now (writing bus.old self.old) (writing bus.new self.new))) }
+            (λ n. write_came B.calls 0 src.now (writing bus.old self.old)
+            ≡ answered (Ok n) (writing bus.new self.new))) }
         ensures failed { IfReady result
             (λ r. IfErr r
-            (IsWriteError (bus_calls B.state B.submitted B.refused B.turned B.turn_of B.taken)
-            0 (writing bus.old self.old) (writing bus.new self.new))) }
+            (WriteFails B.calls 0 src.now (writing bus.old self.old)
+            (writing bus.new self.new))) }
         ensures in_time { IfReady result (λ r. IfErr r IsWrittenInTime) }
         ensures pending { IfPending result
-            (WritePending (bus_calls B.state B.submitted B.refused B.turned B.turn_of B.taken)
-            (writing bus.old self.old) (writing bus.new self.new)) }
-        ensures tells { TellsOn (B.state bus.old) (B.state bus.new) self.old self.new
+            (write_came B.calls 0 src.now (writing bus.old self.old)
+            ≡ answered (Err WriteFault.TimedOut) (writing bus.new self.new)) }
+        ensures tells { TellsOn (B.calls.state bus.old) (B.calls.state bus.new) self.old self.new
             (poll_written_calls src.now result) }
         ensures settings { KeepsWriter self.old self.new }
-        ensures stands { Stands (B.state bus.new) self.new.endpoint }
-        ensures others { KeepsOthers (B.state bus.old) (B.state bus.new) self.old.endpoint.key }
+        ensures stands { Stands (B.calls.state bus.new) self.new.endpoint }
+        ensures others { KeepsOthers (B.calls.state bus.old) (B.calls.state bus.new)
+            self.old.endpoint.key }
     {
         match self.write_within(bus, src, 0) {
             Ok(n) => Poll::Ready(Ok(n)),
@@ -160,19 +162,19 @@ impl<T: BulkOrInterrupt> EndpointWrite<T> {
 
     /// Submits what stands, and takes all that is pending.
     fn flush_within<B: Bus>(&mut self, bus: &mut B, timeout: u64) -> Result<(), Fail<WriteFault>>
-        requires stands { Stands (B.state bus.old) self.old.endpoint }
+        requires stands { Stands (B.calls.state bus.old) self.old.endpoint }
         ensures ok { OnOk result
-            (Flushed (bus_calls B.state B.submitted B.refused B.turned B.turn_of B.taken)
-            timeout (writing bus.old self.old) (writing bus.new self.new)) }
+            (flush_came B.calls timeout (writing bus.old self.old)
+            ≡ answered (Ok tt) (writing bus.new self.new)) }
         ensures failed { IfErr result
-            (IsFlushError (bus_calls B.state B.submitted B.refused B.turned B.turn_of B.taken)
-            timeout (writing bus.old self.old) (writing bus.new self.new)) }
-        ensures tells { TellsOn (B.state bus.old) (B.state bus.new) self.old self.new
+            (FlushFails B.calls timeout (writing bus.old self.old) (writing bus.new self.new)) }
+        ensures tells { TellsOn (B.calls.state bus.old) (B.calls.state bus.new) self.old self.new
             (flushed_calls result) }
         ensures key { self.new.endpoint.key ≡ self.old.endpoint.key }
         ensures settings { KeepsWriter self.old self.new }
-        ensures stands { Stands (B.state bus.new) self.new.endpoint }
-        ensures others { KeepsOthers (B.state bus.old) (B.state bus.new) self.old.endpoint.key }
+        ensures stands { Stands (B.calls.state bus.new) self.new.endpoint }
+        ensures others { KeepsOthers (B.calls.state bus.old) (B.calls.state bus.new)
+            self.old.endpoint.key }
     {
         if self.submit(bus).is_err() {
             return Err(Fail::Memory);
@@ -191,18 +193,19 @@ impl<T: BulkOrInterrupt> EndpointWrite<T> {
     /// The error of a transfer; that the front was not there in time; want of memory, with nothing
     /// submitted.
     pub fn flush<B: Bus>(&mut self, bus: &mut B) -> Result<(), Fail<WriteFault>>
-        requires stands { Stands (B.state bus.old) self.old.endpoint }
+        requires stands { Stands (B.calls.state bus.old) self.old.endpoint }
         ensures ok { OnOk result
-            (Flushed (bus_calls B.state B.submitted B.refused B.turned B.turn_of B.taken)
-            self.old.timeout (writing bus.old self.old) (writing bus.new self.new)) }
+            (flush_came B.calls self.old.timeout (writing bus.old self.old)
+            ≡ answered (Ok tt) (writing bus.new self.new)) }
         ensures failed { IfErr result
-            (IsFlushError (bus_calls B.state B.submitted B.refused B.turned B.turn_of B.taken)
-            self.old.timeout (writing bus.old self.old) (writing bus.new self.new)) }
-        ensures tells { TellsOn (B.state bus.old) (B.state bus.new) self.old self.new
+            (FlushFails B.calls self.old.timeout (writing bus.old self.old)
+            (writing bus.new self.new)) }
+        ensures tells { TellsOn (B.calls.state bus.old) (B.calls.state bus.new) self.old self.new
             (flushed_calls result) }
         ensures settings { KeepsWriter self.old self.new }
-        ensures stands { Stands (B.state bus.new) self.new.endpoint }
-        ensures others { KeepsOthers (B.state bus.old) (B.state bus.new) self.old.endpoint.key }
+        ensures stands { Stands (B.calls.state bus.new) self.new.endpoint }
+        ensures others { KeepsOthers (B.calls.state bus.old) (B.calls.state bus.new)
+            self.old.endpoint.key }
     {
         let timeout = self.timeout;
         self.flush_within(bus, timeout)
@@ -210,24 +213,24 @@ impl<T: BulkOrInterrupt> EndpointWrite<T> {
 
     /// `flush`, which is pending where the front is not there.
     pub fn poll_flush<B: Bus>(&mut self, bus: &mut B) -> Poll<Result<(), Fail<WriteFault>>>
-        requires stands { Stands (B.state bus.old) self.old.endpoint }
+        requires stands { Stands (B.calls.state bus.old) self.old.endpoint }
         ensures ok { IfReady result
             (λ r. OnOk r
-            (Flushed (bus_calls B.state B.submitted B.refused B.turned B.turn_of B.taken)
-            0 (writing bus.old self.old) (writing bus.new self.new))) }
+            (flush_came B.calls 0 (writing bus.old self.old)
+            ≡ answered (Ok tt) (writing bus.new self.new))) }
         ensures failed { IfReady result
             (λ r. IfErr r
-            (IsFlushError (bus_calls B.state B.submitted B.refused B.turned B.turn_of B.taken)
-            0 (writing bus.old self.old) (writing bus.new self.new))) }
+            (FlushFails B.calls 0 (writing bus.old self.old) (writing bus.new self.new))) }
         ensures in_time { IfReady result (λ r. IfErr r IsWrittenInTime) }
         ensures pending { IfPending result
-            (FlushPending (bus_calls B.state B.submitted B.refused B.turned B.turn_of B.taken)
-            (writing bus.old self.old) (writing bus.new self.new)) }
-        ensures tells { TellsOn (B.state bus.old) (B.state bus.new) self.old self.new
+            (flush_came B.calls 0 (writing bus.old self.old)
+            ≡ answered (Err WriteFault.TimedOut) (writing bus.new self.new)) }
+        ensures tells { TellsOn (B.calls.state bus.old) (B.calls.state bus.new) self.old self.new
             (poll_flushed_calls result) }
         ensures settings { KeepsWriter self.old self.new }
-        ensures stands { Stands (B.state bus.new) self.new.endpoint }
-        ensures others { KeepsOthers (B.state bus.old) (B.state bus.new) self.old.endpoint.key }
+        ensures stands { Stands (B.calls.state bus.new) self.new.endpoint }
+        ensures others { KeepsOthers (B.calls.state bus.old) (B.calls.state bus.new)
+            self.old.endpoint.key }
     {
         match self.flush_within(bus, 0) {
             Ok(()) => Poll::Ready(Ok(())),
@@ -245,17 +248,19 @@ impl<T: BulkOrInterrupt> EndpointWrite<T> {
     pub fn flush_end<B: Bus>(&mut self, bus: &mut B) -> Result<(), Fail<WriteFault>>
         requires few { length self.old.endpoint.pending
             + end_need self.old.endpoint.maximum self.old.buffer ≤ 64 }
-        requires stands { Stands (B.state bus.old) self.old.endpoint }
+        requires stands { Stands (B.calls.state bus.old) self.old.endpoint }
         ensures ok { OnOk result
-            (FlushedEnd (bus_calls B.state B.submitted B.refused B.turned B.turn_of B.taken)
-            self.old.timeout (writing bus.old self.old) (writing bus.new self.new)) }
+            (flush_end_came B.calls self.old.timeout (writing bus.old self.old)
+            ≡ answered (Ok tt) (writing bus.new self.new)) }
         ensures failed { IfErr result
-            (IsFlushEndError (bus_calls B.state B.submitted B.refused B.turned B.turn_of B.taken)
-            self.old.timeout (writing bus.old self.old) (writing bus.new self.new)) }
-        ensures tells { TellsEnd (B.state bus.old) (B.state bus.new) self.old self.new result }
+            (FlushEndFails B.calls self.old.timeout (writing bus.old self.old)
+            (writing bus.new self.new)) }
+        ensures tells { TellsEnd (B.calls.state bus.old) (B.calls.state bus.new) self.old self.new
+            result }
         ensures settings { KeepsWriter self.old self.new }
-        ensures stands { Stands (B.state bus.new) self.new.endpoint }
-        ensures others { KeepsOthers (B.state bus.old) (B.state bus.new) self.old.endpoint.key }
+        ensures stands { Stands (B.calls.state bus.new) self.new.endpoint }
+        ensures others { KeepsOthers (B.calls.state bus.old) (B.calls.state bus.new)
+            self.old.endpoint.key }
     {
         let timeout = self.timeout;
         if self.submit_end(bus).is_err() {
@@ -273,24 +278,24 @@ impl<T: BulkOrInterrupt> EndpointWrite<T> {
     pub fn poll_flush_end<B: Bus>(&mut self, bus: &mut B) -> Poll<Result<(), Fail<WriteFault>>>
         requires few { self.old.begun ≡ false → length self.old.endpoint.pending
             + end_need self.old.endpoint.maximum self.old.buffer ≤ 64 }
-        requires stands { Stands (B.state bus.old) self.old.endpoint }
+        requires stands { Stands (B.calls.state bus.old) self.old.endpoint }
         ensures ok { IfReady result
             (λ r. OnOk r
-            (PolledEnd (bus_calls B.state B.submitted B.refused B.turned B.turn_of B.taken)
-            (writing bus.old self.old) (writing bus.new self.new))) }
+            (poll_flush_end_came B.calls (writing bus.old self.old)
+            ≡ answered (Ok tt) (writing bus.new self.new))) }
         ensures failed { IfReady result
             (λ r. IfErr r
-            (IsPollEndError (bus_calls B.state B.submitted B.refused B.turned B.turn_of B.taken)
-            (writing bus.old self.old) (writing bus.new self.new))) }
+            (PollFlushEndFails B.calls (writing bus.old self.old) (writing bus.new self.new))) }
         ensures in_time { IfReady result (λ r. IfErr r IsWrittenInTime) }
         ensures pending { IfPending result
-            (EndPending (bus_calls B.state B.submitted B.refused B.turned B.turn_of B.taken)
-            (writing bus.old self.old) (writing bus.new self.new)) }
-        ensures tells { TellsPolledEnd (B.state bus.old) (B.state bus.new) self.old self.new
-            result }
+            (poll_flush_end_came B.calls (writing bus.old self.old)
+            ≡ answered (Err WriteFault.TimedOut) (writing bus.new self.new)) }
+        ensures tells { TellsPolledEnd (B.calls.state bus.old) (B.calls.state bus.new) self.old
+            self.new result }
         ensures settings { KeepsWriter self.old self.new }
-        ensures stands { Stands (B.state bus.new) self.new.endpoint }
-        ensures others { KeepsOthers (B.state bus.old) (B.state bus.new) self.old.endpoint.key }
+        ensures stands { Stands (B.calls.state bus.new) self.new.endpoint }
+        ensures others { KeepsOthers (B.calls.state bus.old) (B.calls.state bus.new)
+            self.old.endpoint.key }
     {
         if self.begin_end(bus).is_err() {
             return Poll::Ready(Err(Fail::Memory));

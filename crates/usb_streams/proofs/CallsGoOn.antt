@@ -1,22 +1,34 @@
 -- Calls on a reader take steps from the front of the line, and keep what is open.
-use Rattle.std.proofs.Common.{◌∙◌, ◌≡◌, ℕ, arith, Bool, List, [], length, refl, ap, ◌-◌, false}
+use Rattle.std.proofs.Common.{◌∙◌, ◌≡◌, ℕ, arith, Bool, List, [], length, Result, Ok, Err, refl, ap, subst, sym, false}
+use Rattle.std.specs.Prelude.{IfOk, IfErr, OnOk, OnErr}
+use Rattle.std.specs.Borrow.{Bor}
+use Rattle.futures.specs.declared.task.Poll.{Poll}
+use Rattle.usb_desc.specs.declared.error.Fail.{Fail}
+use Rattle.usb_desc.specs.declared.error.NoMemory.{NoMemory}
 use Rattle.usb_kernel.specs.Tickets.{tickets}
 use Rattle.usb_kernel.proofs.Extends.{extends-same, extends-trans}
 use Rattle.usb_xfer.specs.declared.transfer.Completion.{Completion}
 use Rattle.usb_endpoint.specs.EndpointState.{EndpointState}
+use Rattle.usb_endpoint.specs.Polls.{IfReady, IfPending}
+use Rattle.usb_endpoint.specs.Waits.{waited}
 use Rattle.usb_host.specs.HostState.{HostState}
-use Rattle.usb_host.specs.HostWaits.{host_waited}
+use Rattle.usb_host.specs.HostCalls.{host_calls}
+use Rattle.usb_host.specs.HostFrames.{LineGoesOn}
 use Rattle.usb_host.specs.TicketEnds.{host_taken}
 use Rattle.usb_host.proofs.CallFrames.{keeps-taken}
 use Rattle.usb_host.proofs.CountLemmas.{entered-count, waited-count, taken-count}
 use Rattle.usb_host.proofs.FollowLemmas.{adds-entered, taken-past}
 use Rattle.usb_host.proofs.WaitFrames.{line-keeps, line-trans, went-waited}
-use Rattle.usb_io.specs.Readers.{ReaderState, fresh_buffer, with_taken, with_read}
-use Rattle.usb_io.specs.Reads.{Reading, reading, KeepsSettings, ended_off, submit_one, filled_to}
-use Rattle.usb_streams.specs.HostReads.{host_calls, fill_came, read_came}
+use Rattle.usb_io.specs.Readers.{ReaderState, fresh_buffer, with_taken}
+use Rattle.usb_io.specs.Reads.{Reading, reading, KeepsSettings, ended_off, submit_one, filled_to, FilledShort}
+use Rattle.usb_io.specs.Answered.{answered}
+use Rattle.usb_io.specs.Answers.{fill_came, read_came, ReadFails}
+use Rattle.usb_io.specs.Lent.{Filled, PollFilled}
+use Rattle.usb_io.specs.declared.fault.ReadFault.{ReadFault}
+use Rattle.usb_io.specs.declared.fault.ReadFault.TheVariants.{TimedOut}
+use Rattle.usb_io.proofs.ReadKeeps.{Keeps, KeepsRead, fill-keeps, read-keeps, filled-keeps, filled_short-keeps, read_answer-keeps, poll_answer-keeps, fill_answer-keeps, poll_fill_answer-keeps}
 use Rattle.usb_streams.specs.Laws.{CallGoesOn, FillGoesOn, ReadGoesOn, SubmissionsGoOn}
 use Rattle.usb_streams.proofs.LinesGoOn.{line-same, line-one}
-use Rattle.usb_streams.proofs.FillKeeps.{Keeps, fill-keeps, read-keeps, more-keeps}
 
 settings-same : (r : ReaderState) → KeepsSettings r r
 settings-same r = record { n = refl; size = refl; timeout = refl }
@@ -36,7 +48,7 @@ call-trans a b c first second =
 call-one : (w : Reading HostState) → CallGoesOn w (submit_one host_calls w)
 call-one w = record { line = line-one w; past = (adds-entered w.bus w.reader.endpoint (fresh_buffer w.reader.size)).goes.past; endpoint = refl; settings = record { n = refl; size = refl; timeout = refl } }
 
-call-waited : (w : Reading HostState) (front timeout : ℕ) → CallGoesOn w (reading (host_waited w.bus front timeout).1 w.reader)
+call-waited : (w : Reading HostState) (front timeout : ℕ) → CallGoesOn w (reading (waited host_calls front timeout w.bus) w.reader)
 call-waited w front timeout = let went = went-waited w.bus front timeout in record { line = went.line; past = went.later.past; endpoint = refl; settings = settings-same w.reader }
 
 call-taken : (w : Reading HostState) (front : ℕ) (others : List ℕ) (c : Completion) → CallGoesOn w (reading (host_taken w.bus front) (with_taken c others w.reader))
@@ -51,45 +63,65 @@ call-taken w front others c =
 call-off : (w : Reading HostState) → CallGoesOn w (ended_off w)
 call-off w = record { line = line-same w.bus; past = extends-same w.bus.kernel.past; endpoint = refl; settings = record { n = refl; size = refl; timeout = refl } }
 
-call-read : (w : Reading HostState) (n : ℕ) → CallGoesOn w (record w { reader = with_read n w.reader })
-call-read w n = record { line = line-same w.bus; past = extends-same w.bus.kernel.past; endpoint = refl; settings = record { n = refl; size = refl; timeout = refl } }
+call-read : (first : Reading HostState) → KeepsRead (CallGoesOn first)
+call-read first w n so_far = record { line = so_far.line; past = so_far.past; endpoint = so_far.endpoint; settings = record { n = so_far.settings.n; size = so_far.settings.size; timeout = so_far.settings.timeout } }
 
-call-kept : (timeout : ℕ) (first : Reading HostState) → Keeps timeout (CallGoesOn first)
-call-kept timeout first = record {
+call-kept : (us : Bool) (timeout : ℕ) (first : Reading HostState) → Keeps host_calls us timeout (CallGoesOn first)
+call-kept us timeout first = record {
   submission = λ w so_far. call-trans first w (submit_one host_calls w) so_far (call-one w);
-  end = λ w so_far. call-trans first w (ended_off w) so_far (call-off w);
-  wait = λ w front others was so_far. call-trans first w (reading (host_waited w.bus front timeout).1 w.reader) so_far (call-waited w front timeout);
-  taking = λ w front others c was empty come so_far. call-trans first w (reading (host_taken w.bus front) (with_taken c others w.reader)) so_far (call-taken w front others c);
+  end = λ w goes so_far. call-trans first w (ended_off w) so_far (call-off w);
+  wait = λ w front others was so_far. call-trans first w (reading (waited host_calls front timeout w.bus) w.reader) so_far (call-waited w front timeout);
+  taking = λ w front others c was goes come so_far. call-trans first w (reading (host_taken w.bus front) (with_taken c others w.reader)) so_far (call-taken w front others c);
 }
 
 pub fill_goes_on : FillGoesOn
-fill_goes_on us timeout w = fill-keeps us timeout (CallGoesOn w) (call-kept timeout w) w (call-same w)
+fill_goes_on us timeout w = fill-keeps host_calls us timeout (CallGoesOn w) (call-kept us timeout w) w (call-same w)
 
 pub read_goes_on : ReadGoesOn
-read_goes_on us timeout most w =
-    read-keeps us timeout (CallGoesOn w) (call-kept timeout w) most w
-    (λ v n so_far. call-trans w v (record v { reader = with_read n v.reader }) so_far (call-read v n)) (call-same w)
+read_goes_on us timeout most w = read-keeps host_calls us timeout (CallGoesOn w) (call-kept us timeout w) most w (call-read w) (call-same w)
 
 pub submissions_go_on : SubmissionsGoOn
-submissions_go_on goal w = more-keeps false 0 (CallGoesOn w) (call-kept 0 w) (goal - length w.reader.endpoint.pending) w (call-same w)
+submissions_go_on goal w = filled-keeps host_calls false 0 (CallGoesOn w) (call-kept false 0 w) goal w (call-same w)
+
+-- so the line goes on, whatever a call answered
+module _ (us : Bool) (old new : Reading HostState) where
+  pub read-line : (timeout most : ℕ) (bytes : ℕ → List ℕ) (r : Result ℕ (Fail ReadFault))
+      → IfOk r (λ n. read_came host_calls us timeout most old ≡ answered (Ok (bytes n)) new) → IfErr r (ReadFails host_calls us timeout most old new) → LineGoesOn old.bus new.bus
+  read-line timeout most bytes r is failed = (read_answer-keeps host_calls us timeout (CallGoesOn old) (call-kept us timeout old) most old new bytes r (call-read old) is failed (call-same old)).line
+
+  pub poll-line : (most : ℕ) (bytes : ℕ → List ℕ) (p : Poll (Result ℕ (Fail ReadFault)))
+      → IfReady p (λ r. IfOk r (λ n. read_came host_calls us 0 most old ≡ answered (Ok (bytes n)) new)) → IfReady p (λ r. IfErr r (ReadFails host_calls us 0 most old new))
+      → IfPending p (read_came host_calls us 0 most old ≡ answered (Err TimedOut) new) → LineGoesOn old.bus new.bus
+  poll-line most bytes p is failed pending = (poll_answer-keeps host_calls us (CallGoesOn old) (call-kept us 0 old) most old new bytes p (call-read old) is failed pending (call-same old)).line
+
+  pub fill-line : (timeout : ℕ) (r : Result (Bor (List ℕ)) (Fail ReadFault)) → Filled host_calls us timeout old new r → LineGoesOn old.bus new.bus
+  fill-line timeout r filled = (fill_answer-keeps host_calls us timeout (CallGoesOn old) (call-kept us timeout old) old new r filled (call-same old)).line
+
+  pub poll_fill-line : (p : Poll (Result (Bor (List ℕ)) (Fail ReadFault))) → PollFilled host_calls us old new p → LineGoesOn old.bus new.bus
+  poll_fill-line p filled = (poll_fill_answer-keeps host_calls us (CallGoesOn old) (call-kept us 0 old) old new p filled (call-same old)).line
+
+-- and over submissions
+pub num-line : (r : Result Unit NoMemory) (goal : ℕ) (old new : Reading HostState) → OnOk r (new ≡ filled_to host_calls goal old) → OnErr r (FilledShort host_calls goal old new) → LineGoesOn old.bus new.bus
+num-line (Ok u) goal old new ok err = subst (λ (w : Reading HostState). LineGoesOn old.bus w.bus) (sym ok) (submissions_go_on goal old).line
+num-line (Err e) goal old new ok err = (filled_short-keeps host_calls false 0 (CallGoesOn old) (call-kept false 0 old) goal old new err (call-same old)).line
 
 -- a host has as many tickets as its journal
 abbrev pub IsCounted : Reading HostState → Type 0
 IsCounted w = length w.bus.tickets ≡ length (tickets w.bus.kernel.past)
 
-count-kept : (timeout : ℕ) → Keeps timeout IsCounted
-count-kept timeout = record {
+count-kept : (us : Bool) (timeout : ℕ) → Keeps host_calls us timeout IsCounted
+count-kept us timeout = record {
   submission = λ w so_far. let one = entered-count w.bus w.reader.endpoint (fresh_buffer w.reader.size) in omega (arith, one.count, one.past, so_far);
-  end = λ w so_far. so_far;
+  end = λ w goes so_far. so_far;
   wait = λ w front others was so_far. let same = waited-count w.bus front timeout in omega (arith, same.count, same.past, so_far);
-  taking = λ w front others c was empty come so_far. let same = taken-count w.bus front in omega (arith, same.count, same.past, so_far);
+  taking = λ w front others c was goes come so_far. let same = taken-count w.bus front in omega (arith, same.count, same.past, so_far);
 }
 
-pub fill-count : (us : Bool) (timeout : ℕ) (w : Reading HostState) → IsCounted w → IsCounted (fill_came us timeout w).left
-fill-count us timeout w so_far = fill-keeps us timeout IsCounted (count-kept timeout) w so_far
+pub fill-count : (us : Bool) (timeout : ℕ) (w : Reading HostState) → IsCounted w → IsCounted (fill_came host_calls us timeout w).left
+fill-count us timeout w so_far = fill-keeps host_calls us timeout IsCounted (count-kept us timeout) w so_far
 
-pub read-count : (us : Bool) (timeout most : ℕ) (w : Reading HostState) → IsCounted w → IsCounted (read_came us timeout most w).left
-read-count us timeout most w so_far = read-keeps us timeout IsCounted (count-kept timeout) most w (λ v n counted. counted) so_far
+pub read-count : (us : Bool) (timeout most : ℕ) (w : Reading HostState) → IsCounted w → IsCounted (read_came host_calls us timeout most w).left
+read-count us timeout most w so_far = read-keeps host_calls us timeout IsCounted (count-kept us timeout) most w (λ v n counted. counted) so_far
 
 pub filled-count : (goal : ℕ) (w : Reading HostState) → IsCounted w → IsCounted (filled_to host_calls goal w)
-filled-count goal w so_far = more-keeps false 0 IsCounted (count-kept 0) (goal - length w.reader.endpoint.pending) w so_far
+filled-count goal w so_far = filled-keeps host_calls false 0 IsCounted (count-kept false 0) goal w so_far

@@ -1,33 +1,31 @@
 -- Calls on a reader hand over the bytes of the transfers that they take, in order.
-use Rattle.std.proofs.Common.{◌∙◌, ◌≡◌, ℕ, zero, suc, Bool, true, false, List, [], ◌∷◌, ◌++◌, length, take, drop, take-append-drop, append-nil, append_assoc, Option, Some, None, Result, Ok, Err, refl, ap, sym, subst, ◌-◌}
+use Rattle.std.proofs.Common.{◌∙◌, ◌≡◌, ℕ, Bool, true, false, List, [], ◌∷◌, ◌++◌, length, take, drop, take-append-drop, append-nil, append_assoc, Option, Some, None, Result, Ok, Err, refl, ap, sym, subst}
 use Rattle.std.specs.Prelude.{All, IsSome, is_some, min}
 use Rattle.std.specs.Option.{option_map}
 use Rattle.std.proofs.lemmas.Bool.{false≢true}
 use Rattle.std.proofs.lemmas.List.Concat.{flat_map-append}
 use Rattle.std.proofs.lemmas.List.Elements.{All-nil, All-cons, All-head, All-tail, All-append, All-weaker}
 use Rattle.usb_xfer.specs.declared.transfer.Completion.{Completion}
-use Rattle.usb_xfer.specs.declared.error.TransferError.{TransferError}
 use Rattle.usb_kernel.specs.declared.event.Event.{Event}
 use Rattle.usb_kernel.specs.declared.submission.Done.{Done}
 use Rattle.usb_kernel.specs.Completions.{completion}
 use Rattle.usb_kernel.specs.Extends.{Extends}
 use Rattle.usb_kernel.proofs.Extends.{completion-stays}
 use Rattle.usb_bus.specs.Completions.{completion_of, transfer_completion}
+use Rattle.usb_endpoint.specs.Waits.{waited}
 use Rattle.usb_host.specs.HostState.{HostState}
-use Rattle.usb_host.specs.HostBus.{bus_of}
-use Rattle.usb_host.specs.HostWaits.{host_waited}
+use Rattle.usb_host.specs.HostCalls.{host_calls}
 use Rattle.usb_host.specs.TicketEnds.{host_taken}
 use Rattle.usb_host.proofs.CountLemmas.{waited-count, taken-count}
 use Rattle.usb_host.proofs.FollowLemmas.{adds-entered, on-waited, taken-past}
-use Rattle.usb_io.specs.Readers.{ReaderState, no_bytes, bytes_in, fresh_buffer, with_taken, turns}
-use Rattle.usb_io.specs.Reads.{Reading, reading, pending_of, submit_one, begin_turn, filled_to, most_turns}
-use Rattle.usb_io.specs.Answers.{without_bytes, standing}
+use Rattle.usb_io.specs.Readers.{no_bytes, bytes_in, fresh_buffer, with_taken}
+use Rattle.usb_io.specs.Reads.{Reading, reading, pending_of, submit_one, filled_to}
+use Rattle.usb_io.specs.Answers.{handed_over, fill_came}
 use Rattle.usb_io.specs.declared.fault.ReadFault.{ReadFault}
-use Rattle.usb_io.specs.declared.fault.ReadFault.TheVariants.{TimedOut, UnexpectedEof}
-use Rattle.usb_streams.specs.HostReads.{host_calls, Answered, stands_at, front_taken, after_wait, turn_at, turned_if, turned_on, handed_over, fill_came}
 use Rattle.usb_streams.specs.Framed.{given_by}
 use Rattle.usb_streams.specs.Handed.{completed_bytes, HandsOver, FillHandsOver, ReadHandsOver, SubmissionsHandOver}
-use Rattle.usb_streams.proofs.FillKeeps.{Keeps, turns-empty, fill-keeps, more-keeps}
+use Rattle.usb_io.proofs.ReadKeeps.{Keeps, turns-empty, fill-keeps, filled-keeps}
+use Rattle.usb_io.proofs.FillEnds.{fill-lends}
 use Rattle.usb_streams.proofs.TicketsCome.{TicketsCame, came-same, came-one, came-on}
 
 -- a ticket that has its completion
@@ -110,63 +108,26 @@ brings-taken old w front others c was empty come g =
           ∙ one;
     }
 
-brings-kept : (timeout : ℕ) (old : Reading HostState) → Keeps timeout (Brings old)
+brings-kept : (us : Bool) (timeout : ℕ) (old : Reading HostState) → Keeps host_calls us timeout (Brings old)
 unfolding came-one came-on
-brings-kept timeout old = record {
+brings-kept us timeout old = record {
   submission = λ w g. brings-later old w (submit_one host_calls w) g (came-one old w g.tickets) refl refl (adds-entered w.bus w.reader.endpoint (fresh_buffer w.reader.size)).goes.past;
-  end = λ w g. record { tickets = record { taken = g.tickets.taken; more = g.tickets.more; same = g.tickets.same }; complete = g.complete; bytes = g.bytes };
+  end = λ w goes g. record { tickets = record { taken = g.tickets.taken; more = g.tickets.more; same = g.tickets.same }; complete = g.complete; bytes = g.bytes };
   wait = λ w front others was g.
-      let v : Reading HostState = reading (host_waited w.bus front timeout).1 w.reader in
+      let v : Reading HostState = reading (waited host_calls front timeout w.bus) w.reader in
       brings-later old w v g (came-on old w v [] (waited-count w.bus front timeout).past refl g.tickets) (append-nil g.tickets.taken) refl (on-waited w.bus front timeout).past;
-  taking = λ w front others c was empty come g. brings-taken old w front others c was empty come g;
+  taking = λ w front others c was goes come g. brings-taken old w front others c was (turns-empty us w.reader goes) come g;
 }
-
--- the bytes that a call answers are those that stand behind it
-abbrev Lends : Answered → Type 0
-Lends a = (bytes : List ℕ) → a.answer ≡ Ok bytes → bytes ≡ a.left.reader.unread
-
-standing-bytes : (unread : List ℕ) (error : Option TransferError) (bytes : List ℕ) → standing unread error ≡ Ok bytes → bytes ≡ unread
-standing-bytes [] None bytes is = let e : Ok [] ≡ Ok bytes = is in cc
-standing-bytes [] (Some e) bytes is = absurd (let x : without_bytes (Some e) ≡ Ok bytes = is in cc)
-standing-bytes (b ∷ unread) error bytes is = let e : Ok (b ∷ unread) ≡ Ok bytes = is in cc
-
-stands-lends : (w : Reading HostState) → Lends (stands_at w)
-stands-lends w bytes is = standing-bytes w.reader.unread w.reader.error bytes is
-
-fault-lends : (a : Answered) (e : ReadFault) → a.answer ≡ Err e → Lends a
-fault-lends a e fails bytes is = absurd (let x : Err e ≡ Ok bytes = sym fails ∙ is in cc)
-
-after-lends : (found : Bool) (b : HostState) (r : ReaderState) (front : ℕ) (others : List ℕ) (further : Reading HostState → Answered) → ((v : Reading HostState) → Lends (further v)) → Lends (after_wait found b r front others further)
-after-lends true b r front others further next = next (front_taken b r front others (transfer_completion b.kernel.past front))
-after-lends false b r front others further next = fault-lends (after_wait false b r front others further) TimedOut refl
-
-turn-lends : (us : Bool) (timeout : ℕ) (ts : List ℕ) (w : Reading HostState) (further : Reading HostState → Answered) → no_bytes w.reader.unread ≡ true → ((v : Reading HostState) → Lends (further v)) → Lends (turn_at us timeout ts w further)
-turn-lends false timeout [] w further empty next = λ bytes is. (let e : Ok [] ≡ Ok bytes = is in let none : bytes ≡ [] = cc in none) ∙ sym (no_bytes-true w.reader.unread empty)
-turn-lends true timeout [] w further empty next = fault-lends (turn_at true timeout [] w further) UnexpectedEof refl
-turn-lends us timeout (front ∷ others) w further empty next =
-    let p = host_waited w.bus front timeout in after-lends p.0 p.1 w.reader front others further next
-
-turned-if-lends : (b us : Bool) (timeout : ℕ) (w : Reading HostState) (further : Reading HostState → Answered) → turns us w.reader ≡ b → ((v : Reading HostState) → Lends (further v)) → Lends (turned_if b us timeout w further)
-turned-if-lends false us timeout w further is next = stands-lends w
-turned-if-lends true us timeout w further is next = let begun = begin_turn host_calls w in turn-lends us timeout (pending_of begun) begun further (turns-empty us w is) next
-
-turned-lends : (n : ℕ) (us : Bool) (timeout : ℕ) (w : Reading HostState) → Lends (turned_on n us timeout w)
-turned-lends zero us timeout w = fault-lends (turned_on zero us timeout w) TimedOut refl
-turned-lends (suc n) us timeout w = turned-if-lends (turns us w.reader) us timeout w (λ v. turned_on n us timeout v) refl (λ v. turned-lends n us timeout v)
-
-fill-lends : (us : Bool) (timeout : ℕ) (w : Reading HostState) → Lends (fill_came us timeout w)
-unfolding fill_came
-fill-lends us timeout w = turned-lends (suc (most_turns (bus_of w.bus) w.reader)) us timeout w
 
 -- they are handed over
 brings-over : (old new : Reading HostState) → Brings old new → HandsOver old new []
 brings-over old new g = record { taken = g.tickets.taken; tickets = g.tickets.same; complete = g.complete; bytes = g.bytes }
 
-fill-brings : (us : Bool) (timeout : ℕ) (w : Reading HostState) → Brings w (fill_came us timeout w).left
-fill-brings us timeout w = fill-keeps us timeout (Brings w) (brings-kept timeout w) w (brings-same w)
+fill-brings : (us : Bool) (timeout : ℕ) (w : Reading HostState) → Brings w (fill_came host_calls us timeout w).left
+fill-brings us timeout w = fill-keeps host_calls us timeout (Brings w) (brings-kept us timeout w) w (brings-same w)
 
 pub fill_hands_over : FillHandsOver
-fill_hands_over us timeout w = brings-over w (fill_came us timeout w).left (fill-brings us timeout w)
+fill_hands_over us timeout w = brings-over w (fill_came host_calls us timeout w).left (fill-brings us timeout w)
 
 handed-hands : (most : ℕ) (a : Result (List ℕ) ReadFault) (old v : Reading HostState) → ((bytes : List ℕ) → a ≡ Ok bytes → bytes ≡ v.reader.unread) → Brings old v → HandsOver old (handed_over most a v).left (given_by (handed_over most a v).answer)
 handed-hands most (Err e) old v lends g = brings-over old v g
@@ -177,8 +138,8 @@ handed-hands most (Ok bytes) old v lends g =
 
 pub read_hands_over : ReadHandsOver
 read_hands_over us timeout most w =
-    let a = fill_came us timeout w in handed-hands most a.answer w a.left (fill-lends us timeout w) (fill-brings us timeout w)
+    let a = fill_came host_calls us timeout w in handed-hands most a.answer w a.left (fill-lends host_calls us timeout w) (fill-brings us timeout w)
 
 pub submissions_hand_over : SubmissionsHandOver
 submissions_hand_over goal w =
-    brings-over w (filled_to host_calls goal w) (more-keeps false 0 (Brings w) (brings-kept 0 w) (goal - length (pending_of w)) w (brings-same w))
+    brings-over w (filled_to host_calls goal w) (filled-keeps host_calls false 0 (Brings w) (brings-kept false 0 w) goal w (brings-same w))

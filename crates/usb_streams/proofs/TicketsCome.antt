@@ -2,15 +2,16 @@
 use Rattle.std.proofs.Common.{◌≡◌, ℕ, ◌≤◌, ◌+◌, ◌-◌, suc, arith, Bool, false, List, [], ◌∷◌, ◌++◌, length, refl, ap, sym, ◌∙◌}
 use Rattle.std.proofs.lemmas.List.{append_assoc, append-nil}
 use Rattle.usb_kernel.specs.Tickets.{tickets}
+use Rattle.usb_endpoint.specs.Waits.{waited}
 use Rattle.usb_host.specs.HostState.{HostState}
-use Rattle.usb_host.specs.HostWaits.{host_waited}
+use Rattle.usb_host.specs.HostCalls.{host_calls}
 use Rattle.usb_host.specs.TicketEnds.{host_taken}
 use Rattle.usb_host.proofs.CountLemmas.{entered-count, waited-count, taken-count}
 use Rattle.usb_io.specs.Readers.{fresh_buffer, with_taken}
-use Rattle.usb_io.specs.Reads.{Reading, pending_of, submit_one, filled_to}
-use Rattle.usb_streams.specs.HostReads.{host_calls, fill_came, read_came}
+use Rattle.usb_io.specs.Reads.{Reading, reading, pending_of, submit_one, filled_to}
+use Rattle.usb_io.specs.Answers.{fill_came, read_came}
 use Rattle.usb_streams.specs.Numbers.{numbers_from}
-use Rattle.usb_streams.proofs.FillKeeps.{Keeps, fill-keeps, read-keeps, more-keeps}
+use Rattle.usb_io.proofs.ReadKeeps.{Keeps, fill-keeps, read-keeps, filled-keeps}
 
 -- how many tickets there are
 abbrev pub count_of : Reading HostState → ℕ
@@ -60,24 +61,24 @@ came-on old w v front same was came =
           ∙ sym (append_assoc came.taken front (pending_of v));
     }
 
-came-kept : (timeout : ℕ) (old : Reading HostState) → Keeps timeout (TicketsCame old)
-came-kept timeout old = record {
+came-kept : (us : Bool) (timeout : ℕ) (old : Reading HostState) → Keeps host_calls us timeout (TicketsCame old)
+came-kept us timeout old = record {
   submission = came-one old;
-  end = λ w came. record { taken = came.taken; more = came.more; same = came.same };
-  wait = λ w front others was came. came-on old w (record { bus = (host_waited w.bus front timeout).1; reader = w.reader }) [] (waited-count w.bus front timeout).past refl came;
-  taking = λ w front others c was empty come came. came-on old w (record { bus = host_taken w.bus front; reader = with_taken c others w.reader }) (front ∷ []) (taken-count w.bus front).past was came;
+  end = λ w goes came. record { taken = came.taken; more = came.more; same = came.same };
+  wait = λ w front others was came. came-on old w (reading (waited host_calls front timeout w.bus) w.reader) [] (waited-count w.bus front timeout).past refl came;
+  taking = λ w front others c was goes come came. came-on old w (reading (host_taken w.bus front) (with_taken c others w.reader)) (front ∷ []) (taken-count w.bus front).past was came;
 }
 
 -- a call that lends the bytes
-pub fill-tickets : (us : Bool) (timeout : ℕ) (w : Reading HostState) → TicketsCame w (fill_came us timeout w).left
-fill-tickets us timeout w = fill-keeps us timeout (TicketsCame w) (came-kept timeout w) w (came-same w)
+pub fill-tickets : (us : Bool) (timeout : ℕ) (w : Reading HostState) → TicketsCame w (fill_came host_calls us timeout w).left
+fill-tickets us timeout w = fill-keeps host_calls us timeout (TicketsCame w) (came-kept us timeout w) w (came-same w)
 
 -- a read
-pub read-tickets : (us : Bool) (timeout most : ℕ) (w : Reading HostState) → TicketsCame w (read_came us timeout most w).left
+pub read-tickets : (us : Bool) (timeout most : ℕ) (w : Reading HostState) → TicketsCame w (read_came host_calls us timeout most w).left
 read-tickets us timeout most w =
-    read-keeps us timeout (TicketsCame w) (came-kept timeout w) most w
+    read-keeps host_calls us timeout (TicketsCame w) (came-kept us timeout w) most w
     (λ v n came. record { taken = came.taken; more = came.more; same = came.same }) (came-same w)
 
 -- submissions
 pub filled-tickets : (goal : ℕ) (w : Reading HostState) → TicketsCame w (filled_to host_calls goal w)
-filled-tickets goal w = more-keeps false 0 (TicketsCame w) (came-kept 0 w) (goal - length w.reader.endpoint.pending) w (came-same w)
+filled-tickets goal w = filled-keeps host_calls false 0 (TicketsCame w) (came-kept false 0 w) goal w (came-same w)

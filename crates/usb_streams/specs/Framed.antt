@@ -3,13 +3,14 @@ use Rattle.std.specs.Prelude.{ℕ, ◌≡◌, ◌≤◌, ◌-◌, true, List, []
 use Rattle.usb_kernel.specs.Tickets.{tickets}
 use Rattle.usb_kernel.specs.Legal.{IsLawful}
 use Rattle.usb_host.specs.HostState.{HostState}
+use Rattle.usb_host.specs.HostCalls.{host_calls}
 use Rattle.usb_io.specs.Readers.{is_end}
 use Rattle.usb_io.specs.Reads.{Reading, pending_of, filled_to}
+use Rattle.usb_io.specs.Answers.{fill_came, read_came}
 use Rattle.usb_io.specs.Streams.{Byte}
 use Rattle.usb_io.specs.Following.{History, Follows}
 use Rattle.usb_io.specs.declared.fault.ReadFault.{ReadFault}
 use Rattle.usb_streams.specs.Numbers.{numbers_from}
-use Rattle.usb_streams.specs.HostReads.{host_calls, fill_came, read_came}
 
 -- how many tickets there are
 abbrev pub ticket_count : Reading HostState → ℕ
@@ -37,13 +38,13 @@ KeepsToStream old new bytes =
 -- of a call until a short packet that lends the bytes
 abbrev pub FramedFillFollows : Type 0
 FramedFillFollows =
-    (timeout : ℕ) (w : Reading HostState) → KeepsToStream w (fill_came true timeout w).left []
+    (timeout : ℕ) (w : Reading HostState) → KeepsToStream w (fill_came host_calls true timeout w).left []
 
 -- of a read until a short packet
 abbrev pub FramedReadFollows : Type 0
 FramedReadFollows =
     (timeout most : ℕ) (w : Reading HostState) →
-    KeepsToStream w (read_came true timeout most w).left (given_by (read_came true timeout most w).answer)
+    KeepsToStream w (read_came host_calls true timeout most w).left (given_by (read_came host_calls true timeout most w).answer)
 
 -- of the submissions of a number of transfers that is set
 abbrev pub FramedSubmissionsFollow : Type 0
@@ -53,11 +54,11 @@ FramedSubmissionsFollow =
 -- a read until a short packet that has room for a byte, and gives none, leaves an end that stands
 abbrev pub EmptyReadLeavesEnd : Type 0
 EmptyReadLeavesEnd =
-    (timeout most : ℕ) (w : Reading HostState) → 1 ≤ most → (read_came true timeout most w).answer ≡ Ok [] →
-    is_end (read_came true timeout most w).left.reader ≡ true
+    (timeout most : ℕ) (w : Reading HostState) → 1 ≤ most → (read_came host_calls true timeout most w).answer ≡ Ok [] →
+    is_end (read_came host_calls true timeout most w).left.reader ≡ true
 
 -- and so does a call until a short packet that lends no byte
 abbrev pub EmptyFillLeavesEnd : Type 0
 EmptyFillLeavesEnd =
-    (timeout : ℕ) (w : Reading HostState) → (fill_came true timeout w).answer ≡ Ok [] →
-    is_end (fill_came true timeout w).left.reader ≡ true
+    (timeout : ℕ) (w : Reading HostState) → (fill_came host_calls true timeout w).answer ≡ Ok [] →
+    is_end (fill_came host_calls true timeout w).left.reader ≡ true

@@ -6,10 +6,11 @@ use Rattle.usb_xfer.specs.declared.transfer.Completion.{Completion}
 use Rattle.usb_kernel.specs.declared.event.Event.{Event}
 use Rattle.usb_bus.specs.Completions.{transfer_completion}
 use Rattle.usb_host.specs.HostState.{HostState}
+use Rattle.usb_host.specs.HostCalls.{host_calls}
 use Rattle.usb_io.specs.Readers.{bytes_in}
 use Rattle.usb_io.specs.Reads.{Reading, pending_of, filled_to}
+use Rattle.usb_io.specs.Answers.{fill_came, read_came}
 use Rattle.usb_streams.specs.Numbers.{numbers_from}
-use Rattle.usb_streams.specs.HostReads.{host_calls, fill_came, read_came}
 use Rattle.usb_streams.specs.Framed.{ticket_count, given_by}
 
 -- the bytes of the completions that a journal has of these tickets, joined
@@ -31,14 +32,14 @@ pub record HandsOver (old new : Reading HostState) (given : List ℕ) : Type 0 w
 abbrev pub FillHandsOver : Type 0
 FillHandsOver =
     (until_short : Bool) (timeout : ℕ) (w : Reading HostState) →
-    HandsOver w (fill_came until_short timeout w).left []
+    HandsOver w (fill_came host_calls until_short timeout w).left []
 
 -- of a read
 abbrev pub ReadHandsOver : Type 0
 ReadHandsOver =
     (until_short : Bool) (timeout most : ℕ) (w : Reading HostState) →
-    HandsOver w (read_came until_short timeout most w).left
-    (given_by (read_came until_short timeout most w).answer)
+    HandsOver w (read_came host_calls until_short timeout most w).left
+    (given_by (read_came host_calls until_short timeout most w).answer)
 
 -- and of the submissions of a number of transfers that is set
 abbrev pub SubmissionsHandOver : Type 0

@@ -2,9 +2,10 @@
 use Rattle.std.specs.Prelude.{ℕ, ◌≡◌, Bool}
 use Rattle.usb_kernel.specs.Extends.{Extends}
 use Rattle.usb_host.specs.HostState.{HostState}
+use Rattle.usb_host.specs.HostCalls.{host_calls}
 use Rattle.usb_host.specs.HostFrames.{LineGoesOn}
 use Rattle.usb_io.specs.Reads.{Reading, KeepsSettings, filled_to}
-use Rattle.usb_streams.specs.HostReads.{host_calls, fill_came, read_came}
+use Rattle.usb_io.specs.Answers.{fill_came, read_came}
 
 -- steps were taken from the front of the line alone, and what is open stays open; the journal went
 -- on; the reader has the same endpoint, with other tickets pending, and the same settings
@@ -19,13 +20,13 @@ pub record CallGoesOn (old new : Reading HostState) : Type 0 where
 abbrev pub FillGoesOn : Type 0
 FillGoesOn =
     (until_short : Bool) (timeout : ℕ) (w : Reading HostState) →
-    CallGoesOn w (fill_came until_short timeout w).left
+    CallGoesOn w (fill_came host_calls until_short timeout w).left
 
 -- and with a read
 abbrev pub ReadGoesOn : Type 0
 ReadGoesOn =
     (until_short : Bool) (timeout most : ℕ) (w : Reading HostState) →
-    CallGoesOn w (read_came until_short timeout most w).left
+    CallGoesOn w (read_came host_calls until_short timeout most w).left
 
 -- and with the submissions of a number of transfers that is set
 abbrev pub SubmissionsGoOn : Type 0

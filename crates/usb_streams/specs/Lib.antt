@@ -1,5 +1,3 @@
-pub mod HostReads
-pub mod Lent
 pub mod Laws
 pub mod Needs
 pub mod Numbers

@@ -5,11 +5,12 @@ ghost use Rattle.std.specs.Borrow.{sem};
 ghost use Rattle.std.specs.Io.BufRead.{Rests};
 ghost use Rattle.usb_endpoint.specs.Handles.{Stands};
 ghost use Rattle.usb_host.specs.HostBus.{bus_of};
+ghost use Rattle.usb_host.specs.HostCalls.{host_calls};
 ghost use Rattle.usb_host.specs.HostFrames.{LineGoesOn};
 ghost use Rattle.usb_io.specs.AnyReaders.{reader_of};
+ghost use Rattle.usb_io.specs.Lent.{Filled, PollFilled};
 ghost use Rattle.usb_io.specs.Reads.{reading, GoesAlong, KeepsSettings};
 ghost use Rattle.usb_io.specs.contracts.any_reader.AnyReader.{the_row};
-ghost use Rattle.usb_streams.specs.Lent.{FilledAs, PollFilledAs};
 
 use futures::task::Poll;
 use usb_desc::Fail;
@@ -25,7 +26,7 @@ pub fn fill_buf<'a>(reader: &'a mut AnyReader, host: &mut Host) -> Result<&'a [u
     requires stands { Stands (bus_of host.old) (reader_of reader.old).endpoint }
     ensures* lent { sem 𝓛
         (Rests the_row reader.entry
-        (λ new. FilledAs false (reader_of reader.old).timeout
+        (λ new. Filled host_calls false (reader_of reader.old).timeout
         (reading host.old (reader_of reader.old)) (reading host.new (reader_of new)) result
         × LineGoesOn host.old host.new
         × GoesAlong (bus_of host.old) (bus_of host.new) (reader_of reader.old) (reader_of new)
@@ -46,7 +47,7 @@ pub fn fill_until_short<'a>(
     requires stands { Stands (bus_of host.old) (reader_of reader.old).endpoint }
     ensures* lent { sem 𝓛
         (Rests the_row reader.entry
-        (λ new. FilledAs true (reader_of reader.old).timeout
+        (λ new. Filled host_calls true (reader_of reader.old).timeout
         (reading host.old (reader_of reader.old)) (reading host.new (reader_of new)) result
         × LineGoesOn host.old host.new
         × GoesAlong (bus_of host.old) (bus_of host.new) (reader_of reader.old) (reader_of new)
@@ -63,7 +64,7 @@ pub fn poll_fill_buf<'a>(
     requires stands { Stands (bus_of host.old) (reader_of reader.old).endpoint }
     ensures* lent { sem 𝓛
         (Rests the_row reader.entry
-        (λ new. PollFilledAs false
+        (λ new. PollFilled host_calls false
         (reading host.old (reader_of reader.old)) (reading host.new (reader_of new)) result
         × LineGoesOn host.old host.new
         × GoesAlong (bus_of host.old) (bus_of host.new) (reader_of reader.old) (reader_of new)
@@ -80,7 +81,7 @@ pub fn poll_fill_until_short<'a>(
     requires stands { Stands (bus_of host.old) (reader_of reader.old).endpoint }
     ensures* lent { sem 𝓛
         (Rests the_row reader.entry
-        (λ new. PollFilledAs true
+        (λ new. PollFilled host_calls true
         (reading host.old (reader_of reader.old)) (reading host.new (reader_of new)) result
         × LineGoesOn host.old host.new
         × GoesAlong (bus_of host.old) (bus_of host.new) (reader_of reader.old) (reader_of new)

@@ -1,4 +1,4 @@
-//! Reads of a reader at a host, whose answers are functions of the host and the reader, and how many submissions they may need.
+//! Reads of a reader at a host, which keep its line, and how many submissions they may need.
 #![tactic(auto)]
 
 mod fills;

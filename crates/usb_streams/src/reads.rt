@@ -1,14 +1,15 @@
 //! Reads of a reader at a host.
 
-ghost use Rattle.std.specs.Prelude.{◌≡◌, ◌≤◌, true, false, take, length, Ok, Err, IfOk, IfErr, OnErr};
+ghost use Rattle.std.specs.Prelude.{◌≡◌, ◌≤◌, true, false, take, drop, length, Ok, Err, IfOk, IfErr, OnErr};
 ghost use Rattle.usb_endpoint.specs.Handles.{Stands};
 ghost use Rattle.usb_endpoint.specs.Polls.{IfReady, IfPending};
 ghost use Rattle.usb_host.specs.HostBus.{bus_of};
+ghost use Rattle.usb_host.specs.HostCalls.{host_calls};
 ghost use Rattle.usb_host.specs.HostFrames.{LineGoesOn};
 ghost use Rattle.usb_io.specs.AnyReaders.{reader_of};
-ghost use Rattle.usb_io.specs.Answers.{IsInTime};
+ghost use Rattle.usb_io.specs.Answered.{answered};
+ghost use Rattle.usb_io.specs.Answers.{read_came, ReadFails, IsInTime};
 ghost use Rattle.usb_io.specs.Reads.{reading, GoesAlong, KeepsSettings};
-ghost use Rattle.usb_streams.specs.HostReads.{read_came, answered, ReadFails};
 
 use futures::task::Poll;
 use usb_desc::Fail;
@@ -30,11 +31,12 @@ pub fn read(
     requires stands { Stands (bus_of host.old) (reader_of reader.old).endpoint }
     ensures few { IfOk result (λ n. n ≤ length dest.old) }
     ensures read { IfOk result
-        (λ n. read_came false (reader_of reader.old).timeout (length dest.old)
+        (λ n. read_came host_calls false (reader_of reader.old).timeout (length dest.old)
         (reading host.old (reader_of reader.old))
         ≡ answered (Ok (take n dest.new)) (reading host.new (reader_of reader.new))) }
+    ensures behind { IfOk result (λ n. drop n dest.new ≡ drop n dest.old) }
     ensures failed { IfErr result
-        (ReadFails false (reader_of reader.old).timeout (length dest.old)
+        (ReadFails host_calls false (reader_of reader.old).timeout (length dest.old)
         (reading host.old (reader_of reader.old)) (reading host.new (reader_of reader.new))) }
     ensures kept { OnErr result (dest.new ≡ dest.old) }
     ensures line { LineGoesOn host.old host.new }
@@ -58,11 +60,12 @@ pub fn read_until_short(
     requires stands { Stands (bus_of host.old) (reader_of reader.old).endpoint }
     ensures few { IfOk result (λ n. n ≤ length dest.old) }
     ensures read { IfOk result
-        (λ n. read_came true (reader_of reader.old).timeout (length dest.old)
+        (λ n. read_came host_calls true (reader_of reader.old).timeout (length dest.old)
         (reading host.old (reader_of reader.old))
         ≡ answered (Ok (take n dest.new)) (reading host.new (reader_of reader.new))) }
+    ensures behind { IfOk result (λ n. drop n dest.new ≡ drop n dest.old) }
     ensures failed { IfErr result
-        (ReadFails true (reader_of reader.old).timeout (length dest.old)
+        (ReadFails host_calls true (reader_of reader.old).timeout (length dest.old)
         (reading host.old (reader_of reader.old)) (reading host.new (reader_of reader.new))) }
     ensures kept { OnErr result (dest.new ≡ dest.old) }
     ensures line { LineGoesOn host.old host.new }
@@ -82,16 +85,17 @@ pub fn poll_read(
     requires stands { Stands (bus_of host.old) (reader_of reader.old).endpoint }
     ensures few { IfReady result (λ r. IfOk r (λ n. n ≤ length dest.old)) }
     ensures read { IfReady result
-        (λ r. IfOk r (λ n. read_came false 0 (length dest.old)
+        (λ r. IfOk r (λ n. read_came host_calls false 0 (length dest.old)
         (reading host.old (reader_of reader.old))
         ≡ answered (Ok (take n dest.new)) (reading host.new (reader_of reader.new)))) }
+    ensures behind { IfReady result (λ r. IfOk r (λ n. drop n dest.new ≡ drop n dest.old)) }
     ensures failed { IfReady result
         (λ r. IfErr r
-        (ReadFails false 0 (length dest.old)
+        (ReadFails host_calls false 0 (length dest.old)
         (reading host.old (reader_of reader.old)) (reading host.new (reader_of reader.new)))) }
     ensures in_time { IfReady result (λ r. IfErr r IsInTime) }
     ensures pending { IfPending result
-        (read_came false 0 (length dest.old) (reading host.old (reader_of reader.old))
+        (read_came host_calls false 0 (length dest.old) (reading host.old (reader_of reader.old))
         ≡ answered (Err ReadFault.TimedOut) (reading host.new (reader_of reader.new))) }
     ensures kept { IfReady result (λ r. OnErr r (dest.new ≡ dest.old)) }
     ensures untouched { IfPending result (dest.new ≡ dest.old) }
@@ -112,16 +116,17 @@ pub fn poll_read_until_short(
     requires stands { Stands (bus_of host.old) (reader_of reader.old).endpoint }
     ensures few { IfReady result (λ r. IfOk r (λ n. n ≤ length dest.old)) }
     ensures read { IfReady result
-        (λ r. IfOk r (λ n. read_came true 0 (length dest.old)
+        (λ r. IfOk r (λ n. read_came host_calls true 0 (length dest.old)
         (reading host.old (reader_of reader.old))
         ≡ answered (Ok (take n dest.new)) (reading host.new (reader_of reader.new)))) }
+    ensures behind { IfReady result (λ r. IfOk r (λ n. drop n dest.new ≡ drop n dest.old)) }
     ensures failed { IfReady result
         (λ r. IfErr r
-        (ReadFails true 0 (length dest.old)
+        (ReadFails host_calls true 0 (length dest.old)
         (reading host.old (reader_of reader.old)) (reading host.new (reader_of reader.new)))) }
     ensures in_time { IfReady result (λ r. IfErr r IsInTime) }
     ensures pending { IfPending result
-        (read_came true 0 (length dest.old) (reading host.old (reader_of reader.old))
+        (read_came host_calls true 0 (length dest.old) (reading host.old (reader_of reader.old))
         ≡ answered (Err ReadFault.TimedOut) (reading host.new (reader_of reader.new))) }
     ensures kept { IfReady result (λ r. OnErr r (dest.new ≡ dest.old)) }
     ensures untouched { IfPending result (dest.new ≡ dest.old) }

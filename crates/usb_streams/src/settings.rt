@@ -3,10 +3,10 @@
 ghost use Rattle.std.specs.Prelude.{◌≡◌, ◌-◌, ◌≤◌, OnOk, OnErr};
 ghost use Rattle.usb_endpoint.specs.Handles.{Stands};
 ghost use Rattle.usb_host.specs.HostBus.{bus_of};
+ghost use Rattle.usb_host.specs.HostCalls.{host_calls};
 ghost use Rattle.usb_host.specs.HostFrames.{LineGoesOn};
 ghost use Rattle.usb_io.specs.AnyReaders.{reader_of};
 ghost use Rattle.usb_io.specs.Reads.{reading, filled_to, FilledShort, GoesAlong};
-ghost use Rattle.usb_streams.specs.HostReads.{host_calls};
 
 use usb_desc::NoMemory;
 use usb_host::Host;

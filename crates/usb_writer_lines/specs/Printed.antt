@@ -9,7 +9,7 @@ use Rattle.usb_host.specs.HostFrames.{LineGoesOn}
 use Rattle.usb_io.specs.Writers.{Writing, KeepsWriter}
 use Rattle.usb_io.specs.declared.fault.WriteFault.{WriteFault}
 use Rattle.usb_io.specs.declared.fault.WriteFault.TheVariants.{TimedOut}
-use Rattle.usb_writes.specs.HostWrites.{Answered, answered}
+use Rattle.usb_io.specs.Answered.{Answered, answered}
 use Rattle.usb_lines.specs.Calls.{ok_line, condition_line}
 use Rattle.usb_lines.specs.Controls.{pending_line}
 use Rattle.usb_stream_lines.specs.Faults.{write_fault_line}
@@ -31,7 +31,7 @@ polled line (Err TimedOut) = pending_line
 polled line answer = line answer
 
 -- a submission that has its memory does not fail
-abbrev pub submitted_to : Writing HostState → Answered (Unit {0})
+abbrev pub submitted_to : Writing HostState → Answered (Unit {0}) WriteFault (Writing HostState)
 submitted_to left = answered (Ok tt) left
 
 -- a barred call changed nothing; any other printed its line, and left host and writer so
@@ -41,7 +41,8 @@ CameTo true line left before after old new = (after ≡ before ++ condition_line
 CameTo false line left before after old new = (after ≡ before ++ line) × (new ≡ left)
 
 -- so is it of a call that answers so; of want of memory nothing is said
-abbrev pub Prints : {A E : Type 0} → Bool → (Result A WriteFault → List ℕ) → Answered A →
+abbrev pub Prints : {A E : Type 0} → Bool → (Result A WriteFault → List ℕ) →
+    Answered A WriteFault (Writing HostState) →
     String Global → String Global → Writing HostState → Writing HostState → Result Unit E → Type 0
 Prints barred line a before after old new result =
     OnOk result

@@ -3,11 +3,10 @@
 ghost use Rattle.std.specs.Prelude.{◌≡◌, OnErr};
 ghost use Rattle.usb_endpoint.specs.Handles.{Stands};
 ghost use Rattle.usb_host.specs.HostBus.{bus_of};
+ghost use Rattle.usb_host.specs.HostCalls.{host_calls};
 ghost use Rattle.usb_io.specs.Writers.{writing};
-ghost use Rattle.usb_io.specs.WriteAnswers.{PolledEndShort};
-ghost use Rattle.usb_streams.specs.HostReads.{host_calls};
+ghost use Rattle.usb_io.specs.WriteAnswers.{flush_came, flush_end_came, poll_flush_end_came, SubmitEndShort, PolledEndShort};
 ghost use Rattle.usb_writes.specs.AnyWriters.{writer_of};
-ghost use Rattle.usb_writes.specs.HostWrites.{flush_came, flush_end_came, poll_flush_end_came, SubmitEndShort};
 ghost use Rattle.usb_writer_lines.specs.Needs.{bars_call, flush_need, finish_need, poll_finish_need};
 ghost use Rattle.usb_writer_lines.specs.Printed.{flushed_line, polled, Prints, CallKeeps};
 ghost use Rattle.usb_writer_lines.specs.Short.{SubmitShort, LeftShort};
@@ -31,14 +30,14 @@ pub fn flush(writer: &mut AnyWriter, host: &mut Host, line: &mut String) -> Resu
     ensures printed { Prints
         (bars_call (writing host.old (writer_of writer.old)) (flush_need (writer_of writer.old)))
         flushed_line
-        (flush_came (writer_of writer.old).timeout
+        (flush_came host_calls (writer_of writer.old).timeout
         (writing host.old (writer_of writer.old)))
         line.old line.new
         (writing host.old (writer_of writer.old)) (writing host.new (writer_of writer.new)) result }
     ensures short { OnErr result
         (LeftShort
         (bars_call (writing host.old (writer_of writer.old)) (flush_need (writer_of writer.old)))
-        (flush_came (writer_of writer.old).timeout
+        (flush_came host_calls (writer_of writer.old).timeout
         (writing host.old (writer_of writer.old))).left
         SubmitShort
         (writing host.old (writer_of writer.old)) (writing host.new (writer_of writer.new))) }
@@ -71,13 +70,13 @@ pub fn poll_flush(
     ensures printed { Prints
         (bars_call (writing host.old (writer_of writer.old)) (flush_need (writer_of writer.old)))
         (polled flushed_line)
-        (flush_came 0 (writing host.old (writer_of writer.old)))
+        (flush_came host_calls 0 (writing host.old (writer_of writer.old)))
         line.old line.new
         (writing host.old (writer_of writer.old)) (writing host.new (writer_of writer.new)) result }
     ensures short { OnErr result
         (LeftShort
         (bars_call (writing host.old (writer_of writer.old)) (flush_need (writer_of writer.old)))
-        (flush_came 0 (writing host.old (writer_of writer.old))).left
+        (flush_came host_calls 0 (writing host.old (writer_of writer.old))).left
         SubmitShort
         (writing host.old (writer_of writer.old)) (writing host.new (writer_of writer.new))) }
     ensures keeps { CallKeeps
@@ -106,16 +105,16 @@ pub fn flush_end(writer: &mut AnyWriter, host: &mut Host, line: &mut String) -> 
     ensures printed { Prints
         (bars_call (writing host.old (writer_of writer.old)) (finish_need (writer_of writer.old)))
         flushed_line
-        (flush_end_came (writer_of writer.old).timeout
+        (flush_end_came host_calls (writer_of writer.old).timeout
         (writing host.old (writer_of writer.old)))
         line.old line.new
         (writing host.old (writer_of writer.old)) (writing host.new (writer_of writer.new)) result }
     ensures short { OnErr result
         (LeftShort
         (bars_call (writing host.old (writer_of writer.old)) (finish_need (writer_of writer.old)))
-        (flush_end_came (writer_of writer.old).timeout
+        (flush_end_came host_calls (writer_of writer.old).timeout
         (writing host.old (writer_of writer.old))).left
-        SubmitEndShort
+        (SubmitEndShort host_calls)
         (writing host.old (writer_of writer.old)) (writing host.new (writer_of writer.new))) }
     ensures keeps { CallKeeps
         (writing host.old (writer_of writer.old)) (writing host.new (writer_of writer.new)) }
@@ -147,14 +146,14 @@ pub fn poll_flush_end(
         (bars_call (writing host.old (writer_of writer.old))
         (poll_finish_need (writer_of writer.old)))
         (polled flushed_line)
-        (poll_flush_end_came (writing host.old (writer_of writer.old)))
+        (poll_flush_end_came host_calls (writing host.old (writer_of writer.old)))
         line.old line.new
         (writing host.old (writer_of writer.old)) (writing host.new (writer_of writer.new)) result }
     ensures short { OnErr result
         (LeftShort
         (bars_call (writing host.old (writer_of writer.old))
         (poll_finish_need (writer_of writer.old)))
-        (poll_flush_end_came (writing host.old (writer_of writer.old))).left
+        (poll_flush_end_came host_calls (writing host.old (writer_of writer.old))).left
         (PolledEndShort host_calls)
         (writing host.old (writer_of writer.old)) (writing host.new (writer_of writer.new))) }
     ensures keeps { CallKeeps

@@ -3,9 +3,10 @@
 ghost use Rattle.std.specs.Prelude.{◌≡◌, OnErr};
 ghost use Rattle.usb_endpoint.specs.Handles.{Stands};
 ghost use Rattle.usb_host.specs.HostBus.{bus_of};
+ghost use Rattle.usb_host.specs.HostCalls.{host_calls};
 ghost use Rattle.usb_io.specs.Writers.{writing};
+ghost use Rattle.usb_io.specs.WriteAnswers.{submit_came, submit_end_came, SubmitEndShort};
 ghost use Rattle.usb_writes.specs.AnyWriters.{writer_of};
-ghost use Rattle.usb_writes.specs.HostWrites.{submit_came, submit_end_came, SubmitEndShort};
 ghost use Rattle.usb_writer_lines.specs.Needs.{bars_call, flush_need, finish_need};
 ghost use Rattle.usb_writer_lines.specs.Printed.{flushed_line, submitted_to, Prints, CallKeeps};
 ghost use Rattle.usb_writer_lines.specs.Short.{SubmitShort, LeftShort};
@@ -27,13 +28,13 @@ pub fn submit(writer: &mut AnyWriter, host: &mut Host, line: &mut String) -> Res
     ensures printed { Prints
         (bars_call (writing host.old (writer_of writer.old)) (flush_need (writer_of writer.old)))
         flushed_line
-        (submitted_to (submit_came (writing host.old (writer_of writer.old))))
+        (submitted_to (submit_came host_calls (writing host.old (writer_of writer.old))))
         line.old line.new
         (writing host.old (writer_of writer.old)) (writing host.new (writer_of writer.new)) result }
     ensures short { OnErr result
         (LeftShort
         (bars_call (writing host.old (writer_of writer.old)) (flush_need (writer_of writer.old)))
-        (submit_came (writing host.old (writer_of writer.old)))
+        (submit_came host_calls (writing host.old (writer_of writer.old)))
         SubmitShort
         (writing host.old (writer_of writer.old)) (writing host.new (writer_of writer.new))) }
     ensures keeps { CallKeeps
@@ -61,14 +62,14 @@ pub fn submit_end(
     ensures printed { Prints
         (bars_call (writing host.old (writer_of writer.old)) (finish_need (writer_of writer.old)))
         flushed_line
-        (submitted_to (submit_end_came (writing host.old (writer_of writer.old))))
+        (submitted_to (submit_end_came host_calls (writing host.old (writer_of writer.old))))
         line.old line.new
         (writing host.old (writer_of writer.old)) (writing host.new (writer_of writer.new)) result }
     ensures short { OnErr result
         (LeftShort
         (bars_call (writing host.old (writer_of writer.old)) (finish_need (writer_of writer.old)))
-        (submit_end_came (writing host.old (writer_of writer.old)))
-        SubmitEndShort
+        (submit_end_came host_calls (writing host.old (writer_of writer.old)))
+        (SubmitEndShort host_calls)
         (writing host.old (writer_of writer.old)) (writing host.new (writer_of writer.new))) }
     ensures keeps { CallKeeps
         (writing host.old (writer_of writer.old)) (writing host.new (writer_of writer.new)) }

@@ -3,9 +3,10 @@
 ghost use Rattle.std.specs.Prelude.{◌≡◌, OnErr};
 ghost use Rattle.usb_endpoint.specs.Handles.{Stands};
 ghost use Rattle.usb_host.specs.HostBus.{bus_of};
+ghost use Rattle.usb_host.specs.HostCalls.{host_calls};
 ghost use Rattle.usb_io.specs.Writers.{writing};
+ghost use Rattle.usb_io.specs.WriteAnswers.{write_came, WriteShort};
 ghost use Rattle.usb_writes.specs.AnyWriters.{writer_of};
-ghost use Rattle.usb_writes.specs.HostWrites.{write_came, WriteShort};
 ghost use Rattle.usb_writer_lines.specs.Needs.{bars_call, write_need};
 ghost use Rattle.usb_writer_lines.specs.Printed.{written_line, polled, Prints, CallKeeps};
 ghost use Rattle.usb_writer_lines.specs.Short.{LeftShort};
@@ -35,16 +36,16 @@ pub fn write(
     ensures printed { Prints
         (bars_call (writing host.old (writer_of writer.old)) (write_need (writer_of writer.old)))
         written_line
-        (write_came (writer_of writer.old).timeout bytes.now
+        (write_came host_calls (writer_of writer.old).timeout bytes.now
         (writing host.old (writer_of writer.old)))
         line.old line.new
         (writing host.old (writer_of writer.old)) (writing host.new (writer_of writer.new)) result }
     ensures short { OnErr result
         (LeftShort
         (bars_call (writing host.old (writer_of writer.old)) (write_need (writer_of writer.old)))
-        (write_came (writer_of writer.old).timeout bytes.now
+        (write_came host_calls (writer_of writer.old).timeout bytes.now
         (writing host.old (writer_of writer.old))).left
-        (WriteShort (writer_of writer.old).timeout)
+        (WriteShort host_calls (writer_of writer.old).timeout)
         (writing host.old (writer_of writer.old)) (writing host.new (writer_of writer.new))) }
     ensures keeps { CallKeeps
         (writing host.old (writer_of writer.old)) (writing host.new (writer_of writer.new)) }
@@ -76,14 +77,14 @@ pub fn poll_write(
     ensures printed { Prints
         (bars_call (writing host.old (writer_of writer.old)) (write_need (writer_of writer.old)))
         (polled written_line)
-        (write_came 0 bytes.now (writing host.old (writer_of writer.old)))
+        (write_came host_calls 0 bytes.now (writing host.old (writer_of writer.old)))
         line.old line.new
         (writing host.old (writer_of writer.old)) (writing host.new (writer_of writer.new)) result }
     ensures short { OnErr result
         (LeftShort
         (bars_call (writing host.old (writer_of writer.old)) (write_need (writer_of writer.old)))
-        (write_came 0 bytes.now (writing host.old (writer_of writer.old))).left
-        (WriteShort 0)
+        (write_came host_calls 0 bytes.now (writing host.old (writer_of writer.old))).left
+        (WriteShort host_calls 0)
         (writing host.old (writer_of writer.old)) (writing host.new (writer_of writer.new))) }
     ensures keeps { CallKeeps
         (writing host.old (writer_of writer.old)) (writing host.new (writer_of writer.new)) }

@@ -5,25 +5,27 @@ use Rattle.usb_xfer.specs.declared.transfer.Completion.{Completion}
 use Rattle.usb_kernel.specs.Tickets.{tickets}
 use Rattle.usb_kernel.proofs.Extends.{extends-same, extends-trans}
 use Rattle.usb_endpoint.specs.EndpointState.{EndpointState, route_of}
+use Rattle.usb_endpoint.specs.Waits.{waited}
 use Rattle.usb_endpoint.specs.Submits.{is_valid, transfer_by, handed_over, entered}
 use Rattle.usb_host.specs.HostState.{HostState}
-use Rattle.usb_host.specs.HostCalls.{host_submitted, host_refused}
-use Rattle.usb_host.specs.HostWaits.{host_waited}
+use Rattle.usb_host.specs.HostCalls.{host_calls}
+use Rattle.usb_host.specs.HostFrames.{LineGoesOn}
 use Rattle.usb_host.specs.TicketEnds.{host_taken}
 use Rattle.usb_host.proofs.HostKeeps.{KeepsOpen}
-use Rattle.usb_host.proofs.CallFrames.{keeps-submitted, keeps-refused, keeps-taken}
+use Rattle.usb_host.proofs.CallFrames.{keeps-open, keeps-submitted, keeps-refused, keeps-taken}
 use Rattle.usb_host.proofs.CountLemmas.{entered-count, waited-count, taken-count}
 use Rattle.usb_host.proofs.FollowLemmas.{adds-entered, taken-past}
 use Rattle.usb_host.proofs.WaitFrames.{line-keeps, line-trans, went-waited}
 use Rattle.usb_io.specs.Writers.{WriterState, Writing, writing, not_begun, send, with_taken, KeepsWriter}
-use Rattle.usb_streams.specs.HostReads.{host_calls}
-use Rattle.usb_streams.proofs.LinesGoOn.{line-same}
-use Rattle.usb_writes.specs.HostWrites.{write_drained, write_came, flush_came, flush_end_came, poll_flush_end_came, submit_came, submit_end_came}
+use Rattle.usb_io.specs.WriteAnswers.{write_drained, write_came, flush_came, flush_end_came, poll_flush_end_came, submit_came, submit_end_came}
 use Rattle.usb_writes.specs.Laws.{CallGoesOn, WriteGoesOn, FlushGoesOn, FlushEndGoesOn, PollFlushEndGoesOn, SubmitGoesOn, SubmitEndGoesOn}
 use Rattle.usb_writes.proofs.WritesKeep.{with_set, Keeps, submit-keeps, submit_end-keeps, write_drained-keeps, write-keeps, flush-keeps, flush_end-keeps, poll_flush_end-keeps}
 
 keeps-same : (w : WriterState) → KeepsWriter w w
 keeps-same w = record { n = refl; size = refl; timeout = refl; endpoint = refl }
+
+pub line-same : (h : HostState) → LineGoesOn h h
+line-same h = line-keeps h h (keeps-open h)
 
 pub call-same : (w : Writing HostState) → CallGoesOn w w
 call-same w = record { line = line-same w.bus; past = extends-same w.bus.kernel.past; settings = keeps-same w.writer }
@@ -47,19 +49,19 @@ call-set w buffer begun = record { line = line-same w.bus; past = extends-same w
 pub call-not_begun : (w : Writing HostState) → CallGoesOn w (not_begun w)
 call-not_begun w = call-set w w.writer.buffer false
 
-keeps-handed : (h : HostState) (e : EndpointState) (b : BufferState) (valid : Bool) → KeepsOpen h (handed_over host_submitted host_refused h (route_of e) (transfer_by (route_of e) b) valid)
+keeps-handed : (h : HostState) (e : EndpointState) (b : BufferState) (valid : Bool) → KeepsOpen h (handed_over host_calls h (route_of e) (transfer_by (route_of e) b) valid)
 keeps-handed h e b true = keeps-submitted h (route_of e) (transfer_by (route_of e) b)
 keeps-handed h e b false = keeps-refused h (route_of e) (transfer_by (route_of e) b) 22
 
 pub call-send : (w : Writing HostState) (b : BufferState) → CallGoesOn w (send host_calls b w)
 call-send w b =
     record {
-      line = line-keeps w.bus (entered host_submitted host_refused w.bus w.writer.endpoint b) (keeps-handed w.bus w.writer.endpoint b (is_valid w.writer.endpoint b));
+      line = line-keeps w.bus (entered host_calls w.bus w.writer.endpoint b) (keeps-handed w.bus w.writer.endpoint b (is_valid w.writer.endpoint b));
       past = (adds-entered w.bus w.writer.endpoint b).goes.past;
       settings = record { n = refl; size = refl; timeout = refl; endpoint = refl };
     }
 
-pub call-waited : (w : Writing HostState) (front timeout : ℕ) → CallGoesOn w (writing (host_waited w.bus front timeout).1 w.writer)
+pub call-waited : (w : Writing HostState) (front timeout : ℕ) → CallGoesOn w (writing (waited host_calls front timeout w.bus) w.writer)
 call-waited w front timeout = let went = went-waited w.bus front timeout in record { line = went.line; past = went.later.past; settings = keeps-same w.writer }
 
 pub call-taken : (w : Writing HostState) (front : ℕ) (others : List ℕ) (c : Completion) → CallGoesOn w (writing (host_taken w.bus front) (with_taken c others w.writer))
@@ -74,11 +76,11 @@ call-kept : (first : Writing HostState) → Keeps (CallGoesOn first)
 call-kept first = record {
   set = λ w buffer begun so_far. call-trans first w (with_set buffer begun w) so_far (call-set w buffer begun);
   submission = λ w b so_far. call-trans first w (send host_calls b w) so_far (call-send w b);
-  wait = λ w timeout front others was so_far. call-trans first w (writing (host_waited w.bus front timeout).1 w.writer) so_far (call-waited w front timeout);
+  wait = λ w timeout front others was so_far. call-trans first w (writing (waited host_calls front timeout w.bus) w.writer) so_far (call-waited w front timeout);
   taking = λ w front others c was come so_far. call-trans first w (writing (host_taken w.bus front) (with_taken c others w.writer)) so_far (call-taken w front others c);
 }
 
-pub call-write_drained : (timeout : ℕ) (w : Writing HostState) → CallGoesOn w (write_drained timeout w).left
+pub call-write_drained : (timeout : ℕ) (w : Writing HostState) → CallGoesOn w (write_drained host_calls timeout w).left
 call-write_drained timeout w = write_drained-keeps (CallGoesOn w) (call-kept w) timeout w (call-same w)
 
 pub write_goes_on : WriteGoesOn
@@ -111,20 +113,20 @@ count-kept = record {
   taking = λ w front others c was come so_far. let same = taken-count w.bus front in omega (arith, same.count, same.past, so_far);
 }
 
-pub write-count : (timeout : ℕ) (src : List ℕ) (w : Writing HostState) → IsCounted w → IsCounted (write_came timeout src w).left
+pub write-count : (timeout : ℕ) (src : List ℕ) (w : Writing HostState) → IsCounted w → IsCounted (write_came host_calls timeout src w).left
 write-count timeout src w so_far = write-keeps IsCounted count-kept timeout src w so_far
 
-pub flush-count : (timeout : ℕ) (w : Writing HostState) → IsCounted w → IsCounted (flush_came timeout w).left
+pub flush-count : (timeout : ℕ) (w : Writing HostState) → IsCounted w → IsCounted (flush_came host_calls timeout w).left
 flush-count timeout w so_far = flush-keeps IsCounted count-kept timeout w so_far
 
-pub flush_end-count : (timeout : ℕ) (w : Writing HostState) → IsCounted w → IsCounted (flush_end_came timeout w).left
+pub flush_end-count : (timeout : ℕ) (w : Writing HostState) → IsCounted w → IsCounted (flush_end_came host_calls timeout w).left
 flush_end-count timeout w so_far = flush_end-keeps IsCounted count-kept timeout w so_far
 
-pub poll_flush_end-count : (w : Writing HostState) → IsCounted w → IsCounted (poll_flush_end_came w).left
+pub poll_flush_end-count : (w : Writing HostState) → IsCounted w → IsCounted (poll_flush_end_came host_calls w).left
 poll_flush_end-count w so_far = poll_flush_end-keeps IsCounted count-kept w so_far
 
-pub submit-count : (w : Writing HostState) → IsCounted w → IsCounted (submit_came w)
+pub submit-count : (w : Writing HostState) → IsCounted w → IsCounted (submit_came host_calls w)
 submit-count w so_far = submit-keeps IsCounted count-kept w so_far
 
-pub submit_end-count : (w : Writing HostState) → IsCounted w → IsCounted (submit_end_came w)
+pub submit_end-count : (w : Writing HostState) → IsCounted w → IsCounted (submit_end_came host_calls w)
 submit_end-count w so_far = submit_end-keeps IsCounted count-kept w so_far

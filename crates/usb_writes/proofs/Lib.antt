@@ -1,6 +1,5 @@
-pub mod DrainsCome
 pub mod WritesKeep
 pub mod CallsGoOn
-pub mod CallAnswers
+pub mod CallsLeave
 pub mod TicketMoves
 pub mod Tells

@@ -8,20 +8,19 @@ use Rattle.usb_kernel.specs.Extends.{Extends}
 use Rattle.usb_kernel.specs.WholePackets.{is_whole}
 use Rattle.usb_bus.specs.Completions.{transfer_completion}
 use Rattle.usb_endpoint.specs.EndpointState.{EndpointState}
+use Rattle.usb_endpoint.specs.Waits.{waited}
 use Rattle.usb_host.specs.HostState.{HostState}
-use Rattle.usb_host.specs.HostWaits.{host_waited}
+use Rattle.usb_host.specs.HostCalls.{host_calls}
 use Rattle.usb_host.specs.TicketEnds.{host_taken}
 use Rattle.usb_io.specs.Carried.{HandleCarries, sent_bytes, full_bytes, begun_calls, written_calls}
-use Rattle.usb_io.specs.Fronts.{waits_on}
+use Rattle.usb_io.specs.Fronts.{Drained, waits_on, drained_if, drained_of, drained}
 use Rattle.usb_io.specs.Writers.{WriterState, Writing, writing, not_begun, out_buffer, empty_buffer, send, sent, sent_end, kept_buffer, with_taken}
-use Rattle.usb_io.specs.WriteAnswers.{accepted, accepted_count, flush_start, end_start, with_end_begun, begun_end}
+use Rattle.usb_io.specs.WriteAnswers.{accepted, accepted_count, accepting, write_drained, submit_came, submit_end_came, with_end_begun, begun_end, ending as ended}
 use Rattle.usb_io.specs.Writes.{Call, Accept, Flush, Finish, Written, written, flushes, ending, accepts as accepts_of}
 use Rattle.usb_io.specs.declared.fault.WriteFault.{WriteFault}
 use Rattle.usb_io.specs.declared.fault.WriteFault.TheVariants.{Transfer, TimedOut}
-use Rattle.usb_streams.specs.HostReads.{host_calls}
-use Rattle.usb_writes.specs.HostWrites.{Drained, after_taking, after_wait, drained_if, drained_of, drained, accepting, write_drained, ending as ended}
 use Rattle.usb_writes.specs.Told.{failures_of, failures_at, IsComplete, CallTells, WriteTells, FlushTells, FlushEndTells, PollFlushEndTells, SubmitTells, SubmitEndTells}
-use Rattle.usb_writes.proofs.WritesKeep.{with_set}
+use Rattle.usb_writes.proofs.WritesKeep.{with_set, once_and, after_wait, once-waits}
 use Rattle.usb_writes.proofs.TicketMoves.{Moves, moves-trans, moves-same, moves-set, moves-waited, failures_in, moves-taken, moves-sent, complete-later, failures-later, failures-append}
 
 -- these calls submit these transfers, and leave the bytes that stand then
@@ -74,11 +73,11 @@ sent-none None w was = ap (λ (b : Option (List ℕ)). unwrap_or b []) was
 sent-none (Some []) w was = ap (λ (b : Option (List ℕ)). unwrap_or b []) was
 sent-none (Some (x ∷ xs)) w was = refl
 
-flush-starts : (w : Writing HostState) → w.writer.endpoint.address < 128 → Starts w (flush_start host_calls w) (Flush ∷ [])
+flush-starts : (w : Writing HostState) → w.writer.endpoint.address < 128 → Starts w (submit_came host_calls w) (Flush ∷ [])
 flush-starts w output =
     record {
       more = sent_bytes w.writer.buffer;
-      moves = moves-trans w (not_begun w) (flush_start host_calls w) [] (sent_bytes w.writer.buffer) [] [] (moves-set w w.writer.buffer false) (sent-moves w.writer.buffer (not_begun w) output);
+      moves = moves-trans w (not_begun w) (submit_came host_calls w) [] (sent_bytes w.writer.buffer) [] [] (moves-set w w.writer.buffer false) (sent-moves w.writer.buffer (not_begun w) output);
       writes = λ before stands.
           let parts = flushes-parts w.writer.buffer (written w.writer.endpoint.maximum w.writer.size before) stands in
           (parts.0, parts.1 ∙ sym (sent-none w.writer.buffer (not_begun w) refl));
@@ -130,9 +129,9 @@ ended-starts w v x output before same alike behind left =
       );
     }
 
-end-starts : (w : Writing HostState) → w.writer.endpoint.address < 128 → Starts w (end_start host_calls w) (Finish ∷ [])
+end-starts : (w : Writing HostState) → w.writer.endpoint.address < 128 → Starts w (submit_end_came host_calls w) (Finish ∷ [])
 end-starts w output =
-    let x = end_start host_calls w in ended-starts w (not_begun w) x output (moves-set w w.writer.buffer false) refl refl (moves-same x) refl
+    let x = submit_end_came host_calls w in ended-starts w (not_begun w) x output (moves-set w w.writer.buffer false) refl refl (moves-same x) refl
 
 begun_end-starts : (w : Writing HostState) → w.writer.endpoint.address < 128 → Starts w (begun_end host_calls w) (begun_calls w.writer.begun)
 begun_end-starts w output =
@@ -143,7 +142,7 @@ begun_end-starts w output =
     ]
 
 -- the fronts that a call takes, which leave the bytes that stand
-record Drains (old : Writing HostState) (d : Drained) : Type 0 where
+record Drains (old : Writing HostState) (d : Drained HostState) : Type 0 where
   moves : Moves old d.left [] (failures_of d.answer)
   bytes : unwrap_or d.left.writer.buffer [] ≡ unwrap_or old.writer.buffer []
 
@@ -156,41 +155,43 @@ drains-none : (w : Writing HostState) → Drains w (record { answer = Ok tt; lef
 drains-none w = record { moves = moves-same w; bytes = refl }
 
 -- what goes on, where these are pending, drains
-abbrev DrainsOn : List ℕ → (Writing HostState → Drained) → Type 0
+abbrev DrainsOn : List ℕ → (Writing HostState → Drained HostState) → Type 0
 DrainsOn others further = (v : Writing HostState) → v.writer.endpoint.pending ≡ others → Drains v (further v)
 
-taking-drains : (status : Result (Unit {0}) TransferError) (w v : Writing HostState) (others : List ℕ) (further : Writing HostState → Drained) → Moves w v [] (failures_in status) → unwrap_or v.writer.buffer [] ≡ unwrap_or w.writer.buffer []
-    → v.writer.endpoint.pending ≡ others → DrainsOn others further → Drains w (after_taking status v further)
-taking-drains (Ok u) w v others further moves bytes left next =
-    let on = next v left in record { moves = moves-trans w v (further v).left [] [] [] (failures_of (further v).answer) moves on.moves; bytes = on.bytes ∙ bytes }
-taking-drains (Err e) w v others further moves bytes left next = record { moves = moves; bytes = bytes }
+taking-drains : (status : Result (Unit {0}) TransferError) (c : Completion) (w : Writing HostState) (h : HostState) (front : ℕ) (others : List ℕ) (further : Writing HostState → Drained HostState) → Moves w (writing (host_taken h front) (with_taken c others w.writer)) [] (failures_in status)
+    → DrainsOn others further → Drains w (after_wait (Some (record c { status = status })) h w.writer front others further)
+taking-drains (Ok u) c w h front others further moves next =
+    let v = writing (host_taken h front) (with_taken c others w.writer) in
+    let on = next v refl in
+    record { moves = moves-trans w v (further v).left [] [] [] (failures_of (further v).answer) moves on.moves; bytes = on.bytes ∙ kept-bytes w.writer.size w.writer.n w.writer.buffer c.buffer.room (length others) }
+taking-drains (Err e) c w h front others further moves next = record { moves = moves; bytes = kept-bytes w.writer.size w.writer.n w.writer.buffer c.buffer.room (length others) }
 
-after-drains : (o : Option Completion) (w : Writing HostState) (h : HostState) (front : ℕ) (others : List ℕ) (further : Writing HostState → Drained) → w.writer.endpoint.pending ≡ front ∷ others → transfer_completion h.kernel.past front ≡ o
+after-drains : (o : Option Completion) (w : Writing HostState) (h : HostState) (front : ℕ) (others : List ℕ) (further : Writing HostState → Drained HostState) → w.writer.endpoint.pending ≡ front ∷ others → transfer_completion h.kernel.past front ≡ o
     → Moves w (writing h w.writer) [] [] → DrainsOn others further → Drains w (after_wait o h w.writer front others further)
 after-drains None w h front others further was come moves next = record { moves = moves; bytes = refl }
 after-drains (Some c) w h front others further was come moves next =
     let mid = writing h w.writer in
     let v = writing (host_taken h front) (with_taken c others w.writer) in
-    taking-drains c.status w v others further (moves-trans w mid v [] [] [] (failures_in c.status) moves (moves-taken mid front others c was come))
-    (kept-bytes w.writer.size w.writer.n w.writer.buffer c.buffer.room (length others)) refl next
+    taking-drains c.status c w h front others further (moves-trans w mid v [] [] [] (failures_in c.status) moves (moves-taken mid front others c was come)) next
 
-drained_if-drains : (b : Bool) (timeout front : ℕ) (others : List ℕ) (w : Writing HostState) (further : Writing HostState → Drained) → w.writer.endpoint.pending ≡ front ∷ others → DrainsOn others further → Drains w (drained_if b timeout front others w further)
+drained_if-drains : (b : Bool) (timeout front : ℕ) (others : List ℕ) (w : Writing HostState) (further : Writing HostState → Drained HostState) → w.writer.endpoint.pending ≡ front ∷ others → DrainsOn others further → Drains w (drained_if b (once_and timeout further) w)
 drained_if-drains false timeout front others w further was next = drains-none w
 drained_if-drains true timeout front others w further was next =
-    let h = (host_waited w.bus front timeout).1 in
-    after-drains (transfer_completion h.kernel.past front) w h front others further was refl (moves-waited w front timeout) next
+    let h = waited host_calls front timeout w.bus in
+    subst (Drains w) (sym (once-waits timeout w front others further was))
+    (after-drains (transfer_completion h.kernel.past front) w h front others further was refl (moves-waited w front timeout) next)
 
-drained_of-drains : (ts : List ℕ) (flushing : Bool) (timeout : ℕ) (w : Writing HostState) → w.writer.endpoint.pending ≡ ts → Drains w (drained_of ts flushing timeout w)
+drained_of-drains : (ts : List ℕ) (flushing : Bool) (timeout : ℕ) (w : Writing HostState) → w.writer.endpoint.pending ≡ ts → Drains w (drained_of host_calls flushing timeout ts w)
 drained_of-drains [] flushing timeout w was = drains-none w
 drained_of-drains (front ∷ others) flushing timeout w was =
-    drained_if-drains (waits_on flushing w.writer) timeout front others w (λ v. drained_of others flushing timeout v) was (λ v left. drained_of-drains others flushing timeout v left)
+    drained_if-drains (waits_on flushing w.writer) timeout front others w (drained_of host_calls flushing timeout others) was (λ v left. drained_of-drains others flushing timeout v left)
 
-drained-drains : (flushing : Bool) (timeout : ℕ) (w : Writing HostState) → Drains w (drained flushing timeout w)
+drained-drains : (flushing : Bool) (timeout : ℕ) (w : Writing HostState) → Drains w (drained host_calls flushing timeout w)
 unfolding drained
 drained-drains flushing timeout w = drained_of-drains w.writer.endpoint.pending flushing timeout w refl
 
 -- a call that starts so and takes fronts then
-started-tells : (w v : Writing HostState) (calls : List Call) (d : Drained) → Starts w v calls → Drains v d → CallTells w d.left calls (failures_of d.answer)
+started-tells : (w v : Writing HostState) (calls : List Call) (d : Drained HostState) → Starts w v calls → Drains v d → CallTells w d.left calls (failures_of d.answer)
 started-tells w v calls d starts drains =
     call-tells w d.left (starts.more ++ []) calls (failures_of d.answer) (moves-trans w v d.left starts.more [] [] (failures_of d.answer) starts.moves drains.moves)
     (λ before stands.
@@ -199,11 +200,11 @@ started-tells w v calls d starts drains =
 
 pub flush-tells : FlushTells
 flush-tells timeout w output =
-    let v = flush_start host_calls w in started-tells w v (Flush ∷ []) (drained true timeout v) (flush-starts w output) (drained-drains true timeout v)
+    let v = submit_came host_calls w in started-tells w v (Flush ∷ []) (drained host_calls true timeout v) (flush-starts w output) (drained-drains true timeout v)
 
 pub flush_end-tells : FlushEndTells
 flush_end-tells timeout w output =
-    let v = end_start host_calls w in started-tells w v (Finish ∷ []) (drained true timeout v) (end-starts w output) (drained-drains true timeout v)
+    let v = submit_end_came host_calls w in started-tells w v (Finish ∷ []) (drained host_calls true timeout v) (end-starts w output) (drained-drains true timeout v)
 
 -- a poll to an end
 not_begun-tells : (w v : Writing HostState) (calls : List Call) (failures : List TransferError) → CallTells w v calls failures → CallTells w (not_begun v) calls failures
@@ -218,7 +219,7 @@ ending-tells (Err TimedOut) w v calls tells = tells
 pub poll_flush_end-tells : PollFlushEndTells
 poll_flush_end-tells w output =
     let v = begun_end host_calls w in
-    let d = drained true 0 v in
+    let d = drained host_calls true 0 v in
     ending-tells d.answer w d.left (begun_calls w.writer.begun) (started-tells w v (begun_calls w.writer.begun) d (begun_end-starts w output) (drained-drains true 0 v))
 
 -- submissions
@@ -226,10 +227,10 @@ starts-tells : (w v : Writing HostState) (calls : List Call) → Starts w v call
 starts-tells w v calls starts = call-tells w v starts.more calls [] starts.moves starts.writes
 
 pub submit-tells : SubmitTells
-submit-tells w output = starts-tells w (flush_start host_calls w) (Flush ∷ []) (flush-starts w output)
+submit-tells w output = starts-tells w (submit_came host_calls w) (Flush ∷ []) (flush-starts w output)
 
 pub submit_end-tells : SubmitEndTells
-submit_end-tells w output = starts-tells w (end_start host_calls w) (Finish ∷ []) (end-starts w output)
+submit_end-tells w output = starts-tells w (submit_end_came host_calls w) (Finish ∷ []) (end-starts w output)
 
 -- a write
 accepted-moves : (c : List ℕ) (w : Writing HostState) → w.writer.endpoint.address < 128 → Moves w (accepted host_calls c w) (full_bytes w.writer.size c) []
@@ -252,7 +253,7 @@ taken-tells w v failures moves bytes =
     call-tells w v [] [] failures moves (λ before stands. (sym (append-nil (written w.writer.endpoint.maximum w.writer.size before).transfers), sym stands ∙ sym bytes))
 
 accepting-tells : (src : List ℕ) (r : Result (Unit {0}) WriteFault) (w v : Writing HostState) → w.writer.endpoint.address < 128 → Moves w v [] (failures_of r) → unwrap_or v.writer.buffer [] ≡ unwrap_or w.writer.buffer []
-    → CallTells w (accepting src r v).left (written_calls src (accepting src r v).answer) (failures_of (accepting src r v).answer)
+    → CallTells w (accepting host_calls src r v).left (written_calls src (accepting host_calls src r v).answer) (failures_of (accepting host_calls src r v).answer)
 accepting-tells src (Ok u) w v output moves bytes =
     let n = accepted_count src v.writer in
     let c = unwrap_or v.writer.buffer [] ++ take n src in
@@ -269,7 +270,7 @@ accepting-tells src (Err TimedOut) w v output moves bytes = taken-tells w v [] m
 pub write-tells : WriteTells
 write-tells timeout src w output =
     let start = not_begun w in
-    let d = write_drained timeout w in
+    let d = write_drained host_calls timeout w in
     let drains = drained-drains false timeout start in
     accepting-tells src d.answer w d.left output (moves-trans w start d.left [] [] [] (failures_of d.answer) (moves-set w w.writer.buffer false) drains.moves) drains.bytes
 

@@ -21,10 +21,10 @@ use Rattle.usb_kernel.proofs.Extends.{completion-stays, extends-event}
 use Rattle.usb_bus.specs.Completions.{completion_of, transfer_completion}
 use Rattle.usb_bus.specs.Routes.{submission_of}
 use Rattle.usb_endpoint.specs.EndpointState.{EndpointState, route_of}
+use Rattle.usb_endpoint.specs.Waits.{waited}
 use Rattle.usb_endpoint.specs.Submits.{is_valid, transfer_by, entered}
 use Rattle.usb_host.specs.HostState.{HostState}
-use Rattle.usb_host.specs.HostCalls.{host_submitted, host_refused}
-use Rattle.usb_host.specs.HostWaits.{host_waited}
+use Rattle.usb_host.specs.HostCalls.{host_submitted, host_refused, host_calls}
 use Rattle.usb_host.specs.TicketEnds.{host_taken}
 use Rattle.usb_host.proofs.CountLemmas.{entered-count, waited-count, taken-count}
 use Rattle.usb_host.proofs.FollowLemmas.{taken-past}
@@ -33,7 +33,6 @@ use Rattle.usb_io.specs.Streams.{Each, IsAscending}
 use Rattle.usb_io.specs.Writers.{Writing, writing, send, with_taken}
 use Rattle.usb_io.proofs.Carrying.{all-later, all-push}
 use Rattle.usb_io.proofs.Following.{slice_get-last, ascending-push}
-use Rattle.usb_streams.specs.HostReads.{host_calls}
 use Rattle.usb_streams.specs.Numbers.{numbers_from}
 use Rattle.usb_writes.specs.Laws.{CallGoesOn}
 use Rattle.usb_writes.specs.Told.{failure_in, failure_at, failures_at, IsComplete, count_of}
@@ -164,9 +163,9 @@ pub moves-set : (w : Writing HostState) (buffer : Option (List ℕ)) (begun : Bo
 moves-set w buffer begun =
     moves-on w (with_set buffer begun w) [] [] (call-set w buffer begun) refl refl (All-nil (IsComplete w.bus.kernel.past)) refl
 
-pub moves-waited : (w : Writing HostState) (front timeout : ℕ) → Moves w (writing (host_waited w.bus front timeout).1 w.writer) [] []
+pub moves-waited : (w : Writing HostState) (front timeout : ℕ) → Moves w (writing (waited host_calls front timeout w.bus) w.writer) [] []
 moves-waited w front timeout =
-    let v = writing (host_waited w.bus front timeout).1 w.writer in
+    let v = writing (waited host_calls front timeout w.bus) w.writer in
     moves-on w v [] [] (call-waited w front timeout) (waited-count w.bus front timeout).past refl (All-nil (IsComplete v.bus.kernel.past)) refl
 
 -- the failure of the front that is taken
@@ -195,7 +194,7 @@ refused-entry : (h : HostState) (e : EndpointState) (b : BufferState) → Entry 
 unfolding host_refused
 refused-entry h e b = record { refusal = Some 22; is = refl }
 
-entered-entry : (h : HostState) (e : EndpointState) (b : BufferState) → Entry h.kernel.past (entered host_submitted host_refused h e b).kernel.past e b
+entered-entry : (h : HostState) (e : EndpointState) (b : BufferState) → Entry h.kernel.past (entered host_calls h e b).kernel.past e b
 entered-entry h e b =
     cond_both (is_valid e b) (host_submitted h (route_of e) (transfer_by (route_of e) b)) (host_refused h (route_of e) (transfer_by (route_of e) b) 22) (λ (g : HostState). Entry h.kernel.past g.kernel.past e b)
     (λ yes_. submitted-entry h e b) (λ no_. refused-entry h e b)

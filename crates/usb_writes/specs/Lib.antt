@@ -1,4 +1,3 @@
 pub mod AnyWriters
-pub mod HostWrites
 pub mod Laws
 pub mod Told

@@ -8,13 +8,14 @@ use Rattle.usb_kernel.specs.declared.event.Event.{Event}
 use Rattle.usb_kernel.specs.Tickets.{tickets}
 use Rattle.usb_bus.specs.Completions.{transfer_completion}
 use Rattle.usb_host.specs.HostState.{HostState}
+use Rattle.usb_host.specs.HostCalls.{host_calls}
 use Rattle.usb_io.specs.declared.fault.WriteFault.{WriteFault}
 use Rattle.usb_io.specs.declared.fault.WriteFault.TheVariants.{Transfer, TimedOut}
 use Rattle.usb_io.specs.Writers.{Writing}
 use Rattle.usb_io.specs.Writes.{Call, Flush, Finish}
 use Rattle.usb_io.specs.Carried.{Tells, begun_calls, written_calls}
 use Rattle.usb_streams.specs.Numbers.{numbers_from}
-use Rattle.usb_writes.specs.HostWrites.{write_came, flush_came, flush_end_came, poll_flush_end_came, submit_came, submit_end_came}
+use Rattle.usb_io.specs.WriteAnswers.{write_came, flush_came, flush_end_came, poll_flush_end_came, submit_came, submit_end_came}
 
 -- the accepted calls of a writer, from the latest on, and the failed transfers that its calls
 -- answered, from the first on
@@ -75,36 +76,36 @@ pub record CallTells (old new : Writing HostState) (calls : List Call)
 abbrev pub WriteTells : Type 0
 WriteTells =
     (timeout : ℕ) (src : List ℕ) (w : Writing HostState) → w.writer.endpoint.address < 128 →
-    CallTells w (write_came timeout src w).left (written_calls src (write_came timeout src w).answer)
-    (failures_of (write_came timeout src w).answer)
+    CallTells w (write_came host_calls timeout src w).left (written_calls src (write_came host_calls timeout src w).answer)
+    (failures_of (write_came host_calls timeout src w).answer)
 
 -- each flush of a flush
 abbrev pub FlushTells : Type 0
 FlushTells =
     (timeout : ℕ) (w : Writing HostState) → w.writer.endpoint.address < 128 →
-    CallTells w (flush_came timeout w).left (Flush ∷ []) (failures_of (flush_came timeout w).answer)
+    CallTells w (flush_came host_calls timeout w).left (Flush ∷ []) (failures_of (flush_came host_calls timeout w).answer)
 
 -- one to an end of the end of a message
 abbrev pub FlushEndTells : Type 0
 FlushEndTells =
     (timeout : ℕ) (w : Writing HostState) → w.writer.endpoint.address < 128 →
-    CallTells w (flush_end_came timeout w).left (Finish ∷ [])
-    (failures_of (flush_end_came timeout w).answer)
+    CallTells w (flush_end_came host_calls timeout w).left (Finish ∷ [])
+    (failures_of (flush_end_came host_calls timeout w).answer)
 
 -- so does a poll to an end, where none had begun
 abbrev pub PollFlushEndTells : Type 0
 PollFlushEndTells =
     (w : Writing HostState) → w.writer.endpoint.address < 128 →
-    CallTells w (poll_flush_end_came w).left (begun_calls w.writer.begun)
-    (failures_of (poll_flush_end_came w).answer)
+    CallTells w (poll_flush_end_came host_calls w).left (begun_calls w.writer.begun)
+    (failures_of (poll_flush_end_came host_calls w).answer)
 
 -- and so do submissions, which take none
 abbrev pub SubmitTells : Type 0
 SubmitTells =
     (w : Writing HostState) → w.writer.endpoint.address < 128 →
-    CallTells w (submit_came w) (Flush ∷ []) []
+    CallTells w (submit_came host_calls w) (Flush ∷ []) []
 
 abbrev pub SubmitEndTells : Type 0
 SubmitEndTells =
     (w : Writing HostState) → w.writer.endpoint.address < 128 →
-    CallTells w (submit_end_came w) (Finish ∷ []) []
+    CallTells w (submit_end_came host_calls w) (Finish ∷ []) []

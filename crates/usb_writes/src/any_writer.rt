@@ -70,10 +70,9 @@ impl AnyWriter {
     /// Closes the endpoint: pending transfers are cancelled, and bytes that were accepted and not
     /// submitted are gone.
     pub fn close<B: Bus>(self, bus: &mut B)
-        requires stands { Stands (B.state bus.old) (writer_of self).endpoint }
-        ensures bus { bus.new ≡ after_close B.discarded B.abandoned B.closed bus.old
-            (writer_of self).endpoint }
-        ensures others { KeepsOthers (B.state bus.old) (B.state bus.new)
+        requires stands { Stands (B.calls.state bus.old) (writer_of self).endpoint }
+        ensures bus { bus.new ≡ after_close B.calls bus.old (writer_of self).endpoint }
+        ensures others { KeepsOthers (B.calls.state bus.old) (B.calls.state bus.new)
             (writer_of self).endpoint.key }
     {
         match self {

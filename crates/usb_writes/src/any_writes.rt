@@ -1,11 +1,11 @@
 //! The writes and flushes of writers of any type.
 
-ghost use Rattle.std.specs.Prelude.{◌≡◌, ◌+◌, ◌≤◌, ◌∷◌, [], false, length, IfOk, IfErr, OnOk, OnErr};
+ghost use Rattle.std.specs.Prelude.{◌≡◌, ◌+◌, ◌≤◌, ◌∷◌, [], false, length, Ok, Err, IfOk, IfErr, OnOk, OnErr};
 ghost use Rattle.usb_endpoint.specs.Handles.{Stands, KeepsOthers};
 ghost use Rattle.usb_endpoint.specs.Polls.{IfReady, IfPending};
-ghost use Rattle.usb_io.specs.Reads.{bus_calls};
-ghost use Rattle.usb_io.specs.Writers.{writing, not_begun, sent, sent_end, end_need, EndShort, KeepsWriter};
-ghost use Rattle.usb_io.specs.WriteAnswers.{Wrote, IsWriteError, WritePending, IsWrittenInTime, Flushed, IsFlushError, FlushPending, FlushedEnd, IsFlushEndError, PolledEnd, IsPollEndError, EndPending};
+ghost use Rattle.usb_io.specs.Answered.{answered};
+ghost use Rattle.usb_io.specs.Writers.{writing, not_begun, end_need, KeepsWriter};
+ghost use Rattle.usb_io.specs.WriteAnswers.{write_came, WriteFails, IsWrittenInTime, submit_came, submit_end_came, SubmitEndShort, flush_came, FlushFails, flush_end_came, FlushEndFails, poll_flush_end_came, PollFlushEndFails};
 ghost use Rattle.usb_io.specs.Writes.{Flush, Finish};
 ghost use Rattle.usb_io.specs.Carried.{written_calls, poll_written_calls, flushed_calls, poll_flushed_calls, TellsOn, TellsShort, TellsEnd, TellsPolledEnd};
 ghost use Rattle.usb_writes.specs.AnyWriters.{writer_of};
@@ -26,20 +26,19 @@ impl AnyWriter {
     /// The error of a transfer that was taken; that the front was not there in time; want of
     /// memory. No byte is accepted then.
     pub fn write<B: Bus>(&mut self, bus: &mut B, src: &[u8]) -> Result<usize, Fail<WriteFault>>
-        requires stands { Stands (B.state bus.old) (writer_of self.old).endpoint }
+        requires stands { Stands (B.calls.state bus.old) (writer_of self.old).endpoint }
         ensures wrote { IfOk result
-            (Wrote (bus_calls B.state B.submitted B.refused B.turned B.turn_of B.taken)
-            (writer_of self.old).timeout src.now (writing bus.old (writer_of self.old))
-            (writing bus.new (writer_of self.new))) }
+            (λ n. write_came B.calls (writer_of self.old).timeout src.now
+            (writing bus.old (writer_of self.old))
+            ≡ answered (Ok n) (writing bus.new (writer_of self.new))) }
         ensures failed { IfErr result
-            (IsWriteError (bus_calls B.state B.submitted B.refused B.turned B.turn_of B.taken)
-            (writer_of self.old).timeout (writing bus.old (writer_of self.old))
-            (writing bus.new (writer_of self.new))) }
-        ensures tells { TellsOn (B.state bus.old) (B.state bus.new) (writer_of self.old)
+            (WriteFails B.calls (writer_of self.old).timeout src.now
+            (writing bus.old (writer_of self.old)) (writing bus.new (writer_of self.new))) }
+        ensures tells { TellsOn (B.calls.state bus.old) (B.calls.state bus.new) (writer_of self.old)
             (writer_of self.new) (written_calls src.now result) }
         ensures settings { KeepsWriter (writer_of self.old) (writer_of self.new) }
-        ensures stands { Stands (B.state bus.new) (writer_of self.new).endpoint }
-        ensures others { KeepsOthers (B.state bus.old) (B.state bus.new)
+        ensures stands { Stands (B.calls.state bus.new) (writer_of self.new).endpoint }
+        ensures others { KeepsOthers (B.calls.state bus.old) (B.calls.state bus.new)
             (writer_of self.old).endpoint.key }
     {
         match self {
@@ -54,25 +53,24 @@ impl AnyWriter {
         bus: &mut B,
         src: &[u8],
     ) -> Poll<Result<usize, Fail<WriteFault>>>
-        requires stands { Stands (B.state bus.old) (writer_of self.old).endpoint }
+        requires stands { Stands (B.calls.state bus.old) (writer_of self.old).endpoint }
         ensures wrote { IfReady result
             (λ r. IfOk r
-            (Wrote (bus_calls B.state B.submitted B.refused B.turned B.turn_of B.taken)
-            0 src.now (writing bus.old (writer_of self.old))
-            (writing bus.new (writer_of self.new)))) }
+            (λ n. write_came B.calls 0 src.now (writing bus.old (writer_of self.old))
+            ≡ answered (Ok n) (writing bus.new (writer_of self.new)))) }
         ensures failed { IfReady result
             (λ r. IfErr r
-            (IsWriteError (bus_calls B.state B.submitted B.refused B.turned B.turn_of B.taken)
-            0 (writing bus.old (writer_of self.old)) (writing bus.new (writer_of self.new)))) }
+            (WriteFails B.calls 0 src.now (writing bus.old (writer_of self.old))
+            (writing bus.new (writer_of self.new)))) }
         ensures in_time { IfReady result (λ r. IfErr r IsWrittenInTime) }
         ensures pending { IfPending result
-            (WritePending (bus_calls B.state B.submitted B.refused B.turned B.turn_of B.taken)
-            (writing bus.old (writer_of self.old)) (writing bus.new (writer_of self.new))) }
-        ensures tells { TellsOn (B.state bus.old) (B.state bus.new) (writer_of self.old)
+            (write_came B.calls 0 src.now (writing bus.old (writer_of self.old))
+            ≡ answered (Err WriteFault.TimedOut) (writing bus.new (writer_of self.new))) }
+        ensures tells { TellsOn (B.calls.state bus.old) (B.calls.state bus.new) (writer_of self.old)
             (writer_of self.new) (poll_written_calls src.now result) }
         ensures settings { KeepsWriter (writer_of self.old) (writer_of self.new) }
-        ensures stands { Stands (B.state bus.new) (writer_of self.new).endpoint }
-        ensures others { KeepsOthers (B.state bus.old) (B.state bus.new)
+        ensures stands { Stands (B.calls.state bus.new) (writer_of self.new).endpoint }
+        ensures others { KeepsOthers (B.calls.state bus.old) (B.calls.state bus.new)
             (writer_of self.old).endpoint.key }
     {
         match self {
@@ -87,23 +85,22 @@ impl AnyWriter {
     ///
     /// Want of memory. Nothing has changed, but that no end has begun.
     pub fn submit<B: Bus>(&mut self, bus: &mut B) -> Result<(), NoMemory>
-        requires stands { Stands (B.state bus.old) (writer_of self.old).endpoint }
+        requires stands { Stands (B.calls.state bus.old) (writer_of self.old).endpoint }
         ensures ok { OnOk result
             (writing bus.new (writer_of self.new)
-            ≡ sent (bus_calls B.state B.submitted B.refused B.turned B.turn_of B.taken)
-            (writer_of self.old).buffer (not_begun (writing bus.old (writer_of self.old)))) }
+            ≡ submit_came B.calls (writing bus.old (writer_of self.old))) }
         ensures err { OnErr result
             (writing bus.new (writer_of self.new)
             ≡ not_begun (writing bus.old (writer_of self.old))) }
         ensures flushes { OnOk result
-            (TellsOn (B.state bus.old) (B.state bus.new) (writer_of self.old)
+            (TellsOn (B.calls.state bus.old) (B.calls.state bus.new) (writer_of self.old)
             (writer_of self.new) (Flush ∷ [])) }
         ensures nothing { OnErr result
-            (TellsOn (B.state bus.old) (B.state bus.new) (writer_of self.old)
+            (TellsOn (B.calls.state bus.old) (B.calls.state bus.new) (writer_of self.old)
             (writer_of self.new) []) }
         ensures settings { KeepsWriter (writer_of self.old) (writer_of self.new) }
-        ensures stands { Stands (B.state bus.new) (writer_of self.new).endpoint }
-        ensures others { KeepsOthers (B.state bus.old) (B.state bus.new)
+        ensures stands { Stands (B.calls.state bus.new) (writer_of self.new).endpoint }
+        ensures others { KeepsOthers (B.calls.state bus.old) (B.calls.state bus.new)
             (writer_of self.old).endpoint.key }
     {
         match self {
@@ -122,24 +119,22 @@ impl AnyWriter {
     pub fn submit_end<B: Bus>(&mut self, bus: &mut B) -> Result<(), NoMemory>
         requires few { length (writer_of self.old).endpoint.pending
             + end_need (writer_of self.old).endpoint.maximum (writer_of self.old).buffer ≤ 64 }
-        requires stands { Stands (B.state bus.old) (writer_of self.old).endpoint }
+        requires stands { Stands (B.calls.state bus.old) (writer_of self.old).endpoint }
         ensures ok { OnOk result
             (writing bus.new (writer_of self.new)
-            ≡ sent_end (bus_calls B.state B.submitted B.refused B.turned B.turn_of B.taken)
-            (writer_of self.old).buffer (not_begun (writing bus.old (writer_of self.old)))) }
+            ≡ submit_end_came B.calls (writing bus.old (writer_of self.old))) }
         ensures err { OnErr result
-            (EndShort (bus_calls B.state B.submitted B.refused B.turned B.turn_of B.taken)
-            (writer_of self.old).buffer (not_begun (writing bus.old (writer_of self.old)))
+            (SubmitEndShort B.calls (writing bus.old (writer_of self.old))
             (writing bus.new (writer_of self.new))) }
         ensures finishes { OnOk result
-            (TellsOn (B.state bus.old) (B.state bus.new) (writer_of self.old)
+            (TellsOn (B.calls.state bus.old) (B.calls.state bus.new) (writer_of self.old)
             (writer_of self.new) (Finish ∷ [])) }
         ensures short { OnErr result
-            (TellsShort (B.state bus.old) (B.state bus.new) (writer_of self.old)
+            (TellsShort (B.calls.state bus.old) (B.calls.state bus.new) (writer_of self.old)
             (writer_of self.new)) }
         ensures settings { KeepsWriter (writer_of self.old) (writer_of self.new) }
-        ensures stands { Stands (B.state bus.new) (writer_of self.new).endpoint }
-        ensures others { KeepsOthers (B.state bus.old) (B.state bus.new)
+        ensures stands { Stands (B.calls.state bus.new) (writer_of self.new).endpoint }
+        ensures others { KeepsOthers (B.calls.state bus.old) (B.calls.state bus.new)
             (writer_of self.old).endpoint.key }
     {
         match self {
@@ -156,20 +151,18 @@ impl AnyWriter {
     /// The error of a transfer; that the front was not there in time; want of memory, with nothing
     /// submitted.
     pub fn flush<B: Bus>(&mut self, bus: &mut B) -> Result<(), Fail<WriteFault>>
-        requires stands { Stands (B.state bus.old) (writer_of self.old).endpoint }
+        requires stands { Stands (B.calls.state bus.old) (writer_of self.old).endpoint }
         ensures ok { OnOk result
-            (Flushed (bus_calls B.state B.submitted B.refused B.turned B.turn_of B.taken)
-            (writer_of self.old).timeout (writing bus.old (writer_of self.old))
-            (writing bus.new (writer_of self.new))) }
+            (flush_came B.calls (writer_of self.old).timeout (writing bus.old (writer_of self.old))
+            ≡ answered (Ok tt) (writing bus.new (writer_of self.new))) }
         ensures failed { IfErr result
-            (IsFlushError (bus_calls B.state B.submitted B.refused B.turned B.turn_of B.taken)
-            (writer_of self.old).timeout (writing bus.old (writer_of self.old))
-            (writing bus.new (writer_of self.new))) }
-        ensures tells { TellsOn (B.state bus.old) (B.state bus.new) (writer_of self.old)
+            (FlushFails B.calls (writer_of self.old).timeout
+            (writing bus.old (writer_of self.old)) (writing bus.new (writer_of self.new))) }
+        ensures tells { TellsOn (B.calls.state bus.old) (B.calls.state bus.new) (writer_of self.old)
             (writer_of self.new) (flushed_calls result) }
         ensures settings { KeepsWriter (writer_of self.old) (writer_of self.new) }
-        ensures stands { Stands (B.state bus.new) (writer_of self.new).endpoint }
-        ensures others { KeepsOthers (B.state bus.old) (B.state bus.new)
+        ensures stands { Stands (B.calls.state bus.new) (writer_of self.new).endpoint }
+        ensures others { KeepsOthers (B.calls.state bus.old) (B.calls.state bus.new)
             (writer_of self.old).endpoint.key }
     {
         match self {
@@ -180,24 +173,24 @@ impl AnyWriter {
 
     /// `flush`, which is pending where the front is not there.
     pub fn poll_flush<B: Bus>(&mut self, bus: &mut B) -> Poll<Result<(), Fail<WriteFault>>>
-        requires stands { Stands (B.state bus.old) (writer_of self.old).endpoint }
+        requires stands { Stands (B.calls.state bus.old) (writer_of self.old).endpoint }
         ensures ok { IfReady result
             (λ r. OnOk r
-            (Flushed (bus_calls B.state B.submitted B.refused B.turned B.turn_of B.taken)
-            0 (writing bus.old (writer_of self.old)) (writing bus.new (writer_of self.new)))) }
+            (flush_came B.calls 0 (writing bus.old (writer_of self.old))
+            ≡ answered (Ok tt) (writing bus.new (writer_of self.new)))) }
         ensures failed { IfReady result
             (λ r. IfErr r
-            (IsFlushError (bus_calls B.state B.submitted B.refused B.turned B.turn_of B.taken)
-            0 (writing bus.old (writer_of self.old)) (writing bus.new (writer_of self.new)))) }
+            (FlushFails B.calls 0 (writing bus.old (writer_of self.old))
+            (writing bus.new (writer_of self.new)))) }
         ensures in_time { IfReady result (λ r. IfErr r IsWrittenInTime) }
         ensures pending { IfPending result
-            (FlushPending (bus_calls B.state B.submitted B.refused B.turned B.turn_of B.taken)
-            (writing bus.old (writer_of self.old)) (writing bus.new (writer_of self.new))) }
-        ensures tells { TellsOn (B.state bus.old) (B.state bus.new) (writer_of self.old)
+            (flush_came B.calls 0 (writing bus.old (writer_of self.old))
+            ≡ answered (Err WriteFault.TimedOut) (writing bus.new (writer_of self.new))) }
+        ensures tells { TellsOn (B.calls.state bus.old) (B.calls.state bus.new) (writer_of self.old)
             (writer_of self.new) (poll_flushed_calls result) }
         ensures settings { KeepsWriter (writer_of self.old) (writer_of self.new) }
-        ensures stands { Stands (B.state bus.new) (writer_of self.new).endpoint }
-        ensures others { KeepsOthers (B.state bus.old) (B.state bus.new)
+        ensures stands { Stands (B.calls.state bus.new) (writer_of self.new).endpoint }
+        ensures others { KeepsOthers (B.calls.state bus.old) (B.calls.state bus.new)
             (writer_of self.old).endpoint.key }
     {
         match self {
@@ -215,20 +208,19 @@ impl AnyWriter {
     pub fn flush_end<B: Bus>(&mut self, bus: &mut B) -> Result<(), Fail<WriteFault>>
         requires few { length (writer_of self.old).endpoint.pending
             + end_need (writer_of self.old).endpoint.maximum (writer_of self.old).buffer ≤ 64 }
-        requires stands { Stands (B.state bus.old) (writer_of self.old).endpoint }
+        requires stands { Stands (B.calls.state bus.old) (writer_of self.old).endpoint }
         ensures ok { OnOk result
-            (FlushedEnd (bus_calls B.state B.submitted B.refused B.turned B.turn_of B.taken)
-            (writer_of self.old).timeout (writing bus.old (writer_of self.old))
-            (writing bus.new (writer_of self.new))) }
+            (flush_end_came B.calls (writer_of self.old).timeout
+            (writing bus.old (writer_of self.old))
+            ≡ answered (Ok tt) (writing bus.new (writer_of self.new))) }
         ensures failed { IfErr result
-            (IsFlushEndError (bus_calls B.state B.submitted B.refused B.turned B.turn_of B.taken)
-            (writer_of self.old).timeout (writing bus.old (writer_of self.old))
-            (writing bus.new (writer_of self.new))) }
-        ensures tells { TellsEnd (B.state bus.old) (B.state bus.new) (writer_of self.old)
-            (writer_of self.new) result }
+            (FlushEndFails B.calls (writer_of self.old).timeout
+            (writing bus.old (writer_of self.old)) (writing bus.new (writer_of self.new))) }
+        ensures tells { TellsEnd (B.calls.state bus.old) (B.calls.state bus.new)
+            (writer_of self.old) (writer_of self.new) result }
         ensures settings { KeepsWriter (writer_of self.old) (writer_of self.new) }
-        ensures stands { Stands (B.state bus.new) (writer_of self.new).endpoint }
-        ensures others { KeepsOthers (B.state bus.old) (B.state bus.new)
+        ensures stands { Stands (B.calls.state bus.new) (writer_of self.new).endpoint }
+        ensures others { KeepsOthers (B.calls.state bus.old) (B.calls.state bus.new)
             (writer_of self.old).endpoint.key }
     {
         match self {
@@ -244,24 +236,24 @@ impl AnyWriter {
         requires few { (writer_of self.old).begun ≡ false
             → length (writer_of self.old).endpoint.pending
             + end_need (writer_of self.old).endpoint.maximum (writer_of self.old).buffer ≤ 64 }
-        requires stands { Stands (B.state bus.old) (writer_of self.old).endpoint }
+        requires stands { Stands (B.calls.state bus.old) (writer_of self.old).endpoint }
         ensures ok { IfReady result
             (λ r. OnOk r
-            (PolledEnd (bus_calls B.state B.submitted B.refused B.turned B.turn_of B.taken)
-            (writing bus.old (writer_of self.old)) (writing bus.new (writer_of self.new)))) }
+            (poll_flush_end_came B.calls (writing bus.old (writer_of self.old))
+            ≡ answered (Ok tt) (writing bus.new (writer_of self.new)))) }
         ensures failed { IfReady result
             (λ r. IfErr r
-            (IsPollEndError (bus_calls B.state B.submitted B.refused B.turned B.turn_of B.taken)
-            (writing bus.old (writer_of self.old)) (writing bus.new (writer_of self.new)))) }
+            (PollFlushEndFails B.calls (writing bus.old (writer_of self.old))
+            (writing bus.new (writer_of self.new)))) }
         ensures in_time { IfReady result (λ r. IfErr r IsWrittenInTime) }
         ensures pending { IfPending result
-            (EndPending (bus_calls B.state B.submitted B.refused B.turned B.turn_of B.taken)
-            (writing bus.old (writer_of self.old)) (writing bus.new (writer_of self.new))) }
-        ensures tells { TellsPolledEnd (B.state bus.old) (B.state bus.new) (writer_of self.old)
-            (writer_of self.new) result }
+            (poll_flush_end_came B.calls (writing bus.old (writer_of self.old))
+            ≡ answered (Err WriteFault.TimedOut) (writing bus.new (writer_of self.new))) }
+        ensures tells { TellsPolledEnd (B.calls.state bus.old) (B.calls.state bus.new)
+            (writer_of self.old) (writer_of self.new) result }
         ensures settings { KeepsWriter (writer_of self.old) (writer_of self.new) }
-        ensures stands { Stands (B.state bus.new) (writer_of self.new).endpoint }
-        ensures others { KeepsOthers (B.state bus.old) (B.state bus.new)
+        ensures stands { Stands (B.calls.state bus.new) (writer_of self.new).endpoint }
+        ensures others { KeepsOthers (B.calls.state bus.old) (B.calls.state bus.new)
             (writer_of self.old).endpoint.key }
     {
         match self {

@@ -5,11 +5,12 @@ ghost use Rattle.usb_kernel.specs.Extends.{Extends};
 ghost use Rattle.usb_endpoint.specs.Handles.{Stands, KeepsOthers};
 ghost use Rattle.usb_endpoint.specs.Polls.{IfReady, IfPending};
 ghost use Rattle.usb_host.specs.HostBus.{bus_of};
+ghost use Rattle.usb_host.specs.HostCalls.{host_calls};
 ghost use Rattle.usb_host.specs.HostFrames.{LineGoesOn};
+ghost use Rattle.usb_io.specs.Answered.{answered};
 ghost use Rattle.usb_io.specs.Writers.{writing, not_begun, end_need, KeepsWriter};
-ghost use Rattle.usb_io.specs.WriteAnswers.{IsWrittenInTime};
+ghost use Rattle.usb_io.specs.WriteAnswers.{submit_came, submit_end_came, SubmitEndShort, flush_came, FlushFails, flush_end_came, FlushEndFails, poll_flush_end_came, PollFlushEndFails, IsWrittenInTime};
 ghost use Rattle.usb_writes.specs.AnyWriters.{writer_of};
-ghost use Rattle.usb_writes.specs.HostWrites.{flush_came, flush_end_came, poll_flush_end_came, submit_came, submit_end_came, answered, FlushFails, FlushEndFails, PollFlushEndFails, SubmitEndShort};
 
 use crate::any_writer::AnyWriter;
 use futures::task::Poll;
@@ -26,7 +27,7 @@ pub fn submit(writer: &mut AnyWriter, host: &mut Host) -> Result<(), NoMemory>
     requires stands { Stands (bus_of host.old) (writer_of writer.old).endpoint }
     ensures ok { OnOk result
         (writing host.new (writer_of writer.new)
-        ≡ submit_came (writing host.old (writer_of writer.old))) }
+        ≡ submit_came host_calls (writing host.old (writer_of writer.old))) }
     ensures err { OnErr result
         (writing host.new (writer_of writer.new)
         ≡ not_begun (writing host.old (writer_of writer.old))) }
@@ -53,9 +54,9 @@ pub fn submit_end(writer: &mut AnyWriter, host: &mut Host) -> Result<(), NoMemor
     requires stands { Stands (bus_of host.old) (writer_of writer.old).endpoint }
     ensures ok { OnOk result
         (writing host.new (writer_of writer.new)
-        ≡ submit_end_came (writing host.old (writer_of writer.old))) }
+        ≡ submit_end_came host_calls (writing host.old (writer_of writer.old))) }
     ensures err { OnErr result
-        (SubmitEndShort (writing host.old (writer_of writer.old))
+        (SubmitEndShort host_calls (writing host.old (writer_of writer.old))
         (writing host.new (writer_of writer.new))) }
     ensures line { LineGoesOn host.old host.new }
     ensures past { Extends host.old.kernel.past host.new.kernel.past }
@@ -77,11 +78,12 @@ pub fn submit_end(writer: &mut AnyWriter, host: &mut Host) -> Result<(), NoMemor
 pub fn flush(writer: &mut AnyWriter, host: &mut Host) -> Result<(), Fail<WriteFault>>
     requires stands { Stands (bus_of host.old) (writer_of writer.old).endpoint }
     ensures ok { OnOk result
-        (flush_came (writer_of writer.old).timeout (writing host.old (writer_of writer.old))
+        (flush_came host_calls (writer_of writer.old).timeout
+        (writing host.old (writer_of writer.old))
         ≡ answered (Ok tt) (writing host.new (writer_of writer.new))) }
     ensures failed { IfErr result
-        (FlushFails (writer_of writer.old).timeout (writing host.old (writer_of writer.old))
-        (writing host.new (writer_of writer.new))) }
+        (FlushFails host_calls (writer_of writer.old).timeout
+        (writing host.old (writer_of writer.old)) (writing host.new (writer_of writer.new))) }
     ensures line { LineGoesOn host.old host.new }
     ensures past { Extends host.old.kernel.past host.new.kernel.past }
     ensures settings { KeepsWriter (writer_of writer.old) (writer_of writer.new) }
@@ -97,15 +99,15 @@ pub fn poll_flush(writer: &mut AnyWriter, host: &mut Host) -> Poll<Result<(), Fa
     requires stands { Stands (bus_of host.old) (writer_of writer.old).endpoint }
     ensures ok { IfReady result
         (λ r. OnOk r
-        (flush_came 0 (writing host.old (writer_of writer.old))
+        (flush_came host_calls 0 (writing host.old (writer_of writer.old))
         ≡ answered (Ok tt) (writing host.new (writer_of writer.new)))) }
     ensures failed { IfReady result
         (λ r. IfErr r
-        (FlushFails 0 (writing host.old (writer_of writer.old))
+        (FlushFails host_calls 0 (writing host.old (writer_of writer.old))
         (writing host.new (writer_of writer.new)))) }
     ensures in_time { IfReady result (λ r. IfErr r IsWrittenInTime) }
     ensures pending { IfPending result
-        (flush_came 0 (writing host.old (writer_of writer.old))
+        (flush_came host_calls 0 (writing host.old (writer_of writer.old))
         ≡ answered (Err WriteFault.TimedOut) (writing host.new (writer_of writer.new))) }
     ensures line { LineGoesOn host.old host.new }
     ensures past { Extends host.old.kernel.past host.new.kernel.past }
@@ -128,11 +130,11 @@ pub fn flush_end(writer: &mut AnyWriter, host: &mut Host) -> Result<(), Fail<Wri
         + end_need (writer_of writer.old).endpoint.maximum (writer_of writer.old).buffer ≤ 64 }
     requires stands { Stands (bus_of host.old) (writer_of writer.old).endpoint }
     ensures ok { OnOk result
-        (flush_end_came (writer_of writer.old).timeout
+        (flush_end_came host_calls (writer_of writer.old).timeout
         (writing host.old (writer_of writer.old))
         ≡ answered (Ok tt) (writing host.new (writer_of writer.new))) }
     ensures failed { IfErr result
-        (FlushEndFails (writer_of writer.old).timeout
+        (FlushEndFails host_calls (writer_of writer.old).timeout
         (writing host.old (writer_of writer.old)) (writing host.new (writer_of writer.new))) }
     ensures line { LineGoesOn host.old host.new }
     ensures past { Extends host.old.kernel.past host.new.kernel.past }
@@ -153,15 +155,15 @@ pub fn poll_flush_end(writer: &mut AnyWriter, host: &mut Host) -> Poll<Result<()
     requires stands { Stands (bus_of host.old) (writer_of writer.old).endpoint }
     ensures ok { IfReady result
         (λ r. OnOk r
-        (poll_flush_end_came (writing host.old (writer_of writer.old))
+        (poll_flush_end_came host_calls (writing host.old (writer_of writer.old))
         ≡ answered (Ok tt) (writing host.new (writer_of writer.new)))) }
     ensures failed { IfReady result
         (λ r. IfErr r
-        (PollFlushEndFails (writing host.old (writer_of writer.old))
+        (PollFlushEndFails host_calls (writing host.old (writer_of writer.old))
         (writing host.new (writer_of writer.new)))) }
     ensures in_time { IfReady result (λ r. IfErr r IsWrittenInTime) }
     ensures pending { IfPending result
-        (poll_flush_end_came (writing host.old (writer_of writer.old))
+        (poll_flush_end_came host_calls (writing host.old (writer_of writer.old))
         ≡ answered (Err WriteFault.TimedOut) (writing host.new (writer_of writer.new))) }
     ensures line { LineGoesOn host.old host.new }
     ensures past { Extends host.old.kernel.past host.new.kernel.past }

@@ -5,11 +5,12 @@ ghost use Rattle.usb_kernel.specs.Extends.{Extends};
 ghost use Rattle.usb_endpoint.specs.Handles.{Stands, KeepsOthers};
 ghost use Rattle.usb_endpoint.specs.Polls.{IfReady, IfPending};
 ghost use Rattle.usb_host.specs.HostBus.{bus_of};
+ghost use Rattle.usb_host.specs.HostCalls.{host_calls};
 ghost use Rattle.usb_host.specs.HostFrames.{LineGoesOn};
+ghost use Rattle.usb_io.specs.Answered.{answered};
 ghost use Rattle.usb_io.specs.Writers.{writing, KeepsWriter};
-ghost use Rattle.usb_io.specs.WriteAnswers.{IsWrittenInTime};
+ghost use Rattle.usb_io.specs.WriteAnswers.{write_came, WriteFails, IsWrittenInTime};
 ghost use Rattle.usb_writes.specs.AnyWriters.{writer_of};
-ghost use Rattle.usb_writes.specs.HostWrites.{write_came, answered, WriteFails};
 
 use crate::any_writer::AnyWriter;
 use futures::task::Poll;
@@ -28,11 +29,11 @@ use usb_io::WriteFault;
 pub fn write(writer: &mut AnyWriter, host: &mut Host, src: &[u8]) -> Result<usize, Fail<WriteFault>>
     requires stands { Stands (bus_of host.old) (writer_of writer.old).endpoint }
     ensures wrote { IfOk result
-        (λ n. write_came (writer_of writer.old).timeout src.now
+        (λ n. write_came host_calls (writer_of writer.old).timeout src.now
         (writing host.old (writer_of writer.old))
         ≡ answered (Ok n) (writing host.new (writer_of writer.new))) }
     ensures failed { IfErr result
-        (WriteFails (writer_of writer.old).timeout src.now
+        (WriteFails host_calls (writer_of writer.old).timeout src.now
         (writing host.old (writer_of writer.old)) (writing host.new (writer_of writer.new))) }
     ensures line { LineGoesOn host.old host.new }
     ensures past { Extends host.old.kernel.past host.new.kernel.past }
@@ -53,15 +54,15 @@ pub fn poll_write(
     requires stands { Stands (bus_of host.old) (writer_of writer.old).endpoint }
     ensures wrote { IfReady result
         (λ r. IfOk r
-        (λ n. write_came 0 src.now (writing host.old (writer_of writer.old))
+        (λ n. write_came host_calls 0 src.now (writing host.old (writer_of writer.old))
         ≡ answered (Ok n) (writing host.new (writer_of writer.new)))) }
     ensures failed { IfReady result
         (λ r. IfErr r
-        (WriteFails 0 src.now (writing host.old (writer_of writer.old))
+        (WriteFails host_calls 0 src.now (writing host.old (writer_of writer.old))
         (writing host.new (writer_of writer.new)))) }
     ensures in_time { IfReady result (λ r. IfErr r IsWrittenInTime) }
     ensures pending { IfPending result
-        (write_came 0 src.now (writing host.old (writer_of writer.old))
+        (write_came host_calls 0 src.now (writing host.old (writer_of writer.old))
         ≡ answered (Err WriteFault.TimedOut) (writing host.new (writer_of writer.new))) }
     ensures line { LineGoesOn host.old host.new }
     ensures past { Extends host.old.kernel.past host.new.kernel.past }

@@ -1,7 +1,8 @@
 use Rattle.std.proofs.Common.{Ok, Err, sym, ◌∙◌}
 use Rattle.usb_io.specs.AnyReaders.{reader_of}
 use Rattle.usb_io.specs.Reads.{reading}
-use Rattle.usb_streams.specs.HostReads.{fill_came}
+use Rattle.usb_io.specs.Answers.{fill_came}
+use Rattle.usb_host.specs.HostCalls.{host_calls}
 use Rattle.usb_stream_lines.specs.Reads.{buffer_line}
 use Rattle.usb_answers.specs.ReaderAt.{state_of_reader}
 use Rattle.usb_answers.specs.Reads.{is_until_short, given_line, filled_as}
@@ -11,7 +12,7 @@ use Rattle.usb_answers.proofs.filling.fill_open.Goals as goal
 pub returns-then-bars_read-clause-answered : goal.returns-then-bars_read-clause-answered
 returns-then-bars_read-clause-answered c =
     reads-barred c.args.framing c.args.host.now (reader_of c.args.reader.now) c.args.line.now c.write_condition.new.out c.write_condition.result
-    (λ state r at. filled_as state c.args.framing r at (given_line buffer_line) (fill_came (is_until_short c.args.framing) at.reader.bare.timeout (reading state.host (state_of_reader at))))
+    (λ state r at. filled_as state c.args.framing r at (given_line buffer_line) (fill_came host_calls (is_until_short c.args.framing) at.reader.bare.timeout (reading state.host (state_of_reader at))))
     (sym c.bars_read.ensures.barred ∙ c.if-bars_read.true) c.write_condition.ensures.text
 
 pub returns-in-Ok-clause-keeps : goal.returns-in-Ok-clause-keeps

@@ -4,7 +4,9 @@ use Rattle.std.proofs.lemmas.List.{with_items_is}
 use Rattle.usb_io.specs.AnyReaders.{reader_of}
 use Rattle.usb_io.specs.Reads.{reading}
 use Rattle.usb_io.specs.declared.fault.ReadFault.TheVariants.{TimedOut}
-use Rattle.usb_streams.specs.HostReads.{read_came, answered}
+use Rattle.usb_io.specs.Answers.{read_came}
+use Rattle.usb_io.specs.Answered.{answered}
+use Rattle.usb_host.specs.HostCalls.{host_calls}
 use Rattle.usb_stream_lines.specs.Reads.{read_line}
 use Rattle.usb_answers.specs.ReaderAt.{state_of_reader}
 use Rattle.usb_answers.specs.Reads.{is_until_short, polled_given_line, read_as}
@@ -14,7 +16,7 @@ use Rattle.usb_answers.proofs.reading.poll_read_open.Goals as goal
 pub returns-then-bars_read-clause-answered : goal.returns-then-bars_read-clause-answered
 returns-then-bars_read-clause-answered c =
     reads-barred c.args.framing c.args.host.now (reader_of c.args.reader.now) c.args.line.now c.write_condition.new.out c.write_condition.result
-    (λ state r at. read_as state c.args.framing r at (polled_given_line read_line) (read_came (is_until_short c.args.framing) 0 c.args.most (reading state.host (state_of_reader at))))
+    (λ state r at. read_as state c.args.framing r at (polled_given_line read_line) (read_came host_calls (is_until_short c.args.framing) 0 c.args.most (reading state.host (state_of_reader at))))
     (sym c.bars_read.ensures.barred ∙ c.if-bars_read.true) c.write_condition.ensures.text
 
 pub returns-in-Ready-Ok-clause-keeps : goal.returns-in-Ready-Ok-clause-keeps
@@ -27,7 +29,7 @@ returns-in-Ready-Ok-clause-answered c =
     let size : length c.deref_mut.result.now ≡ c.args.most = search rules in
     poll_read-gave c.args.framing c.args.host.now c.poll_bytes.new.host (reader_of c.args.reader.now) (reader_of c.poll_bytes.new.reader) c.poll_bytes.ensures.goes (sym c.bars_read.ensures.barred ∙ c.if-bars_read.false)
     c.args.line.now c.write_read.new.out c.write_read.result c.args.most (Ok (take c.in-Ready-Ok.count c.poll_bytes.new.dest))
-    (subst (λ m. read_came (is_until_short c.args.framing) 0 m (reading c.args.host.now (reader_of c.args.reader.now)) ≡ answered (Ok (take c.in-Ready-Ok.count c.poll_bytes.new.dest)) (reading c.poll_bytes.new.host (reader_of c.poll_bytes.new.reader))) size
+    (subst (λ m. read_came host_calls (is_until_short c.args.framing) 0 m (reading c.args.host.now (reader_of c.args.reader.now)) ≡ answered (Ok (take c.in-Ready-Ok.count c.poll_bytes.new.dest)) (reading c.poll_bytes.new.host (reader_of c.poll_bytes.new.reader))) size
     (rw c.in-Ready-Ok.field-0-is at c.in-Ready-Ok.ensures.read))
     (subst (λ l. OnOk c.write_read.result (string_bytes c.write_read.new.out ≡ string_bytes c.args.line.now ++ read_line (take c.in-Ready-Ok.count l))) now c.write_read.ensures.text)
 
@@ -39,7 +41,7 @@ returns-in-Ready-Err-Cause-clause-answered c =
     let size : length c.deref_mut.result.now ≡ c.args.most = search rules in
     poll_read-gave c.args.framing c.args.host.now c.poll_bytes.new.host (reader_of c.args.reader.now) (reader_of c.poll_bytes.new.reader) c.poll_bytes.ensures.goes (sym c.bars_read.ensures.barred ∙ c.if-bars_read.false)
     c.args.line.now c.write_read_fault.new.out c.write_read_fault.result c.args.most (Err c.in-Ready-Err-Cause.fault)
-    (subst (λ m. read_came (is_until_short c.args.framing) 0 m (reading c.args.host.now (reader_of c.args.reader.now)) ≡ answered (Err c.in-Ready-Err-Cause.fault) (reading c.poll_bytes.new.host (reader_of c.poll_bytes.new.reader))) size
+    (subst (λ m. read_came host_calls (is_until_short c.args.framing) 0 m (reading c.args.host.now (reader_of c.args.reader.now)) ≡ answered (Err c.in-Ready-Err-Cause.fault) (reading c.poll_bytes.new.host (reader_of c.poll_bytes.new.reader))) size
     (rw (c.in-Ready-Err-Cause.field-0-is, c.in-Ready-Err-Cause.field-0-0-is) at c.in-Ready-Err-Cause.ensures.failed))
     (printed-in_time read_line c.in-Ready-Err-Cause.fault c.args.line.now c.write_read_fault.new.out c.write_read_fault.result (rw (c.in-Ready-Err-Cause.field-0-is, c.in-Ready-Err-Cause.field-0-0-is) at c.in-Ready-Err-Cause.ensures.in_time) c.write_read_fault.ensures.text)
 
@@ -54,5 +56,5 @@ returns-clause-answered c =
     let size : length c.deref_mut.result.now ≡ c.args.most = search rules in
     poll_read-gave c.args.framing c.args.host.now c.poll_bytes.new.host (reader_of c.args.reader.now) (reader_of c.poll_bytes.new.reader) c.poll_bytes.ensures.goes (sym c.bars_read.ensures.barred ∙ c.if-bars_read.false)
     c.args.line.now c.write_pending.new.out c.write_pending.result c.args.most (Err TimedOut)
-    (subst (λ m. read_came (is_until_short c.args.framing) 0 m (reading c.args.host.now (reader_of c.args.reader.now)) ≡ answered (Err TimedOut) (reading c.poll_bytes.new.host (reader_of c.poll_bytes.new.reader))) size c.in-Pending.ensures.pending)
+    (subst (λ m. read_came host_calls (is_until_short c.args.framing) 0 m (reading c.args.host.now (reader_of c.args.reader.now)) ≡ answered (Err TimedOut) (reading c.poll_bytes.new.host (reader_of c.poll_bytes.new.reader))) size c.in-Pending.ensures.pending)
     c.write_pending.ensures.text

@@ -1,9 +1,8 @@
-use Rattle.std.proofs.Common.{ap, length, refl, ◌∙◌, subst}
-use Rattle.usb_endpoint.specs.EndpointState.{EndpointState}
+use Rattle.std.proofs.Common.{ap, length, ◌∙◌, subst}
 use Rattle.usb_endpoint.specs.AnyEndpoints.{state_of}
 use Rattle.usb_answers.specs.OpenCalls.{CallAnswers}
 use Rattle.usb_answers.proofs.PollCode.{nothing_pending}
-use Rattle.usb_answers.proofs.WaitCode.{wait, wait-barred, wait-answers, wait-line, wait-past, wait-same}
+use Rattle.usb_answers.proofs.WaitCode.{wait, wait-barred, wait-answers, wait-keeps}
 use Rattle.usb_answers.proofs.waiting.wait_open.Goals as goal
 
 pub returns-then-pending-eq0-clause-answered : goal.returns-then-pending-eq0-clause-answered
@@ -13,21 +12,13 @@ returns-then-pending-eq0-clause-answered c =
 
 pub returns-clause-keeps : goal.returns-clause-keeps
 returns-clause-keeps c =
-    let x = state_of c.args.endpoint.now in
-    let y = state_of c.wait_next_complete-done.new.self in
-    record {
-      line = wait-line c.wait_is_by_steps.ensures c.wait_next_complete-done.result c.args.host.now c.wait_next_complete-done.new.bus x y c.nanoseconds.result c.wait_next_complete-done.ensures.found c.wait_next_complete-done.ensures.ended;
-      past = wait-past c.wait_is_by_steps.ensures c.wait_next_complete-done.result c.args.host.now c.wait_next_complete-done.new.bus x y c.nanoseconds.result c.wait_next_complete-done.ensures.found c.wait_next_complete-done.ensures.ended;
-      stands = c.wait_next_complete-done.ensures.stands;
-      others = c.wait_next_complete-done.ensures.others;
-      key = wait-same (λ (z : EndpointState). z.key) (λ z ts. refl) c.wait_next_complete-done.result c.nanoseconds.result c.args.host.now c.wait_next_complete-done.new.bus x y c.wait_next_complete-done.ensures.found c.wait_next_complete-done.ensures.ended;
-      maximum = wait-same (λ (z : EndpointState). z.maximum) (λ z ts. refl) c.wait_next_complete-done.result c.nanoseconds.result c.args.host.now c.wait_next_complete-done.new.bus x y c.wait_next_complete-done.ensures.found c.wait_next_complete-done.ensures.ended;
-    }
+    wait-keeps c.wait_next_complete-done.result c.args.host.now c.wait_next_complete-done.new.bus (state_of c.args.endpoint.now) (state_of c.wait_next_complete-done.new.self) c.nanoseconds.result
+    c.wait_next_complete-done.ensures.waited c.wait_next_complete-done.ensures.stands c.wait_next_complete-done.ensures.others
 
 pub returns-clause-answered : goal.returns-clause-answered
 returns-clause-answered c =
     let x = state_of c.args.endpoint.now in
     let y = state_of c.wait_next_complete-done.new.self in
     subst (λ n. CallAnswers c.args.host.now c.wait_next_complete-done.new.bus x y c.args.line.now c.write_waited.new.out c.write_waited.result (wait n)) c.nanoseconds.ensures.value
-    (wait-answers c.wait_is_by_steps.ensures c.wait_next_complete-done.result c.args.host.now c.wait_next_complete-done.new.bus x y c.args.line.now c.write_waited.new.out c.write_waited.result c.nanoseconds.result
-    (λ none. c.if-pending-eq0.false (c.pending.ensures.count ∙ ap length none)) c.wait_next_complete-done.ensures.found c.wait_next_complete-done.ensures.ended c.write_waited.ensures.text)
+    (wait-answers c.wait_next_complete-done.result c.args.host.now c.wait_next_complete-done.new.bus x y c.args.line.now c.write_waited.new.out c.write_waited.result c.nanoseconds.result
+    (λ none. c.if-pending-eq0.false (c.pending.ensures.count ∙ ap length none)) c.wait_next_complete-done.ensures.waited c.write_waited.ensures.text)

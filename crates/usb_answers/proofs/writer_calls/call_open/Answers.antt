@@ -1,7 +1,8 @@
 use Rattle.std.proofs.Common.{[], ◌∷◌, refl}
 use Rattle.usb_io.specs.Writes.{Flush, Finish}
 use Rattle.usb_io.specs.Carried.{begun_calls}
-use Rattle.usb_writes.specs.HostWrites.{flush_came, flush_end_came, poll_flush_end_came, submit_came, submit_end_came}
+use Rattle.usb_io.specs.WriteAnswers.{flush_came, flush_end_came, poll_flush_end_came, submit_came, submit_end_came}
+use Rattle.usb_host.specs.HostCalls.{host_calls}
 use Rattle.usb_writer_lines.specs.Needs.{flush_need, finish_need, poll_finish_need}
 use Rattle.usb_writer_lines.specs.Printed.{written_line, flushed_line, polled, submitted_to}
 use Rattle.usb_answers.proofs.WriterCalled.{keeps-writer}
@@ -27,39 +28,39 @@ returns-in-Submit-clause-keeps c = keeps-writer _ _ c.submit.ensures.keeps
 
 pub returns-in-Submit-clause-answered : goal.returns-in-Submit-clause-answered
 returns-in-Submit-clause-answered c =
-    rw c.in-Submit.is (writer-answers (λ v. submitted_to (submit_came v)) flush_need (λ z r. Flush ∷ []) flushed_line _ _ _ _ c.args.line.now c.submit.new.line c.submit.result (submit-follows _) c.submit.ensures.printed)
+    rw c.in-Submit.is (writer-answers (λ v. submitted_to (submit_came host_calls v)) flush_need (λ z r. Flush ∷ []) flushed_line _ _ _ _ c.args.line.now c.submit.new.line c.submit.result (submit-follows _) c.submit.ensures.printed)
 
 pub returns-in-SubmitEnd-clause-keeps : goal.returns-in-SubmitEnd-clause-keeps
 returns-in-SubmitEnd-clause-keeps c = keeps-writer _ _ c.submit_end.ensures.keeps
 
 pub returns-in-SubmitEnd-clause-answered : goal.returns-in-SubmitEnd-clause-answered
 returns-in-SubmitEnd-clause-answered c =
-    rw c.in-SubmitEnd.is (writer-answers (λ v. submitted_to (submit_end_came v)) finish_need (λ z r. Finish ∷ []) flushed_line _ _ _ _ c.args.line.now c.submit_end.new.line c.submit_end.result (submit_end-follows _) c.submit_end.ensures.printed)
+    rw c.in-SubmitEnd.is (writer-answers (λ v. submitted_to (submit_end_came host_calls v)) finish_need (λ z r. Finish ∷ []) flushed_line _ _ _ _ c.args.line.now c.submit_end.new.line c.submit_end.result (submit_end-follows _) c.submit_end.ensures.printed)
 
 pub returns-in-Flush-clause-keeps : goal.returns-in-Flush-clause-keeps
 returns-in-Flush-clause-keeps c = keeps-writer _ _ c.flush.ensures.keeps
 
 pub returns-in-Flush-clause-answered : goal.returns-in-Flush-clause-answered
 returns-in-Flush-clause-answered c =
-    rw c.in-Flush.is (writer-answers (λ v. flush_came v.writer.timeout v) flush_need (λ z r. Flush ∷ []) flushed_line _ _ _ _ c.args.line.now c.flush.new.line c.flush.result (flush-follows _ _) c.flush.ensures.printed)
+    rw c.in-Flush.is (writer-answers (λ v. flush_came host_calls v.writer.timeout v) flush_need (λ z r. Flush ∷ []) flushed_line _ _ _ _ c.args.line.now c.flush.new.line c.flush.result (flush-follows _ _) c.flush.ensures.printed)
 
 pub returns-in-PollFlush-clause-keeps : goal.returns-in-PollFlush-clause-keeps
 returns-in-PollFlush-clause-keeps c = keeps-writer _ _ c.poll_flush.ensures.keeps
 
 pub returns-in-PollFlush-clause-answered : goal.returns-in-PollFlush-clause-answered
 returns-in-PollFlush-clause-answered c =
-    rw c.in-PollFlush.is (writer-answers (λ v. flush_came 0 v) flush_need (λ z r. Flush ∷ []) (polled flushed_line) _ _ _ _ c.args.line.now c.poll_flush.new.line c.poll_flush.result (flush-follows _ _) c.poll_flush.ensures.printed)
+    rw c.in-PollFlush.is (writer-answers (λ v. flush_came host_calls 0 v) flush_need (λ z r. Flush ∷ []) (polled flushed_line) _ _ _ _ c.args.line.now c.poll_flush.new.line c.poll_flush.result (flush-follows _ _) c.poll_flush.ensures.printed)
 
 pub returns-in-FlushEnd-clause-keeps : goal.returns-in-FlushEnd-clause-keeps
 returns-in-FlushEnd-clause-keeps c = keeps-writer _ _ c.flush_end.ensures.keeps
 
 pub returns-in-FlushEnd-clause-answered : goal.returns-in-FlushEnd-clause-answered
 returns-in-FlushEnd-clause-answered c =
-    rw c.in-FlushEnd.is (writer-answers (λ v. flush_end_came v.writer.timeout v) finish_need (λ z r. Finish ∷ []) flushed_line _ _ _ _ c.args.line.now c.flush_end.new.line c.flush_end.result (flush_end-follows _ _) c.flush_end.ensures.printed)
+    rw c.in-FlushEnd.is (writer-answers (λ v. flush_end_came host_calls v.writer.timeout v) finish_need (λ z r. Finish ∷ []) flushed_line _ _ _ _ c.args.line.now c.flush_end.new.line c.flush_end.result (flush_end-follows _ _) c.flush_end.ensures.printed)
 
 pub returns-in-PollFlushEnd-clause-keeps : goal.returns-in-PollFlushEnd-clause-keeps
 returns-in-PollFlushEnd-clause-keeps c = keeps-writer _ _ c.poll_flush_end.ensures.keeps
 
 pub returns-in-PollFlushEnd-clause-answered : goal.returns-in-PollFlushEnd-clause-answered
 returns-in-PollFlushEnd-clause-answered c =
-    rw c.in-PollFlushEnd.is (writer-answers (poll_flush_end_came) poll_finish_need (λ z r. begun_calls z.begun) (polled flushed_line) _ _ _ _ c.args.line.now c.poll_flush_end.new.line c.poll_flush_end.result (poll_flush_end-follows _) c.poll_flush_end.ensures.printed)
+    rw c.in-PollFlushEnd.is (writer-answers (poll_flush_end_came host_calls) poll_finish_need (λ z r. begun_calls z.begun) (polled flushed_line) _ _ _ _ c.args.line.now c.poll_flush_end.new.line c.poll_flush_end.result (poll_flush_end-follows _) c.poll_flush_end.ensures.printed)

@@ -1,11 +1,11 @@
 use Rattle.std.proofs.Common.{false, refl}
 use Rattle.usb_io.specs.AnyReaders.{reader_of}
 use Rattle.usb_io.specs.Reads.{reading}
-use Rattle.usb_streams.proofs.CallAnswers.{fill-gives, fill-line}
+use Rattle.usb_streams.proofs.CallsGoOn.{fill-line}
 use Rattle.usb_streams.proofs.fills.fill_buf.Goals as goal
 
 pub returns : goal.returns
 returns c =
-    let gives = fill-gives false (reader_of c.args.reader.now).timeout (reading c.args.host.now (reader_of c.args.reader.now)) (reading c.fill_buf.new.bus (reader_of c.fill_buf.follows.lender-at-none)) c.fill_buf.result c.fill_buf.follows.holds-at-none.0 in
-    let line = fill-line false (reader_of c.args.reader.now).timeout (reading c.args.host.now (reader_of c.args.reader.now)) (reading c.fill_buf.new.bus (reader_of c.fill_buf.follows.lender-at-none)) c.fill_buf.result c.fill_buf.follows.holds-at-none.0 in
-    ((refl, λ _. tt, (gives, line, c.fill_buf.follows.holds-at-none.1, c.fill_buf.follows.holds-at-none.2)), record { lent = tt })
+    let holds = c.fill_buf.follows.holds-at-none in
+    let line = fill-line false (reading c.args.host.now (reader_of c.args.reader.now)) (reading c.fill_buf.new.bus (reader_of c.fill_buf.follows.lender-at-none)) (reader_of c.args.reader.now).timeout c.fill_buf.result holds.0 in
+    ((refl, λ _. tt, (holds.0, line, holds.1, holds.2)), record { lent = tt })

@@ -1,7 +1,7 @@
 use Rattle.std.proofs.Common.{◌-◌}
 use Rattle.usb_io.specs.AnyReaders.{reader_of}
 use Rattle.usb_io.specs.Reads.{reading}
-use Rattle.usb_streams.proofs.CallAnswers.{num-line}
+use Rattle.usb_streams.proofs.CallsGoOn.{num-line}
 use Rattle.usb_streams.proofs.settings.set_num_transfers.Goals as goal
 
 pub returns-clause-line : goal.returns-clause-line

@@ -1,15 +1,7 @@
-use Rattle.usb_streams.specs.HostReads.{host_calls}
-use Rattle.usb_io.specs.WriteAnswers.{end_start}
-use Rattle.usb_writes.proofs.CallAnswers.{drain-gives, drain-fails, flush_end-goes}
 use Rattle.usb_io.specs.Writers.{writing}
 use Rattle.usb_writes.specs.AnyWriters.{writer_of}
+use Rattle.usb_writes.proofs.CallsLeave.{flush_end-goes}
 use Rattle.usb_writes.proofs.flushes.flush_end.Goals as goal
-
-pub returns-clause-ok : goal.returns-clause-ok
-returns-clause-ok c = drain-gives (writer_of c.args.writer.now).timeout (end_start host_calls (writing c.args.host.now (writer_of c.args.writer.now))) (writing c.flush_end.new.bus (writer_of c.flush_end.new.self)) c.flush_end.result c.flush_end.ensures.ok
-
-pub returns-clause-failed : goal.returns-clause-failed
-returns-clause-failed c = drain-fails (writer_of c.args.writer.now).timeout (end_start host_calls (writing c.args.host.now (writer_of c.args.writer.now))) (writing c.flush_end.new.bus (writer_of c.flush_end.new.self)) _ c.flush_end.result c.flush_end.ensures.failed
 
 pub returns-clause-line : goal.returns-clause-line
 returns-clause-line c = (flush_end-goes (writer_of c.args.writer.now).timeout (writing c.args.host.now (writer_of c.args.writer.now)) (writing c.flush_end.new.bus (writer_of c.flush_end.new.self)) c.flush_end.result c.flush_end.ensures.ok c.flush_end.ensures.failed).line

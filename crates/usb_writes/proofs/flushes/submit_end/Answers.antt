@@ -1,6 +1,6 @@
-use Rattle.usb_writes.proofs.CallAnswers.{submit_end-goes}
 use Rattle.usb_io.specs.Writers.{writing}
 use Rattle.usb_writes.specs.AnyWriters.{writer_of}
+use Rattle.usb_writes.proofs.CallsLeave.{submit_end-goes}
 use Rattle.usb_writes.proofs.flushes.submit_end.Goals as goal
 
 pub returns-clause-line : goal.returns-clause-line

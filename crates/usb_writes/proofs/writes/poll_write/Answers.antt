@@ -1,16 +1,7 @@
-use Rattle.usb_writes.proofs.CallAnswers.{if-ready, write-gives, write-fails, poll_write-waits, poll_write-goes}
 use Rattle.usb_io.specs.Writers.{writing}
 use Rattle.usb_writes.specs.AnyWriters.{writer_of}
+use Rattle.usb_writes.proofs.CallsLeave.{poll_write-goes}
 use Rattle.usb_writes.proofs.writes.poll_write.Goals as goal
-
-pub returns-clause-wrote : goal.returns-clause-wrote
-returns-clause-wrote c = if-ready c.poll_write.result (λ r. write-gives 0 c.args.src.now (writing c.args.host.now (writer_of c.args.writer.now)) (writing c.poll_write.new.bus (writer_of c.poll_write.new.self)) r) c.poll_write.ensures.wrote
-
-pub returns-clause-failed : goal.returns-clause-failed
-returns-clause-failed c = if-ready c.poll_write.result (λ r. write-fails 0 c.args.src.now (writing c.args.host.now (writer_of c.args.writer.now)) (writing c.poll_write.new.bus (writer_of c.poll_write.new.self)) r) c.poll_write.ensures.failed
-
-pub returns-clause-pending : goal.returns-clause-pending
-returns-clause-pending c = poll_write-waits c.args.src.now (writing c.args.host.now (writer_of c.args.writer.now)) (writing c.poll_write.new.bus (writer_of c.poll_write.new.self)) c.poll_write.result c.poll_write.ensures.pending
 
 pub returns-clause-line : goal.returns-clause-line
 returns-clause-line c = (poll_write-goes c.args.src.now (writing c.args.host.now (writer_of c.args.writer.now)) (writing c.poll_write.new.bus (writer_of c.poll_write.new.self)) c.poll_write.result c.poll_write.ensures.wrote c.poll_write.ensures.failed c.poll_write.ensures.pending).line

@@ -1,6 +1,6 @@
 use Rattle.std.proofs.Common.{◌≡◌, slice_get, sym, ◌∙◌, subst}
 use Rattle.usb_answers.specs.SessionState.{IsSound}
-use Rattle.usb_answers.specs.Polls.{poll_answer, polled}
+use Rattle.usb_answers.specs.Polls.{poll_answer, poll_on}
 use Rattle.usb_answers.specs.ReaderAt.{endpoint_place}
 use Rattle.usb_answers.proofs.TakenOut.{PutBack, made_with, put_back, free_again, stands-made, sound-called, answers-called, same-none, answers-none}
 use Rattle.usb_answers.proofs.Lent.{spare-called}
@@ -19,7 +19,7 @@ invariant_of-self c = subst (λ l. IsSound (made_with c.self.inside c.self.insid
 pub returns-in_default-clause-answered : goal.returns-in_default-clause-answered
 unfolding poll_answer
 returns-in_default-clause-answered c =
-    answers-none c.self.inside _ _ _ _ c.args.line.now c.write_condition.new.out _ (λ state h. polled state (endpoint_place c.args.name) (slice_get h.tickets h.taken)) c.self.invariant c.self.view_is (sym c.take_at.ensures.taken ∙ c.in_default.is) (same c) c.number-number.ensures.value c.write_condition.ensures.text
+    answers-none c.self.inside _ _ _ _ c.args.line.now c.write_condition.new.out _ (λ state h. poll_on state (endpoint_place c.args.name) (slice_get h.tickets h.taken)) c.self.invariant c.self.view_is (sym c.take_at.ensures.taken ∙ c.in_default.is) (same c) c.number-number.ensures.value c.write_condition.ensures.text
 
 pub poll_open-polled-requires : goal.poll_open-polled-requires
 poll_open-polled-requires c = record { stands = stands-made c.self.inside _ _ _ c.self.invariant c.take_at.ensures.taken c.in-Some.is }
@@ -33,7 +33,7 @@ invariant_of-self-2 c = sound-called c.self.inside _ _ _ _ _ c.self.invariant (b
 pub returns-clause-answered : goal.returns-clause-answered
 unfolding poll_answer
 returns-clause-answered c =
-    answers-called c.self.inside _ _ _ _ _ _ _ c.args.line.now c.poll_open-polled.new.line _ (λ state e h. polled state e (slice_get h.tickets h.taken)) c.self.invariant c.self.view_is (back c) c.number-number.ensures.value c.poll_open-polled.ensures.answered
+    answers-called c.self.inside _ _ _ _ _ _ _ c.args.line.now c.poll_open-polled.new.line _ (λ state e h. poll_on state e (slice_get h.tickets h.taken)) c.self.invariant c.self.view_is (back c) c.number-number.ensures.value c.poll_open-polled.ensures.answered
 
 pub returns-clause-spare : goal.returns-clause-spare
 returns-clause-spare c = spare-called c.self.inside _ _ c.self.invariant c.self.view_is c.poll_open-polled.ensures.keeps.line

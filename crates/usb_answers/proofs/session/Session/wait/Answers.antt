@@ -1,5 +1,5 @@
 use Rattle.std.proofs.Common.{◌≡◌, slice_get, sym, ◌∙◌}
-use Rattle.usb_answers.specs.Waits.{waited, wait_answer}
+use Rattle.usb_answers.specs.Waits.{wait_on, wait_answer}
 use Rattle.usb_answers.specs.Steps.{then_rested, lent}
 use Rattle.usb_answers.specs.ReaderAt.{endpoint_place}
 use Rattle.usb_answers.proofs.TakenOut.{PutBack, put_back, free_again, stands-made, same-none}
@@ -19,7 +19,7 @@ invariant_of-self c = sound-stepped c.self.inside _ _ _ _ c.self.invariant c.len
 pub returns-in_default-clause-answered : goal.returns-in_default-clause-answered
 unfolding wait_answer
 returns-in_default-clause-answered c =
-    answers-stepped c.self.inside _ _ _ _ _ _ _ c.args.line.now c.write_condition.new.out _ (λ state h. then_rested (waited (lent state c.args.steps) (endpoint_place c.args.name) c.args.timeout (slice_get h.tickets h.taken))) c.self.invariant c.self.view_is
+    answers-stepped c.self.inside _ _ _ _ _ _ _ c.args.line.now c.write_condition.new.out _ (λ state h. then_rested (wait_on (lent state c.args.steps) (endpoint_place c.args.name) c.args.timeout (slice_get h.tickets h.taken))) c.self.invariant c.self.view_is
     (lent_is c.self.inside.host _ _ _ c.lend_steps.ensures.steps c.into_vec.ensures.value) c.rest.ensures.rest (sym c.take_at.ensures.taken ∙ c.in_default.is) (same c) c.number-number.ensures.value c.write_condition.ensures.text
 
 pub returns-in_default-clause-spare : goal.returns-in_default-clause-spare
@@ -38,7 +38,7 @@ invariant_of-self-2 c = sound-lent c.self.inside _ _ _ _ _ _ _ _ c.self.invarian
 pub returns-clause-answered : goal.returns-clause-answered
 unfolding wait_answer
 returns-clause-answered c =
-    answers-lent c.self.inside _ _ _ _ _ _ _ _ _ _ c.args.line.now c.wait_open-waited.new.line _ (λ state e h. waited state e c.args.timeout (slice_get h.tickets h.taken)) c.self.invariant c.self.view_is
+    answers-lent c.self.inside _ _ _ _ _ _ _ _ _ _ c.args.line.now c.wait_open-waited.new.line _ (λ state e h. wait_on state e c.args.timeout (slice_get h.tickets h.taken)) c.self.invariant c.self.view_is
     (lent_is c.self.inside.host _ _ _ c.lend_steps.ensures.steps c.into_vec.ensures.value) (back c) c.number-number.ensures.value c.wait_open-waited.ensures.answered c.rest-2.ensures.rest
 
 pub returns-clause-spare : goal.returns-clause-spare

@@ -12,9 +12,9 @@ tickets-preserved g c =
     let t = c.in-Some.ticket in
     let after = c.abandon.ensures.state in
     record {
-      bus = ap (λ b. all_abandoned g.B.Bus.abandoned b c.pop_front.new.self.items) c.abandon.ensures.ok ∙ rw items at c.tickets.invariant.bus;
-      held = rw after (AreHeld-without_owner (g.B.Bus.state c.tickets.bus).owner c.self.inside.key t c.pop_front.new.self.items held.1 held.2);
-      others = KeepsOthers-end _ (g.B.Bus.state c.tickets.bus) _ c.self.inside.key t c.tickets.invariant.others held.0 after;
+      bus = ap (λ b. all_abandoned g.B.Bus.calls.abandoned b c.pop_front.new.self.items) c.abandon.ensures.ok ∙ rw items at c.tickets.invariant.bus;
+      held = rw after (AreHeld-without_owner (g.B.Bus.calls.state c.tickets.bus).owner c.self.inside.key t c.pop_front.new.self.items held.1 held.2);
+      others = KeepsOthers-end _ (g.B.Bus.calls.state c.tickets.bus) _ c.self.inside.key t c.tickets.invariant.others held.0 after;
       owner = ap (λ (b : BusState). all_abandoned without_owner b.owner c.pop_front.new.self.items) after ∙ rw items at c.tickets.invariant.owner;
-      state = owner-only (g.B.Bus.state c.args.bus.now) (g.B.Bus.state c.tickets.bus) (g.B.Bus.state c.abandon.new.self) (without_owner (g.B.Bus.state c.tickets.bus).owner t) after c.tickets.invariant.state;
+      state = owner-only (g.B.Bus.calls.state c.args.bus.now) (g.B.Bus.calls.state c.tickets.bus) (g.B.Bus.calls.state c.abandon.new.self) (without_owner (g.B.Bus.calls.state c.tickets.bus).owner t) after c.tickets.invariant.state;
     }

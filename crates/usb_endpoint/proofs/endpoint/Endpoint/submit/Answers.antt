@@ -15,5 +15,5 @@ enter-requires-clause-whole g c = λ valid.
 pub returns-in-Ok-clause-stands : goal.returns-in-Ok-clause-stands
 returns-in-Ok-clause-stands g c =
     let enters = c.in-Ok.ensures.state in
-    let ticket = subst (λ (to : Route). Entered (g.B.Bus.state c.args.bus.now) (g.B.Bus.state c.enter.new.bus) to c.args.buf enters.refusal) c.route-to.ensures.route enters.ticket in
-    Stands-entered (g.B.Bus.state c.args.bus.now) _ c.args.self.now _ c.args.buf enters.refusal c.requires.stands c.in-Ok.ensures.fresh ticket (grind (arith, common_steps))
+    let ticket = subst (λ (to : Route). Entered (g.B.Bus.calls.state c.args.bus.now) (g.B.Bus.calls.state c.enter.new.bus) to c.args.buf enters.refusal) c.route-to.ensures.route enters.ticket in
+    Stands-entered (g.B.Bus.calls.state c.args.bus.now) _ c.args.self.now _ c.args.buf enters.refusal c.requires.stands c.in-Ok.ensures.fresh ticket (grind (arith, common_steps))

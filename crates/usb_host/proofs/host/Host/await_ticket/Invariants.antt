@@ -1,16 +1,17 @@
 use Rattle.std.proofs.Common.{◌≡◌, Some, false, IsSome}
-use Rattle.usb_host.specs.HostAwaits.{deadline_of, host_awaited}
+use Rattle.usb_endpoint.specs.Waits.{is_reaped}
+use Rattle.usb_host.specs.HostAwaits.{deadline_of}
 use Rattle.usb_host.specs.HostBus.{hold_at}
+use Rattle.usb_host.specs.HostCalls.{host_calls}
 use Rattle.usb_host.specs.HostFrames.{HostGoesOn}
-use Rattle.usb_host.specs.HostWaits.{is_found}
-use Rattle.usb_host.proofs.AwaitLemmas.{left_until}
+use Rattle.usb_host.proofs.AwaitLemmas.{Awaits, left_until}
 use Rattle.usb_host.proofs.host.Host.await_ticket.Given as goal
 
 abbrev pub invariant-turns : goal.invariant-turns
 invariant-turns l = record {
-  awaits : host_awaited l.self l.ticket l.deadline ≡ host_awaited l.initial.self l.ticket l.deadline;
+  awaits : Awaits l.ticket l.deadline l.initial.self l.self;
   held : IsSome (hold_at l.self.tickets l.ticket);
-  due : is_found l.self l.ticket ≡ false → deadline_of l.self.kernel.past l.ticket ≡ Some l.deadline;
+  due : is_reaped host_calls l.ticket l.self ≡ false → deadline_of l.self.kernel.past l.ticket ≡ Some l.deadline;
   went : HostGoesOn l.initial.self l.self;
 }
 

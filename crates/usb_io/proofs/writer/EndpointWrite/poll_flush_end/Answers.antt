@@ -1,8 +1,7 @@
-use Rattle.std.proofs.Common.{ap, subst, ◌≡◌, Result, Ok, Err, OnOk, true, false}
+use Rattle.std.proofs.Common.{ap, ◌≡◌, Result, Ok, Err, OnOk, true, false, rules}
 use Rattle.std.specs.Prelude.{is_err}
-use Rattle.usb_io.specs.Reads.{bus_calls}
-use Rattle.usb_io.specs.Fronts.{DrainedAll, DrainFault}
-use Rattle.usb_io.specs.Writers.{WriterState, Writing, writing, not_begun}
+use Rattle.usb_io.specs.Writers.{WriterState, writing, not_begun}
+use Rattle.usb_io.proofs.WriteLemmas.{poll_end-done, poll_end-failed, poll_end-waits}
 use Rattle.usb_io.proofs.writer.EndpointWrite.poll_flush_end.Goals as goal
 
 where-ok : {A E P : Type 0} (r : Result A E) → false ≡ is_err r → OnOk r P → P
@@ -11,21 +10,18 @@ where-ok (Err e) is p = absurd (let h : false ≡ true = is in cc)
 
 pub returns-in-Ok-clause-ok : goal.returns-in-Ok-clause-ok
 returns-in-Ok-clause-ok g c =
-    let start = where-ok c.begin_end.result c.if-is_err.ensures.value c.begin_end.ensures.ok in
-    record {
-      mid = writing c.drain.new.bus c.drain.new.self;
-      came = subst (λ (w : Writing _). DrainedAll (bus_calls g.B.Bus.state g.B.Bus.submitted g.B.Bus.refused g.B.Bus.turned g.B.Bus.turn_of g.B.Slots.taken) true 0 w (writing c.drain.new.bus c.drain.new.self)) start c.in-Ok.ensures.all;
-      is = ap (λ (w : WriterState). not_begun (writing c.drain.new.bus w)) c.self.view_is;
-    }
+    poll_end-done g.B.Bus.calls (writing c.args.bus.now c.args.self.now) (writing c.begin_end.new.bus c.begin_end.new.self) (writing c.drain.new.bus c.drain.new.self) _
+    (where-ok c.begin_end.result c.if-is_err.ensures.value c.begin_end.ensures.ok) c.in-Ok.ensures.drained (ap (λ (w : WriterState). not_begun (writing c.drain.new.bus w)) c.self.view_is)
 
 pub returns-in-Err-clause-failed : goal.returns-in-Err-clause-failed
 returns-in-Err-clause-failed g c =
-    let start = where-ok c.begin_end.result c.if-is_err.ensures.value c.begin_end.ensures.ok in
-    record {
-      mid = writing c.drain.new.bus c.drain.new.self;
-      came = subst (λ (w : Writing _). DrainFault (bus_calls g.B.Bus.state g.B.Bus.submitted g.B.Bus.refused g.B.Bus.turned g.B.Bus.turn_of g.B.Slots.taken) true 0 w (writing c.drain.new.bus c.drain.new.self) c.in-Err.fault) start c.in-Err.ensures.failed;
-      is = ap (λ (w : WriterState). not_begun (writing c.drain.new.bus w)) c.self.view_is;
-    }
+    poll_end-failed g.B.Bus.calls (writing c.args.bus.now c.args.self.now) (writing c.begin_end.new.bus c.begin_end.new.self) (writing c.drain.new.bus c.drain.new.self) _
+    (where-ok c.begin_end.result c.if-is_err.ensures.value c.begin_end.ensures.ok) c.in-Err.fault (search rules) c.in-Err.ensures.drained (ap (λ (w : WriterState). not_begun (writing c.drain.new.bus w)) c.self.view_is)
+
+pub returns-in-Err-TimedOut-clause-pending : goal.returns-in-Err-TimedOut-clause-pending
+returns-in-Err-TimedOut-clause-pending g c =
+    poll_end-waits g.B.Bus.calls (writing c.args.bus.now c.args.self.now) (writing c.begin_end.new.bus c.begin_end.new.self) (writing c.drain.new.bus c.drain.new.self) (writing c.drain.new.bus c.drain.new.self)
+    (where-ok c.begin_end.result c.if-is_err.ensures.value c.begin_end.ensures.ok) (rw c.in-Err-TimedOut.field-0-is at c.in-Err-TimedOut.ensures.drained)
 
 pub invariant_of-self : goal.invariant_of-self
 invariant_of-self g c = c.self.invariant

@@ -5,4 +5,4 @@ use Rattle.usb_io.proofs.writer.EndpointWrite.send.Goals as goal
 
 pub returns-clause-carries : goal.returns-clause-carries
 returns-clause-carries g c =
-    carries_submitted_ok c.submit.result g.B.Bus.state c.args.bus.now c.submit.new.bus c.self.inside.endpoint c.args.self.now.endpoint c.submit.new.self _ _ (ap (λ (w : WriterState). w.endpoint) c.self.view_is) c.self.invariant.address c.submit.ensures.enters c.submit.ensures.pending
+    carries_submitted_ok c.submit.result g.B.Bus.calls.state c.args.bus.now c.submit.new.bus c.self.inside.endpoint c.args.self.now.endpoint c.submit.new.self _ _ (ap (λ (w : WriterState). w.endpoint) c.self.view_is) c.self.invariant.address c.submit.ensures.enters c.submit.ensures.pending

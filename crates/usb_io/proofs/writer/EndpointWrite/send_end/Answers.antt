@@ -6,6 +6,6 @@ use Rattle.usb_io.proofs.writer.EndpointWrite.send_end.Goals as goal
 
 pub returns-in-Ok-clause-short : goal.returns-in-Ok-clause-short
 returns-in-Ok-clause-short g c =
-    tells_cut c.send_empty-in-Ok.result g.B.Bus.state c.args.bus.now c.send.new.bus c.send_empty-in-Ok.new.bus c.args.self.now _ c.send.new.self c.send_empty-in-Ok.new.self c.in-Some.buffer.bytes c.self.view_is
+    tells_cut c.send_empty-in-Ok.result g.B.Bus.calls.state c.args.bus.now c.send.new.bus c.send_empty-in-Ok.new.bus c.args.self.now _ c.send.new.self c.send_empty-in-Ok.new.self c.in-Some.buffer.bytes c.self.view_is
     (ap bytes_of (sym c.in-Some.ensures.value)) (sym (c.if-is_whole.ensures.whole ∙ ap (is_whole c.self.inside.endpoint.maximum) c.len.ensures.len)) c.in-Ok.ensures.carries
     (ap (λ (x : Writing _). x.writer.size) c.in-Ok.ensures.ok) (ap (λ (x : Writing _). x.writer.buffer) c.in-Ok.ensures.ok) c.send_empty-in-Ok.ensures.err

@@ -1,29 +1,12 @@
--- Waits and blocking transfers at a host, by the steps of its line.
-use Rattle.std.specs.Prelude.{ℕ, ◌≡◌, ◌≤◌, ◌+◌, Bool, List, [], length, Some}
+-- How the line of a host goes on.
+use Rattle.std.specs.Prelude.{ℕ, ◌≡◌, ◌≤◌, ◌+◌, [], length}
 use Rattle.usb_endpoint.specs.Waits.{waited}
 use Rattle.usb_endpoint.specs.Blocking.{blocked}
 use Rattle.usb_host.specs.HostState.{HostState}
-use Rattle.usb_host.specs.HostBus.{bus_of}
-use Rattle.usb_host.specs.HostTurns.{host_turned, host_turn, host_rest}
-use Rattle.usb_host.specs.HostCalls.{host_discarded}
-use Rattle.usb_host.specs.HostWaits.{wait_steps, host_waited}
-use Rattle.usb_host.specs.HostBlocking.{host_blocked}
+use Rattle.usb_host.specs.HostTurns.{host_turned, host_rest}
+use Rattle.usb_host.specs.HostCalls.{host_calls}
 use Rattle.usb_host.specs.HostAwaits.{host_awaited}
 use Rattle.usb_host.specs.HostFrames.{LineGoesOn, HostGoesOn}
-
--- a wait at a host that has an answer goes by the steps that are left
-abbrev pub WaitIsBySteps : Type 0
-WaitIsBySteps =
-    (n : ℕ) (h : HostState) (t timeout start : ℕ) (x : Bool × HostState) →
-    waited bus_of host_turned host_turn t timeout start n h ≡ Some x →
-    x ≡ wait_steps h.steps h t timeout start
-
--- and so does a blocking transfer, whatever bounds its waits had
-abbrev pub BlockingIsBySteps : Type 0
-BlockingIsBySteps =
-    (t timeout looks : ℕ) (more : List ℕ) (h g : HostState) →
-    blocked bus_of host_turned host_turn host_discarded t timeout looks more h ≡ Some g →
-    g ≡ host_blocked h t timeout
 
 -- a turn, a wait and a blocking transfer take steps only from the front of the line, and end
 -- nothing that endpoints hold
@@ -31,10 +14,11 @@ abbrev pub TurnGoesOn : Type 0
 TurnGoesOn = (h : HostState) → HostGoesOn h (host_turned h)
 
 abbrev pub WaitGoesOn : Type 0
-WaitGoesOn = (h : HostState) (t timeout : ℕ) → HostGoesOn h (host_waited h t timeout).1
+WaitGoesOn = (h : HostState) (t timeout : ℕ) → HostGoesOn h (waited host_calls t timeout h)
 
 abbrev pub BlockingGoesOn : Type 0
-BlockingGoesOn = (h : HostState) (t timeout : ℕ) → HostGoesOn h (host_blocked h t timeout)
+BlockingGoesOn =
+    (h : HostState) (t timeout : ℕ) → HostGoesOn h (blocked host_calls t timeout h)
 
 -- so does a wait for a control transfer
 abbrev pub AwaitGoesOn : Type 0

@@ -1,0 +1,21 @@
+-- What a call on a reader or a writer answered, and what it left.
+use Rattle.std.specs.Prelude.{◌≡◌, Result, Err}
+use Rattle.usb_desc.specs.declared.error.Fail.{Fail}
+use Rattle.usb_desc.specs.declared.error.Fail.TheVariants.{Cause, Memory}
+
+-- a value (A) or why there is none (F), and the bus with the reader or the writer (W)
+pub record Answered (A F W : Type 0) : Type 0 where
+  pub answer : Result A F
+  pub left : W
+
+abbrev pub answered : {A F W : Type 0} → Result A F → W → Answered A F W
+answered answer left = record { answer = answer; left = left }
+
+-- what is true of each failure
+abbrev pub FailsBy : {E : Type 0} → Fail E → (E → Type 0) → Type 0 → Type 0
+FailsBy (Cause e) P M = P e
+FailsBy Memory P M = M
+
+-- a call failed as it says; or memory was lacking, and then this is so
+abbrev pub FailedAs : {A F W : Type 0} → Answered A F W → Type 0 → W → Fail F → Type 0
+FailedAs a short left e = FailsBy e (λ f. a ≡ answered (Err f) left) short
