@@ -10,8 +10,8 @@ use std::alloc::AllocError;
 use std::test::Fail;
 use usb_desc::{ControlIn, ControlOut, ControlType, Direction, NoMemory, Recipient, TransferType};
 use usb_xfer::{
-    Buffer, Bulk, BulkOrInterrupt, Completion, EndpointDirection, Idle, In, Interrupt, Out,
-    TransferData, TransferError, buffer_is_send_and_sync,
+    Buffer, Bulk, Completion, Idle, In, Interrupt, KnownDirection, KnownType, Out, TransferData,
+    TransferError, buffer_is_send_and_sync,
 };
 
 /// Whether a buffer has room for six bytes, of which four are asked for, and holds these five.
@@ -84,7 +84,7 @@ fn errnos_have_their_errors_and_texts(rt: HostRuntime) -> Result<(), AllocError>
     check(&rt, ERRNOS)
 }
 
-fn shape_of<T: BulkOrInterrupt, D: EndpointDirection>() -> (TransferType, Direction)
+fn shape_of<T: KnownType, D: KnownDirection>() -> (TransferType, Direction)
     ensures kind { result.0 ≡ T.TYPE }
     ensures direction { result.1 ≡ D.DIR }
 {

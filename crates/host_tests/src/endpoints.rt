@@ -67,8 +67,8 @@ enum Case {
     Writes,
     /// A reader is made with a number of transfers.
     Transfers,
-    /// A reader and a writer of either type are asked what they have.
-    Either,
+    /// A reader and a writer of any type are asked what they have.
+    AnyType,
 }
 
 /// Compares what is found on a new bus. It is owned here alone.
@@ -87,6 +87,6 @@ fn is_so(alloc: Global, bus: &mut KernelBus, case: &Case) -> bool {
         Case::Fills => is_right_reader(alloc, bus, FILLS),
         Case::Transfers => has_transfers(alloc, bus),
         Case::Writes => is_right_writer(alloc, bus),
-        Case::Either => takes_what_stands(alloc, bus) && tells_its_packets(alloc, bus),
+        Case::AnyType => takes_what_stands(alloc, bus) && tells_its_packets(alloc, bus),
     }
 }

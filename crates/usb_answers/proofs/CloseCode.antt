@@ -7,8 +7,6 @@ use Rattle.usb_bus.specs.BusState.{BusState, without_key}
 use Rattle.std.specs.Option.{option_map}
 use Rattle.usb_host.proofs.ClaimFrames.{goes-trans}
 use Rattle.usb_ledger.proofs.DeviceLemmas.{counts-same}
-use Rattle.usb_endpoint.specs.declared.any_endpoint.AnyEndpoint.{AnyEndpoint}
-use Rattle.usb_endpoint.specs.AnyEndpoints.{state_of}
 use Rattle.usb_endpoint.specs.EndpointState.{EndpointState}
 use Rattle.usb_endpoint.specs.Handles.{KeepsOthers}
 use Rattle.usb_endpoint.specs.Closes.{all_discarded, all_abandoned, after_close}
@@ -83,10 +81,10 @@ after-sound i now after p z sound was rest bus others =
     (subst (λ (g : HostState). OpensNone i.host.endpoints g.endpoints) (sym bus) (none-closed i.host z))
     (ap (λ (g : HostState). key_at g.endpoints z.key) bus ∙ key-closed i.host z)
 
-pub closed-sound : (i : Inside) (now : HostState) (mid : List (Option AnyEndpoint)) (n : ℕ) (x : AnyEndpoint) → IsSound (made_of i) → named i.endpoints.items n ≡ Some x → mid ≡ freed i.endpoints.items n → now ≡ after_close host_calls i.host (state_of x) → KeepsOthers (bus_of i.host) (bus_of now) (state_of x).key → IsSound (made_with i now mid)
+pub closed-sound : (i : Inside) (now : HostState) (mid : List (Option EndpointState)) (n : ℕ) (x : EndpointState) → IsSound (made_of i) → named i.endpoints.items n ≡ Some x → mid ≡ freed i.endpoints.items n → now ≡ after_close host_calls i.host x → KeepsOthers (bus_of i.host) (bus_of now) x.key → IsSound (made_with i now mid)
 closed-sound i now mid n x sound was rest bus others =
     let places = places-made i sound in
-    after-sound i now (endpoints_with mid i.readers.items i.writers.items) (endpoint_place n) (state_of x) sound (taken-endpoint i.endpoints.items i.readers.items i.writers.items places n x was)
+    after-sound i now (endpoints_with mid i.readers.items i.writers.items) (endpoint_place n) x sound (taken-endpoint i.endpoints.items i.readers.items i.writers.items places n x was)
     (freed-endpoint_after i.endpoints.items i.readers.items i.writers.items places n mid rest) bus others
 
 pub closed-spare : (h now : HostState) (e : EndpointState) → h.steps ≡ [] → now ≡ after_close host_calls h e → now.kernel.spare ≡ h.kernel.spare
@@ -95,11 +93,11 @@ closed-spare h now e idle bus =
     let none : length before.front + length (before_left h e).steps ≡ 0 = sym (length-append before.front (before_left h e).steps) ∙ ap length (sym before.steps ∙ idle) in
     ap (λ (g : HostState). g.kernel.spare) bus ∙ (line-left (before_left h e) e.key).spare ∙ omega (arith, before.spare, none)
 
-pub freed-made : (i : Inside) (S : SessionState) (mid : List (Option AnyEndpoint)) (n : ℕ) → IsSound (made_of i) → made_of i ≡ S → mid ≡ freed i.endpoints.items n → endpoints_with mid i.readers.items i.writers.items ≡ freed S.endpoints (endpoint_place n)
+pub freed-made : (i : Inside) (S : SessionState) (mid : List (Option EndpointState)) (n : ℕ) → IsSound (made_of i) → made_of i ≡ S → mid ≡ freed i.endpoints.items n → endpoints_with mid i.readers.items i.writers.items ≡ freed S.endpoints (endpoint_place n)
 freed-made i S mid n sound view rest =
     freed-endpoint_after i.endpoints.items i.readers.items i.writers.items (places-made i sound) n mid rest ∙ ap (λ (v : SessionState). freed v.endpoints (endpoint_place n)) view
 
-pub is_some-made : (i : Inside) (S : SessionState) (n : ℕ) (x : AnyEndpoint) → IsSound (made_of i) → made_of i ≡ S → named i.endpoints.items n ≡ Some x → true ≡ is_some (named S.endpoints (endpoint_place n))
+pub is_some-made : (i : Inside) (S : SessionState) (n : ℕ) (x : EndpointState) → IsSound (made_of i) → made_of i ≡ S → named i.endpoints.items n ≡ Some x → true ≡ is_some (named S.endpoints (endpoint_place n))
 is_some-made i S n x sound view was = sym (ap is_some (named-made i S n x sound view was))
 
 pub is_none-made : (i : Inside) (S : SessionState) (n : ℕ) → IsSound (made_of i) → made_of i ≡ S → named i.endpoints.items n ≡ None → false ≡ is_some (named S.endpoints (endpoint_place n))
@@ -112,15 +110,15 @@ after-represents i S now after p z view rest bus state r o =
     (bus ∙ ap (λ (g : HostState). after_close host_calls g z) (host_is (made_of i) state s) ∙ ap (after_close host_calls state.host) (sym o.same))
     (represents-freed (made_of i) state now after p s rest)
 
-pub closed-represents : (i : Inside) (S : SessionState) (now : HostState) (mid : List (Option AnyEndpoint)) (n : ℕ) (x : AnyEndpoint) → IsSound (made_of i) → made_of i ≡ S → named i.endpoints.items n ≡ Some x → mid ≡ freed i.endpoints.items n → now ≡ after_close host_calls i.host (state_of x) → (state : State) → Represents S state → Represents (made_with i now mid) (closed state (endpoint_place n))
+pub closed-represents : (i : Inside) (S : SessionState) (now : HostState) (mid : List (Option EndpointState)) (n : ℕ) (x : EndpointState) → IsSound (made_of i) → made_of i ≡ S → named i.endpoints.items n ≡ Some x → mid ≡ freed i.endpoints.items n → now ≡ after_close host_calls i.host x → (state : State) → Represents S state → Represents (made_with i now mid) (closed state (endpoint_place n))
 unfolding closed
 closed-represents i S now mid n x sound view was rest bus state r =
     let p = endpoint_place n in
-    let o = open_at S state p (state_of x) r (named-made i S n x sound view was) in
+    let o = open_at S state p x r (named-made i S n x sound view was) in
     rw o.is
-    (after-represents i S now (endpoints_with mid i.readers.items i.writers.items) p (state_of x) view (freed-endpoint_after i.endpoints.items i.readers.items i.writers.items (places-made i sound) n mid rest) bus state r o)
+    (after-represents i S now (endpoints_with mid i.readers.items i.writers.items) p x view (freed-endpoint_after i.endpoints.items i.readers.items i.writers.items (places-made i sound) n mid rest) bus state r o)
 
-pub nothing-closed : (i : Inside) (S : SessionState) (mid : List (Option AnyEndpoint)) (n : ℕ) → IsSound (made_of i) → made_of i ≡ S → named i.endpoints.items n ≡ None → mid ≡ i.endpoints.items → (state : State) → Represents S state → Represents (made_with i i.host mid) (closed state (endpoint_place n))
+pub nothing-closed : (i : Inside) (S : SessionState) (mid : List (Option EndpointState)) (n : ℕ) → IsSound (made_of i) → made_of i ≡ S → named i.endpoints.items n ≡ None → mid ≡ i.endpoints.items → (state : State) → Represents S state → Represents (made_with i i.host mid) (closed state (endpoint_place n))
 unfolding closed
 nothing-closed i S mid n sound view none rest state r =
     rw (none_kept S state (endpoint_place n) r (none_made i S n sound view none))

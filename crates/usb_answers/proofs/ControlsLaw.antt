@@ -13,7 +13,6 @@ use Rattle.usb_host.specs.Finishes.{HasEnds}
 use Rattle.usb_names.specs.Names.{named, freed}
 use Rattle.usb_names.proofs.NameLemmas.{named-freed, named-freed_other, named-replicate}
 use Rattle.usb_script.specs.declared.item.Item.{Item}
-use Rattle.usb_script.specs.declared.item.Item.TheVariants as item
 use Rattle.usb_answers.specs.State.{State}
 use Rattle.usb_answers.specs.Answers.{answer}
 use Rattle.usb_answers.specs.Ends.{readers_closed, writers_closed, endpoints_closed, future_closed_at, future_closed_under, futures_closed, ended, all_closed}

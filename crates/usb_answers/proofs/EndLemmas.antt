@@ -4,10 +4,9 @@ use Rattle.std.specs.Option.{option_map}
 use Rattle.std.proofs.lemmas.Bool.{cases_eq, cases_lt}
 use Rattle.std.proofs.lemmas.Bool.Decides.{nat_tests}
 use Rattle.std.proofs.lemmas.Option.{none-some, same_Some}
-use Rattle.usb_endpoint.specs.declared.any_endpoint.AnyEndpoint.{AnyEndpoint}
-use Rattle.usb_endpoint.specs.AnyEndpoints.{state_of}
-use Rattle.usb_io.specs.declared.any_reader.AnyReader.{AnyReader}
-use Rattle.usb_writes.specs.declared.any_writer.AnyWriter.{AnyWriter}
+use Rattle.usb_endpoint.specs.EndpointState.{EndpointState}
+use Rattle.usb_io.specs.Readers.{ReaderState}
+use Rattle.usb_io.specs.Writers.{WriterState}
 use Rattle.usb_host.specs.HostState.{HostState}
 use Rattle.usb_host.specs.HostBus.{owner_at}
 use Rattle.usb_host.specs.Handles.{device_closed, handle_closed}
@@ -176,9 +175,9 @@ none-closed read written closed_ last all readers kept_ writers streams endpoint
     (λ e below. same e ∙ endpoints e below)
 
 -- then no name of an endpoint is open, none of a reader and none of a writer
-module _ (es : List (Option AnyEndpoint)) (rs : List (Option AnyReader)) (ws : List (Option AnyWriter)) (places : HasPlaces es rs ws) (none : (n : ℕ) → named (endpoints_with es rs ws) n ≡ None) where
+module _ (es : List (Option EndpointState)) (rs : List (Option ReaderState)) (ws : List (Option WriterState)) (places : HasPlaces es rs ws) (none : (n : ℕ) → named (endpoints_with es rs ws) n ≡ None) where
   pub none-endpoints : (n : ℕ) → named es n ≡ None
-  none-endpoints n = unmapped state_of (named es n) (sym (named-endpoint es rs ws places n) ∙ none (endpoint_place n))
+  none-endpoints n = sym (named-endpoint es rs ws places n) ∙ none (endpoint_place n)
 
   pub none-readers : (n : ℕ) → named rs n ≡ None
   none-readers = none-all rs places.readers (λ r below. unmapped endpoint_of (named rs r) (sym (named-reader es rs ws places r below) ∙ none (reader_place r)))

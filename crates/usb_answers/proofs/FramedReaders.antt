@@ -24,9 +24,9 @@ use Rattle.usb_io.specs.declared.fault.ReadFault.{ReadFault}
 use Rattle.usb_io.specs.Answers.{fill_came, read_came}
 use Rattle.usb_io.proofs.Following.{fresh_follows, later_follows, reading_follows, ending_follows}
 use Rattle.usb_streams.specs.Numbers.{numbers_from}
-use Rattle.usb_streams.specs.Laws.{CallGoesOn}
-use Rattle.usb_streams.specs.Framed.{given_by, GoesOnToFollow, KeepsToStream}
-use Rattle.usb_streams.proofs.CallsGoOn.{fill_goes_on, read_goes_on, submissions_go_on}
+use Rattle.usb_streams.specs.ReaderCalls.{given_by, ReaderGoesOn}
+use Rattle.usb_streams.specs.Framed.{GoesOnToFollow, KeepsToStream}
+use Rattle.usb_streams.proofs.ReadsGoOn.{fill_goes_on, read_goes_on, submissions_go_on}
 use Rattle.usb_streams.proofs.FramedCalls.{lawful-before, follows-as, framed_fill_follows, framed_read_follows, framed_submissions_follow}
 use Rattle.usb_stream_lines.specs.Reads.{read_line, buffer_line, is_end_line, consumed_end_line}
 use Rattle.usb_words.specs.declared.framing.Framing.{Framing}
@@ -354,7 +354,7 @@ before-of Plain items o consumed is = absurd (none-some consumed is)
 before-of UntilShort items None consumed is = absurd (none-some consumed is)
 before-of UntilShort items (Some before) consumed is = record { framed = refl; before = before; was = refl; is = same_Some (before ++ items) consumed is }
 
-call-changes : (state : State) (framing : Framing) (r : ℕ) (x : ReaderAt) (items : List Item) (bytes given : List ℕ) (w : Reading HostState) → items ≡ map Byte bytes → reader_at state r ≡ Some x → FramedFollow state → CallGoesOn (reading state.host (state_of_reader x)) w
+call-changes : (state : State) (framing : Framing) (r : ℕ) (x : ReaderAt) (items : List Item) (bytes given : List ℕ) (w : Reading HostState) → items ≡ map Byte bytes → reader_at state r ≡ Some x → FramedFollow state → ReaderGoesOn (reading state.host (state_of_reader x)) w
     → (framing ≡ UntilShort → KeepsToStream (reading state.host (state_of_reader x)) w bytes) → IsLawful w.bus.kernel.past → Changes state (called state r (consumed_with framing items x.reader.consumed) given w) r
 call-changes state framing r x items bytes given w alike at f goes keeps lawful =
     let now = consumed_with framing items x.reader.consumed in
@@ -365,7 +365,7 @@ call-changes state framing r x items bytes given w alike at f goes keeps lawful 
     subst (λ (all : List Item). FollowsAt w.bus.kernel.past (called_at state x now given w) all) (ap (λ (l : List Item). b.before ++ l) (sym alike) ∙ b.is)
     (called-follows state x (state_of_reader x) w b.before bytes given now refl goes.endpoint was.input g))
 
-call-follow : (state : State) (framing : Framing) (r : ℕ) (x : ReaderAt) (items : List Item) (bytes given : List ℕ) (w : Reading HostState) → items ≡ map Byte bytes → reader_at state r ≡ Some x → FramedFollow state → CallGoesOn (reading state.host (state_of_reader x)) w
+call-follow : (state : State) (framing : Framing) (r : ℕ) (x : ReaderAt) (items : List Item) (bytes given : List ℕ) (w : Reading HostState) → items ≡ map Byte bytes → reader_at state r ≡ Some x → FramedFollow state → ReaderGoesOn (reading state.host (state_of_reader x)) w
     → (framing ≡ UntilShort → KeepsToStream (reading state.host (state_of_reader x)) w bytes) → IsLawful w.bus.kernel.past → FramedFollow (called state r (consumed_with framing items x.reader.consumed) given w)
 call-follow state framing r x items bytes given w alike at f goes keeps lawful =
     changes-follow state (called state r (consumed_with framing items x.reader.consumed) given w) r goes.past (call-changes state framing r x items bytes given w alike at f goes keeps lawful) f

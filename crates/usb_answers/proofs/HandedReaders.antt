@@ -22,12 +22,12 @@ use Rattle.usb_io.specs.declared.fault.ReadFault.{ReadFault}
 use Rattle.usb_io.specs.Answers.{fill_came, read_came}
 use Rattle.usb_streams.specs.Numbers.{numbers_from}
 use Rattle.usb_streams.specs.Handed.{completed_bytes, HandsOver}
-use Rattle.usb_streams.proofs.CallsGoOn.{fill_goes_on, read_goes_on, submissions_go_on}
+use Rattle.usb_streams.proofs.ReadsGoOn.{fill_goes_on, read_goes_on, submissions_go_on}
 use Rattle.usb_streams.proofs.HandedCalls.{complete-later, bytes-later, bytes-append, fill_hands_over, read_hands_over, submissions_hand_over}
 use Rattle.usb_stream_lines.specs.Reads.{read_line, buffer_line, is_end_line, consumed_end_line}
 use Rattle.usb_words.specs.declared.framing.Framing.{Framing}
 use Rattle.usb_words.specs.declared.framing.Framing.TheVariants.{UntilShort}
-use Rattle.usb_writes.specs.Told.{IsComplete}
+use Rattle.usb_streams.specs.Told.{IsComplete}
 use Rattle.usb_writer_lines.specs.Needs.{bars_need}
 use Rattle.usb_names.specs.Names.{named, is_free, freed, change_named}
 use Rattle.usb_names.proofs.NameLemmas.{length-freed, length-set_name, named-change_same, named-change_other, named-freed, named-freed_other, named-set, named-set_other}

@@ -6,8 +6,6 @@ use Rattle.usb_ledger.proofs.DeviceLemmas.{counts-same}
 use Rattle.usb_simulated.specs.declared.step.KernelStep.{KernelStep}
 use Rattle.usb_kernel.specs.Extends.{Extends}
 use Rattle.usb_kernel.proofs.Extends.{extends-same, extends-trans}
-use Rattle.usb_endpoint.specs.declared.any_endpoint.AnyEndpoint.{AnyEndpoint}
-use Rattle.usb_endpoint.specs.AnyEndpoints.{state_of}
 use Rattle.usb_endpoint.specs.EndpointState.{EndpointState}
 use Rattle.usb_endpoint.specs.Handles.{Stands, KeepsOthers}
 use Rattle.usb_endpoint.proofs.Frames.{Stands-later}
@@ -78,9 +76,9 @@ sound-lent_at i steps at now last after p x y sound is was put keeps rest =
     (keeps-lent i.host now steps k.past k.line) (stands-rested now y k.stands) k.key k.maximum (others-lent i.host now steps x.key k.others) (none-lent i.host now steps k.line))
 
 -- an endpoint was
-pub sound-lent : (i : Inside) (steps : List KernelStep) (at now last : HostState) (after : List (Option AnyEndpoint)) (e : ℕ) (x y : AnyEndpoint) → IsSound (made_of i) → at ≡ record i.host { steps = steps } → PutBack i.endpoints.items after e x y → CallKeeps at now (state_of x) (state_of y) → last ≡ host_rest now → IsSound (made_with i last after)
+pub sound-lent : (i : Inside) (steps : List KernelStep) (at now last : HostState) (after : List (Option EndpointState)) (e : ℕ) (x y : EndpointState) → IsSound (made_of i) → at ≡ record i.host { steps = steps } → PutBack i.endpoints.items after e x y → CallKeeps at now x y → last ≡ host_rest now → IsSound (made_with i last after)
 sound-lent i steps at now last after e x y sound is back keeps rest =
-    sound-lent_at i steps at now last (endpoints_with after i.readers.items i.writers.items) (endpoint_place e) (state_of x) (state_of y) sound is
+    sound-lent_at i steps at now last (endpoints_with after i.readers.items i.writers.items) (endpoint_place e) x y sound is
     (taken-endpoint i.endpoints.items i.readers.items i.writers.items (places-made i sound) e x back.was) (made-put i after e x y sound back) keeps rest
 
 -- the session to which the steps are lent
@@ -98,7 +96,7 @@ rested-answered s now before after a is answered =
       line = answered.line;
     }
 
-pub answers-lent : {E : Type 0} (i : Inside) (S : SessionState) (steps : List KernelStep) (at now last : HostState) (after : List (Option AnyEndpoint)) (n e : ℕ) (x y : AnyEndpoint) (before text : String Global) (result : Result Unit E) (call : State → ℕ → Endpoint → Answer) → IsSound (made_of i) → made_of i ≡ S → at ≡ record i.host { steps = steps } → PutBack i.endpoints.items after n x y → n ≡ e → CallAnswers at now (state_of x) (state_of y) before text result call → last ≡ host_rest now → Answers S (made_with i last after) before text result (λ state. if_open (named state.endpoints (endpoint_place e)) (λ h. then_rested (call (lent state steps) (endpoint_place e) h)) (barred (stepped_all state steps)))
+pub answers-lent : {E : Type 0} (i : Inside) (S : SessionState) (steps : List KernelStep) (at now last : HostState) (after : List (Option EndpointState)) (n e : ℕ) (x y : EndpointState) (before text : String Global) (result : Result Unit E) (call : State → ℕ → Endpoint → Answer) → IsSound (made_of i) → made_of i ≡ S → at ≡ record i.host { steps = steps } → PutBack i.endpoints.items after n x y → n ≡ e → CallAnswers at now x y before text result call → last ≡ host_rest now → Answers S (made_with i last after) before text result (λ state. if_open (named state.endpoints (endpoint_place e)) (λ h. then_rested (call (lent state steps) (endpoint_place e) h)) (barred (stepped_all state steps)))
 answers-lent i S steps at now last after n e x y before text (Err error) call sound view is back same answers rest = tt
 answers-lent i S steps at now last after n e x y before text (Ok done) call sound view is back same answers rest =
     λ state r.
@@ -106,9 +104,9 @@ answers-lent i S steps at now last after n e x y before text (Ok done) call soun
     let t = string_bytes text in
     let p = endpoint_place n in
     let was = named-made i S n x sound view back.was in
-    let o = open_at S state p (state_of x) r was in
+    let o = open_at S state p x r was in
     let lends = represents-lent i S steps at view is state r in
-    let called : Answered (with_called S p now (state_of y)) b t (call (lent state steps) p o.entry) = answers (record S { host = at }) (lent state steps) p o.entry lends refl was o.is in
+    let called : Answered (with_called S p now y) b t (call (lent state steps) p o.entry) = answers (record S { host = at }) (lent state steps) p o.entry lends refl was o.is in
     subst (λ m. Answered (made_with i last after) b t (if_open (named state.endpoints (endpoint_place m)) (λ h. then_rested (call (lent state steps) (endpoint_place m) h)) (barred (stepped_all state steps)))) same
     (answered-some (made_with i last after) b t (named state.endpoints p) o.entry (λ h. then_rested (call (lent state steps) p h)) (barred (stepped_all state steps)) o.is
     (subst (λ (h : HostState). Answered (made_with i h after) b t (then_rested (call (lent state steps) p o.entry))) (sym rest)
@@ -116,7 +114,7 @@ answers-lent i S steps at now last after n e x y before text (Ok done) call soun
     (subst (λ s. Answered s b t (call (lent state steps) p o.entry)) (made-called i S now after n x y sound view back) called))))
 
 -- no endpoint was called
-pub sound-stepped : (i : Inside) (steps : List KernelStep) (at last : HostState) (mid : List (Option AnyEndpoint)) → IsSound (made_of i) → at ≡ record i.host { steps = steps } → last ≡ host_rest at → mid ≡ i.endpoints.items → IsSound (made_with i last mid)
+pub sound-stepped : (i : Inside) (steps : List KernelStep) (at last : HostState) (mid : List (Option EndpointState)) → IsSound (made_of i) → at ≡ record i.host { steps = steps } → last ≡ host_rest at → mid ≡ i.endpoints.items → IsSound (made_with i last mid)
 sound-stepped i steps at last mid sound is rest none =
     subst (λ l. IsSound (made_with i last l)) (sym none)
     (subst (λ (h : HostState). IsSound (made_with i h i.endpoints.items)) (sym (rest ∙ ap host_rest is))
@@ -132,7 +130,7 @@ steps-represent i S steps at last view is rest state r =
     (rest ∙ ap host_rest is ∙ ap (λ (h : HostState). host_rest (record h { steps = steps })) (host_is (made_of i) state here))
     (represents-host (made_of i) state last here)
 
-pub answers-stepped : {E : Type 0} (i : Inside) (S : SessionState) (steps : List KernelStep) (at last : HostState) (mid : List (Option AnyEndpoint)) (n e : ℕ) (before text : String Global) (result : Result Unit E) (call : State → Endpoint → Answer) → IsSound (made_of i) → made_of i ≡ S → at ≡ record i.host { steps = steps } → last ≡ host_rest at → named i.endpoints.items n ≡ None → mid ≡ i.endpoints.items → n ≡ e → OnOk result (string_bytes text ≡ string_bytes before ++ condition_line) → Answers S (made_with i last mid) before text result (λ state. if_open (named state.endpoints (endpoint_place e)) (call state) (barred (stepped_all state steps)))
+pub answers-stepped : {E : Type 0} (i : Inside) (S : SessionState) (steps : List KernelStep) (at last : HostState) (mid : List (Option EndpointState)) (n e : ℕ) (before text : String Global) (result : Result Unit E) (call : State → Endpoint → Answer) → IsSound (made_of i) → made_of i ≡ S → at ≡ record i.host { steps = steps } → last ≡ host_rest at → named i.endpoints.items n ≡ None → mid ≡ i.endpoints.items → n ≡ e → OnOk result (string_bytes text ≡ string_bytes before ++ condition_line) → Answers S (made_with i last mid) before text result (λ state. if_open (named state.endpoints (endpoint_place e)) (call state) (barred (stepped_all state steps)))
 answers-stepped i S steps at last mid n e before text (Err error) call sound view is rest none back same printed = tt
 answers-stepped i S steps at last mid n e before text (Ok done) call sound view is rest none back same printed =
     λ state r.

@@ -1,17 +1,18 @@
 -- An endpoint that is open moves to another place: it becomes a reader's or a writer's, or comes back.
 use Rattle.std.proofs.Common.{◌≡◌, ◌≢◌, ℕ, ◌<◌, ◌≤◌, arith, List, length, map, Option, Some, None, Bool, true, false, refl, ap, sym, ◌∙◌, subst, inl, inr, ◌⊎◌}
-use Rattle.std.specs.Prelude.{◌*◌, ◌-◌, ◌/◌, ◌+◌, ◌^◌, nat_le, if◌then◌else◌}
+use Rattle.std.specs.Prelude.{◌*◌, ◌-◌, ◌/◌, ◌+◌, ◌^◌, if◌then◌else◌}
 use Rattle.std.specs.Option.{option_map}
 use Rattle.std.proofs.lemmas.Bool.{cases_eq}
-use Rattle.std.proofs.lemmas.Bool.Decides.{nat_tests}
 use Rattle.std.proofs.lemmas.Option.{none-some, same_Some}
 use Rattle.std.proofs.Math.Nat.{div-mul-le_self, suc-mul}
 use Rattle.std.proofs.Math.Numerals.{suc-eq-add-one}
+use Rattle.usb_desc.specs.declared.types.Direction.{Direction}
 use Rattle.usb_desc.specs.declared.types.Direction.TheVariants.{In, Out}
-use Rattle.usb_endpoint.specs.declared.any_endpoint.AnyEndpoint.{AnyEndpoint}
+use Rattle.usb_desc.specs.Fields.{direction_of_address}
 use Rattle.usb_endpoint.specs.EndpointState.{EndpointState}
 use Rattle.usb_endpoint.specs.Handles.{Stands}
 use Rattle.usb_host.specs.HostBus.{bus_of}
+use Rattle.usb_host.specs.EndpointRefusals.{same_direction}
 use Rattle.usb_io.specs.Readers.{rounded}
 use Rattle.usb_lines.specs.Calls.{condition_line}
 use Rattle.usb_names.specs.Names.{named, is_free, freed, set_name}
@@ -126,12 +127,22 @@ represents-moved s state after p q x z r moves same few =
       few = few-moved state p q z r.few free_there few;
     }
 
--- an endpoint whose address is one of IN, or of OUT
-pub in-direction : (x : EndpointState) → 128 ≤ x.address → (has_direction In x ≡ true) × (has_direction Out x ≡ false)
-in-direction x input = let is : nat_le 128 x.address ≡ true = grind (arith, nat_tests) in (rw is refl, rw is refl)
+-- an endpoint has the direction of its address, and no other
+same-direction : (d : Direction) → same_direction d d ≡ true
+same-direction In = refl
+same-direction Out = refl
 
-pub out-direction : (x : EndpointState) → x.address < 128 → (has_direction In x ≡ false) × (has_direction Out x ≡ true)
-out-direction x output = let is : nat_le 128 x.address ≡ false = grind (arith, nat_tests) in (rw is refl, rw is refl)
+other-direction : (d e : Direction) → d ≢ e → same_direction d e ≡ false
+other-direction In In apart = absurd (apart refl)
+other-direction In Out apart = refl
+other-direction Out In apart = refl
+other-direction Out Out apart = absurd (apart refl)
+
+pub is-direction : (d : Direction) (x : EndpointState) → direction_of_address x.address ≡ d → has_direction d x ≡ true
+is-direction d x is = ap (λ e. same_direction e d) is ∙ same-direction d
+
+pub not-direction : (d : Direction) (x : EndpointState) → direction_of_address x.address ≢ d → has_direction d x ≡ false
+not-direction d x apart = other-direction (direction_of_address x.address) d apart
 
 -- a call is barred that needs the other direction, whether a name is free or not
 pub barred-direction : (s : SessionState) (state : State) (b : Bool) (a : Answer) → Represents s state → Gives s condition_line (if b then (if false then a else barred state) else barred state)
@@ -149,5 +160,5 @@ rounded-small maximum size small length_ =
     sum-mul n m = ap (λ k. k * m) (sym (suc-eq-add-one n)) ∙ suc-mul n m
 
 -- what was taken out and did not change is put back
-pub put_same : (es mid after : List (Option AnyEndpoint)) (e : ℕ) (x : AnyEndpoint) → named es e ≡ Some x → mid ≡ freed es e → after ≡ set_name mid e x → after ≡ es
+pub put_same : (es mid after : List (Option EndpointState)) (e : ℕ) (x : EndpointState) → named es e ≡ Some x → mid ≡ freed es e → after ≡ set_name mid e x → after ≡ es
 put_same es mid after e x was rest put = put ∙ ap (λ l. set_name l e x) rest ∙ put-back es e x was

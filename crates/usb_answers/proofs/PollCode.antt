@@ -6,7 +6,7 @@ use Rattle.usb_xfer.specs.declared.transfer.Completion.{Completion}
 use Rattle.usb_bus.specs.Completions.{transfer_completion}
 use Rattle.usb_endpoint.specs.EndpointState.{EndpointState}
 use Rattle.usb_endpoint.specs.Handles.{Stands, KeepsOthers}
-use Rattle.usb_endpoint.specs.Waits.{came, polled}
+use Rattle.usb_endpoint.specs.Waits.{front_found, polled}
 use Rattle.usb_host.specs.HostState.{HostState}
 use Rattle.usb_host.specs.HostBus.{bus_of}
 use Rattle.usb_host.specs.HostCalls.{host_calls}
@@ -46,7 +46,7 @@ pub some-front : (l : List ℕ) → (l ≡ [] → ⊥) → Front l
 some-front [] some = absurd (some refl)
 some-front (t ∷ ts) some = record { front = t; others = ts; is = refl }
 
-pub poll-answers : {E : Type 0} (host now : HostState) (x y : EndpointState) (before text : String Global) (result : Result Unit E) (r : Option Completion) → (x.pending ≡ [] → ⊥) → polled host_calls host x ≡ came r now y → OnOk result (string_bytes text ≡ string_bytes before ++ polled_line r) → CallAnswers host now x y before text result poll
+pub poll-answers : {E : Type 0} (host now : HostState) (x y : EndpointState) (before text : String Global) (result : Result Unit E) (r : Option Completion) → (x.pending ≡ [] → ⊥) → polled host_calls host x ≡ front_found r now y → OnOk result (string_bytes text ≡ string_bytes before ++ polled_line r) → CallAnswers host now x y before text result poll
 poll-answers host now x y before text result r some is printed =
     let f = some-front x.pending some in
     front-answers polled_line host host now x y before text result poll f.front f.others r f.is printed
@@ -55,7 +55,7 @@ poll-answers host now x y before text result r some is printed =
     ∙ ap (λ (g : HostState). took polled_line (with_host state g) e f.front (transfer_completion g.kernel.past f.front)) host_was)
     is
 
-pub poll-keeps : (host now : HostState) (x y : EndpointState) (r : Option Completion) → polled host_calls host x ≡ came r now y → Stands (bus_of now) y → KeepsOthers (bus_of host) (bus_of now) x.key → CallKeeps host now x y
+pub poll-keeps : (host now : HostState) (x y : EndpointState) (r : Option Completion) → polled host_calls host x ≡ front_found r now y → Stands (bus_of now) y → KeepsOthers (bus_of host) (bus_of now) x.key → CallKeeps host now x y
 poll-keeps host now x y r is stands others =
     let rest = polled-rest host x r now y is in
     record {

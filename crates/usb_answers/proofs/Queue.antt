@@ -9,7 +9,7 @@ use Rattle.usb_kernel.specs.Extends.{Extends}
 use Rattle.usb_kernel.proofs.Extends.{extends-same}
 use Rattle.usb_bus.specs.Completions.{transfer_completion}
 use Rattle.usb_endpoint.specs.EndpointState.{EndpointState}
-use Rattle.usb_endpoint.specs.Waits.{Polled, came, taken_if, polled_of, polled}
+use Rattle.usb_endpoint.specs.Waits.{Polled, front_found, taken_if, polled_of, polled}
 use Rattle.usb_host.specs.HostState.{HostState}
 use Rattle.usb_host.specs.HostFrames.{LineGoesOn}
 use Rattle.usb_host.specs.HostCalls.{host_calls}
@@ -92,7 +92,7 @@ drop_on (x ∷ xs) (suc n) t ts is =
 module _ {E : Type 0} (print : Option Completion → List ℕ) (old mid now : HostState) (x y : EndpointState) (before text : String Global) (result : Result Unit E) (call : State → ℕ → Endpoint → Answer) (t : ℕ) (ts : List ℕ) (r : Option Completion)
     (was : x.pending ≡ t ∷ ts) (printed : OnOk result (string_bytes text ≡ string_bytes before ++ print r))
     (takes : (state : State) (e : ℕ) (h : Endpoint) → state.host ≡ old → slice_get h.tickets h.taken ≡ Some t → call state e h ≡ took print (with_host state mid) e t (transfer_completion mid.kernel.past t)) where
-  took-answers : (o : Option Completion) → transfer_completion mid.kernel.past t ≡ o → taken_if host_calls mid x t ts o ≡ came r now y → CallAnswers old now x y before text result call
+  took-answers : (o : Option Completion) → transfer_completion mid.kernel.past t ≡ o → taken_if host_calls mid x t ts o ≡ front_found r now y → CallAnswers old now x y before text result call
   took-answers None none is =
       call-host old now x y before text result (print r) call (sym (ap (λ (p : Polled HostState). p.endpoint) is)) printed
       (λ state e h host_was same.
@@ -112,20 +112,20 @@ module _ {E : Type 0} (print : Option Completion → List ℕ) (old mid now : Ho
         few = more.1;
       })
 
-  pub front-answers : polled host_calls mid x ≡ came r now y → CallAnswers old now x y before text result call
+  pub front-answers : polled host_calls mid x ≡ front_found r now y → CallAnswers old now x y before text result call
   front-answers is = took-answers (transfer_completion mid.kernel.past t) refl (sym (ap (polled_of host_calls mid x) was) ∙ is)
 
 -- what a poll keeps of a host, and of the endpoint
 module _ (mid : HostState) (x : EndpointState) where
-  taken_if-keeps : (P : Polled HostState → Type 0) (t : ℕ) (ts : List ℕ) (o : Option Completion) → P (came None mid x) → ((c : Completion) → P (came (Some c) (host_taken mid t) (record x { pending = ts }))) → P (taken_if host_calls mid x t ts o)
+  taken_if-keeps : (P : Polled HostState → Type 0) (t : ℕ) (ts : List ℕ) (o : Option Completion) → P (front_found None mid x) → ((c : Completion) → P (front_found (Some c) (host_taken mid t) (record x { pending = ts }))) → P (taken_if host_calls mid x t ts o)
   taken_if-keeps P t ts None here taken = here
   taken_if-keeps P t ts (Some c) here taken = taken c
 
-  polled_of-keeps : (P : Polled HostState → Type 0) (l : List ℕ) → P (came None mid x) → ((t : ℕ) (ts : List ℕ) (c : Completion) → P (came (Some c) (host_taken mid t) (record x { pending = ts }))) → P (polled_of host_calls mid x l)
+  polled_of-keeps : (P : Polled HostState → Type 0) (l : List ℕ) → P (front_found None mid x) → ((t : ℕ) (ts : List ℕ) (c : Completion) → P (front_found (Some c) (host_taken mid t) (record x { pending = ts }))) → P (polled_of host_calls mid x l)
   polled_of-keeps P [] here taken = here
   polled_of-keeps P (t ∷ ts) here taken = taken_if-keeps P t ts (transfer_completion mid.kernel.past t) here (taken t ts)
 
-  module _ (r : Option Completion) (now : HostState) (y : EndpointState) (is : polled host_calls mid x ≡ came r now y) where
+  module _ (r : Option Completion) (now : HostState) (y : EndpointState) (is : polled host_calls mid x ≡ front_found r now y) where
     pub polled-goes : LineGoesOn mid now
     polled-goes = subst (λ (p : Polled HostState). LineGoesOn mid p.bus) is (polled_of-keeps (λ p. LineGoesOn mid p.bus) x.pending (line-keeps mid mid (keeps-open mid)) (λ t ts c. line-keeps mid (host_taken mid t) (keeps-taken mid t)))
 

@@ -10,8 +10,6 @@ use Rattle.usb_endpoint.specs.Handles.{Stands}
 use Rattle.usb_host.specs.HostState.{HostState}
 use Rattle.usb_host.specs.HostBus.{bus_of}
 use Rattle.usb_host.specs.HostTurns.{host_rest}
-use Rattle.usb_io.specs.declared.any_reader.AnyReader.{AnyReader}
-use Rattle.usb_io.specs.AnyReaders.{reader_of}
 use Rattle.usb_io.specs.Readers.{ReaderState}
 use Rattle.usb_lines.specs.Calls.{condition_line}
 use Rattle.usb_answers.specs.declared.session.Session.TheInside.{Inside}
@@ -35,28 +33,28 @@ use Rattle.usb_answers.proofs.TakenOut.{PutBack, map-put, map-length, places-mad
 use Rattle.usb_answers.proofs.Lent.{sound-lent_at, represents-lent, rested-answered, sound-stepped, steps-represent}
 
 -- a session with another host and other readers
-abbrev pub made_reading : Inside → HostState → List (Option AnyReader) → SessionState
+abbrev pub made_reading : Inside → HostState → List (Option ReaderState) → SessionState
 made_reading i host readers = session_made i.tree i.watch host i.devices.items i.interfaces.items i.endpoints.items readers i.writers.items i.futures.items
 
 -- a reader that is open under a name stands in the host with its endpoint
-pub stands-reader : (i : Inside) (r : ℕ) (x : AnyReader) (taken : Option AnyReader) → IsSound (made_of i) → taken ≡ named i.readers.items r → taken ≡ Some x → Stands (bus_of i.host) (endpoint_of x)
+pub stands-reader : (i : Inside) (r : ℕ) (x : ReaderState) (taken : Option ReaderState) → IsSound (made_of i) → taken ≡ named i.readers.items r → taken ≡ Some x → Stands (bus_of i.host) (endpoint_of x)
 stands-reader i r x taken sound was is = sound.endpoints_stand (reader_place r) (endpoint_of x) (taken-reader i.endpoints.items i.readers.items i.writers.items (places-made i sound) r x (sym was ∙ is))
 
 -- the session has it under this name
-pub reader-made : (i : Inside) (S : SessionState) (r : ℕ) (x : AnyReader) → IsSound (made_of i) → made_of i ≡ S → named i.readers.items r ≡ Some x → named S.endpoints (reader_place r) ≡ Some (endpoint_of x)
+pub reader-made : (i : Inside) (S : SessionState) (r : ℕ) (x : ReaderState) → IsSound (made_of i) → made_of i ≡ S → named i.readers.items r ≡ Some x → named S.endpoints (reader_place r) ≡ Some (endpoint_of x)
 reader-made i S r x sound view was = sym (ap (λ (v : SessionState). named v.endpoints (reader_place r)) view) ∙ taken-reader i.endpoints.items i.readers.items i.writers.items (places-made i sound) r x was
 
-pub bare-made : (i : Inside) (S : SessionState) (r : ℕ) (x : AnyReader) → made_of i ≡ S → named i.readers.items r ≡ Some x → named S.readers r ≡ Some (bare_reader_of x)
+pub bare-made : (i : Inside) (S : SessionState) (r : ℕ) (x : ReaderState) → made_of i ≡ S → named i.readers.items r ≡ Some x → named S.readers r ≡ Some (bare_reader_of x)
 bare-made i S r x view was = sym (ap (λ (v : SessionState). named v.readers r) view) ∙ named-map bare_reader_of i.readers.items r ∙ ap (option_map bare_reader_of) was
 
 -- it stands at its place again
-reader-put : (i : Inside) (after : List (Option AnyReader)) (r : ℕ) (x y : AnyReader) → IsSound (made_of i) → PutBack i.readers.items after r x y → endpoints_with i.endpoints.items after i.writers.items ≡ set_name (freed (made_of i).endpoints (reader_place r)) (reader_place r) (endpoint_of y)
+reader-put : (i : Inside) (after : List (Option ReaderState)) (r : ℕ) (x y : ReaderState) → IsSound (made_of i) → PutBack i.readers.items after r x y → endpoints_with i.endpoints.items after i.writers.items ≡ set_name (freed (made_of i).endpoints (reader_place r)) (reader_place r) (endpoint_of y)
 reader-put i after r x y sound back =
     let places = places-made i sound in
     put-reader i.endpoints.items i.readers.items i.writers.items places r after y (within-64 i.readers.items r x places.readers back.was) back.put
 
 -- a session is sound once a reader was called and put back
-pub sound-reader_called : (i : Inside) (now : HostState) (after : List (Option AnyReader)) (r : ℕ) (x y : AnyReader) → IsSound (made_of i) → PutBack i.readers.items after r x y → CallKeeps i.host now (endpoint_of x) (endpoint_of y) → IsSound (made_reading i now after)
+pub sound-reader_called : (i : Inside) (now : HostState) (after : List (Option ReaderState)) (r : ℕ) (x y : ReaderState) → IsSound (made_of i) → PutBack i.readers.items after r x y → CallKeeps i.host now (endpoint_of x) (endpoint_of y) → IsSound (made_reading i now after)
 sound-reader_called i now after r x y sound back keeps =
     let endpoints = endpoints_with i.endpoints.items after i.writers.items in
     sound-readers (record (made_of i) { host = now; endpoints = endpoints }) (map (option_map bare_reader_of) after)
@@ -64,9 +62,9 @@ sound-reader_called i now after r x y sound back keeps =
     (map-length bare_reader_of i.readers.items after r x y back)
 
 -- and is the one that the call left
-pub made-reader_called : (i : Inside) (S : SessionState) (now : HostState) (after : List (Option AnyReader)) (r : ℕ) (x y : AnyReader) → IsSound (made_of i) → made_of i ≡ S → PutBack i.readers.items after r x y → with_reader_called S r now (reader_of y) ≡ made_reading i now after
+pub made-reader_called : (i : Inside) (S : SessionState) (now : HostState) (after : List (Option ReaderState)) (r : ℕ) (x y : ReaderState) → IsSound (made_of i) → made_of i ≡ S → PutBack i.readers.items after r x y → with_reader_called S r now y ≡ made_reading i now after
 made-reader_called i S now after r x y sound view back =
-    ap (λ (v : SessionState). with_reader_called v r now (reader_of y)) (sym view)
+    ap (λ (v : SessionState). with_reader_called v r now y) (sym view)
     ∙ ap (λ (l : List (Option EndpointState)). record (made_of i) { host = now; endpoints = l; readers = change_named (λ b. bare_reader_of y) (made_of i).readers r })
     (sym (reader-put i after r x y sound back ∙ put-changed (λ z. endpoint_of y) (made_of i).endpoints (reader_place r) (endpoint_of x) (endpoint_of y) (reader-made i (made_of i) r x sound refl back.was) refl))
     ∙ ap (λ (l : List (Option BareReader)). record (made_of i) { host = now; endpoints = endpoints_with i.endpoints.items after i.writers.items; readers = l }) (sym (map-put bare_reader_of i.readers.items after r x y back))
@@ -101,11 +99,11 @@ has_reader s state r x is endpoint bare =
     reader_by s state r x (open_at s state (reader_place r) x.endpoint is endpoint) (named state.readers r) refl (sym (readers_kept s state r is) ∙ bare) endpoint bare
 
 -- what a call on a reader answers
-pub answers-reader_called : {E : Type 0} (i : Inside) (S : SessionState) (now : HostState) (after : List (Option AnyReader)) (n r : ℕ) (x y : AnyReader) (before text : String Global) (result : Result Unit E) (call : State → ℕ → ReaderAt → Answer) → IsSound (made_of i) → made_of i ≡ S → PutBack i.readers.items after n x y → n ≡ r → ReaderAnswers i.host now (reader_of x) (reader_of y) before text result call → Answers S (made_reading i now after) before text result (λ state. if_open (reader_at state r) (call state r) (barred state))
+pub answers-reader_called : {E : Type 0} (i : Inside) (S : SessionState) (now : HostState) (after : List (Option ReaderState)) (n r : ℕ) (x y : ReaderState) (before text : String Global) (result : Result Unit E) (call : State → ℕ → ReaderAt → Answer) → IsSound (made_of i) → made_of i ≡ S → PutBack i.readers.items after n x y → n ≡ r → ReaderAnswers i.host now x y before text result call → Answers S (made_reading i now after) before text result (λ state. if_open (reader_at state r) (call state r) (barred state))
 answers-reader_called i S now after n r x y before text (Err error) call sound view back same answers = tt
 answers-reader_called i S now after n r x y before text (Ok done) call sound view back same answers =
     λ state is.
-    let o = has_reader S state n (reader_of x) is (reader-made i S n x sound view back.was) (bare-made i S n x view back.was) in
+    let o = has_reader S state n x is (reader-made i S n x sound view back.was) (bare-made i S n x view back.was) in
     subst (λ m. Answered (made_reading i now after) (string_bytes before) (string_bytes text) (if_open (reader_at state m) (call state m) (barred state))) same
     (answered-some (made_reading i now after) (string_bytes before) (string_bytes text) (reader_at state n) o.at (call state n) (barred state) o.has.is
     (subst (λ s. Answered s (string_bytes before) (string_bytes text) (call state n o.at)) (made-reader_called i S now after n x y sound view back)
@@ -127,7 +125,7 @@ no_reader_at i S n r view none same state is =
     let none_there : named state.readers r ≡ None = ap (named state.readers) (sym same) ∙ no_reader i S n view none state is in
     rw none_there refl
 
-pub answers-no_reader : {E : Type 0} (i : Inside) (S : SessionState) (mid : List (Option AnyReader)) (n r : ℕ) (before text : String Global) (result : Result Unit E) (call : State → ReaderAt → Answer) → made_of i ≡ S → named i.readers.items n ≡ None → mid ≡ i.readers.items → n ≡ r → OnOk result (string_bytes text ≡ string_bytes before ++ condition_line) → Answers S (made_reading i i.host mid) before text result (λ state. if_open (reader_at state r) (call state) (barred state))
+pub answers-no_reader : {E : Type 0} (i : Inside) (S : SessionState) (mid : List (Option ReaderState)) (n r : ℕ) (before text : String Global) (result : Result Unit E) (call : State → ReaderAt → Answer) → made_of i ≡ S → named i.readers.items n ≡ None → mid ≡ i.readers.items → n ≡ r → OnOk result (string_bytes text ≡ string_bytes before ++ condition_line) → Answers S (made_reading i i.host mid) before text result (λ state. if_open (reader_at state r) (call state) (barred state))
 answers-no_reader i S mid n r before text (Err error) call view none rest same printed = tt
 answers-no_reader i S mid n r before text (Ok done) call view none rest same printed =
     λ state is.
@@ -137,22 +135,22 @@ answers-no_reader i S mid n r before text (Ok done) call view none rest same pri
     (told-answered S state (string_bytes before) (string_bytes text) condition_line is printed)))
 
 -- a line with steps of its own: the steps are lent, a reader is called, and the rest of them is applied
-pub sound-reader_lent : (i : Inside) (steps : List KernelStep) (at now last : HostState) (after : List (Option AnyReader)) (r : ℕ) (x y : AnyReader) → IsSound (made_of i) → at ≡ record i.host { steps = steps } → PutBack i.readers.items after r x y → CallKeeps at now (endpoint_of x) (endpoint_of y) → last ≡ host_rest now → IsSound (made_reading i last after)
+pub sound-reader_lent : (i : Inside) (steps : List KernelStep) (at now last : HostState) (after : List (Option ReaderState)) (r : ℕ) (x y : ReaderState) → IsSound (made_of i) → at ≡ record i.host { steps = steps } → PutBack i.readers.items after r x y → CallKeeps at now (endpoint_of x) (endpoint_of y) → last ≡ host_rest now → IsSound (made_reading i last after)
 sound-reader_lent i steps at now last after r x y sound is back keeps rest =
     let endpoints = endpoints_with i.endpoints.items after i.writers.items in
     sound-readers (record (made_of i) { host = last; endpoints = endpoints }) (map (option_map bare_reader_of) after)
     (sound-lent_at i steps at now last endpoints (reader_place r) (endpoint_of x) (endpoint_of y) sound is (reader-made i (made_of i) r x sound refl back.was) (reader-put i after r x y sound back) keeps rest)
     (map-length bare_reader_of i.readers.items after r x y back)
 
-pub answers-reader_lent : {E : Type 0} (i : Inside) (S : SessionState) (steps : List KernelStep) (at now last : HostState) (after : List (Option AnyReader)) (n r : ℕ) (x y : AnyReader) (before text : String Global) (result : Result Unit E) (call : State → ℕ → ReaderAt → Answer) → IsSound (made_of i) → made_of i ≡ S → at ≡ record i.host { steps = steps } → PutBack i.readers.items after n x y → n ≡ r → ReaderAnswers at now (reader_of x) (reader_of y) before text result call → last ≡ host_rest now → Answers S (made_reading i last after) before text result (λ state. if_open (reader_at state r) (λ x. then_rested (call (lent state steps) r x)) (barred (stepped_all state steps)))
+pub answers-reader_lent : {E : Type 0} (i : Inside) (S : SessionState) (steps : List KernelStep) (at now last : HostState) (after : List (Option ReaderState)) (n r : ℕ) (x y : ReaderState) (before text : String Global) (result : Result Unit E) (call : State → ℕ → ReaderAt → Answer) → IsSound (made_of i) → made_of i ≡ S → at ≡ record i.host { steps = steps } → PutBack i.readers.items after n x y → n ≡ r → ReaderAnswers at now x y before text result call → last ≡ host_rest now → Answers S (made_reading i last after) before text result (λ state. if_open (reader_at state r) (λ x. then_rested (call (lent state steps) r x)) (barred (stepped_all state steps)))
 answers-reader_lent i S steps at now last after n r x y before text (Err error) call sound view is back same answers rest = tt
 answers-reader_lent i S steps at now last after n r x y before text (Ok done) call sound view is back same answers rest =
     λ state stands.
     let b = string_bytes before in
     let t = string_bytes text in
-    let o = has_reader S state n (reader_of x) stands (reader-made i S n x sound view back.was) (bare-made i S n x view back.was) in
+    let o = has_reader S state n x stands (reader-made i S n x sound view back.was) (bare-made i S n x view back.was) in
     let lends = represents-lent i S steps at view is state stands in
-    let called : Answered (with_reader_called S n now (reader_of y)) b t (call (lent state steps) n o.at) =
+    let called : Answered (with_reader_called S n now y) b t (call (lent state steps) n o.at) =
     answers (record S { host = at }) (lent state steps) n o.at lends refl (record { endpoint = o.has.endpoint; reader = o.has.reader; is = o.has.is; same = o.has.same }) in
     subst (λ m. Answered (made_reading i last after) b t (if_open (reader_at state m) (λ x. then_rested (call (lent state steps) m x)) (barred (stepped_all state steps)))) same
     (answered-some (made_reading i last after) b t (reader_at state n) o.at (λ x. then_rested (call (lent state steps) n x)) (barred (stepped_all state steps)) o.has.is
@@ -161,11 +159,11 @@ answers-reader_lent i S steps at now last after n r x y before text (Ok done) ca
     (subst (λ s. Answered s b t (call (lent state steps) n o.at)) (made-reader_called i S now after n x y sound view back) called))))
 
 -- no reader was called
-pub sound-reader_stepped : (i : Inside) (steps : List KernelStep) (at last : HostState) (mid : List (Option AnyReader)) → IsSound (made_of i) → at ≡ record i.host { steps = steps } → last ≡ host_rest at → mid ≡ i.readers.items → IsSound (made_reading i last mid)
+pub sound-reader_stepped : (i : Inside) (steps : List KernelStep) (at last : HostState) (mid : List (Option ReaderState)) → IsSound (made_of i) → at ≡ record i.host { steps = steps } → last ≡ host_rest at → mid ≡ i.readers.items → IsSound (made_reading i last mid)
 sound-reader_stepped i steps at last mid sound is rest none =
     subst (λ l. IsSound (made_reading i last l)) (sym none) (sound-stepped i steps at last i.endpoints.items sound is rest refl)
 
-pub answers-reader_stepped : {E : Type 0} (i : Inside) (S : SessionState) (steps : List KernelStep) (at last : HostState) (mid : List (Option AnyReader)) (n r : ℕ) (before text : String Global) (result : Result Unit E) (call : State → ReaderAt → Answer) → made_of i ≡ S → at ≡ record i.host { steps = steps } → last ≡ host_rest at → named i.readers.items n ≡ None → mid ≡ i.readers.items → n ≡ r → OnOk result (string_bytes text ≡ string_bytes before ++ condition_line) → Answers S (made_reading i last mid) before text result (λ state. if_open (reader_at state r) (call state) (barred (stepped_all state steps)))
+pub answers-reader_stepped : {E : Type 0} (i : Inside) (S : SessionState) (steps : List KernelStep) (at last : HostState) (mid : List (Option ReaderState)) (n r : ℕ) (before text : String Global) (result : Result Unit E) (call : State → ReaderAt → Answer) → made_of i ≡ S → at ≡ record i.host { steps = steps } → last ≡ host_rest at → named i.readers.items n ≡ None → mid ≡ i.readers.items → n ≡ r → OnOk result (string_bytes text ≡ string_bytes before ++ condition_line) → Answers S (made_reading i last mid) before text result (λ state. if_open (reader_at state r) (call state) (barred (stepped_all state steps)))
 answers-reader_stepped i S steps at last mid n r before text (Err error) call view is rest none back same printed = tt
 answers-reader_stepped i S steps at last mid n r before text (Ok done) call view is rest none back same printed =
     λ state stands.

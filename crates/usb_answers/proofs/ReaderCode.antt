@@ -16,7 +16,8 @@ use Rattle.usb_host.specs.HostBus.{bus_of}
 use Rattle.usb_host.specs.HostFrames.{LineGoesOn}
 use Rattle.usb_host.specs.HostCalls.{host_discarded, host_calls}
 use Rattle.usb_io.specs.Readers.{ReaderState, with_read, without_end, is_end}
-use Rattle.usb_io.specs.Reads.{Reading, reading, GoesAlong, filled_to}
+use Rattle.usb_io.specs.Along.{ReadsAlong}
+use Rattle.usb_io.specs.Reads.{Reading, reading, filled_to}
 use Rattle.usb_io.specs.Streams.{Item, Byte, End}
 use Rattle.usb_io.specs.declared.fault.ReadFault.{ReadFault}
 use Rattle.usb_io.specs.declared.fault.ReadFault.TheVariants.{Transfer, TimedOut, UnexpectedEof}
@@ -49,7 +50,7 @@ use Rattle.usb_answers.proofs.Called.{OpenAt, represents-put}
 use Rattle.usb_answers.proofs.Lent.{line-same}
 
 -- what a call keeps
-pub keeps-along : (old new : HostState) (x y : ReaderState) → LineGoesOn old new → GoesAlong (bus_of old) (bus_of new) x y → CallKeeps old new x.endpoint y.endpoint
+pub keeps-along : (old new : HostState) (x y : EndpointState) → LineGoesOn old new → ReadsAlong (bus_of old) (bus_of new) x y → CallKeeps old new x y
 keeps-along old new x y line goes =
     record {
       line = line;
@@ -253,7 +254,7 @@ keeps-rest host x y stands same =
     })
 
 -- what a read gave
-module _ (framing : Framing) (old new : HostState) (x y : ReaderState) (goes : GoesAlong (bus_of old) (bus_of new) x y) (free : bars_need old.kernel.past (length x.endpoint.pending) (need_of framing x) ≡ false) where
+module _ (framing : Framing) (old new : HostState) (x y : ReaderState) (goes : ReadsAlong (bus_of old) (bus_of new) x.endpoint y.endpoint) (free : bars_need old.kernel.past (length x.endpoint.pending) (need_of framing x) ≡ false) where
   tickets-read_by : (timeout most : ℕ) (answer : Result (List ℕ) ReadFault) → read_came host_calls (is_until_short framing) timeout most (reading old x) ≡ answered answer (reading new y) → TicketsCame (reading old x) (reading new y)
   tickets-read_by timeout most answer is = subst (λ (a : Read HostState). TicketsCame (reading old x) a.left) is (read-tickets (is_until_short framing) timeout most (reading old x))
 
@@ -327,7 +328,7 @@ num-barred host x n before text result bars printed =
     (bars_num host x n state at host_was same ∙ bars))
 
 pub num-made : {E : Type 0} (old new : HostState) (x y : ReaderState) (n : ℕ) (before text : String Global) (result : Result Unit E) → nat_lt 64 n || bars_need old.kernel.past (length x.endpoint.pending) (n - 1 - length x.endpoint.pending) ≡ false
-    → reading new y ≡ filled_to host_calls (n - 1) (reading old (with_count n x)) → GoesAlong (bus_of old) (bus_of new) x y
+    → reading new y ≡ filled_to host_calls (n - 1) (reading old (with_count n x)) → ReadsAlong (bus_of old) (bus_of new) x.endpoint y.endpoint
     → OnOk result (string_bytes text ≡ string_bytes before ++ ok_line) → ReaderAnswers old new x y before text result (λ state r at. num_on state r n at)
 num-made old new x y n before text result free is goes printed =
     let counted = subst (λ (w : Reading HostState). TicketsCame (reading old (with_count n x)) w) (sym is) (filled-tickets (n - 1) (reading old (with_count n x))) in

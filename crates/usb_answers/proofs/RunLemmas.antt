@@ -12,9 +12,7 @@ use Rattle.usb_sysfs.specs.Tree.{Tree}
 use Rattle.usb_enum.specs.declared.hotplug.UdevPacket.{UdevPacket}
 use Rattle.usb_setup.specs.Trees.{tree_of}
 use Rattle.usb_setup.specs.Packets.{packets_of}
-use Rattle.usb_endpoint.specs.declared.any_endpoint.AnyEndpoint.{AnyEndpoint}
 use Rattle.usb_endpoint.specs.EndpointState.{EndpointState}
-use Rattle.usb_endpoint.specs.AnyEndpoints.{state_of}
 use Rattle.usb_ledger.specs.Entries.{ClaimedInterface, HostEndpoint}
 use Rattle.usb_host.specs.HostState.{HostState, host_of}
 use Rattle.usb_host.specs.HostBus.{key_at}
@@ -23,8 +21,8 @@ use Rattle.usb_device.specs.Futures.{FutureState}
 use Rattle.usb_script.specs.declared.item.Item.{Item}
 use Rattle.usb_script.specs.ItemKinds.{place_count}
 use Rattle.usb_names.specs.Names.{named}
-use Rattle.usb_io.specs.declared.any_reader.AnyReader.{AnyReader}
-use Rattle.usb_writes.specs.declared.any_writer.AnyWriter.{AnyWriter}
+use Rattle.usb_io.specs.Readers.{ReaderState}
+use Rattle.usb_io.specs.Writers.{WriterState}
 use Rattle.usb_answers.specs.BareReaders.{BareReader}
 use Rattle.usb_answers.specs.BareWriters.{BareWriter}
 use Rattle.usb_answers.specs.State.{Endpoint, Reader, Writer, kept}
@@ -82,18 +80,17 @@ empty-sound t p host idle none nothing closed =
       futures_apart = λ e n h f ish isf. absurd (nobody 64 n f isf);
     }
 
-none-places : (es : List (Option AnyEndpoint)) (rs : List (Option AnyReader)) (ws : List (Option AnyWriter)) → es ≡ replicate 64 None → rs ≡ replicate 64 None → ws ≡ replicate 64 None → endpoints_with es rs ws ≡ replicate 192 None
+none-places : (es : List (Option EndpointState)) (rs : List (Option ReaderState)) (ws : List (Option WriterState)) → es ≡ replicate 64 None → rs ≡ replicate 64 None → ws ≡ replicate 64 None → endpoints_with es rs ws ≡ replicate 192 None
 none-places es rs ws e q w =
     let none_read : map (option_map endpoint_of) rs ≡ replicate 64 None = ap (map (option_map endpoint_of)) q ∙ sym (map-replicate endpoint_of 64) in
     let none_written : map (option_map writer_endpoint) ws ≡ replicate 64 None = ap (map (option_map writer_endpoint)) w ∙ sym (map-replicate writer_endpoint 64) in
-    let none : map (option_map state_of) es ≡ replicate 64 None = ap (map (option_map state_of)) e ∙ sym (map-replicate state_of 64) in
-    ap (λ (l : List (Option EndpointState)). l ++ (map (option_map endpoint_of) rs ++ map (option_map writer_endpoint) ws)) none
+    ap (λ (l : List (Option EndpointState)). l ++ (map (option_map endpoint_of) rs ++ map (option_map writer_endpoint) ws)) e
     ∙ ap (λ (l : List (Option EndpointState)). replicate 64 None ++ (l ++ map (option_map writer_endpoint) ws)) none_read
     ∙ ap (λ (l : List (Option EndpointState)). replicate 64 None ++ (replicate 64 None ++ l)) none_written
     ∙ ap (λ (l : List (Option EndpointState)). replicate 64 None ++ l) (replicate-append-replicate 64 64 None)
     ∙ replicate-append-replicate 64 128 None
 
-made-empty : (t : Tree) (p : List UdevPacket) (host : HostState) (ds : List (Option ℕ)) (is : List (Option InterfaceState)) (es : List (Option AnyEndpoint)) (rs : List (Option AnyReader)) (ws : List (Option AnyWriter)) (fs : List (Option FutureState)) → ds ≡ replicate 64 None → is ≡ replicate 64 None → es ≡ replicate 64 None → rs ≡ replicate 64 None → ws ≡ replicate 64 None → fs ≡ replicate 64 None → session_made t p host ds is es rs ws fs ≡ empty_session t p host
+made-empty : (t : Tree) (p : List UdevPacket) (host : HostState) (ds : List (Option ℕ)) (is : List (Option InterfaceState)) (es : List (Option EndpointState)) (rs : List (Option ReaderState)) (ws : List (Option WriterState)) (fs : List (Option FutureState)) → ds ≡ replicate 64 None → is ≡ replicate 64 None → es ≡ replicate 64 None → rs ≡ replicate 64 None → ws ≡ replicate 64 None → fs ≡ replicate 64 None → session_made t p host ds is es rs ws fs ≡ empty_session t p host
 made-empty t p host ds is es rs ws fs d i e q w f =
     ap (λ (l : List (Option ℕ)). session_made t p host l is es rs ws fs) d ∙ ap (λ (l : List (Option InterfaceState)). session_made t p host (replicate 64 None) l es rs ws fs) i
     ∙ ap (λ (l : List (Option EndpointState)). record (empty_session t p host) { endpoints = l; readers = map (option_map bare_reader_of) rs; writers = map (option_map bare_writer_of) ws; futures = fs }) (none-places es rs ws e q w)
@@ -117,7 +114,7 @@ start-endpoints : (items : List Item) → (start items).host.endpoints ≡ []
 unfolding start
 start-endpoints items = refl
 
-pub sound-start : (items : List Item) (t : Tree) (p : List UdevPacket) (host : HostState) (ds : List (Option ℕ)) (is : List (Option InterfaceState)) (es : List (Option AnyEndpoint)) (rs : List (Option AnyReader)) (ws : List (Option AnyWriter)) (fs : List (Option FutureState)) → host ≡ (start items).host → ds ≡ replicate 64 None → is ≡ replicate 64 None → es ≡ replicate 64 None → rs ≡ replicate 64 None → ws ≡ replicate 64 None → fs ≡ replicate 64 None → IsSound (session_made t p host ds is es rs ws fs)
+pub sound-start : (items : List Item) (t : Tree) (p : List UdevPacket) (host : HostState) (ds : List (Option ℕ)) (is : List (Option InterfaceState)) (es : List (Option EndpointState)) (rs : List (Option ReaderState)) (ws : List (Option WriterState)) (fs : List (Option FutureState)) → host ≡ (start items).host → ds ≡ replicate 64 None → is ≡ replicate 64 None → es ≡ replicate 64 None → rs ≡ replicate 64 None → ws ≡ replicate 64 None → fs ≡ replicate 64 None → IsSound (session_made t p host ds is es rs ws fs)
 sound-start items t p host ds is es rs ws fs start_ d i e q w f =
     subst IsSound (sym (made-empty t p host ds is es rs ws fs d i e q w f)) (empty-sound t p host (ap (λ (h : HostState). h.steps) start_ ∙ start-steps items) (ap (λ (h : HostState). h.interfaces) start_ ∙ start-interfaces items) (ap (λ (h : HostState). h.devices) start_ ∙ start-devices items) (ap (λ (h : HostState). h.endpoints) start_ ∙ start-endpoints items))
 
@@ -132,7 +129,7 @@ few-start : (items : List Item) (e : ℕ) (h : Endpoint) → named (start items)
 unfolding start
 few-start items e h is = absurd (nobody 192 e h is)
 
-pub represents-start : (items : List Item) (t : Tree) (p : List UdevPacket) (host : HostState) (ds : List (Option ℕ)) (is : List (Option InterfaceState)) (es : List (Option AnyEndpoint)) (rs : List (Option AnyReader)) (ws : List (Option AnyWriter)) (fs : List (Option FutureState)) → host ≡ (start items).host → ds ≡ replicate 64 None → is ≡ replicate 64 None → es ≡ replicate 64 None → rs ≡ replicate 64 None → ws ≡ replicate 64 None → fs ≡ replicate 64 None → t ≡ tree_of items → p ≡ packets_of items → Represents (session_made t p host ds is es rs ws fs) (start items)
+pub represents-start : (items : List Item) (t : Tree) (p : List UdevPacket) (host : HostState) (ds : List (Option ℕ)) (is : List (Option InterfaceState)) (es : List (Option EndpointState)) (rs : List (Option ReaderState)) (ws : List (Option WriterState)) (fs : List (Option FutureState)) → host ≡ (start items).host → ds ≡ replicate 64 None → is ≡ replicate 64 None → es ≡ replicate 64 None → rs ≡ replicate 64 None → ws ≡ replicate 64 None → fs ≡ replicate 64 None → t ≡ tree_of items → p ≡ packets_of items → Represents (session_made t p host ds is es rs ws fs) (start items)
 represents-start items t p host ds is es rs ws fs start_ d i e q w f known left =
     record {
       is =

@@ -7,8 +7,6 @@ use Rattle.std.specs.declared.alloc.Global.{Global}
 use Rattle.usb_ledger.proofs.DeviceLemmas.{counts-same}
 use Rattle.usb_simulated.specs.declared.step.KernelStep.{KernelStep}
 use Rattle.usb_kernel.specs.Extends.{Extends}
-use Rattle.usb_endpoint.specs.declared.any_endpoint.AnyEndpoint.{AnyEndpoint}
-use Rattle.usb_endpoint.specs.AnyEndpoints.{state_of}
 use Rattle.usb_endpoint.specs.EndpointState.{EndpointState}
 use Rattle.usb_endpoint.specs.Handles.{Stands}
 use Rattle.usb_host.specs.HostState.{HostState}
@@ -31,22 +29,20 @@ use Rattle.usb_answers.proofs.OpenPlaces.{HasPlaces, named-endpoint, taken-endpo
 use Rattle.usb_answers.proofs.NamedKeys.{none-goes}
 
 -- a session with another host and other endpoints
-abbrev pub made_with : Inside → HostState → List (Option AnyEndpoint) → SessionState
+abbrev pub made_with : Inside → HostState → List (Option EndpointState) → SessionState
 made_with i host endpoints = session_made i.tree i.watch host i.devices.items i.interfaces.items endpoints i.readers.items i.writers.items i.futures.items
 
 -- a session has 64 names of endpoints, of readers and of writers
 pub places-made : (i : Inside) → IsSound (made_of i) → HasPlaces i.endpoints.items i.readers.items i.writers.items
 places-made i sound =
-    let es = map (option_map state_of) i.endpoints.items in
     let rs = map (option_map endpoint_of) i.readers.items in
     let ws = map (option_map writer_endpoint) i.writers.items in
     let readers : length i.readers.items ≡ 64 = sym (length-map i.readers.items (option_map bare_reader_of)) ∙ sound.reader_names in
     let writers : length i.writers.items ≡ 64 = sym (length-map i.writers.items (option_map bare_writer_of)) ∙ sound.writer_names in
-    let all : length es + (length rs + length ws) ≡ 192 = ap (λ n. length es + n) (sym (length-append rs ws)) ∙ sym (length-append es (rs ++ ws)) ∙ sound.endpoint_names in
-    let endpoints : length es ≡ length i.endpoints.items = length-map i.endpoints.items (option_map state_of) in
+    let all : length i.endpoints.items + (length rs + length ws) ≡ 192 = ap (λ n. length i.endpoints.items + n) (sym (length-append rs ws)) ∙ sym (length-append i.endpoints.items (rs ++ ws)) ∙ sound.endpoint_names in
     let behind : length rs ≡ length i.readers.items = length-map i.readers.items (option_map endpoint_of) in
     let last : length ws ≡ length i.writers.items = length-map i.writers.items (option_map writer_endpoint) in
-    record { endpoints = omega (arith, readers, writers, all, endpoints, behind, last); readers = readers; writers = writers }
+    record { endpoints = omega (arith, readers, writers, all, behind, last); readers = readers; writers = writers }
 
 -- what was open was taken out of its name, and put back as it was left
 pub record PutBack {X : Type 0} (es after : List (Option X)) (e : ℕ) (x y : X) : Type 0 where
@@ -73,12 +69,12 @@ pub map-length : {X Y : Type 0} (v : X → Y) (es after : List (Option X)) (e : 
 map-length v es after e x y back = length-map after (option_map v) ∙ length-put es after e x y back ∙ sym (length-map es (option_map v))
 
 -- what is open under a name of the session
-pub named-made : (i : Inside) (S : SessionState) (e : ℕ) (x : AnyEndpoint) → IsSound (made_of i) → made_of i ≡ S → named i.endpoints.items e ≡ Some x → named S.endpoints (endpoint_place e) ≡ Some (state_of x)
+pub named-made : (i : Inside) (S : SessionState) (e : ℕ) (x : EndpointState) → IsSound (made_of i) → made_of i ≡ S → named i.endpoints.items e ≡ Some x → named S.endpoints (endpoint_place e) ≡ Some x
 named-made i S e x sound view was = sym (ap (λ (v : SessionState). named v.endpoints (endpoint_place e)) view) ∙ taken-endpoint i.endpoints.items i.readers.items i.writers.items (places-made i sound) e x was
 
 -- and stands in the host
-pub stands-made : (i : Inside) (e : ℕ) (x : AnyEndpoint) (taken : Option AnyEndpoint) → IsSound (made_of i) → taken ≡ named i.endpoints.items e → taken ≡ Some x → Stands (bus_of i.host) (state_of x)
-stands-made i e x taken sound was is = sound.endpoints_stand (endpoint_place e) (state_of x) (taken-endpoint i.endpoints.items i.readers.items i.writers.items (places-made i sound) e x (sym was ∙ is))
+pub stands-made : (i : Inside) (e : ℕ) (x : EndpointState) (taken : Option EndpointState) → IsSound (made_of i) → taken ≡ named i.endpoints.items e → taken ≡ Some x → Stands (bus_of i.host) x
+stands-made i e x taken sound was is = sound.endpoints_stand (endpoint_place e) x (taken-endpoint i.endpoints.items i.readers.items i.writers.items (places-made i sound) e x (sym was ∙ is))
 
 no_front : (front rest : List KernelStep) → [] ≡ front ++ rest → rest ≡ []
 no_front [] rest is = sym is
@@ -95,26 +91,26 @@ sound-called_at i now after p x y sound was put keeps =
     sound-put (made_of i) now after p x y sound was put (keeps-line i.host now sound.idle keeps.past keeps.line) keeps.stands keeps.key keeps.maximum keeps.others
     (none-goes i.host.endpoints now.endpoints keeps.line.endpoints)
 
-pub made-put : (i : Inside) (after : List (Option AnyEndpoint)) (e : ℕ) (x y : AnyEndpoint) → IsSound (made_of i) → PutBack i.endpoints.items after e x y → endpoints_with after i.readers.items i.writers.items ≡ set_name (freed (made_of i).endpoints (endpoint_place e)) (endpoint_place e) (state_of y)
+pub made-put : (i : Inside) (after : List (Option EndpointState)) (e : ℕ) (x y : EndpointState) → IsSound (made_of i) → PutBack i.endpoints.items after e x y → endpoints_with after i.readers.items i.writers.items ≡ set_name (freed (made_of i).endpoints (endpoint_place e)) (endpoint_place e) y
 made-put i after e x y sound back = put-endpoint i.endpoints.items i.readers.items i.writers.items (places-made i sound) e after y back.put
 
-pub sound-called : (i : Inside) (now : HostState) (after : List (Option AnyEndpoint)) (e : ℕ) (x y : AnyEndpoint) → IsSound (made_of i) → PutBack i.endpoints.items after e x y → CallKeeps i.host now (state_of x) (state_of y) → IsSound (made_with i now after)
+pub sound-called : (i : Inside) (now : HostState) (after : List (Option EndpointState)) (e : ℕ) (x y : EndpointState) → IsSound (made_of i) → PutBack i.endpoints.items after e x y → CallKeeps i.host now x y → IsSound (made_with i now after)
 sound-called i now after e x y sound back keeps =
-    sound-called_at i now (endpoints_with after i.readers.items i.writers.items) (endpoint_place e) (state_of x) (state_of y) sound (taken-endpoint i.endpoints.items i.readers.items i.writers.items (places-made i sound) e x back.was) (made-put i after e x y sound back) keeps
+    sound-called_at i now (endpoints_with after i.readers.items i.writers.items) (endpoint_place e) x y sound (taken-endpoint i.endpoints.items i.readers.items i.writers.items (places-made i sound) e x back.was) (made-put i after e x y sound back) keeps
 
-pub made-called : (i : Inside) (S : SessionState) (now : HostState) (after : List (Option AnyEndpoint)) (e : ℕ) (x y : AnyEndpoint) → IsSound (made_of i) → made_of i ≡ S → PutBack i.endpoints.items after e x y → with_called S (endpoint_place e) now (state_of y) ≡ made_with i now after
+pub made-called : (i : Inside) (S : SessionState) (now : HostState) (after : List (Option EndpointState)) (e : ℕ) (x y : EndpointState) → IsSound (made_of i) → made_of i ≡ S → PutBack i.endpoints.items after e x y → with_called S (endpoint_place e) now y ≡ made_with i now after
 made-called i S now after e x y sound view back =
-    ap (λ (v : SessionState). with_called v (endpoint_place e) now (state_of y)) (sym view)
+    ap (λ (v : SessionState). with_called v (endpoint_place e) now y) (sym view)
     ∙ ap (λ (l : List (Option EndpointState)). record (made_of i) { host = now; endpoints = l })
-    (sym (made-put i after e x y sound back ∙ put-changed (λ z. state_of y) (made_of i).endpoints (endpoint_place e) (state_of x) (state_of y) (taken-endpoint i.endpoints.items i.readers.items i.writers.items (places-made i sound) e x back.was) refl))
+    (sym (made-put i after e x y sound back ∙ put-changed (λ z. y) (made_of i).endpoints (endpoint_place e) x y (taken-endpoint i.endpoints.items i.readers.items i.writers.items (places-made i sound) e x back.was) refl))
 
-pub answers-called : {E : Type 0} (i : Inside) (S : SessionState) (now : HostState) (after : List (Option AnyEndpoint)) (n e : ℕ) (x y : AnyEndpoint) (before text : String Global) (result : Result Unit E) (call : State → ℕ → Endpoint → Answer) → IsSound (made_of i) → made_of i ≡ S → PutBack i.endpoints.items after n x y → n ≡ e → CallAnswers i.host now (state_of x) (state_of y) before text result call → Answers S (made_with i now after) before text result (λ state. if_open (named state.endpoints (endpoint_place e)) (call state (endpoint_place e)) (barred state))
+pub answers-called : {E : Type 0} (i : Inside) (S : SessionState) (now : HostState) (after : List (Option EndpointState)) (n e : ℕ) (x y : EndpointState) (before text : String Global) (result : Result Unit E) (call : State → ℕ → Endpoint → Answer) → IsSound (made_of i) → made_of i ≡ S → PutBack i.endpoints.items after n x y → n ≡ e → CallAnswers i.host now x y before text result call → Answers S (made_with i now after) before text result (λ state. if_open (named state.endpoints (endpoint_place e)) (call state (endpoint_place e)) (barred state))
 answers-called i S now after n e x y before text (Err error) call sound view back same answers = tt
 answers-called i S now after n e x y before text (Ok done) call sound view back same answers =
     λ state r.
     let p = endpoint_place n in
     let was = named-made i S n x sound view back.was in
-    let o = open_at S state p (state_of x) r was in
+    let o = open_at S state p x r was in
     subst (λ m. Answered (made_with i now after) (string_bytes before) (string_bytes text) (if_open (named state.endpoints (endpoint_place m)) (call state (endpoint_place m)) (barred state))) same
     (answered-some (made_with i now after) (string_bytes before) (string_bytes text) (named state.endpoints p) o.entry (call state p) (barred state) o.is
     (subst (λ s. Answered s (string_bytes before) (string_bytes text) (call state p o.entry)) (made-called i S now after n x y sound view back)
@@ -126,9 +122,9 @@ same-none es mid n taken was none rest = rest ∙ freed-none es n (sym was ∙ n
 
 pub none_made : (i : Inside) (S : SessionState) (n : ℕ) → IsSound (made_of i) → made_of i ≡ S → named i.endpoints.items n ≡ None → named S.endpoints (endpoint_place n) ≡ None
 none_made i S n sound view none =
-    sym (ap (λ (v : SessionState). named v.endpoints (endpoint_place n)) view) ∙ named-endpoint i.endpoints.items i.readers.items i.writers.items (places-made i sound) n ∙ ap (option_map state_of) none
+    sym (ap (λ (v : SessionState). named v.endpoints (endpoint_place n)) view) ∙ named-endpoint i.endpoints.items i.readers.items i.writers.items (places-made i sound) n ∙ none
 
-pub answers-none : {E : Type 0} (i : Inside) (S : SessionState) (mid : List (Option AnyEndpoint)) (n e : ℕ) (before text : String Global) (result : Result Unit E) (call : State → Endpoint → Answer) → IsSound (made_of i) → made_of i ≡ S → named i.endpoints.items n ≡ None → mid ≡ i.endpoints.items → n ≡ e → OnOk result (string_bytes text ≡ string_bytes before ++ condition_line) → Answers S (made_with i i.host mid) before text result (λ state. if_open (named state.endpoints (endpoint_place e)) (call state) (barred state))
+pub answers-none : {E : Type 0} (i : Inside) (S : SessionState) (mid : List (Option EndpointState)) (n e : ℕ) (before text : String Global) (result : Result Unit E) (call : State → Endpoint → Answer) → IsSound (made_of i) → made_of i ≡ S → named i.endpoints.items n ≡ None → mid ≡ i.endpoints.items → n ≡ e → OnOk result (string_bytes text ≡ string_bytes before ++ condition_line) → Answers S (made_with i i.host mid) before text result (λ state. if_open (named state.endpoints (endpoint_place e)) (call state) (barred state))
 answers-none i S mid n e before text (Err error) call sound view none rest same is = tt
 answers-none i S mid n e before text (Ok done) call sound view none rest same is =
     λ state r.

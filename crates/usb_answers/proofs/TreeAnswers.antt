@@ -7,7 +7,7 @@ use Rattle.usb_error.specs.ErrorState.{ErrorState}
 use Rattle.usb_sysfs.specs.declared.sysfs.SysfsError.{SysfsError}
 use Rattle.usb_enum.specs.Buses.{BusFacts, buses}
 use Rattle.usb_enum.specs.Devices.{DeviceFacts}
-use Rattle.usb_enum.specs.Hotplug.{polled}
+use Rattle.usb_enum.specs.Hotplug.{hotplug_polled}
 use Rattle.usb_enum.specs.Listing.{devices}
 use Rattle.usb_enum.specs.Probing.{probe}
 use Rattle.usb_enum.specs.declared.hotplug.HotplugEvent.{HotplugEvent}
@@ -81,7 +81,7 @@ match-refused s state path selector error is r =
     rw here (record { state = r; same = refl })
 
 -- one packet is looked at
-pub hotplug-gives : (s : SessionState) (state : State) (after : List UdevPacket) (event : Poll HotplugEvent) → event ≡ polled s.tree s.packets → after ≡ drop 1 s.packets → Represents s state → Gives (record s { packets = after }) (hotplug_line event) (hotplug_answer state)
+pub hotplug-gives : (s : SessionState) (state : State) (after : List UdevPacket) (event : Poll HotplugEvent) → event ≡ hotplug_polled s.tree s.packets → after ≡ drop 1 s.packets → Represents s state → Gives (record s { packets = after }) (hotplug_line event) (hotplug_answer state)
 unfolding hotplug_answer
 hotplug-gives s state after event told left r =
     record {
@@ -91,7 +91,7 @@ hotplug-gives s state after event told left r =
             ∙ ap (λ (v : SessionState). record v { packets = drop 1 v.packets }) r.is;
         few = r.few;
       };
-      same = ap hotplug_line (ap (λ (v : SessionState). polled v.tree v.packets) (sym r.is) ∙ sym told);
+      same = ap hotplug_line (ap (λ (v : SessionState). hotplug_polled v.tree v.packets) (sym r.is) ∙ sym told);
     }
 
 pub sound-packets : (s : SessionState) (after : List UdevPacket) → IsSound s → IsSound (record s { packets = after })

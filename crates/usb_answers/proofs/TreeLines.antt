@@ -6,7 +6,7 @@ use Rattle.usb_error.specs.ErrorState.{ErrorState}
 use Rattle.usb_sysfs.specs.declared.sysfs.SysfsError.{SysfsError}
 use Rattle.usb_enum.specs.Buses.{BusFacts, buses}
 use Rattle.usb_enum.specs.Devices.{DeviceFacts}
-use Rattle.usb_enum.specs.Hotplug.{polled}
+use Rattle.usb_enum.specs.Hotplug.{hotplug_polled}
 use Rattle.usb_enum.specs.Listing.{devices}
 use Rattle.usb_enum.specs.Probing.{probe}
 use Rattle.usb_enum.specs.declared.hotplug.HotplugEvent.{HotplugEvent}
@@ -79,7 +79,7 @@ event-other (Ready (Disconnected id)) = refl
 
 pub hotplug-does : (state : State) → Does state (hotplug_answer state)
 unfolding hotplug_answer
-hotplug-does state = ends (event-other (polled state.tree state.packets)) (quiet-aside state (record state { packets = drop 1 state.packets }) refl refl refl refl)
+hotplug-does state = ends (event-other (hotplug_polled state.tree state.packets)) (quiet-aside state (record state { packets = drop 1 state.packets }) refl refl refl refl)
 
 opened_at-does : (state : State) (d bus address : ℕ) → Does state (opened_at state d bus address)
 opened_at-does state d bus address =

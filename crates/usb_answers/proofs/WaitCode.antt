@@ -15,7 +15,7 @@ use Rattle.usb_bus.specs.Completions.{transfer_completion}
 use Rattle.usb_endpoint.specs.EndpointState.{EndpointState}
 use Rattle.usb_endpoint.specs.Handles.{Stands, KeepsOthers}
 use Rattle.usb_endpoint.specs.Submits.{entered}
-use Rattle.usb_endpoint.specs.Waits.{Polled, came, taken_if, polled, front_of, waited, wait_next}
+use Rattle.usb_endpoint.specs.Waits.{Polled, front_found, taken_if, polled, front_of, waited, wait_next}
 use Rattle.usb_endpoint.specs.Blocking.{blocked, transferred}
 use Rattle.usb_host.specs.HostState.{HostState}
 use Rattle.usb_host.specs.HostBus.{bus_of}
@@ -47,16 +47,16 @@ wait-barred host x before text result timeout none printed =
 front-waited : (host : HostState) (x : EndpointState) (timeout t : ℕ) (ts : List ℕ) (p : Polled HostState) → x.pending ≡ t ∷ ts → wait_next host_calls timeout host x ≡ p → polled host_calls (waited host_calls t timeout host) x ≡ p
 front-waited host x timeout t ts p was is = sym (ap (λ (l : List ℕ). polled host_calls (waited host_calls (front_of l) timeout host) x) was) ∙ is
 
-pub wait-answers : {E : Type 0} (r : Option Completion) (host now : HostState) (x y : EndpointState) (before text : String Global) (result : Result Unit E) (timeout : ℕ) → (x.pending ≡ [] → ⊥) → wait_next host_calls timeout host x ≡ came r now y → OnOk result (string_bytes text ≡ string_bytes before ++ waited_line r) → CallAnswers host now x y before text result (wait timeout)
+pub wait-answers : {E : Type 0} (r : Option Completion) (host now : HostState) (x y : EndpointState) (before text : String Global) (result : Result Unit E) (timeout : ℕ) → (x.pending ≡ [] → ⊥) → wait_next host_calls timeout host x ≡ front_found r now y → OnOk result (string_bytes text ≡ string_bytes before ++ waited_line r) → CallAnswers host now x y before text result (wait timeout)
 wait-answers r host now x y before text result timeout some is printed =
     let f = some-front x.pending some in
     front-answers waited_line host (waited host_calls f.front timeout host) now x y before text result (wait timeout) f.front f.others r f.is printed
     (λ state e h host_was at.
     ap (wait_on state e timeout) at
     ∙ ap (λ (g : HostState). wait_ended state e f.front (waited host_calls f.front timeout g)) host_was)
-    (front-waited host x timeout f.front f.others (came r now y) f.is is)
+    (front-waited host x timeout f.front f.others (front_found r now y) f.is is)
 
-pub wait-keeps : (r : Option Completion) (host now : HostState) (x y : EndpointState) (timeout : ℕ) → wait_next host_calls timeout host x ≡ came r now y → Stands (bus_of now) y → KeepsOthers (bus_of host) (bus_of now) x.key → CallKeeps host now x y
+pub wait-keeps : (r : Option Completion) (host now : HostState) (x y : EndpointState) (timeout : ℕ) → wait_next host_calls timeout host x ≡ front_found r now y → Stands (bus_of now) y → KeepsOthers (bus_of host) (bus_of now) x.key → CallKeeps host now x y
 wait-keeps r host now x y timeout is stands others =
     let mid : HostState = waited host_calls (front_of x.pending) timeout host in
     let went = went-waited host (front_of x.pending) timeout in
@@ -109,7 +109,7 @@ one_more : (n t : ℕ) (ts : List ℕ) → n ≤ length ts → n + 1 ≤ length 
 one_more n t ts few = omega (arith, length-append ts (t ∷ []))
 
 -- the completion that was taken is the journal's
-took-is : (mid now : HostState) (x y : EndpointState) (t : ℕ) (ts : List ℕ) (c : Completion) (o : Option Completion) → taken_if host_calls mid x t ts o ≡ came (Some c) now y → (o ≡ Some c) × (host_taken mid t ≡ now)
+took-is : (mid now : HostState) (x y : EndpointState) (t : ℕ) (ts : List ℕ) (c : Completion) (o : Option Completion) → taken_if host_calls mid x t ts o ≡ front_found (Some c) now y → (o ≡ Some c) × (host_taken mid t ≡ now)
 took-is mid now x y t ts c None is = absurd (none-some c (ap (λ (p : Polled HostState). p.completion) is))
 took-is mid now x y t ts c (Some d) is = (ap (λ (p : Polled HostState). p.completion) is, ap (λ (p : Polled HostState). p.bus) is)
 
@@ -117,7 +117,7 @@ took-is mid now x y t ts c (Some d) is = (ap (λ (p : Polled HostState). p.compl
 abbrev made_by : HostState → EndpointState → BufferState → ℕ → HostState
 made_by host x b timeout = blocked host_calls (count_of host) timeout (entered host_calls host x b)
 
-pub transfer-answers : {E : Type 0} (host now : HostState) (x y : EndpointState) (before text : String Global) (result : Result Unit E) (direction : Direction) (b : BufferState) (timeout : ℕ) (c : Completion) → bars_transfer host.kernel.past direction x ≡ false → y ≡ x → transferred host_calls timeout host x b ≡ came (Some c) now y → OnOk result (string_bytes text ≡ string_bytes before ++ waited_line (Some c)) → CallAnswers host now x y before text result (λ state e h. transfer_on state direction e b timeout h)
+pub transfer-answers : {E : Type 0} (host now : HostState) (x y : EndpointState) (before text : String Global) (result : Result Unit E) (direction : Direction) (b : BufferState) (timeout : ℕ) (c : Completion) → bars_transfer host.kernel.past direction x ≡ false → y ≡ x → transferred host_calls timeout host x b ≡ front_found (Some c) now y → OnOk result (string_bytes text ≡ string_bytes before ++ waited_line (Some c)) → CallAnswers host now x y before text result (λ state e h. transfer_on state direction e b timeout h)
 transfer-answers host now x y before text result direction b timeout c bars same_y is printed =
     let t = count_of host in
     let mid : HostState = made_by host x b timeout in
@@ -136,7 +136,7 @@ transfer-answers host now x y before text result direction b timeout c bars same
       few = one_more h.taken t h.tickets few;
     })
 
-pub transfer-keeps : (host now : HostState) (x y : EndpointState) (b : BufferState) (timeout : ℕ) (c : Completion) → transferred host_calls timeout host x b ≡ came (Some c) now y → y ≡ x → Stands (bus_of now) y → KeepsOthers (bus_of host) (bus_of now) x.key → CallKeeps host now x y
+pub transfer-keeps : (host now : HostState) (x y : EndpointState) (b : BufferState) (timeout : ℕ) (c : Completion) → transferred host_calls timeout host x b ≡ front_found (Some c) now y → y ≡ x → Stands (bus_of now) y → KeepsOthers (bus_of host) (bus_of now) x.key → CallKeeps host now x y
 transfer-keeps host now x y b timeout c is same stands others =
     let first = entered host_calls host x b in
     let mid : HostState = made_by host x b timeout in

@@ -11,8 +11,6 @@ use Rattle.usb_host.specs.HostState.{HostState}
 use Rattle.usb_host.specs.HostBus.{bus_of}
 use Rattle.usb_host.specs.HostTurns.{host_rest}
 use Rattle.usb_io.specs.Writers.{WriterState, Writing}
-use Rattle.usb_writes.specs.declared.any_writer.AnyWriter.{AnyWriter}
-use Rattle.usb_writes.specs.AnyWriters.{writer_of}
 use Rattle.usb_writer_lines.specs.Printed.{CallKeeps as WriterKeeps}
 use Rattle.usb_lines.specs.Calls.{condition_line}
 use Rattle.usb_answers.specs.declared.session.Session.TheInside.{Inside}
@@ -48,27 +46,27 @@ keeps-writer old new keeps =
     }
 
 -- a session with another host and other writers
-abbrev pub made_writing : Inside → HostState → List (Option AnyWriter) → SessionState
+abbrev pub made_writing : Inside → HostState → List (Option WriterState) → SessionState
 made_writing i host writers = session_made i.tree i.watch host i.devices.items i.interfaces.items i.endpoints.items i.readers.items writers i.futures.items
 
 -- a writer that is open under a name stands in the host with its endpoint
-pub stands-writer : (i : Inside) (w : ℕ) (x : AnyWriter) (taken : Option AnyWriter) → IsSound (made_of i) → taken ≡ named i.writers.items w → taken ≡ Some x → Stands (bus_of i.host) (writer_endpoint x)
+pub stands-writer : (i : Inside) (w : ℕ) (x : WriterState) (taken : Option WriterState) → IsSound (made_of i) → taken ≡ named i.writers.items w → taken ≡ Some x → Stands (bus_of i.host) (writer_endpoint x)
 stands-writer i w x taken sound was is = sound.endpoints_stand (writer_place w) (writer_endpoint x) (taken-writer i.endpoints.items i.readers.items i.writers.items (places-made i sound) w x (sym was ∙ is))
 
 -- the session has it under this name
-pub writer-made : (i : Inside) (S : SessionState) (w : ℕ) (x : AnyWriter) → IsSound (made_of i) → made_of i ≡ S → named i.writers.items w ≡ Some x → named S.endpoints (writer_place w) ≡ Some (writer_endpoint x)
+pub writer-made : (i : Inside) (S : SessionState) (w : ℕ) (x : WriterState) → IsSound (made_of i) → made_of i ≡ S → named i.writers.items w ≡ Some x → named S.endpoints (writer_place w) ≡ Some (writer_endpoint x)
 writer-made i S w x sound view was = sym (ap (λ (v : SessionState). named v.endpoints (writer_place w)) view) ∙ taken-writer i.endpoints.items i.readers.items i.writers.items (places-made i sound) w x was
 
-pub bare-made : (i : Inside) (S : SessionState) (w : ℕ) (x : AnyWriter) → made_of i ≡ S → named i.writers.items w ≡ Some x → named S.writers w ≡ Some (bare_writer_of x)
+pub bare-made : (i : Inside) (S : SessionState) (w : ℕ) (x : WriterState) → made_of i ≡ S → named i.writers.items w ≡ Some x → named S.writers w ≡ Some (bare_writer_of x)
 bare-made i S w x view was = sym (ap (λ (v : SessionState). named v.writers w) view) ∙ named-map bare_writer_of i.writers.items w ∙ ap (option_map bare_writer_of) was
 
 -- it stands at its place again
-pub writer-put : (i : Inside) (after : List (Option AnyWriter)) (w : ℕ) (x y : AnyWriter) → IsSound (made_of i) → PutBack i.writers.items after w x y → endpoints_with i.endpoints.items i.readers.items after ≡ set_name (freed (made_of i).endpoints (writer_place w)) (writer_place w) (writer_endpoint y)
+pub writer-put : (i : Inside) (after : List (Option WriterState)) (w : ℕ) (x y : WriterState) → IsSound (made_of i) → PutBack i.writers.items after w x y → endpoints_with i.endpoints.items i.readers.items after ≡ set_name (freed (made_of i).endpoints (writer_place w)) (writer_place w) (writer_endpoint y)
 writer-put i after w x y sound back =
     put-writer i.endpoints.items i.readers.items i.writers.items (places-made i sound) w after y back.put
 
 -- a session is sound once a writer was called and put back
-pub sound-writer_called : (i : Inside) (now : HostState) (after : List (Option AnyWriter)) (w : ℕ) (x y : AnyWriter) → IsSound (made_of i) → PutBack i.writers.items after w x y → CallKeeps i.host now (writer_endpoint x) (writer_endpoint y) → IsSound (made_writing i now after)
+pub sound-writer_called : (i : Inside) (now : HostState) (after : List (Option WriterState)) (w : ℕ) (x y : WriterState) → IsSound (made_of i) → PutBack i.writers.items after w x y → CallKeeps i.host now (writer_endpoint x) (writer_endpoint y) → IsSound (made_writing i now after)
 sound-writer_called i now after w x y sound back keeps =
     let endpoints = endpoints_with i.endpoints.items i.readers.items after in
     sound-writers (record (made_of i) { host = now; endpoints = endpoints }) (map (option_map bare_writer_of) after)
@@ -76,9 +74,9 @@ sound-writer_called i now after w x y sound back keeps =
     (map-length bare_writer_of i.writers.items after w x y back)
 
 -- and is the one that the call left
-pub made-writer_called : (i : Inside) (S : SessionState) (now : HostState) (after : List (Option AnyWriter)) (w : ℕ) (x y : AnyWriter) → IsSound (made_of i) → made_of i ≡ S → PutBack i.writers.items after w x y → with_writer_called S w now (writer_of y) ≡ made_writing i now after
+pub made-writer_called : (i : Inside) (S : SessionState) (now : HostState) (after : List (Option WriterState)) (w : ℕ) (x y : WriterState) → IsSound (made_of i) → made_of i ≡ S → PutBack i.writers.items after w x y → with_writer_called S w now y ≡ made_writing i now after
 made-writer_called i S now after w x y sound view back =
-    ap (λ (v : SessionState). with_writer_called v w now (writer_of y)) (sym view)
+    ap (λ (v : SessionState). with_writer_called v w now y) (sym view)
     ∙ ap (λ (l : List (Option EndpointState)). record (made_of i) { host = now; endpoints = l; writers = change_named (λ b. bare_writer_of y) (made_of i).writers w })
     (sym (writer-put i after w x y sound back ∙ put-changed (λ z. writer_endpoint y) (made_of i).endpoints (writer_place w) (writer_endpoint x) (writer_endpoint y) (writer-made i (made_of i) w x sound refl back.was) refl))
     ∙ ap (λ (l : List (Option BareWriter)). record (made_of i) { host = now; endpoints = endpoints_with i.endpoints.items i.readers.items after; writers = l }) (sym (map-put bare_writer_of i.writers.items after w x y back))
@@ -123,11 +121,11 @@ has_writer s state w x is endpoint bare =
     }
 
 -- what a call on a writer answers
-pub answers-writer_called : {E : Type 0} (i : Inside) (S : SessionState) (now : HostState) (after : List (Option AnyWriter)) (n w : ℕ) (x y : AnyWriter) (before text : String Global) (result : Result Unit E) (call : State → ℕ → WriterAt → Answer) → IsSound (made_of i) → made_of i ≡ S → PutBack i.writers.items after n x y → n ≡ w → WriterAnswers i.host now (writer_of x) (writer_of y) before text result call → Answers S (made_writing i now after) before text result (λ state. if_open (writer_at state w) (call state w) (barred state))
+pub answers-writer_called : {E : Type 0} (i : Inside) (S : SessionState) (now : HostState) (after : List (Option WriterState)) (n w : ℕ) (x y : WriterState) (before text : String Global) (result : Result Unit E) (call : State → ℕ → WriterAt → Answer) → IsSound (made_of i) → made_of i ≡ S → PutBack i.writers.items after n x y → n ≡ w → WriterAnswers i.host now x y before text result call → Answers S (made_writing i now after) before text result (λ state. if_open (writer_at state w) (call state w) (barred state))
 answers-writer_called i S now after n w x y before text (Err error) call sound view back same answers = tt
 answers-writer_called i S now after n w x y before text (Ok done) call sound view back same answers =
     λ state is.
-    let o = has_writer S state n (writer_of x) is (writer-made i S n x sound view back.was) (bare-made i S n x view back.was) in
+    let o = has_writer S state n x is (writer-made i S n x sound view back.was) (bare-made i S n x view back.was) in
     subst (λ m. Answered (made_writing i now after) (string_bytes before) (string_bytes text) (if_open (writer_at state m) (call state m) (barred state))) same
     (answered-some (made_writing i now after) (string_bytes before) (string_bytes text) (writer_at state n) o.at (call state n) (barred state) o.has.is
     (subst (λ s. Answered s (string_bytes before) (string_bytes text) (call state n o.at)) (made-writer_called i S now after n x y sound view back)
@@ -149,7 +147,7 @@ no_writer_at i S n w view none same state is =
     let none_there : named state.writers w ≡ None = ap (named state.writers) (sym same) ∙ no_writer i S n view none state is in
     rw none_there refl
 
-pub answers-no_writer : {E : Type 0} (i : Inside) (S : SessionState) (mid : List (Option AnyWriter)) (n w : ℕ) (before text : String Global) (result : Result Unit E) (call : State → WriterAt → Answer) → made_of i ≡ S → named i.writers.items n ≡ None → mid ≡ i.writers.items → n ≡ w → OnOk result (string_bytes text ≡ string_bytes before ++ condition_line) → Answers S (made_writing i i.host mid) before text result (λ state. if_open (writer_at state w) (call state) (barred state))
+pub answers-no_writer : {E : Type 0} (i : Inside) (S : SessionState) (mid : List (Option WriterState)) (n w : ℕ) (before text : String Global) (result : Result Unit E) (call : State → WriterAt → Answer) → made_of i ≡ S → named i.writers.items n ≡ None → mid ≡ i.writers.items → n ≡ w → OnOk result (string_bytes text ≡ string_bytes before ++ condition_line) → Answers S (made_writing i i.host mid) before text result (λ state. if_open (writer_at state w) (call state) (barred state))
 answers-no_writer i S mid n w before text (Err error) call view none rest same printed = tt
 answers-no_writer i S mid n w before text (Ok done) call view none rest same printed =
     λ state is.
@@ -159,22 +157,22 @@ answers-no_writer i S mid n w before text (Ok done) call view none rest same pri
     (told-answered S state (string_bytes before) (string_bytes text) condition_line is printed)))
 
 -- a line with steps of its own: the steps are lent, a writer is called, and the rest of them is applied
-pub sound-writer_lent : (i : Inside) (steps : List KernelStep) (at now last : HostState) (after : List (Option AnyWriter)) (w : ℕ) (x y : AnyWriter) → IsSound (made_of i) → at ≡ record i.host { steps = steps } → PutBack i.writers.items after w x y → CallKeeps at now (writer_endpoint x) (writer_endpoint y) → last ≡ host_rest now → IsSound (made_writing i last after)
+pub sound-writer_lent : (i : Inside) (steps : List KernelStep) (at now last : HostState) (after : List (Option WriterState)) (w : ℕ) (x y : WriterState) → IsSound (made_of i) → at ≡ record i.host { steps = steps } → PutBack i.writers.items after w x y → CallKeeps at now (writer_endpoint x) (writer_endpoint y) → last ≡ host_rest now → IsSound (made_writing i last after)
 sound-writer_lent i steps at now last after w x y sound is back keeps rest =
     let endpoints = endpoints_with i.endpoints.items i.readers.items after in
     sound-writers (record (made_of i) { host = last; endpoints = endpoints }) (map (option_map bare_writer_of) after)
     (sound-lent_at i steps at now last endpoints (writer_place w) (writer_endpoint x) (writer_endpoint y) sound is (writer-made i (made_of i) w x sound refl back.was) (writer-put i after w x y sound back) keeps rest)
     (map-length bare_writer_of i.writers.items after w x y back)
 
-pub answers-writer_lent : {E : Type 0} (i : Inside) (S : SessionState) (steps : List KernelStep) (at now last : HostState) (after : List (Option AnyWriter)) (n w : ℕ) (x y : AnyWriter) (before text : String Global) (result : Result Unit E) (call : State → ℕ → WriterAt → Answer) → IsSound (made_of i) → made_of i ≡ S → at ≡ record i.host { steps = steps } → PutBack i.writers.items after n x y → n ≡ w → WriterAnswers at now (writer_of x) (writer_of y) before text result call → last ≡ host_rest now → Answers S (made_writing i last after) before text result (λ state. if_open (writer_at state w) (λ x. then_rested (call (lent state steps) w x)) (barred (stepped_all state steps)))
+pub answers-writer_lent : {E : Type 0} (i : Inside) (S : SessionState) (steps : List KernelStep) (at now last : HostState) (after : List (Option WriterState)) (n w : ℕ) (x y : WriterState) (before text : String Global) (result : Result Unit E) (call : State → ℕ → WriterAt → Answer) → IsSound (made_of i) → made_of i ≡ S → at ≡ record i.host { steps = steps } → PutBack i.writers.items after n x y → n ≡ w → WriterAnswers at now x y before text result call → last ≡ host_rest now → Answers S (made_writing i last after) before text result (λ state. if_open (writer_at state w) (λ x. then_rested (call (lent state steps) w x)) (barred (stepped_all state steps)))
 answers-writer_lent i S steps at now last after n w x y before text (Err error) call sound view is back same answers rest = tt
 answers-writer_lent i S steps at now last after n w x y before text (Ok done) call sound view is back same answers rest =
     λ state stands.
     let b = string_bytes before in
     let t = string_bytes text in
-    let o = has_writer S state n (writer_of x) stands (writer-made i S n x sound view back.was) (bare-made i S n x view back.was) in
+    let o = has_writer S state n x stands (writer-made i S n x sound view back.was) (bare-made i S n x view back.was) in
     let lends = represents-lent i S steps at view is state stands in
-    let called : Answered (with_writer_called S n now (writer_of y)) b t (call (lent state steps) n o.at) =
+    let called : Answered (with_writer_called S n now y) b t (call (lent state steps) n o.at) =
     answers (record S { host = at }) (lent state steps) n o.at lends refl (record { endpoint = o.has.endpoint; writer = o.has.writer; is = o.has.is; same = o.has.same }) in
     subst (λ m. Answered (made_writing i last after) b t (if_open (writer_at state m) (λ x. then_rested (call (lent state steps) m x)) (barred (stepped_all state steps)))) same
     (answered-some (made_writing i last after) b t (writer_at state n) o.at (λ x. then_rested (call (lent state steps) n x)) (barred (stepped_all state steps)) o.has.is
@@ -183,11 +181,11 @@ answers-writer_lent i S steps at now last after n w x y before text (Ok done) ca
     (subst (λ s. Answered s b t (call (lent state steps) n o.at)) (made-writer_called i S now after n x y sound view back) called))))
 
 -- no writer was called
-pub sound-writer_stepped : (i : Inside) (steps : List KernelStep) (at last : HostState) (mid : List (Option AnyWriter)) → IsSound (made_of i) → at ≡ record i.host { steps = steps } → last ≡ host_rest at → mid ≡ i.writers.items → IsSound (made_writing i last mid)
+pub sound-writer_stepped : (i : Inside) (steps : List KernelStep) (at last : HostState) (mid : List (Option WriterState)) → IsSound (made_of i) → at ≡ record i.host { steps = steps } → last ≡ host_rest at → mid ≡ i.writers.items → IsSound (made_writing i last mid)
 sound-writer_stepped i steps at last mid sound is rest none =
     subst (λ l. IsSound (made_writing i last l)) (sym none) (sound-stepped i steps at last i.endpoints.items sound is rest refl)
 
-pub answers-writer_stepped : {E : Type 0} (i : Inside) (S : SessionState) (steps : List KernelStep) (at last : HostState) (mid : List (Option AnyWriter)) (n w : ℕ) (before text : String Global) (result : Result Unit E) (call : State → WriterAt → Answer) → made_of i ≡ S → at ≡ record i.host { steps = steps } → last ≡ host_rest at → named i.writers.items n ≡ None → mid ≡ i.writers.items → n ≡ w → OnOk result (string_bytes text ≡ string_bytes before ++ condition_line) → Answers S (made_writing i last mid) before text result (λ state. if_open (writer_at state w) (call state) (barred (stepped_all state steps)))
+pub answers-writer_stepped : {E : Type 0} (i : Inside) (S : SessionState) (steps : List KernelStep) (at last : HostState) (mid : List (Option WriterState)) (n w : ℕ) (before text : String Global) (result : Result Unit E) (call : State → WriterAt → Answer) → made_of i ≡ S → at ≡ record i.host { steps = steps } → last ≡ host_rest at → named i.writers.items n ≡ None → mid ≡ i.writers.items → n ≡ w → OnOk result (string_bytes text ≡ string_bytes before ++ condition_line) → Answers S (made_writing i last mid) before text result (λ state. if_open (writer_at state w) (call state) (barred (stepped_all state steps)))
 answers-writer_stepped i S steps at last mid n w before text (Err error) call view is rest none back same printed = tt
 answers-writer_stepped i S steps at last mid n w before text (Ok done) call view is rest none back same printed =
     λ state stands.

@@ -20,8 +20,8 @@ use Rattle.usb_io.specs.declared.fault.WriteFault.{WriteFault}
 use Rattle.usb_io.specs.Answered.{Answered as Given}
 use Rattle.usb_io.specs.WriteAnswers.{write_came, flush_came, flush_end_came, poll_flush_end_came, submit_came, submit_end_came}
 use Rattle.usb_streams.specs.Numbers.{numbers_from}
-use Rattle.usb_writes.specs.Told.{WriterCalls, with_calls, failures_of, count_of}
-use Rattle.usb_writes.proofs.WritesKeep.{Keeps, write-keeps, flush-keeps, flush_end-keeps, poll_flush_end-keeps, submit-keeps, submit_end-keeps}
+use Rattle.usb_streams.specs.Told.{WriterCalls, with_calls, failures_of, count_of}
+use Rattle.usb_streams.proofs.WritesKeep.{Keeps, write-keeps, flush-keeps, flush_end-keeps, poll_flush_end-keeps, submit-keeps, submit_end-keeps}
 use Rattle.usb_writer_lines.specs.Needs.{bars_call, write_need}
 use Rattle.usb_writer_lines.specs.Printed.{Prints, CameTo}
 use Rattle.usb_names.specs.Names.{named, change_named}

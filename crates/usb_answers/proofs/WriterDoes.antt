@@ -14,12 +14,12 @@ use Rattle.usb_io.specs.declared.fault.WriteFault.{WriteFault}
 use Rattle.usb_io.specs.declared.fault.WriteFault.TheVariants.{Transfer, TimedOut}
 use Rattle.usb_io.specs.Answered.{Answered}
 use Rattle.usb_io.specs.WriteAnswers.{write_came, flush_came, flush_end_came, poll_flush_end_came, submit_came, submit_end_came}
-use Rattle.usb_writes.specs.Told.{with_calls, failures_of}
-use Rattle.usb_writes.proofs.WritesKeep.{Keeps, submit-keeps, submit_end-keeps, write-keeps, flush-keeps, flush_end-keeps, poll_flush_end-keeps}
+use Rattle.usb_streams.specs.Told.{with_calls, failures_of}
+use Rattle.usb_streams.proofs.WritesKeep.{Keeps, submit-keeps, submit_end-keeps, write-keeps, flush-keeps, flush_end-keeps, poll_flush_end-keeps}
 use Rattle.usb_stream_lines.specs.Faults.{io_line, write_fault_line}
 use Rattle.usb_stream_lines.specs.Writes.{wrote_line}
 use Rattle.usb_writer_lines.specs.Needs.{bars_call, write_need, flush_need, finish_need, poll_finish_need}
-use Rattle.usb_writer_lines.specs.Printed.{written_line, flushed_line, polled, submitted_to}
+use Rattle.usb_writer_lines.specs.Printed.{written_line, flushed_line, poll_line, submitted_to}
 use Rattle.usb_names.specs.Names.{named, is_free, change_named}
 use Rattle.usb_answers.specs.State.{State, Endpoint, Writer, kept}
 use Rattle.usb_answers.specs.WriterAt.{WriterAt, writer_place, writer_at, state_of_writer, writing_at}
@@ -145,7 +145,7 @@ flushed-other : (r : Result (Unit {0}) WriteFault) → says_done (flushed_line r
 flushed-other (Ok done) = refl
 flushed-other (Err fault) = fault-other fault
 
-polled-other : {A : Type 0} (line : Result A WriteFault → List ℕ) → ((r : Result A WriteFault) → says_done (line r) ≡ false) → (r : Result A WriteFault) → says_done (polled line r) ≡ false
+polled-other : {A : Type 0} (line : Result A WriteFault → List ℕ) → ((r : Result A WriteFault) → says_done (line r) ≡ false) → (r : Result A WriteFault) → says_done (poll_line line r) ≡ false
 polled-other line other (Ok x) = other (Ok x)
 polled-other line other (Err (Transfer e)) = other (Err (Transfer e))
 polled-other line other (Err TimedOut) = refl
@@ -164,7 +164,7 @@ write-does state w src steps =
 pub poll_write-does : (state : State) (w : ℕ) (src : List ℕ) → Does state (poll_write_answer state w src)
 unfolding poll_write_answer
 poll_write-does state w src =
-    call-does (writer_at state w) (λ x. poll_write_on state w src x) (λ x is. wrote_as-does state w 0 src x (polled written_line) is (polled-other written_line written-other))
+    call-does (writer_at state w) (λ x. poll_write_on state w src x) (λ x is. wrote_as-does state w 0 src x (poll_line written_line) is (polled-other written_line written-other))
 
 -- submissions
 pub submit_buffer-does : (state : State) (w : ℕ) → Does state (submit_buffer_answer state w)
@@ -196,7 +196,7 @@ flush-does state w steps =
 pub poll_flush-does : (state : State) (w : ℕ) → Does state (poll_flush_answer state w)
 unfolding poll_flush_answer
 poll_flush-does state w =
-    call-does (writer_at state w) (λ x. poll_flush_on state w x) (λ x is. flushed_as-does state w 0 x (polled flushed_line) is (polled-other flushed_line flushed-other))
+    call-does (writer_at state w) (λ x. poll_flush_on state w x) (λ x is. flushed_as-does state w 0 x (poll_line flushed_line) is (polled-other flushed_line flushed-other))
 
 pub flush_end-does : (state : State) (w : ℕ) (steps : List KernelStep) → Does state (flush_end_answer state w steps)
 unfolding flush_end_answer
@@ -211,5 +211,5 @@ unfolding poll_flush_end_answer
 poll_flush_end-does state w =
     call-does (writer_at state w) (λ x. poll_flush_end_on state w x) (λ x is.
     let v = writing_at state x in
-    called_as-does state w x (poll_finish_need (state_of_writer x)) (begun_calls x.writer.bare.begun) (polled flushed_line) (poll_flush_end_came host_calls v) is (polled-other flushed_line flushed-other)
+    called_as-does state w x (poll_finish_need (state_of_writer x)) (begun_calls x.writer.bare.begun) (poll_line flushed_line) (poll_flush_end_came host_calls v) is (polled-other flushed_line flushed-other)
     (λ P keeps at_v. poll_flush_end-keeps P keeps v at_v))

@@ -5,7 +5,7 @@ use Rattle.std.specs.Option.{option_map}
 use Rattle.std.specs.declared.alloc.Global.{Global}
 use Rattle.std.proofs.lemmas.Option.{same_Some}
 use Rattle.usb_endpoint.specs.EndpointState.{EndpointState}
-use Rattle.usb_writes.specs.declared.any_writer.AnyWriter.{AnyWriter}
+use Rattle.usb_io.specs.Writers.{WriterState}
 use Rattle.usb_lines.specs.Calls.{condition_line, ok_line}
 use Rattle.usb_writer_lines.specs.Needs.{bars_transfers}
 use Rattle.usb_answers.specs.declared.session.Session.TheInside.{Inside}
@@ -26,13 +26,13 @@ use Rattle.usb_answers.proofs.TakenOut.{PutBack, map-put}
 use Rattle.usb_answers.proofs.WriterCalled.{made_writing, writer-made, bare-made, writer-put, writer_there, no_writer}
 
 -- the endpoints are as they were
-endpoints-rest : (i : Inside) (after : List (Option AnyWriter)) (w : ℕ) (x y : AnyWriter) → IsSound (made_of i) → PutBack i.writers.items after w x y → writer_endpoint y ≡ writer_endpoint x → endpoints_with i.endpoints.items i.readers.items after ≡ (made_of i).endpoints
+endpoints-rest : (i : Inside) (after : List (Option WriterState)) (w : ℕ) (x y : WriterState) → IsSound (made_of i) → PutBack i.writers.items after w x y → writer_endpoint y ≡ writer_endpoint x → endpoints_with i.endpoints.items i.readers.items after ≡ (made_of i).endpoints
 endpoints-rest i after w x y sound back same =
     writer-put i after w x y sound back ∙ ap (set_name (freed (made_of i).endpoints (writer_place w)) (writer_place w)) same
     ∙ put-back (made_of i).endpoints (writer_place w) (writer_endpoint x) (writer-made i (made_of i) w x sound refl back.was)
 
 -- a writer was set
-set-represents : (i : Inside) (after : List (Option AnyWriter)) (w : ℕ) (x y : AnyWriter) (g : Writer → Writer) (state : State) (z : Writer) → IsSound (made_of i) → PutBack i.writers.items after w x y → writer_endpoint y ≡ writer_endpoint x → named state.writers w ≡ Some z → (g z).bare ≡ bare_writer_of y → Represents (made_of i) state
+set-represents : (i : Inside) (after : List (Option WriterState)) (w : ℕ) (x y : WriterState) (g : Writer → Writer) (state : State) (z : Writer) → IsSound (made_of i) → PutBack i.writers.items after w x y → writer_endpoint y ≡ writer_endpoint x → named state.writers w ≡ Some z → (g z).bare ≡ bare_writer_of y → Represents (made_of i) state
     → Represents (made_writing i i.host after) (record state { writers = change_named g state.writers w })
 set-represents i after w x y g state z sound back same at bare r =
     let changed = map-change_named (λ (v : Writer). v.bare) g (λ b. bare_writer_of y) state.writers w (λ v is. ap (λ (u : Writer). (g u).bare) (same_Some v z (sym is ∙ at)) ∙ bare) in
@@ -41,7 +41,7 @@ set-represents i after w x y g state z sound back same at bare r =
     (represents-writers (made_of i) state (map (option_map bare_writer_of) after) (change_named g state.writers w) r
     (map-put bare_writer_of i.writers.items after w x y back ∙ ap (λ (v : SessionState). change_named (λ b. bare_writer_of y) v.writers w) r.is ∙ sym changed))
 
-answers-set : {E : Type 0} (i : Inside) (S : SessionState) (after : List (Option AnyWriter)) (n w : ℕ) (x y : AnyWriter) (before text : String Global) (result : Result Unit E) (g : Writer → Writer) → IsSound (made_of i) → made_of i ≡ S → PutBack i.writers.items after n x y → n ≡ w → writer_endpoint y ≡ writer_endpoint x
+answers-set : {E : Type 0} (i : Inside) (S : SessionState) (after : List (Option WriterState)) (n w : ℕ) (x y : WriterState) (before text : String Global) (result : Result Unit E) (g : Writer → Writer) → IsSound (made_of i) → made_of i ≡ S → PutBack i.writers.items after n x y → n ≡ w → writer_endpoint y ≡ writer_endpoint x
     → ((z : Writer) → z.bare ≡ bare_writer_of x → (g z).bare ≡ bare_writer_of y) → OnOk result (string_bytes text ≡ string_bytes before ++ ok_line)
     → Answers S (made_writing i i.host after) before text result (λ state. if_open (named state.writers w) (λ z. ok_answer (record state { writers = change_named g state.writers w })) (barred state))
 answers-set i S after n w x y before text (Err error) g sound view back name same sets printed = tt
@@ -57,7 +57,7 @@ answers-set i S after n w x y before text (Ok done) g sound view back name same 
     (set-represents i after n x y g state there.writer sound back same there.at (sets there.writer there.bare) s) printed))
 
 -- no writer is open
-pub answers-unset : {E : Type 0} (i : Inside) (S : SessionState) (mid : List (Option AnyWriter)) (n w : ℕ) (before text : String Global) (result : Result Unit E) (call : State → Writer → Answer) → made_of i ≡ S → named i.writers.items n ≡ None → mid ≡ i.writers.items → n ≡ w → OnOk result (string_bytes text ≡ string_bytes before ++ condition_line)
+pub answers-unset : {E : Type 0} (i : Inside) (S : SessionState) (mid : List (Option WriterState)) (n w : ℕ) (before text : String Global) (result : Result Unit E) (call : State → Writer → Answer) → made_of i ≡ S → named i.writers.items n ≡ None → mid ≡ i.writers.items → n ≡ w → OnOk result (string_bytes text ≡ string_bytes before ++ condition_line)
     → Answers S (made_writing i i.host mid) before text result (λ state. if_open (named state.writers w) (call state) (barred state))
 answers-unset i S mid n w before text (Err error) call view none rest same printed = tt
 answers-unset i S mid n w before text (Ok done) call view none rest same printed =
@@ -68,7 +68,7 @@ answers-unset i S mid n w before text (Ok done) call view none rest same printed
     (told-answered S state (string_bytes before) (string_bytes text) condition_line r printed)))
 
 -- `num` of a writer
-pub answers-transfers : {E : Type 0} (i : Inside) (S : SessionState) (after : List (Option AnyWriter)) (n w count : ℕ) (x y : AnyWriter) (before text : String Global) (result : Result Unit E) → IsSound (made_of i) → made_of i ≡ S → PutBack i.writers.items after n x y → n ≡ w → writer_endpoint y ≡ writer_endpoint x → bare_writer_of y ≡ record (bare_writer_of x) { n = count }
+pub answers-transfers : {E : Type 0} (i : Inside) (S : SessionState) (after : List (Option WriterState)) (n w count : ℕ) (x y : WriterState) (before text : String Global) (result : Result Unit E) → IsSound (made_of i) → made_of i ≡ S → PutBack i.writers.items after n x y → n ≡ w → writer_endpoint y ≡ writer_endpoint x → bare_writer_of y ≡ record (bare_writer_of x) { n = count }
     → bars_transfers count ≡ false → OnOk result (string_bytes text ≡ string_bytes before ++ ok_line) → Answers S (made_writing i i.host after) before text result (λ state. writer_num_answer state w count)
 unfolding writer_num_answer
 answers-transfers i S after n w count x y before text result sound view back name same set free printed =
@@ -85,7 +85,7 @@ unfolding writer_num_answer
 num-gives s state w count bars r = transfers-barred s state w count (named state.writers w) bars r
 
 -- `timeout` of a writer
-pub answers-timeout : {E : Type 0} (i : Inside) (S : SessionState) (after : List (Option AnyWriter)) (n w timeout : ℕ) (x y : AnyWriter) (before text : String Global) (result : Result Unit E) → IsSound (made_of i) → made_of i ≡ S → PutBack i.writers.items after n x y → n ≡ w → writer_endpoint y ≡ writer_endpoint x → bare_writer_of y ≡ record (bare_writer_of x) { timeout = timeout }
+pub answers-timeout : {E : Type 0} (i : Inside) (S : SessionState) (after : List (Option WriterState)) (n w timeout : ℕ) (x y : WriterState) (before text : String Global) (result : Result Unit E) → IsSound (made_of i) → made_of i ≡ S → PutBack i.writers.items after n x y → n ≡ w → writer_endpoint y ≡ writer_endpoint x → bare_writer_of y ≡ record (bare_writer_of x) { timeout = timeout }
     → OnOk result (string_bytes text ≡ string_bytes before ++ ok_line) → Answers S (made_writing i i.host after) before text result (λ state. write_timeout_answer state w timeout)
 unfolding write_timeout_answer
 answers-timeout i S after n w timeout x y before text result sound view back name same set printed =

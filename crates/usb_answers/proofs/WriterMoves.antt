@@ -1,15 +1,12 @@
 -- An endpoint becomes a writer's, or comes back.
-use Rattle.std.proofs.Common.{◌≡◌, ℕ, ◌<◌, ◌≤◌, List, length, map, Option, Some, None, true, false, refl, ap, sym, ◌∙◌, subst}
+use Rattle.std.proofs.Common.{◌≡◌, ◌≢◌, ℕ, ◌≤◌, List, length, map, Option, Some, None, true, false, refl, ap, sym, ◌∙◌, subst}
 use Rattle.std.specs.Prelude.{if◌then◌else◌}
 use Rattle.std.specs.Option.{option_map}
 use Rattle.std.proofs.lemmas.List.{length-map}
 use Rattle.usb_desc.specs.declared.types.Direction.TheVariants.{Out}
-use Rattle.usb_endpoint.specs.declared.any_endpoint.AnyEndpoint.{AnyEndpoint}
-use Rattle.usb_endpoint.specs.AnyEndpoints.{state_of}
+use Rattle.usb_desc.specs.Fields.{direction_of_address}
 use Rattle.usb_endpoint.specs.EndpointState.{EndpointState}
 use Rattle.usb_io.specs.Writers.{WriterState, fresh_writer}
-use Rattle.usb_writes.specs.declared.any_writer.AnyWriter.{AnyWriter}
-use Rattle.usb_writes.specs.AnyWriters.{writer_of}
 use Rattle.usb_lines.specs.Calls.{condition_line, ok_line}
 use Rattle.usb_answers.specs.declared.session.Session.TheInside.{Inside}
 use Rattle.usb_names.specs.Names.{named, is_free, freed, set_name}
@@ -29,11 +26,11 @@ use Rattle.usb_answers.proofs.Answering.{Gives, barred-gives, free_kept, none_ke
 use Rattle.usb_answers.proofs.Called.{open_at, sound-writers, represents-writers}
 use Rattle.usb_answers.proofs.OpenPlaces.{HasPlaces, free-endpoint, freed-endpoint, set-endpoint, taken-endpoint, free-writer, freed-writer, set-writer, taken-writer}
 use Rattle.usb_answers.proofs.TakenOut.{places-made, none_made}
-use Rattle.usb_answers.proofs.Moves.{Moves, sound-moved, represents-moved, in-direction, out-direction, barred-direction}
+use Rattle.usb_answers.proofs.Moves.{Moves, sound-moved, represents-moved, is-direction, not-direction, barred-direction}
 use Rattle.usb_answers.proofs.WriterCalled.{bare-made, has_writer, no_writer_at}
 
 -- a session with other endpoints and writers
-abbrev pub made_both : Inside → List (Option AnyEndpoint) → List (Option AnyWriter) → SessionState
+abbrev pub made_both : Inside → List (Option EndpointState) → List (Option WriterState) → SessionState
 made_both i endpoints writers = session_made i.tree i.watch i.host i.devices.items i.interfaces.items endpoints i.readers.items writers i.futures.items
 
 -- an endpoint that stands under the name e is moved to the place of the writer w, or back
@@ -44,8 +41,8 @@ module _ (i : Inside) (sound : IsSound (made_of i)) (e w : ℕ) where
   writers_freed : HasPlaces i.endpoints.items i.readers.items (freed i.writers.items w)
   writers_freed = let places = places-made i sound in record { endpoints = places.endpoints; readers = places.readers; writers = length-freed i.writers.items w ∙ places.writers }
 
-  moves-there : (x : AnyEndpoint) (y : AnyWriter) → named i.endpoints.items e ≡ Some x → is_free i.writers.items w ≡ true → writer_endpoint y ≡ state_of x
-      → Moves (made_of i) (endpoints_with (freed i.endpoints.items e) i.readers.items (set_name i.writers.items w y)) (endpoint_place e) (writer_place w) (state_of x)
+  moves-there : (x : EndpointState) (y : WriterState) → named i.endpoints.items e ≡ Some x → is_free i.writers.items w ≡ true → writer_endpoint y ≡ x
+      → Moves (made_of i) (endpoints_with (freed i.endpoints.items e) i.readers.items (set_name i.writers.items w y)) (endpoint_place e) (writer_place w) x
   moves-there x y was free same =
       let left = freed-endpoint i.endpoints.items i.readers.items i.writers.items (places-made i sound) e in
       record {
@@ -57,7 +54,7 @@ module _ (i : Inside) (sound : IsSound (made_of i)) (e w : ℕ) where
             ∙ ap (set_name (freed (made_of i).endpoints (endpoint_place e)) (writer_place w)) same;
       }
 
-  moves-back : (x : AnyWriter) (y : AnyEndpoint) → named i.writers.items w ≡ Some x → is_free i.endpoints.items e ≡ true → state_of y ≡ writer_endpoint x
+  moves-back : (x : WriterState) (y : EndpointState) → named i.writers.items w ≡ Some x → is_free i.endpoints.items e ≡ true → y ≡ writer_endpoint x
       → Moves (made_of i) (endpoints_with (set_name i.endpoints.items e y) i.readers.items (freed i.writers.items w)) (writer_place w) (endpoint_place e) (writer_endpoint x)
   moves-back x y was free same =
       let places = places-made i sound in
@@ -67,19 +64,19 @@ module _ (i : Inside) (sound : IsSound (made_of i)) (e w : ℕ) where
         free = ap (λ l. is_free l (endpoint_place e)) (sym left) ∙ free-endpoint i.endpoints.items i.readers.items (freed i.writers.items w) writers_freed e ∙ free;
         put =
             set-endpoint i.endpoints.items i.readers.items (freed i.writers.items w) writers_freed e y
-            ∙ ap (λ l. set_name l (endpoint_place e) (state_of y)) left
+            ∙ ap (λ l. set_name l (endpoint_place e) y) left
             ∙ ap (set_name (freed (made_of i).endpoints (writer_place w)) (endpoint_place e)) same;
       }
 
   -- a writer is made
-  pub made-sound : (x : AnyEndpoint) (y : AnyWriter) → named i.endpoints.items e ≡ Some x → is_free i.writers.items w ≡ true → writer_endpoint y ≡ state_of x → IsSound (made_both i (freed i.endpoints.items e) (set_name i.writers.items w y))
+  pub made-sound : (x : EndpointState) (y : WriterState) → named i.endpoints.items e ≡ Some x → is_free i.writers.items w ≡ true → writer_endpoint y ≡ x → IsSound (made_both i (freed i.endpoints.items e) (set_name i.writers.items w y))
   made-sound x y was free same =
       let after = endpoints_with (freed i.endpoints.items e) i.readers.items (set_name i.writers.items w y) in
       sound-writers (record (made_of i) { endpoints = after }) (map (option_map bare_writer_of) (set_name i.writers.items w y))
-      (sound-moved (made_of i) after (endpoint_place e) (writer_place w) (state_of x) sound (moves-there x y was free same))
+      (sound-moved (made_of i) after (endpoint_place e) (writer_place w) x sound (moves-there x y was free same))
       (length-map (set_name i.writers.items w y) (option_map bare_writer_of) ∙ length-set_name i.writers.items w y ∙ sym (length-map i.writers.items (option_map bare_writer_of)))
 
-  pub given-sound : (x : AnyWriter) (y : AnyEndpoint) → named i.writers.items w ≡ Some x → is_free i.endpoints.items e ≡ true → state_of y ≡ writer_endpoint x → IsSound (made_both i (set_name i.endpoints.items e y) (freed i.writers.items w))
+  pub given-sound : (x : WriterState) (y : EndpointState) → named i.writers.items w ≡ Some x → is_free i.endpoints.items e ≡ true → y ≡ writer_endpoint x → IsSound (made_both i (set_name i.endpoints.items e y) (freed i.writers.items w))
   given-sound x y was free same =
       let after = endpoints_with (set_name i.endpoints.items e y) i.readers.items (freed i.writers.items w) in
       sound-writers (record (made_of i) { endpoints = after }) (map (option_map bare_writer_of) (freed i.writers.items w))
@@ -98,12 +95,12 @@ module _ (i : Inside) (sound : IsSound (made_of i)) (e w : ℕ) where
   free-own : (state : State) → Represents (made_of i) state → is_free state.endpoints (endpoint_place e) ≡ is_free i.endpoints.items e
   free-own state is = sym (free_kept (made_of i) state (endpoint_place e) is) ∙ free-endpoint i.endpoints.items i.readers.items i.writers.items (places-made i sound) e
 
-  writer-represents : (x : AnyEndpoint) (y : AnyWriter) (size : ℕ) (state : State) (h : Endpoint) → named i.endpoints.items e ≡ Some x → is_free i.writers.items w ≡ true → writer_of y ≡ fresh_writer (state_of x) size → Represents (made_of i) state → kept h ≡ state_of x → h.taken ≤ length h.tickets
+  writer-represents : (x : EndpointState) (y : WriterState) (size : ℕ) (state : State) (h : Endpoint) → named i.endpoints.items e ≡ Some x → is_free i.writers.items w ≡ true → y ≡ fresh_writer x size → Represents (made_of i) state → kept h ≡ x → h.taken ≤ length h.tickets
       → Represents (made_both i (freed i.endpoints.items e) (set_name i.writers.items w y)) (with_writer state w (endpoint_place e) size h)
   writer-represents x y size state h was free fresh is same few =
       let after = endpoints_with (freed i.endpoints.items e) i.readers.items (set_name i.writers.items w y) in
-      let endpoint : writer_endpoint y ≡ state_of x = ap (λ (z : WriterState). z.endpoint) fresh in
-      let moved_ = represents-moved (made_of i) state after (endpoint_place e) (writer_place w) (state_of x) (as_streamed h) is (moves-there x y was free endpoint) same few in
+      let endpoint : writer_endpoint y ≡ x = ap (λ (z : WriterState). z.endpoint) fresh in
+      let moved_ = represents-moved (made_of i) state after (endpoint_place e) (writer_place w) x (as_streamed h) is (moves-there x y was free endpoint) same few in
       let now = with_writer state w (endpoint_place e) size h in
       represents-writers (record (made_of i) { endpoints = after }) (record state { endpoints = now.endpoints }) (map (option_map bare_writer_of) (set_name i.writers.items w y)) now.writers moved_
       (map-set bare_writer_of i.writers.items w y
@@ -111,7 +108,7 @@ module _ (i : Inside) (sound : IsSound (made_of i)) (e w : ℕ) where
       ∙ ap (λ (v : SessionState). set_name v.writers w (bare_writer (fresh_writer (kept h) size))) is.is
       ∙ sym (map-set (λ (z : Writer). z.bare) state.writers w _))
 
-  inner-represents : (x : AnyWriter) (y : AnyEndpoint) (state : State) (at : WriterAt) → named i.writers.items w ≡ Some x → is_free i.endpoints.items e ≡ true → state_of y ≡ writer_endpoint x → Represents (made_of i) state → kept at.endpoint ≡ writer_endpoint x → at.endpoint.taken ≤ length at.endpoint.tickets
+  inner-represents : (x : WriterState) (y : EndpointState) (state : State) (at : WriterAt) → named i.writers.items w ≡ Some x → is_free i.endpoints.items e ≡ true → y ≡ writer_endpoint x → Represents (made_of i) state → kept at.endpoint ≡ writer_endpoint x → at.endpoint.taken ≤ length at.endpoint.tickets
       → Represents (made_both i (set_name i.endpoints.items e y) (freed i.writers.items w)) (without_writer state (endpoint_place e) w at)
   inner-represents x y state at was free given is same few =
       let after = endpoints_with (set_name i.endpoints.items e y) i.readers.items (freed i.writers.items w) in
@@ -121,14 +118,14 @@ module _ (i : Inside) (sound : IsSound (made_of i)) (e w : ℕ) where
       (map-freed bare_writer_of i.writers.items w ∙ ap (λ (v : SessionState). freed v.writers w) is.is ∙ sym (map-freed (λ (z : Writer). z.bare) state.writers w))
 
 -- what `writer` answers: the endpoint is a writer's
-pub writer-gives : (i : Inside) (sound : IsSound (made_of i)) (e w : ℕ) (x : AnyEndpoint) (y : AnyWriter) (size : ℕ) (state : State) → named i.endpoints.items e ≡ Some x → is_free i.writers.items w ≡ true → writer_of y ≡ fresh_writer (state_of x) size → (state_of x).address < 128 → Represents (made_of i) state
+pub writer-gives : (i : Inside) (sound : IsSound (made_of i)) (e w : ℕ) (x : EndpointState) (y : WriterState) (size : ℕ) (state : State) → named i.endpoints.items e ≡ Some x → is_free i.writers.items w ≡ true → y ≡ fresh_writer x size → direction_of_address x.address ≡ Out → Represents (made_of i) state
     → Gives (made_both i (freed i.endpoints.items e) (set_name i.writers.items w y)) ok_line (writer_answer state w (endpoint_place e) size)
 unfolding writer_answer
 writer-gives i sound e w x y size state was free fresh output is =
-    let o = open_at (made_of i) state (endpoint_place e) (state_of x) is (taken-endpoint i.endpoints.items i.readers.items i.writers.items (places-made i sound) e x was) in
+    let o = open_at (made_of i) state (endpoint_place e) x is (taken-endpoint i.endpoints.items i.readers.items i.writers.items (places-made i sound) e x was) in
     let bare : is_free state.writers w ≡ true = free-bare i sound e w state is ∙ free in
     let place : is_free state.endpoints (writer_place w) ≡ true = free-place i sound e w state is free in
-    let direction : has_direction Out (kept o.entry) ≡ true = ap (has_direction Out) o.same ∙ (out-direction (state_of x) output).1 in
+    let direction : has_direction Out (kept o.entry) ≡ true = ap (has_direction Out) o.same ∙ is-direction Out x output in
     rw (o.is, bare, place, direction) (record { state = writer-represents i sound e w x y size state o.entry was free fresh is o.same o.few; same = refl })
 
 -- or its name is in use, nothing is open under the endpoint's, or that is not an OUT endpoint
@@ -145,20 +142,20 @@ unfolding writer_answer
 writer-none i sound e w size state none is =
     rw (none_kept (made_of i) state (endpoint_place e) is (none_made i (made_of i) e sound refl none)) (barred-gives (made_of i) state is)
 
-pub writer-in : (i : Inside) (sound : IsSound (made_of i)) (e w size : ℕ) (x : AnyEndpoint) (state : State) → named i.endpoints.items e ≡ Some x → 128 ≤ (state_of x).address → Represents (made_of i) state → Gives (made_of i) condition_line (writer_answer state w (endpoint_place e) size)
+pub writer-in : (i : Inside) (sound : IsSound (made_of i)) (e w size : ℕ) (x : EndpointState) (state : State) → named i.endpoints.items e ≡ Some x → direction_of_address x.address ≢ Out → Represents (made_of i) state → Gives (made_of i) condition_line (writer_answer state w (endpoint_place e) size)
 unfolding writer_answer
-writer-in i sound e w size x state was input is =
-    let o = open_at (made_of i) state (endpoint_place e) (state_of x) is (taken-endpoint i.endpoints.items i.readers.items i.writers.items (places-made i sound) e x was) in
-    let direction : has_direction Out (kept o.entry) ≡ false = ap (has_direction Out) o.same ∙ (in-direction (state_of x) input).1 in
+writer-in i sound e w size x state was other is =
+    let o = open_at (made_of i) state (endpoint_place e) x is (taken-endpoint i.endpoints.items i.readers.items i.writers.items (places-made i sound) e x was) in
+    let direction : has_direction Out (kept o.entry) ≡ false = ap (has_direction Out) o.same ∙ not-direction Out x other in
     rw (o.is, direction) (barred-direction (made_of i) state (is_free_writer state w) (ok_answer (with_writer state w (endpoint_place e) size o.entry)) is)
 
 -- what `inner` answers: the endpoint comes back
-pub inner-gives : (i : Inside) (sound : IsSound (made_of i)) (e w : ℕ) (x : AnyWriter) (y : AnyEndpoint) (state : State) → named i.writers.items w ≡ Some x → is_free i.endpoints.items e ≡ true → state_of y ≡ writer_endpoint x → Represents (made_of i) state
+pub inner-gives : (i : Inside) (sound : IsSound (made_of i)) (e w : ℕ) (x : WriterState) (y : EndpointState) (state : State) → named i.writers.items w ≡ Some x → is_free i.endpoints.items e ≡ true → y ≡ writer_endpoint x → Represents (made_of i) state
     → Gives (made_both i (set_name i.endpoints.items e y) (freed i.writers.items w)) ok_line (writer_inner_answer state (endpoint_place e) w)
 unfolding writer_inner_answer
 inner-gives i sound e w x y state was free given is =
     let endpoint = taken-writer i.endpoints.items i.readers.items i.writers.items (places-made i sound) w x was in
-    let o = has_writer (made_of i) state w (writer_of x) is endpoint (bare-made i (made_of i) w x refl was) in
+    let o = has_writer (made_of i) state w x is endpoint (bare-made i (made_of i) w x refl was) in
     let own : is_free state.endpoints (endpoint_place e) ≡ true = free-own i sound e w state is ∙ free in
     rw (o.has.is, own) (record { state = inner-represents i sound e w x y state o.at was free given is (ap (λ (z : WriterState). z.endpoint) o.has.same) o.few; same = refl })
 
@@ -176,5 +173,5 @@ unfolding writer_inner_answer
 inner-none i sound e w state none is = rw (no_writer_at i (made_of i) w w refl none refl state is) (barred-gives (made_of i) state is)
 
 -- by what the code left
-pub both-same : (P : SessionState → Type 0) (i : Inside) (es mid : List (Option AnyEndpoint)) (ws after : List (Option AnyWriter)) → mid ≡ es → after ≡ ws → P (made_both i es ws) → P (made_both i mid after)
+pub both-same : (P : SessionState → Type 0) (i : Inside) (es mid : List (Option EndpointState)) (ws after : List (Option WriterState)) → mid ≡ es → after ≡ ws → P (made_both i es ws) → P (made_both i mid after)
 both-same P i es mid ws after e w holds = subst (λ l. P (made_both i l after)) (sym e) (subst (λ l. P (made_both i es l)) (sym w) holds)

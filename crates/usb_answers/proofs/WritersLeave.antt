@@ -13,7 +13,7 @@ use Rattle.usb_io.specs.Answered.{Answered}
 use Rattle.usb_io.specs.WriteAnswers.{write_came, flush_came, flush_end_came, poll_flush_end_came, submit_came, submit_end_came}
 use Rattle.usb_host.specs.HostCalls.{host_calls}
 use Rattle.usb_writer_lines.specs.Needs.{bars_call, write_need, flush_need, finish_need, poll_finish_need}
-use Rattle.usb_writer_lines.specs.Printed.{written_line, flushed_line, polled, submitted_to}
+use Rattle.usb_writer_lines.specs.Printed.{written_line, flushed_line, poll_line, submitted_to}
 use Rattle.usb_script.specs.declared.item.Item.{Item}
 use Rattle.usb_script.specs.declared.item.Item.TheVariants as item
 use Rattle.usb_names.specs.Names.{named, is_free, freed}
@@ -128,7 +128,7 @@ unfolding poll_write_answer
 poll_write-leaves state w src =
     open-leaves state (writer_at state w) (poll_write_on state w src) (λ x.
     let a = write_came host_calls 0 src (writing_at state x) in
-    called-leaves state w x (write_need (state_of_writer x)) (written_calls src a.answer) (polled written_line) a)
+    called-leaves state w x (write_need (state_of_writer x)) (written_calls src a.answer) (poll_line written_line) a)
 
 submit-leaves : (state : State) (w : ℕ) → Leaves state (submit_buffer_answer state w)
 unfolding submit_buffer_answer
@@ -153,7 +153,7 @@ poll_flush-leaves : (state : State) (w : ℕ) → Leaves state (poll_flush_answe
 unfolding poll_flush_answer
 poll_flush-leaves state w =
     open-leaves state (writer_at state w) (poll_flush_on state w) (λ x.
-    called-leaves state w x (flush_need (state_of_writer x)) (Flush ∷ []) (polled flushed_line) (flush_came host_calls 0 (writing_at state x)))
+    called-leaves state w x (flush_need (state_of_writer x)) (Flush ∷ []) (poll_line flushed_line) (flush_came host_calls 0 (writing_at state x)))
 
 flush_end-leaves : (state : State) (w : ℕ) (steps : List KernelStep) → Leaves state (flush_end_answer state w steps)
 unfolding flush_end_answer
@@ -166,7 +166,7 @@ poll_flush_end-leaves : (state : State) (w : ℕ) → Leaves state (poll_flush_e
 unfolding poll_flush_end_answer
 poll_flush_end-leaves state w =
     open-leaves state (writer_at state w) (poll_flush_end_on state w) (λ x.
-    called-leaves state w x (poll_finish_need (state_of_writer x)) (begun_calls x.writer.bare.begun) (polled flushed_line) (poll_flush_end_came host_calls (writing_at state x)))
+    called-leaves state w x (poll_finish_need (state_of_writer x)) (begun_calls x.writer.bare.begun) (poll_line flushed_line) (poll_flush_end_came host_calls (writing_at state x)))
 
 -- each line
 others-leave_readers : (state : State) (line : Item) → is_streamed line ≡ false → LeavesReaders state (line_answer state line).state

@@ -25,13 +25,13 @@ use Rattle.usb_io.specs.Answered.{Answered}
 use Rattle.usb_io.specs.WriteAnswers.{write_came, flush_came, flush_end_came, poll_flush_end_came, submit_came, submit_end_came}
 use Rattle.usb_io.proofs.CarriedLaws.{fresh_tells, later_tells}
 use Rattle.usb_streams.specs.Numbers.{numbers_from}
-use Rattle.usb_writes.specs.Laws.{CallGoesOn}
-use Rattle.usb_writes.specs.Told.{WriterCalls, no_calls, with_calls, failures_of, failures_at, IsComplete, CallTells}
-use Rattle.usb_writes.proofs.CallsGoOn.{write_goes_on, flush_goes_on, flush_end_goes_on, poll_flush_end_goes_on, submit_goes_on, submit_end_goes_on}
-use Rattle.usb_writes.proofs.TicketMoves.{complete-later, failures-later, failures-append}
-use Rattle.usb_writes.proofs.Tells.{write-tells, flush-tells, flush_end-tells, poll_flush_end-tells, submit-tells, submit_end-tells}
+use Rattle.usb_streams.specs.WriterCalls.{WriterGoesOn}
+use Rattle.usb_streams.specs.Told.{WriterCalls, no_calls, with_calls, failures_of, failures_at, IsComplete, CallTells}
+use Rattle.usb_streams.proofs.WritesGoOn.{write_goes_on, flush_goes_on, flush_end_goes_on, poll_flush_end_goes_on, submit_goes_on, submit_end_goes_on}
+use Rattle.usb_streams.proofs.TicketMoves.{complete-later, failures-later, failures-append}
+use Rattle.usb_streams.proofs.Tells.{write-tells, flush-tells, flush_end-tells, poll_flush_end-tells, submit-tells, submit_end-tells}
 use Rattle.usb_writer_lines.specs.Needs.{bars_call, write_need, flush_need, finish_need, poll_finish_need}
-use Rattle.usb_writer_lines.specs.Printed.{written_line, flushed_line, polled, submitted_to}
+use Rattle.usb_writer_lines.specs.Printed.{written_line, flushed_line, poll_line, submitted_to}
 use Rattle.usb_names.specs.Names.{named, is_free, freed, change_named}
 use Rattle.usb_names.proofs.NameLemmas.{length-freed, length-set_name, named-change_same, named-change_other, named-freed, named-freed_other, named-set, named-set_other}
 use Rattle.usb_answers.specs.BareWriters.{bare_writer, writer_with}
@@ -317,7 +317,7 @@ close-tell state w extends f = by (named state.endpoints (writer_place w)) exten
 abbrev called_at : State → WriterAt → Option WriterCalls → Writing HostState → WriterAt
 called_at state x calls v = at_of (record { bare = bare_writer v.writer; calls = calls }) (called_endpoint (tickets_of state) (tickets_of (with_host state v.bus)) v.writer.endpoint.pending x.endpoint)
 
-called-tells : (state : State) (x : WriterAt) (v : Writing HostState) (before : WriterCalls) (accepted : List Call) (failures : List TransferError) (now : Option WriterCalls) → CallGoesOn (writing_at state x) v → CallTells (writing_at state x) v accepted failures
+called-tells : (state : State) (x : WriterAt) (v : Writing HostState) (before : WriterCalls) (accepted : List Call) (failures : List TransferError) (now : Option WriterCalls) → WriterGoesOn (writing_at state x) v → CallTells (writing_at state x) v accepted failures
     → TellsAt state.host.kernel.past x before → TellsAt v.bus.kernel.past (called_at state x now v) (with_calls accepted failures before)
 called-tells state x v before accepted failures now goes t was =
     let old = state.host.kernel.past in
@@ -371,7 +371,7 @@ before-of : (accepted : List Call) (failures : List TransferError) (o : Option W
 before-of accepted failures None c is = absurd (none-some c is)
 before-of accepted failures (Some before) c is = record { before = before; was = refl; is = same_Some (with_calls accepted failures before) c is }
 
-call-tell : (state : State) (w : ℕ) (x : WriterAt) (accepted : List Call) (failures : List TransferError) (v : Writing HostState) → writer_at state w ≡ Some x → CallGoesOn (writing_at state x) v → (x.endpoint.address < 128 → CallTells (writing_at state x) v accepted failures)
+call-tell : (state : State) (w : ℕ) (x : WriterAt) (accepted : List Call) (failures : List TransferError) (v : Writing HostState) → writer_at state w ≡ Some x → WriterGoesOn (writing_at state x) v → (x.endpoint.address < 128 → CallTells (writing_at state x) v accepted failures)
     → AllTell state → AllTell (writer_called state w (option_map (with_calls accepted failures) x.writer.calls) v)
 call-tell state w x accepted failures v at goes tells f =
     let now = option_map (with_calls accepted failures) x.writer.calls in
@@ -399,7 +399,7 @@ stepped-tell state steps f = rested-tell (lent state steps) (lent-tell state ste
 
 -- what a call is to its writer where it is made
 record ToldCall {A : Type 0} (state : State) (x : WriterAt) (calls : List Call) (a : Answered A WriteFault (Writing HostState)) : Type 0 where
-  goes : CallGoesOn (writing_at state x) a.left
+  goes : WriterGoesOn (writing_at state x) a.left
   tells : x.endpoint.address < 128 → CallTells (writing_at state x) a.left calls (failures_of a.answer)
 
 called_as-tell : {A : Type 0} (state : State) (w : ℕ) (x : WriterAt) (need : ℕ) (calls : List Call) (line : Result A WriteFault → List ℕ) (a : Answered A WriteFault (Writing HostState)) → writer_at state w ≡ Some x → ToldCall state x calls a → AllTell state → AllTell (called_as state w x need calls line a).state
@@ -440,7 +440,7 @@ poll_write-tell state w src f =
     open-tell state w (poll_write_on state w src) f (λ x at.
     let v = writing_at state x in
     let a = write_came host_calls 0 src v in
-    called_as-tell state w x (write_need (state_of_writer x)) (written_calls src a.answer) (polled written_line) a at (record { goes = write_goes_on 0 src v; tells = write-tells 0 src v }) f)
+    called_as-tell state w x (write_need (state_of_writer x)) (written_calls src a.answer) (poll_line written_line) a at (record { goes = write_goes_on 0 src v; tells = write-tells 0 src v }) f)
 
 pub submit-tell : (state : State) (w : ℕ) → AllTell state → AllTell (submit_buffer_answer state w).state
 unfolding submit_buffer_answer
@@ -470,7 +470,7 @@ unfolding poll_flush_answer
 poll_flush-tell state w f =
     open-tell state w (poll_flush_on state w) f (λ x at.
     let v = writing_at state x in
-    called_as-tell state w x (flush_need (state_of_writer x)) (Flush ∷ []) (polled flushed_line) (flush_came host_calls 0 v) at (record { goes = flush_goes_on 0 v; tells = flush-tells 0 v }) f)
+    called_as-tell state w x (flush_need (state_of_writer x)) (Flush ∷ []) (poll_line flushed_line) (flush_came host_calls 0 v) at (record { goes = flush_goes_on 0 v; tells = flush-tells 0 v }) f)
 
 pub flush_end-tell : (state : State) (w : ℕ) (steps : List KernelStep) → AllTell state → AllTell (flush_end_answer state w steps).state
 unfolding flush_end_answer
@@ -486,4 +486,4 @@ unfolding poll_flush_end_answer
 poll_flush_end-tell state w f =
     open-tell state w (poll_flush_end_on state w) f (λ x at.
     let v = writing_at state x in
-    called_as-tell state w x (poll_finish_need (state_of_writer x)) (begun_calls x.writer.bare.begun) (polled flushed_line) (poll_flush_end_came host_calls v) at (record { goes = poll_flush_end_goes_on v; tells = poll_flush_end-tells v }) f)
+    called_as-tell state w x (poll_finish_need (state_of_writer x)) (begun_calls x.writer.bare.begun) (poll_line flushed_line) (poll_flush_end_came host_calls v) at (record { goes = poll_flush_end_goes_on v; tells = poll_flush_end-tells v }) f)

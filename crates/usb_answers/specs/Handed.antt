@@ -3,7 +3,7 @@ use Rattle.std.specs.Prelude.{ℕ, ◌≡◌, List, ◌++◌, take, All, Some}
 use Rattle.usb_kernel.specs.declared.event.Event.{Event}
 use Rattle.usb_script.specs.declared.item.Item.{Item as Line}
 use Rattle.usb_streams.specs.Handed.{completed_bytes}
-use Rattle.usb_writes.specs.Told.{IsComplete}
+use Rattle.usb_streams.specs.Told.{IsComplete}
 use Rattle.usb_answers.specs.State.{State, pending}
 use Rattle.usb_answers.specs.ReaderAt.{ReaderAt, reader_at}
 use Rattle.usb_answers.specs.Output.{start, behind}

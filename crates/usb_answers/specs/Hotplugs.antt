@@ -1,9 +1,9 @@
 -- `hotplug`: the next packet of udev is looked at, if there is one.
 use Rattle.std.specs.Prelude.{drop}
-use Rattle.usb_enum.specs.Hotplug.{polled}
+use Rattle.usb_enum.specs.Hotplug.{hotplug_polled}
 use Rattle.usb_listings.specs.Events.{hotplug_line}
 use Rattle.usb_answers.specs.State.{State}
 use Rattle.usb_answers.specs.Answer.{Answer, told}
 
 unfoldable pub hotplug_answer : State → Answer
-hotplug_answer state = told (record state { packets = drop 1 state.packets }) (hotplug_line (polled state.tree state.packets))
+hotplug_answer state = told (record state { packets = drop 1 state.packets }) (hotplug_line (hotplug_polled state.tree state.packets))

@@ -1,6 +1,6 @@
 -- `reader`, `inner`, `num`, `timeout`, `cancel` and `close` of a reader, which are barred where it is not open (`reader`: where
 -- the endpoint isn't, or the reader's name is in use).
-use Rattle.std.specs.Prelude.{ℕ, ◌+◌, ◌-◌, ◌||◌, ◌&&◌, nat_lt, Bool, true, List, [], ◌++◌, length, take, Option, Some, None, if◌then◌else◌}
+use Rattle.std.specs.Prelude.{ℕ, ◌-◌, ◌||◌, ◌&&◌, nat_lt, Bool, true, List, [], ◌++◌, length, take, Option, Some, None, if◌then◌else◌}
 use Rattle.usb_desc.specs.declared.types.Direction.TheVariants.{In}
 use Rattle.usb_endpoint.specs.Closes.{all_discarded, after_close}
 use Rattle.usb_host.specs.HostState.{HostState}

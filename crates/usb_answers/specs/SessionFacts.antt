@@ -3,44 +3,40 @@ use Rattle.std.specs.Prelude.{ℕ, List, Option, map, ◌++◌}
 use Rattle.std.specs.Option.{option_map}
 use Rattle.usb_sysfs.specs.Tree.{Tree}
 use Rattle.usb_enum.specs.declared.hotplug.UdevPacket.{UdevPacket}
-use Rattle.usb_endpoint.specs.declared.any_endpoint.AnyEndpoint.{AnyEndpoint}
-use Rattle.usb_endpoint.specs.AnyEndpoints.{state_of}
 use Rattle.usb_endpoint.specs.EndpointState.{EndpointState}
 use Rattle.usb_host.specs.HostState.{HostState}
 use Rattle.usb_device.specs.HandleStates.{InterfaceState}
 use Rattle.usb_device.specs.Futures.{FutureState}
-use Rattle.usb_io.specs.declared.any_reader.AnyReader.{AnyReader}
-use Rattle.usb_io.specs.AnyReaders.{reader_of}
-use Rattle.usb_writes.specs.declared.any_writer.AnyWriter.{AnyWriter}
-use Rattle.usb_writes.specs.AnyWriters.{writer_of}
+use Rattle.usb_io.specs.Readers.{ReaderState}
+use Rattle.usb_io.specs.Writers.{WriterState}
 use Rattle.usb_answers.specs.declared.session.Session.TheInside.{Inside}
 use Rattle.usb_answers.specs.BareReaders.{BareReader, bare_of}
 use Rattle.usb_answers.specs.BareWriters.{BareWriter, bare_writer}
 use Rattle.usb_answers.specs.SessionState.{SessionState, IsSound}
 
 -- the endpoint of a reader
-abbrev pub endpoint_of : AnyReader → EndpointState
-endpoint_of r = (reader_of r).endpoint
+abbrev pub endpoint_of : ReaderState → EndpointState
+endpoint_of r = r.endpoint
 
 -- and the rest of it
-abbrev pub bare_reader_of : AnyReader → BareReader
-bare_reader_of r = bare_of (reader_of r)
+abbrev pub bare_reader_of : ReaderState → BareReader
+bare_reader_of r = bare_of r
 
 -- the endpoint of a writer
-abbrev pub writer_endpoint : AnyWriter → EndpointState
-writer_endpoint w = (writer_of w).endpoint
+abbrev pub writer_endpoint : WriterState → EndpointState
+writer_endpoint w = w.endpoint
 
 -- and the rest of it
-abbrev pub bare_writer_of : AnyWriter → BareWriter
-bare_writer_of w = bare_writer (writer_of w)
+abbrev pub bare_writer_of : WriterState → BareWriter
+bare_writer_of w = bare_writer w
 
 -- the endpoints that are open, and behind them those of the readers, and then those of the writers
-abbrev pub endpoints_with : List (Option AnyEndpoint) → List (Option AnyReader) → List (Option AnyWriter) → List (Option EndpointState)
+abbrev pub endpoints_with : List (Option EndpointState) → List (Option ReaderState) → List (Option WriterState) → List (Option EndpointState)
 endpoints_with endpoints readers writers =
-    map (option_map state_of) endpoints ++ (map (option_map endpoint_of) readers ++ map (option_map writer_endpoint) writers)
+    endpoints ++ (map (option_map endpoint_of) readers ++ map (option_map writer_endpoint) writers)
 
 -- a session by its parts
-abbrev pub session_made : Tree → List UdevPacket → HostState → List (Option ℕ) → List (Option InterfaceState) → List (Option AnyEndpoint) → List (Option AnyReader) → List (Option AnyWriter) → List (Option FutureState) → SessionState
+abbrev pub session_made : Tree → List UdevPacket → HostState → List (Option ℕ) → List (Option InterfaceState) → List (Option EndpointState) → List (Option ReaderState) → List (Option WriterState) → List (Option FutureState) → SessionState
 session_made tree packets host devices interfaces endpoints readers writers futures =
     record {
       host = host;

@@ -9,7 +9,7 @@ use Rattle.usb_host.specs.HostState.{HostState}
 use Rattle.usb_device.specs.HandleStates.{InterfaceState}
 use Rattle.usb_device.specs.Futures.{FutureState}
 use Rattle.usb_io.specs.Streams.{Item}
-use Rattle.usb_writes.specs.Told.{WriterCalls}
+use Rattle.usb_streams.specs.Told.{WriterCalls}
 use Rattle.usb_answers.specs.BareReaders.{BareReader}
 use Rattle.usb_answers.specs.BareWriters.{BareWriter}
 

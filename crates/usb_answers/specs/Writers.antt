@@ -5,7 +5,7 @@ use Rattle.usb_desc.specs.declared.types.Direction.TheVariants.{Out}
 use Rattle.usb_endpoint.specs.Closes.{after_close}
 use Rattle.usb_host.specs.HostCalls.{host_calls}
 use Rattle.usb_io.specs.Writers.{fresh_writer}
-use Rattle.usb_writes.specs.Told.{WriterCalls, no_calls}
+use Rattle.usb_streams.specs.Told.{WriterCalls, no_calls}
 use Rattle.usb_names.specs.Names.{named, is_free, freed, set_name, change_named}
 use Rattle.usb_writer_lines.specs.Needs.{bars_transfers}
 use Rattle.usb_answers.specs.State.{State, Endpoint, Writer, kept}

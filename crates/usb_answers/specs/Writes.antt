@@ -11,9 +11,9 @@ use Rattle.usb_io.specs.Carried.{written_calls, begun_calls}
 use Rattle.usb_io.specs.Answered.{Answered}
 use Rattle.usb_io.specs.WriteAnswers.{write_came, flush_came, flush_end_came, poll_flush_end_came, submit_came, submit_end_came}
 use Rattle.usb_host.specs.HostCalls.{host_calls}
-use Rattle.usb_writes.specs.Told.{WriterCalls, with_calls, failures_of}
+use Rattle.usb_streams.specs.Told.{WriterCalls, with_calls, failures_of}
 use Rattle.usb_writer_lines.specs.Needs.{bars_call, write_need, flush_need, finish_need, poll_finish_need}
-use Rattle.usb_writer_lines.specs.Printed.{written_line, flushed_line, polled, submitted_to}
+use Rattle.usb_writer_lines.specs.Printed.{written_line, flushed_line, poll_line, submitted_to}
 use Rattle.usb_names.specs.Names.{change_named}
 use Rattle.usb_answers.specs.State.{State, tickets_of, with_host}
 use Rattle.usb_answers.specs.BareWriters.{bare_writer}
@@ -52,7 +52,7 @@ write_answer state w src steps =
 
 -- one that doesn't wait
 abbrev pub poll_write_on : State → ℕ → List ℕ → WriterAt → Answer
-poll_write_on state w src x = wrote_as state w src x (polled written_line) (write_came host_calls 0 src (writing_at state x))
+poll_write_on state w src x = wrote_as state w src x (poll_line written_line) (write_came host_calls 0 src (writing_at state x))
 
 -- `pollwrite`
 unfoldable pub poll_write_answer : State → ℕ → List ℕ → Answer
@@ -89,7 +89,7 @@ flush_answer state w steps =
 -- and without a wait
 abbrev pub poll_flush_on : State → ℕ → WriterAt → Answer
 poll_flush_on state w x =
-    called_as state w x (flush_need (state_of_writer x)) (Flush ∷ []) (polled flushed_line) (flush_came host_calls 0 (writing_at state x))
+    called_as state w x (flush_need (state_of_writer x)) (Flush ∷ []) (poll_line flushed_line) (flush_came host_calls 0 (writing_at state x))
 
 -- `pollflush`
 unfoldable pub poll_flush_answer : State → ℕ → Answer
@@ -108,7 +108,7 @@ flush_end_answer state w steps =
 -- and without a wait: it ends the message where no end has begun
 abbrev pub poll_flush_end_on : State → ℕ → WriterAt → Answer
 poll_flush_end_on state w x =
-    called_as state w x (poll_finish_need (state_of_writer x)) (begun_calls x.writer.bare.begun) (polled flushed_line) (poll_flush_end_came host_calls (writing_at state x))
+    called_as state w x (poll_finish_need (state_of_writer x)) (begun_calls x.writer.bare.begun) (poll_line flushed_line) (poll_flush_end_came host_calls (writing_at state x))
 
 -- `pollflushend`
 unfoldable pub poll_flush_end_answer : State → ℕ → Answer

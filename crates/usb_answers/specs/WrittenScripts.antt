@@ -4,7 +4,7 @@ use Rattle.usb_kernel.specs.declared.event.Event.{Event}
 use Rattle.usb_script.specs.declared.item.Item.{Item as Line}
 use Rattle.usb_io.specs.Writes.{Written, written}
 use Rattle.usb_io.specs.Carried.{AllCarry}
-use Rattle.usb_writes.specs.Told.{WriterCalls, failures_at}
+use Rattle.usb_streams.specs.Told.{WriterCalls, failures_at}
 use Rattle.usb_answers.specs.State.{State}
 use Rattle.usb_answers.specs.WriterAt.{WriterAt, writer_at}
 use Rattle.usb_answers.specs.Output.{start, behind}

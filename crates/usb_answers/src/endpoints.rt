@@ -3,12 +3,10 @@
 ghost use Rattle.std.specs.Prelude.{◌≡◌, OnOk, IfOk, string_bytes};
 ghost use Rattle.usb_words.specs.EndpointKinds.{transfer_type_of, direction_of};
 ghost use Rattle.usb_endpoint.specs.Handles.{Stands, KeepsOthers};
-ghost use Rattle.usb_endpoint.specs.AnyEndpoints.{state_of};
 ghost use Rattle.usb_host.specs.HostBus.{bus_of};
 ghost use Rattle.usb_answers.specs.ReaderAt.{endpoint_place};
 ghost use Rattle.usb_device.specs.HandleStates.{StandsInterface};
 ghost use Rattle.usb_host.specs.EndpointOpens.{OpensEndpoint};
-ghost use Rattle.usb_error.specs.Outcomes.{result_map};
 ghost use Rattle.usb_answers.specs.State.{State};
 ghost use Rattle.usb_answers.specs.Answered.{Answers};
 ghost use Rattle.usb_answers.specs.Endpoints.{endpoint_answer};
@@ -16,11 +14,29 @@ ghost use Rattle.usb_answers.specs.Endpoints.{endpoint_answer};
 use crate::session::Session;
 use usb_desc::{Fail, NoMemory};
 use usb_device::{Host, Interface};
-use usb_endpoint::AnyEndpoint;
+use usb_endpoint::Endpoint;
 use usb_error::Error;
 use usb_lines::{write_condition, write_error, write_ok};
 use usb_names::{is_free, open_at, put_at};
 use usb_script::{EndpointKind, Name};
+use usb_xfer::{Any, Bulk, In, Interrupt, KnownDirection, KnownType, Out};
+
+/// Opens an endpoint of an interface, whose type and direction its caller need not know.
+fn open<T: KnownType, D: KnownDirection>(
+    host: &mut Host,
+    interface: &Interface,
+    address: u8,
+) -> Result<Endpoint<Any, Any>, Fail<Error>>
+    requires stands { StandsInterface host.old interface.now }
+    ensures opens { OpensEndpoint host.old host.new interface.now.key address T.TYPE D.DIR result }
+    ensures stands { IfOk result (Stands (bus_of host.new)) }
+    ensures others { IfOk result (λ e. KeepsOthers (bus_of host.old) (bus_of host.new) e.key) }
+{
+    match interface.endpoint::<T, D>(host, address) {
+        Ok(endpoint) => Ok(endpoint.widen()),
+        Err(error) => Err(error),
+    }
+}
 
 /// Opens an endpoint of an interface, of any kind that a script names.
 fn open_any(
@@ -28,31 +44,18 @@ fn open_any(
     interface: &Interface,
     address: u8,
     kind: EndpointKind,
-) -> Result<AnyEndpoint, Fail<Error>>
+) -> Result<Endpoint<Any, Any>, Fail<Error>>
     requires stands { StandsInterface host.old interface.now }
     ensures opens { OpensEndpoint host.old host.new interface.now.key address
-        (transfer_type_of kind) (direction_of kind) (result_map state_of result) }
-    ensures stands { IfOk result (λ e. Stands (bus_of host.new) (state_of e)) }
-    ensures others { IfOk result
-        (λ e. KeepsOthers (bus_of host.old) (bus_of host.new) (state_of e).key) }
+        (transfer_type_of kind) (direction_of kind) result }
+    ensures stands { IfOk result (Stands (bus_of host.new)) }
+    ensures others { IfOk result (λ e. KeepsOthers (bus_of host.old) (bus_of host.new) e.key) }
 {
     match kind {
-        EndpointKind::BulkIn => match interface.endpoint(host, address) {
-            Ok(endpoint) => Ok(AnyEndpoint::BulkIn(endpoint)),
-            Err(error) => Err(error),
-        },
-        EndpointKind::BulkOut => match interface.endpoint(host, address) {
-            Ok(endpoint) => Ok(AnyEndpoint::BulkOut(endpoint)),
-            Err(error) => Err(error),
-        },
-        EndpointKind::InterruptIn => match interface.endpoint(host, address) {
-            Ok(endpoint) => Ok(AnyEndpoint::InterruptIn(endpoint)),
-            Err(error) => Err(error),
-        },
-        EndpointKind::InterruptOut => match interface.endpoint(host, address) {
-            Ok(endpoint) => Ok(AnyEndpoint::InterruptOut(endpoint)),
-            Err(error) => Err(error),
-        },
+        EndpointKind::BulkIn => open::<Bulk, In>(host, interface, address),
+        EndpointKind::BulkOut => open::<Bulk, Out>(host, interface, address),
+        EndpointKind::InterruptIn => open::<Interrupt, In>(host, interface, address),
+        EndpointKind::InterruptOut => open::<Interrupt, Out>(host, interface, address),
     }
 }
 

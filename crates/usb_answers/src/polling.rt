@@ -2,7 +2,6 @@
 
 ghost use Rattle.std.specs.Prelude.{◌≡◌, slice_get};
 ghost use Rattle.usb_endpoint.specs.Handles.{Stands};
-ghost use Rattle.usb_endpoint.specs.AnyEndpoints.{state_of};
 ghost use Rattle.usb_host.specs.HostBus.{bus_of};
 ghost use Rattle.usb_answers.specs.ReaderAt.{endpoint_place};
 ghost use Rattle.usb_answers.specs.Pending.{pending_answer};
@@ -14,16 +13,21 @@ use crate::session::Session;
 use futures::task::Poll;
 use usb_desc::NoMemory;
 use usb_device::Host;
-use usb_endpoint::AnyEndpoint;
+use usb_endpoint::Endpoint;
 use usb_lines::{write_condition, write_count, write_polled};
 use usb_names::{open_at, put_at, take_at};
 use usb_script::Name;
+use usb_xfer::Any;
 
 /// Polls an endpoint that is open.
-fn poll_open(endpoint: &mut AnyEndpoint, host: &mut Host, line: &mut String) -> Result<(), NoMemory>
-    requires stands { Stands (bus_of host.old) (state_of endpoint.old) }
-    ensures keeps { CallKeeps host.old host.new (state_of endpoint.old) (state_of endpoint.new) }
-    ensures answered { CallAnswers host.old host.new (state_of endpoint.old) (state_of endpoint.new)
+fn poll_open(
+    endpoint: &mut Endpoint<Any, Any>,
+    host: &mut Host,
+    line: &mut String,
+) -> Result<(), NoMemory>
+    requires stands { Stands (bus_of host.old) endpoint.old }
+    ensures keeps { CallKeeps host.old host.new endpoint.old endpoint.new }
+    ensures answered { CallAnswers host.old host.new endpoint.old endpoint.new
         line.old line.new result (λ state e h. poll_on state e (slice_get h.tickets h.taken)) }
 {
     if endpoint.pending() == 0 {

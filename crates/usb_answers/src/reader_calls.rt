@@ -4,7 +4,6 @@
 ghost use Rattle.std.specs.Prelude.{◌≡◌, ◌≤◌, ◌+◌, length};
 ghost use Rattle.usb_endpoint.specs.Handles.{Stands};
 ghost use Rattle.usb_host.specs.HostBus.{bus_of};
-ghost use Rattle.usb_io.specs.AnyReaders.{reader_of};
 ghost use Rattle.usb_answers.specs.CalledReaders.{call_on, called_answer, waited_answer};
 ghost use Rattle.usb_answers.specs.Answered.{Answers};
 ghost use Rattle.usb_answers.specs.OpenCalls.{CallKeeps};
@@ -16,10 +15,11 @@ use crate::reading::{poll_read_open, read_open};
 use crate::session::Session;
 use usb_desc::NoMemory;
 use usb_device::Host;
-use usb_io::AnyReader;
+use usb_io::EndpointRead;
 use usb_lines::write_condition;
 use usb_names::{put_at, take_at};
 use usb_script::{Framing, Length, Name, ReadLength, Steps};
+use usb_xfer::Any;
 
 /// A call on a reader.
 #[derive(Clone, Copy)]
@@ -45,16 +45,16 @@ pub(crate) enum ReaderCall {
 
 /// Calls a reader that is open.
 fn call_open(
-    reader: &mut AnyReader,
+    reader: &mut EndpointRead<Any>,
     host: &mut Host,
     line: &mut String,
     call: ReaderCall,
 ) -> Result<(), NoMemory>
-    requires stands { Stands (bus_of host.old) (reader_of reader.old).endpoint }
-    ensures keeps { CallKeeps host.old host.new (reader_of reader.old).endpoint
-        (reader_of reader.new).endpoint }
-    ensures answered { ReaderAnswers host.old host.new (reader_of reader.old)
-        (reader_of reader.new) line.old line.new result (call_on call) }
+    requires stands { Stands (bus_of host.old) reader.old.endpoint }
+    ensures keeps { CallKeeps host.old host.new reader.old.endpoint
+        reader.new.endpoint }
+    ensures answered { ReaderAnswers host.old host.new reader.old
+        reader.new line.old line.new result (call_on call) }
 {
     match call {
         ReaderCall::Read(framing, most) => read_open(reader, host, line, framing, most),

@@ -11,10 +11,11 @@ ghost use Rattle.usb_answers.specs.Answered.{Answers};
 
 use crate::session::Session;
 use usb_desc::NoMemory;
-use usb_io::AnyReader;
+use usb_io::EndpointRead;
 use usb_lines::{write_condition, write_ok};
 use usb_names::{is_free, put_at, take_at};
 use usb_script::{Length, Name};
+use usb_xfer::{Any, In};
 
 impl Session {
     /// `reader`: a reader is made of an IN endpoint under a name that is free, and the endpoint's
@@ -38,8 +39,9 @@ impl Session {
         let Some(endpoint) = take_at(&mut self.endpoints, number) else {
             return write_condition(line);
         };
-        match AnyReader::new(endpoint, transfer_size.bytes() as usize) {
-            Ok(made) => {
+        match endpoint.narrow::<Any, In>() {
+            Ok(endpoint) => {
+                let made = EndpointRead::new(endpoint, transfer_size.bytes() as usize);
                 put_at(&mut self.readers, name, made);
                 write_ok(line)
             }
@@ -70,7 +72,7 @@ impl Session {
         let Some(reader) = take_at(&mut self.readers, number) else {
             return write_condition(line);
         };
-        put_at(&mut self.endpoints, name, reader.into_inner());
+        put_at(&mut self.endpoints, name, reader.into_inner().widen());
         write_ok(line)
     }
 

@@ -1,12 +1,11 @@
 //! `num`, `timeout` and `cancel` of a reader, and what it does without the host: `consume`,
 //! `sconsume`, `isend` and `endmsg`.
 
-ghost use Rattle.std.specs.Prelude.{◌≡◌, ◌≤◌, ◌-◌, ◌||◌, nat_lt, length};
+ghost use Rattle.std.specs.Prelude.{◌≡◌, ◌≤◌, ◌-◌, ◌||◌, true, false, nat_lt, length, OnOk, OnErr};
 ghost use Rattle.usb_endpoint.specs.Handles.{Stands};
 ghost use Rattle.usb_host.specs.HostState.{HostState};
 ghost use Rattle.usb_host.specs.HostBus.{bus_of};
-ghost use Rattle.usb_io.specs.AnyReaders.{reader_of};
-ghost use Rattle.usb_io.specs.Readers.{with_read};
+ghost use Rattle.usb_io.specs.Readers.{with_read, without_end, is_end};
 ghost use Rattle.usb_writer_lines.specs.Needs.{bars_need};
 ghost use Rattle.usb_answers.specs.Readers.{num_on, timeout_on, timeout_answer, cancel_reader_on};
 ghost use Rattle.usb_answers.specs.Reads.{consume_on, is_end_answer, consume_end_on};
@@ -17,19 +16,20 @@ ghost use Rattle.usb_answers.specs.ReaderCalls.{ReaderAnswers};
 use crate::session::Session;
 use usb_desc::NoMemory;
 use usb_device::Host;
-use usb_io::AnyReader;
+use usb_io::{EndpointRead, ExpectedShortPacket};
 use usb_lines::{write_condition, write_ok};
 use usb_names::{open_at, put_at, take_at};
 use usb_script::{Framing, Length, Name, Timeout};
 use usb_stream_lines::{write_consumed_end, write_is_end};
 use usb_writer_lines::{MOST_PENDING, bars_need};
+use usb_xfer::Any;
 
 /// Whether a number of transfers can't be set: it is too large, or the submissions that are missing
 /// of one less are barred.
-fn bars_count(host: &Host, reader: &AnyReader, count: usize) -> bool
+fn bars_count(host: &Host, reader: &EndpointRead<Any>, count: usize) -> bool
     ensures barred { result ≡ (nat_lt 64 count || bars_need host.now.kernel.past
-        (length (reader_of reader.now).endpoint.pending)
-        (count - 1 - length (reader_of reader.now).endpoint.pending)) }
+        (length reader.now.endpoint.pending)
+        (count - 1 - length reader.now.endpoint.pending)) }
 {
     let pending = reader.pending();
     let need = count.saturating_sub(1).saturating_sub(pending);
@@ -38,31 +38,35 @@ fn bars_count(host: &Host, reader: &AnyReader, count: usize) -> bool
 
 /// Sets how many transfers of a reader that is open are to be pending.
 pub(crate) fn num_open(
-    reader: &mut AnyReader,
+    reader: &mut EndpointRead<Any>,
     host: &mut Host,
     line: &mut String,
     count: u32,
 ) -> Result<(), NoMemory>
-    requires stands { Stands (bus_of host.old) (reader_of reader.old).endpoint }
-    ensures keeps { CallKeeps host.old host.new (reader_of reader.old).endpoint
-        (reader_of reader.new).endpoint }
-    ensures answered { ReaderAnswers host.old host.new (reader_of reader.old)
-        (reader_of reader.new) line.old line.new result
+    requires stands { Stands (bus_of host.old) reader.old.endpoint }
+    ensures keeps { CallKeeps host.old host.new reader.old.endpoint
+        reader.new.endpoint }
+    ensures answered { ReaderAnswers host.old host.new reader.old
+        reader.new line.old line.new result
         (λ state r at. num_on state r count at) }
 {
     let count = count as usize;
     if bars_count(host, reader, count) {
         return write_condition(line);
     }
-    usb_streams::set_num_transfers(reader, host, count)?;
+    reader.set_num_transfers(host, count)?;
     write_ok(line)
 }
 
 /// Sets the timeout of the waits of a reader that is open.
-fn timeout_open(reader: &mut AnyReader, line: &mut String, timeout: Timeout) -> Result<(), NoMemory>
-    ensures endpoint { (reader_of reader.new).endpoint ≡ (reader_of reader.old).endpoint }
-    ensures answered { (host : HostState) → ReaderAnswers host host (reader_of reader.old)
-        (reader_of reader.new) line.old line.new result
+fn timeout_open(
+    reader: &mut EndpointRead<Any>,
+    line: &mut String,
+    timeout: Timeout,
+) -> Result<(), NoMemory>
+    ensures endpoint { reader.new.endpoint ≡ reader.old.endpoint }
+    ensures answered { (host : HostState) → ReaderAnswers host host reader.old
+        reader.new line.old line.new result
         (λ state r at. timeout_on state r timeout) }
 {
     reader.set_read_timeout(timeout.nanoseconds());
@@ -71,15 +75,15 @@ fn timeout_open(reader: &mut AnyReader, line: &mut String, timeout: Timeout) -> 
 
 /// Discards the pending transfers of a reader that is open, which keeps none pending from then on.
 pub(crate) fn cancel_reader_open(
-    reader: &mut AnyReader,
+    reader: &mut EndpointRead<Any>,
     host: &mut Host,
     line: &mut String,
 ) -> Result<(), NoMemory>
-    requires stands { Stands (bus_of host.old) (reader_of reader.old).endpoint }
-    ensures keeps { CallKeeps host.old host.new (reader_of reader.old).endpoint
-        (reader_of reader.new).endpoint }
-    ensures answered { ReaderAnswers host.old host.new (reader_of reader.old)
-        (reader_of reader.new) line.old line.new result
+    requires stands { Stands (bus_of host.old) reader.old.endpoint }
+    ensures keeps { CallKeeps host.old host.new reader.old.endpoint
+        reader.new.endpoint }
+    ensures answered { ReaderAnswers host.old host.new reader.old
+        reader.new line.old line.new result
         (λ state r at. cancel_reader_on state r at) }
 {
     reader.cancel_all(host);
@@ -87,26 +91,26 @@ pub(crate) fn cancel_reader_open(
 }
 
 /// Takes bytes off, by the call of this framing.
-fn take_off(reader: &mut AnyReader, framing: Framing, count: usize)
-    requires within { count ≤ length (reader_of reader.old).unread }
-    ensures read { reader_of reader.new ≡ with_read count (reader_of reader.old) }
+fn take_off(reader: &mut EndpointRead<Any>, framing: Framing, count: usize)
+    requires within { count ≤ length reader.old.unread }
+    ensures read { reader.new ≡ with_read count reader.old }
 {
     match framing {
         Framing::Plain => reader.consume(count),
-        Framing::UntilShort => reader.consume_until_short(count),
+        Framing::UntilShort => reader.until_short_packet().consume(count),
     }
 }
 
 /// Takes bytes off a reader that is open, of those that stand.
 pub(crate) fn consume_open(
-    reader: &mut AnyReader,
+    reader: &mut EndpointRead<Any>,
     line: &mut String,
     framing: Framing,
     count: Length,
 ) -> Result<(), NoMemory>
-    ensures endpoint { (reader_of reader.new).endpoint ≡ (reader_of reader.old).endpoint }
-    ensures answered { (host : HostState) → ReaderAnswers host host (reader_of reader.old)
-        (reader_of reader.new) line.old line.new result
+    ensures endpoint { reader.new.endpoint ≡ reader.old.endpoint }
+    ensures answered { (host : HostState) → ReaderAnswers host host reader.old
+        reader.new line.old line.new result
         (λ state r at. consume_on state framing r count at) }
 {
     let count = count.bytes() as usize;
@@ -117,15 +121,34 @@ pub(crate) fn consume_open(
     write_ok(line)
 }
 
+/// Takes the end off, where it is next.
+fn take_end_off(reader: &mut EndpointRead<Any>) -> Result<(), ExpectedShortPacket>
+    ensures ok { OnOk result
+        ((is_end reader.old ≡ true) × (reader.new ≡ without_end reader.old)) }
+    ensures err { OnErr result ((is_end reader.old ≡ false) × (reader.new ≡ reader.old)) }
+{
+    reader.until_short_packet().consume_end()
+}
+
 /// Takes the end off a reader that is open, where it is next.
-pub(crate) fn consume_end_open(reader: &mut AnyReader, line: &mut String) -> Result<(), NoMemory>
-    ensures endpoint { (reader_of reader.new).endpoint ≡ (reader_of reader.old).endpoint }
-    ensures answered { (host : HostState) → ReaderAnswers host host (reader_of reader.old)
-        (reader_of reader.new) line.old line.new result
+pub(crate) fn consume_end_open(
+    reader: &mut EndpointRead<Any>,
+    line: &mut String,
+) -> Result<(), NoMemory>
+    ensures endpoint { reader.new.endpoint ≡ reader.old.endpoint }
+    ensures answered { (host : HostState) → ReaderAnswers host host reader.old
+        reader.new line.old line.new result
         (λ state r at. consume_end_on state r at) }
 {
-    let answer = reader.consume_end();
+    let answer = take_end_off(reader);
     write_consumed_end(line, &answer)
+}
+
+/// Whether no byte stands in a reader and an end does.
+fn is_at_end(reader: &EndpointRead<Any>) -> bool
+    ensures end { result ≡ is_end reader.now }
+{
+    reader.available() == 0 && reader.has_end()
 }
 
 impl Session {
@@ -155,7 +178,7 @@ impl Session {
             (λ state. is_end_answer state name) }
     {
         match open_at(&self.readers, name.number()) {
-            Some(reader) => write_is_end(line, reader.is_end()),
+            Some(reader) => write_is_end(line, is_at_end(reader)),
             None => write_condition(line),
         }
     }

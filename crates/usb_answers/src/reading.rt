@@ -1,15 +1,14 @@
 //! `read`, `sread`, `pollread` and `pollsread`: bytes are read from a reader.
 
-ghost use Rattle.std.specs.Prelude.{◌≡◌, ◌≤◌, take, length, Ok, Err, IfOk, IfErr};
+ghost use Rattle.std.specs.Prelude.{◌≡◌, ◌≤◌, take, length, Ok, IfOk, IfErr};
 ghost use Rattle.usb_endpoint.specs.Handles.{Stands};
-ghost use Rattle.usb_endpoint.specs.Polls.{IfReady, IfPending};
 ghost use Rattle.usb_host.specs.HostBus.{bus_of};
 ghost use Rattle.usb_host.specs.HostFrames.{LineGoesOn};
 ghost use Rattle.usb_host.specs.HostCalls.{host_calls};
-ghost use Rattle.usb_io.specs.AnyReaders.{reader_of};
-ghost use Rattle.usb_io.specs.Answers.{IsInTime, read_came, ReadFails};
-ghost use Rattle.usb_io.specs.Reads.{reading, GoesAlong};
-ghost use Rattle.usb_io.specs.Answered.{answered};
+ghost use Rattle.usb_io.specs.Answers.{read_came, ReadFails};
+ghost use Rattle.usb_io.specs.Along.{ReadsAlong};
+ghost use Rattle.usb_io.specs.Reads.{reading};
+ghost use Rattle.usb_io.specs.Answered.{answered, as_wait, InTime};
 ghost use Rattle.usb_writer_lines.specs.Needs.{bars_need};
 ghost use Rattle.usb_answers.specs.Reads.{is_until_short, need_of, read_on, poll_read_on};
 ghost use Rattle.usb_answers.specs.OpenCalls.{CallKeeps};
@@ -18,12 +17,13 @@ ghost use Rattle.usb_answers.specs.ReaderCalls.{ReaderAnswers};
 use futures::task::Poll;
 use usb_desc::{Fail, NoMemory};
 use usb_device::Host;
-use usb_io::{AnyReader, ReadFault};
+use usb_io::{EndpointRead, ReadFault};
 use usb_lines::{write_condition, write_pending};
 use usb_script::{Framing, ReadLength};
 use usb_stream_lines::{write_read, write_read_fault};
 use usb_streams::read_need;
 use usb_writer_lines::bars_need;
+use usb_xfer::Any;
 
 /// Whether a call stops at a short packet.
 fn is_until_short(framing: Framing) -> bool
@@ -36,9 +36,9 @@ fn is_until_short(framing: Framing) -> bool
 }
 
 /// Whether a call on a reader is barred: the submissions that it may need are.
-pub fn bars_read(host: &Host, framing: Framing, reader: &AnyReader) -> bool
+pub fn bars_read(host: &Host, framing: Framing, reader: &EndpointRead<Any>) -> bool
     ensures barred { result ≡ bars_need host.now.kernel.past
-        (length (reader_of reader.now).endpoint.pending) (need_of framing (reader_of reader.now)) }
+        (length reader.now.endpoint.pending) (need_of framing reader.now) }
 {
     let need = read_need(reader, is_until_short(framing));
     bars_need(host, reader.pending(), need)
@@ -46,44 +46,44 @@ pub fn bars_read(host: &Host, framing: Framing, reader: &AnyReader) -> bool
 
 /// Reads as many bytes as fit, by the call of this framing.
 fn read_bytes(
-    reader: &mut AnyReader,
+    reader: &mut EndpointRead<Any>,
     host: &mut Host,
     framing: Framing,
     dest: &mut [u8],
 ) -> Result<usize, Fail<ReadFault>>
-    requires stands { Stands (bus_of host.old) (reader_of reader.old).endpoint }
+    requires stands { Stands (bus_of host.old) reader.old.endpoint }
     ensures few { IfOk result (λ n. n ≤ length dest.old) }
     ensures read { IfOk result
-        (λ n. read_came host_calls (is_until_short framing) (reader_of reader.old).timeout
-        (length dest.old) (reading host.old (reader_of reader.old))
-        ≡ answered (Ok (take n dest.new)) (reading host.new (reader_of reader.new))) }
+        (λ n. read_came host_calls (is_until_short framing) reader.old.timeout
+        (length dest.old) (reading host.old reader.old)
+        ≡ answered (Ok (take n dest.new)) (reading host.new reader.new)) }
     ensures failed { IfErr result
-        (ReadFails host_calls (is_until_short framing) (reader_of reader.old).timeout
-        (length dest.old) (reading host.old (reader_of reader.old))
-        (reading host.new (reader_of reader.new))) }
+        (ReadFails host_calls (is_until_short framing) reader.old.timeout
+        (length dest.old) (reading host.old reader.old)
+        (reading host.new reader.new)) }
     ensures line { LineGoesOn host.old host.new }
-    ensures goes { GoesAlong (bus_of host.old) (bus_of host.new) (reader_of reader.old)
-        (reader_of reader.new) }
+    ensures goes { ReadsAlong (bus_of host.old) (bus_of host.new) reader.old.endpoint
+        reader.new.endpoint }
 {
     match framing {
-        Framing::Plain => usb_streams::read(reader, host, dest),
-        Framing::UntilShort => usb_streams::read_until_short(reader, host, dest),
+        Framing::Plain => reader.read(host, dest),
+        Framing::UntilShort => reader.until_short_packet().read(host, dest),
     }
 }
 
 /// Reads from a reader that is open.
 pub(crate) fn read_open(
-    reader: &mut AnyReader,
+    reader: &mut EndpointRead<Any>,
     host: &mut Host,
     line: &mut String,
     framing: Framing,
     most: ReadLength,
 ) -> Result<(), NoMemory>
-    requires stands { Stands (bus_of host.old) (reader_of reader.old).endpoint }
-    ensures keeps { CallKeeps host.old host.new (reader_of reader.old).endpoint
-        (reader_of reader.new).endpoint }
-    ensures answered { ReaderAnswers host.old host.new (reader_of reader.old)
-        (reader_of reader.new) line.old line.new result
+    requires stands { Stands (bus_of host.old) reader.old.endpoint }
+    ensures keeps { CallKeeps host.old host.new reader.old.endpoint
+        reader.new.endpoint }
+    ensures answered { ReaderAnswers host.old host.new reader.old
+        reader.new line.old line.new result
         (λ state r at. read_on state framing r most at) }
 {
     if bars_read(host, framing, reader) {
@@ -100,49 +100,44 @@ pub(crate) fn read_open(
 
 /// Reads as many bytes as fit, by the call of this framing that does not wait.
 fn poll_bytes(
-    reader: &mut AnyReader,
+    reader: &mut EndpointRead<Any>,
     host: &mut Host,
     framing: Framing,
     dest: &mut [u8],
 ) -> Poll<Result<usize, Fail<ReadFault>>>
-    requires stands { Stands (bus_of host.old) (reader_of reader.old).endpoint }
-    ensures few { IfReady result (λ r. IfOk r (λ n. n ≤ length dest.old)) }
-    ensures read { IfReady result
-        (λ r. IfOk r (λ n. read_came host_calls (is_until_short framing) 0 (length dest.old)
-        (reading host.old (reader_of reader.old))
-        ≡ answered (Ok (take n dest.new)) (reading host.new (reader_of reader.new)))) }
-    ensures failed { IfReady result
-        (λ r. IfErr r
+    requires stands { Stands (bus_of host.old) reader.old.endpoint }
+    ensures few { IfOk (as_wait ReadFault.TimedOut result) (λ n. n ≤ length dest.old) }
+    ensures read { IfOk (as_wait ReadFault.TimedOut result)
+        (λ n. read_came host_calls (is_until_short framing) 0 (length dest.old)
+        (reading host.old reader.old)
+        ≡ answered (Ok (take n dest.new)) (reading host.new reader.new)) }
+    ensures failed { IfErr (as_wait ReadFault.TimedOut result)
         (ReadFails host_calls (is_until_short framing) 0 (length dest.old)
-        (reading host.old (reader_of reader.old)) (reading host.new (reader_of reader.new)))) }
-    ensures in_time { IfReady result (λ r. IfErr r IsInTime) }
-    ensures pending { IfPending result
-        (read_came host_calls (is_until_short framing) 0 (length dest.old)
-        (reading host.old (reader_of reader.old))
-        ≡ answered (Err ReadFault.TimedOut) (reading host.new (reader_of reader.new))) }
+        (reading host.old reader.old) (reading host.new reader.new)) }
+    ensures in_time { InTime ReadFault.TimedOut result }
     ensures line { LineGoesOn host.old host.new }
-    ensures goes { GoesAlong (bus_of host.old) (bus_of host.new) (reader_of reader.old)
-        (reader_of reader.new) }
+    ensures goes { ReadsAlong (bus_of host.old) (bus_of host.new) reader.old.endpoint
+        reader.new.endpoint }
 {
     match framing {
-        Framing::Plain => usb_streams::poll_read(reader, host, dest),
-        Framing::UntilShort => usb_streams::poll_read_until_short(reader, host, dest),
+        Framing::Plain => reader.poll_read(host, dest),
+        Framing::UntilShort => reader.until_short_packet().poll_read(host, dest),
     }
 }
 
 /// Reads from a reader that is open, with no wait.
 pub(crate) fn poll_read_open(
-    reader: &mut AnyReader,
+    reader: &mut EndpointRead<Any>,
     host: &mut Host,
     line: &mut String,
     framing: Framing,
     most: ReadLength,
 ) -> Result<(), NoMemory>
-    requires stands { Stands (bus_of host.old) (reader_of reader.old).endpoint }
-    ensures keeps { CallKeeps host.old host.new (reader_of reader.old).endpoint
-        (reader_of reader.new).endpoint }
-    ensures answered { ReaderAnswers host.old host.new (reader_of reader.old)
-        (reader_of reader.new) line.old line.new result
+    requires stands { Stands (bus_of host.old) reader.old.endpoint }
+    ensures keeps { CallKeeps host.old host.new reader.old.endpoint
+        reader.new.endpoint }
+    ensures answered { ReaderAnswers host.old host.new reader.old
+        reader.new line.old line.new result
         (λ state r at. poll_read_on state framing r most at) }
 {
     if bars_read(host, framing, reader) {

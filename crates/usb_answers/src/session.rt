@@ -14,14 +14,14 @@ use std::alloc::Global;
 use std::marker::Model;
 use usb_desc::NoMemory;
 use usb_device::{Device, Host, Interface, TransferFuture};
-use usb_endpoint::AnyEndpoint;
+use usb_endpoint::Endpoint;
 use usb_enum::{AttrTree, HotplugWatch, watch_devices};
-use usb_io::AnyReader;
+use usb_io::{EndpointRead, EndpointWrite};
 use usb_kernel::{Bytes, Kernel, SimDevice};
 use usb_names::{drop_names, no_names};
 use usb_script::Item;
 use usb_setup::{packets_of, tree_of};
-use usb_writes::AnyWriter;
+use usb_xfer::Any;
 
 /// A host, what is open under each name (devices, claimed interfaces, endpoints, readers,
 /// writers and control transfers on their way), the tree of attributes, and the packets of udev that are left.
@@ -31,9 +31,9 @@ pub struct Session {
     pub(crate) host: Host,
     pub(crate) devices: Vec<Option<Device>>,
     pub(crate) interfaces: Vec<Option<Interface>>,
-    pub(crate) endpoints: Vec<Option<AnyEndpoint>>,
-    pub(crate) readers: Vec<Option<AnyReader>>,
-    pub(crate) writers: Vec<Option<AnyWriter>>,
+    pub(crate) endpoints: Vec<Option<Endpoint<Any, Any>>>,
+    pub(crate) readers: Vec<Option<EndpointRead<Any>>>,
+    pub(crate) writers: Vec<Option<EndpointWrite<Any>>>,
     pub(crate) futures: Vec<Option<TransferFuture>>,
     pub(crate) tree: AttrTree,
     pub(crate) watch: HotplugWatch,
@@ -152,9 +152,9 @@ fn host_with(alloc: Global, items: &[Item], places: usize) -> Result<Host, NoMem
 struct Names {
     devices: Vec<Option<Device>>,
     interfaces: Vec<Option<Interface>>,
-    endpoints: Vec<Option<AnyEndpoint>>,
-    readers: Vec<Option<AnyReader>>,
-    writers: Vec<Option<AnyWriter>>,
+    endpoints: Vec<Option<Endpoint<Any, Any>>>,
+    readers: Vec<Option<EndpointRead<Any>>>,
+    writers: Vec<Option<EndpointWrite<Any>>>,
     futures: Vec<Option<TransferFuture>>,
 }
 

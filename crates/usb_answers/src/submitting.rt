@@ -3,7 +3,6 @@
 ghost use Rattle.std.specs.Prelude.{◌≡◌};
 ghost use Rattle.usb_desc.specs.declared.types.Direction.{Direction};
 ghost use Rattle.usb_endpoint.specs.Handles.{Stands};
-ghost use Rattle.usb_endpoint.specs.AnyEndpoints.{state_of};
 ghost use Rattle.usb_host.specs.HostBus.{bus_of};
 ghost use Rattle.usb_answers.specs.ReaderAt.{endpoint_place};
 ghost use Rattle.usb_answers.specs.Buffers.{in_buffer, out_buffer};
@@ -15,25 +14,25 @@ use crate::buffers::{in_buffer, out_buffer};
 use crate::session::Session;
 use usb_desc::{Direction, NoMemory};
 use usb_device::Host;
-use usb_endpoint::AnyEndpoint;
+use usb_endpoint::Endpoint;
 use usb_lines::{write_condition, write_ok};
 use usb_names::{put_at, take_at};
 use usb_script::{Data, Length, Name};
 use usb_writer_lines::{MOST_PENDING, MOST_UNREAPED};
-use usb_xfer::Buffer;
+use usb_xfer::{Any, Buffer};
 
 /// Whether an endpoint has this direction.
-pub fn has_direction(endpoint: &AnyEndpoint, direction: Direction) -> bool
-    ensures has { result ≡ has_direction direction (state_of endpoint.now) }
+pub fn has_direction(endpoint: &Endpoint<Any, Any>, direction: Direction) -> bool
+    ensures has { result ≡ has_direction direction endpoint.now }
 {
     Direction::from_address(endpoint.endpoint_address()) == direction
 }
 
 /// Whether a submission is barred: the endpoint has the other direction, or too many transfers are
 /// pending or unreaped.
-fn bars_submission(host: &Host, direction: Direction, endpoint: &AnyEndpoint) -> bool
+fn bars_submission(host: &Host, direction: Direction, endpoint: &Endpoint<Any, Any>) -> bool
     ensures barred { result ≡
-        bars_submission host.now.kernel.past direction (state_of endpoint.now) }
+        bars_submission host.now.kernel.past direction endpoint.now }
 {
     !has_direction(endpoint, direction)
         || endpoint.pending() >= MOST_PENDING
@@ -42,15 +41,15 @@ fn bars_submission(host: &Host, direction: Direction, endpoint: &AnyEndpoint) ->
 
 /// Submits a buffer to an endpoint that is open.
 fn submit_open(
-    endpoint: &mut AnyEndpoint,
+    endpoint: &mut Endpoint<Any, Any>,
     host: &mut Host,
     line: &mut String,
     direction: Direction,
     buffer: Buffer,
 ) -> Result<(), NoMemory>
-    requires stands { Stands (bus_of host.old) (state_of endpoint.old) }
-    ensures keeps { CallKeeps host.old host.new (state_of endpoint.old) (state_of endpoint.new) }
-    ensures answered { CallAnswers host.old host.new (state_of endpoint.old) (state_of endpoint.new)
+    requires stands { Stands (bus_of host.old) endpoint.old }
+    ensures keeps { CallKeeps host.old host.new endpoint.old endpoint.new }
+    ensures answered { CallAnswers host.old host.new endpoint.old endpoint.new
         line.old line.new result (λ state e h. submit_on state direction e buffer h) }
 {
     if bars_submission(host, direction, endpoint) {

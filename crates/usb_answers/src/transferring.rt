@@ -3,7 +3,6 @@
 ghost use Rattle.std.specs.Prelude.{◌≡◌, ◌≤◌, ◌+◌, length, OnOk};
 ghost use Rattle.usb_desc.specs.declared.types.Direction.{Direction};
 ghost use Rattle.usb_endpoint.specs.Handles.{Stands};
-ghost use Rattle.usb_endpoint.specs.AnyEndpoints.{state_of};
 ghost use Rattle.usb_host.specs.HostBus.{bus_of};
 ghost use Rattle.usb_answers.specs.ReaderAt.{endpoint_place};
 ghost use Rattle.usb_answers.specs.Buffers.{in_buffer, out_buffer};
@@ -16,17 +15,17 @@ use crate::session::Session;
 use crate::submitting::has_direction;
 use usb_desc::{Direction, NoMemory};
 use usb_device::Host;
-use usb_endpoint::AnyEndpoint;
+use usb_endpoint::Endpoint;
 use usb_lines::{write_condition, write_waited};
 use usb_names::{put_at, take_at};
 use usb_script::{Data, Length, Name, Steps, Timeout};
 use usb_writer_lines::MOST_UNREAPED;
-use usb_xfer::Buffer;
+use usb_xfer::{Any, Buffer};
 
 /// Whether a blocking transfer is barred: the endpoint has the other direction, a transfer of it is
 /// pending, or too many are unreaped.
-fn bars_transfer(host: &Host, direction: Direction, endpoint: &AnyEndpoint) -> bool
-    ensures barred { result ≡ bars_transfer host.now.kernel.past direction (state_of endpoint.now) }
+fn bars_transfer(host: &Host, direction: Direction, endpoint: &Endpoint<Any, Any>) -> bool
+    ensures barred { result ≡ bars_transfer host.now.kernel.past direction endpoint.now }
 {
     !has_direction(endpoint, direction)
         || endpoint.pending() != 0
@@ -35,16 +34,16 @@ fn bars_transfer(host: &Host, direction: Direction, endpoint: &AnyEndpoint) -> b
 
 /// Makes a blocking transfer at an endpoint that is open.
 fn transfer_open(
-    endpoint: &mut AnyEndpoint,
+    endpoint: &mut Endpoint<Any, Any>,
     host: &mut Host,
     line: &mut String,
     direction: Direction,
     buffer: Buffer,
     timeout: Timeout,
 ) -> Result<(), NoMemory>
-    requires stands { Stands (bus_of host.old) (state_of endpoint.old) }
-    ensures keeps { CallKeeps host.old host.new (state_of endpoint.old) (state_of endpoint.new) }
-    ensures answered { CallAnswers host.old host.new (state_of endpoint.old) (state_of endpoint.new)
+    requires stands { Stands (bus_of host.old) endpoint.old }
+    ensures keeps { CallKeeps host.old host.new endpoint.old endpoint.new }
+    ensures answered { CallAnswers host.old host.new endpoint.old endpoint.new
         line.old line.new result (λ state e h. transfer_on state direction e buffer timeout h) }
 {
     if bars_transfer(host, direction, endpoint) {

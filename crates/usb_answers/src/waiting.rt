@@ -2,7 +2,6 @@
 
 ghost use Rattle.std.specs.Prelude.{◌≡◌, ◌≤◌, ◌+◌, length, slice_get};
 ghost use Rattle.usb_endpoint.specs.Handles.{Stands};
-ghost use Rattle.usb_endpoint.specs.AnyEndpoints.{state_of};
 ghost use Rattle.usb_host.specs.HostBus.{bus_of};
 ghost use Rattle.usb_answers.specs.ReaderAt.{endpoint_place};
 ghost use Rattle.usb_answers.specs.Waits.{wait_on, wait_answer};
@@ -12,21 +11,22 @@ ghost use Rattle.usb_answers.specs.OpenCalls.{CallKeeps, CallAnswers};
 use crate::session::Session;
 use usb_desc::NoMemory;
 use usb_device::Host;
-use usb_endpoint::AnyEndpoint;
+use usb_endpoint::Endpoint;
 use usb_lines::{write_condition, write_waited};
 use usb_names::{put_at, take_at};
 use usb_script::{Name, Steps, Timeout};
+use usb_xfer::Any;
 
 /// Waits at an endpoint that is open.
 fn wait_open(
-    endpoint: &mut AnyEndpoint,
+    endpoint: &mut Endpoint<Any, Any>,
     host: &mut Host,
     line: &mut String,
     timeout: Timeout,
 ) -> Result<(), NoMemory>
-    requires stands { Stands (bus_of host.old) (state_of endpoint.old) }
-    ensures keeps { CallKeeps host.old host.new (state_of endpoint.old) (state_of endpoint.new) }
-    ensures answered { CallAnswers host.old host.new (state_of endpoint.old) (state_of endpoint.new)
+    requires stands { Stands (bus_of host.old) endpoint.old }
+    ensures keeps { CallKeeps host.old host.new endpoint.old endpoint.new }
+    ensures answered { CallAnswers host.old host.new endpoint.old endpoint.new
         line.old line.new result
         (λ state e h. wait_on state e timeout (slice_get h.tickets h.taken)) }
 {

@@ -5,7 +5,6 @@
 ghost use Rattle.std.specs.Prelude.{◌≡◌, ◌≤◌, ◌+◌, length};
 ghost use Rattle.usb_endpoint.specs.Handles.{Stands};
 ghost use Rattle.usb_host.specs.HostBus.{bus_of};
-ghost use Rattle.usb_writes.specs.AnyWriters.{writer_of};
 ghost use Rattle.usb_answers.specs.WriterCalls.{WriterAnswers, call_on, called_answer, waited_answer};
 ghost use Rattle.usb_answers.specs.Answered.{Answers};
 ghost use Rattle.usb_answers.specs.OpenCalls.{CallKeeps};
@@ -13,10 +12,11 @@ ghost use Rattle.usb_answers.specs.OpenCalls.{CallKeeps};
 use crate::session::Session;
 use usb_desc::NoMemory;
 use usb_device::Host;
+use usb_io::EndpointWrite;
 use usb_lines::write_condition;
 use usb_names::{put_at, take_at};
 use usb_script::{Name, Steps};
-use usb_writes::AnyWriter;
+use usb_xfer::Any;
 
 /// A call on a writer.
 #[derive(Clone, Copy)]
@@ -41,16 +41,16 @@ pub(crate) enum WriterCall<'a> {
 
 /// Calls a writer that is open.
 fn call_open(
-    writer: &mut AnyWriter,
+    writer: &mut EndpointWrite<Any>,
     host: &mut Host,
     line: &mut String,
     call: WriterCall,
 ) -> Result<(), NoMemory>
-    requires stands { Stands (bus_of host.old) (writer_of writer.old).endpoint }
-    ensures keeps { CallKeeps host.old host.new (writer_of writer.old).endpoint
-        (writer_of writer.new).endpoint }
-    ensures answered { WriterAnswers host.old host.new (writer_of writer.old)
-        (writer_of writer.new) line.old line.new result (call_on call.entry) }
+    requires stands { Stands (bus_of host.old) writer.old.endpoint }
+    ensures keeps { CallKeeps host.old host.new writer.old.endpoint
+        writer.new.endpoint }
+    ensures answered { WriterAnswers host.old host.new writer.old
+        writer.new line.old line.new result (call_on call.entry) }
 {
     match call {
         WriterCall::Write(bytes) => usb_writer_lines::write(writer, host, line, bytes),

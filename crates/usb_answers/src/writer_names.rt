@@ -12,10 +12,11 @@ ghost use Rattle.usb_answers.specs.Answered.{Answers};
 
 use crate::session::Session;
 use usb_desc::NoMemory;
+use usb_io::EndpointWrite;
 use usb_lines::{write_condition, write_ok};
 use usb_names::{is_free, put_at, take_at};
 use usb_script::{Length, Name};
-use usb_writes::AnyWriter;
+use usb_xfer::{Any, Out};
 
 impl Session {
     /// `writer`: a writer is made of an OUT endpoint under a name that is free, and the endpoint's
@@ -39,8 +40,9 @@ impl Session {
         let Some(endpoint) = take_at(&mut self.endpoints, number) else {
             return write_condition(line);
         };
-        match AnyWriter::new(endpoint, transfer_size.bytes() as usize) {
-            Ok(made) => {
+        match endpoint.narrow::<Any, Out>() {
+            Ok(endpoint) => {
+                let made = EndpointWrite::new(endpoint, transfer_size.bytes() as usize);
                 put_at(&mut self.writers, name, made);
                 write_ok(line)
             }
@@ -71,7 +73,7 @@ impl Session {
         let Some(writer) = take_at(&mut self.writers, number) else {
             return write_condition(line);
         };
-        put_at(&mut self.endpoints, name, writer.into_inner());
+        put_at(&mut self.endpoints, name, writer.into_inner().widen());
         write_ok(line)
     }
 

@@ -29,7 +29,7 @@ use usb_error::{ActiveConfigurationError, Error};
 use usb_host::{AltSettingsOf, Host};
 use usb_registry::Key;
 use usb_sysfs::Speed;
-use usb_xfer::{EndpointDirection, EndpointType};
+use usb_xfer::{KnownDirection, KnownType};
 
 /// A handle of a device that is open at a host. `close` spends it.
 pub struct Device {
@@ -423,7 +423,7 @@ impl Interface {
     ///
     /// The first of these: no such endpoint, its direction or its type is another, its maximum
     /// packet size is 0, its bit is in use, memory is wanting. Nothing else has changed then.
-    pub fn endpoint<T: EndpointType, D: EndpointDirection>(
+    pub fn endpoint<T: KnownType, D: KnownDirection>(
         &self,
         host: &mut Host,
         address: u8,

@@ -25,7 +25,7 @@ pub use usb_desc::{
     GroupSettings, InterfaceDescriptor, InterfaceDescriptors, Interfaces, Languages, NoMemory,
     Recipient, StringError, TransferType,
 };
-pub use usb_endpoint::{AnyEndpoint, Endpoint, NextComplete};
+pub use usb_endpoint::{Endpoint, NextComplete};
 pub use usb_error::{
     ActiveConfigurationError, Error, ErrorKind, GetDescriptorError, IoFault, IoKind, Message,
 };
@@ -37,6 +37,7 @@ pub use usb_kernel::{
 pub use usb_ledger::{OpenDevice, TicketEnd};
 pub use usb_sysfs::Speed;
 pub use usb_xfer::{
-    Buffer, Bulk, BulkOrInterrupt, Completion, EndpointDirection, EndpointType, In, Interrupt, Map,
-    MapErr, MapFuture, MapOk, MapResult, MaybeFuture, Out, Ready, TransferError,
+    Any, Buffer, Bulk, BulkOrInterrupt, Completion, EndpointDirection, EndpointType, In, Interrupt,
+    KnownDirection, KnownType, Map, MapErr, MapFuture, MapOk, MapResult, MaybeFuture, Out, Ready,
+    TransferError,
 };

@@ -13,22 +13,22 @@ use Rattle.usb_bus.specs.Values.{HoldsCompletion}
 use Rattle.usb_bus.specs.Completions.{transfer_completion}
 use Rattle.usb_endpoint.specs.EndpointState.{EndpointState}
 use Rattle.usb_endpoint.specs.Polls.{in_poll}
-use Rattle.usb_endpoint.specs.Waits.{Polled, came, taken_if, polled_of, polled, front_of, is_reaped}
+use Rattle.usb_endpoint.specs.Waits.{Polled, front_found, taken_if, polled_of, polled, front_of, is_reaped}
 
 -- by what the journal has of the front
 pub polled-took : {S : Type 0} (k : BusCalls S) (s s' : S) (e e' : EndpointState) (front : ℕ) (others : List ℕ) (c : Completion)
     → e.pending ≡ front ∷ others → transfer_completion (k.state s).past front ≡ Some c → s' ≡ k.taken s front → e' ≡ record e { pending = others }
-    → polled k s e ≡ came (Some c) s' e'
+    → polled k s e ≡ front_found (Some c) s' e'
 polled-took k s s' e e' front others c was is bus endpoint = rw (bus, endpoint, was, is) refl
 
 polled-left_as : {S : Type 0} (k : BusCalls S) (s s' : S) (e e' : EndpointState) (front : ℕ) (others : List ℕ)
     → e.pending ≡ front ∷ others → transfer_completion (k.state s).past front ≡ None → s' ≡ s → e' ≡ e
-    → polled k s e ≡ came None s' e'
+    → polled k s e ≡ front_found None s' e'
 polled-left_as k s s' e e' front others was none bus endpoint = rw (bus, endpoint, was, none) refl
 
 pub polled-left : {S : Type 0} (k : BusCalls S) (s s' : S) (e e' : EndpointState) (front : ℕ) (others : List ℕ)
     → e.pending ≡ front ∷ others → transfer_completion (k.state s).past front ≡ None → s' ≡ s → e' ≡ record e { pending = e'.pending } → e'.pending ≡ e.pending
-    → polled k s e ≡ came None s' e'
+    → polled k s e ≡ front_found None s' e'
 polled-left k s s' e e' front others was none bus rest queue =
     polled-left_as k s s' e e' front others was none bus (rest ∙ ap (λ ts. record e { pending = ts }) queue)
 
@@ -48,59 +48,59 @@ pub value-none : (past : List Event) (t : ℕ) (value : Option TransferData) →
 value-none past t value holds none = none-of (transfer_completion past t) value holds none
 
 -- a poll that answered so
-pub poll-is : {S : Type 0} (k : BusCalls S) (s s' : S) (e first e' : EndpointState) (r : Poll Completion) (o : Option Completion) → e ≡ first → polled k s e ≡ came o s' e' → in_poll r ≡ o → polled k s first ≡ came (in_poll r) s' e'
-poll-is k s s' e first e' r o same is answer = ap (polled k s) (sym same) ∙ is ∙ ap (λ (o : Option Completion). came o s' e') (sym answer)
+pub poll-is : {S : Type 0} (k : BusCalls S) (s s' : S) (e first e' : EndpointState) (r : Poll Completion) (o : Option Completion) → e ≡ first → polled k s e ≡ front_found o s' e' → in_poll r ≡ o → polled k s first ≡ front_found (in_poll r) s' e'
+poll-is k s s' e first e' r o same is answer = ap (polled k s) (sym same) ∙ is ∙ ap (λ (o : Option Completion). front_found o s' e') (sym answer)
 
 -- the poll of an endpoint that is what it was
 pub polled-same : {S : Type 0} (k : BusCalls S) (s : S) (e first : EndpointState) (p : Polled S) → e ≡ first → polled k s e ≡ p → polled k s first ≡ p
 polled-same k s e first p same is = rw (← same) is
 
-none-taken : {S : Type 0} (k : BusCalls S) (s : S) (e : EndpointState) (front : ℕ) (others : List ℕ) (o : Option Completion) → is_some o ≡ false → taken_if k s e front others o ≡ came None s e
+none-taken : {S : Type 0} (k : BusCalls S) (s : S) (e : EndpointState) (front : ℕ) (others : List ℕ) (o : Option Completion) → is_some o ≡ false → taken_if k s e front others o ≡ front_found None s e
 none-taken k s e front others None none = refl
 none-taken k s e front others (Some c) none = absurd (cc)
 
-none-polled : {S : Type 0} (k : BusCalls S) (s : S) (e : EndpointState) (ts : List ℕ) → is_reaped k (front_of ts) s ≡ false → polled_of k s e ts ≡ came None s e
+none-polled : {S : Type 0} (k : BusCalls S) (s : S) (e : EndpointState) (ts : List ℕ) → is_reaped k (front_of ts) s ≡ false → polled_of k s e ts ≡ front_found None s e
 none-polled k s e [] none = refl
 none-polled k s e (t ∷ ts) none = none-taken k s e t ts (transfer_completion (k.state s).past t) none
 
 -- where the front is not reaped nothing happens
-pub polled-unreaped : {S : Type 0} (k : BusCalls S) (s : S) (e : EndpointState) → is_reaped k (front_of e.pending) s ≡ false → polled k s e ≡ came None s e
+pub polled-unreaped : {S : Type 0} (k : BusCalls S) (s : S) (e : EndpointState) → is_reaped k (front_of e.pending) s ≡ false → polled k s e ≡ front_found None s e
 polled-unreaped k s e none = none-polled k s e e.pending none
 
 -- whatever the endpoint is called then
-pub polled-left_at : {S : Type 0} (k : BusCalls S) (s : S) (e e' : EndpointState) → is_reaped k (front_of e.pending) s ≡ false → e' ≡ e → polled k s e ≡ came None s e'
+pub polled-left_at : {S : Type 0} (k : BusCalls S) (s : S) (e e' : EndpointState) → is_reaped k (front_of e.pending) s ≡ false → e' ≡ e → polled k s e ≡ front_found None s e'
 polled-left_at k s e e' none same = rw same (polled-unreaped k s e none)
 
-taken-some : {S : Type 0} (k : BusCalls S) (s s' : S) (e e' : EndpointState) (front : ℕ) (others : List ℕ) (o : Option Completion) (c : Completion) → taken_if k s e front others o ≡ came (Some c) s' e' → is_some o ≡ true
+taken-some : {S : Type 0} (k : BusCalls S) (s s' : S) (e e' : EndpointState) (front : ℕ) (others : List ℕ) (o : Option Completion) (c : Completion) → taken_if k s e front others o ≡ front_found (Some c) s' e' → is_some o ≡ true
 taken-some k s s' e e' front others None c is = absurd (none-some c (ap (λ (p : Polled _). p.completion) is))
 taken-some k s s' e e' front others (Some d) c is = refl
 
-some-polled : {S : Type 0} (k : BusCalls S) (s s' : S) (e e' : EndpointState) (ts : List ℕ) (c : Completion) → polled_of k s e ts ≡ came (Some c) s' e' → is_reaped k (front_of ts) s ≡ true
+some-polled : {S : Type 0} (k : BusCalls S) (s s' : S) (e e' : EndpointState) (ts : List ℕ) (c : Completion) → polled_of k s e ts ≡ front_found (Some c) s' e' → is_reaped k (front_of ts) s ≡ true
 some-polled k s s' e e' [] c is = absurd (none-some c (ap (λ (p : Polled _). p.completion) is))
 some-polled k s s' e e' (t ∷ ts) c is = taken-some k s s' e e' t ts (transfer_completion (k.state s).past t) c is
 
 -- a poll that took the front found it reaped
-pub found-reaped : {S : Type 0} (k : BusCalls S) (s s' : S) (e e' : EndpointState) (c : Completion) → polled k s e ≡ came (Some c) s' e' → is_reaped k (front_of e.pending) s ≡ true
+pub found-reaped : {S : Type 0} (k : BusCalls S) (s s' : S) (e e' : EndpointState) (c : Completion) → polled k s e ≡ front_found (Some c) s' e' → is_reaped k (front_of e.pending) s ≡ true
 found-reaped k s s' e e' c is = some-polled k s s' e e' e.pending c is
 
-taken-none : {S : Type 0} (k : BusCalls S) (s s' : S) (e e' : EndpointState) (front : ℕ) (others : List ℕ) (o : Option Completion) → taken_if k s e front others o ≡ came None s' e' → (s' ≡ s) × (e' ≡ e) × (is_some o ≡ false)
+taken-none : {S : Type 0} (k : BusCalls S) (s s' : S) (e e' : EndpointState) (front : ℕ) (others : List ℕ) (o : Option Completion) → taken_if k s e front others o ≡ front_found None s' e' → (s' ≡ s) × (e' ≡ e) × (is_some o ≡ false)
 taken-none k s s' e e' front others None is = (sym (ap (λ (p : Polled _). p.bus) is), sym (ap (λ (p : Polled _). p.endpoint) is), refl)
 taken-none k s s' e e' front others (Some d) is = absurd (none-some d (sym (ap (λ (p : Polled _). p.completion) is)))
 
-nothing-polled : {S : Type 0} (k : BusCalls S) (s s' : S) (e e' : EndpointState) (ts : List ℕ) → 0 < length ts → polled_of k s e ts ≡ came None s' e' → (s' ≡ s) × (e' ≡ e) × (is_reaped k (front_of ts) s ≡ false)
+nothing-polled : {S : Type 0} (k : BusCalls S) (s s' : S) (e e' : EndpointState) (ts : List ℕ) → 0 < length ts → polled_of k s e ts ≡ front_found None s' e' → (s' ≡ s) × (e' ≡ e) × (is_reaped k (front_of ts) s ≡ false)
 nothing-polled k s s' e e' [] some is = absurd (omega arith)
 nothing-polled k s s' e e' (t ∷ ts) some is = taken-none k s s' e e' t ts (transfer_completion (k.state s).past t) is
 
 -- a poll that took nothing left all as it was
-pub none-found : {S : Type 0} (k : BusCalls S) (s s' : S) (e e' : EndpointState) → 0 < length e.pending → polled k s e ≡ came None s' e' → (s' ≡ s) × (e' ≡ e) × (is_reaped k (front_of e.pending) s ≡ false)
+pub none-found : {S : Type 0} (k : BusCalls S) (s s' : S) (e e' : EndpointState) → 0 < length e.pending → polled k s e ≡ front_found None s' e' → (s' ≡ s) × (e' ≡ e) × (is_reaped k (front_of e.pending) s ≡ false)
 none-found k s s' e e' some is = nothing-polled k s s' e e' e.pending some is
 
-taken-one : {S : Type 0} (k : BusCalls S) (s s' : S) (e e' : EndpointState) (front : ℕ) (others : List ℕ) (o : Option Completion) (c : Completion) → taken_if k s e front others o ≡ came (Some c) s' e' → e' ≡ record e { pending = others }
+taken-one : {S : Type 0} (k : BusCalls S) (s s' : S) (e e' : EndpointState) (front : ℕ) (others : List ℕ) (o : Option Completion) (c : Completion) → taken_if k s e front others o ≡ front_found (Some c) s' e' → e' ≡ record e { pending = others }
 taken-one k s s' e e' front others None c is = absurd (none-some c (ap (λ (p : Polled _). p.completion) is))
 taken-one k s s' e e' front others (Some d) c is = sym (ap (λ (p : Polled _). p.endpoint) is)
 
 -- where one was pending none is left
-pub found-one : {S : Type 0} (k : BusCalls S) (s s' : S) (e e' : EndpointState) (t : ℕ) (c : Completion) → e.pending ≡ [] → polled k s (record e { pending = t ∷ [] }) ≡ came (Some c) s' e' → e' ≡ e
+pub found-one : {S : Type 0} (k : BusCalls S) (s s' : S) (e e' : EndpointState) (t : ℕ) (c : Completion) → e.pending ≡ [] → polled k s (record e { pending = t ∷ [] }) ≡ front_found (Some c) s' e' → e' ≡ e
 found-one k s s' e e' t c none is =
     taken-one k s s' (record e { pending = t ∷ [] }) e' t [] (transfer_completion (k.state s).past t) c is ∙ sym (ap (λ ts. record e { pending = ts }) none)
 
@@ -119,7 +119,7 @@ pub record TookNext {S : Type 0} (k : BusCalls S) (old : S) (e : EndpointState) 
   pub rest : new ≡ k.taken old front
 
 took-at : {S : Type 0} (k : BusCalls S) (s s' : S) (e e' : EndpointState) (front : ℕ) (others : List ℕ) (o : Option Completion) (c : Completion) → e.pending ≡ front ∷ others → transfer_completion (k.state s).past front ≡ o
-    → taken_if k s e front others o ≡ came (Some c) s' e' → TookNext k s e c s' e'
+    → taken_if k s e front others o ≡ front_found (Some c) s' e' → TookNext k s e c s' e'
 took-at k s s' e e' front others None c was at is = absurd (none-some c (ap (λ (p : Polled _). p.completion) is))
 took-at k s s' e e' front others (Some d) c was at is =
     record {
@@ -131,9 +131,9 @@ took-at k s s' e e' front others (Some d) c was at is =
       rest = sym (ap (λ (p : Polled _). p.bus) is);
     }
 
-took-of : {S : Type 0} (k : BusCalls S) (s s' : S) (e e' : EndpointState) (ts : List ℕ) (c : Completion) → e.pending ≡ ts → polled_of k s e ts ≡ came (Some c) s' e' → TookNext k s e c s' e'
+took-of : {S : Type 0} (k : BusCalls S) (s s' : S) (e e' : EndpointState) (ts : List ℕ) (c : Completion) → e.pending ≡ ts → polled_of k s e ts ≡ front_found (Some c) s' e' → TookNext k s e c s' e'
 took-of k s s' e e' [] c was is = absurd (none-some c (ap (λ (p : Polled _). p.completion) is))
 took-of k s s' e e' (t ∷ ts) c was is = took-at k s s' e e' t ts (transfer_completion (k.state s).past t) c was refl is
 
-pub took-next : {S : Type 0} (k : BusCalls S) (s s' : S) (e e' : EndpointState) (c : Completion) → polled k s e ≡ came (Some c) s' e' → TookNext k s e c s' e'
+pub took-next : {S : Type 0} (k : BusCalls S) (s s' : S) (e e' : EndpointState) (c : Completion) → polled k s e ≡ front_found (Some c) s' e' → TookNext k s e c s' e'
 took-next k s s' e e' c is = took-of k s s' e e' e.pending c refl is

@@ -6,7 +6,7 @@ use Rattle.usb_kernel.specs.Tickets.{tickets}
 use Rattle.usb_bus.specs.BusCalls.{BusCalls}
 use Rattle.usb_endpoint.specs.EndpointState.{EndpointState}
 use Rattle.usb_endpoint.specs.Submits.{entered}
-use Rattle.usb_endpoint.specs.Waits.{Polled, came, polled, front_of, is_reaped, waited, wait_next}
+use Rattle.usb_endpoint.specs.Waits.{Polled, front_found, polled, front_of, is_reaped, waited, wait_next}
 use Rattle.usb_endpoint.specs.Blocking.{or_next, seconds_from, waited_by_seconds, transferred}
 use Rattle.usb_endpoint.proofs.WaitLemmas.{wait-found, wait-vain}
 
@@ -40,12 +40,12 @@ vain-at k t s (suc n) m some vain = (n, refl, or_next-vain k t (seconds_from k t
 
 module _ {S : Type 0} (k : BusCalls S) (first s s' : S) (e e' : EndpointState) (seconds : Seconds k (front_of e.pending) first s) where
   -- the wait that finds the ticket is the last
-  pub seconds-found : (c : Completion) → wait_next k 1000000000 s e ≡ came (Some c) s' e' → polled k (waited_by_seconds k (front_of e.pending) first) e ≡ came (Some c) s' e'
+  pub seconds-found : (c : Completion) → wait_next k 1000000000 s e ≡ front_found (Some c) s' e' → polled k (waited_by_seconds k (front_of e.pending) first) e ≡ front_found (Some c) s' e'
   seconds-found c is =
       ap (λ x. polled k x e) (seconds.is ∙ found-at k (front_of e.pending) s seconds.left _ seconds.enough (wait-found k 1000000000 s s' e e' c is)) ∙ is
 
   -- and after one in vain they go on
-  pub seconds-more : 0 < length e.pending → wait_next k 1000000000 s e ≡ came None s' e' → (k.state s').turns_left < (k.state s).turns_left → Seconds k (front_of e.pending) first s'
+  pub seconds-more : 0 < length e.pending → wait_next k 1000000000 s e ≡ front_found None s' e' → (k.state s').turns_left < (k.state s).turns_left → Seconds k (front_of e.pending) first s'
   seconds-more some is falls =
       let vain = wait-vain k 1000000000 s s' e e' some is in
       let more = vain-at k (front_of e.pending) s seconds.left _ seconds.enough vain.2 in
@@ -62,23 +62,23 @@ submitted-some e old t is = rw is (omega arith)
 
 -- a transfer that its first wait found
 pub transferred-found : {S : Type 0} (k : BusCalls S) (timeout : ℕ) (s sent s' : S) (e one e' : EndpointState) (b : BufferState) (c : Completion)
-    → sent ≡ entered k s e b → one ≡ record e { pending = length (tickets (k.state s).past) ∷ [] } → wait_next k timeout sent one ≡ came (Some c) s' e'
-    → transferred k timeout s e b ≡ came (Some c) s' e'
+    → sent ≡ entered k s e b → one ≡ record e { pending = length (tickets (k.state s).past) ∷ [] } → wait_next k timeout sent one ≡ front_found (Some c) s' e'
+    → transferred k timeout s e b ≡ front_found (Some c) s' e'
 transferred-found k timeout s sent s' e one e' b c is same found =
     let next = length (tickets (k.state s).past) in
     let single = record e { pending = next ∷ [] } in
-    let wait : wait_next k timeout (entered k s e b) single ≡ came (Some c) s' e' = ap (λ x. wait_next k timeout x single) (sym is) ∙ ap (λ x. wait_next k timeout sent x) (sym same) ∙ found in
+    let wait : wait_next k timeout (entered k s e b) single ≡ front_found (Some c) s' e' = ap (λ x. wait_next k timeout x single) (sym is) ∙ ap (λ x. wait_next k timeout sent x) (sym same) ∙ found in
     ap (λ x. polled k x single) (or_next-found k next (λ mid. waited_by_seconds k next (k.discarded mid next)) (waited k next timeout (entered k s e b)) (wait-found k timeout (entered k s e b) s' single e' c wait)) ∙ wait
 
 -- or one that was discarded then
 pub transferred-later : {S : Type 0} (k : BusCalls S) (timeout : ℕ) (s sent mid next s' : S) (e one left e' : EndpointState) (b : BufferState) (c : Completion)
-    → sent ≡ entered k s e b → one ≡ record e { pending = length (tickets (k.state s).past) ∷ [] } → wait_next k timeout sent one ≡ came None mid left
-    → next ≡ k.discarded mid (length (tickets (k.state s).past)) → polled k (waited_by_seconds k (length (tickets (k.state s).past)) next) (record e { pending = length (tickets (k.state s).past) ∷ [] }) ≡ came (Some c) s' e'
-    → transferred k timeout s e b ≡ came (Some c) s' e'
+    → sent ≡ entered k s e b → one ≡ record e { pending = length (tickets (k.state s).past) ∷ [] } → wait_next k timeout sent one ≡ front_found None mid left
+    → next ≡ k.discarded mid (length (tickets (k.state s).past)) → polled k (waited_by_seconds k (length (tickets (k.state s).past)) next) (record e { pending = length (tickets (k.state s).past) ∷ [] }) ≡ front_found (Some c) s' e'
+    → transferred k timeout s e b ≡ front_found (Some c) s' e'
 transferred-later k timeout s sent mid next s' e one left e' b c is same vain discarded found =
     let t = length (tickets (k.state s).past) in
     let single = record e { pending = t ∷ [] } in
-    let wait : wait_next k timeout (entered k s e b) single ≡ came None mid left = ap (λ x. wait_next k timeout x single) (sym is) ∙ ap (λ x. wait_next k timeout sent x) (sym same) ∙ vain in
+    let wait : wait_next k timeout (entered k s e b) single ≡ front_found None mid left = ap (λ x. wait_next k timeout x single) (sym is) ∙ ap (λ x. wait_next k timeout sent x) (sym same) ∙ vain in
     let in_vain = wait-vain k timeout (entered k s e b) mid single left (omega arith) wait in
     let after : next ≡ k.discarded (waited k t timeout (entered k s e b)) t = discarded ∙ ap (λ x. k.discarded x t) in_vain.0 in
     ap (λ x. polled k x single) (or_next-vain k t (λ mid. waited_by_seconds k t (k.discarded mid t)) (waited k t timeout (entered k s e b)) in_vain.2 ∙ ap (waited_by_seconds k t) (sym after)) ∙ found

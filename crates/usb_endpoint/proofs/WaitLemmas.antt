@@ -11,7 +11,7 @@ use Rattle.usb_bus.specs.BusCalls.{BusCalls}
 use Rattle.usb_bus.specs.Turns.{Falls}
 use Rattle.usb_bus.specs.Later.{IsLater, GoesOn}
 use Rattle.usb_endpoint.specs.EndpointState.{EndpointState}
-use Rattle.usb_endpoint.specs.Waits.{Polled, came, polled, front_of, time_is_up, is_reaped, waited_from, waited, wait_next}
+use Rattle.usb_endpoint.specs.Waits.{Polled, front_found, polled, front_of, time_is_up, is_reaped, waited_from, waited, wait_next}
 use Rattle.usb_endpoint.proofs.PollLemmas.{found-reaped, none-found}
 
 -- the looks so far of a wait that began on a bus (first): what is left of it is a wait from here (s), which has looks enough
@@ -69,10 +69,10 @@ pub wait_next-is : {S : Type 0} (k : BusCalls S) (timeout : ℕ) (first s : S) (
 wait_next-is k timeout first s e p ended is = ap (λ x. polled k x e) ended ∙ is
 
 -- the poll that a wait ends with: it took the front, or left all as it was
-pub wait-found : {S : Type 0} (k : BusCalls S) (timeout : ℕ) (s s' : S) (e e' : EndpointState) (c : Completion) → wait_next k timeout s e ≡ came (Some c) s' e' → is_reaped k (front_of e.pending) (waited k (front_of e.pending) timeout s) ≡ true
+pub wait-found : {S : Type 0} (k : BusCalls S) (timeout : ℕ) (s s' : S) (e e' : EndpointState) (c : Completion) → wait_next k timeout s e ≡ front_found (Some c) s' e' → is_reaped k (front_of e.pending) (waited k (front_of e.pending) timeout s) ≡ true
 wait-found k timeout s s' e e' c is = found-reaped k (waited k (front_of e.pending) timeout s) s' e e' c is
 
-pub wait-vain : {S : Type 0} (k : BusCalls S) (timeout : ℕ) (s s' : S) (e e' : EndpointState) → 0 < length e.pending → wait_next k timeout s e ≡ came None s' e'
+pub wait-vain : {S : Type 0} (k : BusCalls S) (timeout : ℕ) (s s' : S) (e e' : EndpointState) → 0 < length e.pending → wait_next k timeout s e ≡ front_found None s' e'
     → (s' ≡ waited k (front_of e.pending) timeout s) × (e' ≡ e) × (is_reaped k (front_of e.pending) (waited k (front_of e.pending) timeout s) ≡ false)
 wait-vain k timeout s s' e e' some is = none-found k (waited k (front_of e.pending) timeout s) s' e e' some is
 

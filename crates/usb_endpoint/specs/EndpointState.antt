@@ -1,5 +1,5 @@
 -- What an endpoint is to its users.
-use Rattle.std.specs.Prelude.{ℕ, ◌<◌, ◌≡◌, List}
+use Rattle.std.specs.Prelude.{ℕ, ◌<◌, List}
 use Rattle.usb_desc.specs.Fields.{direction_of_address}
 use Rattle.usb_desc.specs.declared.types.Direction.{Direction}
 use Rattle.usb_desc.specs.declared.types.TransferType.{TransferType}
@@ -27,7 +27,9 @@ route_of e =
       key = e.key;
     }
 
--- packets have a size, and the address is one of the direction
-pub record HasPackets (direction : Direction) (address maximum : ℕ) : Type 0 where
+-- an endpoint of these types and directions: its type and the direction of its address are among them, and packets have a size
+pub record IsOf (types : TransferType → Type 0) (directions : Direction → Type 0)
+    (kind : TransferType) (address maximum : ℕ) : Type 0 where
   pub some : 0 < maximum
-  pub direction_is : direction_of_address address ≡ direction
+  pub direction : directions (direction_of_address address)
+  pub type : types kind

@@ -10,4 +10,3 @@ pub mod AllStand
 pub mod Histories
 pub mod Ends
 pub mod Laws
-pub mod AnyEndpoints

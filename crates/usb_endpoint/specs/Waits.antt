@@ -16,18 +16,18 @@ pub record Polled (S : Type 0) : Type 0 where
   pub bus : S
   pub endpoint : EndpointState
 
-abbrev pub came : {S : Type 0} → Option Completion → S → EndpointState → Polled S
-came completion bus endpoint = record { completion = completion; bus = bus; endpoint = endpoint }
+abbrev pub front_found : {S : Type 0} → Option Completion → S → EndpointState → Polled S
+front_found completion bus endpoint = record { completion = completion; bus = bus; endpoint = endpoint }
 
 -- the front is taken where the journal has its completion
 abbrev pub taken_if : {S : Type 0} → BusCalls S → S → EndpointState → ℕ → List ℕ →
     Option Completion → Polled S
-taken_if k s e front others None = came None s e
+taken_if k s e front others None = front_found None s e
 taken_if k s e front others (Some c) =
-    came (Some c) (k.taken s front) (record e { pending = others })
+    front_found (Some c) (k.taken s front) (record e { pending = others })
 
 abbrev pub polled_of : {S : Type 0} → BusCalls S → S → EndpointState → List ℕ → Polled S
-polled_of k s e [] = came None s e
+polled_of k s e [] = front_found None s e
 polled_of k s e (front ∷ others) =
     taken_if k s e front others (transfer_completion (k.state s).past front)
 

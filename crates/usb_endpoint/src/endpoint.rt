@@ -11,7 +11,7 @@ ghost use Rattle.usb_endpoint.specs.CallErrors.{or_error};
 ghost use Rattle.usb_endpoint.specs.EndpointState.{route_of};
 ghost use Rattle.usb_endpoint.specs.Polls.{in_poll};
 ghost use Rattle.usb_endpoint.specs.Handles.{Stands, KeepsOthers};
-ghost use Rattle.usb_endpoint.specs.Waits.{polled, came};
+ghost use Rattle.usb_endpoint.specs.Waits.{polled, front_found};
 ghost use Rattle.usb_endpoint.specs.Submits.{is_valid, entered, Enters};
 ghost use Rattle.usb_endpoint.specs.Closes.{all_discarded, all_abandoned, after_close};
 
@@ -22,11 +22,11 @@ use std::collections::VecDeque;
 use std::fmt;
 use std::marker::{Model, PhantomData};
 use usb_bus::{Bus, Route};
-use usb_desc::NoMemory;
+use usb_desc::{Direction, NoMemory, TransferType};
 use usb_error::Error;
 use usb_xfer::{
-    Buffer, Completion, EndpointDirection, EndpointType, Pending, TransferData,
-    take_completed_from_queue,
+    Any, Buffer, Completion, EndpointDirection, EndpointType, KnownDirection, KnownType, Pending,
+    TransferData, take_completed_from_queue,
 };
 
 /// An open endpoint of type `T` and direction `D` (USB 2.0, section 9.6.6), with the transfers that
@@ -36,6 +36,7 @@ use usb_xfer::{
 pub struct Endpoint<T: EndpointType, D: EndpointDirection> {
     device: u8,
     address: u8,
+    kind: TransferType,
     maximum: usize,
     key: usize,
     pending: VecDeque<Pending<TransferData>>,
@@ -43,34 +44,33 @@ pub struct Endpoint<T: EndpointType, D: EndpointDirection> {
 }
 
 impl<T: EndpointType, D: EndpointDirection> Model for Endpoint<T, D> {
-    ghost use Rattle.usb_endpoint.specs.EndpointState.{EndpointState, HasPackets};
+    ghost use Rattle.usb_endpoint.specs.EndpointState.{EndpointState, IsOf};
 
     ghost Value = { EndpointState };
 
     ghost view = { λ e. record {
       device = e.device;
       address = e.address;
-      kind = T.TYPE;
+      kind = e.kind;
       maximum = e.maximum;
       key = e.key;
       pending = e.pending.items;
     } };
 
-    // packets have a size, and the address is one of the direction
-    ghost invariant = { λ e. HasPackets D.DIR e.address e.maximum };
+    ghost invariant = { λ e. IsOf T.admits D.admits e.kind e.address e.maximum };
 }
 
 impl<T: EndpointType, D: EndpointDirection> fmt::Debug for Endpoint<T, D> {
     fn fmt<W: fmt::Write>(&self, f: &mut fmt::Formatter<W>) -> fmt::Result {
         f.debug_struct("Endpoint")
             .field("address", &format_args!("0x{:02x}", self.address))
-            .field("type", &T::TYPE)
-            .field("direction", &D::DIR)
+            .field("type", &self.kind)
+            .field("direction", &Direction::from_address(self.address))
             .finish()
     }
 }
 
-impl<T: EndpointType, D: EndpointDirection> Endpoint<T, D> {
+impl<T: KnownType, D: KnownDirection> Endpoint<T, D> {
     /// An endpoint with nothing pending. The maximum packet size is in bytes.
     pub fn new(alloc: Global, device: u8, address: u8, maximum: usize, key: usize) -> Self
         requires packets { 0 < maximum }
@@ -87,9 +87,73 @@ impl<T: EndpointType, D: EndpointDirection> Endpoint<T, D> {
         Endpoint {
             device,
             address,
+            kind: T::TYPE,
             maximum,
             key,
             pending: VecDeque::new(alloc),
+            of: PhantomData,
+        }
+    }
+}
+
+impl<T: EndpointType, D: EndpointDirection> Endpoint<T, D> {
+    /// The endpoint as one of this type and direction, where it is one.
+    ///
+    /// # Errors
+    ///
+    /// The endpoint, where its type or its direction is another.
+    pub fn narrow<U: EndpointType, E: EndpointDirection>(self) -> Result<Endpoint<U, E>, Self>
+        ensures same { IfOk result (λ e. e ≡ self) }
+        ensures is { OnOk result (U.admits self.kind
+            × E.admits (direction_of_address self.address)) }
+        ensures back { IfErr result (λ e. e ≡ self) }
+        ensures other { OnErr result (U.admits self.kind
+            → E.admits (direction_of_address self.address) → ⊥) }
+    {
+        let is_of = U::admits(self.kind) && E::admits(Direction::from_address(self.address));
+        if !is_of {
+            return Err(self);
+        }
+        let Endpoint {
+            device,
+            address,
+            kind,
+            maximum,
+            key,
+            pending,
+            of: _,
+        } = self;
+        Ok(Endpoint {
+            device,
+            address,
+            kind,
+            maximum,
+            key,
+            pending,
+            of: PhantomData,
+        })
+    }
+
+    /// The endpoint as one of any type and direction.
+    pub fn widen(self) -> Endpoint<Any, Any>
+        ensures same { result ≡ self }
+    {
+        let Endpoint {
+            device,
+            address,
+            kind,
+            maximum,
+            key,
+            pending,
+            of: _,
+        } = self;
+        Endpoint {
+            device,
+            address,
+            kind,
+            maximum,
+            key,
+            pending,
             of: PhantomData,
         }
     }
@@ -97,7 +161,7 @@ impl<T: EndpointType, D: EndpointDirection> Endpoint<T, D> {
     /// The address: USB 2.0, table 9-13, `bEndpointAddress`.
     pub fn endpoint_address(&self) -> u8
         ensures address { result ≡ self.now.address }
-        ensures direction { direction_of_address result ≡ D.DIR }
+        ensures direction { D.admits (direction_of_address result) }
     {
         self.address
     }
@@ -132,7 +196,7 @@ impl<T: EndpointType, D: EndpointDirection> Endpoint<T, D> {
         Route {
             device: self.device,
             endpoint: self.address,
-            kind: T::TYPE,
+            kind: self.kind,
             maximum: self.maximum,
             key: self.key,
         }
@@ -189,7 +253,7 @@ impl<T: EndpointType, D: EndpointDirection> Endpoint<T, D> {
     pub fn poll_next_complete<B: Bus>(&mut self, bus: &mut B) -> Poll<Completion>
         requires some { 0 < length self.old.pending }
         requires stands { Stands (B.calls.state bus.old) self.old }
-        ensures polled { polled B.calls bus.old self.old ≡ came (in_poll result) bus.new self.new }
+        ensures polled { polled B.calls bus.old self.old ≡ front_found (in_poll result) bus.new self.new }
         ensures goes_on { GoesOn (B.calls.state bus.old) (B.calls.state bus.new) }
         ensures stands { Stands (B.calls.state bus.new) self.new }
         ensures others { KeepsOthers (B.calls.state bus.old) (B.calls.state bus.new) self.old.key }
@@ -267,6 +331,7 @@ impl<T: EndpointType, D: EndpointDirection> Endpoint<T, D> {
         let Endpoint {
             device: _,
             address: _,
+            kind: _,
             maximum: _,
             key,
             mut pending,

@@ -2,14 +2,12 @@
 //! submission.
 #![tactic(auto)]
 
-mod any_endpoint;
 mod endpoint;
 mod enter;
 mod laws;
 mod next_complete;
 mod waits;
 
-pub use any_endpoint::AnyEndpoint;
 pub use endpoint::Endpoint;
 pub use laws::{calls_keep_other_endpoints, completions_come_in_order, tickets_end_once};
 pub use next_complete::NextComplete;

@@ -4,7 +4,7 @@ ghost use Rattle.std.specs.Prelude.{◌≡◌, ◌<◌, length};
 ghost use Rattle.usb_bus.specs.Later.{GoesOn};
 ghost use Rattle.usb_endpoint.specs.Polls.{in_poll};
 ghost use Rattle.usb_endpoint.specs.Handles.{Stands, KeepsOthers};
-ghost use Rattle.usb_endpoint.specs.Waits.{polled, came};
+ghost use Rattle.usb_endpoint.specs.Waits.{polled, front_found};
 
 use crate::endpoint::Endpoint;
 use futures::task::Poll;
@@ -26,7 +26,7 @@ impl<'a, T: EndpointType, D: EndpointDirection> NextComplete<'a, T, D> {
         requires stands { Stands (B.calls.state bus.old) self.old.endpoint.now }
         ensures same_endpoint { self.new.endpoint.ghost_name ≡ self.old.endpoint.ghost_name }
         ensures polled { polled B.calls bus.old self.old.endpoint.now
-            ≡ came (in_poll result) bus.new self.new.endpoint.now }
+            ≡ front_found (in_poll result) bus.new self.new.endpoint.now }
         ensures goes_on { GoesOn (B.calls.state bus.old) (B.calls.state bus.new) }
         ensures stands { Stands (B.calls.state bus.new) self.new.endpoint.now }
         ensures others { KeepsOthers (B.calls.state bus.old) (B.calls.state bus.new) self.old.endpoint.now.key }

@@ -3,7 +3,7 @@
 ghost use Rattle.std.specs.Prelude.{◌≡◌, ◌<◌, [], Some, length, IfSome, IfNone, IfOk, OnErr, IfErr};
 ghost use Rattle.usb_bus.specs.Later.{GoesOn};
 ghost use Rattle.usb_endpoint.specs.Handles.{Stands, KeepsOthers};
-ghost use Rattle.usb_endpoint.specs.Waits.{came, polled, wait_next, EndedWhy, FoundWhy, front_of, time_is_up};
+ghost use Rattle.usb_endpoint.specs.Waits.{front_found, polled, wait_next, EndedWhy, FoundWhy, front_of, time_is_up};
 ghost use Rattle.usb_endpoint.specs.Blocking.{IsFinished, waited_by_seconds, transferred};
 
 use crate::endpoint::Endpoint;
@@ -29,7 +29,7 @@ impl<T: EndpointType, D: EndpointDirection> Endpoint<T, D> {
         requires some { 0 < length self.old.pending }
         requires stands { Stands (B.calls.state bus.old) self.old }
         ensures waited { wait_next B.calls timeout bus.old self.old
-            ≡ came result bus.new self.new }
+            ≡ front_found result bus.new self.new }
         ensures found_why { IfSome result (λ _.
             FoundWhy (B.calls.state bus.old) (B.calls.state bus.new) (front_of self.old.pending)) }
         ensures why { IfNone result
@@ -61,7 +61,7 @@ impl<T: EndpointType, D: EndpointDirection> Endpoint<T, D> {
         requires finished { IsFinished (B.calls.state bus.old).past (front_of self.old.pending) }
         ensures found { polled B.calls
             (waited_by_seconds B.calls (front_of self.old.pending) bus.old) self.old
-            ≡ came (Some result) bus.new self.new }
+            ≡ front_found (Some result) bus.new self.new }
         ensures stands { Stands (B.calls.state bus.new) self.new }
         ensures others { KeepsOthers (B.calls.state bus.old) (B.calls.state bus.new) self.old.key }
     {
@@ -91,7 +91,7 @@ impl<T: EndpointType, D: EndpointDirection> Endpoint<T, D> {
         requires none { self.old.pending ≡ [] }
         requires stands { Stands (B.calls.state bus.old) self.old }
         ensures transferred { IfOk result (λ c.
-            transferred B.calls timeout bus.old self.old buf ≡ came (Some c) bus.new self.new) }
+            transferred B.calls timeout bus.old self.old buf ≡ front_found (Some c) bus.new self.new) }
         ensures stands { Stands (B.calls.state bus.new) self.new }
         ensures others { KeepsOthers (B.calls.state bus.old) (B.calls.state bus.new) self.old.key }
         ensures rest { self.new ≡ self.old }

@@ -35,6 +35,6 @@ polled_event None = Pending
 polled_event (Some event) = Ready event
 
 -- a poll looks at one packet
-abbrev pub polled : Tree → List UdevPacket → Poll HotplugEvent
-polled t [] = Pending
-polled t (packet ∷ packets) = polled_event (event_of t packet)
+abbrev pub hotplug_polled : Tree → List UdevPacket → Poll HotplugEvent
+hotplug_polled t [] = Pending
+hotplug_polled t (packet ∷ packets) = polled_event (event_of t packet)

@@ -1,7 +1,7 @@
 //! Devices that come and go.
 
 ghost use Rattle.std.specs.Prelude.{◌≡◌, ◌++◌, IfOk, OnOk, OnErr, drop, string_bytes};
-ghost use Rattle.usb_enum.specs.Hotplug.{polled, event_of, connected, folder_below_sys, without_slashes};
+ghost use Rattle.usb_enum.specs.Hotplug.{hotplug_polled, event_of, connected, folder_below_sys, without_slashes};
 
 use crate::device::{DeviceId, DeviceInfo};
 use crate::probe::probe_device;
@@ -80,7 +80,7 @@ impl HotplugWatch {
     /// Looks at the next packet. It is pending where there is none, or where the packet gave no
     /// event. Where memory is wanting, the packet stays.
     pub fn poll_next(&mut self, tree: &AttrTree) -> Result<Poll<HotplugEvent>, NoMemory>
-        ensures event { IfOk result (λ p. p ≡ polled tree.now self.old) }
+        ensures event { IfOk result (λ p. p ≡ hotplug_polled tree.now self.old) }
         ensures ok { OnOk result (self.new ≡ drop 1 self.old) }
         ensures err { OnErr result (self.new ≡ self.old) }
     {

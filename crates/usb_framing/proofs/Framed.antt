@@ -1,5 +1,5 @@
 -- Over an exchange that only echoes, the packets that came are the first of those that were sent.
-use Rattle.std.proofs.Common.{◌∙◌, ◌≡◌, ◌≢◌, ℕ, ◌*◌, ◌<◌, List, [], ◌∷◌, ◌++◌, append-nil, append_assoc, Option, Some, None, true, false, refl, ap, sym, ◌⊎◌, inl, inr, drop}
+use Rattle.std.proofs.Common.{◌∙◌, ◌≡◌, ℕ, ◌*◌, ◌<◌, List, [], ◌∷◌, ◌++◌, append-nil, append_assoc, Option, Some, None, true, false, refl, ap, sym, ◌⊎◌, inl, inr, drop}
 use Rattle.std.specs.Prelude.{is_some, is_none}
 use Rattle.std.specs.List.{flat_map}
 use Rattle.std.proofs.lemmas.Option.{same_Some}
@@ -13,14 +13,14 @@ use Rattle.usb_io.specs.Streams.{holds, IsAscending, Each}
 use Rattle.usb_io.specs.Following.{IsMine}
 use Rattle.usb_io.specs.Writes.{pieces, packets_of}
 use Rattle.usb_io.specs.Carried.{Carries, AllCarry}
-use Rattle.usb_io.proofs.Delivered.{each-at, each-map, flat_map-none, delivered_by_tickets}
+use Rattle.usb_io.proofs.Delivered.{each-map, flat_map-none, delivered_by_tickets}
 use Rattle.usb_framing.specs.Messages.{AreFirstOf}
 use Rattle.usb_framing.specs.Exchange.{Exchange, OnlyEchoes}
 use Rattle.usb_framing.specs.Laws.{EchoesComeInOrder}
 use Rattle.usb_framing.proofs.Parts.{parts, parts-rest}
 use Rattle.usb_framing.proofs.Paces.{bytes_of, parts_by, parts_at, IsPaced}
-use Rattle.usb_framing.proofs.Handles.{IsOutLike, IfOut, IfIn, all-held}
-use Rattle.usb_framing.proofs.Echoes.{IsEchoed, later-parts, holds-each, echoed}
+use Rattle.usb_framing.proofs.Handles.{IsOutLike, IfOut, IfIn, each-at, holds-each, all-held}
+use Rattle.usb_framing.proofs.Echoes.{IsEchoed, later-parts, echoed}
 
 some-none : (o : Option ℕ) → is_none o ≡ false → is_some o ≡ true
 some-none None e = sym e
@@ -30,7 +30,7 @@ parts-is : (s : Ticket) (m : ℕ) (bytes : List ℕ) (a : ℕ) → s.maximum ≡
 parts-is s m bytes a maximum body = rw (maximum, body) refl
 
 -- what the acknowledgements took are the first of the packets of the transfers
-module _ (k : Exchange) (m : ℕ) (some : 0 < m) (apart : k.output ≢ k.input) (up : IsAscending k.outs) (past : List Event) (only : OnlyEchoes k past) (outs : Each (IfOut k m (tickets past)) k.outs) (ins : Each (IfIn k m (tickets past)) k.ins) (h : IsEchoed k m past) where
+module _ (k : Exchange) (m : ℕ) (some : 0 < m) (past : List Event) (outs : Each (IfOut k m (tickets past)) k.outs) (h : IsEchoed k m past) where
   parts-first : (ts : List ℕ) (transfers : List (List ℕ)) → IsAscending ts → Each (λ t. holds k.outs t ≡ true) ts → AllCarry past k.device k.output m ts transfers → AreFirstOf (flat_map (parts_at past) ts) (packets_of m transfers)
   parts-first [] [] rising held there = ([], refl)
   parts-first [] (b ∷ transfers) rising held there = absurd there
@@ -52,7 +52,7 @@ module _ (k : Exchange) (m : ℕ) (some : 0 < m) (apart : k.output ≢ k.input) 
       go : AreFirstOf (flat_map (parts_at past) ts) (packets_of m transfers) → ((is_none (fate past t).status ≡ true) ⊎ (is_none (fate past t).status ≡ false)) → AreFirstOf (parts_at past t ++ flat_map (parts_at past) ts) (pieces m b ++ packets_of m transfers)
       go others (inl none) =
           let unfinished : (fate past t).status ≡ None = is_none_none (fate past t).status none in
-          let later = each-map (λ u. holds k.outs u ≡ true) (λ u. t < u → parts_at past u ≡ []) ts (λ u here below. later-parts k m some apart up past only outs ins t u is.s is.at like unfinished (each-at (IfOut k m (tickets past)) k.outs u outs here) below) held.1 in
+          let later = each-map (λ u. holds k.outs u ≡ true) (λ u. t < u → parts_at past u ≡ []) ts (λ u here below. later-parts k m past t u is.s is.at like unfinished (each-at (IfOut k m (tickets past)) k.outs u outs here) below) held.1 in
           let nothing = flat_map-none (parts_at past) t ts rising.0 later in
           let left = pieces m (drop (m * (fate past t).acks) b) in
           let all = parts-rest m b (fate past t).acks some (pace.open_more unfinished) in
@@ -101,7 +101,7 @@ echoes_come_in_order k past m transfers some only there up mine =
       | inr apart ↦
           let ins = ins-like k past m mine in
           let h = echoed k m some apart up past only outs ins in
-          let first = parts-first k m some apart up past only outs ins h k.outs transfers up (holds-each k.outs) there in
+          let first = parts-first k m some past outs h k.outs transfers up (holds-each k.outs) there in
           (first.0, rw h.same first.1)
     ]
   where

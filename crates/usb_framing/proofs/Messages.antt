@@ -1,20 +1,23 @@
 -- Over an exchange that only echoes, the messages that were read are the first of those that were written.
-use Rattle.std.proofs.Common.{◌∙◌, ◌≡◌, ℕ, ◌+◌, ◌*◌, ◌≤◌, arith, List, [], ◌∷◌, ◌++◌, length, append_assoc, Option, Some, None, refl, ap, slice_get, inl, inr}
+use Rattle.std.proofs.Common.{◌∙◌, ◌≡◌, ℕ, ◌+◌, ◌*◌, ◌≤◌, arith, List, [], ◌∷◌, ◌++◌, length, append_assoc, refl, ap, sym, inl, inr}
+use Rattle.std.specs.List.{flat_map}
 use Rattle.std.proofs.lemmas.List.Concat.{flat_map-append}
-use Rattle.std.proofs.lemmas.Bool.{cases_Bool, cases_lt, lt-ltb, le-ltb}
+use Rattle.std.proofs.lemmas.Option.{slice_get_cases}
+use Rattle.std.proofs.lemmas.Bool.{cases_lt, lt-ltb}
 use Rattle.usb_kernel.specs.declared.event.Event.{Event}
-use Rattle.usb_kernel.specs.declared.event.Event.TheVariants.{Submit, Refuse, Packet, Ack, Echo, Fail, Discard, Reap, Unplug}
 use Rattle.usb_kernel.specs.Tickets.{Ticket, tickets}
-use Rattle.usb_kernel.specs.Journal.{fate, oldest, taken_of}
-use Rattle.usb_io.specs.Streams.{Item, Byte, End, marks, stream_of, holds, fitting, accepted_by, echoed_by, delivered, Each}
+use Rattle.usb_kernel.specs.Fates.{Fate}
+use Rattle.usb_kernel.specs.Journal.{fate}
+use Rattle.usb_kernel.proofs.Rules.{KeepsAlways, event-keeps-always, tickets-stay}
+use Rattle.usb_io.specs.Streams.{Item, Byte, End, marks, stream_of, among, packets_at, added, delivered, Each}
 use Rattle.usb_io.specs.Writes.{written, packets_of, items_of}
-use Rattle.usb_io.proofs.Delivered.{each-at}
+use Rattle.usb_io.proofs.Delivered.{each-map, each-among, finish-packets, with_ack-packets, reap-packets, added-more}
 use Rattle.usb_io.proofs.Pieces.{packets_say_items}
 use Rattle.usb_framing.specs.Messages.{messages_from, messages, AreFirstOf}
 use Rattle.usb_framing.specs.Exchange.{Exchange}
 use Rattle.usb_framing.specs.Laws.{MessagesAreFirst}
-use Rattle.usb_framing.proofs.Handles.{IfIn}
-use Rattle.usb_framing.proofs.Echoes.{in-before}
+use Rattle.usb_framing.proofs.Sames.{with_packet-packets}
+use Rattle.usb_framing.proofs.Handles.{IfIn, each-at, new-untouched}
 use Rattle.usb_framing.proofs.Framed.{ins-like, echoes_come_in_order}
 
 -- the first of the items have the first of the messages
@@ -23,51 +26,62 @@ messages-first bytes [] ys = (messages_from bytes ys, refl)
 messages-first bytes (Byte b ∷ xs) ys = messages-first (bytes ++ b ∷ []) xs ys
 messages-first bytes (End ∷ xs) ys = let h = messages-first [] xs ys in (h.0, ap (λ (ms : List (List ℕ)). bytes ∷ ms) h.1)
 
--- at a maximum of 0 each accepted packet is empty, and makes no item
-fitting-empty : (o : Option Ticket) (b : List ℕ) → ((s : Ticket) → o ≡ Some s → s.maximum ≡ 0) → stream_of 0 (fitting o b) ≡ []
-fitting-empty None b none = refl
-fitting-empty (Some s) b none =
-    elim (cases_lt s.maximum (length b)) [
-      | inl long ↦ rw (lt-ltb s.maximum (length b) long) refl
-      | inr fits ↦ rw (le-ltb s.maximum (length b) fits) (empty b (omega (arith, none s refl)))
-    ]
+-- the packets that came to a ticket make no item at a maximum of 0
+abbrev MakesNone : Fate → Type 0
+MakesNone f = stream_of 0 f.packets ≡ []
+
+-- since each packet that a ticket of this maximum accepts is empty
+none-keeps : (s : Ticket) → s.maximum ≡ 0 → KeepsAlways MakesNone s
+none-keeps s zero = record {
+  packet = λ g b unfinished none. elim (cases_lt s.maximum (length b)) [
+    | inl long ↦ rw (lt-ltb s.maximum (length b) long, finish-packets 75 g) none
+    | inr fits ↦ rw (with_packet-packets s b g fits, flat_map-append (marks 0) g.packets (b ∷ []), none) (empty b (omega (arith, zero)))
+  ];
+  ack = λ g unfinished none. rw (with_ack-packets s g) none;
+  ends = λ g n is none. rw (finish-packets n g) none;
+  reaps = λ g none. rw (reap-packets s g) none;
+}
   where
     empty : (b : List ℕ) → length b ≤ 0 → stream_of 0 (b ∷ []) ≡ []
     empty [] fits = refl
     empty (x ∷ b) fits = absurd (omega arith)
 
-module _ (k : Exchange) where
-  accepted-empty : (past : List Event) (o : Option ℕ) (b : List ℕ) → Each (IfIn k 0 (tickets past)) k.ins → stream_of 0 (accepted_by k.ins o (tickets past) b) ≡ []
-  accepted-empty past None b ins = refl
-  accepted-empty past (Some t) b ins =
-      elim (cases_Bool (holds k.ins t)) [
-        | inl held ↦ rw held (fitting-empty (slice_get (tickets past) t) b (λ s at. let like = each-at (IfIn k 0 (tickets past)) k.ins t ins held s at in like.maximum))
-        | inr not ↦ rw not refl
-      ]
+-- so it is of each ticket of the IN handle
+makes-none : (k : Exchange) (past : List Event) (t : ℕ) → IfIn k 0 (tickets past) t → MakesNone (fate past t)
+makes-none k [] t of = refl
+makes-none k (event ∷ past) t of =
+    let before = makes-none k past t (λ s at. of s (tickets-stay past event t s at)) in
+    elim (slice_get_cases (tickets past) t).1 [
+      | inl here ↦
+          let is = of here.0 (tickets-stay past event t here.0 here.2) in
+          event-keeps-always MakesNone past event t here.0 here.2 (none-keeps here.0 is.maximum) before
+      | inr gone ↦ let new = new-untouched past event t gone.0 in rw new.packets refl
+    ]
 
-  echoed-empty : (past : List Event) (x y later : Option ℕ) → Each (IfIn k 0 (tickets past)) k.ins → stream_of 0 (echoed_by k.ins x y later (tickets past) (fate past)) ≡ []
-  echoed-empty past None y later ins = refl
-  echoed-empty past (Some t) None later ins = refl
-  echoed-empty past (Some t) (Some j) later ins = accepted-empty past later (taken_of (slice_get (tickets past) t) (fate past t)) ins
-
-  stream-empty : (past : List Event) → Each (IfIn k 0 (tickets past)) k.ins → stream_of 0 (delivered k.ins past) ≡ []
-  stream-empty [] ins = refl
-  stream-empty (Submit n d e q body room deadline ∷ past) ins = stream-empty past (in-before k 0 past (Submit n d e q body room deadline) ins)
-  stream-empty (Refuse n d e q body room errno ∷ past) ins = stream-empty past (in-before k 0 past (Refuse n d e q body room errno) ins)
-  stream-empty (Packet d e b ∷ past) ins =
-      rw (flat_map-append (marks 0) (delivered k.ins past) (accepted_by k.ins (oldest past d e) (tickets past) b), stream-empty past ins) (accepted-empty past (oldest past d e) b ins)
-  stream-empty (Ack d e ∷ past) ins = stream-empty past ins
-  stream-empty (Echo d o i ∷ past) ins =
-      rw (flat_map-append (marks 0) (delivered k.ins past) (echoed_by k.ins (oldest past d o) (oldest past d i) (oldest (Ack d o ∷ past) d i) (tickets past) (fate past)), stream-empty past ins)
-      (echoed-empty past (oldest past d o) (oldest past d i) (oldest (Ack d o ∷ past) d i) ins)
-  stream-empty (Fail d e errno ∷ past) ins = stream-empty past ins
-  stream-empty (Discard n ∷ past) ins = stream-empty past ins
-  stream-empty (Reap n ∷ past) ins = stream-empty past ins
-  stream-empty (Unplug d ∷ past) ins = stream-empty past ins
-
+-- where nothing stands in both together, nothing stands in front, and nothing behind
 left-empty : (xs ys : List Item) → xs ++ ys ≡ [] → xs ≡ []
 left-empty [] ys none = refl
 left-empty (x ∷ xs) ys none = cc
+
+right-empty : (xs ys : List Item) → xs ++ ys ≡ [] → ys ≡ []
+right-empty [] ys none = none
+right-empty (x ∷ xs) ys none = cc
+
+-- what an event adds to tickets of the IN handle makes no item either
+added-empty : (k : Exchange) (past : List Event) (event : Event) (ts : List ℕ) → Each (IfIn k 0 (tickets (event ∷ past))) ts → stream_of 0 (flat_map (added past event) ts) ≡ []
+added-empty k past event [] of = refl
+added-empty k past event (t ∷ ts) of =
+    let all : stream_of 0 (packets_at past t ++ added past event t) ≡ [] = rw (← added-more past event t) (makes-none k (event ∷ past) t of.0) in
+    let parts = sym (flat_map-append (marks 0) (packets_at past t) (added past event t)) ∙ all in
+    rw (flat_map-append (marks 0) (added past event t) (flat_map (added past event) ts), right-empty (stream_of 0 (packets_at past t)) (stream_of 0 (added past event t)) parts) (added-empty k past event ts of.1)
+
+-- so nothing that the IN handle receives does
+stream-empty : (k : Exchange) (past : List Event) → Each (IfIn k 0 (tickets past)) k.ins → stream_of 0 (delivered k.ins past) ≡ []
+stream-empty k [] of = refl
+stream-empty k (event ∷ past) of =
+    let before = each-map (IfIn k 0 (tickets (event ∷ past))) (IfIn k 0 (tickets past)) k.ins (λ t is s at. is s (tickets-stay past event t s at)) of in
+    let each = each-among (IfIn k 0 (tickets (event ∷ past))) k.ins (event ∷ past) (λ t held. each-at (IfIn k 0 (tickets (event ∷ past))) k.ins t of held) in
+    rw (flat_map-append (marks 0) (delivered k.ins past) (flat_map (added past event) (among k.ins (event ∷ past))), stream-empty k past before) (added-empty k past event (among k.ins (event ∷ past)) each)
 
 -- the first of what came, of what was sent, and of what was written
 chain : (m : ℕ) (consumed more : List Item) (came rest sent : List (List ℕ)) (standing items : List Item) → consumed ++ more ≡ stream_of m came → came ++ rest ≡ sent → stream_of m sent ++ standing ≡ items → consumed ++ (more ++ (stream_of m rest ++ standing)) ≡ items
@@ -85,7 +99,8 @@ messages_are_first k past m more calls consumed only plain there up mine prefix 
           (result.0, result.1 ∙ ap messages all)
       | inr least ↦
           let zero : m ≡ 0 = omega arith in
-          let nothing : stream_of m (delivered k.ins past) ≡ [] = rw zero (stream-empty k past (rw zero at (ins-like k past m mine))) in
+          let ins : Each (IfIn k 0 (tickets past)) k.ins = rw zero at (ins-like k past m mine) in
+          let nothing : stream_of m (delivered k.ins past) ≡ [] = rw zero (stream-empty k past ins) in
           let none : consumed ≡ [] = left-empty consumed prefix.0 (prefix.1 ∙ nothing) in
           (messages (items_of calls), rw none refl)
     ]

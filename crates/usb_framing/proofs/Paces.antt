@@ -1,7 +1,7 @@
 -- How far a ticket that sends has come.
 use Rattle.std.proofs.Common.{◌∙◌, ◌≡◌, ℕ, ◌+◌, ◌*◌, ◌<◌, ◌≤◌, arith, List, [], ◌∷◌, length, Option, Some, None, Bool, true, refl, ap, sym, slice_get, inl, inr}
 use Rattle.std.specs.Prelude.{is_some, min}
-use Rattle.std.proofs.lemmas.Option.{none-some, same_Some}
+use Rattle.std.proofs.lemmas.Option.{none-some}
 use Rattle.std.proofs.lemmas.Bool.{cases_lt, eq-eqb, le-leb, lt-leb, false≢true}
 use Rattle.usb_kernel.specs.declared.event.Event.{Event}
 use Rattle.usb_kernel.specs.declared.event.Event.TheVariants.{Ack}
@@ -69,13 +69,9 @@ paced-ticket s m bytes f body maximum some none more = fields s.device s.endpoin
     fields : (d e q room : ℕ) (refused : Bool) (deadline : Option ℕ) (b : Body) (ps : List (List ℕ)) (a : ℕ) (st : Option ℕ) (r : Bool) → b ≡ Sent bytes → q ≡ m → st ≡ None → HasMore m bytes a → IsPaced m bytes (with_ack (record { device = d; endpoint = e; maximum = q; body = b; capacity = room; refused = refused; deadline = deadline }) (record { packets = ps; acks = a; status = st; reaped = r }))
     fields d e q room refused deadline b ps a st r eb em es more = rw (eb, em, es) (paced-ack d e m room refused deadline bytes ps a r some more)
 
--- at the oldest ticket of its endpoint an acknowledgement counts
-pub acked-fate : (past : List Event) (d e x : ℕ) (s : Ticket) → oldest past d e ≡ Some x → slice_get (tickets past) x ≡ Some s → fate (Ack d e ∷ past) x ≡ with_ack s (fate past x)
-acked-fate past d e x s is at = go (oldest past d e) is
-  where
-    go : (o : Option ℕ) → o ≡ Some x → at_oldest o with_ack (tickets past) (fate past) x ≡ with_ack s (fate past x)
-    go None e = absurd (none-some x e)
-    go (Some y) e = let same : y ≡ x = same_Some y x e in rw (eq-eqb y x same, at) refl
+-- what comes to an endpoint comes to its oldest ticket
+pub served-fate : (step : Ticket → Fate → Fate) (past : List Event) (d e x : ℕ) (s : Ticket) → oldest past d e ≡ Some x → slice_get (tickets past) x ≡ Some s → at_oldest (oldest past d e) step (tickets past) (fate past) x ≡ step s (fate past x)
+served-fate step past d e x s is at = rw is (rw (eq-eqb x x refl, at) refl)
 
 pub acked-acks : (past : List Event) (d e x : ℕ) (s : Ticket) → oldest past d e ≡ Some x → slice_get (tickets past) x ≡ Some s → (fate (Ack d e ∷ past) x).acks ≡ (fate past x).acks + 1
-acked-acks past d e x s is at = ap (λ (f : Fate). f.acks) (acked-fate past d e x s is at) ∙ with_ack-acks s (fate past x)
+acked-acks past d e x s is at = ap (λ (f : Fate). f.acks) (served-fate with_ack past d e x s is at) ∙ with_ack-acks s (fate past x)

@@ -15,12 +15,9 @@ use Rattle.usb_steps.specs.KernelSteps.{own_steps_of}
 use Rattle.usb_script.specs.declared.item.Item.{Item}
 use Rattle.usb_script.specs.declared.item.Item.TheVariants.{Write}
 use Rattle.usb_script.specs.declared.reading.Reading.TheVariants.{Read}
-use Rattle.usb_script.specs.EndpointCalls.{endpoint_call_of}
-use Rattle.usb_script.specs.LineForms.{named_of, form_of, item_of, item_reading_of, own_reading_of, reading_of}
-use Rattle.usb_script.specs.ReaderCalls.{read_call_of, poll_call_of, consume_call_of, reader_call_of}
-use Rattle.usb_script.specs.Waits.{wait_call_of}
-use Rattle.usb_script.specs.WithSteps.{field_and_steps}
-use Rattle.usb_script.specs.WriterCalls.{write_call_of}
+use Rattle.usb_script.specs.Forms.{forms, named_of}
+use Rattle.usb_script.specs.LineForms.{form_of, item_of, item_reading_of, own_reading_of, reading_of}
+use Rattle.usb_script.specs.Shapes.{field_and_steps}
 use Rattle.usb_parse.specs.Order.{may_follow}
 use Rattle.usb_generated.specs.Generated.{message, write_of}
 use Rattle.usb_generated.proofs.ReadOn.{Reads, nothing_reads, line_reads}
@@ -102,7 +99,7 @@ split : (word : List ℕ) → list_all is_visible word ≡ true → is_word word
 split word all some = let here = one_word word all in rw (here, some) refl
 
 form : (word bytes : List ℕ) → bytes_of word ≡ Some bytes → form_of (codes "write" ∷ codes "w0" ∷ word ∷ []) ≡ Some (Write 0 bytes [])
-unfolding form_of named_of wait_call_of endpoint_call_of read_call_of poll_call_of consume_call_of reader_call_of write_call_of one_and_more field_and_steps name_of index_of number_of decimal_of own_steps_of
+unfolding form_of named_of forms one_and_more field_and_steps name_of index_of number_of decimal_of own_steps_of
 form word bytes spelled = rw spelled refl
 
 own_reading : (word : List ℕ) (item : Item) → list_all is_visible word ≡ true → item_of (words_for word) ≡ Some item → own_reading_of (words_for word) ≡ Some (Read item)

@@ -19,9 +19,9 @@ use Rattle.usb_endpoint.specs.Submits.{Enters}
 use Rattle.usb_io.specs.Readers.{no_bytes}
 use Rattle.usb_bus.specs.BusCalls.{BusCalls}
 use Rattle.usb_io.specs.Writers.{WriterState, Writing, writing, out_buffer, empty_buffer, send, sent, sent_end, kept_buffer, with_taken, KeepsWriter}
-use Rattle.usb_io.specs.WriteAnswers.{accepted, accepted_count, accepts, AcceptsNone}
+use Rattle.usb_io.specs.WriteAnswers.{accepted, accepted_count, accepts}
 use Rattle.usb_io.specs.Writes.{Call, Accept, Flush, Finish, Written, written, flushes, ending, accepts as accepts_of}
-use Rattle.usb_io.specs.Carried.{Carries, AllCarry, HandleCarries, CarriesOn, TellsOn, TellsShort, sent_bytes, ended_bytes, full_bytes}
+use Rattle.usb_io.specs.Carried.{Carries, AllCarry, HandleCarries, CarriesOn, TellsOn, TellsShort, sent_bytes, ended_bytes, full_bytes, submitted_calls}
 use Rattle.usb_io.specs.Streams.{Each, IsAscending}
 use Rattle.usb_io.proofs.Following.{slice_get-last, ascending-push}
 use Rattle.std.proofs.lemmas.Option.{slice_get_within}
@@ -191,20 +191,20 @@ sent-parts k None w was before stands = (refl, rw (← stands) (sym (append-nil 
 sent-parts k (Some []) w was before stands = (refl, rw (← stands) (sym (append-nil before.transfers)), rw (← stands) (ap (λ (b : Option (List ℕ)). unwrap_or b []) (sym was)))
 sent-parts k (Some (x ∷ xs)) w was before stands = (refl, rw (← stands) refl, rw (← stands) refl)
 
-pub tells_flushed : {S A E : Type 0} (r : Result A E) (k : BusCalls S) (old new : S) (w w' : WriterState) → OnOk r (writing new w' ≡ sent k w.buffer (writing old w)) → OnOk r (CarriesOn (k.state old) (k.state new) w.endpoint w'.endpoint (sent_bytes w.buffer)) → OnOk r (TellsOn (k.state old) (k.state new) w w' (Flush ∷ []))
-tells_flushed (Ok x) k old new w w' is carries =
+tells-flushed : {S : Type 0} (k : BusCalls S) (old new : S) (w w' : WriterState) → writing new w' ≡ sent k w.buffer (writing old w) → CarriesOn (k.state old) (k.state new) w.endpoint w'.endpoint (sent_bytes w.buffer) → TellsOn (k.state old) (k.state new) w w' (Flush ∷ [])
+tells-flushed k old new w w' is carries =
     let size : w'.size ≡ w.size = ap (λ (x : Writing _). x.writer.size) is ∙ (sent-parts k w.buffer (writing old w) refl (record { transfers = []; standing = unwrap_or w.buffer [] }) refl).0 in
     tells_from (k.state old) (k.state new) w w' (sent_bytes w.buffer) (Flush ∷ []) carries size
     (λ before stands. (
     let parts = sent-parts k w.buffer (writing old w) refl (written w.endpoint.maximum w.size before) stands in
     (parts.1, parts.2 ∙ ap (λ (x : Writing _). unwrap_or x.writer.buffer []) (sym is))
     ))
-tells_flushed (Err e) k old new w w' is carries = is
 
--- nothing changed
-pub tells_nothing : {S A E : Type 0} (r : Result A E) (state : S → BusState) (old new : S) (w w' : WriterState) → OnErr r (writing new w' ≡ writing old w) → OnErr r (TellsOn (state old) (state new) w w' [])
-tells_nothing (Ok x) state old new w w' is = is
-tells_nothing (Err e) state old new w w' is = subst (λ (x : Writing _). TellsOn (state old) (state x.bus) w x.writer []) (sym is) (tells_same (state old) w)
+-- a submission, of which nothing changes where memory is lacking
+pub tells_submitted : {S E : Type 0} (r : Result (Unit {0}) E) (k : BusCalls S) (old new : S) (w w' : WriterState) → OnOk r (writing new w' ≡ sent k w.buffer (writing old w)) → OnOk r (CarriesOn (k.state old) (k.state new) w.endpoint w'.endpoint (sent_bytes w.buffer)) → OnErr r (writing new w' ≡ writing old w)
+    → TellsOn (k.state old) (k.state new) w w' (submitted_calls r)
+tells_submitted (Ok u) k old new w w' is carries same = tells-flushed k old new w w' is carries
+tells_submitted (Err e) k old new w w' is carries same = subst (λ (x : Writing _). TellsOn (k.state old) (k.state x.bus) w x.writer []) (sym same) (tells_same (k.state old) w)
 
 -- what a writer that took a front keeps of its bytes
 kept-bytes : (size n : ℕ) (buffer : Option (List ℕ)) (room left : ℕ) → unwrap_or (kept_buffer size n buffer room left) [] ≡ unwrap_or buffer []
@@ -245,12 +245,6 @@ tells_accepted k old new w w' src n count is carries =
     let all = ap (accepts_of w.size (written w.endpoint.maximum w.size before).transfers) same in
     (ap (λ (w : Written). w.transfers) all ∙ parts.0, ap (λ (w : Written). w.standing) all ∙ parts.1 ∙ ap (λ (x : Writing _). unwrap_or x.writer.buffer []) (sym is))
     ))
-
--- a write that found no memory
-pub tells_none : {S : Type 0} (state : S → BusState) (old new : S) (w w' : WriterState) → AcceptsNone (writing old w) (writing new w') → TellsOn (state old) (state new) w w' []
-tells_none state old new w w' none =
-    subst (λ (s : _). TellsOn (state old) (state s) w w' []) (sym none.bus)
-    (tells_drained (state old) (state old) w w' (subst (λ (e : EndpointState). CarriesOn (state old) (state old) w.endpoint e []) (sym (ap (λ (w : WriterState). w.endpoint) none.rest)) (carries_same (state old) w.endpoint)) (ap (λ (w : WriterState). w.size) none.rest) none.bytes)
 
 pub carries_submitted_ok : {S A E : Type 0} (r : Result A E) (state : S → BusState) (old new : S) (e e0 next : EndpointState) (b : BufferState) (valid : Bool) → e ≡ e0 → e.address < 128 → OnOk r (Enters (state old) (state new) (route_of e) b valid) → OnOk r (next ≡ record e { pending = e.pending ++ length (tickets (state old).past) ∷ [] }) → OnOk r (CarriesOn (state old) (state new) e0 next (b.bytes ∷ []))
 carries_submitted_ok (Ok x) state old new e e0 next b valid same output enters is = subst (λ (e : EndpointState). CarriesOn (state old) (state new) e next (b.bytes ∷ [])) same (carries_submitted (state old) (state new) e next b valid output enters is)

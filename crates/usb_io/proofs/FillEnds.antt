@@ -8,7 +8,7 @@ use Rattle.usb_bus.specs.BusCalls.{BusCalls}
 use Rattle.usb_endpoint.specs.EndpointState.{EndpointState}
 use Rattle.usb_endpoint.specs.Waits.{wait_next}
 use Rattle.usb_io.specs.Readers.{ReaderState, no_bytes, turns, is_end}
-use Rattle.usb_io.specs.Reads.{Reading, pending_of, begin_turn, front_kept, turn_from, turn_once, turned_on, turned_if, turned_from, turned, most_turns}
+use Rattle.usb_io.specs.Reads.{Reading, pending_of, begin_turn, front_read, turn_from, turn_once, turned_on, turned_if, turned_from, turned, most_turns}
 use Rattle.usb_io.specs.Answers.{without_bytes, standing, answer, fill_came}
 use Rattle.usb_io.specs.declared.turned.Once.{Once}
 use Rattle.usb_io.specs.declared.turned.Once.TheVariants.{Took, NonePending, NotCome}
@@ -29,7 +29,7 @@ Ends us Stopped w = no_bytes w.reader.unread ≡ true
 Ends us InVain w = Unit {0}
 
 module _ {S : Type 0} (k : BusCalls S) (us : Bool) (timeout : ℕ) where
-  front-ends : (r : ReaderState) (bus : S) (e : EndpointState) (o : Option Completion) → OnceEnds (front_kept r bus e o).0 (front_kept r bus e o).1
+  front-ends : (r : ReaderState) (bus : S) (e : EndpointState) (o : Option Completion) → OnceEnds (front_read r bus e o).0 (front_read r bus e o).1
   front-ends r bus e None = tt
   front-ends r bus e (Some c) = tt
 

@@ -3,25 +3,21 @@ use Rattle.std.proofs.Common.{◌≡◌, ℕ, zero, suc, ◌-◌, Bool, true, fa
 use Rattle.std.specs.Prelude.{nat_lt, min, is_none, IfOk, IfErr}
 use Rattle.std.specs.Borrow.{Bor}
 use Rattle.std.proofs.lemmas.Bool.{and_parts}
-use Rattle.futures.specs.declared.task.Poll.{Poll}
-use Rattle.futures.specs.declared.task.Poll.TheVariants.{Ready, Pending}
 use Rattle.usb_desc.specs.declared.error.Fail.{Fail}
 use Rattle.usb_desc.specs.declared.error.Fail.TheVariants.{Cause, Memory}
 use Rattle.usb_xfer.specs.declared.transfer.Completion.{Completion}
 use Rattle.usb_bus.specs.BusCalls.{BusCalls}
 use Rattle.usb_bus.specs.Completions.{transfer_completion}
-use Rattle.usb_endpoint.specs.Polls.{IfReady, IfPending}
 use Rattle.usb_endpoint.specs.Waits.{taken_if, polled_of, front_of, waited}
 use Rattle.usb_io.specs.Readers.{ReaderState, no_bytes, with_taken, with_read, without_end, turns}
-use Rattle.usb_io.specs.Reads.{Reading, reading, pending_of, ended_off, submit_one, submit_more, begin_turn, wait_kept, turn_from, turn_once, Turns, turned_on, turned_if, turned_from, turned, most_turns, FilledShort, TurnedShort, filled_to}
+use Rattle.usb_io.specs.Reads.{Reading, reading, pending_of, ended_off, submit_one, submit_more, begin_turn, wait_read, turn_from, turn_once, Turns, turned_on, turned_if, turned_from, turned, most_turns, FilledShort, TurnedShort, filled_to}
 use Rattle.usb_io.specs.Answered.{answered}
 use Rattle.usb_io.specs.Answers.{fill_came, handed_over, read_came, FillFails, ReadFails}
-use Rattle.usb_io.specs.Lent.{Filled, PollFilled}
+use Rattle.usb_io.specs.Lent.{Filled}
 use Rattle.usb_io.specs.declared.turned.Once.{Once}
 use Rattle.usb_io.specs.declared.turned.Once.TheVariants.{Took, NonePending, NotCome}
 use Rattle.usb_io.specs.declared.turned.Turned.{Turned}
 use Rattle.usb_io.specs.declared.fault.ReadFault.{ReadFault}
-use Rattle.usb_io.specs.declared.fault.ReadFault.TheVariants.{TimedOut}
 
 -- each submission; of a reader that turns, the end that goes, and the taking of the front; and each wait
 pub record Keeps {S : Type 0} (k : BusCalls S) (us : Bool) (timeout : ℕ) (P : Reading S → Type 0) : Type 0 where
@@ -80,7 +76,7 @@ module _ {S : Type 0} (k : BusCalls S) (us : Bool) (timeout : ℕ) (P : Reading 
       ]
 
   front-keeps : (w : Reading S) (front : ℕ) (others : List ℕ) (o : Option Completion) → pending_of w ≡ front ∷ others → turns us w.reader ≡ true → transfer_completion (k.state w.bus).past front ≡ o → P w
-      → P (wait_kept w.reader (taken_if k w.bus w.reader.endpoint front others o)).1
+      → P (wait_read w.reader (taken_if k w.bus w.reader.endpoint front others o)).1
   front-keeps w front others None was goes come holds = holds
   front-keeps w front others (Some c) was goes come holds = keeps.taking w front others c was goes come holds
 
@@ -88,7 +84,7 @@ module _ {S : Type 0} (k : BusCalls S) (us : Bool) (timeout : ℕ) (P : Reading 
   turn-keeps [] w was goes holds = holds
   turn-keeps (front ∷ others) w was goes holds =
       let mid = waited k front timeout w.bus in
-      subst (λ (ts : List ℕ). P (wait_kept w.reader (polled_of k (waited k (front_of ts) timeout w.bus) w.reader.endpoint ts)).1) (sym was)
+      subst (λ (ts : List ℕ). P (wait_read w.reader (polled_of k (waited k (front_of ts) timeout w.bus) w.reader.endpoint ts)).1) (sym was)
       (front-keeps (reading mid w.reader) front others (transfer_completion (k.state mid).past front) was goes refl (keeps.wait w front others was holds))
 
   once-keeps : (w : Reading S) → turns us w.reader ≡ true → P w → P (turn_once k timeout w).1
@@ -129,7 +125,7 @@ module _ {S : Type 0} (k : BusCalls S) (us : Bool) (timeout : ℕ) (P : Reading 
   short-keeps : (old new : Reading S) → TurnedShort k us timeout old new → P old → P new
   short-keeps old new short holds = filled_short-keeps short.last.reader.n short.last new short.short (turns-keep short.ws old short.last short.are holds)
 
-  -- what they answered, whatever it is
+  -- what they answered, whatever it is (a poll is a wait of no time)
   fill_fails-keep : (old new : Reading S) (e : Fail ReadFault) → FillFails k us timeout old new e → P old → P new
   fill_fails-keep old new (Cause f) is holds = subst P (ap (λ a. a.left) is) (fill-keeps old holds)
   fill_fails-keep old new Memory short holds = short-keeps old new short holds
@@ -146,15 +142,3 @@ module _ {S : Type 0} (k : BusCalls S) (us : Bool) (timeout : ℕ) (P : Reading 
   pub fill_answer-keeps : (old new : Reading S) (r : Result (Bor (List ℕ)) (Fail ReadFault)) → Filled k us timeout old new r → P old → P new
   fill_answer-keeps old new (Ok s) is holds = subst P (ap (λ a. a.left) is) (fill-keeps old holds)
   fill_answer-keeps old new (Err e) failed holds = fill_fails-keep old new e failed holds
-
--- and of a poll
-module _ {S : Type 0} (k : BusCalls S) (us : Bool) (P : Reading S → Type 0) (keeps : Keeps k us 0 P) where
-  pub poll_answer-keeps : (most : ℕ) (old new : Reading S) (bytes : ℕ → List ℕ) (p : Poll (Result ℕ (Fail ReadFault))) → KeepsRead P
-      → IfReady p (λ r. IfOk r (λ n. read_came k us 0 most old ≡ answered (Ok (bytes n)) new)) → IfReady p (λ r. IfErr r (ReadFails k us 0 most old new))
-      → IfPending p (read_came k us 0 most old ≡ answered (Err TimedOut) new) → P old → P new
-  poll_answer-keeps most old new bytes (Ready r) read is failed pending holds = read_answer-keeps k us 0 P keeps most old new bytes r read is failed holds
-  poll_answer-keeps most old new bytes Pending read is failed pending holds = subst P (ap (λ a. a.left) pending) (read-keeps k us 0 P keeps most old read holds)
-
-  pub poll_fill_answer-keeps : (old new : Reading S) (p : Poll (Result (Bor (List ℕ)) (Fail ReadFault))) → PollFilled k us old new p → P old → P new
-  poll_fill_answer-keeps old new (Ready r) filled holds = fill_answer-keeps k us 0 P keeps old new r filled.0 holds
-  poll_fill_answer-keeps old new Pending is holds = subst P (ap (λ a. a.left) is) (fill-keeps k us 0 P keeps old holds)

@@ -17,7 +17,7 @@ module _ {S : Type 0} (k : BusCalls S) (timeout : ℕ) (src : List ℕ) (old mid
       ∙ ap (λ (w : Writing S). answered (Ok n) w) (sym is)
 
   -- or found no memory for it
-  pub write-short : write_drained k timeout old ≡ answered (Ok tt) mid → AcceptsNone mid new → WriteShort k timeout old new
+  pub write-short : write_drained k timeout old ≡ answered (Ok tt) mid → AcceptsNone src mid new → WriteShort k timeout src old new
   write-short came none = record { drained = ap (λ (d : Drained S). d.answer) came; none = rw came none }
 
 -- a front failed, or was not there

@@ -2,8 +2,6 @@
 use Rattle.std.specs.Prelude.{ℕ, ◌≡◌, ◌⊎◌, Bool, true, false, List, [], ◌∷◌, ◌++◌, ◌==◌, if◌then◌else◌, length, take, unwrap_or, Option, Some, None, slice_get, Result, Ok, Err}
 use Rattle.usb_desc.specs.declared.error.Fail.{Fail}
 use Rattle.usb_desc.specs.declared.error.Fail.TheVariants.{Cause, Memory}
-use Rattle.futures.specs.declared.task.Poll.{Poll}
-use Rattle.futures.specs.declared.task.Poll.TheVariants.{Ready}
 use Rattle.usb_kernel.specs.declared.event.Event.{Event}
 use Rattle.usb_kernel.specs.declared.event.Body.TheVariants.{Sent}
 use Rattle.usb_kernel.specs.Tickets.{Ticket, tickets}
@@ -82,10 +80,6 @@ abbrev pub written_calls : {E : Type 0} → List ℕ → Result ℕ E → List C
 written_calls src (Ok n) = Accept (take n src) ∷ []
 written_calls src (Err e) = []
 
-abbrev pub poll_written_calls : List ℕ → Poll (Result ℕ (Fail WriteFault)) → List Call
-poll_written_calls src (Ready r) = written_calls src r
-poll_written_calls src Poll.Pending = []
-
 -- what a flush that answered counts as: also one whose transfer failed or was not there, but none
 -- that found no memory
 abbrev pub flushed_calls : Result (Unit {0}) (Fail WriteFault) → List Call
@@ -93,9 +87,10 @@ flushed_calls (Ok u) = Flush ∷ []
 flushed_calls (Err (Cause f)) = Flush ∷ []
 flushed_calls (Err Memory) = []
 
-abbrev pub poll_flushed_calls : Poll (Result (Unit {0}) (Fail WriteFault)) → List Call
-poll_flushed_calls (Ready r) = flushed_calls r
-poll_flushed_calls Poll.Pending = Flush ∷ []
+-- what a submission counts as
+abbrev pub submitted_calls : {E : Type 0} → Result (Unit {0}) E → List Call
+submitted_calls (Ok u) = Flush ∷ []
+submitted_calls (Err e) = []
 
 -- an end that found no memory counts as nothing, or as a flush
 abbrev pub TellsShort : BusState → BusState → WriterState → WriterState → Type 0
@@ -112,8 +107,7 @@ abbrev pub begun_calls : Bool → List Call
 begun_calls true = []
 begun_calls false = Finish ∷ []
 
-abbrev pub TellsPolledEnd : BusState → BusState → WriterState → WriterState → Poll (Result (Unit {0}) (Fail WriteFault)) → Type 0
-TellsPolledEnd old new w w' (Ready (Ok u)) = TellsOn old new w w' (begun_calls w.begun)
-TellsPolledEnd old new w w' (Ready (Err (Cause f))) = TellsOn old new w w' (begun_calls w.begun)
-TellsPolledEnd old new w w' (Ready (Err Memory)) = TellsShort old new w w'
-TellsPolledEnd old new w w' Poll.Pending = TellsOn old new w w' (begun_calls w.begun)
+abbrev pub TellsPolledEnd : BusState → BusState → WriterState → WriterState → Result (Unit {0}) (Fail WriteFault) → Type 0
+TellsPolledEnd old new w w' (Ok u) = TellsOn old new w w' (begun_calls w.begun)
+TellsPolledEnd old new w w' (Err (Cause f)) = TellsOn old new w w' (begun_calls w.begun)
+TellsPolledEnd old new w w' (Err Memory) = TellsShort old new w w'

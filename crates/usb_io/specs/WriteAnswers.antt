@@ -1,10 +1,10 @@
 -- What the writes and flushes of a writer answer, on any bus.
-use Rattle.std.specs.Prelude.{ℕ, ◌≡◌, ◌≢◌, ◌-◌, ◌++◌, ◌==◌, false, true, List, [], length, take, min, Some, unwrap_or, Result, Ok, Err, if◌then◌else◌}
+use Rattle.std.specs.Prelude.{ℕ, ◌≡◌, ◌<◌, ◌+◌, ◌-◌, ◌++◌, ◌==◌, ◌⊎◌, false, true, List, [], length, take, min, Option, Some, None, unwrap_or, Result, Ok, Err, if◌then◌else◌}
 use Rattle.usb_desc.specs.declared.error.Fail.{Fail}
 use Rattle.usb_bus.specs.BusCalls.{BusCalls}
 use Rattle.usb_io.specs.declared.fault.WriteFault.{WriteFault}
 use Rattle.usb_io.specs.declared.fault.WriteFault.TheVariants.{Transfer, TimedOut}
-use Rattle.usb_io.specs.Answered.{Answered, answered, FailsBy, FailedAs}
+use Rattle.usb_io.specs.Answered.{Answered, answered, FailedAs}
 use Rattle.usb_io.specs.Fronts.{Drained, drained}
 use Rattle.usb_io.specs.Writers.{WriterState, Writing, out_buffer, not_begun, send, sent, sent_end, EndShort}
 
@@ -20,11 +20,17 @@ accepted_count src w = min (length src) (w.size - length (unwrap_or w.buffer [])
 abbrev pub accepts : {S : Type 0} → BusCalls S → List ℕ → Writing S → Writing S
 accepts k src w = accepted k (unwrap_or w.writer.buffer [] ++ take (accepted_count src w.writer) src) w
 
--- without memory it accepts nothing: what stood goes on to stand, and an empty buffer may stand
-pub record AcceptsNone {S : Type 0} (old new : Writing S) : Type 0 where
-  pub bus : new.bus ≡ old.bus
-  pub bytes : unwrap_or new.writer.buffer [] ≡ unwrap_or old.writer.buffer []
-  pub rest : new.writer ≡ record old.writer { buffer = new.writer.buffer }
+-- a buffer that stands, or an empty one
+abbrev pub or_empty : Option (List ℕ) → Option (List ℕ)
+or_empty buffer = Some (unwrap_or buffer [])
+
+-- without memory it accepts nothing. Either none was there for a buffer, where none stood; or what stood goes on to stand (an
+-- empty buffer where none did), and the transfer that became full was not submitted
+abbrev pub AcceptsNone : {S : Type 0} → List ℕ → Writing S → Writing S → Type 0
+AcceptsNone src old new =
+    ((old.writer.buffer ≡ None) × (new ≡ old))
+    ⊎ ((length (unwrap_or old.writer.buffer []) + accepted_count src old.writer ≡ old.writer.size)
+    × (new ≡ record old { writer = record old.writer { buffer = or_empty old.writer.buffer } }))
 
 -- the fronts that a write takes. No end has begun then
 abbrev pub write_drained : {S : Type 0} → BusCalls S → ℕ → Writing S → Drained S
@@ -78,17 +84,21 @@ abbrev pub poll_flush_end_came : {S : Type 0} → BusCalls S → Writing S → D
 poll_flush_end_came k w = ending_of (drained k true 0 (begun_end k w))
 
 -- a write without memory took its fronts, and accepted nothing
-pub record WriteShort {S : Type 0} (k : BusCalls S) (timeout : ℕ) (old new : Writing S) : Type 0 where
+pub record WriteShort {S : Type 0} (k : BusCalls S) (timeout : ℕ) (src : List ℕ) (old new : Writing S) : Type 0 where
   pub drained : (write_drained k timeout old).answer ≡ Ok tt
-  pub none : AcceptsNone (write_drained k timeout old).left new
+  pub none : AcceptsNone src (write_drained k timeout old).left new
 
 -- why a write failed
 abbrev pub WriteFails : {S : Type 0} → BusCalls S → ℕ → List ℕ → Writing S → Writing S → Fail WriteFault → Type 0
-WriteFails k timeout src old new e = FailedAs (write_came k timeout src old) (WriteShort k timeout old new) new e
+WriteFails k timeout src old new e = FailedAs (write_came k timeout src old) (WriteShort k timeout src old new) new e
 
--- a flush without memory submitted nothing
+-- a submission or a flush without memory had bytes to submit, and submitted nothing
+pub record SubmitShort {S : Type 0} (old new : Writing S) : Type 0 where
+  pub some : 0 < length (unwrap_or old.writer.buffer [])
+  pub none : new ≡ not_begun old
+
 abbrev pub FlushFails : {S : Type 0} → BusCalls S → ℕ → Writing S → Writing S → Fail WriteFault → Type 0
-FlushFails k timeout old new e = FailedAs (flush_came k timeout old) (new ≡ not_begun old) new e
+FlushFails k timeout old new e = FailedAs (flush_came k timeout old) (SubmitShort old new) new e
 
 -- an end without memory submitted nothing, or the buffer without the empty transfer
 abbrev pub SubmitEndShort : {S : Type 0} → BusCalls S → Writing S → Writing S → Type 0
@@ -106,7 +116,3 @@ pub record PolledEndShort {S : Type 0} (k : BusCalls S) (old new : Writing S) : 
 -- why one failed
 abbrev pub PollFlushEndFails : {S : Type 0} → BusCalls S → Writing S → Writing S → Fail WriteFault → Type 0
 PollFlushEndFails k old new e = FailedAs (poll_flush_end_came k old) (PolledEndShort k old new) new e
-
--- a poll does not time out
-abbrev pub IsWrittenInTime : Fail WriteFault → Type 0
-IsWrittenInTime e = FailsBy e (λ f. f ≢ TimedOut) (Unit {0})

@@ -8,7 +8,8 @@ ghost use Rattle.usb_io.specs.Answers.{answer as answer_of};
 ghost use Rattle.usb_io.specs.Following.{FollowsOn};
 ghost use Rattle.usb_io.specs.Lent.{Filled, StdFilled};
 ghost use Rattle.usb_io.specs.Readers.{with_read};
-ghost use Rattle.usb_io.specs.Reads.{reading, GoesAlong, KeepsSettings, turned, TurnedShort};
+ghost use Rattle.usb_io.specs.Along.{ReadsAlong};
+ghost use Rattle.usb_io.specs.Reads.{reading, KeepsSettings, turned, TurnedShort};
 ghost use Rattle.usb_io.specs.Slices.{IfOkBytes};
 ghost use Rattle.usb_io.specs.contracts.read_on.ReadOn.{the_row};
 
@@ -18,7 +19,7 @@ use crate::turned::Turned;
 use std::io::{self, BufRead};
 use usb_bus::Bus;
 use usb_desc::{Fail, NoMemory};
-use usb_xfer::{Bulk, BulkOrInterrupt, Interrupt};
+use usb_xfer::BulkOrInterrupt;
 
 impl<'a, T: BulkOrInterrupt, B: Bus> ReadOn<'a, T, B> {
     /// Turns, as a read does.
@@ -34,8 +35,8 @@ impl<'a, T: BulkOrInterrupt, B: Bus> ReadOn<'a, T, B> {
             (TurnedShort B.calls self.old.until_short self.old.reader.now.timeout
             (reading self.old.bus.now self.old.reader.now)
             (reading self.new.bus.now self.new.reader.now)) }
-        ensures goes { GoesAlong (B.calls.state self.old.bus.now) (B.calls.state self.new.bus.now)
-            self.old.reader.now self.new.reader.now }
+        ensures goes { ReadsAlong (B.calls.state self.old.bus.now) (B.calls.state self.new.bus.now)
+            self.old.reader.now.endpoint self.new.reader.now.endpoint }
         ensures follows { self.old.until_short ≡ true
             → FollowsOn (B.calls.state self.old.bus.now) (B.calls.state self.new.bus.now)
             self.old.reader.now self.new.reader.now }
@@ -64,8 +65,8 @@ impl<'a, T: BulkOrInterrupt, B: Bus> ReadOn<'a, T, B> {
             × Filled B.calls self.old.until_short self.old.reader.now.timeout
             (reading self.old.bus.now self.old.reader.now)
             (reading new.bus.now new.reader.now) result
-            × GoesAlong (B.calls.state self.old.bus.now) (B.calls.state new.bus.now)
-            self.old.reader.now new.reader.now
+            × ReadsAlong (B.calls.state self.old.bus.now) (B.calls.state new.bus.now)
+            self.old.reader.now.endpoint new.reader.now.endpoint
             × KeepsSettings self.old.reader.now new.reader.now
             × (self.old.until_short ≡ true
             → FollowsOn (B.calls.state self.old.bus.now) (B.calls.state new.bus.now)
@@ -80,19 +81,21 @@ impl<'a, T: BulkOrInterrupt, B: Bus> ReadOn<'a, T, B> {
             Err(fault) => Err(Fail::Cause(fault)),
         }
     }
+}
 
-    /// The same, with an error of std's.
-    fn fill_std(&mut self) -> io::Result<&[u8]>
-        ensures* lent { sem 𝓛
-            (Rests (the_row (record { mir = named 0; lft = [] }) T.row B.row _ _ _) self.entry
+impl<'a, T: BulkOrInterrupt, B: Bus> BufRead for ReadOn<'a, T, B> {
+    fn fill_buf(&mut self) -> io::Result<&[u8]>
+        ensures* after_borrow { sem 𝓛
+            (Rests (the_row (record { mir = named 1; lft = [] }) T.row B.row _ _ _)
+            self.entry
             (λ new. (new.reader.ghost_name ≡ self.old.reader.ghost_name)
             × (new.bus.ghost_name ≡ self.old.bus.ghost_name)
             × (new.until_short ≡ self.old.until_short)
             × StdFilled B.calls self.old.until_short self.old.reader.now.timeout
             (reading self.old.bus.now self.old.reader.now)
             (reading new.bus.now new.reader.now) result
-            × GoesAlong (B.calls.state self.old.bus.now) (B.calls.state new.bus.now)
-            self.old.reader.now new.reader.now
+            × ReadsAlong (B.calls.state self.old.bus.now) (B.calls.state new.bus.now)
+            self.old.reader.now.endpoint new.reader.now.endpoint
             × KeepsSettings self.old.reader.now new.reader.now
             × (self.old.until_short ≡ true
             → FollowsOn (B.calls.state self.old.bus.now) (B.calls.state new.bus.now)
@@ -104,41 +107,6 @@ impl<'a, T: BulkOrInterrupt, B: Bus> ReadOn<'a, T, B> {
         }
     }
 
-    /// Takes bytes off, up to those that stand.
-    fn consume_most(&mut self, n: usize)
-        ensures same_reader { self.new.reader.ghost_name ≡ self.old.reader.ghost_name }
-        ensures same_bus { self.new.bus.ghost_name ≡ self.old.bus.ghost_name }
-        ensures until_short { self.new.until_short ≡ self.old.until_short }
-        ensures read { self.new.reader.now ≡ with_read n self.old.reader.now }
-        ensures kept { self.new.bus.now ≡ self.old.bus.now }
-    {
-        self.reader.consume_most(n);
-    }
-}
-
-impl<'a, B: Bus> BufRead for ReadOn<'a, Bulk, B> {
-    ghost use Rattle.usb_xfer.specs.contracts.marker.Bulk.{the_row as kind_row};
-
-    fn fill_buf(&mut self) -> io::Result<&[u8]>
-        ensures* after_borrow { sem 𝓛
-            (Rests (the_row (record { mir = named 1; lft = [] }) kind_row B.row _ _ _)
-            self.entry
-            (λ new. (new.reader.ghost_name ≡ self.old.reader.ghost_name)
-            × (new.bus.ghost_name ≡ self.old.bus.ghost_name)
-            × (new.until_short ≡ self.old.until_short)
-            × StdFilled B.calls self.old.until_short self.old.reader.now.timeout
-            (reading self.old.bus.now self.old.reader.now)
-            (reading new.bus.now new.reader.now) result
-            × GoesAlong (B.calls.state self.old.bus.now) (B.calls.state new.bus.now)
-            self.old.reader.now new.reader.now
-            × KeepsSettings self.old.reader.now new.reader.now
-            × (self.old.until_short ≡ true
-            → FollowsOn (B.calls.state self.old.bus.now) (B.calls.state new.bus.now)
-            self.old.reader.now new.reader.now))) }
-    {
-        self.fill_std()
-    }
-
     fn consume(&mut self, amount: usize)
         ensures bytes { DropsConsumable None None None amount }
         ensures same_reader { self.new.reader.ghost_name ≡ self.old.reader.ghost_name }
@@ -147,41 +115,6 @@ impl<'a, B: Bus> BufRead for ReadOn<'a, Bulk, B> {
         ensures read { self.new.reader.now ≡ with_read amount self.old.reader.now }
         ensures kept { self.new.bus.now ≡ self.old.bus.now }
     {
-        self.consume_most(amount)
-    }
-}
-
-impl<'a, B: Bus> BufRead for ReadOn<'a, Interrupt, B> {
-    ghost use Rattle.usb_xfer.specs.contracts.marker.Interrupt.{the_row as kind_row};
-
-    fn fill_buf(&mut self) -> io::Result<&[u8]>
-        ensures* after_borrow { sem 𝓛
-            (Rests (the_row (record { mir = named 1; lft = [] }) kind_row B.row _ _ _)
-            self.entry
-            (λ new. (new.reader.ghost_name ≡ self.old.reader.ghost_name)
-            × (new.bus.ghost_name ≡ self.old.bus.ghost_name)
-            × (new.until_short ≡ self.old.until_short)
-            × StdFilled B.calls self.old.until_short self.old.reader.now.timeout
-            (reading self.old.bus.now self.old.reader.now)
-            (reading new.bus.now new.reader.now) result
-            × GoesAlong (B.calls.state self.old.bus.now) (B.calls.state new.bus.now)
-            self.old.reader.now new.reader.now
-            × KeepsSettings self.old.reader.now new.reader.now
-            × (self.old.until_short ≡ true
-            → FollowsOn (B.calls.state self.old.bus.now) (B.calls.state new.bus.now)
-            self.old.reader.now new.reader.now))) }
-    {
-        self.fill_std()
-    }
-
-    fn consume(&mut self, amount: usize)
-        ensures bytes { DropsConsumable None None None amount }
-        ensures same_reader { self.new.reader.ghost_name ≡ self.old.reader.ghost_name }
-        ensures same_bus { self.new.bus.ghost_name ≡ self.old.bus.ghost_name }
-        ensures until_short { self.new.until_short ≡ self.old.until_short }
-        ensures read { self.new.reader.now ≡ with_read amount self.old.reader.now }
-        ensures kept { self.new.bus.now ≡ self.old.bus.now }
-    {
-        self.consume_most(amount)
+        self.reader.consume_most(amount);
     }
 }

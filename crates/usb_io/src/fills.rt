@@ -6,7 +6,8 @@ ghost use Rattle.std.specs.Io.BufRead.{Rests};
 ghost use Rattle.usb_endpoint.specs.Handles.{Stands};
 ghost use Rattle.usb_io.specs.Following.{FollowsOn};
 ghost use Rattle.usb_io.specs.Lent.{Filled, PollFilled};
-ghost use Rattle.usb_io.specs.Reads.{reading, GoesAlong, KeepsSettings};
+ghost use Rattle.usb_io.specs.Along.{ReadsAlong};
+ghost use Rattle.usb_io.specs.Reads.{reading, KeepsSettings};
 ghost use Rattle.usb_io.specs.contracts.reader.EndpointRead.{the_row};
 
 use crate::fault::ReadFault;
@@ -30,7 +31,8 @@ impl<T: BulkOrInterrupt> EndpointRead<T> {
             (Rests (the_row T.row T.EndpointType) self.entry
             (λ new. Filled B.calls until_short timeout (reading bus.old self.old)
             (reading bus.new new) result
-            × GoesAlong (B.calls.state bus.old) (B.calls.state bus.new) self.old new
+            × ReadsAlong (B.calls.state bus.old) (B.calls.state bus.new) self.old.endpoint
+            new.endpoint
             × KeepsSettings self.old new
             × (until_short ≡ true
             → FollowsOn (B.calls.state bus.old) (B.calls.state bus.new) self.old new))) }
@@ -57,7 +59,8 @@ impl<T: BulkOrInterrupt> EndpointRead<T> {
             (Rests (the_row T.row T.EndpointType) self.entry
             (λ new. PollFilled B.calls until_short (reading bus.old self.old) (reading bus.new new)
             result
-            × GoesAlong (B.calls.state bus.old) (B.calls.state bus.new) self.old new
+            × ReadsAlong (B.calls.state bus.old) (B.calls.state bus.new) self.old.endpoint
+            new.endpoint
             × KeepsSettings self.old new
             × (until_short ≡ true
             → FollowsOn (B.calls.state bus.old) (B.calls.state bus.new) self.old new))) }
@@ -84,7 +87,8 @@ impl<T: BulkOrInterrupt> EndpointRead<T> {
             (Rests (the_row T.row T.EndpointType) self.entry
             (λ new. Filled B.calls false self.old.timeout (reading bus.old self.old)
             (reading bus.new new) result
-            × GoesAlong (B.calls.state bus.old) (B.calls.state bus.new) self.old new
+            × ReadsAlong (B.calls.state bus.old) (B.calls.state bus.new) self.old.endpoint
+            new.endpoint
             × KeepsSettings self.old new)) }
     {
         let timeout = self.timeout;
@@ -97,20 +101,26 @@ impl<T: BulkOrInterrupt> EndpointRead<T> {
         ensures* lent { sem 𝓛
             (Rests (the_row T.row T.EndpointType) self.entry
             (λ new. PollFilled B.calls false (reading bus.old self.old) (reading bus.new new) result
-            × GoesAlong (B.calls.state bus.old) (B.calls.state bus.new) self.old new
+            × ReadsAlong (B.calls.state bus.old) (B.calls.state bus.new) self.old.endpoint
+            new.endpoint
             × KeepsSettings self.old new)) }
     {
         self.poll_fill_within(bus, false)
     }
 
-    /// `fill_buf`, which stops at an end.
-    pub(crate) fn fill_until_short<B: Bus>(&mut self, bus: &mut B) -> Result<&[u8], Fail<ReadFault>>
+    /// `fill_buf`, which stops at an end: it lends no byte there.
+    ///
+    /// # Errors
+    ///
+    /// Those of `fill_buf`; and that nothing is pending and no short packet came.
+    pub fn fill_until_short<B: Bus>(&mut self, bus: &mut B) -> Result<&[u8], Fail<ReadFault>>
         requires stands { Stands (B.calls.state bus.old) self.old.endpoint }
         ensures* lent { sem 𝓛
             (Rests (the_row T.row T.EndpointType) self.entry
             (λ new. Filled B.calls true self.old.timeout (reading bus.old self.old)
             (reading bus.new new) result
-            × GoesAlong (B.calls.state bus.old) (B.calls.state bus.new) self.old new
+            × ReadsAlong (B.calls.state bus.old) (B.calls.state bus.new) self.old.endpoint
+            new.endpoint
             × KeepsSettings self.old new
             × FollowsOn (B.calls.state bus.old) (B.calls.state bus.new) self.old new)) }
     {
@@ -118,8 +128,8 @@ impl<T: BulkOrInterrupt> EndpointRead<T> {
         self.fill_within(bus, true, timeout)
     }
 
-    /// `poll_fill_buf`, which stops at an end.
-    pub(crate) fn poll_fill_until_short<B: Bus>(
+    /// `fill_until_short`, which is pending where the front is not there.
+    pub fn poll_fill_until_short<B: Bus>(
         &mut self,
         bus: &mut B,
     ) -> Poll<Result<&[u8], Fail<ReadFault>>>
@@ -127,7 +137,8 @@ impl<T: BulkOrInterrupt> EndpointRead<T> {
         ensures* lent { sem 𝓛
             (Rests (the_row T.row T.EndpointType) self.entry
             (λ new. PollFilled B.calls true (reading bus.old self.old) (reading bus.new new) result
-            × GoesAlong (B.calls.state bus.old) (B.calls.state bus.new) self.old new
+            × ReadsAlong (B.calls.state bus.old) (B.calls.state bus.new) self.old.endpoint
+            new.endpoint
             × KeepsSettings self.old new
             × FollowsOn (B.calls.state bus.old) (B.calls.state bus.new) self.old new)) }
     {

@@ -1,7 +1,8 @@
 //! How a writer takes the fronts of its queue.
 
 ghost use Rattle.std.specs.Prelude.{◌≡◌, ◌<◌, [], true, false, length, OnOk};
-ghost use Rattle.usb_endpoint.specs.Handles.{Stands, KeepsOthers};
+ghost use Rattle.usb_endpoint.specs.Handles.{Stands};
+ghost use Rattle.usb_io.specs.Along.{WritesAlong};
 ghost use Rattle.usb_io.specs.Answered.{answered};
 ghost use Rattle.usb_io.specs.Fronts.{taken_once, waits_on, drained};
 ghost use Rattle.usb_io.specs.Writers.{writing, with_taken, KeepsWriter};
@@ -44,14 +45,11 @@ impl<T: BulkOrInterrupt> EndpointWrite<T> {
         requires stands { Stands (B.calls.state bus.old) self.old.endpoint }
         ensures came { taken_once B.calls timeout (writing bus.old self.old)
             ≡ (result, writing bus.new self.new) }
-        ensures rest { self.new.endpoint
-            ≡ record self.old.endpoint { pending = self.new.endpoint.pending } }
         ensures tells { TellsOn (B.calls.state bus.old) (B.calls.state bus.new)
             self.old self.new [] }
         ensures settings { KeepsWriter self.old self.new }
-        ensures stands { Stands (B.calls.state bus.new) self.new.endpoint }
-        ensures others { KeepsOthers (B.calls.state bus.old) (B.calls.state bus.new)
-            self.old.endpoint.key }
+        ensures goes { WritesAlong (B.calls.state bus.old) (B.calls.state bus.new) self.old.endpoint
+            self.new.endpoint }
     {
         match self.endpoint.wait_next_complete(bus, timeout) {
             Some(completion) => {
@@ -88,11 +86,9 @@ impl<T: BulkOrInterrupt> EndpointWrite<T> {
         ensures done { OnOk result (waits_on flushing self.new ≡ false) }
         ensures tells { TellsOn (B.calls.state bus.old) (B.calls.state bus.new)
             self.old self.new [] }
-        ensures key { self.new.endpoint.key ≡ self.old.endpoint.key }
         ensures settings { KeepsWriter self.old self.new }
-        ensures stands { Stands (B.calls.state bus.new) self.new.endpoint }
-        ensures others { KeepsOthers (B.calls.state bus.old) (B.calls.state bus.new)
-            self.old.endpoint.key }
+        ensures goes { WritesAlong (B.calls.state bus.old) (B.calls.state bus.new) self.old.endpoint
+            self.new.endpoint }
     {
         'fronts: while self.goes(flushing) {
             match self.take(bus, timeout) {

@@ -8,7 +8,7 @@ ghost use Rattle.usb_io.specs.Writers.{fresh_writer};
 use crate::reader::EndpointRead;
 use crate::writer::EndpointWrite;
 use usb_endpoint::Endpoint;
-use usb_xfer::{Bulk, BulkOrInterrupt, In, Interrupt, Out};
+use usb_xfer::{BulkOrInterrupt, In, Out};
 
 /// What a reader can be made of.
 pub trait IntoReader<T: BulkOrInterrupt> {
@@ -21,18 +21,10 @@ pub trait IntoReader<T: BulkOrInterrupt> {
         ensures fresh { result ≡ fresh_reader (input self) transfer_size };
 }
 
-impl IntoReader<Bulk> for Endpoint<Bulk, In> {
+impl<T: BulkOrInterrupt> IntoReader<T> for Endpoint<T, In> {
     ghost input = { λ e. e };
 
-    fn reader(self, transfer_size: usize) -> EndpointRead<Bulk> {
-        EndpointRead::new(self, transfer_size)
-    }
-}
-
-impl IntoReader<Interrupt> for Endpoint<Interrupt, In> {
-    ghost input = { λ e. e };
-
-    fn reader(self, transfer_size: usize) -> EndpointRead<Interrupt> {
+    fn reader(self, transfer_size: usize) -> EndpointRead<T> {
         EndpointRead::new(self, transfer_size)
     }
 }
@@ -48,18 +40,10 @@ pub trait IntoWriter<T: BulkOrInterrupt> {
         ensures fresh { result ≡ fresh_writer (output self) transfer_size };
 }
 
-impl IntoWriter<Bulk> for Endpoint<Bulk, Out> {
+impl<T: BulkOrInterrupt> IntoWriter<T> for Endpoint<T, Out> {
     ghost output = { λ e. e };
 
-    fn writer(self, transfer_size: usize) -> EndpointWrite<Bulk> {
-        EndpointWrite::new(self, transfer_size)
-    }
-}
-
-impl IntoWriter<Interrupt> for Endpoint<Interrupt, Out> {
-    ghost output = { λ e. e };
-
-    fn writer(self, transfer_size: usize) -> EndpointWrite<Interrupt> {
+    fn writer(self, transfer_size: usize) -> EndpointWrite<T> {
         EndpointWrite::new(self, transfer_size)
     }
 }

@@ -10,7 +10,7 @@ use crate::reader::EndpointRead;
 use std::io::{self, ErrorKind, Read};
 use usb_bus::Bus;
 use usb_desc::Fail;
-use usb_xfer::{Bulk, BulkOrInterrupt, Interrupt, TransferError};
+use usb_xfer::{BulkOrInterrupt, TransferError};
 
 /// A reader and the bus that it reads by.
 #[derive(Drop)]
@@ -23,86 +23,6 @@ pub struct ReadOn<'a, T: BulkOrInterrupt, B: Bus> {
     pub until_short: bool,
     ghost key_is_open: { (B.calls.state bus.now).keys reader.now.endpoint.key ≡ true },
     ghost held: { IsHeld (B.calls.state bus.now) reader.now.endpoint } by { IsHeld-prop (B.calls.state bus.now) reader.now.endpoint },
-}
-
-impl<'a, T: BulkOrInterrupt, B: Bus> ReadOn<'a, T, B> {
-    ghost use Rattle.std.specs.Prelude.{◌≡◌, ◌≤◌, Ok, IfOk, IfErr, OnErr, length, take, drop, true};
-    ghost use Rattle.std.specs.Io.{ReadsAtMost};
-    ghost use Rattle.usb_io.specs.Answered.{answered};
-    ghost use Rattle.usb_io.specs.Answers.{read_came, ReadFails};
-    ghost use Rattle.usb_io.specs.Following.{FollowsOn, FollowsRead};
-    ghost use Rattle.usb_io.specs.Reads.{reading, GoesAlong, KeepsSettings};
-    ghost use Rattle.usb_io.specs.StdErrors.{IsStdError};
-
-    /// Reads up to as many bytes as fit.
-    fn read_some(&mut self, dest: &mut [u8]) -> Result<usize, Fail<ReadFault>>
-        ensures same_reader { self.new.reader.ghost_name ≡ self.old.reader.ghost_name }
-        ensures same_bus { self.new.bus.ghost_name ≡ self.old.bus.ghost_name }
-        ensures until_short { self.new.until_short ≡ self.old.until_short }
-        ensures few { IfOk result (λ n. n ≤ length dest.old) }
-        ensures read { IfOk result
-            (λ n. read_came B.calls self.old.until_short self.old.reader.now.timeout (length
-            dest.old)
-            (reading self.old.bus.now self.old.reader.now) ≡ answered (Ok (take n dest.new))
-            (reading self.new.bus.now self.new.reader.now)) }
-        ensures behind { IfOk result (λ n. drop n dest.new ≡ drop n dest.old) }
-        ensures failed { IfErr result
-            (ReadFails B.calls self.old.until_short self.old.reader.now.timeout (length dest.old)
-            (reading self.old.bus.now self.old.reader.now)
-            (reading self.new.bus.now self.new.reader.now)) }
-        ensures kept { OnErr result (dest.new ≡ dest.old) }
-        ensures goes { GoesAlong (B.calls.state self.old.bus.now) (B.calls.state self.new.bus.now)
-            self.old.reader.now self.new.reader.now }
-        ensures follows { self.old.until_short ≡ true
-            → IfOk result
-            (λ n. FollowsRead (B.calls.state self.old.bus.now) (B.calls.state self.new.bus.now)
-            self.old.reader.now self.new.reader.now (take n dest.new)) }
-        ensures fails { self.old.until_short ≡ true
-            → OnErr result
-            (FollowsOn (B.calls.state self.old.bus.now) (B.calls.state self.new.bus.now)
-            self.old.reader.now self.new.reader.now) }
-        ensures settings { KeepsSettings self.old.reader.now self.new.reader.now }
-    {
-        let timeout = self.reader.read_timeout();
-        self.reader
-            .read_within(&mut *self.bus, dest, self.until_short, timeout)
-    }
-
-    /// The same, with an error of std's.
-    fn read_std(&mut self, dest: &mut [u8]) -> io::Result<usize>
-        ensures bound { ReadsAtMost result dest.new }
-        ensures same_reader { self.new.reader.ghost_name ≡ self.old.reader.ghost_name }
-        ensures same_bus { self.new.bus.ghost_name ≡ self.old.bus.ghost_name }
-        ensures until_short { self.new.until_short ≡ self.old.until_short }
-        ensures few { IfOk result (λ n. n ≤ length dest.old) }
-        ensures read { IfOk result
-            (λ n. read_came B.calls self.old.until_short self.old.reader.now.timeout (length
-            dest.old)
-            (reading self.old.bus.now self.old.reader.now) ≡ answered (Ok (take n dest.new))
-            (reading self.new.bus.now self.new.reader.now)) }
-        ensures behind { IfOk result (λ n. drop n dest.new ≡ drop n dest.old) }
-        ensures failed { IfErr result
-            (IsStdError B.calls self.old.until_short self.old.reader.now.timeout
-            (reading self.old.bus.now self.old.reader.now)
-            (reading self.new.bus.now self.new.reader.now)) }
-        ensures kept { OnErr result (dest.new ≡ dest.old) }
-        ensures goes { GoesAlong (B.calls.state self.old.bus.now) (B.calls.state self.new.bus.now)
-            self.old.reader.now self.new.reader.now }
-        ensures follows { self.old.until_short ≡ true
-            → IfOk result
-            (λ n. FollowsRead (B.calls.state self.old.bus.now) (B.calls.state self.new.bus.now)
-            self.old.reader.now self.new.reader.now (take n dest.new)) }
-        ensures fails { self.old.until_short ≡ true
-            → OnErr result
-            (FollowsOn (B.calls.state self.old.bus.now) (B.calls.state self.new.bus.now)
-            self.old.reader.now self.new.reader.now) }
-        ensures settings { KeepsSettings self.old.reader.now self.new.reader.now }
-    {
-        match self.read_some(dest) {
-            Ok(n) => Ok(n),
-            Err(fail) => Err(std_error(fail)),
-        }
-    }
 }
 
 /// The error of std's for a transfer that failed.
@@ -143,14 +63,15 @@ pub(crate) fn std_error(fail: Fail<ReadFault>) -> io::Error
     }
 }
 
-impl<'a, B: Bus> Read for ReadOn<'a, Bulk, B> {
+impl<'a, T: BulkOrInterrupt, B: Bus> Read for ReadOn<'a, T, B> {
     ghost use Rattle.std.specs.Prelude.{◌≡◌, ◌≤◌, Ok, IfOk, IfErr, OnErr, None, length, take, drop, true};
     ghost use Rattle.std.specs.Io.{ReadsAtMost};
     ghost use Rattle.std.specs.Io.KnownBytes.{ReadConsumes};
     ghost use Rattle.usb_io.specs.Answered.{answered};
     ghost use Rattle.usb_io.specs.Answers.{read_came};
     ghost use Rattle.usb_io.specs.Following.{FollowsOn, FollowsRead};
-    ghost use Rattle.usb_io.specs.Reads.{reading, GoesAlong, KeepsSettings};
+    ghost use Rattle.usb_io.specs.Along.{ReadsAlong};
+    ghost use Rattle.usb_io.specs.Reads.{reading, KeepsSettings};
     ghost use Rattle.usb_io.specs.StdErrors.{IsStdError};
 
     fn read(&mut self, buf: &mut [u8]) -> io::Result<usize>
@@ -170,8 +91,8 @@ impl<'a, B: Bus> Read for ReadOn<'a, Bulk, B> {
             (reading self.old.bus.now self.old.reader.now)
             (reading self.new.bus.now self.new.reader.now)) }
         ensures kept { OnErr result (buf.new ≡ buf.old) }
-        ensures goes { GoesAlong (B.calls.state self.old.bus.now) (B.calls.state self.new.bus.now)
-            self.old.reader.now self.new.reader.now }
+        ensures goes { ReadsAlong (B.calls.state self.old.bus.now) (B.calls.state self.new.bus.now)
+            self.old.reader.now.endpoint self.new.reader.now.endpoint }
         ensures follows { self.old.until_short ≡ true
             → IfOk result
             (λ n. FollowsRead (B.calls.state self.old.bus.now) (B.calls.state self.new.bus.now)
@@ -182,50 +103,14 @@ impl<'a, B: Bus> Read for ReadOn<'a, Bulk, B> {
             self.old.reader.now self.new.reader.now) }
         ensures settings { KeepsSettings self.old.reader.now self.new.reader.now }
     {
-        self.read_std(buf)
-    }
-}
-
-impl<'a, B: Bus> Read for ReadOn<'a, Interrupt, B> {
-    ghost use Rattle.std.specs.Prelude.{◌≡◌, ◌≤◌, Ok, IfOk, IfErr, OnErr, None, length, take, drop, true};
-    ghost use Rattle.std.specs.Io.{ReadsAtMost};
-    ghost use Rattle.std.specs.Io.KnownBytes.{ReadConsumes};
-    ghost use Rattle.usb_io.specs.Answered.{answered};
-    ghost use Rattle.usb_io.specs.Answers.{read_came};
-    ghost use Rattle.usb_io.specs.Following.{FollowsOn, FollowsRead};
-    ghost use Rattle.usb_io.specs.Reads.{reading, GoesAlong, KeepsSettings};
-    ghost use Rattle.usb_io.specs.StdErrors.{IsStdError};
-
-    fn read(&mut self, buf: &mut [u8]) -> io::Result<usize>
-        ensures bound { ReadsAtMost result buf.new }
-        ensures bytes { ReadConsumes None None result buf.new }
-        ensures same_reader { self.new.reader.ghost_name ≡ self.old.reader.ghost_name }
-        ensures same_bus { self.new.bus.ghost_name ≡ self.old.bus.ghost_name }
-        ensures until_short { self.new.until_short ≡ self.old.until_short }
-        ensures few { IfOk result (λ n. n ≤ length buf.old) }
-        ensures read { IfOk result
-            (λ n. read_came B.calls self.old.until_short self.old.reader.now.timeout (length
-            buf.old) (reading self.old.bus.now self.old.reader.now) ≡ answered (Ok (take n buf.new))
-            (reading self.new.bus.now self.new.reader.now)) }
-        ensures behind { IfOk result (λ n. drop n buf.new ≡ drop n buf.old) }
-        ensures failed { IfErr result
-            (IsStdError B.calls self.old.until_short self.old.reader.now.timeout
-            (reading self.old.bus.now self.old.reader.now)
-            (reading self.new.bus.now self.new.reader.now)) }
-        ensures kept { OnErr result (buf.new ≡ buf.old) }
-        ensures goes { GoesAlong (B.calls.state self.old.bus.now) (B.calls.state self.new.bus.now)
-            self.old.reader.now self.new.reader.now }
-        ensures follows { self.old.until_short ≡ true
-            → IfOk result
-            (λ n. FollowsRead (B.calls.state self.old.bus.now) (B.calls.state self.new.bus.now)
-            self.old.reader.now self.new.reader.now (take n buf.new)) }
-        ensures fails { self.old.until_short ≡ true
-            → OnErr result
-            (FollowsOn (B.calls.state self.old.bus.now) (B.calls.state self.new.bus.now)
-            self.old.reader.now self.new.reader.now) }
-        ensures settings { KeepsSettings self.old.reader.now self.new.reader.now }
-    {
-        self.read_std(buf)
+        let timeout = self.reader.read_timeout();
+        match self
+            .reader
+            .read_within(&mut *self.bus, buf, self.until_short, timeout)
+        {
+            Ok(n) => Ok(n),
+            Err(fail) => Err(std_error(fail)),
+        }
     }
 }
 

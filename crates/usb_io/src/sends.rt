@@ -1,12 +1,13 @@
 //! The submissions of a writer.
 
-ghost use Rattle.std.specs.Prelude.{◌≡◌, ◌+◌, ◌<◌, ◌≤◌, ◌∷◌, [], false, length, None, IfErr, OnOk, OnErr};
-ghost use Rattle.usb_endpoint.specs.Handles.{Stands, KeepsOthers};
+ghost use Rattle.std.specs.Prelude.{◌≡◌, ◌+◌, ◌<◌, ◌≤◌, ◌∷◌, [], false, length, unwrap_or, None, IfErr, OnOk, OnErr};
+ghost use Rattle.usb_endpoint.specs.Handles.{Stands};
 ghost use Rattle.usb_kernel.specs.WholePackets.{is_whole};
-ghost use Rattle.usb_io.specs.Writers.{writing, not_begun, empty_buffer, send, sent, sent_end, end_need, EndShort, KeepsWriter};
-ghost use Rattle.usb_io.specs.WriteAnswers.{begun_end, submit_came, submit_end_came, SubmitEndShort};
-ghost use Rattle.usb_io.specs.Carried.{CarriesOn, sent_bytes, ended_bytes, begun_calls, TellsOn, TellsShort};
-ghost use Rattle.usb_io.specs.Writes.{Flush, Finish};
+ghost use Rattle.usb_io.specs.Along.{WritesAlong};
+ghost use Rattle.usb_io.specs.Writers.{writing, empty_buffer, send, sent, sent_end, end_need, EndShort, KeepsWriter};
+ghost use Rattle.usb_io.specs.WriteAnswers.{begun_end, submit_came, SubmitShort, submit_end_came, SubmitEndShort};
+ghost use Rattle.usb_io.specs.Carried.{CarriesOn, sent_bytes, ended_bytes, submitted_calls, begun_calls, TellsOn, TellsShort};
+ghost use Rattle.usb_io.specs.Writes.{Finish};
 
 use crate::writer::EndpointWrite;
 use usb_bus::Bus;
@@ -30,11 +31,9 @@ impl<T: BulkOrInterrupt> EndpointWrite<T> {
             self.new.endpoint (buffer.bytes ∷ [])) }
         ensures err { OnErr result (writing bus.new self.new ≡ writing bus.old self.old) }
         ensures back { IfErr result (λ back. back ≡ buffer) }
-        ensures key { self.new.endpoint.key ≡ self.old.endpoint.key }
         ensures settings { KeepsWriter self.old self.new }
-        ensures stands { Stands (B.calls.state bus.new) self.new.endpoint }
-        ensures others { KeepsOthers (B.calls.state bus.old) (B.calls.state bus.new)
-            self.old.endpoint.key }
+        ensures goes { WritesAlong (B.calls.state bus.old) (B.calls.state bus.new) self.old.endpoint
+            self.new.endpoint }
     {
         self.endpoint.submit(bus, buffer)
     }
@@ -48,11 +47,10 @@ impl<T: BulkOrInterrupt> EndpointWrite<T> {
             (CarriesOn (B.calls.state bus.old) (B.calls.state bus.new) self.old.endpoint
             self.new.endpoint (sent_bytes self.old.buffer)) }
         ensures err { OnErr result (writing bus.new self.new ≡ writing bus.old self.old) }
-        ensures key { self.new.endpoint.key ≡ self.old.endpoint.key }
+        ensures some { OnErr result (0 < length (unwrap_or self.old.buffer [])) }
         ensures settings { KeepsWriter self.old self.new }
-        ensures stands { Stands (B.calls.state bus.new) self.new.endpoint }
-        ensures others { KeepsOthers (B.calls.state bus.old) (B.calls.state bus.new)
-            self.old.endpoint.key }
+        ensures goes { WritesAlong (B.calls.state bus.old) (B.calls.state bus.new) self.old.endpoint
+            self.new.endpoint }
     {
         match self.buffer.take() {
             None => Ok(()),
@@ -82,9 +80,8 @@ impl<T: BulkOrInterrupt> EndpointWrite<T> {
             self.new.endpoint ([] ∷ [])) }
         ensures err { OnErr result (writing bus.new self.new ≡ writing bus.old self.old) }
         ensures settings { KeepsWriter self.old self.new }
-        ensures stands { Stands (B.calls.state bus.new) self.new.endpoint }
-        ensures others { KeepsOthers (B.calls.state bus.old) (B.calls.state bus.new)
-            self.old.endpoint.key }
+        ensures goes { WritesAlong (B.calls.state bus.old) (B.calls.state bus.new) self.old.endpoint
+            self.new.endpoint }
     {
         let buffer = self.endpoint.allocate(0)?;
         match self.send(bus, buffer) {
@@ -127,11 +124,9 @@ impl<T: BulkOrInterrupt> EndpointWrite<T> {
             (writing bus.new self.new)) }
         ensures short { OnErr result
             (TellsShort (B.calls.state bus.old) (B.calls.state bus.new) self.old self.new) }
-        ensures key { self.new.endpoint.key ≡ self.old.endpoint.key }
         ensures settings { KeepsWriter self.old self.new }
-        ensures stands { Stands (B.calls.state bus.new) self.new.endpoint }
-        ensures others { KeepsOthers (B.calls.state bus.old) (B.calls.state bus.new)
-            self.old.endpoint.key }
+        ensures goes { WritesAlong (B.calls.state bus.old) (B.calls.state bus.new) self.old.endpoint
+            self.new.endpoint }
     {
         let Some(buffer) = self.buffer.take() else {
             return self.send_empty(bus);
@@ -163,11 +158,9 @@ impl<T: BulkOrInterrupt> EndpointWrite<T> {
             (begun_calls self.old.begun)) }
         ensures short { OnErr result
             (TellsShort (B.calls.state bus.old) (B.calls.state bus.new) self.old self.new) }
-        ensures key { self.new.endpoint.key ≡ self.old.endpoint.key }
         ensures settings { KeepsWriter self.old self.new }
-        ensures stands { Stands (B.calls.state bus.new) self.new.endpoint }
-        ensures others { KeepsOthers (B.calls.state bus.old) (B.calls.state bus.new)
-            self.old.endpoint.key }
+        ensures goes { WritesAlong (B.calls.state bus.old) (B.calls.state bus.new) self.old.endpoint
+            self.new.endpoint }
     {
         if self.begun {
             return Ok(());
@@ -191,17 +184,12 @@ impl<T: BulkOrInterrupt> EndpointWrite<T> {
         ensures ok { OnOk result
             (writing bus.new self.new ≡ submit_came B.calls (writing bus.old self.old)) }
         ensures err { OnErr result
-            (writing bus.new self.new ≡ not_begun (writing bus.old self.old)) }
-        ensures flushes { OnOk result
-            (TellsOn (B.calls.state bus.old) (B.calls.state bus.new) self.old self.new
-            (Flush ∷ [])) }
-        ensures nothing { OnErr result
-            (TellsOn (B.calls.state bus.old) (B.calls.state bus.new) self.old self.new []) }
-        ensures key { self.new.endpoint.key ≡ self.old.endpoint.key }
+            (SubmitShort (writing bus.old self.old) (writing bus.new self.new)) }
+        ensures tells { TellsOn (B.calls.state bus.old) (B.calls.state bus.new) self.old self.new
+            (submitted_calls result) }
         ensures settings { KeepsWriter self.old self.new }
-        ensures stands { Stands (B.calls.state bus.new) self.new.endpoint }
-        ensures others { KeepsOthers (B.calls.state bus.old) (B.calls.state bus.new)
-            self.old.endpoint.key }
+        ensures goes { WritesAlong (B.calls.state bus.old) (B.calls.state bus.new) self.old.endpoint
+            self.new.endpoint }
     {
         self.begun = false;
         self.send_buffer(bus)
@@ -222,16 +210,14 @@ impl<T: BulkOrInterrupt> EndpointWrite<T> {
             (writing bus.new self.new ≡ submit_end_came B.calls (writing bus.old self.old)) }
         ensures err { OnErr result
             (SubmitEndShort B.calls (writing bus.old self.old) (writing bus.new self.new)) }
-        ensures finishes { OnOk result
+        ensures tells { OnOk result
             (TellsOn (B.calls.state bus.old) (B.calls.state bus.new) self.old self.new
             (Finish ∷ [])) }
         ensures short { OnErr result
             (TellsShort (B.calls.state bus.old) (B.calls.state bus.new) self.old self.new) }
-        ensures key { self.new.endpoint.key ≡ self.old.endpoint.key }
         ensures settings { KeepsWriter self.old self.new }
-        ensures stands { Stands (B.calls.state bus.new) self.new.endpoint }
-        ensures others { KeepsOthers (B.calls.state bus.old) (B.calls.state bus.new)
-            self.old.endpoint.key }
+        ensures goes { WritesAlong (B.calls.state bus.old) (B.calls.state bus.new) self.old.endpoint
+            self.new.endpoint }
     {
         self.begun = false;
         self.send_end(bus)

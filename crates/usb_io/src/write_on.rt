@@ -11,7 +11,7 @@ use crate::writer::EndpointWrite;
 use std::io::{self, ErrorKind, Write};
 use usb_bus::Bus;
 use usb_desc::Fail;
-use usb_xfer::{Bulk, BulkOrInterrupt, Interrupt};
+use usb_xfer::BulkOrInterrupt;
 
 /// A writer and the bus that it writes by.
 #[derive(Drop)]
@@ -22,99 +22,6 @@ pub struct WriteOn<'a, T: BulkOrInterrupt, B: Bus> {
     pub bus: &'a mut B,
     ghost key_is_open: { (B.calls.state bus.now).keys writer.now.endpoint.key ≡ true },
     ghost held: { IsHeld (B.calls.state bus.now) writer.now.endpoint } by { IsHeld-prop (B.calls.state bus.now) writer.now.endpoint },
-}
-
-impl<'a, T: BulkOrInterrupt, B: Bus> WriteOn<'a, T, B> {
-    ghost use Rattle.std.specs.Prelude.{◌≡◌, Ok, IfOk, IfErr, OnOk};
-    ghost use Rattle.std.specs.Io.{WritesAtMost};
-    ghost use Rattle.usb_io.specs.Answered.{answered};
-    ghost use Rattle.usb_io.specs.Writers.{writing, KeepsWriter};
-    ghost use Rattle.usb_io.specs.WriteAnswers.{write_came, WriteFails, flush_came, FlushFails};
-    ghost use Rattle.usb_io.specs.Carried.{written_calls, flushed_calls, TellsOn};
-    ghost use Rattle.usb_io.specs.StdErrors.{IsStdWriteError, IsStdFlushError, TellsStdFlush};
-
-    /// Accepts bytes, as many as fit.
-    fn write_some(&mut self, src: &[u8]) -> Result<usize, Fail<WriteFault>>
-        ensures same_writer { self.new.writer.ghost_name ≡ self.old.writer.ghost_name }
-        ensures same_bus { self.new.bus.ghost_name ≡ self.old.bus.ghost_name }
-        ensures wrote { IfOk result
-            (λ n. write_came B.calls self.old.writer.now.timeout src.now
-            (writing self.old.bus.now self.old.writer.now)
-            ≡ answered (Ok n) (writing self.new.bus.now self.new.writer.now)) }
-        ensures failed { IfErr result
-            (WriteFails B.calls self.old.writer.now.timeout src.now
-            (writing self.old.bus.now self.old.writer.now)
-            (writing self.new.bus.now self.new.writer.now)) }
-        ensures tells { TellsOn (B.calls.state self.old.bus.now) (B.calls.state self.new.bus.now)
-            self.old.writer.now self.new.writer.now (written_calls src.now result) }
-        ensures settings { KeepsWriter self.old.writer.now self.new.writer.now }
-    {
-        self.writer.write(&mut *self.bus, src)
-    }
-
-    /// The same, with an error of std's.
-    fn write_std(&mut self, src: &[u8]) -> io::Result<usize>
-        ensures bound { WritesAtMost result src.now }
-        ensures same_writer { self.new.writer.ghost_name ≡ self.old.writer.ghost_name }
-        ensures same_bus { self.new.bus.ghost_name ≡ self.old.bus.ghost_name }
-        ensures wrote { IfOk result
-            (λ n. write_came B.calls self.old.writer.now.timeout src.now
-            (writing self.old.bus.now self.old.writer.now)
-            ≡ answered (Ok n) (writing self.new.bus.now self.new.writer.now)) }
-        ensures failed { IfErr result
-            (IsStdWriteError B.calls self.old.writer.now.timeout src.now
-            (writing self.old.bus.now self.old.writer.now)
-            (writing self.new.bus.now self.new.writer.now)) }
-        ensures tells { TellsOn (B.calls.state self.old.bus.now) (B.calls.state self.new.bus.now)
-            self.old.writer.now self.new.writer.now (written_calls src.now result) }
-        ensures settings { KeepsWriter self.old.writer.now self.new.writer.now }
-    {
-        match self.write_some(src) {
-            Ok(n) => Ok(n),
-            Err(fail) => Err(std_error(fail)),
-        }
-    }
-
-    /// Submits what stands, and takes all that is pending.
-    fn flush_some(&mut self) -> Result<(), Fail<WriteFault>>
-        ensures same_writer { self.new.writer.ghost_name ≡ self.old.writer.ghost_name }
-        ensures same_bus { self.new.bus.ghost_name ≡ self.old.bus.ghost_name }
-        ensures flushed { OnOk result
-            (flush_came B.calls self.old.writer.now.timeout
-            (writing self.old.bus.now self.old.writer.now)
-            ≡ answered (Ok tt) (writing self.new.bus.now self.new.writer.now)) }
-        ensures failed { IfErr result
-            (FlushFails B.calls self.old.writer.now.timeout
-            (writing self.old.bus.now self.old.writer.now)
-            (writing self.new.bus.now self.new.writer.now)) }
-        ensures tells { TellsOn (B.calls.state self.old.bus.now) (B.calls.state self.new.bus.now)
-            self.old.writer.now self.new.writer.now (flushed_calls result) }
-        ensures settings { KeepsWriter self.old.writer.now self.new.writer.now }
-    {
-        self.writer.flush(&mut *self.bus)
-    }
-
-    /// The same, with an error of std's.
-    fn flush_std(&mut self) -> io::Result<()>
-        ensures same_writer { self.new.writer.ghost_name ≡ self.old.writer.ghost_name }
-        ensures same_bus { self.new.bus.ghost_name ≡ self.old.bus.ghost_name }
-        ensures flushed { OnOk result
-            (flush_came B.calls self.old.writer.now.timeout
-            (writing self.old.bus.now self.old.writer.now)
-            ≡ answered (Ok tt) (writing self.new.bus.now self.new.writer.now)) }
-        ensures failed { IfErr result
-            (IsStdFlushError B.calls self.old.writer.now.timeout
-            (writing self.old.bus.now self.old.writer.now)
-            (writing self.new.bus.now self.new.writer.now)) }
-        ensures tells { TellsStdFlush (B.calls.state self.old.bus.now)
-            (B.calls.state self.new.bus.now) self.old.writer.now self.new.writer.now result }
-        ensures settings { KeepsWriter self.old.writer.now self.new.writer.now }
-    {
-        match self.flush_some() {
-            Ok(()) => Ok(()),
-            Err(fail) => Err(std_error(fail)),
-        }
-    }
 }
 
 /// The error of std's for a write that failed.
@@ -129,7 +36,7 @@ fn std_error(fail: Fail<WriteFault>) -> io::Error
     }
 }
 
-impl<'a, B: Bus> Write for WriteOn<'a, Bulk, B> {
+impl<'a, T: BulkOrInterrupt, B: Bus> Write for WriteOn<'a, T, B> {
     ghost use Rattle.std.specs.Prelude.{◌≡◌, Ok, IfOk, IfErr, OnOk, None};
     ghost use Rattle.std.specs.Io.{WritesAtMost};
     ghost use Rattle.std.specs.Io.KnownBytes.{WriteAppends, Keeps};
@@ -156,7 +63,10 @@ impl<'a, B: Bus> Write for WriteOn<'a, Bulk, B> {
             self.old.writer.now self.new.writer.now (written_calls buf.now result) }
         ensures settings { KeepsWriter self.old.writer.now self.new.writer.now }
     {
-        self.write_std(buf)
+        match self.writer.write(&mut *self.bus, buf) {
+            Ok(n) => Ok(n),
+            Err(fail) => Err(std_error(fail)),
+        }
     }
 
     fn flush(&mut self) -> io::Result<()>
@@ -175,57 +85,10 @@ impl<'a, B: Bus> Write for WriteOn<'a, Bulk, B> {
             (B.calls.state self.new.bus.now) self.old.writer.now self.new.writer.now result }
         ensures settings { KeepsWriter self.old.writer.now self.new.writer.now }
     {
-        self.flush_std()
-    }
-}
-
-impl<'a, B: Bus> Write for WriteOn<'a, Interrupt, B> {
-    ghost use Rattle.std.specs.Prelude.{◌≡◌, Ok, IfOk, IfErr, OnOk, None};
-    ghost use Rattle.std.specs.Io.{WritesAtMost};
-    ghost use Rattle.std.specs.Io.KnownBytes.{WriteAppends, Keeps};
-    ghost use Rattle.usb_io.specs.Answered.{answered};
-    ghost use Rattle.usb_io.specs.Writers.{writing, KeepsWriter};
-    ghost use Rattle.usb_io.specs.WriteAnswers.{write_came, flush_came};
-    ghost use Rattle.usb_io.specs.Carried.{written_calls, TellsOn};
-    ghost use Rattle.usb_io.specs.StdErrors.{IsStdWriteError, IsStdFlushError, TellsStdFlush};
-
-    fn write(&mut self, buf: &[u8]) -> io::Result<usize>
-        ensures bound { WritesAtMost result buf.now }
-        ensures bytes { WriteAppends None None result buf.now }
-        ensures same_writer { self.new.writer.ghost_name ≡ self.old.writer.ghost_name }
-        ensures same_bus { self.new.bus.ghost_name ≡ self.old.bus.ghost_name }
-        ensures wrote { IfOk result
-            (λ n. write_came B.calls self.old.writer.now.timeout buf.now
-            (writing self.old.bus.now self.old.writer.now)
-            ≡ answered (Ok n) (writing self.new.bus.now self.new.writer.now)) }
-        ensures failed { IfErr result
-            (IsStdWriteError B.calls self.old.writer.now.timeout buf.now
-            (writing self.old.bus.now self.old.writer.now)
-            (writing self.new.bus.now self.new.writer.now)) }
-        ensures tells { TellsOn (B.calls.state self.old.bus.now) (B.calls.state self.new.bus.now)
-            self.old.writer.now self.new.writer.now (written_calls buf.now result) }
-        ensures settings { KeepsWriter self.old.writer.now self.new.writer.now }
-    {
-        self.write_std(buf)
-    }
-
-    fn flush(&mut self) -> io::Result<()>
-        ensures bytes { Keeps None None }
-        ensures same_writer { self.new.writer.ghost_name ≡ self.old.writer.ghost_name }
-        ensures same_bus { self.new.bus.ghost_name ≡ self.old.bus.ghost_name }
-        ensures flushed { OnOk result
-            (flush_came B.calls self.old.writer.now.timeout
-            (writing self.old.bus.now self.old.writer.now)
-            ≡ answered (Ok tt) (writing self.new.bus.now self.new.writer.now)) }
-        ensures failed { IfErr result
-            (IsStdFlushError B.calls self.old.writer.now.timeout
-            (writing self.old.bus.now self.old.writer.now)
-            (writing self.new.bus.now self.new.writer.now)) }
-        ensures tells { TellsStdFlush (B.calls.state self.old.bus.now)
-            (B.calls.state self.new.bus.now) self.old.writer.now self.new.writer.now result }
-        ensures settings { KeepsWriter self.old.writer.now self.new.writer.now }
-    {
-        self.flush_std()
+        match self.writer.flush(&mut *self.bus) {
+            Ok(()) => Ok(()),
+            Err(fail) => Err(std_error(fail)),
+        }
     }
 }
 

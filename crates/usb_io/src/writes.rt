@@ -1,13 +1,13 @@
 //! The writes and flushes of a writer.
 
-ghost use Rattle.std.specs.Prelude.{◌≡◌, ◌+◌, ◌<◌, ◌≤◌, ◌++◌, [], false, length, take, unwrap_or, None, Ok, Err, IfOk, IfErr, OnOk, OnErr};
-ghost use Rattle.usb_endpoint.specs.Handles.{Stands, KeepsOthers};
-ghost use Rattle.usb_endpoint.specs.Polls.{IfReady, IfPending};
-ghost use Rattle.usb_io.specs.Answered.{answered};
+ghost use Rattle.std.specs.Prelude.{◌≡◌, ◌+◌, ◌<◌, ◌≤◌, ◌++◌, [], false, length, take, unwrap_or, None, Ok, IfOk, IfErr, OnOk, OnErr};
+ghost use Rattle.usb_endpoint.specs.Handles.{Stands};
+ghost use Rattle.usb_io.specs.Along.{WritesAlong};
+ghost use Rattle.usb_io.specs.Answered.{answered, as_wait, InTime};
 ghost use Rattle.usb_io.specs.Fronts.{waits_on};
 ghost use Rattle.usb_io.specs.Writers.{writing, out_buffer, end_need, KeepsWriter};
-ghost use Rattle.usb_io.specs.WriteAnswers.{accepts, accepted_count, AcceptsNone, write_came, WriteFails, IsWrittenInTime, flush_came, FlushFails, flush_end_came, FlushEndFails, poll_flush_end_came, PollFlushEndFails};
-ghost use Rattle.usb_io.specs.Carried.{CarriesOn, full_bytes, written_calls, poll_written_calls, flushed_calls, poll_flushed_calls, TellsOn, TellsEnd, TellsPolledEnd};
+ghost use Rattle.usb_io.specs.WriteAnswers.{accepts, accepted_count, AcceptsNone, write_came, WriteFails, flush_came, FlushFails, flush_end_came, FlushEndFails, poll_flush_end_came, PollFlushEndFails};
+ghost use Rattle.usb_io.specs.Carried.{CarriesOn, full_bytes, written_calls, flushed_calls, TellsOn, TellsEnd, TellsPolledEnd};
 
 use crate::fault::WriteFault;
 use crate::writer::EndpointWrite;
@@ -24,7 +24,8 @@ impl<T: BulkOrInterrupt> EndpointWrite<T> {
             (λ b. b ≡ out_buffer self.old.size (unwrap_or self.old.buffer [])) }
         ensures rest { OnOk result (self.new ≡ record self.old { buffer = None }) }
         ensures few { length self.new.endpoint.pending < 64 }
-        ensures none { OnErr result (self.new ≡ self.old) }
+        ensures none { OnErr result (self.old.buffer ≡ None) }
+        ensures err { OnErr result (self.new ≡ self.old) }
     {
         match self.buffer.take() {
             Some(buffer) => Ok(buffer),
@@ -44,11 +45,10 @@ impl<T: BulkOrInterrupt> EndpointWrite<T> {
             self.new.endpoint (full_bytes self.old.size (unwrap_or self.old.buffer []
             ++ take (accepted_count src.now self.old) src.now))) }
         ensures none { OnErr result
-            (AcceptsNone (writing bus.old self.old) (writing bus.new self.new)) }
+            (AcceptsNone src.now (writing bus.old self.old) (writing bus.new self.new)) }
         ensures settings { KeepsWriter self.old self.new }
-        ensures stands { Stands (B.calls.state bus.new) self.new.endpoint }
-        ensures others { KeepsOthers (B.calls.state bus.old) (B.calls.state bus.new)
-            self.old.endpoint.key }
+        ensures goes { WritesAlong (B.calls.state bus.old) (B.calls.state bus.new) self.old.endpoint
+            self.new.endpoint }
     {
         let mut buffer = self.next_out_buffer()?;
         let held = buffer.len();
@@ -84,11 +84,9 @@ impl<T: BulkOrInterrupt> EndpointWrite<T> {
             (writing bus.new self.new)) }
         ensures tells { TellsOn (B.calls.state bus.old) (B.calls.state bus.new) self.old self.new
             (written_calls src.now result) }
-        ensures key { self.new.endpoint.key ≡ self.old.endpoint.key }
         ensures settings { KeepsWriter self.old self.new }
-        ensures stands { Stands (B.calls.state bus.new) self.new.endpoint }
-        ensures others { KeepsOthers (B.calls.state bus.old) (B.calls.state bus.new)
-            self.old.endpoint.key }
+        ensures goes { WritesAlong (B.calls.state bus.old) (B.calls.state bus.new) self.old.endpoint
+            self.new.endpoint }
     {
         self.begun = false;
         match self.drain(bus, false, timeout) {
@@ -119,9 +117,8 @@ impl<T: BulkOrInterrupt> EndpointWrite<T> {
         ensures tells { TellsOn (B.calls.state bus.old) (B.calls.state bus.new) self.old self.new
             (written_calls src.now result) }
         ensures settings { KeepsWriter self.old self.new }
-        ensures stands { Stands (B.calls.state bus.new) self.new.endpoint }
-        ensures others { KeepsOthers (B.calls.state bus.old) (B.calls.state bus.new)
-            self.old.endpoint.key }
+        ensures goes { WritesAlong (B.calls.state bus.old) (B.calls.state bus.new) self.old.endpoint
+            self.new.endpoint }
     {
         let timeout = self.timeout;
         self.write_within(bus, src, timeout)
@@ -134,24 +131,18 @@ impl<T: BulkOrInterrupt> EndpointWrite<T> {
         src: &[u8],
     ) -> Poll<Result<usize, Fail<WriteFault>>>
         requires stands { Stands (B.calls.state bus.old) self.old.endpoint }
-        ensures wrote { IfReady result
-            (λ r. IfOk r
+        ensures wrote { IfOk (as_wait WriteFault.TimedOut result)
             (λ n. write_came B.calls 0 src.now (writing bus.old self.old)
-            ≡ answered (Ok n) (writing bus.new self.new))) }
-        ensures failed { IfReady result
-            (λ r. IfErr r
+            ≡ answered (Ok n) (writing bus.new self.new)) }
+        ensures failed { IfErr (as_wait WriteFault.TimedOut result)
             (WriteFails B.calls 0 src.now (writing bus.old self.old)
-            (writing bus.new self.new))) }
-        ensures in_time { IfReady result (λ r. IfErr r IsWrittenInTime) }
-        ensures pending { IfPending result
-            (write_came B.calls 0 src.now (writing bus.old self.old)
-            ≡ answered (Err WriteFault.TimedOut) (writing bus.new self.new)) }
+            (writing bus.new self.new)) }
+        ensures in_time { InTime WriteFault.TimedOut result }
         ensures tells { TellsOn (B.calls.state bus.old) (B.calls.state bus.new) self.old self.new
-            (poll_written_calls src.now result) }
+            (written_calls src.now (as_wait WriteFault.TimedOut result)) }
         ensures settings { KeepsWriter self.old self.new }
-        ensures stands { Stands (B.calls.state bus.new) self.new.endpoint }
-        ensures others { KeepsOthers (B.calls.state bus.old) (B.calls.state bus.new)
-            self.old.endpoint.key }
+        ensures goes { WritesAlong (B.calls.state bus.old) (B.calls.state bus.new) self.old.endpoint
+            self.new.endpoint }
     {
         match self.write_within(bus, src, 0) {
             Ok(n) => Poll::Ready(Ok(n)),
@@ -170,11 +161,9 @@ impl<T: BulkOrInterrupt> EndpointWrite<T> {
             (FlushFails B.calls timeout (writing bus.old self.old) (writing bus.new self.new)) }
         ensures tells { TellsOn (B.calls.state bus.old) (B.calls.state bus.new) self.old self.new
             (flushed_calls result) }
-        ensures key { self.new.endpoint.key ≡ self.old.endpoint.key }
         ensures settings { KeepsWriter self.old self.new }
-        ensures stands { Stands (B.calls.state bus.new) self.new.endpoint }
-        ensures others { KeepsOthers (B.calls.state bus.old) (B.calls.state bus.new)
-            self.old.endpoint.key }
+        ensures goes { WritesAlong (B.calls.state bus.old) (B.calls.state bus.new) self.old.endpoint
+            self.new.endpoint }
     {
         if self.submit(bus).is_err() {
             return Err(Fail::Memory);
@@ -203,9 +192,8 @@ impl<T: BulkOrInterrupt> EndpointWrite<T> {
         ensures tells { TellsOn (B.calls.state bus.old) (B.calls.state bus.new) self.old self.new
             (flushed_calls result) }
         ensures settings { KeepsWriter self.old self.new }
-        ensures stands { Stands (B.calls.state bus.new) self.new.endpoint }
-        ensures others { KeepsOthers (B.calls.state bus.old) (B.calls.state bus.new)
-            self.old.endpoint.key }
+        ensures goes { WritesAlong (B.calls.state bus.old) (B.calls.state bus.new) self.old.endpoint
+            self.new.endpoint }
     {
         let timeout = self.timeout;
         self.flush_within(bus, timeout)
@@ -214,23 +202,17 @@ impl<T: BulkOrInterrupt> EndpointWrite<T> {
     /// `flush`, which is pending where the front is not there.
     pub fn poll_flush<B: Bus>(&mut self, bus: &mut B) -> Poll<Result<(), Fail<WriteFault>>>
         requires stands { Stands (B.calls.state bus.old) self.old.endpoint }
-        ensures ok { IfReady result
-            (λ r. OnOk r
+        ensures ok { OnOk (as_wait WriteFault.TimedOut result)
             (flush_came B.calls 0 (writing bus.old self.old)
-            ≡ answered (Ok tt) (writing bus.new self.new))) }
-        ensures failed { IfReady result
-            (λ r. IfErr r
-            (FlushFails B.calls 0 (writing bus.old self.old) (writing bus.new self.new))) }
-        ensures in_time { IfReady result (λ r. IfErr r IsWrittenInTime) }
-        ensures pending { IfPending result
-            (flush_came B.calls 0 (writing bus.old self.old)
-            ≡ answered (Err WriteFault.TimedOut) (writing bus.new self.new)) }
+            ≡ answered (Ok tt) (writing bus.new self.new)) }
+        ensures failed { IfErr (as_wait WriteFault.TimedOut result)
+            (FlushFails B.calls 0 (writing bus.old self.old) (writing bus.new self.new)) }
+        ensures in_time { InTime WriteFault.TimedOut result }
         ensures tells { TellsOn (B.calls.state bus.old) (B.calls.state bus.new) self.old self.new
-            (poll_flushed_calls result) }
+            (flushed_calls (as_wait WriteFault.TimedOut result)) }
         ensures settings { KeepsWriter self.old self.new }
-        ensures stands { Stands (B.calls.state bus.new) self.new.endpoint }
-        ensures others { KeepsOthers (B.calls.state bus.old) (B.calls.state bus.new)
-            self.old.endpoint.key }
+        ensures goes { WritesAlong (B.calls.state bus.old) (B.calls.state bus.new) self.old.endpoint
+            self.new.endpoint }
     {
         match self.flush_within(bus, 0) {
             Ok(()) => Poll::Ready(Ok(())),
@@ -258,9 +240,8 @@ impl<T: BulkOrInterrupt> EndpointWrite<T> {
         ensures tells { TellsEnd (B.calls.state bus.old) (B.calls.state bus.new) self.old self.new
             result }
         ensures settings { KeepsWriter self.old self.new }
-        ensures stands { Stands (B.calls.state bus.new) self.new.endpoint }
-        ensures others { KeepsOthers (B.calls.state bus.old) (B.calls.state bus.new)
-            self.old.endpoint.key }
+        ensures goes { WritesAlong (B.calls.state bus.old) (B.calls.state bus.new) self.old.endpoint
+            self.new.endpoint }
     {
         let timeout = self.timeout;
         if self.submit_end(bus).is_err() {
@@ -279,23 +260,17 @@ impl<T: BulkOrInterrupt> EndpointWrite<T> {
         requires few { self.old.begun ≡ false → length self.old.endpoint.pending
             + end_need self.old.endpoint.maximum self.old.buffer ≤ 64 }
         requires stands { Stands (B.calls.state bus.old) self.old.endpoint }
-        ensures ok { IfReady result
-            (λ r. OnOk r
+        ensures ok { OnOk (as_wait WriteFault.TimedOut result)
             (poll_flush_end_came B.calls (writing bus.old self.old)
-            ≡ answered (Ok tt) (writing bus.new self.new))) }
-        ensures failed { IfReady result
-            (λ r. IfErr r
-            (PollFlushEndFails B.calls (writing bus.old self.old) (writing bus.new self.new))) }
-        ensures in_time { IfReady result (λ r. IfErr r IsWrittenInTime) }
-        ensures pending { IfPending result
-            (poll_flush_end_came B.calls (writing bus.old self.old)
-            ≡ answered (Err WriteFault.TimedOut) (writing bus.new self.new)) }
+            ≡ answered (Ok tt) (writing bus.new self.new)) }
+        ensures failed { IfErr (as_wait WriteFault.TimedOut result)
+            (PollFlushEndFails B.calls (writing bus.old self.old) (writing bus.new self.new)) }
+        ensures in_time { InTime WriteFault.TimedOut result }
         ensures tells { TellsPolledEnd (B.calls.state bus.old) (B.calls.state bus.new) self.old
-            self.new result }
+            self.new (as_wait WriteFault.TimedOut result) }
         ensures settings { KeepsWriter self.old self.new }
-        ensures stands { Stands (B.calls.state bus.new) self.new.endpoint }
-        ensures others { KeepsOthers (B.calls.state bus.old) (B.calls.state bus.new)
-            self.old.endpoint.key }
+        ensures goes { WritesAlong (B.calls.state bus.old) (B.calls.state bus.new) self.old.endpoint
+            self.new.endpoint }
     {
         if self.begin_end(bus).is_err() {
             return Poll::Ready(Err(Fail::Memory));

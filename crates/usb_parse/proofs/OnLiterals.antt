@@ -4,22 +4,16 @@ use Rattle.hex.specs.Hex.{decode_pairs}
 use Rattle.usb_words.specs.Words.{decimal_of, number_of, number_between, time_of, index_of, name_of, hex_byte_of, hex_word_of, bytes_of, kind_of, errno_of, read_length_of, call_of}
 use Rattle.usb_words.specs.Controls.{control_type_of, recipient_of, setup_and_more, control_target_of, control_bytes_of, string_index_of}
 use Rattle.usb_words.specs.Fields.{no_word, one_word, two_words, three_words, four_words, six_words, one_and_more, two_and_more, three_and_more, one_field, two_fields, three_fields}
-use Rattle.usb_script.specs.Calls.{device_call_of, configuration_call_of, claim_call_of, name_call_of, clone_of, close_of, interface_call_of}
-use Rattle.usb_script.specs.EndpointCalls.{cancel_of, endpoint_call_of}
-use Rattle.usb_script.specs.ReaderCalls.{read_call_of, poll_call_of, consume_call_of, inner_of, num_of, timeout_of, reader_call_of}
-use Rattle.usb_script.specs.WriterCalls.{write_call_of, submit_call_of, writer_call_of}
-use Rattle.usb_script.specs.ControlLines.{descriptor_call_of, future_call_of, start_call_of, control_call_of}
-use Rattle.usb_script.specs.TreeLines.{tree_call_of, listing_line_of, tree_line_of}
 use Rattle.usb_words.specs.Places.{path_of, file_name_of, target_of, value_of}
 use Rattle.usb_words.specs.Selectors.{class_criterion, named_criterion, selector_of}
-use Rattle.usb_script.specs.Waits.{wait_call_of}
-use Rattle.usb_script.specs.WithSteps.{field_and_steps}
-use Rattle.usb_steps.specs.StepForms.{reap_of, endpoint_step_of, step_named, step_of}
+use Rattle.usb_script.specs.Shapes.{field_and_steps}
+use Rattle.usb_steps.specs.StepForms.{step_forms, step_of}
 use Rattle.usb_steps.specs.KernelSteps.{parts_of, steps_of, own_steps_of}
-use Rattle.usb_script.specs.LineForms.{named_of, form_of, item_of, item_reading_of, own_reading_of, reading_of}
+use Rattle.usb_script.specs.Forms.{forms, named_of}
+use Rattle.usb_script.specs.LineForms.{form_of, item_of, item_reading_of, own_reading_of, reading_of}
 use Rattle.usb_parse.specs.Order.{is_free_device, may_follow}
 use Rattle.usb_parse.specs.Parse.{parse, script_of}
 
 unfoldable pub script_on_literals : ⊤
-unfolding control_type_of recipient_of setup_and_more control_target_of control_bytes_of string_index_of descriptor_call_of future_call_of start_call_of control_call_of decode_pairs decimal_of number_of number_between time_of index_of name_of hex_byte_of hex_word_of bytes_of kind_of errno_of read_length_of call_of no_word one_word two_words three_words four_words six_words one_and_more two_and_more three_and_more one_field two_fields three_fields field_and_steps device_call_of configuration_call_of claim_call_of name_call_of clone_of close_of interface_call_of path_of file_name_of target_of value_of class_criterion named_criterion selector_of tree_call_of listing_line_of tree_line_of cancel_of endpoint_call_of read_call_of poll_call_of consume_call_of inner_of num_of timeout_of reader_call_of write_call_of submit_call_of writer_call_of wait_call_of reap_of endpoint_step_of step_named step_of parts_of steps_of own_steps_of named_of form_of item_of item_reading_of own_reading_of reading_of is_free_device may_follow parse script_of
+unfolding control_type_of recipient_of setup_and_more control_target_of control_bytes_of string_index_of decode_pairs decimal_of number_of number_between time_of index_of name_of hex_byte_of hex_word_of bytes_of kind_of errno_of read_length_of call_of no_word one_word two_words three_words four_words six_words one_and_more two_and_more three_and_more one_field two_fields three_fields field_and_steps path_of file_name_of target_of value_of class_criterion named_criterion selector_of step_forms step_of parts_of steps_of own_steps_of forms named_of form_of item_of item_reading_of own_reading_of reading_of is_free_device may_follow parse script_of
 script_on_literals = tt

@@ -109,9 +109,10 @@ fn add_line<'a>(
     ensures places { OnOk result
         (place_count items.new ≤ place_count items.old + length line.now) }
 {
-    match read_line(alloc, words, line)? {
-        Reading::Skipped => Ok(()),
-        Reading::Read(item) => items.add(item),
+    match read_line(alloc, words, line) {
+        Ok(Reading::Skipped) => Ok(()),
+        Ok(Reading::Read(item)) => items.add(item),
+        Err(error) => Err(error),
     }
 }
 

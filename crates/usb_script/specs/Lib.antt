@@ -1,11 +1,5 @@
-pub mod Calls
-pub mod ControlLines
-pub mod EndpointCalls
+pub mod Forms
 pub mod ItemKinds
 pub mod Kinds
 pub mod LineForms
-pub mod ReaderCalls
-pub mod TreeLines
-pub mod Waits
-pub mod WithSteps
-pub mod WriterCalls
+pub mod Shapes

@@ -1,25 +1,13 @@
--- A line by its first word.
-use Rattle.std.specs.Prelude.{ℕ, List, [], ◌∷◌, codes, Option, Some, None, if◌then◌else◌}
+-- What a line gives.
+use Rattle.std.specs.Prelude.{ℕ, List, [], ◌∷◌, Option, Some, None, if◌then◌else◌}
 use Rattle.std.specs.List.{list_all}
-use Rattle.std.specs.Str.{bytes_eq}
 use Rattle.usb_script.specs.declared.item.Item.{Item}
-use Rattle.usb_script.specs.declared.item.Item.TheVariants.{Device, Driver, Steps}
 use Rattle.usb_script.specs.declared.reading.Reading.{Reading}
 use Rattle.usb_script.specs.declared.reading.Reading.TheVariants.{Skipped, Read}
 use Rattle.usb_words.specs.Lines.{words_of, is_printable, without_cr, is_skipped}
-use Rattle.usb_words.specs.Words.{◌>>=◌, number_of, name_of, bytes_of}
-use Rattle.usb_words.specs.Fields.{Word, six, two}
-use Rattle.usb_words.specs.Letters.{simulated_letter}
-use Rattle.usb_steps.specs.KernelSteps.{steps_of}
-use Rattle.usb_script.specs.Waits.{wait_call_of}
-
--- `! STEP ; ..`, `device k B B B B BYTES`, `driver k B`, calls, and lines on the tree of attributes and on packets of udev
-unfoldable pub named_of : Word → List Word → Option Item
-named_of name words =
-    if bytes_eq name (codes "!") then (steps_of words >>= λ steps. Some (Steps steps))
-    else if bytes_eq name (codes "device") then six Device (name_of simulated_letter) (number_of 255) (number_of 255) (number_of 255) (number_of 255) bytes_of words
-    else if bytes_eq name (codes "driver") then two Driver (name_of simulated_letter) (number_of 255) words
-    else wait_call_of name words
+use Rattle.usb_words.specs.Words.{◌>>=◌}
+use Rattle.usb_words.specs.Fields.{Word}
+use Rattle.usb_script.specs.Forms.{named_of}
 
 -- the item of these words
 unfoldable pub form_of : List Word → Option Item

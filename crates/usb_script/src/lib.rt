@@ -1,18 +1,19 @@
 //! The lines of scripts for the simulated host, each by itself: its words, and the item that it gives.
 #![tactic(auto)]
 
-mod call;
-mod control_call;
+mod by_letter;
+mod control_line;
 mod copies;
-mod endpoint_call;
+mod device_line;
+mod endpoint_line;
 mod item;
 mod line;
-mod reader_call;
+mod reader_line;
 mod reading;
+mod setup_line;
 mod shape;
 mod tree_line;
-mod wait;
-mod writer_call;
+mod writer_line;
 
 pub use item::Item;
 pub use line::read_line;

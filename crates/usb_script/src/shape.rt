@@ -2,10 +2,10 @@
 
 ghost use Rattle.std.specs.Prelude.{◌≡◌, ◌≤◌, length, IfOk, OnOk};
 ghost use Rattle.usb_words.specs.Fields.{texts, one_field, two_fields, three_fields};
-ghost use Rattle.usb_words.specs.Letters.{endpoint_letter};
+ghost use Rattle.usb_words.specs.FieldForms.{e, B, N, TIME};
 ghost use Rattle.usb_words.specs.Outcome.{Gives};
-ghost use Rattle.usb_words.specs.Words.{number_of, name_of, time_of};
-ghost use Rattle.usb_script.specs.WithSteps.{field_and_steps};
+ghost use Rattle.usb_words.specs.Words.{name_of};
+ghost use Rattle.usb_script.specs.Shapes.{field_and_steps};
 
 use std::alloc::Global;
 use usb_steps::{Steps, own_steps};
@@ -26,7 +26,7 @@ pub fn one_name(letter: u8, words: &[&[u8]]) -> Result<Name, LineError>
 #[tactic(auto, unfolding(usb_words::specs::Fields::two_fields))]
 pub fn name_and_byte(letter: u8, words: &[&[u8]]) -> Result<(Name, u8), LineError>
     ensures value { Gives (λ x. x) result
-        (two_fields (name_of letter) (number_of 255) (texts words.now)) }
+        (two_fields (name_of letter) B (texts words.now)) }
 {
     let (name, number) = two_words(words)?;
     Ok((Name::parse(letter, name)?, byte(number)?))
@@ -36,8 +36,7 @@ pub fn name_and_byte(letter: u8, words: &[&[u8]]) -> Result<(Name, u8), LineErro
 #[tactic(auto, unfolding(usb_words::specs::Fields::three_fields))]
 pub fn names_and_length(letter: u8, words: &[&[u8]]) -> Result<(Name, Name, Length), LineError>
     ensures value { Gives (λ x. x) result
-        (three_fields (name_of letter) (name_of endpoint_letter) (number_of 65536)
-        (texts words.now)) }
+        (three_fields (name_of letter) e N (texts words.now)) }
 {
     let (name, endpoint, length) = three_words(words)?;
     let name = Name::parse(letter, name)?;
@@ -47,7 +46,7 @@ pub fn names_and_length(letter: u8, words: &[&[u8]]) -> Result<(Name, Name, Leng
 }
 
 /// A name with this letter, and the steps of the call.
-#[tactic(auto, unfolding(crate::specs::WithSteps::field_and_steps))]
+#[tactic(auto, unfolding(crate::specs::Shapes::field_and_steps))]
 pub fn name_and_steps(
     alloc: Global,
     letter: u8,
@@ -61,9 +60,9 @@ pub fn name_and_steps(
 }
 
 /// A time, and the steps of the call.
-#[tactic(auto, unfolding(crate::specs::WithSteps::field_and_steps))]
+#[tactic(auto, unfolding(crate::specs::Shapes::field_and_steps))]
 pub fn timeout_and_steps(alloc: Global, words: &[&[u8]]) -> Result<(Timeout, Steps), LineError>
-    ensures value { Gives (λ x. x) result (field_and_steps time_of (texts words.now)) }
+    ensures value { Gives (λ x. x) result (field_and_steps TIME (texts words.now)) }
     ensures few { IfOk result (λ x. length x.1 ≤ length words.now) }
 {
     let (timeout, own) = one_and_more(words)?;

@@ -8,7 +8,7 @@ use Rattle.usb_io.specs.Following.{IsMine, IsPrefixOf}
 use Rattle.usb_io.specs.Writes.{NoMidFlush, items_of, written}
 use Rattle.usb_io.specs.Carried.{AllCarry}
 use Rattle.usb_io.proofs.Following.{consumed_is_prefix}
-use Rattle.usb_writes.specs.Told.{WriterCalls}
+use Rattle.usb_streams.specs.Told.{WriterCalls}
 use Rattle.usb_framing.specs.Messages.{messages, AreFirstOf}
 use Rattle.usb_framing.proofs.Messages.{messages_are_first}
 use Rattle.usb_answers.specs.ReaderAt.{ReaderAt, state_of_reader}

@@ -12,7 +12,7 @@ use Rattle.usb_script.specs.declared.item.Item.{Item as Line}
 use Rattle.usb_script.specs.declared.item.Item.TheVariants as item
 use Rattle.usb_io.specs.Streams.{Item, Byte, End}
 use Rattle.usb_io.specs.Writes.{Accept, Finish, items_of}
-use Rattle.usb_writes.specs.Told.{WriterCalls}
+use Rattle.usb_streams.specs.Told.{WriterCalls}
 use Rattle.usb_framing.specs.Messages.{messages}
 use Rattle.usb_answers.specs.State.{State}
 use Rattle.usb_answers.specs.ReaderAt.{ReaderAt, reader_at}

@@ -4,7 +4,7 @@ use Rattle.usb_kernel.specs.declared.event.Event.{Event}
 use Rattle.usb_script.specs.declared.item.Item.{Item as Line}
 use Rattle.usb_io.specs.Streams.{Item}
 use Rattle.usb_io.specs.Writes.{items_of, NoMidFlush}
-use Rattle.usb_writes.specs.Told.{WriterCalls}
+use Rattle.usb_streams.specs.Told.{WriterCalls}
 use Rattle.usb_framing.specs.Messages.{messages, AreFirstOf}
 use Rattle.usb_framing.specs.Exchange.{Exchange, OnlyEchoes}
 use Rattle.usb_answers.specs.State.{State}

@@ -1,9 +1,10 @@
 //! Steps by their first word.
 
-ghost use Rattle.std.specs.Prelude.{IfOk};
+ghost use Rattle.std.specs.Prelude.{IfOk, codes};
 ghost use Rattle.usb_words.specs.Fields.{texts};
 ghost use Rattle.usb_words.specs.Outcome.{Gives};
-ghost use Rattle.usb_steps.specs.StepForms.{reap_of, endpoint_step_of, step_named, step_of};
+ghost use Rattle.usb_words.specs.Tables.{read_by};
+ghost use Rattle.usb_steps.specs.StepForms.{step_forms, step_of};
 ghost use Rattle.usb_steps.specs.StepRanges.{IsStepInRange};
 
 use std::alloc::Global;
@@ -17,9 +18,9 @@ use usb_words::{
 const MAX_TICKET: u64 = 4294967295;
 
 /// `reap`, `reap T`
-#[tactic(auto, unfolding(crate::specs::StepForms::reap_of, usb_words::specs::Fields::one_field))]
+#[tactic(auto, unfolding(crate::specs::StepForms::step_forms, usb_words::specs::Fields::no_word, usb_words::specs::Fields::one_word, usb_words::specs::Fields::one_field))]
 fn reap_step(words: &[&[u8]]) -> Result<KernelStep, LineError>
-    ensures value { Gives (λ s. s) result (reap_of (texts words.now)) }
+    ensures value { Gives (λ s. s) result (read_by step_forms (codes "reap") (texts words.now)) }
     ensures range { IfOk result IsStepInRange }
 {
     if words.is_empty() {
@@ -31,10 +32,10 @@ fn reap_step(words: &[&[u8]]) -> Result<KernelStep, LineError>
     })
 }
 
-/// `pkt k HH BYTES`, `ack k HH`, `echo k HH HH`, `fail k HH ERRNO`
-#[tactic(auto, unfolding(crate::specs::StepForms::endpoint_step_of, usb_words::specs::Fields::two_fields, usb_words::specs::Fields::three_fields))]
-fn endpoint_step(alloc: Global, name: &[u8], words: &[&[u8]]) -> Result<KernelStep, LineError>
-    ensures value { Gives (λ s. s) result (endpoint_step_of name.now (texts words.now)) }
+/// The step with this first word.
+#[tactic(auto, unfolding(crate::specs::StepForms::step_forms, usb_words::specs::Fields::one_field, usb_words::specs::Fields::two_fields, usb_words::specs::Fields::three_fields))]
+fn named_step(alloc: Global, name: &[u8], words: &[&[u8]]) -> Result<KernelStep, LineError>
+    ensures value { Gives (λ s. s) result (read_by step_forms name.now (texts words.now)) }
     ensures range { IfOk result IsStepInRange }
 {
     if reads(name, b"pkt") {
@@ -64,19 +65,7 @@ fn endpoint_step(alloc: Global, name: &[u8], words: &[&[u8]]) -> Result<KernelSt
             endpoint: hex_byte(endpoint)?,
             errno: errno(code)?,
         })
-    } else {
-        Err(LineError::Malformed)
-    }
-}
-
-/// `unplug k`, `clock TIME`, `timer`, `reap`, `refuse k CALL ERRNO`, or a step that comes to an
-/// endpoint
-#[tactic(auto, unfolding(crate::specs::StepForms::step_named, usb_words::specs::Fields::one_field, usb_words::specs::Fields::three_fields))]
-fn named_step(alloc: Global, name: &[u8], words: &[&[u8]]) -> Result<KernelStep, LineError>
-    ensures value { Gives (λ s. s) result (step_named name.now (texts words.now)) }
-    ensures range { IfOk result IsStepInRange }
-{
-    if reads(name, b"unplug") {
+    } else if reads(name, b"unplug") {
         let device = Name::parse(b'k', one_word(words)?)?.number();
         Ok(KernelStep::Unplug { device })
     } else if reads(name, b"clock") {
@@ -85,8 +74,6 @@ fn named_step(alloc: Global, name: &[u8], words: &[&[u8]]) -> Result<KernelStep,
     } else if reads(name, b"timer") {
         no_word(words)?;
         Ok(KernelStep::Timer)
-    } else if reads(name, b"reap") {
-        reap_step(words)
     } else if reads(name, b"refuse") {
         let (device, kind, code) = three_words(words)?;
         Ok(KernelStep::Refuse {
@@ -94,8 +81,10 @@ fn named_step(alloc: Global, name: &[u8], words: &[&[u8]]) -> Result<KernelStep,
             call: call(kind)?,
             errno: errno(code)?,
         })
+    } else if reads(name, b"reap") {
+        reap_step(words)
     } else {
-        endpoint_step(alloc, name, words)
+        Err(LineError::Malformed)
     }
 }
 

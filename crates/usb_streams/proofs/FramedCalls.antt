@@ -1,7 +1,7 @@
 -- A framed reader goes on to follow its stream over calls until a short packet.
 use Rattle.std.proofs.Common.{◌∙◌, ◌≡◌, ℕ, zero, suc, ◌+◌, ◌-◌, ◌≤◌, arith, Bool, true, false, List, [], ◌∷◌, ◌++◌, length, take, drop, map, append-nil, append_assoc, Option, Some, Result, Ok, Err, refl, ap, sym, subst}
 use Rattle.std.specs.Prelude.{min}
-use Rattle.std.proofs.lemmas.Bool.{cond_both}
+use Rattle.std.proofs.lemmas.Bool.{cond_both, leb-true, false≢true}
 use Rattle.usb_xfer.specs.BufferState.{BufferState}
 use Rattle.usb_xfer.specs.declared.transfer.Completion.{Completion}
 use Rattle.usb_kernel.specs.declared.event.Event.{Event}
@@ -23,14 +23,15 @@ use Rattle.usb_io.specs.Readers.{ReaderState, fresh_buffer, with_taken, with_rea
 use Rattle.usb_io.specs.Reads.{Reading, reading, pending_of, ended_off, submit_one, filled_to}
 use Rattle.usb_io.specs.Streams.{Item, Byte}
 use Rattle.usb_io.specs.Following.{History, Follows, with_ticket}
-use Rattle.usb_io.specs.Answers.{handed_over, fill_came}
+use Rattle.usb_io.specs.Answers.{handed_over, fill_came, read_came}
 use Rattle.usb_io.specs.declared.fault.ReadFault.{ReadFault}
 use Rattle.usb_io.proofs.Following.{later_follows, submission_follows, taking_follows, reading_follows}
 use Rattle.usb_io.proofs.FollowLemmas.{turns-ended}
 use Rattle.usb_io.proofs.ReadKeeps.{Keeps, fill-keeps, filled-keeps}
 use Rattle.usb_io.proofs.FillEnds.{fill-lends, fill-ends}
 use Rattle.usb_streams.specs.Numbers.{numbers_from}
-use Rattle.usb_streams.specs.Framed.{ticket_count, given_by, GoesOnToFollow, FramedFillFollows, FramedReadFollows, FramedSubmissionsFollow, EmptyReadLeavesEnd, EmptyFillLeavesEnd}
+use Rattle.usb_streams.specs.ReaderCalls.{Fill, Read, Submit, given_by}
+use Rattle.usb_streams.specs.Framed.{ticket_count, GoesOnToFollow, KeepsToStream, FramedCallsFollow, EmptyCallsLeaveEnd}
 
 -- the journal before a lawful one's last events is lawful
 pub lawful-before : (old new : List Event) → Extends old new → IsLawful new → IsLawful old
@@ -176,10 +177,10 @@ none-follow old new h g =
     goes-follow old new h g new.reader [] refl
     (follows-as new.bus.kernel.past new.reader (record { taken = h.taken ++ g.taken; consumed = h.consumed }) (h.taken ++ g.taken) (h.consumed ++ []) refl (append-nil h.consumed) g.follows)
 
-pub framed_fill_follows : FramedFillFollows
+pub framed_fill_follows : (timeout : ℕ) (w : Reading HostState) → KeepsToStream w (fill_came host_calls true timeout w).left []
 framed_fill_follows timeout w input lawful h f = none-follow w (fill_came host_calls true timeout w).left h (fill-goes timeout w h lawful (goes-same w h input f))
 
-pub framed_submissions_follow : FramedSubmissionsFollow
+pub framed_submissions_follow : (goal : ℕ) (w : Reading HostState) → KeepsToStream w (filled_to host_calls goal w) []
 framed_submissions_follow goal w input lawful h f =
     none-follow w (filled_to host_calls goal w) h (filled-keeps host_calls true 0 (Lawfully w h) (goes-kept w h 0) goal w (λ here. goes-same w h input f) lawful)
 
@@ -198,7 +199,7 @@ handed-past : (most : ℕ) (a : Result (List ℕ) ReadFault) (v : Reading HostSt
 handed-past most (Ok bytes) v = refl
 handed-past most (Err e) v = refl
 
-pub framed_read_follows : FramedReadFollows
+pub framed_read_follows : (timeout most : ℕ) (w : Reading HostState) → KeepsToStream w (read_came host_calls true timeout most w).left (given_by (read_came host_calls true timeout most w).answer)
 framed_read_follows timeout most w input lawful h f =
     let a = fill_came host_calls true timeout w in
     let here : IsLawful a.left.bus.kernel.past = subst (λ (b : HostState). IsLawful b.kernel.past) (handed-past most a.answer a.left) lawful in
@@ -223,9 +224,24 @@ handed-end most (Ok bytes) v lends ends some is =
     let nothing_there : v.reader.unread ≡ [] = sym (lends bytes refl) ∙ none in
     rw (nothing_there, drop-nothing (min most (length bytes))) (rw (nothing_there) at (ends (ap Ok none)))
 
-pub empty_read_leaves_end : EmptyReadLeavesEnd
+pub empty_read_leaves_end : (timeout most : ℕ) (w : Reading HostState) → 1 ≤ most → (read_came host_calls true timeout most w).answer ≡ Ok [] → is_end (read_came host_calls true timeout most w).left.reader ≡ true
 empty_read_leaves_end timeout most w some is =
     let a = fill_came host_calls true timeout w in handed-end most a.answer a.left (fill-lends host_calls true timeout w) (fill-ends host_calls timeout w) some is
 
-pub empty_fill_leaves_end : EmptyFillLeavesEnd
+pub empty_fill_leaves_end : (timeout : ℕ) (w : Reading HostState) → (fill_came host_calls true timeout w).answer ≡ Ok [] → is_end (fill_came host_calls true timeout w).left.reader ≡ true
 empty_fill_leaves_end timeout w is = fill-ends host_calls timeout w is
+
+-- so it is of each call that goes no further than a short packet
+pub framed_calls-follow : FramedCallsFollow
+framed_calls-follow (Fill true timeout) w is = framed_fill_follows timeout w
+framed_calls-follow (Fill false timeout) w is = absurd (false≢true is)
+framed_calls-follow (Read true timeout most) w is = framed_read_follows timeout most w
+framed_calls-follow (Read false timeout most) w is = absurd (false≢true is)
+framed_calls-follow (Submit goal) w is = framed_submissions_follow goal w
+
+pub empty_calls-leave_end : EmptyCallsLeaveEnd
+empty_calls-leave_end (Fill true timeout) w is asks none = empty_fill_leaves_end timeout w none
+empty_calls-leave_end (Fill false timeout) w is asks none = absurd (false≢true is)
+empty_calls-leave_end (Read true timeout most) w is asks none = empty_read_leaves_end timeout most w (leb-true 1 most asks) none
+empty_calls-leave_end (Read false timeout most) w is asks none = absurd (false≢true is)
+empty_calls-leave_end (Submit goal) w is asks none = absurd (false≢true asks)

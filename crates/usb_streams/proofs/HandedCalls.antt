@@ -20,10 +20,10 @@ use Rattle.usb_host.proofs.CountLemmas.{waited-count, taken-count}
 use Rattle.usb_host.proofs.FollowLemmas.{adds-entered, on-waited, taken-past}
 use Rattle.usb_io.specs.Readers.{no_bytes, bytes_in, fresh_buffer, with_taken}
 use Rattle.usb_io.specs.Reads.{Reading, reading, pending_of, submit_one, filled_to}
-use Rattle.usb_io.specs.Answers.{handed_over, fill_came}
+use Rattle.usb_io.specs.Answers.{handed_over, fill_came, read_came}
 use Rattle.usb_io.specs.declared.fault.ReadFault.{ReadFault}
-use Rattle.usb_streams.specs.Framed.{given_by}
-use Rattle.usb_streams.specs.Handed.{completed_bytes, HandsOver, FillHandsOver, ReadHandsOver, SubmissionsHandOver}
+use Rattle.usb_streams.specs.ReaderCalls.{Fill, Read, Submit, given_by}
+use Rattle.usb_streams.specs.Handed.{completed_bytes, HandsOver, CallsHandOver}
 use Rattle.usb_io.proofs.ReadKeeps.{Keeps, turns-empty, fill-keeps, filled-keeps}
 use Rattle.usb_io.proofs.FillEnds.{fill-lends}
 use Rattle.usb_streams.proofs.TicketsCome.{TicketsCame, came-same, came-one, came-on}
@@ -126,7 +126,7 @@ brings-over old new g = record { taken = g.tickets.taken; tickets = g.tickets.sa
 fill-brings : (us : Bool) (timeout : ℕ) (w : Reading HostState) → Brings w (fill_came host_calls us timeout w).left
 fill-brings us timeout w = fill-keeps host_calls us timeout (Brings w) (brings-kept us timeout w) w (brings-same w)
 
-pub fill_hands_over : FillHandsOver
+pub fill_hands_over : (us : Bool) (timeout : ℕ) (w : Reading HostState) → HandsOver w (fill_came host_calls us timeout w).left []
 fill_hands_over us timeout w = brings-over w (fill_came host_calls us timeout w).left (fill-brings us timeout w)
 
 handed-hands : (most : ℕ) (a : Result (List ℕ) ReadFault) (old v : Reading HostState) → ((bytes : List ℕ) → a ≡ Ok bytes → bytes ≡ v.reader.unread) → Brings old v → HandsOver old (handed_over most a v).left (given_by (handed_over most a v).answer)
@@ -136,10 +136,16 @@ handed-hands most (Ok bytes) old v lends g =
     let parts : take n bytes ++ drop n v.reader.unread ≡ v.reader.unread = ap (λ (xs : List ℕ). take n xs ++ drop n v.reader.unread) (lends bytes refl) ∙ take-append-drop n v.reader.unread in
     record { taken = g.tickets.taken; tickets = g.tickets.same; complete = g.complete; bytes = g.bytes ∙ sym parts }
 
-pub read_hands_over : ReadHandsOver
+pub read_hands_over : (us : Bool) (timeout most : ℕ) (w : Reading HostState) → HandsOver w (read_came host_calls us timeout most w).left (given_by (read_came host_calls us timeout most w).answer)
 read_hands_over us timeout most w =
     let a = fill_came host_calls us timeout w in handed-hands most a.answer w a.left (fill-lends host_calls us timeout w) (fill-brings us timeout w)
 
-pub submissions_hand_over : SubmissionsHandOver
+pub submissions_hand_over : (goal : ℕ) (w : Reading HostState) → HandsOver w (filled_to host_calls goal w) []
 submissions_hand_over goal w =
     brings-over w (filled_to host_calls goal w) (filled-keeps host_calls false 0 (Brings w) (brings-kept false 0 w) goal w (brings-same w))
+
+-- so it is of each call
+pub calls-hand_over : CallsHandOver
+calls-hand_over (Fill us timeout) w = fill_hands_over us timeout w
+calls-hand_over (Read us timeout most) w = read_hands_over us timeout most w
+calls-hand_over (Submit goal) w = submissions_hand_over goal w

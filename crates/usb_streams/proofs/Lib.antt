@@ -1,5 +1,10 @@
 pub mod LinesGoOn
-pub mod CallsGoOn
+pub mod ReadsGoOn
 pub mod TicketsCome
 pub mod FramedCalls
 pub mod HandedCalls
+pub mod WritesKeep
+pub mod WritesGoOn
+pub mod WritesLeave
+pub mod TicketMoves
+pub mod Tells

@@ -1,17 +1,16 @@
 -- What calls on a reader hand over of the transfers that they take, at a host.
-use Rattle.std.specs.Prelude.{ℕ, ◌≡◌, ◌-◌, Bool, List, [], ◌++◌, All, IsSome}
+use Rattle.std.specs.Prelude.{ℕ, ◌≡◌, ◌-◌, List, ◌++◌, All, IsSome}
 use Rattle.std.specs.List.{flat_map}
 use Rattle.std.specs.Option.{option_map}
 use Rattle.usb_xfer.specs.declared.transfer.Completion.{Completion}
 use Rattle.usb_kernel.specs.declared.event.Event.{Event}
 use Rattle.usb_bus.specs.Completions.{transfer_completion}
 use Rattle.usb_host.specs.HostState.{HostState}
-use Rattle.usb_host.specs.HostCalls.{host_calls}
 use Rattle.usb_io.specs.Readers.{bytes_in}
-use Rattle.usb_io.specs.Reads.{Reading, pending_of, filled_to}
-use Rattle.usb_io.specs.Answers.{fill_came, read_came}
+use Rattle.usb_io.specs.Reads.{Reading, pending_of}
 use Rattle.usb_streams.specs.Numbers.{numbers_from}
-use Rattle.usb_streams.specs.Framed.{ticket_count, given_by}
+use Rattle.usb_streams.specs.Framed.{ticket_count}
+use Rattle.usb_streams.specs.ReaderCalls.{ReaderCall, read_by, handed_by}
 
 -- the bytes of the completions that a journal has of these tickets, joined
 abbrev pub completed_bytes : List Event → List ℕ → List ℕ
@@ -28,20 +27,6 @@ pub record HandsOver (old new : Reading HostState) (given : List ℕ) : Type 0 w
   pub complete : All (λ t. IsSome (transfer_completion new.bus.kernel.past t)) taken
   pub bytes : old.reader.unread ++ completed_bytes new.bus.kernel.past taken ≡ given ++ new.reader.unread
 
--- so it is of a call that lends the bytes
-abbrev pub FillHandsOver : Type 0
-FillHandsOver =
-    (until_short : Bool) (timeout : ℕ) (w : Reading HostState) →
-    HandsOver w (fill_came host_calls until_short timeout w).left []
-
--- of a read
-abbrev pub ReadHandsOver : Type 0
-ReadHandsOver =
-    (until_short : Bool) (timeout most : ℕ) (w : Reading HostState) →
-    HandsOver w (read_came host_calls until_short timeout most w).left
-    (given_by (read_came host_calls until_short timeout most w).answer)
-
--- and of the submissions of a number of transfers that is set
-abbrev pub SubmissionsHandOver : Type 0
-SubmissionsHandOver =
-    (goal : ℕ) (w : Reading HostState) → HandsOver w (filled_to host_calls goal w) []
+-- so it is of each call
+abbrev pub CallsHandOver : Type 0
+CallsHandOver = (call : ReaderCall) (w : Reading HostState) → HandsOver w (read_by call w).left (handed_by call w)

@@ -1,14 +1,11 @@
-//! Reads of a reader at a host, which keep its line, and how many submissions they may need.
+//! The calls of readers and writers at a host: laws of what they leave, and how many submissions a
+//! read may need.
 #![tactic(auto)]
 
-mod fills;
-mod laws;
 mod needs;
-mod reads;
-mod settings;
+mod reader_laws;
+mod writer_laws;
 
-pub use fills::{fill_buf, fill_until_short, poll_fill_buf, poll_fill_until_short};
-pub use laws::{calls_go_on, calls_hand_over, framed_calls_follow};
 pub use needs::read_need;
-pub use reads::{poll_read, poll_read_until_short, read, read_until_short};
-pub use settings::set_num_transfers;
+pub use reader_laws::{calls_hand_over, framed_calls_follow, reader_calls_go_on};
+pub use writer_laws::{calls_tell, writer_calls_go_on};

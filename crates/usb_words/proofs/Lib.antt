@@ -1,3 +1,5 @@
+mod EqualWords
 mod FirstWord
 pub mod PathLemmas
 pub mod SelectorLemmas
+pub mod TableLemmas

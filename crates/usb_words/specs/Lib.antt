@@ -1,10 +1,12 @@
 pub mod Controls
 pub mod EndpointKinds
+pub mod FieldForms
 pub mod Fields
 pub mod Letters
 pub mod Lines
 pub mod Outcome
 pub mod Places
 pub mod Selectors
+pub mod Tables
 pub mod Timeouts
 pub mod Words

@@ -26,9 +26,9 @@ flushed_line (Ok done) = ok_line
 flushed_line (Err fault) = write_fault_line fault
 
 -- a poll is pending where the time was up
-abbrev pub polled : {A : Type 0} → (Result A WriteFault → List ℕ) → Result A WriteFault → List ℕ
-polled line (Err TimedOut) = pending_line
-polled line answer = line answer
+abbrev pub poll_line : {A : Type 0} → (Result A WriteFault → List ℕ) → Result A WriteFault → List ℕ
+poll_line line (Err TimedOut) = pending_line
+poll_line line answer = line answer
 
 -- a submission that has its memory does not fail
 abbrev pub submitted_to : Writing HostState → Answered (Unit {0}) WriteFault (Writing HostState)

@@ -1,11 +1,7 @@
 -- What a line of a writer leaves of the host and the writer where memory is lacking.
 use Rattle.std.specs.Prelude.{◌≡◌, ◌⊎◌, Bool, true, false}
 use Rattle.usb_host.specs.HostState.{HostState}
-use Rattle.usb_io.specs.Writers.{Writing, not_begun}
-
--- a submission or a flush that lacks memory submitted nothing, and no end has begun
-abbrev pub SubmitShort : Writing HostState → Writing HostState → Type 0
-SubmitShort old new = new ≡ not_begun old
+use Rattle.usb_io.specs.Writers.{Writing}
 
 -- a barred call changed nothing. Any other left what it comes to, and its line lacked memory; or it
 -- lacked memory itself, and left what is so of it then

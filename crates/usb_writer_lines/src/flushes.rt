@@ -5,19 +5,19 @@ ghost use Rattle.usb_endpoint.specs.Handles.{Stands};
 ghost use Rattle.usb_host.specs.HostBus.{bus_of};
 ghost use Rattle.usb_host.specs.HostCalls.{host_calls};
 ghost use Rattle.usb_io.specs.Writers.{writing};
-ghost use Rattle.usb_io.specs.WriteAnswers.{flush_came, flush_end_came, poll_flush_end_came, SubmitEndShort, PolledEndShort};
-ghost use Rattle.usb_writes.specs.AnyWriters.{writer_of};
+ghost use Rattle.usb_io.specs.WriteAnswers.{flush_came, flush_end_came, poll_flush_end_came, SubmitShort, SubmitEndShort, PolledEndShort};
 ghost use Rattle.usb_writer_lines.specs.Needs.{bars_call, flush_need, finish_need, poll_finish_need};
-ghost use Rattle.usb_writer_lines.specs.Printed.{flushed_line, polled, Prints, CallKeeps};
-ghost use Rattle.usb_writer_lines.specs.Short.{SubmitShort, LeftShort};
+ghost use Rattle.usb_writer_lines.specs.Printed.{flushed_line, poll_line, Prints, CallKeeps};
+ghost use Rattle.usb_writer_lines.specs.Short.{LeftShort};
 
 use crate::needs::{bars_call, flush_need, poll_finish_need};
 use futures::task::Poll;
 use usb_desc::{Fail, NoMemory};
 use usb_device::Host;
+use usb_io::EndpointWrite;
 use usb_lines::{write_condition, write_ok, write_pending};
 use usb_stream_lines::write_write_fault;
-use usb_writes::AnyWriter;
+use usb_xfer::Any;
 
 /// Flushes, and waits for what is pending: `ok`, or the first fault.
 ///
@@ -25,30 +25,34 @@ use usb_writes::AnyWriter;
 ///
 /// Want of memory. A barred call changed nothing. Any other lacked it for its line alone, or it
 /// submitted nothing, and no end has begun.
-pub fn flush(writer: &mut AnyWriter, host: &mut Host, line: &mut String) -> Result<(), NoMemory>
-    requires stands { Stands (bus_of host.old) (writer_of writer.old).endpoint }
+pub fn flush(
+    writer: &mut EndpointWrite<Any>,
+    host: &mut Host,
+    line: &mut String,
+) -> Result<(), NoMemory>
+    requires stands { Stands (bus_of host.old) writer.old.endpoint }
     ensures printed { Prints
-        (bars_call (writing host.old (writer_of writer.old)) (flush_need (writer_of writer.old)))
+        (bars_call (writing host.old writer.old) (flush_need writer.old))
         flushed_line
-        (flush_came host_calls (writer_of writer.old).timeout
-        (writing host.old (writer_of writer.old)))
+        (flush_came host_calls writer.old.timeout
+        (writing host.old writer.old))
         line.old line.new
-        (writing host.old (writer_of writer.old)) (writing host.new (writer_of writer.new)) result }
+        (writing host.old writer.old) (writing host.new writer.new) result }
     ensures short { OnErr result
         (LeftShort
-        (bars_call (writing host.old (writer_of writer.old)) (flush_need (writer_of writer.old)))
-        (flush_came host_calls (writer_of writer.old).timeout
-        (writing host.old (writer_of writer.old))).left
+        (bars_call (writing host.old writer.old) (flush_need writer.old))
+        (flush_came host_calls writer.old.timeout
+        (writing host.old writer.old)).left
         SubmitShort
-        (writing host.old (writer_of writer.old)) (writing host.new (writer_of writer.new))) }
+        (writing host.old writer.old) (writing host.new writer.new)) }
     ensures keeps { CallKeeps
-        (writing host.old (writer_of writer.old)) (writing host.new (writer_of writer.new)) }
+        (writing host.old writer.old) (writing host.new writer.new) }
 {
     if bars_call(host, writer, flush_need(writer)) {
         return write_condition(line);
     }
     let alloc = *line.allocator();
-    match usb_writes::flush(writer, host) {
+    match writer.flush(host) {
         Ok(()) => write_ok(line),
         Err(Fail::Cause(fault)) => write_write_fault(alloc, line, fault),
         Err(Fail::Memory) => Err(NoMemory),
@@ -62,31 +66,31 @@ pub fn flush(writer: &mut AnyWriter, host: &mut Host, line: &mut String) -> Resu
 /// Want of memory. A barred call changed nothing. Any other lacked it for its line alone, or it
 /// submitted nothing, and no end has begun.
 pub fn poll_flush(
-    writer: &mut AnyWriter,
+    writer: &mut EndpointWrite<Any>,
     host: &mut Host,
     line: &mut String,
 ) -> Result<(), NoMemory>
-    requires stands { Stands (bus_of host.old) (writer_of writer.old).endpoint }
+    requires stands { Stands (bus_of host.old) writer.old.endpoint }
     ensures printed { Prints
-        (bars_call (writing host.old (writer_of writer.old)) (flush_need (writer_of writer.old)))
-        (polled flushed_line)
-        (flush_came host_calls 0 (writing host.old (writer_of writer.old)))
+        (bars_call (writing host.old writer.old) (flush_need writer.old))
+        (poll_line flushed_line)
+        (flush_came host_calls 0 (writing host.old writer.old))
         line.old line.new
-        (writing host.old (writer_of writer.old)) (writing host.new (writer_of writer.new)) result }
+        (writing host.old writer.old) (writing host.new writer.new) result }
     ensures short { OnErr result
         (LeftShort
-        (bars_call (writing host.old (writer_of writer.old)) (flush_need (writer_of writer.old)))
-        (flush_came host_calls 0 (writing host.old (writer_of writer.old))).left
+        (bars_call (writing host.old writer.old) (flush_need writer.old))
+        (flush_came host_calls 0 (writing host.old writer.old)).left
         SubmitShort
-        (writing host.old (writer_of writer.old)) (writing host.new (writer_of writer.new))) }
+        (writing host.old writer.old) (writing host.new writer.new)) }
     ensures keeps { CallKeeps
-        (writing host.old (writer_of writer.old)) (writing host.new (writer_of writer.new)) }
+        (writing host.old writer.old) (writing host.new writer.new) }
 {
     if bars_call(host, writer, flush_need(writer)) {
         return write_condition(line);
     }
     let alloc = *line.allocator();
-    match usb_writes::poll_flush(writer, host) {
+    match writer.poll_flush(host) {
         Poll::Ready(Ok(())) => write_ok(line),
         Poll::Ready(Err(Fail::Cause(fault))) => write_write_fault(alloc, line, fault),
         Poll::Ready(Err(Fail::Memory)) => Err(NoMemory),
@@ -100,30 +104,34 @@ pub fn poll_flush(
 ///
 /// Want of memory. A barred call changed nothing. Any other lacked it for its line alone, or it
 /// submitted nothing, or the buffer without the empty transfer, and no end has begun.
-pub fn flush_end(writer: &mut AnyWriter, host: &mut Host, line: &mut String) -> Result<(), NoMemory>
-    requires stands { Stands (bus_of host.old) (writer_of writer.old).endpoint }
+pub fn flush_end(
+    writer: &mut EndpointWrite<Any>,
+    host: &mut Host,
+    line: &mut String,
+) -> Result<(), NoMemory>
+    requires stands { Stands (bus_of host.old) writer.old.endpoint }
     ensures printed { Prints
-        (bars_call (writing host.old (writer_of writer.old)) (finish_need (writer_of writer.old)))
+        (bars_call (writing host.old writer.old) (finish_need writer.old))
         flushed_line
-        (flush_end_came host_calls (writer_of writer.old).timeout
-        (writing host.old (writer_of writer.old)))
+        (flush_end_came host_calls writer.old.timeout
+        (writing host.old writer.old))
         line.old line.new
-        (writing host.old (writer_of writer.old)) (writing host.new (writer_of writer.new)) result }
+        (writing host.old writer.old) (writing host.new writer.new) result }
     ensures short { OnErr result
         (LeftShort
-        (bars_call (writing host.old (writer_of writer.old)) (finish_need (writer_of writer.old)))
-        (flush_end_came host_calls (writer_of writer.old).timeout
-        (writing host.old (writer_of writer.old))).left
+        (bars_call (writing host.old writer.old) (finish_need writer.old))
+        (flush_end_came host_calls writer.old.timeout
+        (writing host.old writer.old)).left
         (SubmitEndShort host_calls)
-        (writing host.old (writer_of writer.old)) (writing host.new (writer_of writer.new))) }
+        (writing host.old writer.old) (writing host.new writer.new)) }
     ensures keeps { CallKeeps
-        (writing host.old (writer_of writer.old)) (writing host.new (writer_of writer.new)) }
+        (writing host.old writer.old) (writing host.new writer.new) }
 {
     if bars_call(host, writer, writer.end_need()) {
         return write_condition(line);
     }
     let alloc = *line.allocator();
-    match usb_writes::flush_end(writer, host) {
+    match writer.flush_end(host) {
         Ok(()) => write_ok(line),
         Err(Fail::Cause(fault)) => write_write_fault(alloc, line, fault),
         Err(Fail::Memory) => Err(NoMemory),
@@ -137,33 +145,33 @@ pub fn flush_end(writer: &mut AnyWriter, host: &mut Host, line: &mut String) -> 
 /// Want of memory. A barred call changed nothing. Any other lacked it for its line alone, or it
 /// submitted nothing, or the buffer without the empty transfer, and no end has begun.
 pub fn poll_flush_end(
-    writer: &mut AnyWriter,
+    writer: &mut EndpointWrite<Any>,
     host: &mut Host,
     line: &mut String,
 ) -> Result<(), NoMemory>
-    requires stands { Stands (bus_of host.old) (writer_of writer.old).endpoint }
+    requires stands { Stands (bus_of host.old) writer.old.endpoint }
     ensures printed { Prints
-        (bars_call (writing host.old (writer_of writer.old))
-        (poll_finish_need (writer_of writer.old)))
-        (polled flushed_line)
-        (poll_flush_end_came host_calls (writing host.old (writer_of writer.old)))
+        (bars_call (writing host.old writer.old)
+        (poll_finish_need writer.old))
+        (poll_line flushed_line)
+        (poll_flush_end_came host_calls (writing host.old writer.old))
         line.old line.new
-        (writing host.old (writer_of writer.old)) (writing host.new (writer_of writer.new)) result }
+        (writing host.old writer.old) (writing host.new writer.new) result }
     ensures short { OnErr result
         (LeftShort
-        (bars_call (writing host.old (writer_of writer.old))
-        (poll_finish_need (writer_of writer.old)))
-        (poll_flush_end_came host_calls (writing host.old (writer_of writer.old))).left
+        (bars_call (writing host.old writer.old)
+        (poll_finish_need writer.old))
+        (poll_flush_end_came host_calls (writing host.old writer.old)).left
         (PolledEndShort host_calls)
-        (writing host.old (writer_of writer.old)) (writing host.new (writer_of writer.new))) }
+        (writing host.old writer.old) (writing host.new writer.new)) }
     ensures keeps { CallKeeps
-        (writing host.old (writer_of writer.old)) (writing host.new (writer_of writer.new)) }
+        (writing host.old writer.old) (writing host.new writer.new) }
 {
     if bars_call(host, writer, poll_finish_need(writer)) {
         return write_condition(line);
     }
     let alloc = *line.allocator();
-    match usb_writes::poll_flush_end(writer, host) {
+    match writer.poll_flush_end(host) {
         Poll::Ready(Ok(())) => write_ok(line),
         Poll::Ready(Err(Fail::Cause(fault))) => write_write_fault(alloc, line, fault),
         Poll::Ready(Err(Fail::Memory)) => Err(NoMemory),

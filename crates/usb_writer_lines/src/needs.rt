@@ -2,11 +2,11 @@
 
 ghost use Rattle.std.specs.Prelude.{◌≡◌, ◌≤◌};
 ghost use Rattle.usb_io.specs.Writers.{writing};
-ghost use Rattle.usb_writes.specs.AnyWriters.{writer_of};
 ghost use Rattle.usb_writer_lines.specs.Needs.{bars_need, bars_call, write_need, flush_need, finish_need, poll_finish_need, bars_transfers};
 
 use usb_device::Host;
-use usb_writes::AnyWriter;
+use usb_io::EndpointWrite;
+use usb_xfer::Any;
 
 /// How many transfers of an endpoint may be pending.
 pub const MOST_PENDING: usize = 64;
@@ -32,15 +32,15 @@ pub fn bars_transfers(count: usize) -> bool
 }
 
 /// Whether a call on a writer is barred that may need so many submissions.
-pub(crate) fn bars_call(host: &Host, writer: &AnyWriter, need: usize) -> bool
-    ensures barred { result ≡ bars_call (writing host.now (writer_of writer.now)) need }
+pub(crate) fn bars_call(host: &Host, writer: &EndpointWrite<Any>, need: usize) -> bool
+    ensures barred { result ≡ bars_call (writing host.now writer.now) need }
 {
     bars_need(host, writer.pending(), need)
 }
 
 /// How many submissions a write may need.
-pub(crate) fn write_need(writer: &AnyWriter) -> usize
-    ensures need { result ≡ write_need (writer_of writer.now) }
+pub(crate) fn write_need(writer: &EndpointWrite<Any>) -> usize
+    ensures need { result ≡ write_need writer.now }
 {
     if writer.buffered().is_some() || writer.pending() < writer.num_transfers() {
         1
@@ -50,8 +50,8 @@ pub(crate) fn write_need(writer: &AnyWriter) -> usize
 }
 
 /// How many submissions a call may need that submits the bytes that stand.
-pub(crate) fn flush_need(writer: &AnyWriter) -> usize
-    ensures need { result ≡ flush_need (writer_of writer.now) }
+pub(crate) fn flush_need(writer: &EndpointWrite<Any>) -> usize
+    ensures need { result ≡ flush_need writer.now }
 {
     match writer.buffered() {
         None | Some(0) => 0,
@@ -60,8 +60,8 @@ pub(crate) fn flush_need(writer: &AnyWriter) -> usize
 }
 
 /// How many submissions a poll to the end of a message needs: none where an end has begun.
-pub(crate) fn poll_finish_need(writer: &AnyWriter) -> usize
-    ensures need { result ≡ poll_finish_need (writer_of writer.now) }
+pub(crate) fn poll_finish_need(writer: &EndpointWrite<Any>) -> usize
+    ensures need { result ≡ poll_finish_need writer.now }
     ensures few { result ≤ 2 }
 {
     if writer.end_begun() {

@@ -5,17 +5,17 @@ ghost use Rattle.usb_endpoint.specs.Handles.{Stands};
 ghost use Rattle.usb_host.specs.HostBus.{bus_of};
 ghost use Rattle.usb_host.specs.HostCalls.{host_calls};
 ghost use Rattle.usb_io.specs.Writers.{writing};
-ghost use Rattle.usb_io.specs.WriteAnswers.{submit_came, submit_end_came, SubmitEndShort};
-ghost use Rattle.usb_writes.specs.AnyWriters.{writer_of};
+ghost use Rattle.usb_io.specs.WriteAnswers.{submit_came, SubmitShort, submit_end_came, SubmitEndShort};
 ghost use Rattle.usb_writer_lines.specs.Needs.{bars_call, flush_need, finish_need};
 ghost use Rattle.usb_writer_lines.specs.Printed.{flushed_line, submitted_to, Prints, CallKeeps};
-ghost use Rattle.usb_writer_lines.specs.Short.{SubmitShort, LeftShort};
+ghost use Rattle.usb_writer_lines.specs.Short.{LeftShort};
 
 use crate::needs::{bars_call, flush_need};
 use usb_desc::NoMemory;
 use usb_device::Host;
+use usb_io::EndpointWrite;
 use usb_lines::{write_condition, write_ok};
-use usb_writes::AnyWriter;
+use usb_xfer::Any;
 
 /// Submits the bytes that stand, if any do: `ok`.
 ///
@@ -23,27 +23,31 @@ use usb_writes::AnyWriter;
 ///
 /// Want of memory. A barred call changed nothing. Any other lacked it for its line alone, or it
 /// submitted nothing, and no end has begun.
-pub fn submit(writer: &mut AnyWriter, host: &mut Host, line: &mut String) -> Result<(), NoMemory>
-    requires stands { Stands (bus_of host.old) (writer_of writer.old).endpoint }
+pub fn submit(
+    writer: &mut EndpointWrite<Any>,
+    host: &mut Host,
+    line: &mut String,
+) -> Result<(), NoMemory>
+    requires stands { Stands (bus_of host.old) writer.old.endpoint }
     ensures printed { Prints
-        (bars_call (writing host.old (writer_of writer.old)) (flush_need (writer_of writer.old)))
+        (bars_call (writing host.old writer.old) (flush_need writer.old))
         flushed_line
-        (submitted_to (submit_came host_calls (writing host.old (writer_of writer.old))))
+        (submitted_to (submit_came host_calls (writing host.old writer.old)))
         line.old line.new
-        (writing host.old (writer_of writer.old)) (writing host.new (writer_of writer.new)) result }
+        (writing host.old writer.old) (writing host.new writer.new) result }
     ensures short { OnErr result
         (LeftShort
-        (bars_call (writing host.old (writer_of writer.old)) (flush_need (writer_of writer.old)))
-        (submit_came host_calls (writing host.old (writer_of writer.old)))
+        (bars_call (writing host.old writer.old) (flush_need writer.old))
+        (submit_came host_calls (writing host.old writer.old))
         SubmitShort
-        (writing host.old (writer_of writer.old)) (writing host.new (writer_of writer.new))) }
+        (writing host.old writer.old) (writing host.new writer.new)) }
     ensures keeps { CallKeeps
-        (writing host.old (writer_of writer.old)) (writing host.new (writer_of writer.new)) }
+        (writing host.old writer.old) (writing host.new writer.new) }
 {
     if bars_call(host, writer, flush_need(writer)) {
         return write_condition(line);
     }
-    usb_writes::submit(writer, host)?;
+    writer.submit(host)?;
     write_ok(line)
 }
 
@@ -54,29 +58,29 @@ pub fn submit(writer: &mut AnyWriter, host: &mut Host, line: &mut String) -> Res
 /// Want of memory. A barred call changed nothing. Any other lacked it for its line alone, or it
 /// submitted nothing, or the buffer without the empty transfer, and no end has begun.
 pub fn submit_end(
-    writer: &mut AnyWriter,
+    writer: &mut EndpointWrite<Any>,
     host: &mut Host,
     line: &mut String,
 ) -> Result<(), NoMemory>
-    requires stands { Stands (bus_of host.old) (writer_of writer.old).endpoint }
+    requires stands { Stands (bus_of host.old) writer.old.endpoint }
     ensures printed { Prints
-        (bars_call (writing host.old (writer_of writer.old)) (finish_need (writer_of writer.old)))
+        (bars_call (writing host.old writer.old) (finish_need writer.old))
         flushed_line
-        (submitted_to (submit_end_came host_calls (writing host.old (writer_of writer.old))))
+        (submitted_to (submit_end_came host_calls (writing host.old writer.old)))
         line.old line.new
-        (writing host.old (writer_of writer.old)) (writing host.new (writer_of writer.new)) result }
+        (writing host.old writer.old) (writing host.new writer.new) result }
     ensures short { OnErr result
         (LeftShort
-        (bars_call (writing host.old (writer_of writer.old)) (finish_need (writer_of writer.old)))
-        (submit_end_came host_calls (writing host.old (writer_of writer.old)))
+        (bars_call (writing host.old writer.old) (finish_need writer.old))
+        (submit_end_came host_calls (writing host.old writer.old))
         (SubmitEndShort host_calls)
-        (writing host.old (writer_of writer.old)) (writing host.new (writer_of writer.new))) }
+        (writing host.old writer.old) (writing host.new writer.new)) }
     ensures keeps { CallKeeps
-        (writing host.old (writer_of writer.old)) (writing host.new (writer_of writer.new)) }
+        (writing host.old writer.old) (writing host.new writer.new) }
 {
     if bars_call(host, writer, writer.end_need()) {
         return write_condition(line);
     }
-    usb_writes::submit_end(writer, host)?;
+    writer.submit_end(host)?;
     write_ok(line)
 }

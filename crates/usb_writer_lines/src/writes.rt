@@ -6,18 +6,18 @@ ghost use Rattle.usb_host.specs.HostBus.{bus_of};
 ghost use Rattle.usb_host.specs.HostCalls.{host_calls};
 ghost use Rattle.usb_io.specs.Writers.{writing};
 ghost use Rattle.usb_io.specs.WriteAnswers.{write_came, WriteShort};
-ghost use Rattle.usb_writes.specs.AnyWriters.{writer_of};
 ghost use Rattle.usb_writer_lines.specs.Needs.{bars_call, write_need};
-ghost use Rattle.usb_writer_lines.specs.Printed.{written_line, polled, Prints, CallKeeps};
+ghost use Rattle.usb_writer_lines.specs.Printed.{written_line, poll_line, Prints, CallKeeps};
 ghost use Rattle.usb_writer_lines.specs.Short.{LeftShort};
 
 use crate::needs::{bars_call, write_need};
 use futures::task::Poll;
 use usb_desc::{Fail, NoMemory};
 use usb_device::Host;
+use usb_io::EndpointWrite;
 use usb_lines::{write_condition, write_pending};
 use usb_stream_lines::{write_write_fault, write_wrote};
-use usb_writes::AnyWriter;
+use usb_xfer::Any;
 
 /// Writes bytes, of which the writer accepts what fits, and waits where no buffer is free:
 /// `wrote N`, or the fault.
@@ -27,34 +27,34 @@ use usb_writes::AnyWriter;
 /// Want of memory. A barred call changed nothing. Any other lacked it for its line alone, or it
 /// took its fronts and accepted no byte.
 pub fn write(
-    writer: &mut AnyWriter,
+    writer: &mut EndpointWrite<Any>,
     host: &mut Host,
     line: &mut String,
     bytes: &[u8],
 ) -> Result<(), NoMemory>
-    requires stands { Stands (bus_of host.old) (writer_of writer.old).endpoint }
+    requires stands { Stands (bus_of host.old) writer.old.endpoint }
     ensures printed { Prints
-        (bars_call (writing host.old (writer_of writer.old)) (write_need (writer_of writer.old)))
+        (bars_call (writing host.old writer.old) (write_need writer.old))
         written_line
-        (write_came host_calls (writer_of writer.old).timeout bytes.now
-        (writing host.old (writer_of writer.old)))
+        (write_came host_calls writer.old.timeout bytes.now
+        (writing host.old writer.old))
         line.old line.new
-        (writing host.old (writer_of writer.old)) (writing host.new (writer_of writer.new)) result }
+        (writing host.old writer.old) (writing host.new writer.new) result }
     ensures short { OnErr result
         (LeftShort
-        (bars_call (writing host.old (writer_of writer.old)) (write_need (writer_of writer.old)))
-        (write_came host_calls (writer_of writer.old).timeout bytes.now
-        (writing host.old (writer_of writer.old))).left
-        (WriteShort host_calls (writer_of writer.old).timeout)
-        (writing host.old (writer_of writer.old)) (writing host.new (writer_of writer.new))) }
+        (bars_call (writing host.old writer.old) (write_need writer.old))
+        (write_came host_calls writer.old.timeout bytes.now
+        (writing host.old writer.old)).left
+        (WriteShort host_calls writer.old.timeout bytes.now)
+        (writing host.old writer.old) (writing host.new writer.new)) }
     ensures keeps { CallKeeps
-        (writing host.old (writer_of writer.old)) (writing host.new (writer_of writer.new)) }
+        (writing host.old writer.old) (writing host.new writer.new) }
 {
     if bars_call(host, writer, write_need(writer)) {
         return write_condition(line);
     }
     let alloc = *line.allocator();
-    match usb_writes::write(writer, host, bytes) {
+    match writer.write(host, bytes) {
         Ok(count) => write_wrote(line, count),
         Err(Fail::Cause(fault)) => write_write_fault(alloc, line, fault),
         Err(Fail::Memory) => Err(NoMemory),
@@ -68,32 +68,32 @@ pub fn write(
 /// Want of memory. A barred call changed nothing. Any other lacked it for its line alone, or it
 /// took its fronts and accepted no byte.
 pub fn poll_write(
-    writer: &mut AnyWriter,
+    writer: &mut EndpointWrite<Any>,
     host: &mut Host,
     line: &mut String,
     bytes: &[u8],
 ) -> Result<(), NoMemory>
-    requires stands { Stands (bus_of host.old) (writer_of writer.old).endpoint }
+    requires stands { Stands (bus_of host.old) writer.old.endpoint }
     ensures printed { Prints
-        (bars_call (writing host.old (writer_of writer.old)) (write_need (writer_of writer.old)))
-        (polled written_line)
-        (write_came host_calls 0 bytes.now (writing host.old (writer_of writer.old)))
+        (bars_call (writing host.old writer.old) (write_need writer.old))
+        (poll_line written_line)
+        (write_came host_calls 0 bytes.now (writing host.old writer.old))
         line.old line.new
-        (writing host.old (writer_of writer.old)) (writing host.new (writer_of writer.new)) result }
+        (writing host.old writer.old) (writing host.new writer.new) result }
     ensures short { OnErr result
         (LeftShort
-        (bars_call (writing host.old (writer_of writer.old)) (write_need (writer_of writer.old)))
-        (write_came host_calls 0 bytes.now (writing host.old (writer_of writer.old))).left
-        (WriteShort host_calls 0)
-        (writing host.old (writer_of writer.old)) (writing host.new (writer_of writer.new))) }
+        (bars_call (writing host.old writer.old) (write_need writer.old))
+        (write_came host_calls 0 bytes.now (writing host.old writer.old)).left
+        (WriteShort host_calls 0 bytes.now)
+        (writing host.old writer.old) (writing host.new writer.new)) }
     ensures keeps { CallKeeps
-        (writing host.old (writer_of writer.old)) (writing host.new (writer_of writer.new)) }
+        (writing host.old writer.old) (writing host.new writer.new) }
 {
     if bars_call(host, writer, write_need(writer)) {
         return write_condition(line);
     }
     let alloc = *line.allocator();
-    match usb_writes::poll_write(writer, host, bytes) {
+    match writer.poll_write(host, bytes) {
         Poll::Ready(Ok(count)) => write_wrote(line, count),
         Poll::Ready(Err(Fail::Cause(fault))) => write_write_fault(alloc, line, fault),
         Poll::Ready(Err(Fail::Memory)) => Err(NoMemory),

@@ -2,7 +2,7 @@
 //! simulation, and from USB 2.0, 5.8.3: a transfer ends with a packet that is shorter than the
 //! maximum.
 
-ghost use Rattle.std.specs.Prelude.{IfOk};
+ghost use Rattle.std.specs.Prelude.{◌≡◌, IfOk};
 ghost use Rattle.usb_bus.specs.KernelBusCalls.{bus_of};
 ghost use Rattle.usb_endpoint.specs.EndpointState.{EndpointState};
 ghost use Rattle.usb_endpoint.specs.Handles.{Stands};
@@ -15,13 +15,14 @@ use std::io::{self, BufRead, ErrorKind, Read};
 use usb_bus::KernelBus;
 use usb_desc::{Fail, NoMemory};
 use usb_endpoint::Endpoint;
-use usb_io::{AnyReader, EndpointRead, IntoReader, ReadFault};
+use usb_io::{EndpointRead, IntoReader, ReadFault};
 use usb_kernel::KernelStep;
-use usb_xfer::{Bulk, In};
+use usb_xfer::{Any, Bulk, In, Interrupt, Out};
 
 /// A reader of the bulk IN endpoint 0x81 of device 0, with packets of 4 bytes and transfers of 8.
 fn new_reader(alloc: Global, bus: &mut KernelBus) -> Result<EndpointRead<Bulk>, NoMemory>
     ensures stands { IfOk result (λ r. Stands (bus_of bus.new) r.endpoint) }
+    ensures packets { IfOk result (λ r. r.endpoint.maximum ≡ 4) }
 {
     let key = bus.open()?;
     let endpoint: Endpoint<Bulk, In> = Endpoint::new(alloc, 0, 0x81, 4, key);
@@ -283,14 +284,31 @@ pub fn has_transfers(alloc: Global, bus: &mut KernelBus) -> bool {
     }
 }
 
-/// Whether a reader of either type takes off no more than stands, which is nothing.
+/// Whether a reader of any type takes off no more than stands, which is nothing. Its endpoint is no
+/// interrupt endpoint, nor one of the other direction.
 pub fn takes_what_stands(alloc: Global, bus: &mut KernelBus) -> bool {
     let Ok(reader) = new_reader(alloc, bus) else {
         return false;
     };
-    let mut reader = AnyReader::Bulk(reader);
-    reader.consume_until_short(1);
-    let is_empty = reader.available() == 0;
-    reader.close(bus);
-    is_empty
+    let endpoint = match reader.into_inner().widen().narrow::<Interrupt, In>() {
+        Ok(endpoint) => endpoint.widen(),
+        Err(endpoint) => endpoint,
+    };
+    let endpoint = match endpoint.narrow::<Any, Out>() {
+        Ok(endpoint) => endpoint.widen(),
+        Err(endpoint) => endpoint,
+    };
+    match endpoint.narrow::<Any, In>() {
+        Ok(endpoint) => {
+            let mut reader = endpoint.reader(4);
+            reader.until_short_packet().consume(1);
+            let is_empty = reader.available() == 0;
+            reader.close(bus);
+            is_empty
+        }
+        Err(endpoint) => {
+            endpoint.close(bus);
+            false
+        }
+    }
 }

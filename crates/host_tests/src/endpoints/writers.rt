@@ -1,6 +1,6 @@
 //! Writers by std's trait. Expected values come from the rules of the simulation.
 
-ghost use Rattle.std.specs.Prelude.{IfOk};
+ghost use Rattle.std.specs.Prelude.{◌≡◌, IfOk};
 ghost use Rattle.usb_bus.specs.KernelBusCalls.{bus_of};
 ghost use Rattle.usb_endpoint.specs.Handles.{Stands};
 
@@ -14,13 +14,13 @@ use usb_desc::NoMemory;
 use usb_endpoint::Endpoint;
 use usb_io::{EndpointWrite, IntoWriter};
 use usb_kernel::{Body, Event, KernelStep};
-use usb_writes::AnyWriter;
-use usb_xfer::{Bulk, Out};
+use usb_xfer::{Any, Bulk, Out};
 
 /// A writer of the bulk OUT endpoint 0x02 of device 0, with packets of 64 bytes and transfers of
 /// 128.
 fn new_writer(alloc: Global, bus: &mut KernelBus) -> Result<EndpointWrite<Bulk>, NoMemory>
     ensures stands { IfOk result (λ w. Stands (bus_of bus.new) w.endpoint) }
+    ensures packets { IfOk result (λ w. w.endpoint.maximum ≡ 64) }
 {
     let key = bus.open()?;
     let endpoint: Endpoint<Bulk, Out> = Endpoint::new(alloc, 0, 0x02, 64, key);
@@ -125,18 +125,26 @@ fn is_right(bus: &mut KernelBus, writer: &mut EndpointWrite<Bulk>, step: &Step) 
     }
 }
 
-/// Whether a writer of either type tells the size of its packets.
+/// Whether a writer of any type tells the size of its packets.
 pub fn tells_its_packets(alloc: Global, bus: &mut KernelBus) -> bool {
     let Ok(writer) = new_writer(alloc, bus) else {
         return false;
     };
-    let writer = AnyWriter::Bulk(writer);
-    let is_told = writer.max_packet_size() == 64;
-    writer.close(bus);
-    is_told
+    match writer.into_inner().widen().narrow::<Any, Out>() {
+        Ok(endpoint) => {
+            let writer = endpoint.writer(127);
+            let is_told = writer.max_packet_size() == 64;
+            writer.close(bus);
+            is_told
+        }
+        Err(endpoint) => {
+            endpoint.close(bus);
+            false
+        }
+    }
 }
 
 #[test]
-fn streams_of_either_type_take_and_tell_what_they_have(rt: HostRuntime) -> Result<(), Fail> {
-    expect(&rt, rt.alloc(), &Case::Either)
+fn streams_of_any_type_take_and_tell_what_they_have(rt: HostRuntime) -> Result<(), Fail> {
+    expect(&rt, rt.alloc(), &Case::AnyType)
 }

@@ -1,6 +1,5 @@
 use Rattle.std.proofs.Common.{ap, sym, subst}
 use Rattle.usb_endpoint.specs.EndpointState.{EndpointState}
-use Rattle.usb_endpoint.specs.AnyEndpoints.{state_of}
 use Rattle.usb_kernel.specs.Extends.{Extends}
 use Rattle.usb_host.specs.HostState.{HostState}
 use Rattle.usb_host.specs.HostFrames.{LineGoesOn}
@@ -10,7 +9,7 @@ use Rattle.usb_answers.proofs.halting.clear_open.Goals as goal
 
 pub returns-clause-keeps : goal.returns-clause-keeps
 returns-clause-keeps c =
-    let x = state_of c.args.endpoint.now in record {
+    let x = c.args.endpoint.now in record {
       line = subst (LineGoesOn c.args.host.now) (sym c.clear_halt.ensures.bus) (line-halt c.args.host.now x.device x.address);
       past = subst (λ (h : HostState). Extends c.args.host.now.kernel.past h.kernel.past) (sym c.clear_halt.ensures.bus) (halt-aside c.args.host.now x.device x.address).handles.goes;
       stands = c.clear_halt.ensures.stands;
@@ -21,5 +20,5 @@ returns-clause-keeps c =
 
 pub returns-clause-answered : goal.returns-clause-answered
 returns-clause-answered c =
-    halt-made c.args.host.now c.clear_halt.new.bus (state_of c.args.endpoint.now) (state_of c.clear_halt.new.self) c.args.line.now c.write_result.new.out c.write_result.result c.clear_halt.ensures.bus c.clear_halt.ensures.rest
+    halt-made c.args.host.now c.clear_halt.new.bus c.args.endpoint.now c.clear_halt.new.self c.args.line.now c.write_result.new.out c.write_result.result c.clear_halt.ensures.bus c.clear_halt.ensures.rest
     (rw (← c.clear_halt.ensures.result) c.write_result.ensures.text)

@@ -3,7 +3,6 @@ use Rattle.usb_kernel.specs.Extends.{Extends}
 use Rattle.usb_host.specs.HostState.{HostState}
 use Rattle.usb_host.specs.HostFrames.{LineGoesOn}
 use Rattle.usb_host.proofs.FollowLemmas.{on-all_discarded}
-use Rattle.usb_io.specs.AnyReaders.{reader_of}
 use Rattle.usb_io.specs.Readers.{ReaderState}
 use Rattle.usb_answers.proofs.SubmitCode.{line-all_discarded}
 use Rattle.usb_answers.proofs.ReaderCode.{reader-cancelled}
@@ -11,7 +10,7 @@ use Rattle.usb_answers.proofs.reader_settings.cancel_reader_open.Goals as goal
 
 pub returns-clause-keeps : goal.returns-clause-keeps
 returns-clause-keeps c =
-    let tickets = (reader_of c.args.reader.now).endpoint.pending in
+    let tickets = c.args.reader.now.endpoint.pending in
     record {
       line = subst (LineGoesOn c.args.host.now) (sym c.cancel_all.ensures.bus) (line-all_discarded c.args.host.now tickets);
       past = subst (λ (h : HostState). Extends c.args.host.now.kernel.past h.kernel.past) (sym c.cancel_all.ensures.bus) (on-all_discarded c.args.host.now tickets).past;
@@ -23,5 +22,5 @@ returns-clause-keeps c =
 
 pub returns-clause-answered : goal.returns-clause-answered
 returns-clause-answered c =
-    reader-cancelled c.args.host.now c.cancel_all.new.bus (reader_of c.args.reader.now) (reader_of c.cancel_all.new.self) c.args.line.now c.write_ok.new.out c.write_ok.result
+    reader-cancelled c.args.host.now c.cancel_all.new.bus c.args.reader.now c.cancel_all.new.self c.args.line.now c.write_ok.new.out c.write_ok.result
     c.cancel_all.ensures.bus c.cancel_all.ensures.reader c.write_ok.ensures.text

@@ -1,6 +1,5 @@
 use Rattle.std.proofs.Common.{ap, sym, ◌∙◌, subst}
 use Rattle.usb_endpoint.specs.EndpointState.{EndpointState}
-use Rattle.usb_endpoint.specs.AnyEndpoints.{state_of}
 use Rattle.usb_kernel.specs.Extends.{Extends}
 use Rattle.usb_kernel.proofs.Extends.{extends-same}
 use Rattle.usb_host.specs.HostState.{HostState}
@@ -14,18 +13,18 @@ use Rattle.usb_answers.proofs.transferring.transfer_open.Goals as goal
 
 pub returns-then-bars_transfer-clause-answered : goal.returns-then-bars_transfer-clause-answered
 returns-then-bars_transfer-clause-answered c =
-    transfer-barred c.args.host.now (state_of c.args.endpoint.now) c.args.line.now c.write_condition.new.out c.write_condition.result c.args.direction c.args.buffer c.args.timeout
+    transfer-barred c.args.host.now c.args.endpoint.now c.args.line.now c.write_condition.new.out c.write_condition.result c.args.direction c.args.buffer c.args.timeout
     (sym c.bars_transfer.ensures.barred ∙ c.if-bars_transfer.true) c.write_condition.ensures.text
 
 pub returns-in-Ok-clause-keeps : goal.returns-in-Ok-clause-keeps
 returns-in-Ok-clause-keeps c =
-    transfer-keeps c.args.host.now c.transfer_blocking.new.bus (state_of c.args.endpoint.now) (state_of c.transfer_blocking.new.self) c.args.buffer c.nanoseconds.result c.in-Ok.completion
+    transfer-keeps c.args.host.now c.transfer_blocking.new.bus c.args.endpoint.now c.transfer_blocking.new.self c.args.buffer c.nanoseconds.result c.in-Ok.completion
     c.in-Ok.ensures.transferred c.transfer_blocking.ensures.rest c.transfer_blocking.ensures.stands c.transfer_blocking.ensures.others
 
 pub returns-in-Ok-clause-answered : goal.returns-in-Ok-clause-answered
 returns-in-Ok-clause-answered c =
-    let x = state_of c.args.endpoint.now in
-    let y = state_of c.transfer_blocking.new.self in
+    let x = c.args.endpoint.now in
+    let y = c.transfer_blocking.new.self in
     subst (λ n. CallAnswers c.args.host.now c.transfer_blocking.new.bus x y c.args.line.now c.write_waited.new.out c.write_waited.result (λ state e h. transfer_on state c.args.direction e c.args.buffer n h)) c.nanoseconds.ensures.value
     (transfer-answers c.args.host.now c.transfer_blocking.new.bus x y c.args.line.now c.write_waited.new.out c.write_waited.result c.args.direction c.args.buffer c.nanoseconds.result c.in-Ok.completion
     (sym c.bars_transfer.ensures.barred ∙ c.if-bars_transfer.false) c.transfer_blocking.ensures.rest c.in-Ok.ensures.transferred c.write_waited.ensures.text)

@@ -4,7 +4,7 @@ use Rattle.usb_io.specs.Carried.{begun_calls}
 use Rattle.usb_io.specs.WriteAnswers.{flush_came, flush_end_came, poll_flush_end_came, submit_came, submit_end_came}
 use Rattle.usb_host.specs.HostCalls.{host_calls}
 use Rattle.usb_writer_lines.specs.Needs.{flush_need, finish_need, poll_finish_need}
-use Rattle.usb_writer_lines.specs.Printed.{written_line, flushed_line, polled, submitted_to}
+use Rattle.usb_writer_lines.specs.Printed.{written_line, flushed_line, poll_line, submitted_to}
 use Rattle.usb_answers.proofs.WriterCalled.{keeps-writer}
 use Rattle.usb_answers.proofs.WriterCode.{write-answers, writer-answers, submit-follows, submit_end-follows, flush-follows, flush_end-follows, poll_flush_end-follows}
 use Rattle.usb_answers.proofs.writer_calls.call_open.Goals as goal
@@ -21,7 +21,7 @@ returns-in-PollWrite-clause-keeps c = keeps-writer _ _ c.poll_write.ensures.keep
 
 pub returns-in-PollWrite-clause-answered : goal.returns-in-PollWrite-clause-answered
 returns-in-PollWrite-clause-answered c =
-    rw c.in-PollWrite.is (write-answers (λ z. 0) _ _ (polled written_line) _ _ _ _ c.args.line.now c.poll_write.new.line c.poll_write.result refl c.poll_write.ensures.printed)
+    rw c.in-PollWrite.is (write-answers (λ z. 0) _ _ (poll_line written_line) _ _ _ _ c.args.line.now c.poll_write.new.line c.poll_write.result refl c.poll_write.ensures.printed)
 
 pub returns-in-Submit-clause-keeps : goal.returns-in-Submit-clause-keeps
 returns-in-Submit-clause-keeps c = keeps-writer _ _ c.submit.ensures.keeps
@@ -49,7 +49,7 @@ returns-in-PollFlush-clause-keeps c = keeps-writer _ _ c.poll_flush.ensures.keep
 
 pub returns-in-PollFlush-clause-answered : goal.returns-in-PollFlush-clause-answered
 returns-in-PollFlush-clause-answered c =
-    rw c.in-PollFlush.is (writer-answers (λ v. flush_came host_calls 0 v) flush_need (λ z r. Flush ∷ []) (polled flushed_line) _ _ _ _ c.args.line.now c.poll_flush.new.line c.poll_flush.result (flush-follows _ _) c.poll_flush.ensures.printed)
+    rw c.in-PollFlush.is (writer-answers (λ v. flush_came host_calls 0 v) flush_need (λ z r. Flush ∷ []) (poll_line flushed_line) _ _ _ _ c.args.line.now c.poll_flush.new.line c.poll_flush.result (flush-follows _ _) c.poll_flush.ensures.printed)
 
 pub returns-in-FlushEnd-clause-keeps : goal.returns-in-FlushEnd-clause-keeps
 returns-in-FlushEnd-clause-keeps c = keeps-writer _ _ c.flush_end.ensures.keeps
@@ -63,4 +63,4 @@ returns-in-PollFlushEnd-clause-keeps c = keeps-writer _ _ c.poll_flush_end.ensur
 
 pub returns-in-PollFlushEnd-clause-answered : goal.returns-in-PollFlushEnd-clause-answered
 returns-in-PollFlushEnd-clause-answered c =
-    rw c.in-PollFlushEnd.is (writer-answers (poll_flush_end_came host_calls) poll_finish_need (λ z r. begun_calls z.begun) (polled flushed_line) _ _ _ _ c.args.line.now c.poll_flush_end.new.line c.poll_flush_end.result (poll_flush_end-follows _) c.poll_flush_end.ensures.printed)
+    rw c.in-PollFlushEnd.is (writer-answers (poll_flush_end_came host_calls) poll_finish_need (λ z r. begun_calls z.begun) (poll_line flushed_line) _ _ _ _ c.args.line.now c.poll_flush_end.new.line c.poll_flush_end.result (poll_flush_end-follows _) c.poll_flush_end.ensures.printed)

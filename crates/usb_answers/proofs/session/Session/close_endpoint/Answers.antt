@@ -1,5 +1,4 @@
 use Rattle.std.proofs.Common.{sym, ◌∙◌, ap, subst}
-use Rattle.usb_endpoint.specs.AnyEndpoints.{state_of}
 use Rattle.usb_answers.specs.SessionState.{SessionState, IsSound}
 use Rattle.usb_answers.proofs.TakenOut.{made_with, stands-made, same-none}
 use Rattle.usb_answers.proofs.CloseCode.{closed-sound, closed-spare, freed-made, is_some-made, is_none-made, closed-represents, nothing-closed}
@@ -35,4 +34,4 @@ pub returns-clause-freed : goal.returns-clause-freed
 returns-clause-freed c = freed-made c.self.inside _ _ _ c.self.invariant c.self.view_is c.take_at.ensures.rest
 
 pub returns-clause-spare : goal.returns-clause-spare
-returns-clause-spare c = closed-spare c.self.inside.host c.close.new.bus (state_of c.in-Some.endpoint) c.self.invariant.idle c.close.ensures.bus ∙ ap (λ (v : SessionState). v.host.kernel.spare) c.self.view_is
+returns-clause-spare c = closed-spare c.self.inside.host c.close.new.bus c.in-Some.endpoint c.self.invariant.idle c.close.ensures.bus ∙ ap (λ (v : SessionState). v.host.kernel.spare) c.self.view_is

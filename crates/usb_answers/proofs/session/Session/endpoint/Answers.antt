@@ -1,7 +1,6 @@
 use Rattle.std.proofs.Common.{◌≡◌, ◌∙◌, ap}
 use Rattle.std.specs.Option.{option_copied}
 use Rattle.usb_words.specs.EndpointKinds.{transfer_type_of, direction_of}
-use Rattle.usb_endpoint.specs.AnyEndpoints.{state_of}
 use Rattle.usb_endpoint.specs.EndpointState.{EndpointState}
 use Rattle.usb_names.specs.Names.{set_name}
 use Rattle.usb_answers.specs.SessionState.{SessionState}
@@ -30,9 +29,9 @@ pub invariant_of-self : goal.invariant_of-self
 invariant_of-self c =
     let opens = c.in-Ok.ensures.opens in
     let after : c.put_at.new.names.items ≡ set_name c.self.inside.endpoints.items c.args.name c.in-Ok.endpoint = rw (← c.number-in-Ok.ensures.value) c.put_at.ensures.after in
-    endpoint-sound (made_of c.self.inside) c.open_any.new.host (endpoints_with c.put_at.new.names.items c.self.inside.readers.items c.self.inside.writers.items) (endpoint_place c.args.name) c.in-Some.interface.now.key c.args.address (state_of c.in-Ok.endpoint) opens.interface c.self.invariant opens.ok
+    endpoint-sound (made_of c.self.inside) c.open_any.new.host (endpoints_with c.put_at.new.names.items c.self.inside.readers.items c.self.inside.writers.items) (endpoint_place c.args.name) c.in-Some.interface.now.key c.args.address c.in-Ok.endpoint opens.interface c.self.invariant opens.ok
     (ap (λ (x : EndpointState). x.key) opens.endpoint)
-    (maximum-small (host_asked c.self.inside.host opens.interface.opened) c.in-Some.interface.now.key opens.interface c.args.address (transfer_type_of c.args.kind) (direction_of c.args.kind) (state_of c.in-Ok.endpoint).maximum opens.tried)
+    (maximum-small (host_asked c.self.inside.host opens.interface.opened) c.in-Some.interface.now.key opens.interface c.args.address (transfer_type_of c.args.kind) (direction_of c.args.kind) c.in-Ok.endpoint.maximum opens.tried)
     c.in-Ok.ensures.stands c.in-Ok.ensures.others
     (free-endpoint c.self.inside.endpoints.items c.self.inside.readers.items c.self.inside.writers.items (places-made c.self.inside c.self.invariant) c.args.name ∙ (free_at _ _ _ _ _ _ c.deref-2.ensures.value c.number-2.ensures.value c.is_free.ensures.free c.if-not-is_free.false))
     (ap (λ l. endpoints_with l c.self.inside.readers.items c.self.inside.writers.items) after ∙ set-endpoint c.self.inside.endpoints.items c.self.inside.readers.items c.self.inside.writers.items (places-made c.self.inside c.self.invariant) c.args.name c.in-Ok.endpoint)
@@ -42,7 +41,7 @@ returns-in-Ok-clause-answered c =
     let opens = c.in-Ok.ensures.opens in
     let after : c.put_at.new.names.items ≡ set_name c.self.inside.endpoints.items c.args.name c.in-Ok.endpoint = rw (← c.number-in-Ok.ensures.value) c.put_at.ensures.after in
     answers _ _ _ c.self.view_is c.write_ok.ensures.text
-    (λ state r. endpoint-gives (made_of c.self.inside) state c.open_any.new.host (endpoints_with c.put_at.new.names.items c.self.inside.readers.items c.self.inside.writers.items) (endpoint_place c.args.name) c.args.interface c.args.address (state_of c.in-Ok.endpoint).maximum (transfer_type_of c.args.kind) (direction_of c.args.kind) c.in-Some.interface.now opens.interface (state_of c.in-Ok.endpoint) r (found_at _ _ _ _ _ _ c.deref.ensures.value c.number.ensures.value c.open_at.ensures.value (ap option_copied c.in-Some.is)) opens.at
+    (λ state r. endpoint-gives (made_of c.self.inside) state c.open_any.new.host (endpoints_with c.put_at.new.names.items c.self.inside.readers.items c.self.inside.writers.items) (endpoint_place c.args.name) c.args.interface c.args.address c.in-Ok.endpoint.maximum (transfer_type_of c.args.kind) (direction_of c.args.kind) c.in-Some.interface.now opens.interface c.in-Ok.endpoint r (found_at _ _ _ _ _ _ c.deref.ensures.value c.number.ensures.value c.open_at.ensures.value (ap option_copied c.in-Some.is)) opens.at
     (free-endpoint c.self.inside.endpoints.items c.self.inside.readers.items c.self.inside.writers.items (places-made c.self.inside c.self.invariant) c.args.name ∙ (free_at _ _ _ _ _ _ c.deref-2.ensures.value c.number-2.ensures.value c.is_free.ensures.free c.if-not-is_free.false))
     opens.tried opens.endpoint opens.ok
     (ap (λ l. endpoints_with l c.self.inside.readers.items c.self.inside.writers.items) after ∙ set-endpoint c.self.inside.endpoints.items c.self.inside.readers.items c.self.inside.writers.items (places-made c.self.inside c.self.invariant) c.args.name c.in-Ok.endpoint))

@@ -33,14 +33,14 @@ put_at-requires c = record { free = free_at _ _ _ _ _ _ c.deref.ensures.value re
 
 pub invariant_of-self-2 : goal.invariant_of-self-2
 invariant_of-self-2 c =
-    both-same IsSound c.self.inside (set_name c.self.inside.endpoints.items c.number-name.result c.into_inner.result) c.put_at.new.names.items (freed c.self.inside.readers.items c.number-number.result) c.take_at.new.names.items c.put_at.ensures.after c.take_at.ensures.rest
-    (given-sound c.self.inside c.self.invariant c.number-name.result c.number-number.result c.in-Some.reader c.into_inner.result (sym c.take_at.ensures.taken ∙ c.in-Some.is)
-    (free_at _ _ _ _ _ _ c.deref.ensures.value refl c.is_free.ensures.free c.if-not-is_free.false) c.into_inner.ensures.endpoint)
+    both-same IsSound c.self.inside (set_name c.self.inside.endpoints.items c.number-name.result c.widen.result) c.put_at.new.names.items (freed c.self.inside.readers.items c.number-number.result) c.take_at.new.names.items c.put_at.ensures.after c.take_at.ensures.rest
+    (given-sound c.self.inside c.self.invariant c.number-name.result c.number-number.result c.in-Some.reader c.widen.result (sym c.take_at.ensures.taken ∙ c.in-Some.is)
+    (free_at _ _ _ _ _ _ c.deref.ensures.value refl c.is_free.ensures.free c.if-not-is_free.false) (c.widen.ensures.same ∙ c.into_inner.ensures.endpoint))
 
 pub returns-clause-answered : goal.returns-clause-answered
 returns-clause-answered c =
     rw (← c.number-name.ensures.value, ← c.number-number.ensures.value)
     (answers _ _ _ c.self.view_is c.write_ok.ensures.text
-    (λ state r. both-same (λ v. Gives v ok_line (inner_answer state (endpoint_place c.number-name.result) c.number-number.result)) c.self.inside (set_name c.self.inside.endpoints.items c.number-name.result c.into_inner.result) c.put_at.new.names.items (freed c.self.inside.readers.items c.number-number.result) c.take_at.new.names.items c.put_at.ensures.after c.take_at.ensures.rest
-    (inner-gives c.self.inside c.self.invariant c.number-name.result c.number-number.result c.in-Some.reader c.into_inner.result state (sym c.take_at.ensures.taken ∙ c.in-Some.is)
-    (free_at _ _ _ _ _ _ c.deref.ensures.value refl c.is_free.ensures.free c.if-not-is_free.false) c.into_inner.ensures.endpoint r)))
+    (λ state r. both-same (λ v. Gives v ok_line (inner_answer state (endpoint_place c.number-name.result) c.number-number.result)) c.self.inside (set_name c.self.inside.endpoints.items c.number-name.result c.widen.result) c.put_at.new.names.items (freed c.self.inside.readers.items c.number-number.result) c.take_at.new.names.items c.put_at.ensures.after c.take_at.ensures.rest
+    (inner-gives c.self.inside c.self.invariant c.number-name.result c.number-number.result c.in-Some.reader c.widen.result state (sym c.take_at.ensures.taken ∙ c.in-Some.is)
+    (free_at _ _ _ _ _ _ c.deref.ensures.value refl c.is_free.ensures.free c.if-not-is_free.false) (c.widen.ensures.same ∙ c.into_inner.ensures.endpoint) r)))

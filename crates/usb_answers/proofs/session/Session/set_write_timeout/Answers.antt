@@ -3,7 +3,6 @@ use Rattle.usb_io.specs.Writers.{WriterState}
 use Rattle.usb_answers.specs.BareWriters.{bare_writer}
 use Rattle.usb_answers.specs.SessionState.{IsSound}
 use Rattle.usb_answers.specs.Writers.{write_timeout_on, write_timeout_answer}
-use Rattle.usb_writes.specs.AnyWriters.{writer_of}
 use Rattle.usb_answers.proofs.TakenOut.{PutBack, put_back, free_again, same-none}
 use Rattle.usb_answers.proofs.WriterCalled.{made_writing, stands-writer, sound-writer_called}
 use Rattle.usb_answers.proofs.ReaderCode.{keeps-rest}
@@ -36,4 +35,4 @@ invariant_of-self-2 c =
 pub returns-clause-answered : goal.returns-clause-answered
 returns-clause-answered c =
     answers-timeout c.self.inside _ _ _ _ c.args.timeout _ _ c.args.line.now c.write_ok.new.out _ c.self.invariant c.self.view_is (back c) c.number-number.ensures.value (ap (λ (w : WriterState). w.endpoint) c.set_write_timeout.ensures.set)
-    (ap bare_writer (c.set_write_timeout.ensures.set ∙ ap (λ t. record (writer_of c.in-Some.writer) { timeout = t }) c.nanoseconds.ensures.value)) c.write_ok.ensures.text
+    (ap bare_writer (c.set_write_timeout.ensures.set ∙ ap (λ t. record c.in-Some.writer { timeout = t }) c.nanoseconds.ensures.value)) c.write_ok.ensures.text

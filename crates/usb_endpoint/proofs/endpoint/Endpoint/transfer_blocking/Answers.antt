@@ -10,7 +10,7 @@ use Rattle.usb_endpoint.proofs.SecondLemmas.{wait-same, seconds-same, submitted-
 use Rattle.usb_endpoint.proofs.endpoint.Endpoint.transfer_blocking.Goals as goal
 
 pub wait_finished-requires-clause-finished : goal.wait_finished-requires-clause-finished
-wait_finished-requires-clause-finished g c κs within =
+wait_finished-requires-clause-finished g c =
     let enters = c.in_ok-submit.ensures.enters in
     let one : c.submit.new.self ≡ record c.args.self.now { pending = length (tickets (g.B.Bus.calls.state c.args.bus.now).past) ∷ [] } =
     c.in_ok-submit.ensures.pending ∙ ap (λ (ts : List ℕ). record c.args.self.now { pending = ts ++ length (tickets (g.B.Bus.calls.state c.args.bus.now).past) ∷ [] }) c.requires.none in

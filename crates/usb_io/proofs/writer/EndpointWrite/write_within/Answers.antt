@@ -1,6 +1,8 @@
 use Rattle.std.proofs.Common.{subst, ◌≡◌, take, [], ◌∷◌, Ok, Err}
+use Rattle.usb_io.specs.Along.{WritesAlong}
 use Rattle.usb_io.specs.Carried.{TellsOn}
 use Rattle.usb_io.specs.Writes.{Accept}
+use Rattle.usb_io.proofs.AlongLemmas.{writes-trans}
 use Rattle.usb_io.proofs.Carrying.{tells_trans, tells_accepted}
 use Rattle.usb_io.proofs.WriteLemmas.{write-wrote, write-short, write-failed}
 use Rattle.usb_io.specs.Answered.{answered}
@@ -28,3 +30,8 @@ returns-in-Ok-accept-clause-tells g c =
     tells_trans (g.B.Bus.calls.state c.args.bus.now) (g.B.Bus.calls.state c.drain.new.bus) (g.B.Bus.calls.state c.accept.new.bus) c.args.self.now c.drain.new.self c.accept.new.self [] (Accept (take c.in-Ok-accept.n c.args.src.now) ∷ [])
     (subst (λ (w : WriterState). TellsOn (g.B.Bus.calls.state c.args.bus.now) (g.B.Bus.calls.state c.drain.new.bus) w c.drain.new.self []) c.self.view_is c.drain.ensures.tells)
     (tells_accepted g.B.Bus.calls c.drain.new.bus c.accept.new.bus c.drain.new.self c.accept.new.self c.args.src.now c.in-Ok-accept.n c.in-Ok-accept.ensures.count c.in-Ok-accept.ensures.ok c.in-Ok-accept.ensures.carries)
+
+pub returns-in-Ok-accept-clause-goes : goal.returns-in-Ok-accept-clause-goes
+returns-in-Ok-accept-clause-goes g c =
+    subst (λ (w : WriterState). WritesAlong (g.B.Bus.calls.state c.args.bus.now) (g.B.Bus.calls.state c.accept.new.bus) w.endpoint c.accept.new.self.endpoint) c.self.view_is
+    (writes-trans c.drain.ensures.goes c.accept.ensures.goes)

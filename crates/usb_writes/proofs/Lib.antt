@@ -1,5 +1,0 @@
-pub mod WritesKeep
-pub mod CallsGoOn
-pub mod CallsLeave
-pub mod TicketMoves
-pub mod Tells

@@ -1,3 +1,0 @@
-pub mod AnyWriters
-pub mod Laws
-pub mod Told
