@@ -25,8 +25,13 @@ use usb_session::{
 
 /// The lines that open a device with a bulk IN endpoint 81 of 64 bytes and a bulk OUT endpoint 02, and their answers.
 const OPENED: (&str, &str) = (
-    "device k0 1 6 3 1 1201000200000040aaaabbbb0001000000010902200001010080320904000002ff0000000705810240000007050202400000\nopen d0 1 6\nclaim d0 0 i0\nendpoint e0 i0 81 bulk-in\n",
-    "ok\nok\nok\n",
+    "device k0 1 6 3 1 1201000200000040aaaabbbb0001000000010902200001010080320904000002ff0000000705810240000007050202400000\n\
+     open d0 1 6\n\
+     claim d0 0 i0\n\
+     endpoint e0 i0 81 bulk-in\n",
+    "ok\n\
+     ok\n\
+     ok\n",
 );
 
 /// What a run left: the status, the output and the report.
@@ -133,38 +138,115 @@ fn expect_rows<R: Abort + Threads + Wait + Sync>(
 const TRANSFERS: [(&str, &str, &str); 7] = [
     (
         "first packet",
-        "submitin e0 64\npoll e0\n! pkt k0 81 010203\npoll e0\n! reap 0\npoll e0\n",
-        "ok\npending\npending\ndone ok 3 64 010203\nticket 0 k0 81 ok 3 taken\n",
+        "submitin e0 64\n\
+         poll e0\n\
+         ! pkt k0 81 010203\n\
+         poll e0\n\
+         ! reap 0\n\
+         poll e0\n",
+        "ok\n\
+         pending\n\
+         pending\n\
+         done ok 3 64 010203\n\
+         ticket 0 k0 81 ok 3 taken\n",
     ),
     (
         "second reaped first",
-        "submitin e0 64\nsubmitin e0 64\n! pkt k0 81 01 ; pkt k0 81 0203 ; reap 1\npoll e0\n! reap 0\npoll e0\npoll e0\npoll e0\n",
-        "ok\nok\npending\ndone ok 1 64 01\ndone ok 2 64 0203\ncondition\nticket 0 k0 81 ok 1 taken\nticket 1 k0 81 ok 2 taken\n",
+        "submitin e0 64\n\
+         submitin e0 64\n\
+         ! pkt k0 81 01 ; pkt k0 81 0203 ; reap 1\n\
+         poll e0\n\
+         ! reap 0\n\
+         poll e0\n\
+         poll e0\n\
+         poll e0\n",
+        "ok\n\
+         ok\n\
+         pending\n\
+         done ok 1 64 01\n\
+         done ok 2 64 0203\n\
+         condition\n\
+         ticket 0 k0 81 ok 1 taken\n\
+         ticket 1 k0 81 ok 2 taken\n",
     ),
     (
         "reaped and open tickets at the end",
-        "submitin e0 64\nsubmitin e0 64\nsubmitin e0 64\n! pkt k0 81 01 ; reap 0\n",
-        "ok\nok\nok\nticket 0 k0 81 ok 1 dropped\nticket 1 k0 81 cancelled 0 reclaimed\nticket 2 k0 81 cancelled 0 reclaimed\n",
+        "submitin e0 64\n\
+         submitin e0 64\n\
+         submitin e0 64\n\
+         ! pkt k0 81 01 ; reap 0\n",
+        "ok\n\
+         ok\n\
+         ok\n\
+         ticket 0 k0 81 ok 1 dropped\n\
+         ticket 1 k0 81 cancelled 0 reclaimed\n\
+         ticket 2 k0 81 cancelled 0 reclaimed\n",
     ),
     (
         "finished ticket at the end",
-        "submitin e0 64\n! pkt k0 81 010203\n",
-        "ok\nticket 0 k0 81 ok 3 reclaimed\n",
+        "submitin e0 64\n\
+         ! pkt k0 81 010203\n",
+        "ok\n\
+         ticket 0 k0 81 ok 3 reclaimed\n",
     ),
     (
         "empty packet and invalid length",
-        "submitin e0 64\nsubmitin e0 100\n! pkt k0 81 - ; reap 0\npoll e0\npoll e0\n",
-        "ok\nok\ndone ok 0 64 -\ndone invalid 0 100 -\nticket 0 k0 81 ok 0 taken\nticket 1 k0 81 invalid 0 taken\n",
+        "submitin e0 64\n\
+         submitin e0 100\n\
+         ! pkt k0 81 - ; reap 0\n\
+         poll e0\n\
+         poll e0\n",
+        "ok\n\
+         ok\n\
+         done ok 0 64 -\n\
+         done invalid 0 100 -\n\
+         ticket 0 k0 81 ok 0 taken\n\
+         ticket 1 k0 81 invalid 0 taken\n",
     ),
     (
         "calls that are refused",
-        "open d0 1 6\nopen d1 1 7\nclaim d0 0 i1\nclaim d0 1 i1\nclaim d2 0 i1\nendpoint e1 i0 82 bulk-in\nendpoint e1 i0 02 bulk-in\nendpoint e1 i0 81 bulk-in\npoll e1\n",
-        "condition\nerror Disconnected device not found (errno 2)\nerror Busy interface is busy (errno 16)\nerror NotFound interface not found (errno 2)\ncondition\nerror NotFound specified endpoint does not exist on this interface\nerror Other incorrect endpoint direction\nerror Busy endpoint already in use\ncondition\n",
+        "open d0 1 6\n\
+         open d1 1 7\n\
+         claim d0 0 i1\n\
+         claim d0 1 i1\n\
+         claim d2 0 i1\n\
+         endpoint e1 i0 82 bulk-in\n\
+         endpoint e1 i0 02 bulk-in\n\
+         endpoint e1 i0 81 bulk-in\n\
+         poll e1\n",
+        "condition\n\
+         error Disconnected device not found (errno 2)\n\
+         error Busy interface is busy (errno 16)\n\
+         error NotFound interface not found (errno 2)\n\
+         condition\n\
+         error NotFound specified endpoint does not exist on this interface\n\
+         error Other incorrect endpoint direction\n\
+         error Busy endpoint already in use\n\
+         condition\n",
     ),
     (
         "armed refusals",
-        "! refuse k0 open 13 ; refuse k0 open 5 ; refuse k0 readdesc 71 ; refuse k0 getconfig 5\nopen d1 1 6\nopen d1 1 6\nopen d1 1 6\nopen d1 1 6\nopen d1 1 6\n! refuse k0 claim 71 ; refuse k0 claim 22\nclaim d1 0 i1\nclaim d1 0 i1\nclaim d1 0 i1\n! refuse k0 getconfig 5\nendpoint e1 i0 02 bulk-out\n",
-        "error PermissionDenied permission denied (errno 13)\nerror Other failed to open device (errno 5)\nerror Other failed to read descriptors (errno 71)\nerror Other failed to read sysfs bConfigurationValue\nok\nerror Other failed to claim interface (errno 71)\nerror NotFound interface not found (errno 22)\nerror Busy interface is busy (errno 16)\nok\n",
+        "! refuse k0 open 13 ; refuse k0 open 5 ; refuse k0 readdesc 71 ; refuse k0 getconfig 5\n\
+         open d1 1 6\n\
+         open d1 1 6\n\
+         open d1 1 6\n\
+         open d1 1 6\n\
+         open d1 1 6\n\
+         ! refuse k0 claim 71 ; refuse k0 claim 22\n\
+         claim d1 0 i1\n\
+         claim d1 0 i1\n\
+         claim d1 0 i1\n\
+         ! refuse k0 getconfig 5\n\
+         endpoint e1 i0 02 bulk-out\n",
+        "error PermissionDenied permission denied (errno 13)\n\
+         error Other failed to open device (errno 5)\n\
+         error Other failed to read descriptors (errno 71)\n\
+         error Other failed to read sysfs bConfigurationValue\n\
+         ok\n\
+         error Other failed to claim interface (errno 71)\n\
+         error NotFound interface not found (errno 22)\n\
+         error Busy interface is busy (errno 16)\n\
+         ok\n",
     ),
 ];
 
@@ -187,30 +269,38 @@ const UNANSWERED: [(&str, &str, u8, &str, &str); 6] = [
     ),
     (
         "malformed after a call",
-        "open d0 1 6\nopen d0 1\n",
+        "open d0 1 6\n\
+         open d0 1\n",
         3,
         "",
         "nusb_sim: malformed line 2\n",
     ),
     (
         "no descriptors",
-        "device k0 1 6 3 1 -\nopen d0 1 6\n",
+        "device k0 1 6 3 1 -\n\
+         open d0 1 6\n",
         0,
         "error Other invalid device descriptor\n",
         "",
     ),
     (
         "device descriptor cut off",
-        "device k0 1 6 3 1 1201000200000040aaaabbbb0001000000\nopen d0 1 6\n",
+        "device k0 1 6 3 1 1201000200000040aaaabbbb0001000000\n\
+         open d0 1 6\n",
         0,
         "error Other invalid device descriptor\n",
         "",
     ),
     (
         "maximum packet size 0",
-        "device k0 1 6 3 1 1201000200000040aaaabbbb0001000000010902200001010080320904000002ff0000000705810200000007050202400000\nopen d0 1 6\nclaim d0 0 i0\nendpoint e0 i0 81 bulk-in\n",
+        "device k0 1 6 3 1 1201000200000040aaaabbbb0001000000010902200001010080320904000002ff0000000705810200000007050202400000\n\
+         open d0 1 6\n\
+         claim d0 0 i0\n\
+         endpoint e0 i0 81 bulk-in\n",
         0,
-        "ok\nok\nerror Other endpoint has max packet size 0\n",
+        "ok\n\
+         ok\n\
+         error Other endpoint has max packet size 0\n",
         "",
     ),
 ];
@@ -285,7 +375,8 @@ const FAULTS: [(&str, &[u64], &[u64], u8, &str, &str); 3] = [
         &[],
         &[3],
         6,
-        "ok\nok\n",
+        "ok\n\
+         ok\n",
         "nusb_sim: write fault\n",
     ),
 ];
@@ -314,7 +405,10 @@ fn counts_calls_and_tickets(rt: HostRuntime) -> Result<(), Fail> {
     let script = joined(
         rt.alloc(),
         OPENED.0,
-        "submitin e0 64\nsubmitin e0 64\n! pkt k0 81 01 ; reap 0\npoll e0\n",
+        "submitin e0 64\n\
+         submitin e0 64\n\
+         ! pkt k0 81 01 ; reap 0\n\
+         poll e0\n",
     )?;
     let mut source = SureSource::new(Vec::from_slice(rt.alloc(), script.as_bytes())?);
     let summary = run_session(rt.alloc(), &mut source, &mut SureSink::new())?;

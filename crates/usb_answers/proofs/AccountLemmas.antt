@@ -15,18 +15,23 @@ use Rattle.usb_host.proofs.HeldLemmas.{taken-held, Contains-behind, closed-held,
 use Rattle.usb_host.proofs.StartedLemmas.{Parts, AddsTaken, started-count, started-owner, holds-follows}
 use Rattle.usb_device.specs.Futures.{FutureState, fresh_future}
 use Rattle.usb_names.specs.Names.{named, is_free, change_named, freed, set_name}
-use Rattle.usb_answers.specs.State.{State, Endpoint, kept, pending, tickets_of, with_host}
+use Rattle.usb_answers.specs.State.{State, Endpoint, endpoint_state, pending, tickets_of, with_host}
 use Rattle.usb_answers.specs.Answer.{Answer}
 use Rattle.usb_answers.specs.Submits.{submitted, with_submission}
 use Rattle.usb_answers.specs.Polls.{one_taken, taken_from}
-use Rattle.usb_answers.specs.Closes.{without_endpoint}
+use Rattle.usb_answers.specs.Closes.{without_endpoint, closed}
+use Rattle.usb_answers.specs.ReaderAt.{reader_place}
+use Rattle.usb_answers.specs.WriterAt.{writer_place}
+use Rattle.usb_answers.specs.Readers.{reader_closed}
+use Rattle.usb_answers.specs.Writers.{writer_closed}
+use Rattle.usb_answers.specs.Below.{below}
 use Rattle.usb_answers.specs.Futures.{with_future}
 use Rattle.usb_answers.specs.Ends.{readers_closed, writers_closed, endpoints_closed, futures_closed, all_closed}
 use Rattle.usb_answers.specs.Output.{start}
 use Rattle.usb_answers.specs.Accounts.{Covered, IsAwaited, Accounted, StartIsAccounted, AnswerKeepsAccounts, CloseKeepsAccounts}
 use Rattle.usb_answers.specs.Served.{ClosedEndpoint}
 use Rattle.usb_names.proofs.NameLemmas.{named_of, free_place, named-change_same, named-change_other, named-freed_other, named-set, named-set_other}
-use Rattle.usb_answers.proofs.Does.{Quiet, ControlMove, Acts, SameTickets, moved, without_future_of, goes, opens, submits, fits, reads, starts, controls, frees, ends, takes, closes, moves, free-still}
+use Rattle.usb_answers.proofs.Does.{Quiet, Closing, ControlMove, Acts, SameTickets, moved, without_future_of, goes, opens, submits, fits, reads, starts, controls, frees, ends, takes, closes, moves, free-still}
 use Rattle.usb_answers.proofs.DeviceLines.{handles-quiet}
 use Rattle.usb_answers.proofs.EndpointLines.{closed-does}
 use Rattle.usb_answers.proofs.ControlLines.{future_closed_under-does}
@@ -101,10 +106,10 @@ pushed-new n xs x within = subst (λ l. Contains l x) (sym (drop-push n xs x wit
 accounted-submit : (state : State) (e : ℕ) (b : BufferState) (h : Endpoint) → named state.endpoints e ≡ Some h → h.taken ≤ length h.tickets → Accounted state → Accounted (submitted state e b h)
 accounted-submit state e b h here few a =
     let n = tickets_of state in
-    let one = entered-count state.host (kept h) b in
+    let one = entered-count state.host (endpoint_state h) b in
     record {
       held = λ t key own.
-          elim (entered-held state.host (kept h) b t key own) [
+          elim (entered-held state.host (endpoint_state h) b t key own) [
             | inl new ↦ inl record {
               name = e;
               entry = with_submission n h;
@@ -147,10 +152,10 @@ covered-freed endpoints e h t key here gone c =
 
 accounted-close : (state : State) (e : ℕ) (h : Endpoint) → named state.endpoints e ≡ Some h → Accounted state → Accounted (without_endpoint state e h)
 accounted-close state e h here a =
-    let keeps = closed-count state.host (kept h) in
+    let keeps = closed-count state.host (endpoint_state h) in
     record {
       held = λ t key own.
-          let was = closed-held state.host (kept h) t key own in
+          let was = closed-held state.host (endpoint_state h) t key own in
           either (covered-freed state.endpoints e h t key here was.1) (λ w. w) (a.held t key was.0);
       count = keeps.count ∙ a.count ∙ sym keeps.past;
     }
@@ -249,17 +254,9 @@ pub accounted-answer : AnswerKeepsAccounts
 accounted-answer state item few a = acts-accounted few (answer-does state (λ e. []) item) a
 
 -- and over the closes at the end
-accounted-readers : (state : State) (n : ℕ) → Accounted state → Accounted (readers_closed state n)
-accounted-readers state zero a = a
-accounted-readers state (suc n) a = acts-accounted {few = Unit {0}} tt (reader_closed-does (readers_closed state n) n (λ e. [])) (accounted-readers state n a)
-
-accounted-writers : (state : State) (n : ℕ) → Accounted state → Accounted (writers_closed state n)
-accounted-writers state zero a = a
-accounted-writers state (suc n) a = acts-accounted {few = Unit {0}} tt (writer_closed-does (writers_closed state n) n (λ e. [])) (accounted-writers state n a)
-
-accounted-endpoints : (state : State) (n : ℕ) → Accounted state → Accounted (endpoints_closed state n)
-accounted-endpoints state zero a = a
-accounted-endpoints state (suc n) a = acts-accounted {few = Unit {0}} tt (closed-does (endpoints_closed state n) n (λ e. [])) (accounted-endpoints state n a)
+accounted-below : (act : State → ℕ → State) (place : ℕ → ℕ) → Closing act place → (state : State) (k : ℕ) → Accounted state → Accounted (below act state k)
+accounted-below act place closing state zero a = a
+accounted-below act place closing state (suc k) a = acts-accounted tt (closing (below act state k) k (λ e. [])) (accounted-below act place closing state k a)
 
 accounted-futures : (state : State) (n : ℕ) → Accounted state → Accounted (futures_closed state n)
 accounted-futures state zero a = a
@@ -271,7 +268,9 @@ accounted-all_closed state a =
     let read = readers_closed state 64 in
     let written = writers_closed read 64 in
     let mid = endpoints_closed written 64 in
-    accounted-quiet (handles-quiet (futures_closed mid 64)) (accounted-futures mid 64 (accounted-endpoints written 64 (accounted-writers read 64 (accounted-readers state 64 a))))
+    accounted-quiet (handles-quiet (futures_closed mid 64))
+    (accounted-futures mid 64
+    (accounted-below closed (λ e. e) closed-does written 64 (accounted-below writer_closed writer_place writer_closed-does read 64 (accounted-below reader_closed reader_place reader_closed-does state 64 a))))
 
 -- where no name is open no ticket is held
 pub accounted-none : (state : State) → Accounted state → ((e : ℕ) → named state.endpoints e ≡ None) → ((n : ℕ) → named state.futures n ≡ None) → (t : ℕ) → owner_at state.host.tickets t ≡ None

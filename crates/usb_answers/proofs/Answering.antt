@@ -4,8 +4,8 @@ use Rattle.std.specs.Prelude.{OnOk}
 use Rattle.std.specs.Option.{option_map}
 use Rattle.usb_lines.specs.Calls.{condition_line}
 use Rattle.usb_names.specs.Names.{named, is_free}
-use Rattle.usb_answers.specs.State.{State, Endpoint, kept}
-use Rattle.usb_answers.specs.Answer.{Answer, told, barred, if_open}
+use Rattle.usb_answers.specs.State.{State, Endpoint, endpoint_state}
+use Rattle.usb_answers.specs.Answer.{Answer, answer_with, condition_answer, if_open}
 use Rattle.usb_answers.specs.Answered.{Answered}
 use Rattle.usb_answers.specs.SessionState.{SessionState}
 use Rattle.usb_answers.specs.Relation.{Represents}
@@ -29,11 +29,11 @@ answers-same {line = line} {f = f} before after r view text gives =
     answers before after r view text (λ state is. subst (λ (v : SessionState). Gives v line (f state)) view (gives state is))
 
 -- a barred call
-pub barred-gives : (s : SessionState) (state : State) → Represents s state → Gives s condition_line (barred state)
+pub barred-gives : (s : SessionState) (state : State) → Represents s state → Gives s condition_line (condition_answer state)
 barred-gives s state r = record { state = r; same = refl }
 
 -- what was asked is told, or the call is barred
-pub told-answered : (s : SessionState) (state : State) (before after line : List ℕ) → Represents s state → after ≡ before ++ line → Answered s before after (told state line)
+pub told-answered : (s : SessionState) (state : State) (before after line : List ℕ) → Represents s state → after ≡ before ++ line → Answered s before after (answer_with state line)
 told-answered s state before after line r is = record { state = r; line = is }
 
 -- nothing is open under the name, or something is
@@ -48,13 +48,13 @@ pub host_is : (s : SessionState) (state : State) → Represents s state → s.ho
 host_is s state r = ap (λ (v : SessionState). v.host) r.is
 
 -- of an endpoint the session keeps the tickets that were not taken
-pub named_kept : (s : SessionState) (state : State) (e : ℕ) → Represents s state → named s.endpoints e ≡ option_map kept (named state.endpoints e)
-named_kept s state e r = ap (λ (v : SessionState). named v.endpoints e) r.is ∙ named-map kept state.endpoints e
+pub named_kept : (s : SessionState) (state : State) (e : ℕ) → Represents s state → named s.endpoints e ≡ option_map endpoint_state (named state.endpoints e)
+named_kept s state e r = ap (λ (v : SessionState). named v.endpoints e) r.is ∙ named-map endpoint_state state.endpoints e
 
 pub free_kept : (s : SessionState) (state : State) (e : ℕ) → Represents s state → is_free s.endpoints e ≡ is_free state.endpoints e
-free_kept s state e r = ap (λ (v : SessionState). is_free v.endpoints e) r.is ∙ is_free-map kept state.endpoints e
+free_kept s state e r = ap (λ (v : SessionState). is_free v.endpoints e) r.is ∙ is_free-map endpoint_state state.endpoints e
 
-none_by : (o : Option Endpoint) → option_map kept o ≡ None → o ≡ None
+none_by : (o : Option Endpoint) → option_map endpoint_state o ≡ None → o ≡ None
 none_by None is = refl
 none_by (Some h) is = absurd (cc)
 

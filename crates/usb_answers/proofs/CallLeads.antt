@@ -15,7 +15,7 @@ use Rattle.usb_host.proofs.FollowLemmas.{on-waited}
 use Rattle.usb_streams.specs.Numbers.{numbers_from}
 use Rattle.usb_names.specs.Names.{named, change_named}
 use Rattle.usb_names.proofs.NameLemmas.{named-change_same, change-change, put-changed, put-back}
-use Rattle.usb_answers.specs.State.{State, Endpoint, kept, pending, tickets_of}
+use Rattle.usb_answers.specs.State.{State, Endpoint, endpoint_state, pending, tickets_of}
 use Rattle.usb_answers.specs.Readers.{called_endpoint}
 use Rattle.usb_answers.specs.Answer.{Answer}
 use Rattle.usb_answers.specs.Submits.{submitted, with_submission}
@@ -52,7 +52,7 @@ pub record Leads (few : Type 0) (a : Answer) (state : State) (e : ℕ) (h : Endp
   more : tickets_of state ≤ count_in host
   within : taken ≤ length tickets
   left : drop taken tickets ≡ x.pending
-  kept_is : x ≡ record (kept h) { pending = x.pending }
+  kept_is : x ≡ record (endpoint_state h) { pending = x.pending }
   leads : Acts few a (at_call state e (by_now h tickets taken) host) [] [] → Acts few a state [] []
 
 option-const : (f : Endpoint → Endpoint) (g : Endpoint) (o : Option Endpoint) → option_map f (option_map (λ (x : Endpoint). g) o) ≡ option_map (λ (x : Endpoint). f g) o
@@ -68,7 +68,7 @@ quiet-path old new host endpoints futures =
     quiet-aside old new (ap (λ (h : HostState). h.kernel.past) host) (ap (λ (h : HostState). h.tickets) host) endpoints futures
 
 module _ (few : Type 0) (a : Answer) (state : State) (e : ℕ) (h : Endpoint) (above : 64 ≤ e) (here : named state.endpoints e ≡ Some h) (other : says_done a.line ≡ false) where
-  pub leads-start : (x : EndpointState) → x ≡ kept h → h.taken ≤ length h.tickets → Leads few a state e h state.host x
+  pub leads-start : (x : EndpointState) → x ≡ endpoint_state h → h.taken ≤ length h.tickets → Leads few a state e h state.host x
   leads-start x same within =
       let m = tickets_of state in
       let none : m - m ≡ 0 = omega arith in
@@ -80,7 +80,7 @@ module _ (few : Type 0) (a : Answer) (state : State) (e : ℕ) (h : Endpoint) (a
         more = omega arith;
         within = within;
         left = sym left;
-        kept_is = same ∙ sym (ap (λ (p : List ℕ). record (kept h) { pending = p }) left);
+        kept_is = same ∙ sym (ap (λ (p : List ℕ). record (endpoint_state h) { pending = p }) left);
         leads = λ rest. goes (quiet-path state (at_call state e h state.host) refl (sym (put-changed (λ (x : Endpoint). h) state.endpoints e h h here refl) ∙ put-back state.endpoints e h here) refl) rest;
       }
 
@@ -99,7 +99,7 @@ module _ (few : Type 0) (a : Answer) (state : State) (e : ℕ) (h : Endpoint) (a
       let more = l.more in
       let next : count_in after - m ≡ suc (n - m) = omega (arith, one, more) in
       let last : m + (n - m) ≡ n = omega (arith, more) in
-      let kept_g : kept g ≡ x = ap (λ (p : List ℕ). record (kept h) { pending = p }) l.left ∙ sym l.kept_is in
+      let kept_g : endpoint_state g ≡ x = ap (λ (p : List ℕ). record (endpoint_state h) { pending = p }) l.left ∙ sym l.kept_is in
       let all = l.tickets ++ n ∷ [] in
       record {
         tickets = all;

@@ -18,7 +18,7 @@ use Rattle.usb_device.proofs.StandLemmas.{StandsInterface-same}
 use Rattle.usb_names.specs.Names.{named, change_named, freed, set_name}
 use Rattle.usb_answers.specs.BareReaders.{BareReader}
 use Rattle.usb_answers.specs.BareWriters.{BareWriter}
-use Rattle.usb_answers.specs.State.{State, Endpoint, Reader, Writer, kept}
+use Rattle.usb_answers.specs.State.{State, Endpoint, Reader, Writer, endpoint_state}
 use Rattle.usb_answers.specs.SessionState.{SessionState, IsSound}
 use Rattle.usb_answers.specs.Relation.{Represents, session_of}
 use Rattle.usb_answers.proofs.Answering.{named_kept}
@@ -220,12 +220,12 @@ sound-host s now sound keeps stands none =
 pub record OpenAt (state : State) (e : ℕ) (x : EndpointState) : Type 0 where
   pub entry : Endpoint
   pub is : named state.endpoints e ≡ Some entry
-  pub same : kept entry ≡ x
+  pub same : endpoint_state entry ≡ x
   pub few : entry.taken ≤ length entry.tickets
 
-open_by : (state : State) (e : ℕ) (x : EndpointState) (o : Option Endpoint) → named state.endpoints e ≡ o → option_map kept o ≡ Some x → ((h : Endpoint) → named state.endpoints e ≡ Some h → h.taken ≤ length h.tickets) → OpenAt state e x
+open_by : (state : State) (e : ℕ) (x : EndpointState) (o : Option Endpoint) → named state.endpoints e ≡ o → option_map endpoint_state o ≡ Some x → ((h : Endpoint) → named state.endpoints e ≡ Some h → h.taken ≤ length h.tickets) → OpenAt state e x
 open_by state e x None at is few = absurd (none-some x is)
-open_by state e x (Some h) at is few = record { entry = h; is = at; same = same_Some (kept h) x is; few = few h at }
+open_by state e x (Some h) at is few = record { entry = h; is = at; same = same_Some (endpoint_state h) x is; few = few h at }
 
 pub open_at : (s : SessionState) (state : State) (e : ℕ) (x : EndpointState) → Represents s state → named s.endpoints e ≡ Some x → OpenAt state e x
 open_at s state e x r is = open_by state e x (named state.endpoints e) refl (sym (named_kept s state e r) ∙ is) (r.few e)
@@ -238,13 +238,13 @@ few-put state f e h few was now d g is =
     ]
 
 -- an endpoint was called and put back
-pub represents-put : (s : SessionState) (state : State) (now : HostState) (after : List (Option EndpointState)) (f : Endpoint → Endpoint) (e : ℕ) (x y : EndpointState) (o : OpenAt state e x) → Represents s state → after ≡ set_name (freed s.endpoints e) e y → kept (f o.entry) ≡ y → (f o.entry).taken ≤ length (f o.entry).tickets → Represents (record s { host = now; endpoints = after }) (record state { host = now; endpoints = change_named f state.endpoints e })
+pub represents-put : (s : SessionState) (state : State) (now : HostState) (after : List (Option EndpointState)) (f : Endpoint → Endpoint) (e : ℕ) (x y : EndpointState) (o : OpenAt state e x) → Represents s state → after ≡ set_name (freed s.endpoints e) e y → endpoint_state (f o.entry) ≡ y → (f o.entry).taken ≤ length (f o.entry).tickets → Represents (record s { host = now; endpoints = after }) (record state { host = now; endpoints = change_named f state.endpoints e })
 represents-put s state now after f e x y o r put same few =
-    let here : named (map (option_map kept) state.endpoints) e ≡ Some x = named-map kept state.endpoints e ∙ ap (option_map kept) o.is ∙ ap (λ z. Some z) o.same in
-    let names : after ≡ map (option_map kept) (change_named f state.endpoints e) =
+    let here : named (map (option_map endpoint_state) state.endpoints) e ≡ Some x = named-map endpoint_state state.endpoints e ∙ ap (option_map endpoint_state) o.is ∙ ap (λ z. Some z) o.same in
+    let names : after ≡ map (option_map endpoint_state) (change_named f state.endpoints e) =
     put ∙ ap (λ (v : SessionState). set_name (freed v.endpoints e) e y) r.is
-    ∙ put-changed (λ z. y) (map (option_map kept) state.endpoints) e x y here refl
-    ∙ sym (map-change_named kept f (λ z. y) state.endpoints e (λ h is. ap (λ (z : Endpoint). kept (f z)) (same_Some h o.entry (sym is ∙ o.is)) ∙ same)) in
+    ∙ put-changed (λ z. y) (map (option_map endpoint_state) state.endpoints) e x y here refl
+    ∙ sym (map-change_named endpoint_state f (λ z. y) state.endpoints e (λ h is. ap (λ (z : Endpoint). endpoint_state (f z)) (same_Some h o.entry (sym is ∙ o.is)) ∙ same)) in
     record {
       is =
           ap (λ (v : SessionState). record v { host = now; endpoints = after }) r.is
@@ -262,7 +262,7 @@ represents-freed s state now after e r rest =
       is =
           ap (λ (v : SessionState). record v { host = now; endpoints = after }) r.is
           ∙ ap (λ (l : List (Option EndpointState)). record (session_of state) { host = now; endpoints = l })
-          (rest ∙ ap (λ (v : SessionState). freed v.endpoints e) r.is ∙ sym (map-freed kept state.endpoints e));
+          (rest ∙ ap (λ (v : SessionState). freed v.endpoints e) r.is ∙ sym (map-freed endpoint_state state.endpoints e));
       few = few-freed state e r.few;
     }
 

@@ -1,10 +1,8 @@
 -- An endpoint is taken out of its name and closed.
-use Rattle.std.proofs.Common.{◌≡◌, ℕ, arith, List, [], ◌∷◌, ◌++◌, ◌+◌, length, length-append, Option, Some, None, Bool, true, false, Result, Ok, Err, String, string_bytes, refl, ap, sym, ◌∙◌, subst}
-use Rattle.std.specs.Prelude.{is_some, OnOk, ◌==◌}
-use Rattle.std.specs.declared.alloc.Global.{Global}
+use Rattle.std.proofs.Common.{◌≡◌, ℕ, arith, List, [], ◌∷◌, ◌+◌, length, length-append, Option, Some, None, Bool, true, false, refl, ap, sym, ◌∙◌, subst}
+use Rattle.std.specs.Prelude.{is_some, ◌==◌}
 use Rattle.std.proofs.lemmas.Bool.{cond_both, eq-eqb}
 use Rattle.usb_bus.specs.BusState.{BusState, without_key}
-use Rattle.std.specs.Option.{option_map}
 use Rattle.usb_host.proofs.ClaimFrames.{goes-trans}
 use Rattle.usb_ledger.proofs.DeviceLemmas.{counts-same}
 use Rattle.usb_endpoint.specs.EndpointState.{EndpointState}
@@ -17,18 +15,15 @@ use Rattle.usb_host.specs.HostCalls.{host_discarded, host_left, host_calls}
 use Rattle.usb_host.specs.TicketEnds.{host_abandoned}
 use Rattle.usb_host.proofs.CallFrames.{keeps-open, keeps-abandoned, line-left, interfaces-left, bus-left}
 use Rattle.usb_host.proofs.WaitFrames.{line-keeps, line-trans}
-use Rattle.usb_lines.specs.Calls.{condition_line, ok_line}
 use Rattle.usb_answers.specs.declared.session.Session.TheInside.{Inside}
 use Rattle.usb_names.specs.Names.{named, freed}
-use Rattle.usb_answers.specs.State.{State, Endpoint, kept}
-use Rattle.usb_answers.specs.Answer.{barred, ok_answer, if_open}
-use Rattle.usb_answers.specs.Closes.{closed, closed_at, close_answer, without_endpoint}
+use Rattle.usb_answers.specs.State.{State, endpoint_state}
+use Rattle.usb_answers.specs.Closes.{closed}
 use Rattle.usb_answers.specs.SessionState.{SessionState, IsSound}
 use Rattle.usb_answers.specs.SessionFacts.{made_of, endpoints_with}
 use Rattle.usb_answers.specs.ReaderAt.{endpoint_place}
 use Rattle.usb_answers.specs.Relation.{Represents}
-use Rattle.usb_answers.specs.Answered.{Answered, Answers}
-use Rattle.usb_answers.proofs.Answering.{named_kept, none_kept, host_is, told-answered}
+use Rattle.usb_answers.proofs.Answering.{none_kept, host_is}
 use Rattle.usb_answers.proofs.Called.{KeepsSession, OpenAt, open_at, sound-freed, represents-freed}
 use Rattle.usb_answers.proofs.OpenPlaces.{taken-endpoint, freed-endpoint_after}
 use Rattle.usb_answers.proofs.NamedKeys.{OpensNone, none-goes}
@@ -103,7 +98,7 @@ is_some-made i S n x sound view was = sym (ap is_some (named-made i S n x sound 
 pub is_none-made : (i : Inside) (S : SessionState) (n : ℕ) → IsSound (made_of i) → made_of i ≡ S → named i.endpoints.items n ≡ None → false ≡ is_some (named S.endpoints (endpoint_place n))
 is_none-made i S n sound view none = sym (ap is_some (none_made i S n sound view none))
 
-pub after-represents : (i : Inside) (S : SessionState) (now : HostState) (after : List (Option EndpointState)) (p : ℕ) (z : EndpointState) → made_of i ≡ S → after ≡ freed (made_of i).endpoints p → now ≡ after_close host_calls i.host z → (state : State) → Represents S state → (o : OpenAt state p z) → Represents (record (made_of i) { host = now; endpoints = after }) (record state { host = after_close host_calls state.host (kept o.entry); endpoints = freed state.endpoints p })
+pub after-represents : (i : Inside) (S : SessionState) (now : HostState) (after : List (Option EndpointState)) (p : ℕ) (z : EndpointState) → made_of i ≡ S → after ≡ freed (made_of i).endpoints p → now ≡ after_close host_calls i.host z → (state : State) → Represents S state → (o : OpenAt state p z) → Represents (record (made_of i) { host = now; endpoints = after }) (record state { host = after_close host_calls state.host (endpoint_state o.entry); endpoints = freed state.endpoints p })
 after-represents i S now after p z view rest bus state r o =
     let s = subst (λ v. Represents v state) (sym view) r in
     subst (λ (g : HostState). Represents (record (made_of i) { host = now; endpoints = after }) (record state { host = g; endpoints = freed state.endpoints p }))
@@ -123,30 +118,3 @@ unfolding closed
 nothing-closed i S mid n sound view none rest state r =
     rw (none_kept S state (endpoint_place n) r (none_made i S n sound view none))
     (subst (λ l. Represents (made_with i i.host l) state) (sym rest) (subst (λ v. Represents v state) (sym view) r))
-
--- what a close answers
-was_open : (s : SessionState) (state : State) (e : ℕ) (before after : List ℕ) (o : Option Endpoint) → is_some (option_map kept o) ≡ true → Represents s (closed_at state e o) → after ≡ before ++ ok_line → Answered s before after (if_open o (λ h. ok_answer (without_endpoint state e h)) (barred state))
-was_open s state e before after None some r is = absurd (cc)
-was_open s state e before after (Some h) some r is = told-answered s (without_endpoint state e h) before after ok_line r is
-
-was_free : (s : SessionState) (state : State) (e : ℕ) (before after : List ℕ) (o : Option Endpoint) → is_some (option_map kept o) ≡ false → Represents s (closed_at state e o) → after ≡ before ++ condition_line → Answered s before after (if_open o (λ h. ok_answer (without_endpoint state e h)) (barred state))
-was_free s state e before after None some r is = told-answered s state before after condition_line r is
-was_free s state e before after (Some h) some r is = absurd (cc)
-
-pub close-answered : {E : Type 0} (S s : SessionState) (n e : ℕ) (before text : String Global) (result : Result Unit E) → n ≡ e → is_some (named S.endpoints (endpoint_place n)) ≡ true → ((state : State) → Represents S state → Represents s (closed state (endpoint_place n))) → OnOk result (string_bytes text ≡ string_bytes before ++ ok_line) → Answers S s before text result (λ state. close_answer state (endpoint_place e))
-unfolding close_answer closed
-close-answered S s n e before text (Err error) same some now is = tt
-close-answered S s n e before text (Ok done) same some now is =
-    λ state r.
-    let p = endpoint_place n in
-    subst (λ m. Answered s (string_bytes before) (string_bytes text) (if_open (named state.endpoints (endpoint_place m)) (λ h. ok_answer (without_endpoint state (endpoint_place m) h)) (barred state))) same
-    (was_open s state p (string_bytes before) (string_bytes text) (named state.endpoints p) (sym (ap is_some (named_kept S state p r)) ∙ some) (now state r) is)
-
-pub close-barred : {E : Type 0} (S s : SessionState) (n e : ℕ) (before text : String Global) (result : Result Unit E) → n ≡ e → is_some (named S.endpoints (endpoint_place n)) ≡ false → ((state : State) → Represents S state → Represents s (closed state (endpoint_place n))) → OnOk result (string_bytes text ≡ string_bytes before ++ condition_line) → Answers S s before text result (λ state. close_answer state (endpoint_place e))
-unfolding close_answer closed
-close-barred S s n e before text (Err error) same some now is = tt
-close-barred S s n e before text (Ok done) same some now is =
-    λ state r.
-    let p = endpoint_place n in
-    subst (λ m. Answered s (string_bytes before) (string_bytes text) (if_open (named state.endpoints (endpoint_place m)) (λ h. ok_answer (without_endpoint state (endpoint_place m) h)) (barred state))) same
-    (was_free s state p (string_bytes before) (string_bytes text) (named state.endpoints p) (sym (ap is_some (named_kept S state p r)) ∙ some) (now state r) is)

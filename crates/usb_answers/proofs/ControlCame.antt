@@ -1,6 +1,6 @@
--- What lines of control transfers tell of what came of their tickets.
+-- What calls of control transfers tell of what came of their tickets.
 use Rattle.std.proofs.Common.{◌≡◌, ℕ, arith, ◌⊎◌, Bool, true, false, List, [], ◌∷◌, ◌++◌, map, length, slice_get, Option, Some, None, Result, inl, inr, refl, ap, sym, ◌∙◌, subst, append-nil}
-use Rattle.std.specs.Prelude.{All, is_some, nat_lt, option_and_then, if◌then◌else◌}
+use Rattle.std.specs.Prelude.{All, nat_lt, option_and_then}
 use Rattle.std.specs.Option.{option_map}
 use Rattle.std.proofs.lemmas.Bool.{cond_both}
 use Rattle.std.proofs.lemmas.List.Elements.{All-nil, All-cons}
@@ -24,41 +24,44 @@ use Rattle.usb_host.specs.TicketEnds.{host_taken, host_abandoned}
 use Rattle.usb_host.proofs.AwaitLemmas.{awaited-finds}
 use Rattle.usb_host.proofs.CloseLemmas.{left-tickets}
 use Rattle.usb_host.proofs.ControlLemmas.{started-due}
-use Rattle.usb_host.proofs.CountLemmas.{rest-count}
 use Rattle.usb_host.proofs.FollowLemmas.{KeepsTickets, on-same, on-rest, taken-here, GivenUp, abandoned-here}
-use Rattle.usb_host.proofs.StartedLemmas.{adds-started, on-awaited, controlled-count, parts-taken}
+use Rattle.usb_host.proofs.StartedLemmas.{adds-started, on-awaited, parts-taken}
 use Rattle.usb_device.specs.Futures.{FutureState, taken_by, awaited_by, future_taken, future_awaited, future_closed, closed_by, future_answer, control_answer}
 use Rattle.usb_device.specs.ControlCalls.{request_awaited, controlled, control_answered}
-use Rattle.usb_device.specs.DescriptorCalls.{descriptor_request, transferred, text_of, languages_of, descriptor_answered, languages_answered, text_answered}
-use Rattle.usb_words.specs.declared.control.ControlTarget.{ControlTarget}
-use Rattle.usb_words.specs.declared.control.ControlTarget.TheVariants.{Device}
+use Rattle.usb_device.specs.DescriptorCalls.{descriptor_request, transferred, text_of, languages_of}
 use Rattle.usb_lines.specs.Calls.{condition_line}
 use Rattle.usb_lines.specs.Controls.{pending_line, received_line, sent_line, descriptor_line, languages_line, string_line}
-use Rattle.usb_names.specs.Names.{named, is_free, freed}
+use Rattle.usb_names.specs.Names.{named, is_free}
 use Rattle.usb_names.proofs.NameLemmas.{freed-free}
 use Rattle.usb_script.specs.declared.item.Item.{Item}
-use Rattle.usb_script.specs.declared.item.Item.TheVariants as item
 use Rattle.usb_script.specs.ItemKinds.{steps_in}
-use Rattle.usb_answers.specs.State.{State, tickets_of, with_host}
-use Rattle.usb_answers.specs.Answer.{Answer, told, barred, ok_answer, if_open}
-use Rattle.usb_answers.specs.Steps.{lent, then_rested, stepped_all}
-use Rattle.usb_script.specs.Kinds.{answers_control}
-use Rattle.usb_answers.specs.Controls.{device_of_target, bars_control, request_for, request_with, control_on, control_answer as control_line, came_line}
-use Rattle.usb_answers.specs.Futures.{future_polled, poll_future_answer, future_waited, wait_future_answer}
+use Rattle.usb_answers.specs.declared.call.Call.{Call}
+use Rattle.usb_answers.specs.declared.call.Call.TheVariants.{Close, Control, Future}
+use Rattle.usb_answers.specs.declared.call.CloseCall.TheVariants as closes
+use Rattle.usb_answers.specs.declared.call.ControlCall.{ControlCall}
+use Rattle.usb_answers.specs.declared.call.ControlCall.TheVariants.{In, Out, Descriptor, Languages, Text}
+use Rattle.usb_answers.specs.declared.call.FutureCall.{FutureCall}
+use Rattle.usb_answers.specs.declared.call.FutureCall.TheVariants.{Poll, Wait}
+use Rattle.usb_answers.specs.State.{State, tickets_of}
+use Rattle.usb_answers.specs.Answer.{Answer, answer_with, at_host, condition_answer, ok_answer, if_open}
+use Rattle.usb_answers.specs.Steps.{with_steps, then_applied, along_steps, stepped_all}
+use Rattle.usb_answers.specs.Calls.{call_of, answers_control}
+use Rattle.usb_answers.specs.Controls.{device_of_target, bars_control, request_for, request_with, came_line, target_of, control_called, control_on, on_control}
+use Rattle.usb_answers.specs.Futures.{future_polled, future_waited, on_future}
 use Rattle.usb_answers.specs.Closes.{without_future, close_future_answer}
 use Rattle.usb_answers.specs.Ends.{future_closed_at, future_closed_under}
 use Rattle.usb_answers.specs.Crowded.{bars_line}
-use Rattle.usb_answers.specs.LineAnswers.{line_answer}
+use Rattle.usb_answers.specs.CallAnswers.{call_answer}
 use Rattle.usb_answers.specs.Answers.{answer}
-use Rattle.usb_answers.specs.Served.{control_ticket_by}
 use Rattle.usb_answers.specs.ControlAnswers.{ControlAnswer, told_of, listed, future_gone, answered_future, answered_by}
 use Rattle.usb_answers.specs.ClosedFutures.{ClosedFuture, future_closed_as, future_closed_by}
 use Rattle.usb_answers.proofs.OrderLemmas.{IsTaken, IsHeld, held-stays, stays-keeps, LeavesTickets, WasGiven, given-goes, taken-goes}
 use Rattle.usb_answers.proofs.PrintLemmas.{transfer-stays, mapped-some, not_more, one_more}
-use Rattle.usb_answers.proofs.Does.{Quiet, quiet-stepped}
-use Rattle.usb_answers.proofs.StepLemmas.{Inv}
-use Rattle.usb_answers.proofs.ControlLines.{handed_in, gone_if, future_parted, parted_by, parted-quiet, open-not_free, awaited-quiet}
-use Rattle.usb_answers.proofs.FuturesAwaited.{AllAwait}
+use Rattle.usb_answers.proofs.Does.{Quiet, quiet-lent, quiet-stepped}
+use Rattle.usb_answers.proofs.EndpointLines.{some-of}
+use Rattle.usb_answers.proofs.StepLemmas.{Inv, step-quiet}
+use Rattle.usb_answers.proofs.ControlLines.{handed_in, handed-applied, gone_if, future_parted, parted_by, parted-quiet, called-controls, open-not_free, awaited-quiet}
+use Rattle.usb_answers.proofs.FuturesAwaited.{AllAwait, parting-same}
 
 -- a line tells what the journal of a host has as the completion of the ticket, which was taken
 pub record Came (h : HostState) (x : ControlAnswer) : Type 0 where
@@ -92,10 +95,6 @@ tells-one a x xs one came =
     }
 
 -- the completion of a ticket that is found is taken, the endpoint left, and the steps that are left applied
-some-of : {X : Type 0} (o : Option X) → is_some o ≡ true → (x : X) × (o ≡ Some x)
-some-of None is = absurd (cc)
-some-of (Some x) is = (x, refl)
-
 left-at : (h : HostState) (key t : ℕ) → slice_get (host_left h key).tickets t ≡ slice_get h.tickets t
 unfolding host_left
 left-at h key t = ap (λ (ts : List HostTicket). slice_get ts t) (left-tickets h key (value_at h.endpoints key))
@@ -143,7 +142,7 @@ module _ (h : HostState) (device : ℕ) (request : TransferData) (timeout : ℕ)
   over-found =
       awaited-finds its (deadline_after h.kernel.clock timeout) begun (λ none. started-due h (control_submission h device request timeout) (deadline_after h.kernel.clock timeout) refl none)
 
-  pub controlled-came : (x : ControlAnswer) → x.ticket ≡ its → ((c : Completion) → control_answered h device request timeout ≡ Some (control_answer (direction_of_address request.endpoint) c) → x.line ≡ x.tells c) → Came (controlled h device request timeout) x
+  controlled-came : (x : ControlAnswer) → x.ticket ≡ its → ((c : Completion) → control_answered h device request timeout ≡ Some (control_answer (direction_of_address request.endpoint) c) → x.line ≡ x.tells c) → Came (controlled h device request timeout) x
   controlled-came x same line =
       let found = some-of (transfer_completion over.kernel.past its) over-found in
       let c = found.0 in
@@ -152,42 +151,56 @@ module _ (h : HostState) (device : ℕ) (request : TransferData) (timeout : ℕ)
       subst (λ (t : ℕ). Came (host_left (host_taken over t) (length h.endpoints)) x) same
       (taken-came over x (length h.endpoints) c (subst (IsHeld over) (sym same) over-held) came (line c answered))
 
--- such a line tells it, or is barred
-module _ (request : TransferData) (timeout : ℕ) (line : HostState → ℕ → List ℕ) (tells : Completion → List ℕ) (prints : (h : HostState) (d : ℕ) (c : Completion) → control_answered h d request timeout ≡ Some (control_answer (direction_of_address request.endpoint) c) → line h d ≡ tells c) where
-  abbrev after : HostState → ℕ → HostState
-  after h d = controlled h d request timeout
+-- with the steps of its line
+rest-tells : (a : Answer) (xs : List ControlAnswer) → Tells a xs → Tells (then_applied a) xs
+rest-tells a xs tells = record { each = λ k d below. came-keeps a.state.host (then_applied a).state.host _ (on-rest a.state.host) (tells.each k d below); others = tells.others }
 
+-- each control transfer that is awaited tells of its completion
+called-came : (call : ControlCall) (h : HostState) (d : ℕ) → length h.tickets ≡ length (tickets h.kernel.past)
+    → Came (control_called call h d).host (record { ticket = length (tickets h.kernel.past); line = (control_called call h d).line; tells = told_of call })
+called-came (In target setup wanted timeout) h d counted = controlled-came h d (request_for setup wanted) timeout counted _ refl (λ c is. ap (came_line received_line) is)
+called-came (Out target setup bytes timeout) h d counted = controlled-came h d (request_with setup bytes) timeout counted _ refl (λ c is. ap (came_line (λ r. sent_line (result_map (λ _. tt) r))) is)
+called-came (Descriptor device kind index language timeout) h d counted =
+    controlled-came h d (request_in (descriptor_request kind index language)) timeout counted _ refl (λ c is. ap (λ o. came_line descriptor_line (option_map transferred o)) is)
+called-came (Languages device timeout) h d counted =
+    controlled-came h d (request_in (descriptor_request 3 0 0)) timeout counted _ refl (λ c is. ap (λ o. came_line languages_line (option_map (λ r. r >>= languages_of) (option_map transferred o))) is)
+called-came (Text device index language timeout) h d counted =
+    controlled-came h d (request_in (descriptor_request 3 index language)) timeout counted _ refl (λ c is. ap (λ o. came_line string_line (option_map (λ r. r >>= text_of) (option_map transferred o))) is)
+
+-- or is barred
+module _ (call : ControlCall) where
   abbrev told_by : State → Answer → List ControlAnswer
-  told_by state a = map (λ t. record { ticket = t; line = a.line; tells = tells }) (handed_in state a)
+  told_by state a = map (λ t. record { ticket = t; line = a.line; tells = told_of call }) (handed_in state a)
 
-  abbrev TellsControl : State → Answer → Type 0
-  TellsControl state a = Tells a (told_by state a)
+  none-told : (state : State) → Tells (condition_answer state) (told_by state (condition_answer state))
+  none-told state = tells-none (condition_answer state) _ (let no_ = not_more (tickets_of state) (tickets_of state) refl in rw no_ refl) (inl refl)
 
-  none-told : (state : State) (a : Answer) → length (tickets a.state.host.kernel.past) ≡ tickets_of state → told_by state a ≡ []
-  none-told state a same = let no_ = not_more (tickets_of state) (tickets_of a.state) same in rw no_ refl
-
-  control_on-tells : (state : State) (steps : List KernelStep) (device : ℕ) → length state.host.tickets ≡ tickets_of state → TellsControl state (then_rested (control_on after line (lent state steps) device))
-  control_on-tells state steps device counted =
-      let now = lent state steps in
-      let done = told (with_host now (after now.host device)) (line now.host device) in
-      cond_both (bars_control now.host.kernel.past) (barred now) done (λ a. TellsControl state (then_rested a))
-      (λ yes_. tells-none (then_rested (barred now)) _ (none-told state (then_rested (barred now)) (rest-count now.host).past) (inl refl))
+  control_on-tells : (state : State) (device : ℕ) → length state.host.tickets ≡ tickets_of state → Tells (control_on call state device) (told_by state (control_on call state device))
+  control_on-tells state device counted =
+      let a = at_host state (control_called call state.host device) in
+      cond_both (bars_control state.host.kernel.past) (condition_answer state) a (λ b. Tells b (told_by state b))
+      (λ yes_. none-told state)
       (λ no_.
-      let a = then_rested done in
-      let x : ControlAnswer = record { ticket = tickets_of state; line = a.line; tells = tells } in
-      let began = controlled-count now.host (control_submission now.host device request timeout) (deadline_after now.host.kernel.clock timeout) (length now.host.endpoints) in
-      let rest = rest-count done.state.host in
-      let more : nat_lt (tickets_of state) (tickets_of a.state) ≡ true = one_more (tickets_of state) (tickets_of a.state) (omega (arith, began.past, rest.past)) in
-      tells-one a x (told_by state a) (rw more refl)
-      (came-keeps done.state.host a.state.host x (on-rest done.state.host) (controlled-came now.host device request timeout counted x refl (λ c is. prints now.host device c is))))
+      let x : ControlAnswer = record { ticket = tickets_of state; line = a.line; tells = told_of call } in
+      let began = (called-controls call state.host device).0 in
+      let more : nat_lt (tickets_of state) (tickets_of a.state) ≡ true = one_more (tickets_of state) (tickets_of a.state) (omega (arith, began.past)) in
+      tells-one a x (told_by state a) (rw more refl) (called-came call state.host device counted))
 
-  pub control-tells : (state : State) (target : ControlTarget) (steps : List KernelStep) → length state.host.tickets ≡ tickets_of state → TellsControl state (control_line after line state target steps)
-  unfolding control_line
-  control-tells state target steps counted = by (device_of_target state target)
+  on_control-tells : (state : State) → length state.host.tickets ≡ tickets_of state → Tells (on_control state call) (told_by state (on_control state call))
+  unfolding on_control
+  on_control-tells state counted = by (device_of_target state (target_of call))
     where
-      by : (o : Option ℕ) → TellsControl state (if_open o (λ device. then_rested (control_on after line (lent state steps) device)) (barred (stepped_all state steps)))
-      by None = tells-none (barred (stepped_all state steps)) _ (none-told state (barred (stepped_all state steps)) (quiet-stepped state steps).count.past) (inl refl)
-      by (Some device) = control_on-tells state steps device counted
+      by : (o : Option ℕ) → Tells (if_open o (control_on call state) (condition_answer state)) (told_by state (if_open o (control_on call state) (condition_answer state)))
+      by None = none-told state
+      by (Some device) = control_on-tells state device counted
+
+  control-tells : (state : State) (steps : List KernelStep) → length state.host.tickets ≡ tickets_of state
+      → Tells (along_steps state steps (λ s. on_control s call)) (told_by state (along_steps state steps (λ s. on_control s call)))
+  control-tells state steps counted =
+      let now = with_steps state steps in
+      let a = on_control now call in
+      subst (λ ts. Tells (then_applied a) (map (λ t. record { ticket = t; line = a.line; tells = told_of call }) ts)) (sym (handed-applied state a))
+      (rest-tells a (told_by now a) (on_control-tells now counted))
 
 -- a future that gave its answer
 module _ (state : State) (n : ℕ) (f : FutureState) (a : Answer) (mid : HostState) (t : ℕ) (c : Completion) (has : f.ticket ≡ Some t) where
@@ -205,47 +218,48 @@ answered-none line false = refl
 answer-with : (h : HostState) (f : FutureState) (t : ℕ) → f.ticket ≡ Some t → future_answer h f ≡ option_map (control_answer f.direction) (transfer_completion h.kernel.past t)
 answer-with h f t has = ap (λ o. option_map (control_answer f.direction) (option_and_then (transfer_completion h.kernel.past) o)) has
 
-pub poll-tells : (state : State) (n : ℕ) → Inv state → AllAwait state → Tells (poll_future_answer state n) (answered_future (poll_future_answer state n).line (gone_if (is_free (poll_future_answer state n).state.futures n) (named state.futures n)))
-unfolding poll_future_answer
-poll-tells state n inv all = by (named state.futures n) refl
+-- it is polled, or awaited
+abbrev future_told : State → ℕ → Option FutureState → Answer → List ControlAnswer
+future_told state n o a = answered_future a.line (gone_if (is_free a.state.futures n) o)
+
+future_polled-tells : (state : State) (n : ℕ) (f : FutureState) (o : Option (Result (List ℕ) TransferError)) → Inv state → AllAwait state → named state.futures n ≡ Some f → future_answer state.host f ≡ o
+    → Tells (future_polled state n f o) (future_told state n (Some f) (future_polled state n f o))
+future_polled-tells state n f None inv all here none =
+    tells-none (answer_with state pending_line) _ (rw (open-not_free state.futures n f here) refl) (inr refl)
+future_polled-tells state n f (Some r) inv all here some =
+    let awaits = all n f here in
+    let t = awaits.ticket in
+    let d = mapped-some (control_answer f.direction) (transfer_completion state.host.kernel.past t) r (sym (answer-with state.host f t awaits.is) ∙ some) in
+    future-tells state n f (future_polled state n f (Some r)) state.host t d.0 awaits.is (freed-free state.futures n f here) (inv.waits n f t here awaits.is) d.1 (ap received_line (sym d.2)) (on-same (future_taken state.host f))
+
+future_waited-tells : (state : State) (n : ℕ) (f : FutureState) → Inv state → AllAwait state → named state.futures n ≡ Some f → Tells (future_waited state n f) (future_told state n (Some f) (future_waited state n f))
+future_waited-tells state n f inv all here =
+    let awaits = all n f here in
+    let t = awaits.ticket in
+    let mid = future_awaited state.host f in
+    let held : IsHeld mid t = held-stays state.host mid t (stays-keeps state.host mid t (awaited-quiet state f.deadline f.ticket).keeps) (inv.waits n f t here awaits.is) in
+    let found : is_reaped host_calls t mid ≡ true = subst (λ (o : Option ℕ). is_reaped host_calls t (awaited_by state.host f.deadline o) ≡ true) (sym awaits.is) (awaited-finds t f.deadline state.host awaits.due) in
+    let came = some-of (transfer_completion mid.kernel.past t) found in
+    let line : came_line received_line (future_answer mid f) ≡ received_line (control_answer f.direction came.0) = ap (came_line received_line) (answer-with mid f t awaits.is ∙ ap (option_map (control_answer f.direction)) came.1) in
+    future-tells state n f (future_waited state n f) mid t came.0 awaits.is (freed-free state.futures n f here) held came.1 line (on-same (future_taken mid f))
+
+named-tells : (state : State) (n : ℕ) (call : FutureState → Answer) → ((f : FutureState) → named state.futures n ≡ Some f → Tells (call f) (future_told state n (Some f) (call f)))
+    → Tells (if_open (named state.futures n) call (condition_answer state)) (future_told state n (named state.futures n) (if_open (named state.futures n) call (condition_answer state)))
+named-tells state n call tells = by (named state.futures n) refl
   where
-    polled : (f : FutureState) (o : Option (Result (List ℕ) TransferError)) → named state.futures n ≡ Some f → future_answer state.host f ≡ o
-        → Tells (future_polled state n f o) (answered_future (future_polled state n f o).line (gone_if (is_free (future_polled state n f o).state.futures n) (Some f)))
-    polled f None here none =
-        tells-none (told state pending_line) _ (rw (open-not_free state.futures n f here) refl) (inr refl)
-    polled f (Some r) here some =
-        let awaits = all n f here in
-        let t = awaits.ticket in
-        let d = mapped-some (control_answer f.direction) (transfer_completion state.host.kernel.past t) r (sym (answer-with state.host f t awaits.is) ∙ some) in
-        future-tells state n f (future_polled state n f (Some r)) state.host t d.0 awaits.is (freed-free state.futures n f here) (inv.waits n f t here awaits.is) d.1 (ap received_line (sym d.2)) (on-same (future_taken state.host f))
+    by : (o : Option FutureState) → named state.futures n ≡ o → Tells (if_open o call (condition_answer state)) (future_told state n o (if_open o call (condition_answer state)))
+    by None here = tells-none (condition_answer state) _ (answered-none condition_line (is_free state.futures n)) (inl refl)
+    by (Some f) here = tells f here
 
-    by : (o : Option FutureState) → named state.futures n ≡ o
-        → Tells (if_open o (λ f. future_polled state n f (future_answer state.host f)) (barred state)) (answered_future (if_open o (λ f. future_polled state n f (future_answer state.host f)) (barred state)).line (gone_if (is_free (if_open o (λ f. future_polled state n f (future_answer state.host f)) (barred state)).state.futures n) o))
-    by None here = tells-none (barred state) _ (answered-none condition_line (is_free state.futures n)) (inl refl)
-    by (Some f) here = polled f (future_answer state.host f) here refl
-
-pub wait-tells : (state : State) (n : ℕ) (steps : List KernelStep) → Inv state → AllAwait state → Tells (wait_future_answer state n steps) (answered_future (wait_future_answer state n steps).line (gone_if (is_free (wait_future_answer state n steps).state.futures n) (named state.futures n)))
-unfolding wait_future_answer
-wait-tells state n steps inv all = by (named state.futures n) refl
-  where
-    waited : (f : FutureState) → named state.futures n ≡ Some f
-        → Tells (then_rested (future_waited (lent state steps) n f)) (answered_future (future_waited (lent state steps) n f).line (gone_if (is_free (freed state.futures n) n) (Some f)))
-    waited f here =
-        let awaits = all n f here in
-        let t = awaits.ticket in
-        let now = lent state steps in
-        let mid = future_awaited now.host f in
-        let was = inv.waits n f t here awaits.is in
-        let held : IsHeld mid t = held-stays now.host mid t (stays-keeps now.host mid t (awaited-quiet now f.deadline f.ticket).keeps) (record { hold = was.hold; is = was.is }) in
-        let found : is_reaped host_calls t mid ≡ true = subst (λ (o : Option ℕ). is_reaped host_calls t (awaited_by now.host f.deadline o) ≡ true) (sym awaits.is) (awaited-finds t f.deadline now.host awaits.due) in
-        let came = some-of (transfer_completion mid.kernel.past t) found in
-        let line : came_line received_line (future_answer mid f) ≡ received_line (control_answer f.direction came.0) = ap (came_line received_line) (answer-with mid f t awaits.is ∙ ap (option_map (control_answer f.direction)) came.1) in
-        future-tells state n f (then_rested (future_waited now n f)) mid t came.0 awaits.is (freed-free state.futures n f here) held came.1 line (on-rest (future_taken mid f))
-
-    by : (o : Option FutureState) → named state.futures n ≡ o
-        → Tells (if_open o (λ f. then_rested (future_waited (lent state steps) n f)) (barred (stepped_all state steps))) (answered_future (if_open o (λ f. then_rested (future_waited (lent state steps) n f)) (barred (stepped_all state steps))).line (gone_if (is_free (if_open o (λ f. then_rested (future_waited (lent state steps) n f)) (barred (stepped_all state steps))).state.futures n) o))
-    by None here = tells-none (barred (stepped_all state steps)) _ (answered-none condition_line (is_free (stepped_all state steps).futures n)) (inl refl)
-    by (Some f) here = waited f here
+on_future-tells : (state : State) (n : ℕ) (call : FutureCall) → Inv state → AllAwait state → Tells (on_future state n call) (future_told state n (named state.futures n) (on_future state n call))
+unfolding on_future
+on_future-tells state n Poll inv all =
+    named-tells state n (λ f. future_polled state n f (future_answer state.host f)) (λ f here. future_polled-tells state n f (future_answer state.host f) inv all here refl)
+on_future-tells state n (Wait steps) inv all =
+    let now = with_steps state steps in
+    let over = quiet-lent state steps in
+    rest-tells (if_open (named now.futures n) (future_waited now n) (condition_answer now)) _
+    (named-tells now n (future_waited now n) (λ f here. future_waited-tells now n f (step-quiet inv over).inv (parting-same state now over.futures over.keeps.past all).awaits here))
 
 -- a future is closed
 abbrev pub Gave : HostState → ClosedFuture → Type 0
@@ -254,7 +268,7 @@ Gave h x = WasGiven x.past x.ticket (slice_get h.tickets x.ticket)
 pub gave-on : (old new : HostState) (xs : List ClosedFuture) → LeavesTickets old new → All (Gave old) xs → All (Gave new) xs
 gave-on old new xs goes all k d below = given-goes _ _ _ _ (goes.tickets _) (all k d below)
 
-pub closed-gives : (h : HostState) (f : FutureState) → ((t : ℕ) → f.ticket ≡ Some t → IsHeld h t) → All (Gave (future_closed h f)) (future_closed_as h.kernel.past (Some f))
+closed-gives : (h : HostState) (f : FutureState) → ((t : ℕ) → f.ticket ≡ Some t → IsHeld h t) → All (Gave (future_closed h f)) (future_closed_as h.kernel.past (Some f))
 closed-gives h f held = by f.ticket held
   where
     by : (o : Option ℕ) → ((t : ℕ) → o ≡ Some t → IsHeld h t) → All (Gave (closed_by h f.key o)) (map (λ t. record { ticket = t; past = h.kernel.past }) (listed o))
@@ -269,12 +283,15 @@ gave-none : (h : HostState) (past : List Event) (free : Bool) → All (Gave h) (
 gave-none h past true = All-nil (Gave h)
 gave-none h past false = All-nil (Gave h)
 
-pub close-gives : (state : State) (n : ℕ) → Inv state → All (Gave (close_future_answer state n).state.host) (future_closed_as state.host.kernel.past (gone_if (is_free (close_future_answer state n).state.futures n) (named state.futures n)))
+abbrev future_left : State → ℕ → Option FutureState → State
+future_left state n o = (if_open o (λ f. ok_answer (without_future state n f)) (condition_answer state)).state
+
+close-gives : (state : State) (n : ℕ) → Inv state
+    → All (Gave (close_future_answer state n).state.host) (future_closed_as state.host.kernel.past (gone_if (is_free (close_future_answer state n).state.futures n) (named state.futures n)))
 unfolding close_future_answer
 close-gives state n inv = by (named state.futures n) refl
   where
-    by : (o : Option FutureState) → named state.futures n ≡ o
-        → All (Gave (if_open o (λ f. ok_answer (without_future state n f)) (barred state)).state.host) (future_closed_as state.host.kernel.past (gone_if (is_free (if_open o (λ f. ok_answer (without_future state n f)) (barred state)).state.futures n) o))
+    by : (o : Option FutureState) → named state.futures n ≡ o → All (Gave (future_left state n o).host) (future_closed_as state.host.kernel.past (gone_if (is_free (future_left state n o).futures n) o))
     by None here = gave-none state.host state.host.kernel.past (is_free state.futures n)
     by (Some f) here = rw (freed-free state.futures n f here) (closed-gives state.host f (λ t is. inv.waits n f t here is))
 
@@ -310,55 +327,32 @@ pub future-given : (past : List Event) (o : Option FutureState) → tickets_clos
 future-given past None = refl
 future-given past (Some f) = closed-back past (listed f.ticket)
 
--- the host parts with the tickets that a line answers or gives up
-abbrev pub both_by : State → Item → Answer → List ℕ
-both_by state line a = tickets_told (answered_by state line a) ++ tickets_closed (future_closed_by state line a)
+-- the host parts with the tickets that a call answers or gives up
+abbrev pub both_by : State → Call → Answer → List ℕ
+both_by state call a = tickets_told (answered_by state call a) ++ tickets_closed (future_closed_by state call a)
 
-awaited-parted : (state : State) (line : Item) (a : Answer) → both_by state line a ≡ tickets_told (map (λ t. record { ticket = t; line = a.line; tells = told_of line }) (control_ticket_by state line a)) ++ [] → both_by state line a ≡ control_ticket_by state line a
-awaited-parted state line a is = is ∙ (append-nil _ ∙ told-back a.line (told_of line) (control_ticket_by state line a))
+pub both-parted : (state : State) (call : Call) (a : Answer) → both_by state call a ≡ parted_by state call a
+both-parted state (Control call steps) a = append-nil _ ∙ told-back a.line (told_of call) (handed_in state a)
+both-parted state (Future n call) a = append-nil _ ∙ future-told a.line (future_gone state a.state n)
+both-parted state (Close (closes.Future n)) a = future-given state.host.kernel.past (future_gone state a.state n)
+both-parted state call a = refl
 
-pub both-parted : (state : State) (line : Item) (a : Answer) → both_by state line a ≡ parted_by state line a
-both-parted state (item.ControlIn target setup wanted timeout steps) a = awaited-parted state (item.ControlIn target setup wanted timeout steps) a refl
-both-parted state (item.ControlOut target setup bytes timeout steps) a = awaited-parted state (item.ControlOut target setup bytes timeout steps) a refl
-both-parted state (item.GetDescriptor d kind index language timeout steps) a = awaited-parted state (item.GetDescriptor d kind index language timeout steps) a refl
-both-parted state (item.SupportedLanguages d timeout steps) a = awaited-parted state (item.SupportedLanguages d timeout steps) a refl
-both-parted state (item.StringDescriptor d index language timeout steps) a = awaited-parted state (item.StringDescriptor d index language timeout steps) a refl
-both-parted state (item.PollFuture n) a = append-nil _ ∙ future-told a.line (future_gone state a.state n)
-both-parted state (item.WaitFuture n steps) a = append-nil _ ∙ future-told a.line (future_gone state a.state n)
-both-parted state (item.CloseFuture n) a = future-given state.host.kernel.past (future_gone state a.state n)
-both-parted state line a = refl
+-- what the answer of a call tells of control transfers, and what it gives up
+call-tells : (state : State) (call : Call) → Inv state → AllAwait state → answers_control call ≡ true → Tells (call_answer state call) (answered_by state call (call_answer state call))
+unfolding call_answer
+call-tells state (Control call steps) inv all is = control-tells call state steps inv.count
+call-tells state (Future n call) inv all is = on_future-tells state n call inv all
+call-tells state call inv all is = absurd (cc)
 
--- what the answer of a line tells of control transfers, and what it gives up
-line-tells : (state : State) (line : Item) → Inv state → AllAwait state → answers_control line ≡ true → Tells (line_answer state line) (answered_by state line (line_answer state line))
-unfolding line_answer
-line-tells state (item.ControlIn target setup wanted timeout steps) inv all is =
-    control-tells (request_for setup wanted) timeout (λ h d. came_line received_line (control_answered h d (request_for setup wanted) timeout)) (told_of (item.ControlIn target setup wanted timeout steps)) (λ h d c is. ap (came_line received_line) is) state target steps inv.count
-line-tells state (item.ControlOut target setup bytes timeout steps) inv all is =
-    control-tells (request_with setup bytes) timeout (λ h d. came_line (λ r. sent_line (result_map (λ _. tt) r)) (control_answered h d (request_with setup bytes) timeout)) (told_of (item.ControlOut target setup bytes timeout steps)) (λ h d c is. ap (came_line (λ r. sent_line (result_map (λ _. tt) r))) is) state target steps inv.count
-line-tells state (item.GetDescriptor d kind index language timeout steps) inv all is =
-    control-tells (request_in (descriptor_request kind index language)) timeout (λ h n. came_line descriptor_line (descriptor_answered h n (descriptor_request kind index language) timeout)) (told_of (item.GetDescriptor d kind index language timeout steps)) (λ h d c is. ap (λ o. came_line descriptor_line (option_map transferred o)) is) state (Device d) steps inv.count
-line-tells state (item.SupportedLanguages d timeout steps) inv all is =
-    control-tells (request_in (descriptor_request 3 0 0)) timeout (λ h n. came_line languages_line (languages_answered h n (descriptor_request 3 0 0) timeout)) (told_of (item.SupportedLanguages d timeout steps)) (λ h d c is. ap (λ o. came_line languages_line (option_map (λ r. r >>= languages_of) (option_map transferred o))) is) state (Device d) steps inv.count
-line-tells state (item.StringDescriptor d index language timeout steps) inv all is =
-    control-tells (request_in (descriptor_request 3 index language)) timeout (λ h n. came_line string_line (text_answered h n (descriptor_request 3 index language) timeout)) (told_of (item.StringDescriptor d index language timeout steps)) (λ h d c is. ap (λ o. came_line string_line (option_map (λ r. r >>= text_of) (option_map transferred o))) is) state (Device d) steps inv.count
-line-tells state (item.PollFuture n) inv all is = poll-tells state n inv all
-line-tells state (item.WaitFuture n steps) inv all is = wait-tells state n steps inv all
-line-tells state line inv all is = absurd (cc)
+call-came : (state : State) (call : Call) → Inv state → AllAwait state → All (Came (call_answer state call).state.host) (answered_by state call (call_answer state call))
+call-came state (Control call steps) inv all = (call-tells state (Control call steps) inv all refl).each
+call-came state (Future n call) inv all = (call-tells state (Future n call) inv all refl).each
+call-came state call inv all = All-nil (Came (call_answer state call).state.host)
 
-line-came : (state : State) (line : Item) → Inv state → AllAwait state → All (Came (line_answer state line).state.host) (answered_by state line (line_answer state line))
-line-came state (item.ControlIn target setup wanted timeout steps) inv all = (line-tells state (item.ControlIn target setup wanted timeout steps) inv all refl).each
-line-came state (item.ControlOut target setup bytes timeout steps) inv all = (line-tells state (item.ControlOut target setup bytes timeout steps) inv all refl).each
-line-came state (item.GetDescriptor d kind index language timeout steps) inv all = (line-tells state (item.GetDescriptor d kind index language timeout steps) inv all refl).each
-line-came state (item.SupportedLanguages d timeout steps) inv all = (line-tells state (item.SupportedLanguages d timeout steps) inv all refl).each
-line-came state (item.StringDescriptor d index language timeout steps) inv all = (line-tells state (item.StringDescriptor d index language timeout steps) inv all refl).each
-line-came state (item.PollFuture n) inv all = (line-tells state (item.PollFuture n) inv all refl).each
-line-came state (item.WaitFuture n steps) inv all = (line-tells state (item.WaitFuture n steps) inv all refl).each
-line-came state line inv all = All-nil (Came (line_answer state line).state.host)
-
-line-gives : (state : State) (line : Item) → Inv state → All (Gave (line_answer state line).state.host) (future_closed_by state line (line_answer state line))
-unfolding line_answer
-line-gives state (item.CloseFuture n) inv = close-gives state n inv
-line-gives state line inv = All-nil (Gave (line_answer state line).state.host)
+call-gives : (state : State) (call : Call) → Inv state → All (Gave (call_answer state call).state.host) (future_closed_by state call (call_answer state call))
+unfolding call_answer
+call-gives state (Close (closes.Future n)) inv = close-gives state n inv
+call-gives state call inv = All-nil (Gave (call_answer state call).state.host)
 
 -- where it only goes on it answers none, and gives up none
 none-mapped : {X Y : Type 0} (f : X → Y) (xs : List X) → map f xs ≡ [] → xs ≡ []
@@ -373,45 +367,42 @@ none-second : {X : Type 0} (xs ys : List X) → xs ++ ys ≡ [] → ys ≡ []
 none-second [] ys none = none
 none-second (x ∷ xs) ys none = absurd (cc)
 
-quiet-none : (state : State) (line : Item) (a : Answer) → Quiet state a.state → both_by state line a ≡ []
-quiet-none state line a quiet = both-parted state line a ∙ parted-quiet state line a quiet
+quiet-none : (state : State) (call : Call) (a : Answer) → Quiet state a.state → both_by state call a ≡ []
+quiet-none state call a quiet = both-parted state call a ∙ parted-quiet state call a quiet
 
-quiet-answers : (state : State) (line : Item) (a : Answer) → Quiet state a.state → answered_by state line a ≡ []
-quiet-answers state line a quiet =
-    none-mapped (λ (x : ControlAnswer). x.ticket) (answered_by state line a) (none-first (tickets_told (answered_by state line a)) (tickets_closed (future_closed_by state line a)) (quiet-none state line a quiet))
+quiet-answers : (state : State) (call : Call) (a : Answer) → Quiet state a.state → answered_by state call a ≡ []
+quiet-answers state call a quiet =
+    none-mapped (λ (x : ControlAnswer). x.ticket) (answered_by state call a) (none-first (tickets_told (answered_by state call a)) (tickets_closed (future_closed_by state call a)) (quiet-none state call a quiet))
 
-quiet-gives : (state : State) (line : Item) (a : Answer) → Quiet state a.state → future_closed_by state line a ≡ []
-quiet-gives state line a quiet =
-    none-mapped (λ (x : ClosedFuture). x.ticket) (future_closed_by state line a) (none-second (tickets_told (answered_by state line a)) (tickets_closed (future_closed_by state line a)) (quiet-none state line a quiet))
+quiet-gives : (state : State) (call : Call) (a : Answer) → Quiet state a.state → future_closed_by state call a ≡ []
+quiet-gives state call a quiet =
+    none-mapped (λ (x : ClosedFuture). x.ticket) (future_closed_by state call a) (none-second (tickets_told (answered_by state call a)) (tickets_closed (future_closed_by state call a)) (quiet-none state call a quiet))
 
 -- so also where the session is crowded
 module _ (state : State) (line : Item) (inv : Inv state) where
-  abbrev crowded_answer : Answer
-  crowded_answer = barred (stepped_all state (steps_in line))
+  abbrev its_call : Call
+  its_call = call_of line
 
-  abbrev answer_if : Bool → Answer
-  answer_if b = if b then crowded_answer else line_answer state line
+  abbrev crowded : Answer
+  crowded = condition_answer (stepped_all state (steps_in line))
 
-  pub answer-tells : AllAwait state → answers_control line ≡ true → Tells (answer state line) (answered_by state line (answer state line))
+  over-crowd : Quiet state crowded.state
+  over-crowd = quiet-stepped state (steps_in line)
+
+  by-crowd : (P : Answer → Type 0) → P crowded → P (call_answer state its_call) → P (answer state line)
   unfolding answer
-  answer-tells all is = by (bars_line state line)
-    where
-      by : (b : Bool) → Tells (answer_if b) (answered_by state line (answer_if b))
-      by true = tells-none crowded_answer (answered_by state line crowded_answer) (quiet-answers state line crowded_answer (quiet-stepped state (steps_in line))) (inl refl)
-      by false = line-tells state line inv all is
+  by-crowd P barred called = cond_both (bars_line state line) crowded (call_answer state its_call) P (λ yes_. barred) (λ no_. called)
 
-  pub answer-came : AllAwait state → All (Came (answer state line).state.host) (answered_by state line (answer state line))
-  unfolding answer
-  answer-came all = by (bars_line state line)
-    where
-      by : (b : Bool) → All (Came (answer_if b).state.host) (answered_by state line (answer_if b))
-      by true = subst (λ xs. All (Came crowded_answer.state.host) xs) (sym (quiet-answers state line crowded_answer (quiet-stepped state (steps_in line)))) (All-nil (Came crowded_answer.state.host))
-      by false = line-came state line inv all
+  pub answer-tells : AllAwait state → answers_control its_call ≡ true → Tells (answer state line) (answered_by state its_call (answer state line))
+  answer-tells all is =
+      by-crowd (λ a. Tells a (answered_by state its_call a)) (tells-none crowded (answered_by state its_call crowded) (quiet-answers state its_call crowded over-crowd) (inl refl)) (call-tells state its_call inv all is)
 
-  pub answer-gives : All (Gave (answer state line).state.host) (future_closed_by state line (answer state line))
-  unfolding answer
-  answer-gives = by (bars_line state line)
-    where
-      by : (b : Bool) → All (Gave (answer_if b).state.host) (future_closed_by state line (answer_if b))
-      by true = subst (λ xs. All (Gave crowded_answer.state.host) xs) (sym (quiet-gives state line crowded_answer (quiet-stepped state (steps_in line)))) (All-nil (Gave crowded_answer.state.host))
-      by false = line-gives state line inv
+  pub answer-came : AllAwait state → All (Came (answer state line).state.host) (answered_by state its_call (answer state line))
+  answer-came all =
+      by-crowd (λ a. All (Came a.state.host) (answered_by state its_call a))
+      (subst (λ xs. All (Came crowded.state.host) xs) (sym (quiet-answers state its_call crowded over-crowd)) (All-nil (Came crowded.state.host))) (call-came state its_call inv all)
+
+  pub answer-gives : All (Gave (answer state line).state.host) (future_closed_by state its_call (answer state line))
+  answer-gives =
+      by-crowd (λ a. All (Gave a.state.host) (future_closed_by state its_call a))
+      (subst (λ xs. All (Gave crowded.state.host) xs) (sym (quiet-gives state its_call crowded over-crowd)) (All-nil (Gave crowded.state.host))) (call-gives state its_call inv)

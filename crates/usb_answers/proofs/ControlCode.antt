@@ -27,10 +27,10 @@ use Rattle.usb_words.specs.declared.control.ControlTarget.TheVariants.{Device, I
 use Rattle.usb_lines.specs.Calls.{condition_line}
 use Rattle.usb_names.specs.Names.{named}
 use Rattle.usb_answers.specs.State.{State, with_host}
-use Rattle.usb_answers.specs.OpenAt.{DeviceAt, InterfaceAt}
-use Rattle.usb_answers.specs.Answer.{told, barred, if_open}
-use Rattle.usb_answers.specs.Steps.{lent, rested, then_rested, stepped_all}
-use Rattle.usb_answers.specs.Controls.{device_of_target, bars_control, control_on, control_answer, came_line}
+use Rattle.usb_answers.specs.OpenAt.{DeviceAt, InterfaceAt, device_with, interface_with}
+use Rattle.usb_answers.specs.Answer.{answer_with, condition_answer, if_open}
+use Rattle.usb_answers.specs.Controls.{device_of_target, target_of, bars_control, control_called, control_on, on_control, came_line}
+use Rattle.usb_answers.specs.declared.call.ControlCall.{ControlCall}
 use Rattle.usb_answers.specs.SessionState.{SessionState, IsSound}
 use Rattle.usb_answers.specs.Relation.{Represents}
 use Rattle.usb_answers.specs.Answered.{Answered, Answers}
@@ -38,7 +38,7 @@ use Rattle.usb_answers.specs.TargetCalls.{DevicesStand, InterfacesStand, KeepsHa
 use Rattle.usb_answers.proofs.Answering.{told-answered, host_is}
 use Rattle.usb_answers.proofs.Called.{KeepsSession, sound-host, represents-host}
 use Rattle.usb_answers.proofs.ControlHosts.{spare-rested}
-use Rattle.usb_answers.proofs.Lent.{rested-answered, stands-lent}
+use Rattle.usb_answers.proofs.Lent.{stands-lent}
 use Rattle.usb_names.proofs.NameLemmas.{found_at}
 use Rattle.usb_answers.proofs.NamedKeys.{OpensNone}
 
@@ -155,19 +155,19 @@ spare-controlled S s steps at now last view is keeps rest room =
     ap (λ (h : HostState). h.kernel.spare + length steps) rest ∙ spare-rested (record S.host { steps = steps }) now k.front k.steps k.spare room
 
 -- whom the state has under a name
-number-at : (key : ℕ) (o : Option OpenDevice) → option_map (λ (x : DeviceAt). x.opened.device) (option_map (λ o. record { key = key; opened = o }) o) ≡ option_map (λ (o : OpenDevice). o.device) o
+number-at : (key : ℕ) (o : Option OpenDevice) → option_map (λ (x : DeviceAt). x.opened.device) (option_map (device_with key) o) ≡ option_map (λ (o : OpenDevice). o.device) o
 number-at key None = refl
 number-at key (Some o) = refl
 
-number-by : (devices : List (Option OpenDevice)) (o : Option ℕ) → option_map (λ (x : DeviceAt). x.opened.device) (option_and_then (λ key. option_map (λ o. record { key = key; opened = o }) (value_at devices key)) o) ≡ option_map (λ (o : OpenDevice). o.device) (option_and_then (λ key. value_at devices key) o)
+number-by : (devices : List (Option OpenDevice)) (o : Option ℕ) → option_map (λ (x : DeviceAt). x.opened.device) (option_and_then (λ key. option_map (device_with key) (value_at devices key)) o) ≡ option_map (λ (o : OpenDevice). o.device) (option_and_then (λ key. value_at devices key) o)
 number-by devices None = refl
 number-by devices (Some key) = number-at key (value_at devices key)
 
-claimed-at : (f : InterfaceState) (o : Option ClaimedInterface) → option_map (λ (x : InterfaceAt). x.claimed.device) (option_map (λ c. record { handle = f; claimed = c }) o) ≡ option_map (λ (c : ClaimedInterface). c.device) o
+claimed-at : (f : InterfaceState) (o : Option ClaimedInterface) → option_map (λ (x : InterfaceAt). x.claimed.device) (option_map (interface_with f) o) ≡ option_map (λ (c : ClaimedInterface). c.device) o
 claimed-at f None = refl
 claimed-at f (Some c) = refl
 
-claimed-by : (interfaces : List (Option ClaimedInterface)) (o : Option InterfaceState) → option_map (λ (x : InterfaceAt). x.claimed.device) (option_and_then (λ (f : InterfaceState). option_map (λ c. record { handle = f; claimed = c }) (value_at interfaces f.key)) o) ≡ option_map (λ (c : ClaimedInterface). c.device) (option_and_then (λ (f : InterfaceState). value_at interfaces f.key) o)
+claimed-by : (interfaces : List (Option ClaimedInterface)) (o : Option InterfaceState) → option_map (λ (x : InterfaceAt). x.claimed.device) (option_and_then (λ (f : InterfaceState). option_map (interface_with f) (value_at interfaces f.key)) o) ≡ option_map (λ (c : ClaimedInterface). c.device) (option_and_then (λ (f : InterfaceState). value_at interfaces f.key) o)
 claimed-by interfaces None = refl
 claimed-by interfaces (Some f) = claimed-at f (value_at interfaces f.key)
 
@@ -178,34 +178,35 @@ number-of state (Interface i) = claimed-by state.host.interfaces (named state.in
 pub number-is : (s : SessionState) (state : State) (target : ControlTarget) → Represents s state → device_of_target state target ≡ number_of_target s.host s.devices s.interfaces target
 number-is s state target r = number-of state target ∙ ap (λ (v : SessionState). number_of_target v.host v.devices v.interfaces target) (sym r.is)
 
--- the state behind the call
-control-made : (s : SessionState) (state : State) (host now made : HostState) (before text line : List ℕ) (b : Bool) → Represents (record s { host = host }) (with_host state host) → now ≡ cond b host made → text ≡ before ++ cond b condition_line line → Answered (record s { host = now }) before text (cond b (barred (with_host state host)) (told (with_host state made) line))
-control-made s state host now made before text line true r is printed =
-    told-answered (record s { host = now }) (with_host state host) before text condition_line (subst (λ (h : HostState). Represents (record s { host = h }) (with_host state host)) (sym is) r) printed
-control-made s state host now made before text line false r is printed =
+-- the state behind a call: it may be barred
+control-made : (s : SessionState) (state : State) (now made : HostState) (before text line : List ℕ) (b : Bool) → Represents s state → now ≡ cond b s.host made → text ≡ before ++ cond b condition_line line → Answered (record s { host = now }) before text (cond b (condition_answer state) (answer_with (with_host state made) line))
+control-made s state now made before text line true r is printed =
+    told-answered (record s { host = now }) state before text condition_line (subst (λ (h : HostState). Represents (record s { host = h }) state) (sym is) r) printed
+control-made s state now made before text line false r is printed =
     told-answered (record s { host = now }) (with_host state made) before text line
-    (subst (λ (h : HostState). Represents (record s { host = h }) (with_host state made)) (sym is) (represents-host (record s { host = host }) (with_host state host) made r)) printed
+    (subst (λ (h : HostState). Represents (record s { host = h }) (with_host state made)) (sym is) (represents-host s state made r)) printed
 
-answered-by : (s : SessionState) (state : State) (host now : HostState) (before text : List ℕ) (after : HostState → ℕ → HostState) (line : HostState → ℕ → List ℕ) (o : Option ℕ) → Represents (record s { host = host }) (with_host state host) → TargetAnswered host now before text after line o → Answered (record s { host = host_rest now }) before text (if_open o (λ device. then_rested (control_on after line (with_host state host) device)) (barred (rested (with_host state host))))
-answered-by s state host now before text after line None r a =
-    rested-answered (record s { host = now }) now before text (barred (with_host state host)) refl
-    (told-answered (record s { host = now }) (with_host state host) before text condition_line (subst (λ (h : HostState). Represents (record s { host = h }) (with_host state host)) (sym a.host) r) a.line)
-answered-by s state host now before text after line (Some device) r a =
-    rested-answered (record s { host = now }) now before text (control_on after line (with_host state host) device) refl
-    (control-made s state host now (after host device) before text (line host device) (bars_control host.kernel.past) r a.host a.line)
+-- or what it names is not open
+module _ (call : ControlCall) where
+  abbrev after : HostState → ℕ → HostState
+  after h n = (control_called call h n).host
 
--- the answer of the line
-pub answers-controlled : {E : Type 0} (S s : SessionState) (steps : List KernelStep) (at now last : HostState) (before text : String Global) (result : Result Unit E) (after : HostState → ℕ → HostState) (line : HostState → ℕ → List ℕ) (target : ControlTarget) → s ≡ S → at ≡ record s.host { steps = steps } → TargetAnswers at now before text result after line (number_of_target at s.devices s.interfaces target) → last ≡ host_rest now → Answers S (record s { host = last }) before text result (λ state. control_answer after line state target steps)
-unfolding control_answer stepped_all
-answers-controlled S s steps at now last before text (Err error) after line target view is answered rest = tt
-answers-controlled S s steps at now last before text (Ok done) after line target view is answered rest =
-    λ state r.
-    let here = subst (λ v. Represents v state) (sym view) r in
-    let same : at ≡ record state.host { steps = steps } = is ∙ ap (λ (h : HostState). record h { steps = steps }) (host_is s state here) in
-    let number : number_of_target at s.devices s.interfaces target ≡ device_of_target state target =
-    ap (λ (h : HostState). number_of_target h s.devices s.interfaces target) is ∙ sym (number-is s state target here) in
-    let given = subst (λ o. TargetAnswered at now (string_bytes before) (string_bytes text) after line o) number answered in
-    let lends : Represents (record s { host = record state.host { steps = steps } }) (lent state steps) = represents-host s state (record state.host { steps = steps }) here in
-    subst (λ (h : HostState). Answered (record s { host = h }) (string_bytes before) (string_bytes text) (if_open (device_of_target state target) (λ device. then_rested (control_on after line (lent state steps) device)) (barred (stepped_all state steps)))) (sym rest)
-    (answered-by s state (record state.host { steps = steps }) now (string_bytes before) (string_bytes text) after line (device_of_target state target) lends
-    (subst (λ (h : HostState). TargetAnswered h now (string_bytes before) (string_bytes text) after line (device_of_target state target)) same given))
+  abbrev print : HostState → ℕ → List ℕ
+  print h n = (control_called call h n).line
+
+  answered-by : (s : SessionState) (state : State) (now : HostState) (before text : List ℕ) (o : Option ℕ) → Represents s state → TargetAnswered state.host now before text after print o → Answered (record s { host = now }) before text (if_open o (control_on call state) (condition_answer state))
+  answered-by s state now before text None r a =
+      told-answered (record s { host = now }) state before text condition_line (subst (λ (h : HostState). Represents (record s { host = h }) state) (host_is s state r ∙ sym a.host) r) a.line
+  answered-by s state now before text (Some n) r a =
+      control-made s state now (after state.host n) before text (print state.host n) (bars_control state.host.kernel.past) r (a.host ∙ ap (λ (h : HostState). cond (bars_control state.host.kernel.past) h (after state.host n)) (sym (host_is s state r))) a.line
+
+  -- what a control transfer answers, where the session has this host
+  pub answers-controlled : {E : Type 0} (s : SessionState) (at now : HostState) (before text : String Global) (result : Result Unit E) → TargetAnswers at now before text result after print (number_of_target at s.devices s.interfaces (target_of call)) → Answers (record s { host = at }) (record s { host = now }) before text result (λ state. on_control state call)
+  unfolding on_control
+  answers-controlled s at now before text (Err error) answered = tt
+  answers-controlled s at now before text (Ok done) answered =
+      λ state r.
+      let lent : SessionState = record s { host = at } in
+      answered-by lent state now (string_bytes before) (string_bytes text) (device_of_target state (target_of call)) r
+      (subst (λ (h : HostState). TargetAnswered h now (string_bytes before) (string_bytes text) after print (device_of_target state (target_of call))) (host_is lent state r)
+      (subst (λ o. TargetAnswered at now (string_bytes before) (string_bytes text) after print o) (sym (number-is lent state (target_of call) r)) answered))

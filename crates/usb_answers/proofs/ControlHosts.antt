@@ -163,11 +163,11 @@ leaves-taken h f idle some stands =
 
 -- so it was after a wait with the steps of a line
 module _ (host : HostState) (steps : List KernelStep) (f : FutureState) (some : IsSome f.ticket) (stands : StandsFuture host f) where
-  abbrev lent : HostState
-  lent = record host { steps = steps }
+  abbrev with_steps : HostState
+  with_steps = record host { steps = steps }
 
   abbrev ready : HostState
-  ready = future_awaited lent f
+  ready = future_awaited with_steps f
 
   abbrev gone : HostState
   gone = future_taken ready f
@@ -175,8 +175,8 @@ module _ (host : HostState) (steps : List KernelStep) (f : FutureState) (some : 
   pub stands-lent_host : StandsFuture (record host { steps = steps }) f
   stands-lent_host = record { on_its_way = λ t is. let way = stands.on_its_way t is in record { key_is_open = way.key_is_open; held = way.held; due = way.due } }
 
-  waited : HostGoesOn lent ready
-  waited = went-future lent f
+  waited : HostGoesOn with_steps ready
+  waited = went-future with_steps f
 
   waited-session : KeepsSession host (host_rest gone)
   waited-session =
@@ -191,7 +191,7 @@ module _ (host : HostState) (steps : List KernelStep) (f : FutureState) (some : 
 
   waited-others : KeepsOthers (bus_of host) (bus_of (host_rest gone)) f.key
   waited-others =
-      let others = others-taken ready f (future-went lent ready f waited stands-lent_host) in
+      let others = others-taken ready f (future-went with_steps ready f waited stands-lent_host) in
       let later = (went-rest gone).later in
       record {
         tickets = λ t k apart is. ap (λ (o : ℕ → Option ℕ). o t) later.owner ∙ others.tickets t k apart (ap (λ (o : ℕ → Option ℕ). o t) waited.later.owner ∙ is);
@@ -215,4 +215,4 @@ module _ (host : HostState) (steps : List KernelStep) (f : FutureState) (some : 
   pub spare-waited : length steps ≤ host.kernel.spare → (host_rest (future_taken (future_awaited (record host { steps = steps }) f) f)).kernel.spare + length steps ≡ host.kernel.spare
   spare-waited room =
       let stays = stays-taken ready f in
-      spare-rested lent gone waited.line.front (waited.line.steps ∙ ap (λ (ss : List KernelStep). waited.line.front ++ ss) (sym stays.line.steps)) (stays.line.spare ∙ waited.line.spare) room
+      spare-rested with_steps gone waited.line.front (waited.line.steps ∙ ap (λ (ss : List KernelStep). waited.line.front ++ ss) (sym stays.line.steps)) (stays.line.spare ∙ waited.line.spare) room

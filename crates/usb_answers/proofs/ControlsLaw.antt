@@ -14,14 +14,21 @@ use Rattle.usb_names.specs.Names.{named, freed}
 use Rattle.usb_names.proofs.NameLemmas.{named-freed, named-freed_other, named-replicate}
 use Rattle.usb_script.specs.declared.item.Item.{Item}
 use Rattle.usb_answers.specs.State.{State}
+use Rattle.usb_answers.specs.Calls.{call_of}
 use Rattle.usb_answers.specs.Answers.{answer}
+use Rattle.usb_answers.specs.ReaderAt.{reader_place}
+use Rattle.usb_answers.specs.WriterAt.{writer_place}
+use Rattle.usb_answers.specs.Closes.{closed}
+use Rattle.usb_answers.specs.Readers.{reader_closed}
+use Rattle.usb_answers.specs.Writers.{writer_closed}
+use Rattle.usb_answers.specs.Below.{below}
 use Rattle.usb_answers.specs.Ends.{readers_closed, writers_closed, endpoints_closed, future_closed_at, future_closed_under, futures_closed, ended, all_closed}
 use Rattle.usb_answers.specs.Output.{start, behind, last_host, final_host}
 use Rattle.usb_answers.specs.Served.{control_ticket, control_tickets_from, control_tickets}
 use Rattle.usb_answers.specs.ControlAnswers.{ControlAnswer, listed, answered_by, control_answers_from, control_answers}
 use Rattle.usb_answers.specs.ClosedFutures.{ClosedFuture, future_closed_as, future_closed_by, futures_at_end, closed_futures_from, closed_futures}
 use Rattle.usb_answers.specs.ControlsServed.{IsAnsweredAsItCame, IsGivenUp, tickets_parted, ScriptsServeControls}
-use Rattle.usb_answers.proofs.Does.{Parted, handed_of, parted_of, parted-handed, parted-parted}
+use Rattle.usb_answers.proofs.Does.{Closing, Parted, handed_of, parted_of, parted-handed, parted-parted}
 use Rattle.usb_answers.proofs.ControlLines.{future_parted, parted_by, control_moves, moves_parting, future_closed_under-does}
 use Rattle.usb_answers.proofs.EndpointLines.{closed-does}
 use Rattle.usb_answers.proofs.ReaderDoes.{reader_closed-does}
@@ -29,7 +36,7 @@ use Rattle.usb_answers.proofs.WriterDoes.{writer_closed-does}
 use Rattle.usb_answers.proofs.EveryLine.{answer-does}
 use Rattle.usb_answers.proofs.OrderLemmas.{goes-keeps, ended-given, given-within}
 use Rattle.usb_answers.proofs.TimesLemmas.{times, times-append, counts-times, ticket_in, times_awaited, times-none, times-replicate}
-use Rattle.usb_answers.proofs.StepLemmas.{Inv, few-taken, answer-step, handed-moves, none-handed, future_closed-step}
+use Rattle.usb_answers.proofs.StepLemmas.{Inv, below-step, few-taken, answer-step, handed-moves, none-handed, future_closed-step}
 use Rattle.usb_answers.proofs.HandleLemmas.{readers-step, writers-step, ends-step, futures-step, end-quiet, inv-start, inv-of, runs-go}
 use Rattle.usb_answers.proofs.FuturesAwaited.{AllAwait, Parting, parting-then, parting-same, acts-parting}
 use Rattle.usb_answers.proofs.ControlCame.{tickets_told, tickets_closed, future-given, both_by, both-parted, Came, came-on, Gave, gave-on, answer-tells, answer-came, answer-gives, closed_under-gives}
@@ -41,38 +48,27 @@ closed-append : (t : ℕ) (xs ys : List ClosedFuture) → times t (tickets_close
 closed-append t xs ys = ap (times t) (map-append (λ (x : ClosedFuture). x.ticket) xs ys) ∙ times-append t (tickets_closed xs) (tickets_closed ys)
 
 -- over a line
-line-parting : (state : State) (line : Item) → Inv state → AllAwait state → Parting state (answer state line).state (control_moves state line (answer state line))
+line-parting : (state : State) (line : Item) → Inv state → AllAwait state → Parting state (answer state line).state (control_moves state (call_of line) (answer state line))
 line-parting state line inv all = acts-parting (few-taken state inv) (answer-does state (λ e. []) line) inv all
 
 line-adds : (state : State) (line : Item) (t : ℕ) → Inv state → AllAwait state
-    → times t (tickets_told (answered_by state line (answer state line))) + times t (tickets_closed (future_closed_by state line (answer state line))) + times_awaited t (answer state line).state.futures ≡ times_awaited t state.futures + times t (control_ticket state line)
+    → times t (tickets_told (answered_by state (call_of line) (answer state line))) + times t (tickets_closed (future_closed_by state (call_of line) (answer state line))) + times_awaited t (answer state line).state.futures ≡ times_awaited t state.futures + times t (control_ticket state line)
 line-adds state line t inv all =
     let a = answer state line in
+    let call = call_of line in
     let parting = (line-parting state line inv all).adds t in
-    let parted : times t (parted_of (control_moves state line a)) ≡ times t (parted_by state line a) = ap (times t) (parted-handed (control_ticket state line) (map Parted (parted_by state line a)) ∙ parted-parted (parted_by state line a)) in
-    let handed : times t (handed_of (control_moves state line a)) ≡ times t (control_ticket state line) = ap (times t) (handed-moves state line a) in
-    let both : times t (both_by state line a) ≡ times t (parted_by state line a) = ap (times t) (both-parted state line a) in
-    let parts = times-append t (tickets_told (answered_by state line a)) (tickets_closed (future_closed_by state line a)) in
+    let parted : times t (parted_of (control_moves state call a)) ≡ times t (parted_by state call a) = ap (times t) (parted-handed (control_ticket state line) (map Parted (parted_by state call a)) ∙ parted-parted (parted_by state call a)) in
+    let handed : times t (handed_of (control_moves state call a)) ≡ times t (control_ticket state line) = ap (times t) (handed-moves state call a) in
+    let both : times t (both_by state call a) ≡ times t (parted_by state call a) = ap (times t) (both-parted state call a) in
+    let parts = times-append t (tickets_told (answered_by state call a)) (tickets_closed (future_closed_by state call a)) in
     omega arith
 
 -- the end closes readers, writers and endpoints
-readers-parting : (state : State) (k : ℕ) → Inv state → AllAwait state → Parting state (readers_closed state k) []
-readers-parting state zero inv all = parting-same state state refl (extends-same state.host.kernel.past) all
-readers-parting state (suc k) inv all =
-    let first = readers-parting state k inv all in
-    parting-then first (acts-parting {few = Unit {0}} tt (reader_closed-does (readers_closed state k) k (λ e. [])) (readers-step state (λ e. []) k inv).inv first.awaits)
-
-writers-parting : (state : State) (k : ℕ) → Inv state → AllAwait state → Parting state (writers_closed state k) []
-writers-parting state zero inv all = parting-same state state refl (extends-same state.host.kernel.past) all
-writers-parting state (suc k) inv all =
-    let first = writers-parting state k inv all in
-    parting-then first (acts-parting {few = Unit {0}} tt (writer_closed-does (writers_closed state k) k (λ e. [])) (writers-step state (λ e. []) k inv).inv first.awaits)
-
-endpoints-parting : (state : State) (k : ℕ) → Inv state → AllAwait state → Parting state (endpoints_closed state k) []
-endpoints-parting state zero inv all = parting-same state state refl (extends-same state.host.kernel.past) all
-endpoints-parting state (suc k) inv all =
-    let first = endpoints-parting state k inv all in
-    parting-then first (acts-parting {few = Unit {0}} tt (closed-does (endpoints_closed state k) k (λ e. [])) (ends-step state (λ e. []) k inv).inv first.awaits)
+below-parting : (act : State → ℕ → State) (place : ℕ → ℕ) → Closing act place → (state : State) (k : ℕ) → Inv state → AllAwait state → Parting state (below act state k) []
+below-parting act place closing state zero inv all = parting-same state state refl (extends-same state.host.kernel.past) all
+below-parting act place closing state (suc k) inv all =
+    let first = below-parting act place closing state k inv all in
+    parting-then first (acts-parting tt (closing (below act state k) k (λ e. [])) (below-step act place closing state (λ e. []) k inv).inv first.awaits)
 
 -- and then the futures
 record FuturesEnd (state : State) (k : ℕ) : Type 0 where
@@ -138,11 +134,11 @@ control-end state inv all names =
     let written = writers_closed read 64 in
     let mid = endpoints_closed written 64 in
     let last = futures_closed mid 64 in
-    let one_ = readers-parting state 64 inv all in
+    let one_ = below-parting reader_closed reader_place reader_closed-does state 64 inv all in
     let inv_read = (readers-step state (λ e. []) 64 inv).inv in
-    let two = parting-then one_ (writers-parting read 64 inv_read one_.awaits) in
+    let two = parting-then one_ (below-parting writer_closed writer_place writer_closed-does read 64 inv_read one_.awaits) in
     let inv_written = (writers-step read (λ e. []) 64 inv_read).inv in
-    let three = parting-then two (endpoints-parting written 64 inv_written two.awaits) in
+    let three = parting-then two (below-parting closed (λ e. e) closed-does written 64 inv_written two.awaits) in
     let inv_mid = (ends-step written (λ e. []) 64 inv_written).inv in
     let futures = futures-end mid 64 inv_mid three.awaits in
     record {
@@ -164,8 +160,8 @@ control-runs state (line ∷ items) inv all names =
     let rest = control-runs next items step.inv parting.awaits (parting.names ∙ names) in
     let last = last_host next items in
     let goes = runs-go next items step.inv in
-    let told_now = answered_by state line a in
-    let given_now = future_closed_by state line a in
+    let told_now = answered_by state (call_of line) a in
+    let given_now = future_closed_by state (call_of line) a in
     record {
       adds = λ t.
           let here = line-adds state line t inv all in

@@ -8,13 +8,15 @@ use Rattle.usb_host.specs.HostState.{HostState}
 use Rattle.usb_script.specs.declared.item.Item.{Item}
 use Rattle.usb_script.specs.ItemKinds.{is_call, steps_in}
 use Rattle.usb_lines.specs.Calls.{condition_line}
+use Rattle.usb_answers.specs.declared.call.Call.{Call}
 use Rattle.usb_answers.specs.State.{State}
-use Rattle.usb_answers.specs.Answer.{barred}
+use Rattle.usb_answers.specs.Answer.{condition_answer}
 use Rattle.usb_answers.specs.Steps.{stepped_all}
 use Rattle.usb_answers.specs.SessionState.{SessionState}
 use Rattle.usb_answers.specs.Relation.{Represents}
 use Rattle.usb_answers.specs.Crowded.{is_crowded, bars_line}
-use Rattle.usb_answers.specs.LineAnswers.{line_answer}
+use Rattle.usb_answers.specs.Calls.{call_of}
+use Rattle.usb_answers.specs.CallAnswers.{call_answer, line_answer}
 use Rattle.usb_answers.specs.Answers.{answer}
 use Rattle.usb_answers.specs.Answered.{Answered, Answers}
 use Rattle.usb_answers.proofs.Answering.{host_is}
@@ -33,7 +35,7 @@ crowds item b same yes_ v state is = subst (λ (w : Bool). v ≡ (w && is_crowde
 -- the steps of a barred call are applied
 pub barred-answered : {E : Type 0} (old new : SessionState) (before after : String Global) (result : Result Unit E) (steps : List KernelStep) (item : Item) → steps ≡ steps_in item
     → ((state : State) → Represents old state → Represents new (stepped_all state steps)) → OnOk result (string_bytes after ≡ string_bytes before ++ condition_line)
-    → Answers old new before after result (λ state. barred (stepped_all state (steps_in item)))
+    → Answers old new before after result (λ state. condition_answer (stepped_all state (steps_in item)))
 barred-answered old new before after (Ok done) steps item same stands text = λ state r.
     record { state = subst (λ (s : List KernelStep). Represents new (stepped_all state s)) same (stands state r); line = text }
 barred-answered old new before after (Err error) steps item same stands text = tt
@@ -41,18 +43,19 @@ barred-answered old new before after (Err error) steps item same stands text = t
 -- a line is barred, or it is not
 module _ (old new : SessionState) (before after : String Global) (item : Item) where
   answered-by : (b : Bool) (state : State) → b ≡ bars_line state item
-      → Answered new (string_bytes before) (string_bytes after) (if b then barred (stepped_all state (steps_in item)) else line_answer state item)
+      → Answered new (string_bytes before) (string_bytes after) (if b then condition_answer (stepped_all state (steps_in item)) else line_answer state item)
       → Answered new (string_bytes before) (string_bytes after) (answer state item)
   unfolding answer
   answered-by b state same is =
-      subst (λ (v : Bool). Answered new (string_bytes before) (string_bytes after) (if v then barred (stepped_all state (steps_in item)) else line_answer state item)) same is
+      subst (λ (v : Bool). Answered new (string_bytes before) (string_bytes after) (if v then condition_answer (stepped_all state (steps_in item)) else line_answer state item)) same is
 
   pub answers-barred : {E : Type 0} (result : Result Unit E) (b : Bool) → ((state : State) → Represents old state → b ≡ bars_line state item) → b ≡ true
-      → Answers old new before after result (λ state. barred (stepped_all state (steps_in item))) → Answers old new before after result (λ state. answer state item)
+      → Answers old new before after result (λ state. condition_answer (stepped_all state (steps_in item))) → Answers old new before after result (λ state. answer state item)
   answers-barred (Ok done) b bars yes_ answered = λ state r. answered-by true state (sym yes_ ∙ bars state r) (answered state r)
   answers-barred (Err error) b bars yes_ answered = tt
 
   pub answers-line : {E : Type 0} (result : Result Unit E) (b : Bool) → ((state : State) → Represents old state → b ≡ bars_line state item) → b ≡ false
-      → Answers old new before after result (λ state. line_answer state item) → Answers old new before after result (λ state. answer state item)
-  answers-line (Ok done) b bars no_ answered = λ state r. answered-by false state (sym no_ ∙ bars state r) (answered state r)
-  answers-line (Err error) b bars no_ answered = tt
+      → (call : Call) → call ≡ call_of item → Answers old new before after result (λ state. call_answer state call) → Answers old new before after result (λ state. answer state item)
+  answers-line (Ok done) b bars no_ call same answered = λ state r.
+      answered-by false state (sym no_ ∙ bars state r) (subst (λ (x : Call). Answered new (string_bytes before) (string_bytes after) (call_answer state x)) same (answered state r))
+  answers-line (Err error) b bars no_ call same answered = tt

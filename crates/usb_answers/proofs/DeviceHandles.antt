@@ -1,8 +1,7 @@
 -- Handles of devices are cloned and closed.
-use Rattle.std.proofs.Common.{◌≡◌, ℕ, arith, Bool, true, false, List, ◌++◌, length, Option, Some, None, Result, Ok, Err, String, string_bytes, refl, ap, sym, ◌∙◌, subst, inl, inr}
-use Rattle.std.specs.Prelude.{◌==◌, OnOk, is_some}
+use Rattle.std.proofs.Common.{◌≡◌, ℕ, arith, true, false, List, length, Option, Some, None, refl, ap, sym, ◌∙◌, subst, inl, inr}
+use Rattle.std.specs.Prelude.{◌==◌}
 use Rattle.std.specs.List.{count_by}
-use Rattle.std.specs.declared.alloc.Global.{Global}
 use Rattle.std.proofs.lemmas.Bool.{eq-eqb, ne_eqb}
 use Rattle.usb_lines.specs.Calls.{ok_line, condition_line}
 use Rattle.usb_ledger.specs.OwnerRows.{one_if}
@@ -13,15 +12,11 @@ use Rattle.usb_host.specs.Handles.{device_cloned, device_closed}
 use Rattle.usb_device.proofs.HeldDevices.{held-device_cloned, held-device_closed}
 use Rattle.usb_names.specs.Names.{named, is_free, freed, set_name}
 use Rattle.usb_answers.specs.State.{State}
-use Rattle.usb_answers.specs.Answer.{barred, ok_answer, if_open}
-use Rattle.usb_answers.specs.Answered.{Answered, Answers}
 use Rattle.usb_answers.specs.Clones.{clone_device_answer}
-use Rattle.usb_answers.specs.Closes.{close_device_answer, without_device}
-use Rattle.usb_answers.specs.Ends.{name_closed, device_closed_at}
 use Rattle.usb_answers.specs.SessionState.{SessionState, IsSound, is_device_of}
 use Rattle.usb_answers.specs.Relation.{Represents}
 use Rattle.usb_names.proofs.NameLemmas.{length-set_name, length-freed, names-set}
-use Rattle.usb_answers.proofs.Answering.{Gives, barred-gives, told-answered, host_is}
+use Rattle.usb_answers.proofs.Answering.{Gives, barred-gives, host_is}
 use Rattle.usb_answers.proofs.Called.{names-freed}
 use Rattle.usb_answers.proofs.CountedDevices.{count-opened, count-closed, devices-changed, stands-changed}
 use Rattle.usb_answers.proofs.SoundDevices.{sound-device}
@@ -104,31 +99,3 @@ clone_device-gives s state now after n d key at free is put r =
     let host : now ≡ device_cloned state.host key = is ∙ ap (λ (h : HostState). device_cloned h key) (host_is s state r) in
     let names : after ≡ set_name state.devices n key = put ∙ ap (λ (v : SessionState). set_name v.devices n key) r.is in
     rw (device_is s state d (Some key) r at, here) (record { state = represents-devices s state now (device_cloned state.host key) after (set_name state.devices n key) r host names; same = refl })
-
--- a handle of a device is closed
-was_open : (s : SessionState) (state : State) (d : ℕ) (before after : List ℕ) (o : Option ℕ) → is_some o ≡ true → Represents s (device_closed_at state d o) → after ≡ before ++ ok_line → Answered s before after (if_open o (λ key. ok_answer (without_device state d key)) (barred state))
-was_open s state d before after None some r is = absurd (cc)
-was_open s state d before after (Some key) some r is = told-answered s (without_device state d key) before after ok_line r is
-
-was_free : (s : SessionState) (state : State) (d : ℕ) (before after : List ℕ) (o : Option ℕ) → is_some o ≡ false → Represents s (device_closed_at state d o) → after ≡ before ++ condition_line → Answered s before after (if_open o (λ key. ok_answer (without_device state d key)) (barred state))
-was_free s state d before after None some r is = told-answered s state before after condition_line r is
-was_free s state d before after (Some key) some r is = absurd (cc)
-
-some_is : (S : SessionState) (state : State) (n : ℕ) (b : Bool) → Represents S state → is_some (named S.devices n) ≡ b → is_some (named state.devices n) ≡ b
-some_is S state n b r is = ap (λ (v : SessionState). is_some (named v.devices n)) (sym r.is) ∙ is
-
-pub close_device-answered : {E : Type 0} (S s : SessionState) (n d : ℕ) (before text : String Global) (result : Result Unit E) → n ≡ d → is_some (named S.devices n) ≡ true → ((state : State) → Represents S state → Represents s (name_closed state n)) → OnOk result (string_bytes text ≡ string_bytes before ++ ok_line) → Answers S s before text result (λ state. close_device_answer state d)
-unfolding close_device_answer name_closed
-close_device-answered S s n d before text (Err error) same some now is = tt
-close_device-answered S s n d before text (Ok done) same some now is =
-    λ state r.
-    subst (λ m. Answered s (string_bytes before) (string_bytes text) (if_open (named state.devices m) (λ key. ok_answer (without_device state m key)) (barred state))) same
-    (was_open s state n (string_bytes before) (string_bytes text) (named state.devices n) (some_is S state n true r some) (now state r) is)
-
-pub close_device-barred : {E : Type 0} (S s : SessionState) (n d : ℕ) (before text : String Global) (result : Result Unit E) → n ≡ d → is_some (named S.devices n) ≡ false → ((state : State) → Represents S state → Represents s (name_closed state n)) → OnOk result (string_bytes text ≡ string_bytes before ++ condition_line) → Answers S s before text result (λ state. close_device_answer state d)
-unfolding close_device_answer name_closed
-close_device-barred S s n d before text (Err error) same some now is = tt
-close_device-barred S s n d before text (Ok done) same some now is =
-    λ state r.
-    subst (λ m. Answered s (string_bytes before) (string_bytes text) (if_open (named state.devices m) (λ key. ok_answer (without_device state m key)) (barred state))) same
-    (was_free s state n (string_bytes before) (string_bytes text) (named state.devices n) (some_is S state n false r some) (now state r) is)

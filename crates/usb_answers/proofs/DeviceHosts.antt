@@ -39,7 +39,7 @@ pub record KeepsAside (old new : HostState) : Type 0 where
   pub past : new.kernel.past ≡ old.kernel.past
   pub spare : new.kernel.spare ≡ old.kernel.spare
 
-handles-same : (h : HostState) → KeepsHandles h h
+pub handles-same : (h : HostState) → KeepsHandles h h
 handles-same h = record { steps = refl; devices = λ k. refl; interfaces = refl; endpoints = refl; tickets = refl; goes = extends-same h.kernel.past }
 
 aside-same : (h : HostState) → KeepsAside h h

@@ -1,9 +1,10 @@
 -- What a line does.
 use Rattle.std.proofs.Common.{◌≡◌, ◌≢◌, ℕ, ◌≤◌, Bool, true, false, List, [], ◌∷◌, ◌++◌, map, codes, length, Option, Some, None, Result, Ok, Err, refl, ap, sym, ◌∙◌, subst, slice_get}
-use Rattle.std.specs.Prelude.{nat_eq, if◌then◌else◌}
+use Rattle.std.specs.Prelude.{nat_eq, option_and_then, if◌then◌else◌}
 use Rattle.std.specs.List.{starts_with}
+use Rattle.std.specs.Option.{option_map}
 use Rattle.std.proofs.lemmas.Bool.{cond_both}
-use Rattle.std.proofs.lemmas.Option.{none-some}
+use Rattle.std.proofs.lemmas.Option.{none-some, same_Some}
 use Rattle.usb_xfer.specs.BufferState.{BufferState}
 use Rattle.usb_xfer.specs.declared.transfer.Completion.{Completion}
 use Rattle.usb_error.specs.ErrorState.{ErrorState}
@@ -21,14 +22,14 @@ use Rattle.usb_lines.specs.Completions.{done_line}
 use Rattle.usb_names.specs.Names.{named, is_free, is_free_place, freed, set_name, nothing}
 use Rattle.usb_names.proofs.NameLemmas.{named_of, free_place, slice_get-change_other}
 use Rattle.usb_answers.specs.State.{State, Endpoint, tickets_of, with_host}
-use Rattle.usb_answers.specs.Answer.{Answer, told, barred, ok_answer, error_answer, if_open}
+use Rattle.usb_answers.specs.Answer.{Answer, answer_with, condition_answer, ok_answer, error_answer, silent, if_open}
 use Rattle.usb_answers.specs.Submits.{submitted}
 use Rattle.usb_answers.specs.Polls.{taken_from}
 use Rattle.usb_answers.specs.Futures.{with_future}
 use Rattle.usb_answers.specs.Closes.{without_endpoint}
-use Rattle.usb_answers.specs.Steps.{lent, rested, stepped_all, then_rested}
+use Rattle.usb_answers.specs.Steps.{with_steps, steps_applied, stepped_all, then_applied, along_steps}
 use Rattle.usb_answers.specs.Accounts.{TookFew}
-use Rattle.usb_answers.specs.Served.{ClosedEndpoint}
+use Rattle.usb_answers.specs.Served.{ClosedEndpoint, closed_as, closed_under}
 use Rattle.usb_answers.specs.ControlAnswers.{listed}
 
 -- the host went on, and no endpoint or future was opened or closed, and no ticket submitted or taken
@@ -55,7 +56,7 @@ abbrev pub moved : State → ℕ → ℕ → Endpoint → State
 moved state from to g = record state { endpoints = set_name (freed state.endpoints from) to g }
 
 -- these are two places, and the other is free then, too
-pub places-differ : (es : List (Option Endpoint)) (from to : ℕ) (h : Endpoint) → named es from ≡ Some h → is_free es to ≡ true → to ≢ from
+places-differ : (es : List (Option Endpoint)) (from to : ℕ) (h : Endpoint) → named es from ≡ Some h → is_free es to ≡ true → to ≢ from
 places-differ es from to h here free same = absurd (none-some h (sym (named_of es to None (free_place es to free)) ∙ (ap (named es) same ∙ here)))
 
 pub free-still : (es : List (Option Endpoint)) (from to : ℕ) (h : Endpoint) → named es from ≡ Some h → is_free es to ≡ true → is_free (freed es from) to ≡ true
@@ -110,12 +111,13 @@ pub parted-parted : (ts : List ℕ) → parted_of (map Parted ts) ≡ ts
 parted-parted [] = refl
 parted-parted (t ∷ ts) = ap (λ us. t ∷ us) (parted-parted ts)
 
--- what an answer does from a state on, the endpoints that it closes, and what becomes of the control transfers of its line: the host goes
--- on, endpoints are opened (at no place of a reader or a writer) and tickets submitted, a reader or a writer takes a ticket (`reads`), a control
--- transfer is handed in (`starts`: its future is opened; `controls`: it is awaited and its ticket taken at once), and the host parts with the ticket of a future,
--- whose name is free then; and then there is nothing more, or a ticket is taken and its completion printed, or an endpoint is closed, or goes to
--- another place (`moves`: from then on a reader or a writer was made of it; at the place of one it was before). `few` is what is asked of the state
--- before the line: no more tickets of an endpoint were taken than it has. It may be used for all that is done (`fits`)
+-- what an answer does from a state on, the endpoints that it closes, and what becomes of the control transfers of its line: the
+-- host goes on, endpoints are opened (at no place of a reader or a writer) and tickets submitted, a reader or a writer takes a
+-- ticket (`reads`), a control transfer is handed in (`starts`: its future is opened; `controls`: it is awaited and its ticket
+-- taken at once), and the host parts with the ticket of a future, whose name is free then; and then there is nothing more, or a
+-- ticket is taken and its completion printed, or an endpoint is closed, or goes to another place (`moves`: from then on a reader
+-- or a writer was made of it; at the place of one it was before). `few` is what is asked of the state before the line: no more
+-- tickets of an endpoint were taken than it has. It may be used for all that is done (`fits`)
 pub data Acts (few : Type 0) (a : Answer) : State → List ClosedEndpoint → List ControlMove → Type 0 where
   goes : {state next : State} {closed : List ClosedEndpoint} {handed : List ControlMove} → Quiet state next → Acts few a next closed handed → Acts few a state closed handed
   opens : {state : State} {closed : List ClosedEndpoint} {handed : List ControlMove} (e : ℕ) (x : Endpoint) → is_free state.endpoints e ≡ true → x.tickets ≡ [] → x.taken ≡ 0
@@ -165,21 +167,21 @@ quiet-aside old new past same endpoints futures =
 pub quiet-same : (state : State) → Quiet state state
 quiet-same state = quiet-aside state state refl refl refl refl
 
-pub quiet-rested : (state : State) → Quiet state (rested state)
+quiet-rested : (state : State) → Quiet state (steps_applied state)
 quiet-rested state = record { keeps = on-rest state.host; count = rest-count state.host; endpoints = refl; futures = refl }
 
-pub quiet-lent : (state : State) (steps : List KernelStep) → Quiet state (lent state steps)
-quiet-lent state steps = quiet-aside state (lent state steps) refl refl refl refl
+pub quiet-lent : (state : State) (steps : List KernelStep) → Quiet state (with_steps state steps)
+quiet-lent state steps = quiet-aside state (with_steps state steps) refl refl refl refl
 
 pub quiet-stepped : (state : State) (steps : List KernelStep) → Quiet state (stepped_all state steps)
 unfolding stepped_all
-quiet-stepped state steps = quiet-then (quiet-lent state steps) (quiet-rested (lent state steps))
+quiet-stepped state steps = quiet-then (quiet-lent state steps) (quiet-rested (with_steps state steps))
 
 -- a line that only asks, and the lines of calls that give no value
-pub told-does : {few : Type 0} (state : State) (line : List ℕ) → says_done line ≡ false → Acts few (told state line) state [] []
+pub told-does : {few : Type 0} (state : State) (line : List ℕ) → says_done line ≡ false → Acts few (answer_with state line) state [] []
 told-does state line other = ends other (quiet-same state)
 
-pub barred-does : {few : Type 0} (state : State) → Acts few (barred state) state [] []
+pub barred-does : {few : Type 0} (state : State) → Acts few (condition_answer state) state [] []
 barred-does state = told-does state condition_line refl
 
 pub ok-does : {few : Type 0} (state : State) → Acts few (ok_answer state) state [] []
@@ -190,17 +192,29 @@ unfolding error_line
 error-does state error = told-does state (error_line error) refl
 
 -- a call on what is open under a name
-pub call-does : {X : Type 0} {state : State} (o : Option X) (call : X → Answer) → ((x : X) → o ≡ Some x → Does state (call x)) → Does state (if_open o call (barred state))
-call-does {state} None call does = barred-does state
-call-does (Some x) call does = does x refl
+pub named-does : {X : Type 0} {state : State} (o : Option X) (call : X → Answer) → ((x : X) → o ≡ Some x → Does state (call x)) → Does state (if_open o call (condition_answer state))
+named-does {state} None call does = barred-does state
+named-does (Some x) call does = does x refl
 
--- one that asks what is printed
-pub ask-does : {X : Type 0} {state : State} (o : Option X) (line : X → List ℕ) → ((x : X) → says_done (line x) ≡ false) → Does state (if_open o (λ x. told state (line x)) (barred state))
-ask-does {state} o line other = call-does o _ (λ x is. told-does state (line x) (other x))
+-- an endpoint is closed, where one is open at its place
+pub closing-does : {few : Type 0} (state : State) (e : ℕ) (lines : ℕ → List (List ℕ)) (a : Option Endpoint → Answer) → says_done (a None).line ≡ false → Quiet state (a None).state
+    → ((h : Endpoint) → says_done (a (Some h)).line ≡ false) → ((h : Endpoint) → Quiet (without_endpoint state e h) (a (Some h)).state) → Acts few (a (named state.endpoints e)) state (closed_under state lines e) []
+closing-does {few} state e lines a none same other quiet = by (named state.endpoints e) refl
+  where
+    by : (o : Option Endpoint) → named state.endpoints e ≡ o → Acts few (a o) state (closed_as state.host.kernel.past (lines e) o) []
+    by None here = ends none same
+    by (Some h) here = closes e h (lines e) here (other h) (quiet h)
 
--- one that goes down to the host, and tells what it answered
-pub host-does : {X : Type 0} {state : State} (o : Option X) (host : X → HostState) (line : X → List ℕ) → ((x : X) → says_done (line x) ≡ false) → ((x : X) → Quiet state (with_host state (host x))) → Does state (if_open o (λ x. told (with_host state (host x)) (line x)) (barred state))
-host-does o host line other quiet = call-does o _ (λ x is. ends (other x) (quiet x))
+-- an act of the end of a session closes what is open at a place, if anything is
+abbrev pub Closing : (State → ℕ → State) → (ℕ → ℕ) → Type 0
+Closing act place = (state : State) (n : ℕ) (lines : ℕ → List (List ℕ)) → Acts (Unit {0}) (silent (act state n)) state (closed_under state lines (place n)) []
+
+-- what is open under a name has its endpoint at its place
+pub endpoint-at : {X Y : Type 0} (p : Option X) (o : Option Endpoint) (both : X → Endpoint → Y) (its : Y → Endpoint) (y : Y) → ((x : X) (h : Endpoint) → its (both x h) ≡ h)
+    → option_and_then (λ x. option_map (both x) o) p ≡ Some y → o ≡ Some (its y)
+endpoint-at None o both its y same is = absurd (none-some y is)
+endpoint-at (Some x) None both its y same is = absurd (none-some y is)
+endpoint-at (Some x) (Some h) both its y same is = ap (λ g. Some g) (sym (same x h)) ∙ ap (λ z. Some (its z)) (same_Some (both x h) y is)
 
 -- it is done, or refused
 pub result-other : (r : Result (Unit {0}) ErrorState) → says_done (result_line r) ≡ false
@@ -209,18 +223,18 @@ result-other (Ok done) = refl
 result-other (Err error) = refl
 
 -- one that is allowed where a name is free, one that is barred for another reason, and one that may be refused
-pub free-does : {state : State} {free : Bool} {call : Answer} → (free ≡ true → Does state call) → Does state (if free then call else barred state)
-free-does {state} {free} {call} does = cond_both free call (barred state) (Does state) does (λ no_. barred-does state)
+pub free-does : {state : State} {free : Bool} {call : Answer} → (free ≡ true → Does state call) → Does state (if free then call else condition_answer state)
+free-does {state} {free} {call} does = cond_both free call (condition_answer state) (Does state) does (λ no_. barred-does state)
 
-pub bar-does : {state : State} {bars : Bool} {call : Answer} → (bars ≡ false → Does state call) → Does state (if bars then barred state else call)
-bar-does {state} {bars} {call} does = cond_both bars (barred state) call (Does state) (λ yes_. barred-does state) does
+pub bar-does : {state : State} {bars : Bool} {call : Answer} → (bars ≡ false → Does state call) → Does state (if bars then condition_answer state else call)
+bar-does {state} {bars} {call} does = cond_both bars (condition_answer state) call (Does state) (λ yes_. barred-does state) does
 
 pub try-does : {X : Type 0} {state : State} (call : Result X ErrorState → Answer) (tried : Result X ErrorState) → ((error : ErrorState) → call (Err error) ≡ error_answer state error) → ((x : X) → Does state (call (Ok x))) → Does state (call tried)
 try-does {state} call (Err error) refused does = subst (Does state) (sym (refused error)) (error-does state error)
 try-does call (Ok x) refused does = does x
 
 -- with the steps of its line
-pub rest-does : {few : Type 0} {a : Answer} {state : State} {closed : List ClosedEndpoint} {handed : List ControlMove} → Acts few a state closed handed → Acts few (then_rested a) state closed handed
+rest-does : {few : Type 0} {a : Answer} {state : State} {closed : List ClosedEndpoint} {handed : List ControlMove} → Acts few a state closed handed → Acts few (then_applied a) state closed handed
 rest-does (goes quiet rest) = goes quiet (rest-does rest)
 rest-does (opens e x free none zero_ apart rest) = opens e x free none zero_ apart (rest-does rest)
 rest-does (submits e b h here few rest) = submits e b h here few (rest-does rest)
@@ -234,6 +248,6 @@ rest-does {a} (takes e t h c here front came line quiet) = takes e t h c here fr
 rest-does {a} (closes e h lines here other quiet) = closes e h lines here other (quiet-then quiet (quiet-rested a.state))
 rest-does {a} (moves from to h g here free same read other quiet) = moves from to h g here free same read other (quiet-then quiet (quiet-rested a.state))
 
-pub stepping-does : {X : Type 0} {state : State} {steps : List KernelStep} (o : Option X) (call : X → Answer) → ((x : X) → o ≡ Some x → Does (lent state steps) (call x)) → Does state (if_open o (λ x. then_rested (call x)) (barred (stepped_all state steps)))
-stepping-does {state} {steps} None call does = ends refl (quiet-stepped state steps)
-stepping-does {state} {steps} (Some x) call does = goes (quiet-lent state steps) (rest-does (does x refl))
+pub along-does : {few : Type 0} {closed : List ClosedEndpoint} {handed : List ControlMove} (state : State) (steps : List KernelStep) (call : State → Answer)
+    → Acts few (call (with_steps state steps)) (with_steps state steps) closed handed → Acts few (along_steps state steps call) state closed handed
+along-does state steps call does = goes (quiet-lent state steps) (rest-does does)

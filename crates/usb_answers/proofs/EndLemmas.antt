@@ -1,5 +1,5 @@
--- The end of a session: interfaces and devices are closed.
-use Rattle.std.proofs.Common.{Bool, true, false, ◌≡◌, ◌≢◌, ℕ, ◌<◌, ◌≤◌, ◌+◌, ◌-◌, arith, suc, zero, List, [], ◌∷◌, ◌++◌, slice_get, length, Option, Some, None, refl, ap, sym, ◌∙◌, subst, inl, inr}
+-- The end of a session.
+use Rattle.std.proofs.Common.{Bool, true, false, ◌≡◌, ◌≢◌, ℕ, ◌<◌, ◌≤◌, ◌+◌, ◌-◌, arith, suc, zero, List, slice_get, length, Option, Some, None, refl, ap, sym, ◌∙◌, subst, inl, inr}
 use Rattle.std.specs.Option.{option_map}
 use Rattle.std.proofs.lemmas.Bool.{cases_eq, cases_lt}
 use Rattle.std.proofs.lemmas.Bool.Decides.{nat_tests}
@@ -8,8 +8,6 @@ use Rattle.usb_endpoint.specs.EndpointState.{EndpointState}
 use Rattle.usb_io.specs.Readers.{ReaderState}
 use Rattle.usb_io.specs.Writers.{WriterState}
 use Rattle.usb_host.specs.HostState.{HostState}
-use Rattle.usb_host.specs.HostBus.{owner_at}
-use Rattle.usb_host.specs.Handles.{device_closed, handle_closed}
 use Rattle.usb_ledger.specs.Devices.{is_held}
 use Rattle.usb_device.specs.DeviceLaws.{holds_at}
 use Rattle.std.specs.Prelude.{option_and_then, nat_le, if◌then◌else◌}
@@ -30,90 +28,20 @@ use Rattle.usb_registry.specs.History.{value_at}
 use Rattle.usb_kernel.specs.Tickets.{tickets}
 use Rattle.std.specs.List.{count_by}
 use Rattle.usb_host.specs.Finishes.{discarded_below, reaped_below, finished, HasEnds, KeepsNothing}
-use Rattle.usb_device.specs.HandleStates.{InterfaceState}
 use Rattle.usb_words.specs.Words.{at_most}
 use Rattle.usb_names.specs.Names.{named, freed}
-use Rattle.usb_answers.specs.State.{State, kept}
-use Rattle.usb_answers.specs.Closes.{closed}
+use Rattle.usb_answers.specs.State.{State}
+use Rattle.usb_answers.specs.Below.{below}
 use Rattle.usb_answers.specs.SessionFacts.{endpoint_of, writer_endpoint, endpoints_with}
 use Rattle.usb_answers.specs.ReaderAt.{endpoint_place, reader_place}
 use Rattle.usb_answers.specs.WriterAt.{writer_place}
-use Rattle.usb_answers.specs.Readers.{reader_closed}
-use Rattle.usb_answers.specs.Writers.{writer_closed}
-use Rattle.usb_answers.specs.Ends.{interface_closed, interfaces_closed, name_closed, devices_closed, readers_closed, writers_closed, endpoints_closed, futures_closed, all_closed, ended}
+use Rattle.usb_answers.specs.Ends.{interfaces_closed, devices_closed, readers_closed, writers_closed, endpoints_closed, futures_closed, all_closed, ended}
 use Rattle.usb_answers.specs.SessionState.{SessionState, IsSound}
 use Rattle.usb_answers.specs.Relation.{Represents}
-use Rattle.usb_answers.specs.Accounts.{Accounted}
-use Rattle.usb_answers.proofs.AccountLemmas.{accounted-all_closed, accounted-none}
 use Rattle.usb_answers.proofs.OpenPlaces.{HasPlaces, named-endpoint, named-reader, named-writer}
 use Rattle.usb_answers.proofs.CountedNames.{count-none, count-no_name}
 use Rattle.usb_answers.proofs.CountedDevices.{count-no_device}
-use Rattle.usb_answers.proofs.Answering.{named_kept, host_is}
-use Rattle.usb_names.proofs.NameLemmas.{named-freed, named-freed_other, named-past, freed-none, named_of, place_of}
-
-interface-represents : (s : SessionState) (state : State) (after : List (Option InterfaceState)) (i : ℕ) (f : InterfaceState) → Represents s state → named s.interfaces i ≡ Some f → after ≡ freed s.interfaces i → Represents (record s { host = handle_closed s.host f.key; interfaces = after }) (interface_closed state i)
-unfolding interface_closed
-interface-represents s state after i f r was rest =
-    let here : named state.interfaces i ≡ Some f = ap (λ (v : SessionState). named v.interfaces i) (sym r.is) ∙ was in
-    rw here record {
-      is =
-          ap (λ (l : List (Option InterfaceState)). record s { host = handle_closed s.host f.key; interfaces = l }) rest
-          ∙ ap (λ (v : SessionState). record v { host = handle_closed v.host f.key; interfaces = freed v.interfaces i }) r.is;
-      few = r.few;
-    }
-
-interface-none : (s : SessionState) (state : State) (i : ℕ) → Represents s state → named s.interfaces i ≡ None → Represents s (interface_closed state i)
-unfolding interface_closed
-interface-none s state i r none =
-    let here : named state.interfaces i ≡ None = ap (λ (v : SessionState). named v.interfaces i) (sym r.is) ∙ none in
-    rw here r
-
-pub close_interface-code : (S s : SessionState) (now : HostState) (after : List (Option InterfaceState)) (i : ℕ) (f : InterfaceState) → s ≡ S → named s.interfaces i ≡ Some f → after ≡ freed s.interfaces i → now ≡ handle_closed s.host f.key → (state : State) → Represents S state → Represents (record s { host = now; interfaces = after }) (interface_closed state i)
-close_interface-code S s now after i f view was rest closed state r =
-    subst (λ (g : HostState). Represents (record s { host = g; interfaces = after }) (interface_closed state i)) (sym closed)
-    (interface-represents s state after i f (subst (λ v. Represents v state) (sym view) r) was rest)
-
--- nothing was open under the name
-pub interface-nothing : (S s : SessionState) (after : List (Option InterfaceState)) (i : ℕ) → s ≡ S → named s.interfaces i ≡ None → after ≡ freed s.interfaces i → (state : State) → Represents S state → Represents (record s { interfaces = after }) (interface_closed state i)
-interface-nothing S s after i view none rest state r =
-    subst (λ (l : List (Option InterfaceState)). Represents (record s { interfaces = l }) (interface_closed state i)) (sym (rest ∙ freed-none s.interfaces i none))
-    (interface-none s state i (subst (λ v. Represents v state) (sym view) r) none)
-
-pub interface-sound_same : (s : SessionState) (after : List (Option InterfaceState)) (i : ℕ) → IsSound s → named s.interfaces i ≡ None → after ≡ freed s.interfaces i → IsSound (record s { interfaces = after })
-interface-sound_same s after i sound none rest =
-    subst (λ (l : List (Option InterfaceState)). IsSound (record s { interfaces = l })) (sym (rest ∙ freed-none s.interfaces i none)) sound
-
--- and devices
-device-represents : (s : SessionState) (state : State) (after : List (Option ℕ)) (d key : ℕ) → Represents s state → named s.devices d ≡ Some key → after ≡ freed s.devices d → Represents (record s { host = device_closed s.host key; devices = after }) (name_closed state d)
-unfolding name_closed
-device-represents s state after d key r was rest =
-    let here : named state.devices d ≡ Some key = ap (λ (v : SessionState). named v.devices d) (sym r.is) ∙ was in
-    rw here record {
-      is =
-          ap (λ (l : List (Option ℕ)). record s { host = device_closed s.host key; devices = l }) rest
-          ∙ ap (λ (v : SessionState). record v { host = device_closed v.host key; devices = freed v.devices d }) r.is;
-      few = r.few;
-    }
-
-device-none : (s : SessionState) (state : State) (d : ℕ) → Represents s state → named s.devices d ≡ None → Represents s (name_closed state d)
-unfolding name_closed
-device-none s state d r none =
-    let here : named state.devices d ≡ None = ap (λ (v : SessionState). named v.devices d) (sym r.is) ∙ none in
-    rw here r
-
-pub close_name-code : (S s : SessionState) (now : HostState) (after : List (Option ℕ)) (d key : ℕ) → s ≡ S → named s.devices d ≡ Some key → after ≡ freed s.devices d → now ≡ device_closed s.host key → (state : State) → Represents S state → Represents (record s { host = now; devices = after }) (name_closed state d)
-close_name-code S s now after d key view was rest closed state r =
-    subst (λ (g : HostState). Represents (record s { host = g; devices = after }) (name_closed state d)) (sym closed)
-    (device-represents s state after d key (subst (λ v. Represents v state) (sym view) r) was rest)
-
-pub device-nothing : (S s : SessionState) (after : List (Option ℕ)) (d : ℕ) → s ≡ S → named s.devices d ≡ None → after ≡ freed s.devices d → (state : State) → Represents S state → Represents (record s { devices = after }) (name_closed state d)
-device-nothing S s after d view none rest state r =
-    subst (λ (l : List (Option ℕ)). Represents (record s { devices = l }) (name_closed state d)) (sym (rest ∙ freed-none s.devices d none))
-    (device-none s state d (subst (λ v. Represents v state) (sym view) r) none)
-
-pub device-sound_same : (s : SessionState) (after : List (Option ℕ)) (d : ℕ) → IsSound s → named s.devices d ≡ None → after ≡ freed s.devices d → IsSound (record s { devices = after })
-device-sound_same s after d sound none rest =
-    subst (λ (l : List (Option ℕ)). IsSound (record s { devices = l })) (sym (rest ∙ freed-none s.devices d none)) sound
+use Rattle.usb_names.proofs.NameLemmas.{named-freed, named-freed_other, named-past}
 
 -- the names below a number are free, and one more
 pub none-more : {X : Type 0} (xs after : List (Option X)) (n : ℕ) → after ≡ freed xs n → ((e : ℕ) → e < n → named xs e ≡ None) → (e : ℕ) → e < n + 1 → named after e ≡ None
@@ -147,7 +75,7 @@ none-all xs all none n =
       | inr beyond ↦ named-past xs n (omega arith)
     ]
 
-unmapped : {X Y : Type 0} (f : X → Y) (o : Option X) → option_map f o ≡ None → o ≡ None
+pub unmapped : {X Y : Type 0} (f : X → Y) (o : Option X) → option_map f o ≡ None → o ≡ None
 unmapped f None none = refl
 unmapped f (Some x) none = absurd (none-some (f x) (sym none))
 
@@ -200,55 +128,15 @@ is_name n m is = by (nat_le n 63) is
 pub no_name : (n : ℕ) → n < 64 → at_most 63 n ≡ None → ⊥
 no_name n below is = let few : nat_le n 63 ≡ true = grind (arith, nat_tests) in none-some n (sym is ∙ ap (λ (b : Bool). if b then Some n else None) few)
 
--- all names but the last
-slice_get-front : {X : Type 0} (xs ys : List X) (n : ℕ) (x : X) → slice_get xs n ≡ Some x → slice_get (xs ++ ys) n ≡ Some x
-slice_get-front [] ys n x is = absurd (none-some x is)
-slice_get-front (z ∷ xs) ys zero x is = is
-slice_get-front (z ∷ xs) ys (suc n) x is = slice_get-front xs ys n x is
-
-slice_get-last : {X : Type 0} (xs : List X) (x : X) → slice_get (xs ++ x ∷ []) (length xs) ≡ Some x
-slice_get-last [] x = refl
-slice_get-last (z ∷ xs) x = slice_get-last xs x
-
-pub named-front : {X : Type 0} (old front last : List (Option X)) (n : ℕ) (x : X) → old ≡ front ++ last → named front n ≡ Some x → named old n ≡ Some x
-named-front old front last n x is at =
-    named_of old n (Some x) (ap (λ l. slice_get l n) is ∙ slice_get-front front last n (Some x) (place_of front n x at))
-
-pub named-last : {X : Type 0} (old front : List (Option X)) (o : Option X) (x : X) → old ≡ front ++ o ∷ [] → o ≡ Some x → named old (length front) ≡ Some x
-named-last old front o x is at =
-    named_of old (length front) o (ap (λ l. slice_get l (length front)) is ∙ slice_get-last front o) ∙ at
-
 -- the host of a session at the end
 pub end-host : (s : SessionState) (host now : HostState) (state : State) → s.host ≡ host → now ≡ finished host → Represents s (devices_closed (interfaces_closed (futures_closed (endpoints_closed (writers_closed (readers_closed state 64) 64) 64) 64) 64) 64) → now ≡ ended state
 unfolding ended all_closed
 end-host s host now state here done r =
     done ∙ ap finished (sym here ∙ ap (λ (v : SessionState). v.host) r.is)
 
--- all is closed, so no endpoint and no future holds a ticket, and each ticket of the host has its end
-pub end-ended : (s : SessionState) (before now : HostState) (state : State) → before ≡ s.host → ((e : ℕ) → named s.endpoints e ≡ None) → ((n : ℕ) → named s.futures n ≡ None) → Represents s (devices_closed (interfaces_closed (futures_closed (endpoints_closed (writers_closed (readers_closed state 64) 64) 64) 64) 64) 64) → Accounted state
-    → (((t : ℕ) → owner_at before.tickets t ≡ None) → HasEnds now.tickets) → HasEnds now.tickets
-unfolding all_closed
-end-ended s before now state same none gone r a ends =
-    let last = all_closed state in
-    let closed_all : (e : ℕ) → named last.endpoints e ≡ None = λ e. unmapped kept (named last.endpoints e) (sym (named_kept s last e r) ∙ none e) in
-    let all_gone : (n : ℕ) → named last.futures n ≡ None = λ n. ap (λ (v : SessionState). named v.futures n) (sym r.is) ∙ gone n in
-    ends (λ t. ap (λ (h : HostState). owner_at h.tickets t) (same ∙ host_is s last r) ∙ accounted-none last (accounted-all_closed state a) closed_all all_gone t)
-
--- one name more is closed
-pub readers_closed-more : (state : State) (n : ℕ) → readers_closed state (n + 1) ≡ reader_closed (readers_closed state n) n
-readers_closed-more state n = let more : n + 1 ≡ suc n = omega arith in rw more refl
-
-pub writers_closed-more : (state : State) (n : ℕ) → writers_closed state (n + 1) ≡ writer_closed (writers_closed state n) n
-writers_closed-more state n = let more : n + 1 ≡ suc n = omega arith in rw more refl
-
-pub endpoints_closed-more : (state : State) (n : ℕ) → endpoints_closed state (n + 1) ≡ closed (endpoints_closed state n) n
-endpoints_closed-more state n = let more : n + 1 ≡ suc n = omega arith in rw more refl
-
-pub interfaces_closed-more : (state : State) (n : ℕ) → interfaces_closed state (n + 1) ≡ interface_closed (interfaces_closed state n) n
-interfaces_closed-more state n = let more : n + 1 ≡ suc n = omega arith in rw more refl
-
-pub devices_closed-more : (state : State) (n : ℕ) → devices_closed state (n + 1) ≡ name_closed (devices_closed state n) n
-devices_closed-more state n = let more : n + 1 ≡ suc n = omega arith in rw more refl
+-- one number more
+pub below-more : {S : Type 0} (act : S → ℕ → S) (state : S) (n : ℕ) → below act state (n + 1) ≡ act (below act state n) n
+below-more act state n = let more : n + 1 ≡ suc n = omega arith in rw more refl
 
 -- where no name is open no interface has a handle, and no open device is left
 no-handles : (s : SessionState) → IsSound s → ((i : ℕ) → named s.interfaces i ≡ None) → (i : ℕ) (c : ClaimedInterface) → value_at s.host.interfaces i ≡ Some c → c.handles ≡ 0

@@ -1,9 +1,10 @@
--- What the lines on endpoints do.
+-- What the calls on endpoints do.
 use Rattle.std.proofs.Common.{◌≡◌, ℕ, ◌≤◌, arith, List, [], ◌∷◌, ◌++◌, length, drop, length-drop, Option, Some, None, Result, true, false, refl, ap, sym, ◌∙◌, slice_get}
 use Rattle.std.specs.Prelude.{not, ◌||◌, ◌==◌, nat_le, is_some}
 use Rattle.std.specs.Option.{option_map}
 use Rattle.std.proofs.lemmas.Bool.{or_parts, eqb-true, not-false}
 use Rattle.usb_desc.specs.declared.types.Direction.{Direction}
+use Rattle.usb_desc.specs.declared.types.Direction.TheVariants.{In, Out}
 use Rattle.usb_desc.specs.declared.types.TransferType.{TransferType}
 use Rattle.usb_xfer.specs.BufferState.{BufferState}
 use Rattle.usb_xfer.specs.declared.transfer.Completion.{Completion}
@@ -11,7 +12,6 @@ use Rattle.usb_error.specs.ErrorState.{ErrorState}
 use Rattle.usb_error.specs.Errors.{clear_halt_error}
 use Rattle.usb_endpoint.specs.CallErrors.{or_error}
 use Rattle.usb_kernel.specs.declared.event.Event.{Event}
-use Rattle.usb_simulated.specs.declared.step.KernelStep.{KernelStep}
 use Rattle.usb_kernel.specs.Info.{unreaped}
 use Rattle.usb_kernel.proofs.Places.{slice_get-append_seam}
 use Rattle.usb_bus.specs.Completions.{transfer_completion}
@@ -23,23 +23,24 @@ use Rattle.usb_host.specs.EndpointOpens.{host_asked, host_tries, with_endpoint}
 use Rattle.usb_host.proofs.CountLemmas.{asked-count, entered-count, waited-count, blocked-count, all_discarded-count}
 use Rattle.usb_host.proofs.FollowLemmas.{on-asked, on-waited, on-blocked, on-all_discarded}
 use Rattle.usb_host.proofs.FoundLemmas.{blocked-found}
-use Rattle.usb_lines.specs.Calls.{ok_line}
-use Rattle.usb_lines.specs.Completions.{done_line, polled_line, waited_line}
+use Rattle.usb_lines.specs.Completions.{count_line, done_line, polled_line, waited_line}
 use Rattle.usb_names.specs.Names.{named, is_free, change_named}
-use Rattle.usb_answers.specs.State.{State, Endpoint, kept, pending, tickets_of, with_host}
-use Rattle.usb_answers.specs.Answer.{told, barred, ok_answer, silent, if_open}
+use Rattle.usb_answers.specs.declared.call.EndpointCall.{EndpointCall}
+use Rattle.usb_answers.specs.declared.call.EndpointCall.TheVariants.{SubmitIn, SubmitOut, Pending, Poll, Wait, TransferIn, TransferOut, Cancel, ClearHalt}
+use Rattle.usb_answers.specs.Buffers.{in_buffer, out_buffer}
+use Rattle.usb_answers.specs.EndpointCalls.{endpoint_called, on_endpoint}
+use Rattle.usb_answers.specs.State.{State, Endpoint, endpoint_state, pending, tickets_of, with_host}
+use Rattle.usb_answers.specs.Answer.{condition_answer, ok_answer, silent, if_open}
 use Rattle.usb_answers.specs.OpenAt.{InterfaceAt, interface_at}
 use Rattle.usb_answers.specs.Endpoints.{new_endpoint, endpoint_as, endpoint_answer}
-use Rattle.usb_answers.specs.Submits.{with_submission, submitted, submit_answer, has_direction}
-use Rattle.usb_answers.specs.Polls.{one_taken, taken_from, took, poll_on, poll_answer}
-use Rattle.usb_answers.specs.Waits.{wait_on, wait_answer}
-use Rattle.usb_answers.specs.Transfers.{bars_transfer, with_taken, transfer_made, transfer_answer}
-use Rattle.usb_answers.specs.Halts.{clear_halt_answer}
-use Rattle.usb_answers.specs.Closes.{cancel_answer, without_endpoint, close_answer, closed_at, closed}
-use Rattle.usb_answers.specs.Steps.{lent, steps_answer}
-use Rattle.usb_answers.specs.Served.{closed_as, closed_under}
+use Rattle.usb_answers.specs.Submits.{with_submission, submitted, submit_on, has_direction}
+use Rattle.usb_answers.specs.Polls.{one_taken, taken_from, took, poll_on}
+use Rattle.usb_answers.specs.Waits.{wait_on}
+use Rattle.usb_answers.specs.Transfers.{bars_transfer, with_taken, transfer_made, transfer_on}
+use Rattle.usb_answers.specs.Closes.{without_endpoint, close_answer, closed_at, closed}
+use Rattle.usb_answers.specs.Served.{closed_under}
 use Rattle.usb_names.proofs.NameLemmas.{named-change_same, change-change}
-use Rattle.usb_answers.proofs.Does.{Acts, Does, says_done, goes, opens, submits, ends, takes, closes, quiet-aside, quiet-same, quiet-stepped, told-does, barred-does, free-does, bar-does, try-does, ok-does, call-does, stepping-does, host-does, result-other}
+use Rattle.usb_answers.proofs.Does.{Acts, Does, says_done, goes, opens, submits, ends, takes, quiet-aside, quiet-same, told-does, barred-does, free-does, bar-does, try-does, ok-does, named-does, closing-does, result-other}
 use Rattle.usb_answers.proofs.DeviceHosts.{halt-aside}
 
 -- an endpoint is opened
@@ -52,18 +53,15 @@ endpoint_as-does state e address kind x tried free outside =
 pub endpoint-does : (state : State) (e i address : ℕ) (kind : TransferType) (direction : Direction) → (64 ≤ e → 192 ≤ e) → Does state (endpoint_answer state e i address kind direction)
 unfolding endpoint_answer
 endpoint-does state e i address kind direction outside =
-    call-does (interface_at state i) _ (λ x is.
+    named-does (interface_at state i) _ (λ x is.
     free-does (λ free.
     let host = host_asked state.host x.claimed.opened in
     goes (record { keeps = on-asked state.host x.claimed.opened; count = asked-count state.host x.claimed.opened; endpoints = refl; futures = refl })
     (endpoint_as-does (with_host state host) e address kind x (host_tries host x.handle.key x.claimed address kind direction) free outside)))
 
 -- a ticket is submitted
-pub submit-does : (state : State) (direction : Direction) (e : ℕ) (b : BufferState) → Does state (submit_answer state direction e b)
-unfolding submit_answer
-submit-does state direction e b =
-    call-does (named state.endpoints e) _ (λ h here.
-    bar-does (λ no_. submits e b h here (λ few. few e h here) (ok-does (submitted state e b h))))
+submit_on-does : (state : State) (direction : Direction) (e : ℕ) (b : BufferState) (h : Endpoint) → named state.endpoints e ≡ Some h → Does state (submit_on state direction e b h)
+submit_on-does state direction e b h here = bar-does (λ no_. submits e b h here (λ few. few e h here) (ok-does (submitted state e b h)))
 
 -- the ticket at the place of those that were taken is taken
 took-does : (line : Option Completion → List ℕ) (state : State) (e t : ℕ) (h : Endpoint) (o : Option Completion) → says_done (line None) ≡ false → ((c : Completion) → line (Some c) ≡ done_line c) → named state.endpoints e ≡ Some h → slice_get h.tickets h.taken ≡ Some t → transfer_completion state.host.kernel.past t ≡ o → Does state (took line state e t o)
@@ -74,21 +72,12 @@ poll_on-does : (state : State) (e : ℕ) (h : Endpoint) (o : Option ℕ) → nam
 poll_on-does state e h None here front = barred-does state
 poll_on-does state e h (Some t) here front = took-does polled_line state e t h (transfer_completion state.host.kernel.past t) refl (λ c. refl) here front refl
 
-pub poll-does : (state : State) (e : ℕ) → Does state (poll_answer state e)
-unfolding poll_answer
-poll-does state e = call-does (named state.endpoints e) _ (λ h here. poll_on-does state e h (slice_get h.tickets h.taken) here refl)
-
 wait_on-does : (state : State) (e timeout : ℕ) (h : Endpoint) (o : Option ℕ) → named state.endpoints e ≡ Some h → slice_get h.tickets h.taken ≡ o → Does state (wait_on state e timeout o)
 wait_on-does state e timeout h None here front = barred-does state
 wait_on-does state e timeout h (Some t) here front =
     let mid = with_host state (waited host_calls t timeout state.host) in
     goes (record { keeps = on-waited state.host t timeout; count = waited-count state.host t timeout; endpoints = refl; futures = refl })
     (took-does waited_line mid e t h (transfer_completion mid.host.kernel.past t) refl (λ c. refl) here front refl)
-
-pub wait-does : (state : State) (e timeout : ℕ) (steps : List KernelStep) → Does state (wait_answer state e timeout steps)
-unfolding wait_answer
-wait-does state e timeout steps =
-    stepping-does (named state.endpoints e) _ (λ h here. wait_on-does (lent state steps) e timeout h (slice_get h.tickets h.taken) here refl)
 
 -- a blocking transfer at an endpoint where none is pending: its ticket is submitted, comes, and is taken
 transfer-free : (past : List Event) (direction : Direction) (h : EndpointState) → bars_transfer past direction h ≡ false → length h.pending ≡ 0
@@ -105,7 +94,7 @@ pushed-taken : (n : ℕ) (es : List (Option Endpoint)) (e : ℕ) → change_name
 unfolding change_named
 pushed-taken n es e = change-change (option_map (with_submission n)) (option_map one_taken) (option_map (with_taken n)) es e (λ o at. option-taken n o)
 
-some-of : {X : Type 0} (o : Option X) → is_some o ≡ true → (x : X) × (o ≡ Some x)
+pub some-of : {X : Type 0} (o : Option X) → is_some o ≡ true → (x : X) × (o ≡ Some x)
 some-of None is = absurd (cc)
 some-of (Some x) is = (x, refl)
 
@@ -117,52 +106,44 @@ transfer_made-does state e b timeout h here none =
     let n = tickets_of state in
     let sent = submitted state e b h in
     let last = with_host sent (blocked host_calls n timeout sent.host) in
-    let one = entered-count state.host (kept h) b in
+    let one = entered-count state.host (endpoint_state h) b in
     let found = some-of (transfer_completion last.host.kernel.past n) (blocked-found sent.host n timeout (omega (arith, one.past))) in
     submits e b h here (λ few. few e h here) (goes (record { keeps = on-blocked sent.host n timeout; count = blocked-count sent.host n timeout; endpoints = refl; futures = refl })
     (takes e n (with_submission n h) found.0 (named-change_same (with_submission n) state.endpoints e ∙ ap (option_map (with_submission n)) here)
     (λ few. pushed-front h.taken h.tickets n (few e h here) none) found.1 (ap waited_line found.1)
     (quiet-aside (taken_from last e n) (transfer_made state e b timeout h).state refl refl (sym (pushed-taken n state.endpoints e)) refl)))
 
-pub transfer-does : (state : State) (direction : Direction) (e : ℕ) (b : BufferState) (timeout : ℕ) (steps : List KernelStep) → Does state (transfer_answer state direction e b timeout steps)
-unfolding transfer_answer
-transfer-does state direction e b timeout steps =
-    let now = lent state steps in
-    stepping-does (named state.endpoints e) _ (λ h here.
-    bar-does
-    (λ allowed. transfer_made-does now e b timeout h here (transfer-free now.host.kernel.past direction (kept h) allowed)))
+transfer_on-does : (state : State) (direction : Direction) (e : ℕ) (b : BufferState) (timeout : ℕ) (h : Endpoint) → named state.endpoints e ≡ Some h → Does state (transfer_on state direction e b timeout h)
+transfer_on-does state direction e b timeout h here =
+    bar-does (λ allowed. transfer_made-does state e b timeout h here (transfer-free state.host.kernel.past direction (endpoint_state h) allowed))
 
--- the pending transfers of an endpoint are discarded
-pub cancel-does : (state : State) (e : ℕ) → Does state (cancel_answer state e)
-unfolding cancel_answer
-cancel-does state e =
-    call-does (named state.endpoints e) _ (λ h here. ends refl (record { keeps = on-all_discarded state.host (pending h); count = all_discarded-count state.host (pending h); endpoints = refl; futures = refl }))
+-- so each call at an endpoint that is open
+called-does : (state : State) (e : ℕ) (h : Endpoint) (call : EndpointCall) → named state.endpoints e ≡ Some h → Does state (endpoint_called call state e h)
+unfolding count_line
+called-does state e h (SubmitIn n) here = submit_on-does state In e (in_buffer n) h here
+called-does state e h (SubmitOut bytes) here = submit_on-does state Out e (out_buffer bytes) h here
+called-does state e h Pending here = told-does state (count_line (length (pending h))) refl
+called-does state e h Poll here = poll_on-does state e h (slice_get h.tickets h.taken) here refl
+called-does state e h (Wait timeout) here = wait_on-does state e timeout h (slice_get h.tickets h.taken) here refl
+called-does state e h (TransferIn n timeout) here = transfer_on-does state In e (in_buffer n) timeout h here
+called-does state e h (TransferOut bytes timeout) here = transfer_on-does state Out e (out_buffer bytes) timeout h here
+called-does state e h Cancel here =
+    ends refl (record { keeps = on-all_discarded state.host (pending h); count = all_discarded-count state.host (pending h); endpoints = refl; futures = refl })
+called-does state e h ClearHalt here =
+    let aside = halt-aside state.host h.device h.address in
+    ends (result-other (or_error clear_halt_error (host_halt_result state.host h.device h.address)))
+    (quiet-aside state (with_host state (host_halt_cleared state.host h.device h.address)) aside.past aside.handles.tickets refl refl)
 
--- its halt is cleared
-pub clear_halt-does : (state : State) (e : ℕ) → Does state (clear_halt_answer state e)
-unfolding clear_halt_answer
-clear_halt-does state e =
-    host-does (named state.endpoints e) _ _ (λ h. result-other (or_error clear_halt_error (host_halt_result state.host h.device h.address)))
-    (λ h. let aside = halt-aside state.host h.device h.address in quiet-aside state (with_host state (host_halt_cleared state.host h.device h.address)) aside.past aside.handles.tickets refl refl)
+pub on_endpoint-does : (state : State) (e : ℕ) (call : EndpointCall) → Does state (on_endpoint state e call)
+unfolding on_endpoint
+on_endpoint-does state e call = named-does (named state.endpoints e) (endpoint_called call state e) (λ h here. called-does state e h call here)
 
 -- an endpoint is closed
-closed_at-does : {few : Type 0} (state : State) (e : ℕ) (lines : List (List ℕ)) (line : List ℕ) (o : Option Endpoint) → named state.endpoints e ≡ o → says_done line ≡ false → Acts few (told (closed_at state e o) line) state (closed_as state.host.kernel.past lines o) []
-closed_at-does state e lines line None here other = told-does state line other
-closed_at-does state e lines line (Some h) here other = closes e h lines here other (quiet-same (without_endpoint state e h))
-
 pub closed-does : {few : Type 0} (state : State) (e : ℕ) (lines : ℕ → List (List ℕ)) → Acts few (silent (closed state e)) state (closed_under state lines e) []
 unfolding closed
-closed-does state e lines = closed_at-does state e (lines e) [] (named state.endpoints e) refl refl
+closed-does state e lines = closing-does state e lines (λ o. silent (closed_at state e o)) refl (quiet-same state) (λ h. refl) (λ h. quiet-same (without_endpoint state e h))
 
 pub close-does : {few : Type 0} (state : State) (e : ℕ) (lines : ℕ → List (List ℕ)) → Acts few (close_answer state e) state (closed_under state lines e) []
 unfolding close_answer
-close-does {few} state e lines = by (named state.endpoints e) refl
-  where
-    by : (o : Option Endpoint) → named state.endpoints e ≡ o → Acts few (if_open o (λ h. ok_answer (without_endpoint state e h)) (barred state)) state (closed_as state.host.kernel.past (lines e) o) []
-    by None here = barred-does state
-    by (Some h) here = closed_at-does state e (lines e) ok_line (Some h) here refl
-
--- steps are applied
-pub steps-does : (state : State) (steps : List KernelStep) → Does state (steps_answer state steps)
-unfolding steps_answer
-steps-does state steps = ends refl (quiet-stepped state steps)
+close-does state e lines =
+    closing-does state e lines (λ o. if_open o (λ h. ok_answer (without_endpoint state e h)) (condition_answer state)) refl (quiet-same state) (λ h. refl) (λ h. quiet-same (without_endpoint state e h))

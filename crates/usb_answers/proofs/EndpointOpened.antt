@@ -27,7 +27,7 @@ use Rattle.usb_device.proofs.StandLemmas.{StandsInterface-same}
 use Rattle.usb_host.proofs.InterfaceFrames.{asked-is, asked-counts}
 use Rattle.usb_device.proofs.FreshKeys.{endpoint-within}
 use Rattle.usb_names.specs.Names.{named, is_free, set_name}
-use Rattle.usb_answers.specs.State.{State, Endpoint, kept, with_host}
+use Rattle.usb_answers.specs.State.{State, Endpoint, endpoint_state, with_host}
 use Rattle.usb_answers.specs.OpenAt.{InterfaceAt}
 use Rattle.usb_answers.specs.Endpoints.{new_endpoint, endpoint_as, endpoint_answer}
 use Rattle.usb_answers.specs.SessionState.{SessionState, IsSound}
@@ -173,15 +173,15 @@ open-as state host now after e address maximum kind x y (Err error) r free tried
 open-as state host now after e address maximum kind x y (Ok m) r free tried fresh is put =
     let same : maximum ≡ m = cc in
     let z = new_endpoint host x.claimed.device address kind m in
-    let names : after ≡ map (option_map kept) (set_name state.endpoints e z) =
-    put ∙ ap (set_name (map (option_map kept) state.endpoints) e) (fresh ∙ ap (λ (n : ℕ). fresh_endpoint x.claimed address kind n (length host.endpoints)) same)
-    ∙ sym (map-set kept state.endpoints e z) in
+    let names : after ≡ map (option_map endpoint_state) (set_name state.endpoints e z) =
+    put ∙ ap (set_name (map (option_map endpoint_state) state.endpoints) e) (fresh ∙ ap (λ (n : ℕ). fresh_endpoint x.claimed address kind n (length host.endpoints)) same)
+    ∙ sym (map-set endpoint_state state.endpoints e z) in
     record {
       state = record {
         is =
             ap (λ (g : HostState). record (session_of state) { host = g; endpoints = after }) is
             ∙ ap (λ (l : List (Option EndpointState)). record (session_of state) { host = with_endpoint host x.handle.key address; endpoints = l }) names;
-        few = few-set state e z r.few (sym (is_free-map kept state.endpoints e) ∙ free) (omega arith);
+        few = few-set state e z r.few (sym (is_free-map endpoint_state state.endpoints e) ∙ free) (omega arith);
       };
       same = refl;
     }
@@ -197,7 +197,7 @@ asked-endpoints h key = sym (ap (λ (g : HostState). g.endpoints) (asked-is h ke
 endpoint-of : (state : State) (now : HostState) (after : List (Option EndpointState)) (e i address maximum : ℕ) (kind : TransferType) (direction : Direction) (f : InterfaceState) (c : ClaimedInterface) (y : EndpointState) → Represents (session_of state) state → EndpointGives state e i address kind direction maximum f c y now after (session_of state)
 unfolding endpoint_answer
 endpoint-of state now after e i address maximum kind direction f c y r at there free tried fresh is put =
-    let free_there : is_free state.endpoints e ≡ true = sym (is_free-map kept state.endpoints e) ∙ free in
+    let free_there : is_free state.endpoints e ≡ true = sym (is_free-map endpoint_state state.endpoints e) ∙ free in
     rw (at, there, free_there)
     (open-as state (host_asked state.host c.opened) now after e address maximum kind (record { handle = f; claimed = c }) y (host_tries (host_asked state.host c.opened) f.key c address kind direction) r free tried
     (fresh ∙ ap (λ (l : List (Option HostEndpoint)). fresh_endpoint c address kind maximum (length l)) (asked-endpoints state.host c.opened)) is put)
@@ -222,7 +222,7 @@ EndpointRefused state e i address kind direction error f c now v =
 refused-of : (state : State) (now : HostState) (e i address : ℕ) (kind : TransferType) (direction : Direction) (error : ErrorState) (f : InterfaceState) (c : ClaimedInterface) → Represents (session_of state) state → EndpointRefused state e i address kind direction error f c now (session_of state)
 unfolding endpoint_answer
 refused-of state now e i address kind direction error f c r at there free tried is =
-    let free_there : is_free state.endpoints e ≡ true = sym (is_free-map kept state.endpoints e) ∙ free in
+    let free_there : is_free state.endpoints e ≡ true = sym (is_free-map endpoint_state state.endpoints e) ∙ free in
     rw (at, there, free_there)
     (refused-as state (host_asked state.host c.opened) now e address kind error (record { handle = f; claimed = c }) (host_tries (host_asked state.host c.opened) f.key c address kind direction) r tried is)
 

@@ -1,29 +1,39 @@
--- What each line does.
+-- What each call does, and so each line.
 use Rattle.std.proofs.Common.{ℕ, ◌≤◌, arith, List, [], Bool, true, false, inl, inr, refl, sym, subst}
 use Rattle.std.specs.Prelude.{if◌then◌else◌}
 use Rattle.std.proofs.lemmas.Bool.{cases_lt, lt-ltb, le-ltb}
-use Rattle.usb_simulated.specs.declared.step.KernelStep.{KernelStep}
+use Rattle.usb_words.specs.EndpointKinds.{transfer_type_of, direction_of}
+use Rattle.usb_lines.specs.Completions.{now_line}
 use Rattle.usb_script.specs.declared.item.Item.{Item}
-use Rattle.usb_script.specs.declared.item.Item.TheVariants as item
 use Rattle.usb_script.specs.ItemKinds.{steps_in}
+use Rattle.usb_answers.specs.declared.call.Call.{Call}
+use Rattle.usb_answers.specs.declared.call.Call.TheVariants.{Setup, Steps, Now, Tree, Open, Close, Device, Interface, Endpoint, Reader, Writer, Control, Future}
+use Rattle.usb_answers.specs.declared.call.OpenCall.{OpenCall}
+use Rattle.usb_answers.specs.declared.call.OpenCall.TheVariants as opens
+use Rattle.usb_answers.specs.declared.call.CloseCall.{CloseCall}
+use Rattle.usb_answers.specs.declared.call.CloseCall.TheVariants as closes
 use Rattle.usb_answers.specs.State.{State}
-use Rattle.usb_answers.specs.Answer.{Answer, barred}
-use Rattle.usb_answers.specs.Steps.{stepped_all}
+use Rattle.usb_answers.specs.Answer.{Answer, condition_answer}
+use Rattle.usb_answers.specs.Steps.{with_steps, stepped_all}
 use Rattle.usb_answers.specs.ReaderAt.{endpoint_place}
-use Rattle.usb_answers.specs.Buffers.{in_buffer, out_buffer}
+use Rattle.usb_answers.specs.Calls.{call_of}
+use Rattle.usb_answers.specs.NameCalls.{on_open, on_close}
+use Rattle.usb_answers.specs.EndpointCalls.{on_endpoint}
+use Rattle.usb_answers.specs.CalledReaders.{on_reader}
+use Rattle.usb_answers.specs.CalledWriters.{on_writer}
 use Rattle.usb_answers.specs.Controls.{request_for, request_with}
+use Rattle.usb_answers.specs.CallAnswers.{call_answer, line_answer}
 use Rattle.usb_answers.specs.Crowded.{bars_line}
-use Rattle.usb_answers.specs.LineAnswers.{line_answer}
 use Rattle.usb_answers.specs.Answers.{answer}
 use Rattle.usb_answers.specs.Accounts.{TookFew}
 use Rattle.usb_answers.specs.Served.{closed_by_call, closed_by}
-use Rattle.usb_answers.proofs.Does.{Acts, ends, quiet-stepped, told-does}
-use Rattle.usb_answers.proofs.DeviceLines.{now-does, open-does, device_descriptor-does, descriptors-does, clone_device-does, close_device-does, active-does, speed-does, set_configuration-does, reset-does, detach-does, attach-does, claim-does, clone_interface-does, close_interface-does, set_alt_setting-does, get_alt_setting-does, interface_descriptor-does, release-does, pending-does}
-use Rattle.usb_answers.proofs.TreeLines.{list-does, buses-does, probe-does, match-does, hotplug-does, open_path-does}
-use Rattle.usb_answers.proofs.ControlLines.{control_moves, moves-quiet, control_in-does, control_out-does, get_descriptor-does, languages-does, string-does, start-does, poll_future-does, wait_future-does, close_future-does}
-use Rattle.usb_answers.proofs.EndpointLines.{endpoint-does, submit-does, poll-does, wait-does, transfer-does, cancel-does, clear_halt-does, close-does, steps-does}
-use Rattle.usb_answers.proofs.ReaderDoes.{reader-does, inner-does, num-does, timeout-does, cancel_reader-does, close_reader-does, read-does, poll_read-does, fill-does, poll_fill-does, consume-does, is_end-does, consume_end-does}
-use Rattle.usb_answers.proofs.WriterDoes.{writer-does, writer_inner-does, writer_num-does, write_timeout-does, close_writer-does, write-does, poll_write-does, submit_buffer-does, submit_end-does, flush-does, poll_flush-does, flush_end-does, poll_flush_end-does}
+use Rattle.usb_answers.proofs.Does.{Acts, ends, quiet-stepped, told-does, along-does}
+use Rattle.usb_answers.proofs.DeviceLines.{open-does, clone_device-does, close_device-does, claim-does, clone_interface-does, close_interface-does, release-does, on_device-does, on_interface-does}
+use Rattle.usb_answers.proofs.TreeLines.{on_tree-does, open_path-does}
+use Rattle.usb_answers.proofs.EndpointLines.{endpoint-does, on_endpoint-does, close-does}
+use Rattle.usb_answers.proofs.ReaderDoes.{reader-does, inner-does, on_reader-does, close_reader-does}
+use Rattle.usb_answers.proofs.WriterDoes.{writer-does, writer_inner-does, on_writer-does, close_writer-does}
+use Rattle.usb_answers.proofs.ControlLines.{control_moves, moves-quiet, control-does, start-does, on_future-does, close_future-does}
 
 -- the place of an endpoint's name is none of a reader's or a writer's
 place-outside : (e : ℕ) → 64 ≤ endpoint_place e → 192 ≤ endpoint_place e
@@ -33,107 +43,63 @@ place-outside e =
       | inr beyond ↦ rw (le-ltb e 64 beyond) (λ above. omega arith)
     ]
 
--- where the session isn't crowded
-line-does : (state : State) (lines : ℕ → List (List ℕ)) (line : Item) → Acts (TookFew state) (line_answer state line) state (closed_by_call state lines line) (control_moves state line (line_answer state line))
-unfolding line_answer
-line-does state lines (item.Device k bus address speed configuration descriptors) = told-does state [] refl
-line-does state lines (item.Driver k number) = told-does state [] refl
-line-does state lines (item.Attribute path name value) = told-does state [] refl
-line-does state lines (item.Denied path name errno) = told-does state [] refl
-line-does state lines (item.Child path name) = told-does state [] refl
-line-does state lines (item.Link path name target) = told-does state [] refl
-line-does state lines (item.Entry name path) = told-does state [] refl
-line-does state lines (item.Root errno) = told-does state [] refl
-line-does state lines (item.Uevent groups bytes) = told-does state [] refl
-line-does state lines item.List = list-does state
-line-does state lines item.Buses = buses-does state
-line-does state lines (item.Probe path) = probe-does state path
-line-does state lines (item.Match path selector) = match-does state path selector
-line-does state lines item.Hotplug = hotplug-does state
-line-does state lines (item.OpenPath d path) = open_path-does state d path
-line-does state lines item.Now = now-does state
-line-does state lines (item.Open d bus address) = open-does state d bus address
-line-does state lines (item.DeviceDescriptor d) = device_descriptor-does state d
-line-does state lines (item.Descriptors d) = descriptors-does state d
-line-does state lines (item.CloneDevice name d) = clone_device-does state name d
-line-does state lines (item.CloseDevice d) = close_device-does state d
-line-does state lines (item.ActiveConfiguration d) = active-does state d
-line-does state lines (item.Speed d) = speed-does state d
-line-does state lines (item.SetConfiguration d value) = set_configuration-does state d value
-line-does state lines (item.Reset d) = reset-does state d
-line-does state lines (item.DetachDriver d number) = detach-does state d number
-line-does state lines (item.AttachDriver d number) = attach-does state d number
-line-does state lines (item.Claim d number i) = claim-does state d number i false
-line-does state lines (item.DetachAndClaim d number i) = claim-does state d number i true
-line-does state lines (item.CloneInterface name i) = clone_interface-does state name i
-line-does state lines (item.CloseInterface i) = close_interface-does state i
-line-does state lines (item.SetAltSetting i setting) = set_alt_setting-does state i setting
-line-does state lines (item.GetAltSetting i) = get_alt_setting-does state i
-line-does state lines (item.InterfaceDescriptor i) = interface_descriptor-does state i
-line-does state lines (item.Release i) = release-does state i
-line-does state lines (item.Endpoint e i address kind) = endpoint-does state (endpoint_place e) i address _ _ (place-outside e)
-line-does state lines (item.SubmitIn e n) = submit-does state _ (endpoint_place e) (in_buffer n)
-line-does state lines (item.SubmitOut e bytes) = submit-does state _ (endpoint_place e) (out_buffer bytes)
-line-does state lines (item.Pending e) = pending-does state (endpoint_place e)
-line-does state lines (item.Poll e) = poll-does state (endpoint_place e)
-line-does state lines (item.Wait e timeout steps) = wait-does state (endpoint_place e) timeout steps
-line-does state lines (item.TransferIn e n timeout steps) = transfer-does state _ (endpoint_place e) (in_buffer n) timeout steps
-line-does state lines (item.TransferOut e bytes timeout steps) = transfer-does state _ (endpoint_place e) (out_buffer bytes) timeout steps
-line-does state lines (item.Cancel e) = cancel-does state (endpoint_place e)
-line-does state lines (item.ClearHalt e) = clear_halt-does state (endpoint_place e)
-line-does state lines (item.CloseEndpoint e) = close-does state (endpoint_place e) lines
-line-does state lines (item.Reader r e size) = reader-does state r (endpoint_place e) size
-line-does state lines (item.IntoInner e r) = inner-does state (endpoint_place e) r
-line-does state lines (item.SetNumTransfers r n) = num-does state r n
-line-does state lines (item.SetReadTimeout r timeout) = timeout-does state r timeout
-line-does state lines (item.CancelReader r) = cancel_reader-does state r
-line-does state lines (item.CloseReader r) = close_reader-does state r lines
-line-does state lines (item.Read framing r most steps) = read-does state framing r most steps
-line-does state lines (item.PollRead framing r most) = poll_read-does state framing r most
-line-does state lines (item.FillBuf framing r steps) = fill-does state framing r steps
-line-does state lines (item.PollFillBuf framing r) = poll_fill-does state framing r
-line-does state lines (item.Consume framing r n) = consume-does state framing r n
-line-does state lines (item.IsEnd r) = is_end-does state r
-line-does state lines (item.ConsumeEnd r) = consume_end-does state r
-line-does state lines (item.Writer w e size) = writer-does state w (endpoint_place e) size
-line-does state lines (item.WriterIntoInner e w) = writer_inner-does state (endpoint_place e) w
-line-does state lines (item.SetWriterTransfers w n) = writer_num-does state w n
-line-does state lines (item.SetWriteTimeout w timeout) = write_timeout-does state w timeout
-line-does state lines (item.CloseWriter w) = close_writer-does state w lines
-line-does state lines (item.Write w bytes steps) = write-does state w bytes steps
-line-does state lines (item.PollWrite w bytes) = poll_write-does state w bytes
-line-does state lines (item.Submit w) = submit_buffer-does state w
-line-does state lines (item.SubmitEnd w) = submit_end-does state w
-line-does state lines (item.Flush w steps) = flush-does state w steps
-line-does state lines (item.PollFlush w) = poll_flush-does state w
-line-does state lines (item.FlushEnd w steps) = flush_end-does state w steps
-line-does state lines (item.PollFlushEnd w) = poll_flush_end-does state w
-line-does state lines (item.ControlIn target setup wanted timeout steps) = control_in-does state target setup wanted timeout steps
-line-does state lines (item.ControlOut target setup bytes timeout steps) = control_out-does state target setup bytes timeout steps
-line-does state lines (item.GetDescriptor d kind index language timeout steps) = get_descriptor-does state d kind index language timeout steps
-line-does state lines (item.SupportedLanguages d timeout steps) = languages-does state d timeout steps
-line-does state lines (item.StringDescriptor d index language timeout steps) = string-does state d index language timeout steps
-line-does state lines (item.StartControlIn n target setup wanted timeout) = start-does state n target (request_for setup wanted) timeout
-line-does state lines (item.StartControlOut n target setup bytes timeout) = start-does state n target (request_with setup bytes) timeout
-line-does state lines (item.PollFuture n) = poll_future-does state n
-line-does state lines (item.WaitFuture n steps) = wait_future-does state n steps
-line-does state lines (item.CloseFuture n) = close_future-does state n
-line-does state lines (item.Steps steps) = steps-does state steps
+-- what is opened, and what is closed
+on_open-does : (state : State) (call : OpenCall) → Acts (TookFew state) (on_open state call) state [] (control_moves state (Open call) (on_open state call))
+on_open-does state (opens.Device d bus address) = open-does state d bus address
+on_open-does state (opens.Path d path) = open_path-does state d path
+on_open-does state (opens.CloneDevice name d) = clone_device-does state name d
+on_open-does state (opens.Claim d number i detach) = claim-does state d number i detach
+on_open-does state (opens.CloneInterface name i) = clone_interface-does state name i
+on_open-does state (opens.Endpoint e i address kind) = endpoint-does state (endpoint_place e) i address (transfer_type_of kind) (direction_of kind) (place-outside e)
+on_open-does state (opens.Reader r e size) = reader-does state r (endpoint_place e) size
+on_open-does state (opens.ReaderInner e r) = inner-does state (endpoint_place e) r
+on_open-does state (opens.Writer w e size) = writer-does state w (endpoint_place e) size
+on_open-does state (opens.WriterInner e w) = writer_inner-does state (endpoint_place e) w
+on_open-does state (opens.ControlIn n target setup wanted timeout) = start-does state n target (request_for setup wanted) timeout
+on_open-does state (opens.ControlOut n target setup bytes timeout) = start-does state n target (request_with setup bytes) timeout
 
--- where it is crowded a call does what its steps do
-crowded-does : (state : State) (line : Item) (steps : List KernelStep) → Acts (TookFew state) (barred (stepped_all state steps)) state [] (control_moves state line (barred (stepped_all state steps)))
-crowded-does state line steps =
-    let a = barred (stepped_all state steps) in
-    subst (λ ms. Acts (TookFew state) a state [] ms) (sym (moves-quiet state line a (quiet-stepped state steps))) (ends refl (quiet-stepped state steps))
+on_close-does : (state : State) (lines : ℕ → List (List ℕ)) (call : CloseCall)
+    → Acts (TookFew state) (on_close state call) state (closed_by_call state lines (Close call)) (control_moves state (Close call) (on_close state call))
+on_close-does state lines (closes.Device d) = close_device-does state d
+on_close-does state lines (closes.Interface i) = close_interface-does state i
+on_close-does state lines (closes.Release i) = release-does state i
+on_close-does state lines (closes.Endpoint e) = close-does state (endpoint_place e) lines
+on_close-does state lines (closes.Reader r) = close_reader-does state r lines
+on_close-does state lines (closes.Writer w) = close_writer-does state w lines
+on_close-does state lines (closes.Future n) = close_future-does state n
+
+-- each call, by its family
+pub call-does : (state : State) (lines : ℕ → List (List ℕ)) (call : Call)
+    → Acts (TookFew state) (call_answer state call) state (closed_by_call state lines call) (control_moves state call (call_answer state call))
+unfolding call_answer now_line
+call-does state lines Setup = told-does state [] refl
+call-does state lines (Steps steps) = ends refl (quiet-stepped state steps)
+call-does state lines Now = told-does state (now_line state.host.kernel.clock) refl
+call-does state lines (Tree call) = on_tree-does state call
+call-does state lines (Open call) = on_open-does state call
+call-does state lines (Close call) = on_close-does state lines call
+call-does state lines (Device d call) = on_device-does state d call
+call-does state lines (Interface i call) = on_interface-does state i call
+call-does state lines (Endpoint e call steps) = along-does state steps (λ s. on_endpoint s (endpoint_place e) call) (on_endpoint-does (with_steps state steps) (endpoint_place e) call)
+call-does state lines (Reader r call steps) = along-does state steps (λ s. on_reader s r call) (on_reader-does (with_steps state steps) r call)
+call-does state lines (Writer w call steps) = along-does state steps (λ s. on_writer s w call) (on_writer-does (with_steps state steps) w call)
+call-does state lines (Control call steps) = control-does state call steps
+call-does state lines (Future n call) = on_future-does state n call
+
+-- where the session is crowded a call does what its steps do
+crowded-does : (state : State) (call : Call) (line : Item) → Acts (TookFew state) (condition_answer (stepped_all state (steps_in line))) state [] (control_moves state call (condition_answer (stepped_all state (steps_in line))))
+crowded-does state call line =
+    let a = condition_answer (stepped_all state (steps_in line)) in
+    subst (λ ms. Acts (TookFew state) a state [] ms) (sym (moves-quiet state call a (quiet-stepped state (steps_in line)))) (ends refl (quiet-stepped state (steps_in line)))
 
 -- both, by whether the session is crowded
 abbrev answer_if : State → Item → Bool → Answer
-answer_if state line b = if b then barred (stepped_all state (steps_in line)) else line_answer state line
+answer_if state line b = if b then condition_answer (stepped_all state (steps_in line)) else line_answer state line
 
-pub answer-does : (state : State) (lines : ℕ → List (List ℕ)) (line : Item) → Acts (TookFew state) (answer state line) state (closed_by state lines line) (control_moves state line (answer state line))
+pub answer-does : (state : State) (lines : ℕ → List (List ℕ)) (line : Item) → Acts (TookFew state) (answer state line) state (closed_by state lines line) (control_moves state (call_of line) (answer state line))
 unfolding answer
 answer-does state lines line = by (bars_line state line)
   where
-    by : (b : Bool) → Acts (TookFew state) (answer_if state line b) state (if b then [] else closed_by_call state lines line) (control_moves state line (answer_if state line b))
-    by true = crowded-does state line (steps_in line)
-    by false = line-does state lines line
+    by : (b : Bool) → Acts (TookFew state) (answer_if state line b) state (if b then [] else closed_by_call state lines (call_of line)) (control_moves state (call_of line) (answer_if state line b))
+    by true = crowded-does state (call_of line) line
+    by false = call-does state lines (call_of line)

@@ -29,15 +29,20 @@ use Rattle.usb_lines.specs.Controls.{pending_line}
 use Rattle.usb_lines.specs.Words.{line_of, hex_word}
 use Rattle.usb_words.specs.declared.framing.Framing.TheVariants.{UntilShort}
 use Rattle.usb_names.proofs.NameLemmas.{named-change_same}
+use Rattle.usb_answers.specs.declared.call.ReaderCall.{ReaderCall}
+use Rattle.usb_answers.specs.declared.call.ReaderCall.TheVariants as readers
 use Rattle.usb_answers.specs.BareReaders.{bare_of}
 use Rattle.usb_answers.specs.State.{State, Reader}
 use Rattle.usb_answers.specs.ReaderAt.{ReaderAt, reader_at, state_of_reader}
-use Rattle.usb_answers.specs.Answer.{Answer, barred, if_open}
+use Rattle.usb_answers.specs.Answer.{Answer, condition_answer, if_open}
 use Rattle.usb_answers.specs.Readers.{called}
-use Rattle.usb_answers.specs.Reads.{consumed_with, bytes_given, bars_read, given_line, polled_given_line, read_as, filled_as, read_on, read_answer, poll_read_on, poll_read_answer, fill_on, fill_answer, poll_fill_on, poll_fill_answer}
-use Rattle.usb_answers.specs.Steps.{lent, then_rested, stepped_all}
+use Rattle.usb_streams.specs.ReaderCalls.{given_by}
+use Rattle.usb_answers.specs.Reads.{consumed_with, bars_read, given_line, polled_given_line, read_as, filled_as, read_on, fill_on}
+use Rattle.usb_answers.specs.Steps.{with_steps, then_applied, along_steps}
+use Rattle.usb_answers.specs.CalledReaders.{reader_called, on_reader}
 use Rattle.usb_answers.specs.Framed.{stream_at}
-use Rattle.usb_answers.proofs.FramedReaders.{FollowsAt, history_of, parts-of}
+use Rattle.usb_answers.proofs.ReadersKeep.{parts-of}
+use Rattle.usb_answers.proofs.FramedReaders.{FollowsAt, history_of}
 
 -- the line of bytes, behind a word
 abbrev line_with : List ℕ → List ℕ → List ℕ
@@ -115,71 +120,54 @@ as-end state r x0 x items bytes w was ends at =
 abbrev pub Ends : (List ℕ → List ℕ) → ℕ → Answer → Type 0
 Ends print r a = (x : ReaderAt) → reader_at a.state r ≡ Some x → a.line ≡ print [] → is_end (state_of_reader x) ≡ true
 
-pub bar-ends : (print : List ℕ → List ℕ) → PrintsNone print → (state : State) (r : ℕ) (bars : Bool) (call : Answer) → Ends print r call → Ends print r (if bars then barred state else call)
-bar-ends print none state r bars call ends = cond_both bars (barred state) call (Ends print r) (λ yes_ x at is. absurd (none.condition is)) (λ no_. ends)
+bar-ends : (print : List ℕ → List ℕ) → PrintsNone print → (state : State) (r : ℕ) (bars : Bool) (call : Answer) → Ends print r call → Ends print r (if bars then condition_answer state else call)
+bar-ends print none state r bars call ends = cond_both bars (condition_answer state) call (Ends print r) (λ yes_ x at is. absurd (none.condition is)) (λ no_. ends)
 
-stepping-ends : (print : List ℕ → List ℕ) → PrintsNone print → (state : State) (r : ℕ) (steps : List KernelStep) (call : ReaderAt → Answer) → ((x : ReaderAt) → reader_at state r ≡ Some x → Ends print r (call x))
-    → Ends print r (if_open (reader_at state r) (λ x. then_rested (call x)) (barred (stepped_all state steps)))
-stepping-ends print none state r steps call ends = by (reader_at state r) refl
-  where
-    by : (o : Option ReaderAt) → reader_at state r ≡ o → Ends print r (if_open o (λ x. then_rested (call x)) (barred (stepped_all state steps)))
-    by None was x at is = absurd (none.condition is)
-    by (Some x0) was x at is = ends x0 was x at is
-
-open-ends : (print : List ℕ → List ℕ) → PrintsNone print → (state : State) (r : ℕ) (call : ReaderAt → Answer) → ((x : ReaderAt) → reader_at state r ≡ Some x → Ends print r (call x)) → Ends print r (if_open (reader_at state r) call (barred state))
+open-ends : (print : List ℕ → List ℕ) → PrintsNone print → (state : State) (r : ℕ) (call : ReaderAt → Answer) → ((x : ReaderAt) → reader_at state r ≡ Some x → Ends print r (call x)) → Ends print r (if_open (reader_at state r) call (condition_answer state))
 open-ends print none state r call ends = by (reader_at state r) refl
   where
-    by : (o : Option ReaderAt) → reader_at state r ≡ o → Ends print r (if_open o call (barred state))
+    by : (o : Option ReaderAt) → reader_at state r ≡ o → Ends print r (if_open o call (condition_answer state))
     by None was x at is = absurd (none.condition is)
     by (Some x0) was x at is = ends x0 was x at is
 
-read_as-ends : (state : State) (r timeout most : ℕ) (x0 : ReaderAt) (line : Result (List ℕ) ReadFault → List ℕ) → 1 ≤ most → ((a : Result (List ℕ) ReadFault) → line a ≡ read_line [] → a ≡ Ok []) → reader_at state r ≡ Some x0
-    → Ends read_line r (read_as state UntilShort r x0 line (read_came host_calls true timeout most (reading state.host (state_of_reader x0))))
-read_as-ends state r timeout most x0 line some none was x at is =
+-- so it is of a line whose call on an open reader is such a call, which may be barred
+pub line-ends : (print : List ℕ → List ℕ) → PrintsNone print → (state : State) (bars : Bool) (barred : State) (r : ℕ) (call : ReaderCall) (steps : List KernelStep)
+    → ((now : State) (x : ReaderAt) → reader_at now r ≡ Some x → Ends print r (reader_called call now r x)) → Ends print r (if bars then condition_answer barred else along_steps state steps (λ s. on_reader s r call))
+unfolding on_reader
+line-ends print none state bars barred r call steps ends =
+    let now = with_steps state steps in
+    let opened = open-ends print none now r (reader_called call now r) (ends now) in
+    bar-ends print none barred r bars (then_applied (on_reader now r call)) (λ x at is. opened x at is)
+
+-- reads
+read_on-ends : (state : State) (r timeout most : ℕ) (line : Result (List ℕ) ReadFault → List ℕ) (x0 : ReaderAt) → 1 ≤ most → ((a : Result (List ℕ) ReadFault) → line a ≡ read_line [] → a ≡ Ok []) → reader_at state r ≡ Some x0
+    → Ends read_line r (read_on state UntilShort r most timeout line x0)
+read_on-ends state r timeout most line x0 some none was =
     let w = reading state.host (state_of_reader x0) in
     let a = read_came host_calls true timeout most w in
-    as-end state r x0 x (consumed_with UntilShort (map Byte (bytes_given a.answer)) x0.reader.consumed) (bytes_given a.answer) a.left was (empty_read_leaves_end timeout most w some (none a.answer is)) at
+    bar-ends read_line read-none state r (bars_read state UntilShort x0) (read_as state UntilShort r x0 line a) (λ x at is.
+    as-end state r x0 x (consumed_with UntilShort (map Byte (given_by a.answer)) x0.reader.consumed) (given_by a.answer) a.left was (empty_read_leaves_end timeout most w some (none a.answer is)) at)
 
-filled_as-ends : (state : State) (r timeout : ℕ) (x0 : ReaderAt) (line : Result (List ℕ) ReadFault → List ℕ) → ((a : Result (List ℕ) ReadFault) → line a ≡ buffer_line [] → a ≡ Ok []) → reader_at state r ≡ Some x0
-    → Ends buffer_line r (filled_as state UntilShort r x0 line (fill_came host_calls true timeout (reading state.host (state_of_reader x0))))
-filled_as-ends state r timeout x0 line none was x at is =
+pub read-ends : (r most : ℕ) → 1 ≤ most → (state : State) (x : ReaderAt) → reader_at state r ≡ Some x → Ends read_line r (reader_called (readers.Read UntilShort most) state r x)
+read-ends r most some state x was = read_on-ends state r x.reader.bare.timeout most (given_line read_line) x some (given-none read_line read-none) was
+
+pub poll_read-ends : (r most : ℕ) → 1 ≤ most → (state : State) (x : ReaderAt) → reader_at state r ≡ Some x → Ends read_line r (reader_called (readers.PollRead UntilShort most) state r x)
+poll_read-ends r most some state x was = read_on-ends state r 0 most (polled_given_line read_line) x some (polled-none read_line read-none) was
+
+-- and fills
+fill_on-ends : (state : State) (r timeout : ℕ) (line : Result (List ℕ) ReadFault → List ℕ) (x0 : ReaderAt) → ((a : Result (List ℕ) ReadFault) → line a ≡ buffer_line [] → a ≡ Ok []) → reader_at state r ≡ Some x0
+    → Ends buffer_line r (fill_on state UntilShort r timeout line x0)
+fill_on-ends state r timeout line x0 none was =
     let w = reading state.host (state_of_reader x0) in
     let a = fill_came host_calls true timeout w in
-    as-end state r x0 x (consumed_with UntilShort [] x0.reader.consumed) [] a.left was (empty_fill_leaves_end timeout w (none a.answer is)) at
+    bar-ends buffer_line buffer-none state r (bars_read state UntilShort x0) (filled_as state UntilShort r x0 line a) (λ x at is.
+    as-end state r x0 x (consumed_with UntilShort [] x0.reader.consumed) [] a.left was (empty_fill_leaves_end timeout w (none a.answer is)) at)
 
-pub read-ends : (state : State) (r most : ℕ) (steps : List KernelStep) → 1 ≤ most → Ends read_line r (read_answer state UntilShort r most steps)
-unfolding read_answer
-read-ends state r most steps some =
-    let now = lent state steps in
-    let line = given_line read_line in
-    stepping-ends read_line read-none state r steps (read_on now UntilShort r most) (λ x0 was.
-    bar-ends read_line read-none now r (bars_read now UntilShort x0) (read_as now UntilShort r x0 line (read_came host_calls true x0.reader.bare.timeout most (reading now.host (state_of_reader x0))))
-    (read_as-ends now r x0.reader.bare.timeout most x0 line some (given-none read_line read-none) was))
+pub fill-ends : (r : ℕ) (state : State) (x : ReaderAt) → reader_at state r ≡ Some x → Ends buffer_line r (reader_called (readers.FillBuf UntilShort) state r x)
+fill-ends r state x was = fill_on-ends state r x.reader.bare.timeout (given_line buffer_line) x (given-none buffer_line buffer-none) was
 
-pub poll_read-ends : (state : State) (r most : ℕ) → 1 ≤ most → Ends read_line r (poll_read_answer state UntilShort r most)
-unfolding poll_read_answer
-poll_read-ends state r most some =
-    let line = polled_given_line read_line in
-    open-ends read_line read-none state r (poll_read_on state UntilShort r most) (λ x0 was.
-    bar-ends read_line read-none state r (bars_read state UntilShort x0) (read_as state UntilShort r x0 line (read_came host_calls true 0 most (reading state.host (state_of_reader x0))))
-    (read_as-ends state r 0 most x0 line some (polled-none read_line read-none) was))
-
-pub fill-ends : (state : State) (r : ℕ) (steps : List KernelStep) → Ends buffer_line r (fill_answer state UntilShort r steps)
-unfolding fill_answer
-fill-ends state r steps =
-    let now = lent state steps in
-    let line = given_line buffer_line in
-    stepping-ends buffer_line buffer-none state r steps (fill_on now UntilShort r) (λ x0 was.
-    bar-ends buffer_line buffer-none now r (bars_read now UntilShort x0) (filled_as now UntilShort r x0 line (fill_came host_calls true x0.reader.bare.timeout (reading now.host (state_of_reader x0))))
-    (filled_as-ends now r x0.reader.bare.timeout x0 line (given-none buffer_line buffer-none) was))
-
-pub poll_fill-ends : (state : State) (r : ℕ) → Ends buffer_line r (poll_fill_answer state UntilShort r)
-unfolding poll_fill_answer
-poll_fill-ends state r =
-    let line = polled_given_line buffer_line in
-    open-ends buffer_line buffer-none state r (poll_fill_on state UntilShort r) (λ x0 was.
-    bar-ends buffer_line buffer-none state r (bars_read state UntilShort x0) (filled_as state UntilShort r x0 line (fill_came host_calls true 0 (reading state.host (state_of_reader x0))))
-    (filled_as-ends state r 0 x0 line (polled-none buffer_line buffer-none) was))
+pub poll_fill-ends : (r : ℕ) (state : State) (x : ReaderAt) → reader_at state r ≡ Some x → Ends buffer_line r (reader_called (readers.PollFillBuf UntilShort) state r x)
+poll_fill-ends r state x was = fill_on-ends state r 0 (polled_given_line buffer_line) x (polled-none buffer_line buffer-none) was
 
 -- the stream of a reader's endpoint
 pub prefix-at : (past : List Event) (x : ReaderAt) (consumed : List Item) → FollowsAt past x consumed → IsPrefixOf consumed (stream_at past x.endpoint)

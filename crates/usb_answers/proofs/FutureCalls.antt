@@ -17,16 +17,16 @@ use Rattle.usb_words.specs.declared.control.ControlTarget.{ControlTarget}
 use Rattle.usb_lines.specs.Calls.{condition_line, ok_line}
 use Rattle.usb_lines.specs.Controls.{pending_line, received_line}
 use Rattle.usb_names.specs.Names.{named, is_free, freed, set_name}
-use Rattle.usb_answers.specs.State.{State, with_host}
-use Rattle.usb_answers.specs.Answer.{barred, if_open}
-use Rattle.usb_answers.specs.Steps.{lent, rested, stepped_all}
+use Rattle.usb_answers.specs.State.{State}
+use Rattle.usb_answers.specs.Answer.{Answer, condition_answer, if_open}
 use Rattle.usb_answers.specs.Controls.{device_of_target, bars_control, came_line}
-use Rattle.usb_answers.specs.Futures.{start_on, start_answer, future_polled, poll_future_answer, wait_future_answer}
+use Rattle.usb_answers.specs.Futures.{start_on, start_answer, future_polled, future_waited, on_future}
+use Rattle.usb_answers.specs.declared.call.FutureCall.TheVariants.{Poll}
 use Rattle.usb_answers.specs.SessionState.{SessionState, IsSound}
 use Rattle.usb_answers.specs.Relation.{Represents}
 use Rattle.usb_answers.specs.TargetCalls.{number_of_target, started_host, started_future}
 use Rattle.usb_answers.proofs.Answering.{Gives, barred-gives, host_is}
-use Rattle.usb_answers.proofs.Called.{KeepsSession, represents-host}
+use Rattle.usb_answers.proofs.Called.{KeepsSession}
 use Rattle.usb_answers.proofs.ControlCode.{number-is, sound-controlled}
 use Rattle.usb_answers.proofs.ControlHosts.{keeps-same, leaves-taken, leaves-waited, spare-waited, stands-lent_host}
 use Rattle.usb_answers.proofs.FutureSessions.{sound-future_opened, sound-future_freed}
@@ -107,7 +107,7 @@ none-begun (Some d) h request timeout is = absurd (cc)
 none-host : (h now : HostState) (request : TransferData) (timeout : ℕ) (o : Option ℕ) → None ≡ started_future h request timeout o → now ≡ started_host h request timeout o → now ≡ h
 none-host h now request timeout o none is = is ∙ ap (started_host h request timeout) (none-begun o h request timeout none)
 
-barred-by : (s : SessionState) (state : State) (n : ℕ) (request : TransferData) (timeout : ℕ) (o : Option ℕ) → Represents s state → ((device : ℕ) → o ≡ Some device → Gives s condition_line (if is_free state.futures n then start_on state n request timeout device else barred state)) → Gives s condition_line (if_open o (λ device. if is_free state.futures n then start_on state n request timeout device else barred state) (barred state))
+barred-by : (s : SessionState) (state : State) (n : ℕ) (request : TransferData) (timeout : ℕ) (o : Option ℕ) → Represents s state → ((device : ℕ) → o ≡ Some device → Gives s condition_line (if is_free state.futures n then start_on state n request timeout device else condition_answer state)) → Gives s condition_line (if_open o (λ device. if is_free state.futures n then start_on state n request timeout device else condition_answer state) (condition_answer state))
 barred-by s state n request timeout None r gives = barred-gives s state r
 barred-by s state n request timeout (Some device) r gives = gives device refl
 
@@ -116,7 +116,7 @@ unfolding start_answer
 start-none s state now n request timeout target o r number none is =
     let there : device_of_target state target ≡ None = number-is s state target r ∙ sym number ∙ none-begun o s.host request timeout none in
     let same : s.host ≡ now = sym (none-host s.host now request timeout o none is) in
-    rw there (subst (λ (h : HostState). Gives (record s { host = h }) condition_line (barred state)) same (barred-gives s state r))
+    rw there (subst (λ (h : HostState). Gives (record s { host = h }) condition_line (condition_answer state)) same (barred-gives s state r))
 
 pub start-used : (s : SessionState) (state : State) (n : ℕ) (request : TransferData) (timeout : ℕ) (target : ControlTarget) → Represents s state → is_free s.futures n ≡ false → Gives s condition_line (start_answer state n target request timeout)
 unfolding start_answer
@@ -130,7 +130,7 @@ start-bars s state n request timeout target r bars =
     let there : bars_control state.host.kernel.past ≡ true = ap (λ (h : HostState). bars_control h.kernel.past) (sym (host_is s state r)) ∙ bars in
     barred-by s state n request timeout (device_of_target state target) r (λ device some. rw there (both (is_free state.futures n) (barred-gives s state r)))
   where
-    both : (b : Bool) → Gives s condition_line (barred state) → Gives s condition_line (cond b (barred state) (barred state))
+    both : (b : Bool) → Gives s condition_line (condition_answer state) → Gives s condition_line (cond b (condition_answer state) (condition_answer state))
     both true gives = gives
     both false gives = gives
 
@@ -142,11 +142,10 @@ pub future-same_sound : (s : SessionState) (after : List (Option FutureState)) �
 future-same_sound s after sound same = subst (λ (l : List (Option FutureState)). IsSound (record s { futures = l })) (sym same) sound
 
 -- nothing is
-pub poll-none : (s : SessionState) (state : State) (after : List (Option FutureState)) (n : ℕ) → Represents s state → named s.futures n ≡ None → after ≡ freed s.futures n → Gives (record s { futures = after }) condition_line (poll_future_answer state n)
-unfolding poll_future_answer
-poll-none s state after n r none rest =
+pub none-gives : (s : SessionState) (state : State) (after : List (Option FutureState)) (n : ℕ) (call : FutureState → Answer) → Represents s state → named s.futures n ≡ None → after ≡ freed s.futures n → Gives (record s { futures = after }) condition_line (if_open (named state.futures n) call (condition_answer state))
+none-gives s state after n call r none rest =
     let same : s.futures ≡ after = sym (rest ∙ freed-none s.futures n none) in
-    rw (future-at s state n None r none) (subst (λ (l : List (Option FutureState)). Gives (record s { futures = l }) condition_line (barred state)) same (barred-gives s state r))
+    rw (future-at s state n None r none) (subst (λ (l : List (Option FutureState)). Gives (record s { futures = l }) condition_line (condition_answer state)) same (barred-gives s state r))
 
 -- its answer was taken
 taken-is : (h now : HostState) (f after : FutureState) (last : HostState) → now ≡ future_taken h f → after ≡ spent_future f → last ≡ future_closed now after → last ≡ future_taken h f
@@ -174,8 +173,8 @@ polled-by s state last after n f (Some given) answer r rest is came =
       same = ap received_line (same_Some given answer came);
     }
 
-pub polled-gives : (s : SessionState) (state : State) (now last : HostState) (after : List (Option FutureState)) (n : ℕ) (f y : FutureState) (answer : Result (List ℕ) TransferError) → Represents s state → named s.futures n ≡ Some f → after ≡ freed s.futures n → now ≡ future_taken s.host f → y ≡ spent_future f → last ≡ future_closed now y → future_answer s.host f ≡ Some answer → Gives (record s { host = last; futures = after }) (received_line answer) (poll_future_answer state n)
-unfolding poll_future_answer
+pub polled-gives : (s : SessionState) (state : State) (now last : HostState) (after : List (Option FutureState)) (n : ℕ) (f y : FutureState) (answer : Result (List ℕ) TransferError) → Represents s state → named s.futures n ≡ Some f → after ≡ freed s.futures n → now ≡ future_taken s.host f → y ≡ spent_future f → last ≡ future_closed now y → future_answer s.host f ≡ Some answer → Gives (record s { host = last; futures = after }) (received_line answer) (on_future state n Poll)
+unfolding on_future
 polled-gives s state now last after n f y answer r was rest taken spent closed came =
     rw (future-at s state n (Some f) r was)
     (polled-by s state last after n f (future_answer state.host f) answer r rest (taken-is s.host now f y last taken spent closed) (ap (λ (h : HostState). future_answer h f) (sym (host_is s state r)) ∙ came))
@@ -192,8 +191,8 @@ pending-by : (s : SessionState) (state : State) (n : ℕ) (f : FutureState) (o :
 pending-by s state n f None r none = record { state = r; same = refl }
 pending-by s state n f (Some given) r none = absurd (cc)
 
-pub pending-gives : (s : SessionState) (state : State) (now : HostState) (after : List (Option FutureState)) (n : ℕ) (f : FutureState) → Represents s state → named s.futures n ≡ Some f → now ≡ s.host → after ≡ s.futures → future_answer s.host f ≡ None → Gives (record s { host = now; futures = after }) pending_line (poll_future_answer state n)
-unfolding poll_future_answer
+pub pending-gives : (s : SessionState) (state : State) (now : HostState) (after : List (Option FutureState)) (n : ℕ) (f : FutureState) → Represents s state → named s.futures n ≡ Some f → now ≡ s.host → after ≡ s.futures → future_answer s.host f ≡ None → Gives (record s { host = now; futures = after }) pending_line (on_future state n Poll)
+unfolding on_future
 pending-gives s state now after n f r was host same none =
     rw (future-at s state n (Some f) r was, host, same)
     (pending-by s state n f (future_answer state.host f) r (ap (λ (h : HostState). future_answer h f) (sym (host_is s state r)) ∙ none))
@@ -218,34 +217,22 @@ waited-spare S s steps at now last n f sound view is was taken rest room =
     ap (λ (h : HostState). h.kernel.spare + length steps) (waited-is s.host at now last steps f is taken rest)
     ∙ spare-waited s.host steps f (sound.futures_wait n f was) (sound.futures_stand n f was) (subst (λ k. length steps ≤ k) (sym spare) room) ∙ spare
 
-pub waited-gives : (s : SessionState) (state : State) (steps : List KernelStep) (at now last : HostState) (after : List (Option FutureState)) (n : ℕ) (f : FutureState) (answer : Result (List ℕ) TransferError) → Represents s state → at ≡ record s.host { steps = steps } → named s.futures n ≡ Some f → after ≡ freed s.futures n → now ≡ future_taken (future_awaited at f) f → last ≡ host_rest now → future_answer (future_awaited at f) f ≡ Some answer → Gives (record s { host = last; futures = after }) (received_line answer) (wait_future_answer state n steps)
-unfolding wait_future_answer
-waited-gives s state steps at now last after n f answer r is was free taken rest came =
-    let host : at ≡ record state.host { steps = steps } = is ∙ ap (λ (h : HostState). record h { steps = steps }) (host_is s state r) in
+pub waited-gives : (s : SessionState) (state : State) (now : HostState) (after : List (Option FutureState)) (n : ℕ) (f : FutureState) (answer : Result (List ℕ) TransferError) → Represents s state → named s.futures n ≡ Some f → after ≡ freed s.futures n → now ≡ future_taken (future_awaited s.host f) f → future_answer (future_awaited s.host f) f ≡ Some answer
+    → Gives (record s { host = now; futures = after }) (received_line answer) (if_open (named state.futures n) (future_waited state n) (condition_answer state))
+waited-gives s state now after n f answer r was free taken came =
     rw (future-at s state n (Some f) r was)
     (record {
       state = record {
         is =
-            ap (λ (h : HostState). record s { host = h; futures = after }) (waited-is s.host at now last steps f is taken rest)
-            ∙ ap (λ (l : List (Option FutureState)). record s { host = host_rest (future_taken (future_awaited (record s.host { steps = steps }) f) f); futures = l }) free
-            ∙ ap (λ (v : SessionState). record v { host = host_rest (future_taken (future_awaited (record v.host { steps = steps }) f) f); futures = freed v.futures n }) r.is;
+            ap (λ (h : HostState). record s { host = h; futures = after }) taken
+            ∙ ap (λ (l : List (Option FutureState)). record s { host = future_taken (future_awaited s.host f) f; futures = l }) free
+            ∙ ap (λ (v : SessionState). record v { host = future_taken (future_awaited v.host f) f; futures = freed v.futures n }) r.is;
         few = r.few;
       };
-      same = ap (came_line received_line) (sym (ap (λ (h : HostState). future_answer (future_awaited h f) f) host) ∙ came);
+      same = ap (came_line received_line) (ap (λ (h : HostState). future_answer (future_awaited h f) f) (sym (host_is s state r)) ∙ came);
     })
 
 -- nothing was open under the name: the steps are applied all the same
 pub wait-none_sound : (s : SessionState) (steps : List KernelStep) (at last : HostState) (after : List (Option FutureState)) (n : ℕ) → IsSound s → at ≡ record s.host { steps = steps } → last ≡ host_rest at → named s.futures n ≡ None → after ≡ freed s.futures n → IsSound (record s { host = last; futures = after })
 wait-none_sound s steps at last after n sound is rest none free =
     future-same_sound (record s { host = last }) after (sound-controlled s steps at at last sound is (keeps-same at) rest) (free ∙ freed-none s.futures n none)
-
-pub wait-none : (s : SessionState) (state : State) (steps : List KernelStep) (at last : HostState) (after : List (Option FutureState)) (n : ℕ) → Represents s state → at ≡ record s.host { steps = steps } → last ≡ host_rest at → named s.futures n ≡ None → after ≡ freed s.futures n → Gives (record s { host = last; futures = after }) condition_line (wait_future_answer state n steps)
-unfolding wait_future_answer stepped_all
-wait-none s state steps at last after n r is rest none free =
-    let host : last ≡ host_rest (record state.host { steps = steps }) = rest ∙ ap host_rest (is ∙ ap (λ (h : HostState). record h { steps = steps }) (host_is s state r)) in
-    rw (future-at s state n None r none)
-    (subst (λ (l : List (Option FutureState)). Gives (record s { host = last; futures = l }) condition_line (barred (rested (lent state steps)))) (sym (free ∙ freed-none s.futures n none))
-    (record {
-      state = subst (λ (h : HostState). Represents (record s { host = last }) (with_host state h)) host (represents-host s state last r);
-      same = refl;
-    }))

@@ -1,20 +1,13 @@
 -- Futures are closed.
-use Rattle.std.proofs.Common.{◌≡◌, ℕ, ◌+◌, suc, arith, List, ◌++◌, Bool, true, false, Option, Some, None, Result, Ok, Err, String, string_bytes, refl, ap, sym, ◌∙◌, subst}
-use Rattle.std.specs.Prelude.{is_some, OnOk}
-use Rattle.std.specs.declared.alloc.Global.{Global}
+use Rattle.std.proofs.Common.{◌≡◌, ℕ, List, Option, Some, None, ap, sym, ◌∙◌, subst}
 use Rattle.usb_host.specs.HostState.{HostState}
 use Rattle.usb_device.specs.Futures.{FutureState, future_closed}
 use Rattle.usb_device.proofs.FutureFrames.{stays-closed}
-use Rattle.usb_lines.specs.Calls.{condition_line, ok_line}
 use Rattle.usb_names.specs.Names.{named, freed}
 use Rattle.usb_answers.specs.State.{State}
-use Rattle.usb_answers.specs.Answer.{barred, ok_answer, if_open}
-use Rattle.usb_answers.specs.Closes.{without_future, close_future_answer}
-use Rattle.usb_answers.specs.Ends.{future_closed_at, future_closed_under, futures_closed}
+use Rattle.usb_answers.specs.Ends.{future_closed_under}
 use Rattle.usb_answers.specs.SessionState.{SessionState, IsSound}
 use Rattle.usb_answers.specs.Relation.{Represents}
-use Rattle.usb_answers.specs.Answered.{Answered, Answers}
-use Rattle.usb_answers.proofs.Answering.{told-answered}
 use Rattle.usb_answers.proofs.FutureSessions.{leaves-closed, sound-future_freed}
 use Rattle.usb_names.proofs.NameLemmas.{freed-none}
 
@@ -57,34 +50,3 @@ pub future-nothing : (S s : SessionState) (after : List (Option FutureState)) (n
 future-nothing S s after n view none rest state r =
     subst (λ (l : List (Option FutureState)). Represents (record s { futures = l }) (future_closed_under state n)) (sym (rest ∙ freed-none s.futures n none))
     (future-none s state n (subst (λ v. Represents v state) (sym view) r) none)
-
-pub futures_closed-more : (state : State) (n : ℕ) → futures_closed state (n + 1) ≡ future_closed_under (futures_closed state n) n
-futures_closed-more state n = let more : n + 1 ≡ suc n = omega arith in rw more refl
-
--- the line that closes one
-was_open : (s : SessionState) (state : State) (n : ℕ) (before after : List ℕ) (o : Option FutureState) → is_some o ≡ true → Represents s (future_closed_at state n o) → after ≡ before ++ ok_line → Answered s before after (if_open o (λ f. ok_answer (without_future state n f)) (barred state))
-was_open s state n before after None some r is = absurd (cc)
-was_open s state n before after (Some f) some r is = told-answered s (without_future state n f) before after ok_line r is
-
-was_free : (s : SessionState) (state : State) (n : ℕ) (before after : List ℕ) (o : Option FutureState) → is_some o ≡ false → Represents s (future_closed_at state n o) → after ≡ before ++ condition_line → Answered s before after (if_open o (λ f. ok_answer (without_future state n f)) (barred state))
-was_free s state n before after None some r is = told-answered s state before after condition_line r is
-was_free s state n before after (Some f) some r is = absurd (cc)
-
-some_is : (S : SessionState) (state : State) (n : ℕ) (b : Bool) → Represents S state → is_some (named S.futures n) ≡ b → is_some (named state.futures n) ≡ b
-some_is S state n b r is = ap (λ (v : SessionState). is_some (named v.futures n)) (sym r.is) ∙ is
-
-pub close_future-answered : {E : Type 0} (S s : SessionState) (m n : ℕ) (before text : String Global) (result : Result Unit E) → m ≡ n → is_some (named S.futures m) ≡ true → ((state : State) → Represents S state → Represents s (future_closed_under state m)) → OnOk result (string_bytes text ≡ string_bytes before ++ ok_line) → Answers S s before text result (λ state. close_future_answer state n)
-unfolding close_future_answer future_closed_under
-close_future-answered S s m n before text (Err error) same some now is = tt
-close_future-answered S s m n before text (Ok done) same some now is =
-    λ state r.
-    subst (λ k. Answered s (string_bytes before) (string_bytes text) (if_open (named state.futures k) (λ f. ok_answer (without_future state k f)) (barred state))) same
-    (was_open s state m (string_bytes before) (string_bytes text) (named state.futures m) (some_is S state m true r some) (now state r) is)
-
-pub close_future-barred : {E : Type 0} (S s : SessionState) (m n : ℕ) (before text : String Global) (result : Result Unit E) → m ≡ n → is_some (named S.futures m) ≡ false → ((state : State) → Represents S state → Represents s (future_closed_under state m)) → OnOk result (string_bytes text ≡ string_bytes before ++ condition_line) → Answers S s before text result (λ state. close_future_answer state n)
-unfolding close_future_answer future_closed_under
-close_future-barred S s m n before text (Err error) same some now is = tt
-close_future-barred S s m n before text (Ok done) same some now is =
-    λ state r.
-    subst (λ k. Answered s (string_bytes before) (string_bytes text) (if_open (named state.futures k) (λ f. ok_answer (without_future state k f)) (barred state))) same
-    (was_free s state m (string_bytes before) (string_bytes text) (named state.futures m) (some_is S state m false r some) (now state r) is)

@@ -13,7 +13,7 @@ use Rattle.usb_host.proofs.WaitFrames.{line-keeps}
 use Rattle.usb_lines.specs.Calls.{result_line}
 use Rattle.usb_host.proofs.ClaimFrames.{goes-refl}
 use Rattle.usb_answers.specs.State.{State, with_host}
-use Rattle.usb_answers.specs.Answer.{Answer, told}
+use Rattle.usb_answers.specs.Answer.{Answer, answer_with}
 use Rattle.usb_answers.specs.Halts.{halt_cleared}
 use Rattle.usb_answers.specs.OpenCalls.{CallAnswers}
 use Rattle.usb_answers.proofs.Queue.{call-host}
@@ -28,11 +28,11 @@ abbrev pub halt_line : HostState → EndpointState → List ℕ
 halt_line h x = result_line (or_error clear_halt_error (host_halt_result h x.device x.address))
 
 abbrev halt_seen : State → HostState → EndpointState → Answer
-halt_seen state h x = told (with_host state (host_halt_cleared h x.device x.address)) (halt_line h x)
+halt_seen state h x = answer_with (with_host state (host_halt_cleared h x.device x.address)) (halt_line h x)
 
 pub halt-made : {E : Type 0} (host now : HostState) (x y : EndpointState) (before text : String Global) (result : Result Unit E) → now ≡ host_halt_cleared host x.device x.address → y ≡ x → OnOk result (string_bytes text ≡ string_bytes before ++ halt_line host x) → CallAnswers host now x y before text result (λ state e h. halt_cleared state h)
 halt-made host now x y before text result bus same_y printed =
     call-host host now x y before text result (halt_line host x) (λ state e h. halt_cleared state h) same_y printed
     (λ state e h host_was same.
     ap (λ (z : EndpointState). halt_seen state state.host z) same ∙ ap (λ (g : HostState). halt_seen state g x) host_was
-    ∙ ap (λ (g : HostState). told (with_host state g) (halt_line host x)) (sym bus))
+    ∙ ap (λ (g : HostState). answer_with (with_host state g) (halt_line host x)) (sym bus))

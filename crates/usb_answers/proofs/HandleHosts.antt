@@ -118,8 +118,8 @@ stands-written h now i c d f writes held open_ stands =
           let claim : stands.claim ≡ c = same_Some stands.claim c (sym stands.at ∙ ap (value_at h.interfaces) (sym here) ∙ writes.at) in
           stands-held now f d held (writes.goes.stays f.key d written some) (writes.number ∙ sym (ap (λ (z : ClaimedInterface). z.number) claim) ∙ stands.number) some
       | inr apart ↦
-          let kept = value-set_other h.interfaces i f.key (Some d) apart ∙ stands.at in
-          stands-held now f stands.claim held (writes.goes.stays f.key stands.claim kept stands.open_handle) stands.number stands.open_handle
+          let endpoint_state = value-set_other h.interfaces i f.key (Some d) apart ∙ stands.at in
+          stands-held now f stands.claim held (writes.goes.stays f.key stands.claim endpoint_state stands.open_handle) stands.number stands.open_handle
     ]
 
 -- a setting that was set

@@ -11,7 +11,9 @@ use Rattle.usb_kernel.specs.Tickets.{tickets}
 use Rattle.usb_bus.specs.Completions.{transfer_completion}
 use Rattle.usb_lines.specs.Completions.{polled_line}
 use Rattle.usb_script.specs.declared.item.Item.{Item}
-use Rattle.usb_script.specs.declared.item.Item.TheVariants.{CloseEndpoint, CloseReader, CloseWriter}
+use Rattle.usb_answers.specs.declared.call.Call.{Call}
+use Rattle.usb_answers.specs.declared.call.Call.TheVariants.{Close}
+use Rattle.usb_answers.specs.declared.call.CloseCall.TheVariants as closes
 use Rattle.usb_ledger.specs.declared.ends.TicketEnd.{TicketEnd}
 use Rattle.usb_ledger.specs.Entries.{HostTicket, HeldBy, Abandoned, Ended}
 use Rattle.usb_host.specs.HostState.{HostState}
@@ -29,7 +31,9 @@ use Rattle.usb_answers.specs.WriterAt.{writer_place}
 use Rattle.usb_answers.specs.Readers.{reader_closed_at, reader_closed}
 use Rattle.usb_answers.specs.Writers.{writer_closed_at, writer_closed}
 use Rattle.usb_answers.specs.Closes.{closed_at, closed}
+use Rattle.usb_answers.specs.Calls.{call_of}
 use Rattle.usb_answers.specs.Answers.{answer}
+use Rattle.usb_answers.specs.Below.{below, given_below}
 use Rattle.usb_answers.specs.Crowded.{bars_line}
 use Rattle.usb_answers.specs.Ends.{readers_closed, writers_closed, endpoints_closed, future_closed_at, future_closed_under, futures_closed, interfaces_closed, devices_closed, all_closed, ended}
 use Rattle.usb_answers.specs.Output.{start, behind, last_host, final_host}
@@ -40,22 +44,28 @@ use Rattle.usb_answers.specs.Fates.{fate_lines, fate_lines_from}
 use Rattle.usb_answers.specs.FinalFates.{FatesOfScripts}
 use Rattle.usb_answers.specs.Sums.{counts_of}
 use Rattle.usb_answers.proofs.FateLemmas.{fates-final}
-use Rattle.usb_answers.proofs.Does.{Quiet, quiet-same, quiet-then}
+use Rattle.usb_answers.proofs.Does.{Quiet, Closing, quiet-same, quiet-then}
+use Rattle.usb_answers.proofs.EndpointLines.{closed-does}
+use Rattle.usb_answers.proofs.ReaderDoes.{reader_closed-does}
+use Rattle.usb_answers.proofs.WriterDoes.{writer_closed-does}
 use Rattle.usb_answers.proofs.DeviceLines.{handles-quiet}
 use Rattle.usb_answers.proofs.AccountLemmas.{accounted-start, accounted-answer}
 use Rattle.usb_names.proofs.NameLemmas.{named-freed, named-freed_other, named-replicate}
 use Rattle.usb_answers.proofs.TimesLemmas.{times, times-append, counts-times, among, among-within, tickets_in, ticket_in, times_open, times-none, times-replicate}
 use Rattle.usb_answers.proofs.OrderLemmas.{Leaves, LeavesTickets, goes-then, closed-few, closed-taken, closed-others}
-use Rattle.usb_answers.proofs.StepLemmas.{Inv, Step, Closes, closes-on, all-tickets, step-then, step-after, step-quiet, few-taken, answer-step, closed-step, reader_closed-step, writer_closed-step, future_closed-step}
+use Rattle.usb_answers.proofs.StepLemmas.{Inv, Step, Closes, closes-on, all-tickets, step-then, step-after, step-quiet, acts-step, few-taken, answer-step, below-step, future_closed-step}
 use Rattle.usb_answers.proofs.PrintLemmas.{Prints, prints-stay, taken_of, AllPrint, all-print}
 use Rattle.usb_answers.proofs.TakeLemmas.{answer-takes}
 
--- the end closes the endpoints by number
+-- the end closes readers, writers and endpoints by number
+pub readers-step : (state : State) (lines : ℕ → List (List ℕ)) (k : ℕ) → Inv state → Step state (readers_closed state k) (read_at_end state lines k) []
+readers-step = below-step reader_closed reader_place reader_closed-does
+
+pub writers-step : (state : State) (lines : ℕ → List (List ℕ)) (k : ℕ) → Inv state → Step state (writers_closed state k) (written_at_end state lines k) []
+writers-step = below-step writer_closed writer_place writer_closed-does
+
 pub ends-step : (state : State) (lines : ℕ → List (List ℕ)) (k : ℕ) → Inv state → Step state (endpoints_closed state k) (closed_at_end state lines k) []
-ends-step state lines zero inv = step-quiet inv (quiet-same state)
-ends-step state lines (suc k) inv =
-    let first = ends-step state lines k inv in
-    step-then first (closed-step (endpoints_closed state k) k lines first.inv)
+ends-step = below-step closed (λ e. e) closed-does
 
 -- and leaves no name open
 closed_at-none : (state : State) (e n : ℕ) (o : Option Endpoint) → named state.endpoints e ≡ o → (n ≢ e → named state.endpoints n ≡ None) → named (closed_at state e o).endpoints n ≡ None
@@ -71,89 +81,58 @@ closed-none : (state : State) (e n : ℕ) → (n ≢ e → named state.endpoints
 unfolding closed
 closed-none state e n others = closed_at-none state e n (named state.endpoints e) refl others
 
-none-below : (state : State) (k n : ℕ) → n < k → named (endpoints_closed state k).endpoints n ≡ None
-none-below state zero n below = absurd (omega arith)
-none-below state (suc k) n below = closed-none (endpoints_closed state k) k n (λ apart. none-below state k n (lower k n apart below))
-  where
-    lower : (k n : ℕ) → n ≢ k → n < suc k → n < k
-    lower k n apart small = omega arith
-
--- before that it closes the readers
-pub readers-step : (state : State) (lines : ℕ → List (List ℕ)) (k : ℕ) → Inv state → Step state (readers_closed state k) (read_at_end state lines k) []
-readers-step state lines zero inv = step-quiet inv (quiet-same state)
-readers-step state lines (suc k) inv =
-    let first = readers-step state lines k inv in
-    step-then first (reader_closed-step (readers_closed state k) k lines first.inv)
-
--- which closes an endpoint at the place of each
+-- at the place of each
 reader_closed_at-endpoints : (state : State) (r : ℕ) (o : Option Endpoint) → (reader_closed_at state r o).endpoints ≡ (closed_at state (reader_place r) o).endpoints
 reader_closed_at-endpoints state r None = refl
 reader_closed_at-endpoints state r (Some h) = refl
-
-reader_closed-endpoints : (state : State) (r : ℕ) → (reader_closed state r).endpoints ≡ (closed state (reader_place r)).endpoints
-unfolding reader_closed closed
-reader_closed-endpoints state r = reader_closed_at-endpoints state r (named state.endpoints (reader_place r))
-
-readers-none : (state : State) (k r : ℕ) → r < k → named (readers_closed state k).endpoints (reader_place r) ≡ None
-readers-none state zero r below = absurd (omega arith)
-readers-none state (suc k) r below =
-    let mid = readers_closed state k in
-    ap (λ (l : List (Option Endpoint)). named l (reader_place r)) (reader_closed-endpoints mid k)
-    ∙ closed-none mid (reader_place k) (reader_place r) (λ apart. readers-none state k r (lower k r (λ same. apart (ap reader_place same)) below))
-  where
-    lower : (k n : ℕ) → n ≢ k → n < suc k → n < k
-    lower k n apart small = omega arith
-
--- then it closes the writers
-pub writers-step : (state : State) (lines : ℕ → List (List ℕ)) (k : ℕ) → Inv state → Step state (writers_closed state k) (written_at_end state lines k) []
-writers-step state lines zero inv = step-quiet inv (quiet-same state)
-writers-step state lines (suc k) inv =
-    let first = writers-step state lines k inv in
-    step-then first (writer_closed-step (writers_closed state k) k lines first.inv)
 
 writer_closed_at-endpoints : (state : State) (w : ℕ) (o : Option Endpoint) → (writer_closed_at state w o).endpoints ≡ (closed_at state (writer_place w) o).endpoints
 writer_closed_at-endpoints state w None = refl
 writer_closed_at-endpoints state w (Some h) = refl
 
-writer_closed-endpoints : (state : State) (w : ℕ) → (writer_closed state w).endpoints ≡ (closed state (writer_place w)).endpoints
+abbrev ClosesAt : (State → ℕ → State) → (ℕ → ℕ) → Type 0
+ClosesAt act place = (state : State) (n : ℕ) → (act state n).endpoints ≡ (closed state (place n)).endpoints
+
+reader_closed-at : ClosesAt reader_closed reader_place
+unfolding reader_closed closed
+reader_closed-at state r = reader_closed_at-endpoints state r (named state.endpoints (reader_place r))
+
+writer_closed-at : ClosesAt writer_closed writer_place
 unfolding writer_closed closed
-writer_closed-endpoints state w = writer_closed_at-endpoints state w (named state.endpoints (writer_place w))
+writer_closed-at state w = writer_closed_at-endpoints state w (named state.endpoints (writer_place w))
 
-writers-none : (state : State) (k w : ℕ) → w < k → named (writers_closed state k).endpoints (writer_place w) ≡ None
-writers-none state zero w below = absurd (omega arith)
-writers-none state (suc k) w below =
-    let mid = writers_closed state k in
-    ap (λ (l : List (Option Endpoint)). named l (writer_place w)) (writer_closed-endpoints mid k)
-    ∙ closed-none mid (writer_place k) (writer_place w) (λ apart. writers-none state k w (lower k w (λ same. apart (ap writer_place same)) below))
-  where
-    lower : (k n : ℕ) → n ≢ k → n < suc k → n < k
-    lower k n apart small = omega arith
+module _ (act : State → ℕ → State) (place : ℕ → ℕ) (at : ClosesAt act place) where
+  below-none : (state : State) (k n : ℕ) → n < k → named (below act state k).endpoints (place n) ≡ None
+  below-none state zero n few = absurd (omega arith)
+  below-none state (suc k) n few =
+      let mid = below act state k in
+      ap (λ (l : List (Option Endpoint)). named l (place n)) (at mid k) ∙ closed-none mid (place k) (place n) (λ apart. below-none state k n (lower k n (λ same. apart (ap place same)) few))
+    where
+      lower : (k n : ℕ) → n ≢ k → n < suc k → n < k
+      lower k n apart small = omega arith
 
--- what is closed stays so
-writers-stay : (state : State) (k n : ℕ) → named state.endpoints n ≡ None → named (writers_closed state k).endpoints n ≡ None
-writers-stay state zero n none = none
-writers-stay state (suc k) n none =
-    let mid = writers_closed state k in
-    ap (λ (l : List (Option Endpoint)). named l n) (writer_closed-endpoints mid k) ∙ closed-none mid (writer_place k) n (λ apart. writers-stay state k n none)
-
-none-stays : (state : State) (k n : ℕ) → named state.endpoints n ≡ None → named (endpoints_closed state k).endpoints n ≡ None
-none-stays state zero n none = none
-none-stays state (suc k) n none = closed-none (endpoints_closed state k) k n (λ apart. none-stays state k n none)
+  -- what is closed stays so
+  below-stays : (state : State) (k n : ℕ) → named state.endpoints n ≡ None → named (below act state k).endpoints n ≡ None
+  below-stays state zero n none = none
+  below-stays state (suc k) n none =
+      let mid = below act state k in
+      ap (λ (l : List (Option Endpoint)). named l n) (at mid k) ∙ closed-none mid (place k) n (λ apart. below-stays state k n none)
 
 -- so in the end no endpoint is open
 none-open : (state : State) (n : ℕ) → n < 192 → named (endpoints_closed (writers_closed (readers_closed state 64) 64) 64).endpoints n ≡ None
-none-open state n below =
+none-open state n few =
     let read = readers_closed state 64 in
     let written = writers_closed read 64 in
+    let stays = below-stays closed (λ e. e) (λ s e. refl) written 64 n in
     elim (cases_lt n 64) [
-      | inl first ↦ none-below written 64 n first
+      | inl first ↦ below-none closed (λ e. e) (λ s e. refl) written 64 n first
       | inr beyond ↦ elim (cases_lt n 128) [
         | inl low ↦
             let at : reader_place (n - 64) ≡ n = omega (arith, beyond) in
-            none-stays written 64 n (writers-stay read 64 n (ap (named read.endpoints) (sym at) ∙ readers-none state 64 (n - 64) (omega (arith, low, beyond))))
+            stays (below-stays writer_closed writer_place writer_closed-at read 64 n (ap (named read.endpoints) (sym at) ∙ below-none reader_closed reader_place reader_closed-at state 64 (n - 64) (omega (arith, low, beyond))))
         | inr high ↦
             let at : writer_place (n - 128) ≡ n = omega (arith, high) in
-            none-stays written 64 n (ap (named written.endpoints) (sym at) ∙ writers-none read 64 (n - 128) (omega (arith, below, high)))
+            stays (ap (named written.endpoints) (sym at) ∙ below-none writer_closed writer_place writer_closed-at read 64 (n - 128) (omega (arith, few, high)))
       ]
     ]
 
@@ -270,16 +249,16 @@ closed_as-printed past lines (Some h) prints = All-cons (Printed past) (record {
 closed_under-printed : (state : State) (lines : ℕ → List (List ℕ)) (e : ℕ) → AllPrint state lines → All (Printed state.host.kernel.past) (closed_under state lines e)
 closed_under-printed state lines e prints = closed_as-printed state.host.kernel.past (lines e) (named state.endpoints e) (λ h is. prints e h is)
 
-closed_by_call-printed : (state : State) (lines : ℕ → List (List ℕ)) (item : Item) → AllPrint state lines → All (Printed state.host.kernel.past) (closed_by_call state lines item)
-closed_by_call-printed state lines (CloseEndpoint e) prints = closed_under-printed state lines (endpoint_place e) prints
-closed_by_call-printed state lines (CloseReader r) prints = closed_under-printed state lines (reader_place r) prints
-closed_by_call-printed state lines (CloseWriter w) prints = closed_under-printed state lines (writer_place w) prints
-closed_by_call-printed state lines item prints = All-nil (Printed state.host.kernel.past)
+closed_by_call-printed : (state : State) (lines : ℕ → List (List ℕ)) (call : Call) → AllPrint state lines → All (Printed state.host.kernel.past) (closed_by_call state lines call)
+closed_by_call-printed state lines (Close (closes.Endpoint e)) prints = closed_under-printed state lines (endpoint_place e) prints
+closed_by_call-printed state lines (Close (closes.Reader r)) prints = closed_under-printed state lines (reader_place r) prints
+closed_by_call-printed state lines (Close (closes.Writer w)) prints = closed_under-printed state lines (writer_place w) prints
+closed_by_call-printed state lines call prints = All-nil (Printed state.host.kernel.past)
 
 closed_by-printed : (state : State) (lines : ℕ → List (List ℕ)) (item : Item) → AllPrint state lines → All (Printed state.host.kernel.past) (closed_by state lines item)
 closed_by-printed state lines item prints =
-    cond_both (bars_line state item) [] (closed_by_call state lines item) (λ (xs : List ClosedEndpoint). All (Printed state.host.kernel.past) xs)
-    (λ yes_. All-nil (Printed state.host.kernel.past)) (λ no_. closed_by_call-printed state lines item prints)
+    cond_both (bars_line state item) [] (closed_by_call state lines (call_of item)) (λ (xs : List ClosedEndpoint). All (Printed state.host.kernel.past) xs)
+    (λ yes_. All-nil (Printed state.host.kernel.past)) (λ no_. closed_by_call-printed state lines (call_of item) prints)
 
 -- a close leaves what was printed of others
 closed_at-named : (state : State) (e d : ℕ) (g : Endpoint) (o : Option Endpoint) → named (closed_at state e o).endpoints d ≡ Some g → named state.endpoints d ≡ Some g
@@ -311,34 +290,19 @@ record EndPrints (state : State) (lines : ℕ → List (List ℕ)) (shut : List 
   open_ : AllPrint state lines
   shut_ : All (Printed state.host.kernel.past) shut
 
-prints-same : (state : State) (lines : ℕ → List (List ℕ)) → AllPrint state lines → EndPrints state lines []
-prints-same state lines prints = record { open_ = prints; shut_ = All-nil (Printed state.host.kernel.past) }
-
-prints-then : {state next : State} {lines : ℕ → List (List ℕ)} {before : List ClosedEndpoint} (e : ℕ) → next.endpoints ≡ (closed state e).endpoints → Extends state.host.kernel.past next.host.kernel.past → EndPrints state lines before
-    → EndPrints next lines (before ++ closed_under state lines e)
-prints-then {state} {next} {lines} {before} e same extends p =
+below-print : (act : State → ℕ → State) (place : ℕ → ℕ) → ClosesAt act place → Closing act place → (state : State) (lines : ℕ → List (List ℕ)) (k : ℕ) → Inv state → AllPrint state lines
+    → EndPrints (below act state k) lines (given_below act (λ s n. closed_under s lines (place n)) state k)
+below-print act place at closing state lines zero inv prints = record { open_ = prints; shut_ = All-nil (Printed state.host.kernel.past) }
+below-print act place at closing state lines (suc k) inv prints =
+    let mid = below act state k in
+    let next = act mid k in
+    let before = given_below act (λ s n. closed_under s lines (place n)) state k in
+    let p = below-print act place at closing state lines k inv prints in
+    let extends = (acts-step tt (closing mid k lines) (below-step act place closing state lines k inv).inv).goes.past in
     record {
-      open_ = closed-prints state next e lines same extends p.open_;
-      shut_ = closed-printed state next e lines before extends p.open_ p.shut_;
+      open_ = closed-prints mid next (place k) lines (at mid k) extends p.open_;
+      shut_ = closed-printed mid next (place k) lines before extends p.open_ p.shut_;
     }
-
-readers-print : (state : State) (lines : ℕ → List (List ℕ)) (k : ℕ) → Inv state → AllPrint state lines → EndPrints (readers_closed state k) lines (read_at_end state lines k)
-readers-print state lines zero inv prints = prints-same state lines prints
-readers-print state lines (suc k) inv prints =
-    let mid = readers_closed state k in
-    prints-then (reader_place k) (reader_closed-endpoints mid k) (reader_closed-step mid k lines (readers-step state lines k inv).inv).goes.past (readers-print state lines k inv prints)
-
-writers-print : (state : State) (lines : ℕ → List (List ℕ)) (k : ℕ) → Inv state → AllPrint state lines → EndPrints (writers_closed state k) lines (written_at_end state lines k)
-writers-print state lines zero inv prints = prints-same state lines prints
-writers-print state lines (suc k) inv prints =
-    let mid = writers_closed state k in
-    prints-then (writer_place k) (writer_closed-endpoints mid k) (writer_closed-step mid k lines (writers-step state lines k inv).inv).goes.past (writers-print state lines k inv prints)
-
-ends-print : (state : State) (lines : ℕ → List (List ℕ)) (k : ℕ) → Inv state → AllPrint state lines → EndPrints (endpoints_closed state k) lines (closed_at_end state lines k)
-ends-print state lines zero inv prints = prints-same state lines prints
-ends-print state lines (suc k) inv prints =
-    let mid = endpoints_closed state k in
-    prints-then k refl (closed-step mid k lines (ends-step state lines k inv).inv).goes.past (ends-print state lines k inv prints)
 
 runs-print : (state : State) (lines : ℕ → List (List ℕ)) (items : List Item) → Inv state → AllPrint state lines → All (Printed (last_host state items).kernel.past) (closed_endpoints_from state lines items)
 unfolding ended all_closed
@@ -350,9 +314,9 @@ runs-print state lines [] inv prints =
     let writers = writers-step read lines 64 readers.inv in
     let ends = ends-step written lines 64 writers.inv in
     let last = last-step mid ends.inv in
-    let first = readers-print state lines 64 inv prints in
-    let second = writers-print read lines 64 readers.inv first.open_ in
-    let third = ends-print written lines 64 writers.inv second.open_ in
+    let first = below-print reader_closed reader_place reader_closed-at reader_closed-does state lines 64 inv prints in
+    let second = below-print writer_closed writer_place writer_closed-at writer_closed-does read lines 64 readers.inv first.open_ in
+    let third = below-print closed (λ e. e) (λ s e. refl) closed-does written lines 64 writers.inv second.open_ in
     let past = (ended state).kernel.past in
     All-append (Printed past) (read_at_end state lines 64 ++ written_at_end read lines 64) (closed_at_end written lines 64)
     (All-append (Printed past) (read_at_end state lines 64) (written_at_end read lines 64)

@@ -1,7 +1,5 @@
 -- Handles of interfaces are cloned, closed and released.
-use Rattle.std.proofs.Common.{◌≡◌, ℕ, Bool, true, false, List, ◌++◌, Option, Some, None, Result, Ok, Err, String, string_bytes, refl, ap, sym, ◌∙◌, subst}
-use Rattle.std.specs.Prelude.{OnOk, is_some}
-use Rattle.std.specs.declared.alloc.Global.{Global}
+use Rattle.std.proofs.Common.{◌≡◌, ℕ, Bool, true, false, List, Option, Some, None, Ok, Err, refl, ap, sym, ◌∙◌, subst}
 use Rattle.usb_registry.specs.History.{value_at}
 use Rattle.usb_error.specs.ErrorState.{ErrorState}
 use Rattle.usb_error.specs.Errors.{interface_in_use_error}
@@ -15,15 +13,12 @@ use Rattle.usb_host.specs.Owners.{is_shared}
 use Rattle.usb_names.specs.Names.{named, is_free, freed, set_name}
 use Rattle.usb_answers.specs.State.{State}
 use Rattle.usb_answers.specs.OpenAt.{interface_at}
-use Rattle.usb_answers.specs.Answer.{barred, ok_answer, if_open}
-use Rattle.usb_answers.specs.Answered.{Answered, Answers}
 use Rattle.usb_answers.specs.Clones.{clone_interface_answer}
-use Rattle.usb_answers.specs.Closes.{close_interface_answer, release_answer, without_interface}
-use Rattle.usb_answers.specs.Ends.{interface_closed, interface_closed_at}
+use Rattle.usb_answers.specs.Closes.{release_answer}
 use Rattle.usb_answers.specs.SessionState.{SessionState, IsSound}
 use Rattle.usb_answers.specs.Relation.{Represents}
 use Rattle.usb_names.proofs.NameLemmas.{freed-none, put-back}
-use Rattle.usb_answers.proofs.Answering.{Gives, barred-gives, told-answered, host_is}
+use Rattle.usb_answers.proofs.Answering.{Gives, barred-gives, host_is}
 use Rattle.usb_answers.proofs.Handled.{represents-handled}
 
 -- what a session has open under a name is open in the state
@@ -57,34 +52,6 @@ clone_interface-gives s state now after n i f at free is put r =
     let names : after ≡ set_name state.interfaces n f = put ∙ ap (λ (v : SessionState). set_name v.interfaces n f) r.is in
     rw (interface_is s state i (Some f) r at, here)
     (record { state = represents-handled s state now (handle_cloned state.host f.key) after (set_name state.interfaces n f) r host names; same = refl })
-
--- a handle of an interface is closed
-was_open : (s : SessionState) (state : State) (i : ℕ) (before after : List ℕ) (o : Option InterfaceState) → is_some o ≡ true → Represents s (interface_closed_at state i o) → after ≡ before ++ ok_line → Answered s before after (if_open o (λ f. ok_answer (without_interface state i f)) (barred state))
-was_open s state i before after None some r is = absurd (cc)
-was_open s state i before after (Some f) some r is = told-answered s (without_interface state i f) before after ok_line r is
-
-was_free : (s : SessionState) (state : State) (i : ℕ) (before after : List ℕ) (o : Option InterfaceState) → is_some o ≡ false → Represents s (interface_closed_at state i o) → after ≡ before ++ condition_line → Answered s before after (if_open o (λ f. ok_answer (without_interface state i f)) (barred state))
-was_free s state i before after None some r is = told-answered s state before after condition_line r is
-was_free s state i before after (Some f) some r is = absurd (cc)
-
-some_is : (s : SessionState) (state : State) (n : ℕ) (b : Bool) → Represents s state → is_some (named s.interfaces n) ≡ b → is_some (named state.interfaces n) ≡ b
-some_is s state n b r some = ap (λ (v : SessionState). is_some (named v.interfaces n)) (sym r.is) ∙ some
-
-pub close_interface-answered : {E : Type 0} (S s : SessionState) (n i : ℕ) (before text : String Global) (result : Result Unit E) → n ≡ i → is_some (named S.interfaces n) ≡ true → ((state : State) → Represents S state → Represents s (interface_closed state n)) → OnOk result (string_bytes text ≡ string_bytes before ++ ok_line) → Answers S s before text result (λ state. close_interface_answer state i)
-unfolding close_interface_answer interface_closed
-close_interface-answered S s n i before text (Err error) same some now is = tt
-close_interface-answered S s n i before text (Ok done) same some now is =
-    λ state r.
-    subst (λ m. Answered s (string_bytes before) (string_bytes text) (if_open (named state.interfaces m) (λ f. ok_answer (without_interface state m f)) (barred state))) same
-    (was_open s state n (string_bytes before) (string_bytes text) (named state.interfaces n) (some_is S state n true r some) (now state r) is)
-
-pub close_interface-barred : {E : Type 0} (S s : SessionState) (n i : ℕ) (before text : String Global) (result : Result Unit E) → n ≡ i → is_some (named S.interfaces n) ≡ false → ((state : State) → Represents S state → Represents s (interface_closed state n)) → OnOk result (string_bytes text ≡ string_bytes before ++ condition_line) → Answers S s before text result (λ state. close_interface_answer state i)
-unfolding close_interface_answer interface_closed
-close_interface-barred S s n i before text (Err error) same some now is = tt
-close_interface-barred S s n i before text (Ok done) same some now is =
-    λ state r.
-    subst (λ m. Answered s (string_bytes before) (string_bytes text) (if_open (named state.interfaces m) (λ f. ok_answer (without_interface state m f)) (barred state))) same
-    (was_free s state n (string_bytes before) (string_bytes text) (named state.interfaces n) (some_is S state n false r some) (now state r) is)
 
 -- a claim ends, or its interface has another owner
 pub release-none : (s : SessionState) (state : State) (after : List (Option InterfaceState)) (i : ℕ) → named s.interfaces i ≡ None → after ≡ freed s.interfaces i → Represents s state → Gives (record s { interfaces = after }) condition_line (release_answer state i)

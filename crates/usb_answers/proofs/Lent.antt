@@ -1,6 +1,5 @@
 -- Lines with steps of their own: the steps are lent, a call is made, and the rest of them is applied.
-use Rattle.std.proofs.Common.{◌≡◌, ℕ, ◌≤◌, ◌+◌, arith, List, [], ◌∷◌, ◌++◌, length, Option, Some, None, Result, Ok, Err, Bool, String, string_bytes, refl, ap, sym, ◌∙◌, subst}
-use Rattle.std.specs.Prelude.{OnOk}
+use Rattle.std.proofs.Common.{◌≡◌, ℕ, ◌≤◌, ◌+◌, List, length, Option, Some, Result, Ok, Err, Bool, String, string_bytes, refl, ap, sym, ◌∙◌, subst}
 use Rattle.std.specs.declared.alloc.Global.{Global}
 use Rattle.usb_ledger.proofs.DeviceLemmas.{counts-same}
 use Rattle.usb_simulated.specs.declared.step.KernelStep.{KernelStep}
@@ -15,24 +14,23 @@ use Rattle.usb_host.specs.HostFrames.{LineGoesOn}
 use Rattle.usb_host.specs.HostTurns.{host_rest}
 use Rattle.usb_host.proofs.CallFrames.{keeps-open}
 use Rattle.usb_host.proofs.WaitFrames.{went-rest, rest-steps, rest-spare, line-keeps}
-use Rattle.usb_lines.specs.Calls.{condition_line}
 use Rattle.usb_answers.specs.declared.session.Session.TheInside.{Inside}
 use Rattle.usb_names.specs.Names.{named, freed, set_name}
-use Rattle.usb_answers.specs.State.{State, Endpoint, with_host}
-use Rattle.usb_answers.specs.Answer.{Answer, barred, if_open}
-use Rattle.usb_answers.specs.Steps.{lent, then_rested, stepped_all}
+use Rattle.usb_answers.specs.State.{State, with_host}
+use Rattle.usb_answers.specs.Answer.{Answer}
+use Rattle.usb_answers.specs.Steps.{with_steps, then_applied, along_steps, stepped_all}
 use Rattle.usb_answers.specs.SessionState.{SessionState, IsSound}
 use Rattle.usb_answers.specs.SessionFacts.{made_of, endpoints_with}
 use Rattle.usb_answers.specs.ReaderAt.{endpoint_place}
 use Rattle.usb_answers.specs.Relation.{Represents}
 use Rattle.usb_answers.specs.Answered.{Answered, Answers}
-use Rattle.usb_answers.specs.OpenCalls.{CallKeeps, CallAnswers, with_called}
-use Rattle.usb_answers.proofs.Answering.{told-answered, answered-none, answered-some, none_kept, host_is}
+use Rattle.usb_answers.specs.OpenCalls.{CallKeeps}
+use Rattle.usb_answers.proofs.Answering.{host_is}
 use Rattle.usb_host.proofs.ClaimFrames.{goes-trans}
-use Rattle.usb_answers.proofs.Called.{KeepsSession, represents-host, sound-host, sound-put, open_at}
+use Rattle.usb_answers.proofs.Called.{KeepsSession, represents-host, sound-host, sound-put}
 use Rattle.usb_answers.proofs.OpenPlaces.{taken-endpoint}
 use Rattle.usb_answers.proofs.NamedKeys.{OpensNone, none-goes, none-then}
-use Rattle.usb_answers.proofs.TakenOut.{made_with, PutBack, places-made, named-made, none_made, made-put, made-called}
+use Rattle.usb_answers.proofs.TakenOut.{made_with, PutBack, places-made, made-put}
 
 abbrev lent_host : HostState → List KernelStep → HostState
 lent_host host steps = record host { steps = steps }
@@ -82,13 +80,12 @@ sound-lent i steps at now last after e x y sound is back keeps rest =
     (taken-endpoint i.endpoints.items i.readers.items i.writers.items (places-made i sound) e x back.was) (made-put i after e x y sound back) keeps rest
 
 -- the session to which the steps are lent
-pub represents-lent : (i : Inside) (S : SessionState) (steps : List KernelStep) (at : HostState) → made_of i ≡ S → at ≡ record i.host { steps = steps } → (state : State) → Represents S state → Represents (record S { host = at }) (lent state steps)
-represents-lent i S steps at view is state r =
-    let host : at ≡ record S.host { steps = steps } = is ∙ ap (λ (v : SessionState). record v.host { steps = steps }) view in
-    subst (λ (h : HostState). Represents (record S { host = at }) (with_host state h)) (host ∙ ap (λ (h : HostState). record h { steps = steps }) (host_is S state r)) (represents-host S state at r)
+represents-lent : (s : SessionState) (steps : List KernelStep) (at : HostState) → at ≡ record s.host { steps = steps } → (state : State) → Represents s state → Represents (record s { host = at }) (with_steps state steps)
+represents-lent s steps at is state r =
+    subst (λ (h : HostState). Represents (record s { host = at }) (with_host state h)) (is ∙ ap (λ (h : HostState). record h { steps = steps }) (host_is s state r)) (represents-host s state at r)
 
 -- its answer, and then the rest of the steps
-pub rested-answered : (s : SessionState) (now : HostState) (before after : List ℕ) (a : Answer) → s.host ≡ now → Answered s before after a → Answered (record s { host = host_rest now }) before after (then_rested a)
+rested-answered : (s : SessionState) (now : HostState) (before after : List ℕ) (a : Answer) → s.host ≡ now → Answered s before after a → Answered (record s { host = host_rest now }) before after (then_applied a)
 rested-answered s now before after a is answered =
     record {
       state = subst (λ (h : HostState). Represents (record s { host = host_rest now }) (with_host a.state (host_rest h))) (sym is ∙ host_is s a.state answered.state)
@@ -96,22 +93,15 @@ rested-answered s now before after a is answered =
       line = answered.line;
     }
 
-pub answers-lent : {E : Type 0} (i : Inside) (S : SessionState) (steps : List KernelStep) (at now last : HostState) (after : List (Option EndpointState)) (n e : ℕ) (x y : EndpointState) (before text : String Global) (result : Result Unit E) (call : State → ℕ → Endpoint → Answer) → IsSound (made_of i) → made_of i ≡ S → at ≡ record i.host { steps = steps } → PutBack i.endpoints.items after n x y → n ≡ e → CallAnswers at now x y before text result call → last ≡ host_rest now → Answers S (made_with i last after) before text result (λ state. if_open (named state.endpoints (endpoint_place e)) (λ h. then_rested (call (lent state steps) (endpoint_place e) h)) (barred (stepped_all state steps)))
-answers-lent i S steps at now last after n e x y before text (Err error) call sound view is back same answers rest = tt
-answers-lent i S steps at now last after n e x y before text (Ok done) call sound view is back same answers rest =
+-- what a call answers to which the steps were lent
+pub answers-along : {E : Type 0} (S s after : SessionState) (steps : List KernelStep) (at now last : HostState) (before text : String Global) (result : Result Unit E) (call : State → Answer) → s ≡ S → at ≡ record s.host { steps = steps } → after.host ≡ now → last ≡ host_rest now → Answers (record s { host = at }) after before text result call
+    → Answers S (record after { host = last }) before text result (λ state. along_steps state steps call)
+answers-along S s after steps at now last before text (Err error) call view is host rest answers = tt
+answers-along S s after steps at now last before text (Ok done) call view is host rest answers =
     λ state r.
-    let b = string_bytes before in
-    let t = string_bytes text in
-    let p = endpoint_place n in
-    let was = named-made i S n x sound view back.was in
-    let o = open_at S state p x r was in
-    let lends = represents-lent i S steps at view is state r in
-    let called : Answered (with_called S p now y) b t (call (lent state steps) p o.entry) = answers (record S { host = at }) (lent state steps) p o.entry lends refl was o.is in
-    subst (λ m. Answered (made_with i last after) b t (if_open (named state.endpoints (endpoint_place m)) (λ h. then_rested (call (lent state steps) (endpoint_place m) h)) (barred (stepped_all state steps)))) same
-    (answered-some (made_with i last after) b t (named state.endpoints p) o.entry (λ h. then_rested (call (lent state steps) p h)) (barred (stepped_all state steps)) o.is
-    (subst (λ (h : HostState). Answered (made_with i h after) b t (then_rested (call (lent state steps) p o.entry))) (sym rest)
-    (rested-answered (made_with i now after) now b t (call (lent state steps) p o.entry) refl
-    (subst (λ s. Answered s b t (call (lent state steps) p o.entry)) (made-called i S now after n x y sound view back) called))))
+    subst (λ (h : HostState). Answered (record after { host = h }) (string_bytes before) (string_bytes text) (along_steps state steps call)) (sym rest)
+    (rested-answered after now (string_bytes before) (string_bytes text) (call (with_steps state steps)) host
+    (answers (with_steps state steps) (represents-lent s steps at is state (subst (λ v. Represents v state) (sym view) r))))
 
 -- no endpoint was called
 pub sound-stepped : (i : Inside) (steps : List KernelStep) (at last : HostState) (mid : List (Option EndpointState)) → IsSound (made_of i) → at ≡ record i.host { steps = steps } → last ≡ host_rest at → mid ≡ i.endpoints.items → IsSound (made_with i last mid)
@@ -130,35 +120,12 @@ steps-represent i S steps at last view is rest state r =
     (rest ∙ ap host_rest is ∙ ap (λ (h : HostState). host_rest (record h { steps = steps })) (host_is (made_of i) state here))
     (represents-host (made_of i) state last here)
 
-pub answers-stepped : {E : Type 0} (i : Inside) (S : SessionState) (steps : List KernelStep) (at last : HostState) (mid : List (Option EndpointState)) (n e : ℕ) (before text : String Global) (result : Result Unit E) (call : State → Endpoint → Answer) → IsSound (made_of i) → made_of i ≡ S → at ≡ record i.host { steps = steps } → last ≡ host_rest at → named i.endpoints.items n ≡ None → mid ≡ i.endpoints.items → n ≡ e → OnOk result (string_bytes text ≡ string_bytes before ++ condition_line) → Answers S (made_with i last mid) before text result (λ state. if_open (named state.endpoints (endpoint_place e)) (call state) (barred (stepped_all state steps)))
-answers-stepped i S steps at last mid n e before text (Err error) call sound view is rest none back same printed = tt
-answers-stepped i S steps at last mid n e before text (Ok done) call sound view is rest none back same printed =
-    λ state r.
-    let p = endpoint_place e in
-    let b = string_bytes before in
-    let t = string_bytes text in
-    subst (λ l. Answered (made_with i last l) b t (if_open (named state.endpoints p) (call state) (barred (stepped_all state steps)))) (sym back)
-    (answered-none (made_with i last i.endpoints.items) b t (named state.endpoints p) (call state) (barred (stepped_all state steps))
-    (none_kept S state p r (ap (λ m. named S.endpoints (endpoint_place m)) (sym same) ∙ none_made i S n sound view none))
-    (told-answered (made_with i last i.endpoints.items) (stepped_all state steps) b t condition_line (steps-represent i S steps at last view is rest state r) printed))
-
 -- each step of the line used a place
 pub spare-lent : (i : Inside) (S : SessionState) (steps : List KernelStep) (at now last : HostState) → made_of i ≡ S → at ≡ record i.host { steps = steps } → LineGoesOn at now → last ≡ host_rest now → length steps ≤ S.host.kernel.spare → last.kernel.spare + length steps ≡ S.host.kernel.spare
 spare-lent i S steps at now last view is line rest room =
     let h = is ∙ ap (λ (v : SessionState). record v.host { steps = steps }) view in
     subst (λ (g : HostState). g.kernel.spare + length steps ≡ S.host.kernel.spare) (sym rest)
     (rest-spare (lent_host S.host steps) now (subst (λ (g : HostState). LineGoesOn g now) h line) room)
-
--- a call without steps used none
-no_step : (front rest : List KernelStep) → [] ≡ front ++ rest → length front ≡ 0
-no_step [] rest is = refl
-no_step (s ∷ ss) rest is = absurd (cc)
-
-pub spare-called : (i : Inside) (S : SessionState) (now : HostState) → IsSound (made_of i) → made_of i ≡ S → LineGoesOn i.host now → now.kernel.spare ≡ S.host.kernel.spare
-spare-called i S now sound view line =
-    let none : length line.front ≡ 0 = no_step line.front now.steps (sym sound.idle ∙ line.steps) in
-    let same : now.kernel.spare ≡ i.host.kernel.spare = omega (arith, none, line.spare) in
-    same ∙ ap (λ (v : SessionState). v.host.kernel.spare) view
 
 pub line-same : (h : HostState) → LineGoesOn h h
 line-same h = line-keeps h h (keeps-open h)

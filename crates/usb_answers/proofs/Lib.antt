@@ -2,6 +2,7 @@ pub mod AccountLemmas
 pub mod Answering
 pub mod Called
 pub mod CallLeads
+pub mod CloseAnswers
 pub mod CloseCode
 pub mod ControlLines
 pub mod CountedNames
@@ -14,7 +15,7 @@ pub mod DeviceCalls
 pub mod DeviceHandles
 pub mod DeviceHosts
 pub mod DeviceLines
-pub mod Devices
+pub mod OpenCode
 pub mod Does
 pub mod EndLemmas
 pub mod EndpointLines
@@ -26,11 +27,12 @@ pub mod FutureCloses
 pub mod FutureLemmas
 pub mod FutureSessions
 pub mod HaltCode
+pub mod HandleCloses
 pub mod HandleHosts
 pub mod HandleLemmas
 pub mod Handled
 pub mod InterfaceHandles
-pub mod Interfaces
+pub mod ClaimCode
 pub mod Lent
 pub mod NamedKeys
 pub mod OpenPlaces
@@ -39,7 +41,6 @@ pub mod PlaceLemmas
 pub mod PollCode
 pub mod PrintLemmas
 pub mod ReaderCode
-pub mod ReaderLines
 pub mod Queue
 pub mod ReaderCalled
 pub mod ReaderCloses
@@ -48,7 +49,7 @@ pub mod ReaderDoes
 pub mod RunLemmas
 pub mod StepLemmas
 pub mod SubmitCode
-pub mod SettingCalls
+pub mod InterfaceCalls
 pub mod SoundDevices
 pub mod SumLemmas
 pub mod TakeLemmas
@@ -68,6 +69,9 @@ pub mod TreeLines
 pub mod OtherLines
 pub mod StreamPlaces
 pub mod WritersLeave
+pub mod LinesBehind
+pub mod StreamsKeep
+pub mod ReadersKeep
 pub mod FramedReaders
 pub mod FramedEnds
 pub mod FramedBehind
@@ -77,10 +81,8 @@ pub mod WriterCode
 pub mod Moves
 pub mod WriterMoves
 pub mod WriterCloses
-pub mod WriterLines
 pub mod ReadersLeave
 pub mod WrittenWriters
-pub mod WrittenBehind
 pub mod WrittenLaw
 pub mod PrintedLaw
 pub mod FuturesAwaited
@@ -88,6 +90,5 @@ pub mod ControlCame
 pub mod ControlsLaw
 pub mod WorkedPrinted
 pub mod HandedReaders
-pub mod HandedBehind
 pub mod HandedScripts
 pub mod WorkedHanded

@@ -17,9 +17,9 @@ use Rattle.usb_io.specs.Readers.{rounded}
 use Rattle.usb_lines.specs.Calls.{condition_line}
 use Rattle.usb_names.specs.Names.{named, is_free, freed, set_name}
 use Rattle.usb_names.proofs.NameLemmas.{free_place, named_of, named-set, named-set_other, named-freed_other, names-set, length-freed, length-set_name, map-freed, map-set, is_free-map, put-back}
-use Rattle.usb_answers.specs.State.{State, Endpoint, kept}
+use Rattle.usb_answers.specs.State.{State, Endpoint, endpoint_state}
 use Rattle.usb_answers.specs.Submits.{has_direction}
-use Rattle.usb_answers.specs.Answer.{Answer, barred}
+use Rattle.usb_answers.specs.Answer.{Answer, condition_answer}
 use Rattle.usb_answers.specs.SessionState.{SessionState, IsSound, IsNamed, endpoint_key}
 use Rattle.usb_answers.specs.Relation.{Represents, session_of}
 use Rattle.usb_answers.proofs.Answering.{Gives, barred-gives}
@@ -113,13 +113,13 @@ few-moved state p q z few free here d g at =
       | inr there ↦ few d g (names-freed state.endpoints (freed state.endpoints p) p d g refl there.1).1
     ]
 
-pub represents-moved : (s : SessionState) (state : State) (after : List (Option EndpointState)) (p q : ℕ) (x : EndpointState) (z : Endpoint) → Represents s state → Moves s after p q x → kept z ≡ x → z.taken ≤ length z.tickets → Represents (record s { endpoints = after }) (record state { endpoints = set_name (freed state.endpoints p) q z })
+pub represents-moved : (s : SessionState) (state : State) (after : List (Option EndpointState)) (p q : ℕ) (x : EndpointState) (z : Endpoint) → Represents s state → Moves s after p q x → endpoint_state z ≡ x → z.taken ≤ length z.tickets → Represents (record s { endpoints = after }) (record state { endpoints = set_name (freed state.endpoints p) q z })
 represents-moved s state after p q x z r moves same few =
     let free_there : is_free (freed state.endpoints p) q ≡ true =
-    sym (is_free-map kept (freed state.endpoints p) q) ∙ ap (λ l. is_free l q) (map-freed kept state.endpoints p) ∙ sym (ap (λ (v : SessionState). is_free (freed v.endpoints p) q) r.is) ∙ moves.free in
-    let names : after ≡ map (option_map kept) (set_name (freed state.endpoints p) q z) =
-    moves.put ∙ ap (λ (v : SessionState). set_name (freed v.endpoints p) q x) r.is ∙ ap (set_name (freed (map (option_map kept) state.endpoints) p) q) (sym same)
-    ∙ sym (map-set kept (freed state.endpoints p) q z ∙ ap (λ l. set_name l q (kept z)) (map-freed kept state.endpoints p)) in
+    sym (is_free-map endpoint_state (freed state.endpoints p) q) ∙ ap (λ l. is_free l q) (map-freed endpoint_state state.endpoints p) ∙ sym (ap (λ (v : SessionState). is_free (freed v.endpoints p) q) r.is) ∙ moves.free in
+    let names : after ≡ map (option_map endpoint_state) (set_name (freed state.endpoints p) q z) =
+    moves.put ∙ ap (λ (v : SessionState). set_name (freed v.endpoints p) q x) r.is ∙ ap (set_name (freed (map (option_map endpoint_state) state.endpoints) p) q) (sym same)
+    ∙ sym (map-set endpoint_state (freed state.endpoints p) q z ∙ ap (λ l. set_name l q (endpoint_state z)) (map-freed endpoint_state state.endpoints p)) in
     record {
       is =
           ap (λ (v : SessionState). record v { endpoints = after }) r.is
@@ -145,7 +145,7 @@ pub not-direction : (d : Direction) (x : EndpointState) → direction_of_address
 not-direction d x apart = other-direction (direction_of_address x.address) d apart
 
 -- a call is barred that needs the other direction, whether a name is free or not
-pub barred-direction : (s : SessionState) (state : State) (b : Bool) (a : Answer) → Represents s state → Gives s condition_line (if b then (if false then a else barred state) else barred state)
+pub barred-direction : (s : SessionState) (state : State) (b : Bool) (a : Answer) → Represents s state → Gives s condition_line (if b then (if false then a else condition_answer state) else condition_answer state)
 barred-direction s state true a is = barred-gives s state is
 barred-direction s state false a is = barred-gives s state is
 

@@ -23,7 +23,7 @@ use Rattle.usb_host.specs.TicketEnds.{host_taken, host_abandoned}
 use Rattle.usb_host.specs.HostCalls.{host_discarded, host_left, host_calls}
 use Rattle.usb_host.proofs.CloseLemmas.{discards-tickets, discards-completion, abandoned-past, abandoned-others, left-tickets}
 use Rattle.usb_host.proofs.FollowLemmas.{Follows, KeepsTickets, on-all_discarded, on-left, taken-past, taken-others, taken-here, GivenUp, dropped, waits, abandoned-here}
-use Rattle.usb_answers.specs.State.{Endpoint, pending, kept}
+use Rattle.usb_answers.specs.State.{Endpoint, pending, endpoint_state}
 use Rattle.usb_answers.specs.Polls.{one_taken}
 use Rattle.usb_answers.specs.Served.{end_given_up}
 use Rattle.usb_answers.specs.Submits.{with_submission}
@@ -387,7 +387,7 @@ closed-goes old new e past goes c =
 pub pending-all : (h : HostState) (e : Endpoint) (i : InOrder h e) → All (IsHeld h) (pending e)
 pending-all h e i = subst (λ l. All (IsHeld h) l) (sym (pending-back h e i)) i.held
 
-pub closed-order : (h : HostState) (e : Endpoint) → ((t : ℕ) → times t e.tickets ≤ 1) → InOrder h e → IsClosed (left_by h (kept e)) e h.kernel.past
+pub closed-order : (h : HostState) (e : Endpoint) → ((t : ℕ) → times t e.tickets ≤ 1) → InOrder h e → IsClosed (left_by h (endpoint_state e)) e h.kernel.past
 closed-order h e once i =
     record {
       front = i.front;
@@ -396,11 +396,11 @@ closed-order h e once i =
       count = i.count;
       taken = λ k d below.
           let t = get_or i.front k d in
-          left-apart h (kept e) t (omega (arith, once t, times-pending h e i t, stands i.front k d below)) ∙ i.taken k d below;
+          left-apart h (endpoint_state e) t (omega (arith, once t, times-pending h e i t, stands i.front k d below)) ∙ i.taken k d below;
       given = λ k d below.
           let t = get_or i.back k d in
           let was = i.held k d below in
-          inl (left-given h (kept e) t was.hold (omega (arith, once t, times-parts h e i t, times-pending h e i t, stands i.back k d below)) was.is);
+          inl (left-given h (endpoint_state e) t was.hold (omega (arith, once t, times-parts h e i t, times-pending h e i t, stands i.back k d below)) was.is);
       rising = i.rising;
     }
 

@@ -1,12 +1,15 @@
 -- A poll answers for the ticket at its endpoint's place.
-use Rattle.std.proofs.Common.{◌≡◌, ℕ, Option, Some, None, refl}
+use Rattle.std.proofs.Common.{◌≡◌, ℕ, [], Option, Some, None, refl}
 use Rattle.usb_xfer.specs.declared.transfer.Completion.{Completion}
 use Rattle.usb_bus.specs.Completions.{transfer_completion}
 use Rattle.usb_lines.specs.Completions.{polled_line}
 use Rattle.usb_answers.specs.State.{State}
 use Rattle.usb_answers.specs.ReaderAt.{endpoint_place}
-use Rattle.usb_answers.specs.Polls.{took, poll_answer}
-use Rattle.usb_answers.specs.LineAnswers.{line_answer}
+use Rattle.usb_answers.specs.Polls.{took}
+use Rattle.usb_answers.specs.Steps.{with_steps}
+use Rattle.usb_answers.specs.Calls.{call_of}
+use Rattle.usb_answers.specs.EndpointCalls.{on_endpoint}
+use Rattle.usb_answers.specs.CallAnswers.{call_answer}
 use Rattle.usb_answers.specs.Answers.{answer}
 use Rattle.usb_answers.specs.Output.{start, behind}
 use Rattle.usb_answers.specs.Places.{PollsAnswerForTheirPlace, PollsOfScriptsAnswer}
@@ -16,9 +19,9 @@ took-line state e t None = refl
 took-line state e t (Some c) = refl
 
 pub polls-for_their_place : PollsAnswerForTheirPlace
-unfolding answer line_answer poll_answer
+unfolding answer call_of call_answer on_endpoint
 polls-for_their_place state e h t free is at =
-    rw (free, is, at) (took-line state (endpoint_place e) t (transfer_completion state.host.kernel.past t))
+    rw (free, is, at) (took-line (with_steps state []) (endpoint_place e) t (transfer_completion state.host.kernel.past t))
 
 -- so in each script
 pub polls-of_scripts : PollsOfScriptsAnswer

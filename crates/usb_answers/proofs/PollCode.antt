@@ -1,5 +1,5 @@
 -- What `poll` and `pending` answer.
-use Rattle.std.proofs.Common.{◌≡◌, ℕ, ◌++◌, List, [], ◌∷◌, length, Option, Some, None, Result, Ok, Err, refl, ap, sym, ◌∙◌, String, string_bytes, slice_get, arith}
+use Rattle.std.proofs.Common.{◌≡◌, ℕ, ◌++◌, List, [], ◌∷◌, length, Option, Result, refl, ap, sym, ◌∙◌, String, string_bytes, slice_get, arith}
 use Rattle.std.specs.Prelude.{OnOk}
 use Rattle.std.specs.declared.alloc.Global.{Global}
 use Rattle.usb_xfer.specs.declared.transfer.Completion.{Completion}
@@ -12,16 +12,10 @@ use Rattle.usb_host.specs.HostBus.{bus_of}
 use Rattle.usb_host.specs.HostCalls.{host_calls}
 use Rattle.usb_lines.specs.Calls.{condition_line}
 use Rattle.usb_lines.specs.Completions.{polled_line, count_line}
-use Rattle.usb_names.specs.Names.{named}
 use Rattle.usb_answers.specs.State.{State, Endpoint, pending, with_host}
-use Rattle.usb_answers.specs.Answer.{Answer, told, barred}
-use Rattle.usb_answers.specs.SessionState.{SessionState}
-use Rattle.usb_answers.specs.Answered.{Answers}
-use Rattle.usb_answers.specs.Pending.{pending_answer}
+use Rattle.usb_answers.specs.Answer.{Answer, answer_with}
 use Rattle.usb_answers.specs.Polls.{poll_on, took}
 use Rattle.usb_answers.specs.OpenCalls.{CallKeeps, CallAnswers}
-use Rattle.usb_answers.proofs.Answering.{told-answered, answered-none, answered-some, none_kept}
-use Rattle.usb_answers.proofs.Called.{open_at}
 use Rattle.usb_answers.proofs.Queue.{call-told, front_kept, front-answers, polled-goes, polled-past, polled-rest}
 
 abbrev pub poll : State → ℕ → Endpoint → Answer
@@ -67,21 +61,8 @@ poll-keeps host now x y r is stands others =
       maximum = ap (λ (z : EndpointState). z.maximum) rest;
     }
 
--- the number of pending transfers is the session's
-pub pending-answered : {E : Type 0} (S : SessionState) (e count : ℕ) (x : EndpointState) (before text : String Global) (result : Result Unit E) → named S.endpoints e ≡ Some x → count ≡ length x.pending → OnOk result (string_bytes text ≡ string_bytes before ++ count_line count) → Answers S S before text result (λ state. pending_answer state e)
-unfolding pending_answer
-pending-answered S e count x before text (Err error) was is printed = tt
-pending-answered S e count x before text (Ok done) was is printed =
-    λ state r.
-    let o = open_at S state e x r was in
-    answered-some S (string_bytes before) (string_bytes text) (named state.endpoints e) o.entry (λ h. told state (count_line (length (pending h)))) (barred state) o.is
-    (told-answered S state (string_bytes before) (string_bytes text) (count_line (length (pending o.entry))) r
-    (printed ∙ ap (λ n. string_bytes before ++ count_line n) (is ∙ ap (λ (z : EndpointState). length z.pending) (sym o.same))))
-
-pub pending-barred : {E : Type 0} (S : SessionState) (e : ℕ) (before text : String Global) (result : Result Unit E) → named S.endpoints e ≡ None → OnOk result (string_bytes text ≡ string_bytes before ++ condition_line) → Answers S S before text result (λ state. pending_answer state e)
-unfolding pending_answer
-pending-barred S e before text (Err error) none printed = tt
-pending-barred S e before text (Ok done) none printed =
-    λ state r.
-    answered-none S (string_bytes before) (string_bytes text) (named state.endpoints e) (λ h. told state (count_line (length (pending h)))) (barred state) (none_kept S state e r none)
-    (told-answered S state (string_bytes before) (string_bytes text) condition_line r printed)
+-- the number of pending transfers is told
+pub pending-counted : {E : Type 0} (host : HostState) (x : EndpointState) (count : ℕ) (before text : String Global) (result : Result Unit E) → count ≡ length x.pending → OnOk result (string_bytes text ≡ string_bytes before ++ count_line count) → CallAnswers host host x x before text result (λ state e h. answer_with state (count_line (length (pending h))))
+pending-counted host x count before text result is printed =
+    call-told host host x x before text result (count_line count) (λ state e h. answer_with state (count_line (length (pending h)))) refl refl printed
+    (λ state e h host_was same. ap (λ (z : EndpointState). answer_with state (count_line (length z.pending))) same ∙ ap (λ n. answer_with state (count_line n)) (sym is))

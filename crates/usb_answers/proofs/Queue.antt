@@ -18,8 +18,8 @@ use Rattle.usb_host.proofs.CallFrames.{keeps-open, keeps-taken}
 use Rattle.usb_host.proofs.WaitFrames.{line-keeps}
 use Rattle.usb_host.proofs.FollowLemmas.{taken-past}
 use Rattle.usb_names.specs.Names.{named, change_named}
-use Rattle.usb_answers.specs.State.{State, Endpoint, kept, with_host}
-use Rattle.usb_answers.specs.Answer.{Answer, told}
+use Rattle.usb_answers.specs.State.{State, Endpoint, endpoint_state, with_host}
+use Rattle.usb_answers.specs.Answer.{Answer, answer_with}
 use Rattle.usb_answers.specs.Answered.{Answered}
 use Rattle.usb_answers.specs.Polls.{took, one_taken}
 use Rattle.usb_answers.specs.SessionState.{SessionState}
@@ -31,14 +31,14 @@ use Rattle.usb_answers.proofs.Called.{represents-put, represents-host}
 
 -- an answer by which the host is another and the endpoint is changed, and a line is told
 pub record Comes (state : State) (e : ℕ) (h : Endpoint) (now : HostState) (y : EndpointState) (f : Endpoint → Endpoint) (line : List ℕ) (a : Answer) : Type 0 where
-  pub is : a ≡ told (record state { host = now; endpoints = change_named f state.endpoints e }) line
-  pub kept_is : kept (f h) ≡ y
+  pub is : a ≡ answer_with (record state { host = now; endpoints = change_named f state.endpoints e }) line
+  pub kept_is : endpoint_state (f h) ≡ y
   pub few : (f h).taken ≤ length (f h).tickets
 
-kept_at : (s : SessionState) (state : State) (e : ℕ) (x : EndpointState) (h : Endpoint) → Represents s state → named s.endpoints e ≡ Some x → named state.endpoints e ≡ Some h → kept h ≡ x
-kept_at s state e x h r was at = same_Some (kept h) x (ap (option_map kept) (sym at) ∙ sym (named_kept s state e r) ∙ was)
+kept_at : (s : SessionState) (state : State) (e : ℕ) (x : EndpointState) (h : Endpoint) → Represents s state → named s.endpoints e ≡ Some x → named state.endpoints e ≡ Some h → endpoint_state h ≡ x
+kept_at s state e x h r was at = same_Some (endpoint_state h) x (ap (option_map endpoint_state) (sym at) ∙ sym (named_kept s state e r) ∙ was)
 
-pub call-comes : {E : Type 0} (old now : HostState) (x y : EndpointState) (before text : String Global) (result : Result Unit E) (f : Endpoint → Endpoint) (line : List ℕ) (call : State → ℕ → Endpoint → Answer) → OnOk result (string_bytes text ≡ string_bytes before ++ line) → ((state : State) (e : ℕ) (h : Endpoint) → state.host ≡ old → kept h ≡ x → h.taken ≤ length h.tickets → Comes state e h now y f line (call state e h)) → CallAnswers old now x y before text result call
+pub call-comes : {E : Type 0} (old now : HostState) (x y : EndpointState) (before text : String Global) (result : Result Unit E) (f : Endpoint → Endpoint) (line : List ℕ) (call : State → ℕ → Endpoint → Answer) → OnOk result (string_bytes text ≡ string_bytes before ++ line) → ((state : State) (e : ℕ) (h : Endpoint) → state.host ≡ old → endpoint_state h ≡ x → h.taken ≤ length h.tickets → Comes state e h now y f line (call state e h)) → CallAnswers old now x y before text result call
 call-comes old now x y before text (Err error) f line call printed comes = tt
 call-comes old now x y before text (Ok done) f line call printed comes =
     λ s state e h r host was at.
@@ -55,19 +55,19 @@ with_same s e x y host same was =
     ap (λ (l : List (Option EndpointState)). record s { host = host; endpoints = l }) (sym (put-back s.endpoints e x was) ∙ put-changed (λ z. x) s.endpoints e x x was refl)
     ∙ ap (with_called s e host) (sym same)
 
-pub call-host : {E : Type 0} (old now : HostState) (x y : EndpointState) (before text : String Global) (result : Result Unit E) (line : List ℕ) (call : State → ℕ → Endpoint → Answer) → y ≡ x → OnOk result (string_bytes text ≡ string_bytes before ++ line) → ((state : State) (e : ℕ) (h : Endpoint) → state.host ≡ old → kept h ≡ x → call state e h ≡ told (with_host state now) line) → CallAnswers old now x y before text result call
+pub call-host : {E : Type 0} (old now : HostState) (x y : EndpointState) (before text : String Global) (result : Result Unit E) (line : List ℕ) (call : State → ℕ → Endpoint → Answer) → y ≡ x → OnOk result (string_bytes text ≡ string_bytes before ++ line) → ((state : State) (e : ℕ) (h : Endpoint) → state.host ≡ old → endpoint_state h ≡ x → call state e h ≡ answer_with (with_host state now) line) → CallAnswers old now x y before text result call
 call-host old now x y before text (Err error) line call same printed tells = tt
 call-host old now x y before text (Ok done) line call same printed tells =
     λ s state e h r host was at.
     subst (Answered (with_called s e now y) (string_bytes before) (string_bytes text)) (sym (tells state e h (sym (host_is s state r) ∙ host) (kept_at s state e x h r was at)))
-    (subst (λ v. Answered v (string_bytes before) (string_bytes text) (told (with_host state now) line)) (with_same s e x y now same was)
+    (subst (λ v. Answered v (string_bytes before) (string_bytes text) (answer_with (with_host state now) line)) (with_same s e x y now same was)
     (told-answered (record s { host = now }) (with_host state now) (string_bytes before) (string_bytes text) line (represents-host s state now r) printed))
 
 -- nothing is changed
-pub call-told : {E : Type 0} (old now : HostState) (x y : EndpointState) (before text : String Global) (result : Result Unit E) (line : List ℕ) (call : State → ℕ → Endpoint → Answer) → now ≡ old → y ≡ x → OnOk result (string_bytes text ≡ string_bytes before ++ line) → ((state : State) (e : ℕ) (h : Endpoint) → state.host ≡ old → kept h ≡ x → call state e h ≡ told state line) → CallAnswers old now x y before text result call
+pub call-told : {E : Type 0} (old now : HostState) (x y : EndpointState) (before text : String Global) (result : Result Unit E) (line : List ℕ) (call : State → ℕ → Endpoint → Answer) → now ≡ old → y ≡ x → OnOk result (string_bytes text ≡ string_bytes before ++ line) → ((state : State) (e : ℕ) (h : Endpoint) → state.host ≡ old → endpoint_state h ≡ x → call state e h ≡ answer_with state line) → CallAnswers old now x y before text result call
 call-told old now x y before text result line call stays same printed tells =
     call-host old now x y before text result line call same printed
-    (λ state e h host_was kept_is. tells state e h host_was kept_is ∙ ap (λ (g : HostState). told (with_host state g) line) (host_was ∙ sym stays))
+    (λ state e h host_was kept_is. tells state e h host_was kept_is ∙ ap (λ (g : HostState). answer_with (with_host state g) line) (host_was ∙ sym stays))
 
 -- the oldest pending ticket stands at the place of those that were taken
 front-at : (xs : List ℕ) (n : ℕ) → slice_get xs n ≡ slice_get (drop n xs) 0
@@ -76,7 +76,7 @@ front-at [] (suc n) = refl
 front-at (x ∷ xs) zero = refl
 front-at (x ∷ xs) (suc n) = front-at xs n
 
-pub front_kept : (h : Endpoint) (x : EndpointState) (l : List ℕ) → kept h ≡ x → x.pending ≡ l → slice_get h.tickets h.taken ≡ slice_get l 0
+pub front_kept : (h : Endpoint) (x : EndpointState) (l : List ℕ) → endpoint_state h ≡ x → x.pending ≡ l → slice_get h.tickets h.taken ≡ slice_get l 0
 front_kept h x l same is = front-at h.tickets h.taken ∙ ap (λ (z : EndpointState). slice_get z.pending 0) same ∙ ap (λ (l : List ℕ). slice_get l 0) is
 
 drop_on : (xs : List ℕ) (n t : ℕ) (ts : List ℕ) → drop n xs ≡ t ∷ ts → (drop (n + 1) xs ≡ ts) × (n + 1 ≤ length xs)
@@ -98,7 +98,7 @@ module _ {E : Type 0} (print : Option Completion → List ℕ) (old mid now : Ho
       (λ state e h host_was same.
       takes state e h host_was (front_kept h x (t ∷ ts) same was)
       ∙ ap (took print (with_host state mid) e t) none
-      ∙ ap (λ (p : Polled HostState). told (with_host state p.bus) (print p.completion)) is)
+      ∙ ap (λ (p : Polled HostState). answer_with (with_host state p.bus) (print p.completion)) is)
   took-answers (Some c) come is =
       call-comes old now x y before text result one_taken (print r) call printed
       (λ state e h host_was same few.
@@ -107,8 +107,8 @@ module _ {E : Type 0} (print : Option Completion → List ℕ) (old mid now : Ho
         is =
             takes state e h host_was (front_kept h x (t ∷ ts) same was)
             ∙ ap (took print (with_host state mid) e t) come
-            ∙ ap (λ (p : Polled HostState). told (record state { host = p.bus; endpoints = change_named one_taken state.endpoints e }) (print p.completion)) is;
-        kept_is = ap (λ (l : List ℕ). record (kept h) { pending = l }) more.0 ∙ ap (λ (z : EndpointState). record z { pending = ts }) same ∙ ap (λ (p : Polled HostState). p.endpoint) is;
+            ∙ ap (λ (p : Polled HostState). answer_with (record state { host = p.bus; endpoints = change_named one_taken state.endpoints e }) (print p.completion)) is;
+        kept_is = ap (λ (l : List ℕ). record (endpoint_state h) { pending = l }) more.0 ∙ ap (λ (z : EndpointState). record z { pending = ts }) same ∙ ap (λ (p : Polled HostState). p.endpoint) is;
         few = more.1;
       })
 

@@ -18,8 +18,7 @@ use Rattle.usb_names.proofs.NameLemmas.{named-map, put-changed}
 use Rattle.usb_answers.specs.BareReaders.{BareReader, bare_of, reader_with}
 use Rattle.usb_answers.specs.State.{State, Reader}
 use Rattle.usb_answers.specs.ReaderAt.{ReaderAt, reader_place, reader_at}
-use Rattle.usb_answers.specs.Answer.{Answer, barred, if_open}
-use Rattle.usb_answers.specs.Steps.{lent, then_rested, stepped_all}
+use Rattle.usb_answers.specs.Answer.{Answer, condition_answer, if_open}
 use Rattle.usb_answers.specs.SessionState.{SessionState, IsSound}
 use Rattle.usb_answers.specs.SessionFacts.{session_made, made_of, endpoint_of, bare_reader_of, endpoints_with}
 use Rattle.usb_answers.specs.Relation.{Represents}
@@ -29,8 +28,8 @@ use Rattle.usb_answers.specs.ReaderCalls.{HasReader, ReaderAnswers, with_reader_
 use Rattle.usb_answers.proofs.Answering.{told-answered, answered-none, answered-some}
 use Rattle.usb_answers.proofs.Called.{OpenAt, open_at, sound-readers}
 use Rattle.usb_answers.proofs.OpenPlaces.{within-64, taken-reader, put-reader}
-use Rattle.usb_answers.proofs.TakenOut.{PutBack, map-put, map-length, places-made, sound-called_at}
-use Rattle.usb_answers.proofs.Lent.{sound-lent_at, represents-lent, rested-answered, sound-stepped, steps-represent}
+use Rattle.usb_answers.proofs.TakenOut.{PutBack, map-put, map-length, places-made}
+use Rattle.usb_answers.proofs.Lent.{sound-lent_at, sound-stepped}
 
 -- a session with another host and other readers
 abbrev pub made_reading : Inside → HostState → List (Option ReaderState) → SessionState
@@ -53,19 +52,10 @@ reader-put i after r x y sound back =
     let places = places-made i sound in
     put-reader i.endpoints.items i.readers.items i.writers.items places r after y (within-64 i.readers.items r x places.readers back.was) back.put
 
--- a session is sound once a reader was called and put back
-pub sound-reader_called : (i : Inside) (now : HostState) (after : List (Option ReaderState)) (r : ℕ) (x y : ReaderState) → IsSound (made_of i) → PutBack i.readers.items after r x y → CallKeeps i.host now (endpoint_of x) (endpoint_of y) → IsSound (made_reading i now after)
-sound-reader_called i now after r x y sound back keeps =
-    let endpoints = endpoints_with i.endpoints.items after i.writers.items in
-    sound-readers (record (made_of i) { host = now; endpoints = endpoints }) (map (option_map bare_reader_of) after)
-    (sound-called_at i now endpoints (reader_place r) (endpoint_of x) (endpoint_of y) sound (reader-made i (made_of i) r x sound refl back.was) (reader-put i after r x y sound back) keeps)
-    (map-length bare_reader_of i.readers.items after r x y back)
-
--- and is the one that the call left
-pub made-reader_called : (i : Inside) (S : SessionState) (now : HostState) (after : List (Option ReaderState)) (r : ℕ) (x y : ReaderState) → IsSound (made_of i) → made_of i ≡ S → PutBack i.readers.items after r x y → with_reader_called S r now y ≡ made_reading i now after
-made-reader_called i S now after r x y sound view back =
-    ap (λ (v : SessionState). with_reader_called v r now y) (sym view)
-    ∙ ap (λ (l : List (Option EndpointState)). record (made_of i) { host = now; endpoints = l; readers = change_named (λ b. bare_reader_of y) (made_of i).readers r })
+-- the session is the one that the call left
+pub made-reader_called : (i : Inside) (now : HostState) (after : List (Option ReaderState)) (r : ℕ) (x y : ReaderState) → IsSound (made_of i) → PutBack i.readers.items after r x y → with_reader_called (made_of i) r now y ≡ made_reading i now after
+made-reader_called i now after r x y sound back =
+    ap (λ (l : List (Option EndpointState)). record (made_of i) { host = now; endpoints = l; readers = change_named (λ b. bare_reader_of y) (made_of i).readers r })
     (sym (reader-put i after r x y sound back ∙ put-changed (λ z. endpoint_of y) (made_of i).endpoints (reader_place r) (endpoint_of x) (endpoint_of y) (reader-made i (made_of i) r x sound refl back.was) refl))
     ∙ ap (λ (l : List (Option BareReader)). record (made_of i) { host = now; endpoints = endpoints_with i.endpoints.items after i.writers.items; readers = l }) (sym (map-put bare_reader_of i.readers.items after r x y back))
 
@@ -98,41 +88,38 @@ pub has_reader : (s : SessionState) (state : State) (r : ℕ) (x : ReaderState) 
 has_reader s state r x is endpoint bare =
     reader_by s state r x (open_at s state (reader_place r) x.endpoint is endpoint) (named state.readers r) refl (sym (readers_kept s state r is) ∙ bare) endpoint bare
 
--- what a call on a reader answers
-pub answers-reader_called : {E : Type 0} (i : Inside) (S : SessionState) (now : HostState) (after : List (Option ReaderState)) (n r : ℕ) (x y : ReaderState) (before text : String Global) (result : Result Unit E) (call : State → ℕ → ReaderAt → Answer) → IsSound (made_of i) → made_of i ≡ S → PutBack i.readers.items after n x y → n ≡ r → ReaderAnswers i.host now x y before text result call → Answers S (made_reading i now after) before text result (λ state. if_open (reader_at state r) (call state r) (barred state))
-answers-reader_called i S now after n r x y before text (Err error) call sound view back same answers = tt
-answers-reader_called i S now after n r x y before text (Ok done) call sound view back same answers =
+-- what a call on a reader answers, where the session has this host
+pub answers-reader_called : {E : Type 0} (i : Inside) (at now : HostState) (after : List (Option ReaderState)) (n r : ℕ) (x y : ReaderState) (before text : String Global) (result : Result Unit E) (call : State → ℕ → ReaderAt → Answer) → IsSound (made_of i) → PutBack i.readers.items after n x y → n ≡ r → ReaderAnswers at now x y before text result call
+    → Answers (record (made_of i) { host = at }) (made_reading i now after) before text result (λ state. if_open (reader_at state r) (call state r) (condition_answer state))
+answers-reader_called i at now after n r x y before text (Err error) call sound back same answers = tt
+answers-reader_called i at now after n r x y before text (Ok done) call sound back same answers =
     λ state is.
-    let o = has_reader S state n x is (reader-made i S n x sound view back.was) (bare-made i S n x view back.was) in
-    subst (λ m. Answered (made_reading i now after) (string_bytes before) (string_bytes text) (if_open (reader_at state m) (call state m) (barred state))) same
-    (answered-some (made_reading i now after) (string_bytes before) (string_bytes text) (reader_at state n) o.at (call state n) (barred state) o.has.is
-    (subst (λ s. Answered s (string_bytes before) (string_bytes text) (call state n o.at)) (made-reader_called i S now after n x y sound view back)
-    (answers S state n o.at is (sym (ap (λ (v : SessionState). v.host) view)) o.has)))
+    let s : SessionState = record (made_of i) { host = at } in
+    let o = has_reader s state n x is (reader-made i (made_of i) n x sound refl back.was) (bare-made i (made_of i) n x refl back.was) in
+    subst (λ m. Answered (made_reading i now after) (string_bytes before) (string_bytes text) (if_open (reader_at state m) (call state m) (condition_answer state))) same
+    (answered-some (made_reading i now after) (string_bytes before) (string_bytes text) (reader_at state n) o.at (call state n) (condition_answer state) o.has.is
+    (subst (λ v. Answered v (string_bytes before) (string_bytes text) (call state n o.at)) (made-reader_called i now after n x y sound back) (answers s state n o.at is refl o.has)))
 
 -- nothing is open under the name
 bare_none : (o : Option Reader) → option_map (λ (y : Reader). y.bare) o ≡ None → o ≡ None
 bare_none None is = refl
 bare_none (Some y) is = absurd (cc)
 
-no_bare : (i : Inside) (S : SessionState) (n : ℕ) → made_of i ≡ S → named i.readers.items n ≡ None → named S.readers n ≡ None
-no_bare i S n view none = sym (ap (λ (v : SessionState). named v.readers n) view) ∙ named-map bare_reader_of i.readers.items n ∙ ap (option_map bare_reader_of) none
-
-pub no_reader : (i : Inside) (S : SessionState) (n : ℕ) → made_of i ≡ S → named i.readers.items n ≡ None → (state : State) → Represents S state → named state.readers n ≡ None
-no_reader i S n view none state is = bare_none (named state.readers n) (sym (readers_kept S state n is) ∙ no_bare i S n view none)
-
-pub no_reader_at : (i : Inside) (S : SessionState) (n r : ℕ) → made_of i ≡ S → named i.readers.items n ≡ None → n ≡ r → (state : State) → Represents S state → reader_at state r ≡ None
-no_reader_at i S n r view none same state is =
-    let none_there : named state.readers r ≡ None = ap (named state.readers) (sym same) ∙ no_reader i S n view none state is in
+pub no_reader_at : (i : Inside) (at : HostState) (n r : ℕ) → named i.readers.items n ≡ None → n ≡ r → (state : State) → Represents (record (made_of i) { host = at }) state → reader_at state r ≡ None
+no_reader_at i at n r none same state is =
+    let bare : named (made_of i).readers n ≡ None = named-map bare_reader_of i.readers.items n ∙ ap (option_map bare_reader_of) none in
+    let none_there : named state.readers r ≡ None = ap (named state.readers) (sym same) ∙ bare_none (named state.readers n) (sym (readers_kept (record (made_of i) { host = at }) state n is) ∙ bare) in
     rw none_there refl
 
-pub answers-no_reader : {E : Type 0} (i : Inside) (S : SessionState) (mid : List (Option ReaderState)) (n r : ℕ) (before text : String Global) (result : Result Unit E) (call : State → ReaderAt → Answer) → made_of i ≡ S → named i.readers.items n ≡ None → mid ≡ i.readers.items → n ≡ r → OnOk result (string_bytes text ≡ string_bytes before ++ condition_line) → Answers S (made_reading i i.host mid) before text result (λ state. if_open (reader_at state r) (call state) (barred state))
-answers-no_reader i S mid n r before text (Err error) call view none rest same printed = tt
-answers-no_reader i S mid n r before text (Ok done) call view none rest same printed =
+pub answers-no_reader : {E : Type 0} (i : Inside) (at : HostState) (mid : List (Option ReaderState)) (n r : ℕ) (before text : String Global) (result : Result Unit E) (call : State → ReaderAt → Answer) → named i.readers.items n ≡ None → mid ≡ i.readers.items → n ≡ r → OnOk result (string_bytes text ≡ string_bytes before ++ condition_line)
+    → Answers (record (made_of i) { host = at }) (made_reading i at mid) before text result (λ state. if_open (reader_at state r) (call state) (condition_answer state))
+answers-no_reader i at mid n r before text (Err error) call none rest same printed = tt
+answers-no_reader i at mid n r before text (Ok done) call none rest same printed =
     λ state is.
-    subst (λ l. Answered (made_reading i i.host l) (string_bytes before) (string_bytes text) (if_open (reader_at state r) (call state) (barred state))) (sym rest)
-    (subst (λ s. Answered s (string_bytes before) (string_bytes text) (if_open (reader_at state r) (call state) (barred state))) (sym view)
-    (answered-none S (string_bytes before) (string_bytes text) (reader_at state r) (call state) (barred state) (no_reader_at i S n r view none same state is)
-    (told-answered S state (string_bytes before) (string_bytes text) condition_line is printed)))
+    let s : SessionState = record (made_of i) { host = at } in
+    subst (λ l. Answered (made_reading i at l) (string_bytes before) (string_bytes text) (if_open (reader_at state r) (call state) (condition_answer state))) (sym rest)
+    (answered-none s (string_bytes before) (string_bytes text) (reader_at state r) (call state) (condition_answer state) (no_reader_at i at n r none same state is)
+    (told-answered s state (string_bytes before) (string_bytes text) condition_line is printed))
 
 -- a line with steps of its own: the steps are lent, a reader is called, and the rest of them is applied
 pub sound-reader_lent : (i : Inside) (steps : List KernelStep) (at now last : HostState) (after : List (Option ReaderState)) (r : ℕ) (x y : ReaderState) → IsSound (made_of i) → at ≡ record i.host { steps = steps } → PutBack i.readers.items after r x y → CallKeeps at now (endpoint_of x) (endpoint_of y) → last ≡ host_rest now → IsSound (made_reading i last after)
@@ -142,33 +129,7 @@ sound-reader_lent i steps at now last after r x y sound is back keeps rest =
     (sound-lent_at i steps at now last endpoints (reader_place r) (endpoint_of x) (endpoint_of y) sound is (reader-made i (made_of i) r x sound refl back.was) (reader-put i after r x y sound back) keeps rest)
     (map-length bare_reader_of i.readers.items after r x y back)
 
-pub answers-reader_lent : {E : Type 0} (i : Inside) (S : SessionState) (steps : List KernelStep) (at now last : HostState) (after : List (Option ReaderState)) (n r : ℕ) (x y : ReaderState) (before text : String Global) (result : Result Unit E) (call : State → ℕ → ReaderAt → Answer) → IsSound (made_of i) → made_of i ≡ S → at ≡ record i.host { steps = steps } → PutBack i.readers.items after n x y → n ≡ r → ReaderAnswers at now x y before text result call → last ≡ host_rest now → Answers S (made_reading i last after) before text result (λ state. if_open (reader_at state r) (λ x. then_rested (call (lent state steps) r x)) (barred (stepped_all state steps)))
-answers-reader_lent i S steps at now last after n r x y before text (Err error) call sound view is back same answers rest = tt
-answers-reader_lent i S steps at now last after n r x y before text (Ok done) call sound view is back same answers rest =
-    λ state stands.
-    let b = string_bytes before in
-    let t = string_bytes text in
-    let o = has_reader S state n x stands (reader-made i S n x sound view back.was) (bare-made i S n x view back.was) in
-    let lends = represents-lent i S steps at view is state stands in
-    let called : Answered (with_reader_called S n now y) b t (call (lent state steps) n o.at) =
-    answers (record S { host = at }) (lent state steps) n o.at lends refl (record { endpoint = o.has.endpoint; reader = o.has.reader; is = o.has.is; same = o.has.same }) in
-    subst (λ m. Answered (made_reading i last after) b t (if_open (reader_at state m) (λ x. then_rested (call (lent state steps) m x)) (barred (stepped_all state steps)))) same
-    (answered-some (made_reading i last after) b t (reader_at state n) o.at (λ x. then_rested (call (lent state steps) n x)) (barred (stepped_all state steps)) o.has.is
-    (subst (λ (h : HostState). Answered (made_reading i h after) b t (then_rested (call (lent state steps) n o.at))) (sym rest)
-    (rested-answered (made_reading i now after) now b t (call (lent state steps) n o.at) refl
-    (subst (λ s. Answered s b t (call (lent state steps) n o.at)) (made-reader_called i S now after n x y sound view back) called))))
-
 -- no reader was called
 pub sound-reader_stepped : (i : Inside) (steps : List KernelStep) (at last : HostState) (mid : List (Option ReaderState)) → IsSound (made_of i) → at ≡ record i.host { steps = steps } → last ≡ host_rest at → mid ≡ i.readers.items → IsSound (made_reading i last mid)
 sound-reader_stepped i steps at last mid sound is rest none =
     subst (λ l. IsSound (made_reading i last l)) (sym none) (sound-stepped i steps at last i.endpoints.items sound is rest refl)
-
-pub answers-reader_stepped : {E : Type 0} (i : Inside) (S : SessionState) (steps : List KernelStep) (at last : HostState) (mid : List (Option ReaderState)) (n r : ℕ) (before text : String Global) (result : Result Unit E) (call : State → ReaderAt → Answer) → made_of i ≡ S → at ≡ record i.host { steps = steps } → last ≡ host_rest at → named i.readers.items n ≡ None → mid ≡ i.readers.items → n ≡ r → OnOk result (string_bytes text ≡ string_bytes before ++ condition_line) → Answers S (made_reading i last mid) before text result (λ state. if_open (reader_at state r) (call state) (barred (stepped_all state steps)))
-answers-reader_stepped i S steps at last mid n r before text (Err error) call view is rest none back same printed = tt
-answers-reader_stepped i S steps at last mid n r before text (Ok done) call view is rest none back same printed =
-    λ state stands.
-    let b = string_bytes before in
-    let t = string_bytes text in
-    subst (λ l. Answered (made_reading i last l) b t (if_open (reader_at state r) (call state) (barred (stepped_all state steps)))) (sym back)
-    (answered-none (made_reading i last i.readers.items) b t (reader_at state r) (call state) (barred (stepped_all state steps)) (no_reader_at i S n r view none same state stands)
-    (told-answered (made_reading i last i.readers.items) (stepped_all state steps) b t condition_line (steps-represent i S steps at last view is rest state stands) printed))

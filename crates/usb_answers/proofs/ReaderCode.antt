@@ -27,19 +27,20 @@ use Rattle.usb_io.specs.Answered.{answered}
 use Rattle.usb_streams.specs.Numbers.{numbers_from}
 use Rattle.usb_streams.proofs.TicketsCome.{TicketsCame, fill-tickets, read-tickets, filled-tickets}
 use Rattle.usb_stream_lines.specs.Faults.{read_fault_line}
-use Rattle.usb_stream_lines.specs.Reads.{read_line, buffer_line, consumed_end_line}
+use Rattle.usb_stream_lines.specs.Reads.{consumed_end_line, is_end_line}
 use Rattle.usb_lines.specs.Calls.{condition_line, ok_line}
 use Rattle.usb_words.specs.declared.framing.Framing.{Framing}
 use Rattle.usb_words.specs.declared.framing.Framing.TheVariants.{UntilShort}
 use Rattle.usb_names.specs.Names.{named, change_named, set_name, freed}
 use Rattle.usb_names.proofs.NameLemmas.{map-change_named, put-changed, put-back}
-use Rattle.usb_answers.specs.State.{State, Endpoint, Reader, kept, pending}
+use Rattle.usb_answers.specs.State.{State, Endpoint, Reader, endpoint_state, pending}
 use Rattle.usb_answers.specs.BareReaders.{BareReader, bare_of}
 use Rattle.usb_answers.specs.ReaderAt.{ReaderAt, reader_place, reader_at, state_of_reader}
 use Rattle.usb_answers.specs.Readers.{called_endpoint, called, with_count, num_on, with_timeout, timeout_on, with_none, cancel_reader_on}
 use Rattle.usb_writer_lines.specs.Needs.{bars_need}
-use Rattle.usb_answers.specs.Reads.{need_of, bars_read, consumed_with, is_until_short, bytes_given, given_line, polled_given_line, read_on, poll_read_on, fill_on, poll_fill_on, read_off, consume_on, consume_end_on}
-use Rattle.usb_answers.specs.Answer.{Answer, told, barred, ok_answer}
+use Rattle.usb_streams.specs.ReaderCalls.{given_by}
+use Rattle.usb_answers.specs.Reads.{need_of, bars_read, consumed_with, is_until_short, polled_given_line, read_on, fill_on, read_off, consume_on, consume_end_on}
+use Rattle.usb_answers.specs.Answer.{Answer, answer_with, condition_answer, ok_answer}
 use Rattle.usb_answers.specs.Answered.{Answered}
 use Rattle.usb_answers.specs.SessionState.{SessionState}
 use Rattle.usb_answers.specs.Relation.{Represents, session_of}
@@ -81,7 +82,7 @@ readers-called s state r y at g rep was bare =
 
 -- a reader was called and put back
 pub represents-reader : (s : SessionState) (state : State) (r : ℕ) (host : HostState) (x y : ReaderState) (at : ReaderAt) (f : Endpoint → Endpoint) (g : Reader → Reader) → Represents s state → HasReader s state r x at
-    → kept (f at.endpoint) ≡ y.endpoint → (f at.endpoint).taken ≤ length (f at.endpoint).tickets → (g at.reader).bare ≡ bare_of y
+    → endpoint_state (f at.endpoint) ≡ y.endpoint → (f at.endpoint).taken ≤ length (f at.endpoint).tickets → (g at.reader).bare ≡ bare_of y
     → Represents (with_reader_called s r host y) (record state { host = host; endpoints = change_named f state.endpoints (reader_place r); readers = change_named g state.readers r })
 represents-reader s state r host x y at f g rep has same few bare =
     let both = both_at state r at has.is in
@@ -130,18 +131,18 @@ same_session s state r host x at has host_was =
 
 -- a line is told, and nothing else
 pub reader-told : {E : Type 0} (host : HostState) (x : ReaderState) (before text : String Global) (result : Result Unit E) (line : List ℕ) (call : State → ℕ → ReaderAt → Answer) → OnOk result (string_bytes text ≡ string_bytes before ++ line)
-    → ((state : State) (r : ℕ) (at : ReaderAt) → state.host ≡ host → state_of_reader at ≡ x → call state r at ≡ told state line) → ReaderAnswers host host x x before text result call
+    → ((state : State) (r : ℕ) (at : ReaderAt) → state.host ≡ host → state_of_reader at ≡ x → call state r at ≡ answer_with state line) → ReaderAnswers host host x x before text result call
 reader-told host x before text (Err error) line call printed tells = tt
 reader-told host x before text (Ok done) line call printed tells =
     λ s state r at rep host_was has.
     subst (Answered (with_reader_called s r host x) (string_bytes before) (string_bytes text)) (sym (tells state r at (sym (host_is s state rep) ∙ host_was) has.same))
-    (subst (λ v. Answered v (string_bytes before) (string_bytes text) (told state line)) (sym (same_session s state r host x at has host_was))
+    (subst (λ v. Answered v (string_bytes before) (string_bytes text) (answer_with state line)) (sym (same_session s state r host x at has host_was))
     (told-answered s state (string_bytes before) (string_bytes text) line rep printed))
 
 -- an answer that leaves the endpoint of the reader as it was
 pub record ComesOff (state : State) (r : ℕ) (at : ReaderAt) (now : HostState) (y : ReaderState) (line : List ℕ) (a : Answer) : Type 0 where
   pub change : Reader → Reader
-  pub is : a ≡ told (record state { host = now; readers = change_named change state.readers r }) line
+  pub is : a ≡ answer_with (record state { host = now; readers = change_named change state.readers r }) line
   pub bare : (change at.reader).bare ≡ bare_of y
 
 pub reader-off : {E : Type 0} (old now : HostState) (x y : ReaderState) (before text : String Global) (result : Result Unit E) (line : List ℕ) (call : State → ℕ → ReaderAt → Answer) → y.endpoint ≡ x.endpoint → OnOk result (string_bytes text ≡ string_bytes before ++ line)
@@ -168,15 +169,15 @@ tickets-read h pending_was taken now numbers was came =
     ∙ ap (λ (l : List ℕ). take h.taken h.tickets ++ l) came
     ∙ sym (append_assoc (take h.taken h.tickets) taken now)
 
-kept-read : (old new : HostState) (x y : ReaderState) (h : Endpoint) → TicketsCame (reading old x) (reading new y) → y.endpoint ≡ record x.endpoint { pending = y.endpoint.pending } → kept h ≡ x.endpoint
-    → kept (called_endpoint (length (tickets old.kernel.past)) (length (tickets new.kernel.past)) y.endpoint.pending h) ≡ y.endpoint
+kept-read : (old new : HostState) (x y : ReaderState) (h : Endpoint) → TicketsCame (reading old x) (reading new y) → y.endpoint ≡ record x.endpoint { pending = y.endpoint.pending } → endpoint_state h ≡ x.endpoint
+    → endpoint_state (called_endpoint (length (tickets old.kernel.past)) (length (tickets new.kernel.past)) y.endpoint.pending h) ≡ y.endpoint
 kept-read old new x y h came rest same =
     let numbers = numbers_from (length (tickets old.kernel.past)) (length (tickets new.kernel.past) - length (tickets old.kernel.past)) in
     let last = y.endpoint.pending in
     let all = tickets-read h x.endpoint.pending came.taken last numbers (ap (λ (z : EndpointState). z.pending) same) came.same in
     let pending_is : drop (length (h.tickets ++ numbers) - length last) (h.tickets ++ numbers) ≡ last =
     ap (λ (l : List ℕ). drop (length l - length last) l) all ∙ drop-last (take h.taken h.tickets ++ came.taken) last in
-    ap (λ (l : List ℕ). record (kept h) { pending = l }) pending_is
+    ap (λ (l : List ℕ). record (endpoint_state h) { pending = l }) pending_is
     ∙ ap (λ (z : EndpointState). record z { pending = last }) same
     ∙ sym rest
 
@@ -184,15 +185,15 @@ kept-read old new x y h came rest same =
 pub record ComesTo (state : State) (r : ℕ) (new : HostState) (y : ReaderState) (line : List ℕ) (a : Answer) : Type 0 where
   pub consumed : Option (List Item)
   pub bytes : List ℕ
-  pub is : a ≡ told (called state r consumed bytes (reading new y)) line
+  pub is : a ≡ answer_with (called state r consumed bytes (reading new y)) line
 
 module _ (old new : HostState) (x y : ReaderState) (came : TicketsCame (reading old x) (reading new y)) (rest : y.endpoint ≡ record x.endpoint { pending = y.endpoint.pending }) where
   represents-called : (s : SessionState) (state : State) (r : ℕ) (at : ReaderAt) (consumed : Option (List Item)) (bytes : List ℕ) → Represents s state → s.host ≡ old → HasReader s state r x at → Represents (with_reader_called s r new y) (called state r consumed bytes (reading new y))
   represents-called s state r at consumed bytes rep host_was has =
       let host : old ≡ state.host = sym host_was ∙ host_is s state rep in
       let count = length (tickets state.host.kernel.past) in
-      let kept_is : kept (called_endpoint count (length (tickets new.kernel.past)) y.endpoint.pending at.endpoint) ≡ y.endpoint =
-      ap (λ (h : HostState). kept (called_endpoint (length (tickets h.kernel.past)) (length (tickets new.kernel.past)) y.endpoint.pending at.endpoint)) (sym host)
+      let kept_is : endpoint_state (called_endpoint count (length (tickets new.kernel.past)) y.endpoint.pending at.endpoint) ≡ y.endpoint =
+      ap (λ (h : HostState). endpoint_state (called_endpoint (length (tickets h.kernel.past)) (length (tickets new.kernel.past)) y.endpoint.pending at.endpoint)) (sym host)
       ∙ kept-read old new x y at.endpoint came rest (ap (λ (z : ReaderState). z.endpoint) has.same) in
       represents-reader s state r new x y at (called_endpoint count (length (tickets new.kernel.past)) y.endpoint.pending) (λ z. record z { bare = bare_of y; given = z.given ++ bytes; consumed = consumed }) rep has kept_is (omega arith) refl
 
@@ -215,30 +216,44 @@ bars_at framing host x state at host_was same =
 
 -- it is told so
 pub reads-barred : {E : Type 0} (framing : Framing) (host : HostState) (x : ReaderState) (before text : String Global) (result : Result Unit E) (call : State → ℕ → ReaderAt → Answer) → bars_need host.kernel.past (length x.endpoint.pending) (need_of framing x) ≡ true
-    → OnOk result (string_bytes text ≡ string_bytes before ++ condition_line) → ReaderAnswers host host x x before text result (λ state r at. cond (bars_read state framing at) (barred state) (call state r at))
+    → OnOk result (string_bytes text ≡ string_bytes before ++ condition_line) → ReaderAnswers host host x x before text result (λ state r at. cond (bars_read state framing at) (condition_answer state) (call state r at))
 reads-barred framing host x before text result call bars printed =
-    reader-told host x before text result condition_line (λ state r at. cond (bars_read state framing at) (barred state) (call state r at)) printed
-    (λ state r at host_was same. ap (λ b. cond b (barred state) (call state r at)) (bars_at framing host x state at host_was same ∙ bars))
+    reader-told host x before text result condition_line (λ state r at. cond (bars_read state framing at) (condition_answer state) (call state r at)) printed
+    (λ state r at host_was same. ap (λ b. cond b (condition_answer state) (call state r at)) (bars_at framing host x state at host_was same ∙ bars))
 
 -- what a reading call gave is told, and the bytes that it took are consumed
 abbrev pub given_as : State → Framing → ℕ → ReaderAt → (Result (List ℕ) ReadFault → List ℕ) → (Result (List ℕ) ReadFault → List ℕ) → Read HostState → Answer
-given_as state framing r at bytes line a = told (called state r (consumed_with framing (map Byte (bytes a.answer)) at.reader.consumed) (bytes a.answer) a.left) (line a.answer)
+given_as state framing r at bytes line a = answer_with (called state r (consumed_with framing (map Byte (bytes a.answer)) at.reader.consumed) (bytes a.answer) a.left) (line a.answer)
 
-pub reads-given : {E : Type 0} (framing : Framing) (old new : HostState) (x y : ReaderState) (before text : String Global) (result : Result Unit E) (answer : Result (List ℕ) ReadFault) (bytes : Result (List ℕ) ReadFault → List ℕ) (line : Result (List ℕ) ReadFault → List ℕ) (given : State → ReaderAt → Read HostState)
-    → TicketsCame (reading old x) (reading new y) → y.endpoint ≡ record x.endpoint { pending = y.endpoint.pending }
-    → bars_need old.kernel.past (length x.endpoint.pending) (need_of framing x) ≡ false
-    → ((state : State) (at : ReaderAt) → state.host ≡ old → state_of_reader at ≡ x → given state at ≡ answered answer (reading new y))
-    → OnOk result (string_bytes text ≡ string_bytes before ++ line answer)
-    → ReaderAnswers old new x y before text result (λ state r at. cond (bars_read state framing at) (barred state) (given_as state framing r at bytes line (given state at)))
-reads-given framing old new x y before text result answer bytes line given came rest free is printed =
-    reader-called old new x y came rest before text result (line answer) (λ state r at. cond (bars_read state framing at) (barred state) (given_as state framing r at bytes line (given state at))) printed
-    (λ state r at host_was same. record {
-      consumed = consumed_with framing (map Byte (bytes answer)) at.reader.consumed;
-      bytes = bytes answer;
-      is =
-          ap (λ b. cond b (barred state) (given_as state framing r at bytes line (given state at))) (bars_at framing old x state at host_was same ∙ free)
-          ∙ ap (given_as state framing r at bytes line) (is state at host_was same);
-    })
+module _ (framing : Framing) (old new : HostState) (x y : ReaderState) (goes : ReadsAlong (bus_of old) (bus_of new) x.endpoint y.endpoint) (free : bars_need old.kernel.past (length x.endpoint.pending) (need_of framing x) ≡ false) where
+  reads-given : {E : Type 0} (before text : String Global) (result : Result Unit E) (answer : Result (List ℕ) ReadFault) (bytes line : Result (List ℕ) ReadFault → List ℕ) (given : HostState → ReaderState → Read HostState)
+      → TicketsCame (reading old x) (given old x).left → given old x ≡ answered answer (reading new y) → OnOk result (string_bytes text ≡ string_bytes before ++ line answer)
+      → ReaderAnswers old new x y before text result (λ state r at. cond (bars_read state framing at) (condition_answer state) (given_as state framing r at bytes line (given state.host (state_of_reader at))))
+  reads-given before text result answer bytes line given came is printed =
+      reader-called old new x y (subst (λ (a : Read HostState). TicketsCame (reading old x) a.left) is came) goes.endpoint before text result (line answer)
+      (λ state r at. cond (bars_read state framing at) (condition_answer state) (given_as state framing r at bytes line (given state.host (state_of_reader at)))) printed
+      (λ state r at host_was same. record {
+        consumed = consumed_with framing (map Byte (bytes answer)) at.reader.consumed;
+        bytes = bytes answer;
+        is =
+            ap (λ b. cond b (condition_answer state) (given_as state framing r at bytes line (given state.host (state_of_reader at)))) (bars_at framing old x state at host_was same ∙ free)
+            ∙ ap (given_as state framing r at bytes line)
+            (ap (λ (h : HostState). given h (state_of_reader at)) host_was ∙ ap (λ (z : ReaderState). given old z) same ∙ is);
+      })
+
+  -- what a read gave, which waits for the reader's timeout, or for no time
+  pub read-gave : {E : Type 0} (timeout : ReaderState → ℕ) (line : Result (List ℕ) ReadFault → List ℕ) (before text : String Global) (result : Result Unit E) (most : ℕ) (answer : Result (List ℕ) ReadFault) → read_came host_calls (is_until_short framing) (timeout x) most (reading old x) ≡ answered answer (reading new y)
+      → OnOk result (string_bytes text ≡ string_bytes before ++ line answer) → ReaderAnswers old new x y before text result (λ state r at. read_on state framing r most (timeout (state_of_reader at)) line at)
+  read-gave timeout line before text result most answer is printed =
+      reads-given before text result answer (λ a. given_by a) line (λ h z. read_came host_calls (is_until_short framing) (timeout z) most (reading h z))
+      (read-tickets (is_until_short framing) (timeout x) most (reading old x)) is printed
+
+  -- and a call that lends the bytes
+  pub fill-gave : {E : Type 0} (timeout : ReaderState → ℕ) (line : Result (List ℕ) ReadFault → List ℕ) (before text : String Global) (result : Result Unit E) (answer : Result (List ℕ) ReadFault) → fill_came host_calls (is_until_short framing) (timeout x) (reading old x) ≡ answered answer (reading new y)
+      → OnOk result (string_bytes text ≡ string_bytes before ++ line answer) → ReaderAnswers old new x y before text result (λ state r at. fill_on state framing r (timeout (state_of_reader at)) line at)
+  fill-gave timeout line before text result answer is printed =
+      reads-given before text result answer (λ a. []) line (λ h z. fill_came host_calls (is_until_short framing) (timeout z) (reading h z))
+      (fill-tickets (is_until_short framing) (timeout x) (reading old x)) is printed
 
 -- a reader of which the host knows nothing was changed
 pub keeps-rest : (host : HostState) (x y : EndpointState) → Stands (bus_of host) x → y ≡ x → CallKeeps host host x y
@@ -252,59 +267,6 @@ keeps-rest host x y stands same =
       key = refl;
       maximum = refl;
     })
-
--- what a read gave
-module _ (framing : Framing) (old new : HostState) (x y : ReaderState) (goes : ReadsAlong (bus_of old) (bus_of new) x.endpoint y.endpoint) (free : bars_need old.kernel.past (length x.endpoint.pending) (need_of framing x) ≡ false) where
-  tickets-read_by : (timeout most : ℕ) (answer : Result (List ℕ) ReadFault) → read_came host_calls (is_until_short framing) timeout most (reading old x) ≡ answered answer (reading new y) → TicketsCame (reading old x) (reading new y)
-  tickets-read_by timeout most answer is = subst (λ (a : Read HostState). TicketsCame (reading old x) a.left) is (read-tickets (is_until_short framing) timeout most (reading old x))
-
-  tickets-fill_by : (timeout : ℕ) (answer : Result (List ℕ) ReadFault) → fill_came host_calls (is_until_short framing) timeout (reading old x) ≡ answered answer (reading new y) → TicketsCame (reading old x) (reading new y)
-  tickets-fill_by timeout answer is = subst (λ (a : Read HostState). TicketsCame (reading old x) a.left) is (fill-tickets (is_until_short framing) timeout (reading old x))
-
-  pub read-gave : {E : Type 0} (before text : String Global) (result : Result Unit E) (most : ℕ) (answer : Result (List ℕ) ReadFault) → read_came host_calls (is_until_short framing) x.timeout most (reading old x) ≡ answered answer (reading new y)
-      → OnOk result (string_bytes text ≡ string_bytes before ++ given_line read_line answer) → ReaderAnswers old new x y before text result (λ state r at. read_on state framing r most at)
-  read-gave before text result most answer is printed =
-      reads-given framing old new x y before text result answer (λ a. bytes_given a) (given_line read_line)
-      (λ state at. read_came host_calls (is_until_short framing) at.reader.bare.timeout most (reading state.host (state_of_reader at)))
-      (tickets-read_by x.timeout most answer is) goes.endpoint free
-      (λ state at host_was same.
-      ap (λ (h : HostState). read_came host_calls (is_until_short framing) at.reader.bare.timeout most (reading h (state_of_reader at))) host_was
-      ∙ ap (λ (z : ReaderState). read_came host_calls (is_until_short framing) z.timeout most (reading old z)) same ∙ is)
-      printed
-
-  pub poll_read-gave : {E : Type 0} (before text : String Global) (result : Result Unit E) (most : ℕ) (answer : Result (List ℕ) ReadFault) → read_came host_calls (is_until_short framing) 0 most (reading old x) ≡ answered answer (reading new y)
-      → OnOk result (string_bytes text ≡ string_bytes before ++ polled_given_line read_line answer) → ReaderAnswers old new x y before text result (λ state r at. poll_read_on state framing r most at)
-  poll_read-gave before text result most answer is printed =
-      reads-given framing old new x y before text result answer (λ a. bytes_given a) (polled_given_line read_line)
-      (λ state at. read_came host_calls (is_until_short framing) 0 most (reading state.host (state_of_reader at)))
-      (tickets-read_by 0 most answer is) goes.endpoint free
-      (λ state at host_was same.
-      ap (λ (h : HostState). read_came host_calls (is_until_short framing) 0 most (reading h (state_of_reader at))) host_was
-      ∙ ap (λ (z : ReaderState). read_came host_calls (is_until_short framing) 0 most (reading old z)) same ∙ is)
-      printed
-
-  -- and a call that lends the bytes
-  pub fill-gave : {E : Type 0} (before text : String Global) (result : Result Unit E) (answer : Result (List ℕ) ReadFault) → fill_came host_calls (is_until_short framing) x.timeout (reading old x) ≡ answered answer (reading new y)
-      → OnOk result (string_bytes text ≡ string_bytes before ++ given_line buffer_line answer) → ReaderAnswers old new x y before text result (λ state r at. fill_on state framing r at)
-  fill-gave before text result answer is printed =
-      reads-given framing old new x y before text result answer (λ a. []) (given_line buffer_line)
-      (λ state at. fill_came host_calls (is_until_short framing) at.reader.bare.timeout (reading state.host (state_of_reader at)))
-      (tickets-fill_by x.timeout answer is) goes.endpoint free
-      (λ state at host_was same.
-      ap (λ (h : HostState). fill_came host_calls (is_until_short framing) at.reader.bare.timeout (reading h (state_of_reader at))) host_was
-      ∙ ap (λ (z : ReaderState). fill_came host_calls (is_until_short framing) z.timeout (reading old z)) same ∙ is)
-      printed
-
-  pub poll_fill-gave : {E : Type 0} (before text : String Global) (result : Result Unit E) (answer : Result (List ℕ) ReadFault) → fill_came host_calls (is_until_short framing) 0 (reading old x) ≡ answered answer (reading new y)
-      → OnOk result (string_bytes text ≡ string_bytes before ++ polled_given_line buffer_line answer) → ReaderAnswers old new x y before text result (λ state r at. poll_fill_on state framing r at)
-  poll_fill-gave before text result answer is printed =
-      reads-given framing old new x y before text result answer (λ a. []) (polled_given_line buffer_line)
-      (λ state at. fill_came host_calls (is_until_short framing) 0 (reading state.host (state_of_reader at)))
-      (tickets-fill_by 0 answer is) goes.endpoint free
-      (λ state at host_was same.
-      ap (λ (h : HostState). fill_came host_calls (is_until_short framing) 0 (reading h (state_of_reader at))) host_was
-      ∙ ap (λ (z : ReaderState). fill_came host_calls (is_until_short framing) 0 (reading old z)) same ∙ is)
-      printed
 
 -- a poll that is not pending is told as what waits is
 pub in_time-line : (line : List ℕ → List ℕ) (fault : ReadFault) → fault ≢ TimedOut → polled_given_line line (Err fault) ≡ read_fault_line fault
@@ -324,7 +286,7 @@ pub num-barred : {E : Type 0} (host : HostState) (x : ReaderState) (n : ℕ) (be
 num-barred host x n before text result bars printed =
     reader-told host x before text result condition_line (λ state r at. num_on state r n at) printed
     (λ state r at host_was same.
-    ap (λ b. cond b (barred state) (ok_answer (called state r at.reader.consumed [] (filled_to host_calls (n - 1) (reading state.host (with_count n (state_of_reader at)))))))
+    ap (λ b. cond b (condition_answer state) (ok_answer (called state r at.reader.consumed [] (filled_to host_calls (n - 1) (reading state.host (with_count n (state_of_reader at)))))))
     (bars_num host x n state at host_was same ∙ bars))
 
 pub num-made : {E : Type 0} (old new : HostState) (x y : ReaderState) (n : ℕ) (before text : String Global) (result : Result Unit E) → nat_lt 64 n || bars_need old.kernel.past (length x.endpoint.pending) (n - 1 - length x.endpoint.pending) ≡ false
@@ -338,7 +300,7 @@ num-made old new x y n before text result free is goes printed =
       consumed = at.reader.consumed;
       bytes = [];
       is =
-          ap (λ b. cond b (barred state) (ok_answer (called state r at.reader.consumed [] (filled_to host_calls (n - 1) (reading state.host (with_count n (state_of_reader at)))))))
+          ap (λ b. cond b (condition_answer state) (ok_answer (called state r at.reader.consumed [] (filled_to host_calls (n - 1) (reading state.host (with_count n (state_of_reader at)))))))
           (bars_num old x n state at host_was same ∙ free)
           ∙ ap (λ (h : HostState). ok_answer (called state r at.reader.consumed [] (filled_to host_calls (n - 1) (reading h (with_count n (state_of_reader at)))))) host_was
           ∙ ap (λ (z : ReaderState). ok_answer (called state r at.reader.consumed [] (filled_to host_calls (n - 1) (reading old (with_count n z))))) same
@@ -380,7 +342,7 @@ pub consume-barred : {E : Type 0} (framing : Framing) (host : HostState) (x : Re
 consume-barred framing host x n before text result more printed =
     reader-told host x before text result condition_line (λ state r at. consume_on state framing r n at) printed
     (λ state r at host_was same.
-    ap (λ b. cond b (barred state) (ok_answer (read_off state framing r at (map Byte (take n at.reader.bare.unread)) (take n at.reader.bare.unread) (with_read n (state_of_reader at)))))
+    ap (λ b. cond b (condition_answer state) (ok_answer (read_off state framing r at (map Byte (take n at.reader.bare.unread)) (take n at.reader.bare.unread) (with_read n (state_of_reader at)))))
     (ap (λ (z : ReaderState). nat_lt (length z.unread) n) same ∙ more-yes (length x.unread) n more))
 
 pub consume-took : {E : Type 0} (framing : Framing) (host : HostState) (x y : ReaderState) (n : ℕ) (before text : String Global) (result : Result Unit E) → n ≤ length x.unread → y ≡ with_read n x → OnOk result (string_bytes text ≡ string_bytes before ++ ok_line) → ReaderAnswers host host x y before text result (λ state r at. consume_on state framing r n at)
@@ -389,7 +351,7 @@ consume-took framing host x y n before text result few is printed =
     (λ state r at host_was same. record {
       change = λ z. record z { bare = bare_of y; given = z.given ++ take n at.reader.bare.unread; consumed = consumed_with framing (map Byte (take n at.reader.bare.unread)) at.reader.consumed };
       is =
-          ap (λ b. cond b (barred state) (ok_answer (read_off state framing r at (map Byte (take n at.reader.bare.unread)) (take n at.reader.bare.unread) (with_read n (state_of_reader at)))))
+          ap (λ b. cond b (condition_answer state) (ok_answer (read_off state framing r at (map Byte (take n at.reader.bare.unread)) (take n at.reader.bare.unread) (with_read n (state_of_reader at)))))
           (ap (λ (z : ReaderState). nat_lt (length z.unread) n) same ∙ more-no (length x.unread) n few)
           ∙ ap (λ (z : ReaderState). ok_answer (read_off state framing r at (map Byte (take n at.reader.bare.unread)) (take n at.reader.bare.unread) (with_read n z))) same
           ∙ ap (λ (z : ReaderState). ok_answer (read_off state framing r at (map Byte (take n at.reader.bare.unread)) (take n at.reader.bare.unread) z)) (sym is)
@@ -405,7 +367,7 @@ end-taken host x y (Ok u) before text result ok err printed =
     (λ state r at host_was same. record {
       change = λ z. record z { bare = bare_of y; given = z.given ++ []; consumed = consumed_with UntilShort (End ∷ []) at.reader.consumed };
       is =
-          ap (λ b. cond b (ok_answer (read_off state UntilShort r at (End ∷ []) [] (without_end (state_of_reader at)))) (told state (consumed_end_line (Err (record {}))))) (ap (λ (z : ReaderState). is_end z) same ∙ ok.0)
+          ap (λ b. cond b (ok_answer (read_off state UntilShort r at (End ∷ []) [] (without_end (state_of_reader at)))) (answer_with state (consumed_end_line (Err (record {}))))) (ap (λ (z : ReaderState). is_end z) same ∙ ok.0)
           ∙ ap (λ (z : ReaderState). ok_answer (read_off state UntilShort r at (End ∷ []) [] (without_end z))) same
           ∙ ap (λ (z : ReaderState). ok_answer (read_off state UntilShort r at (End ∷ []) [] z)) (sym ok.1)
           ∙ ap (λ (h : HostState). ok_answer (record state { host = h; readers = change_named (λ z. record z { bare = bare_of y; given = z.given ++ []; consumed = consumed_with UntilShort (End ∷ []) at.reader.consumed }) state.readers r })) host_was;
@@ -415,11 +377,18 @@ end-taken host x y (Err e) before text result ok err printed =
     subst (λ (z : ReaderState). ReaderAnswers host host x z before text result (λ state r at. consume_end_on state r at)) (sym err.1)
     (reader-told host x before text result (consumed_end_line (Err e)) (λ state r at. consume_end_on state r at) printed
     (λ state r at host_was same.
-    ap (λ b. cond b (ok_answer (read_off state UntilShort r at (End ∷ []) [] (without_end (state_of_reader at)))) (told state (consumed_end_line (Err (record {}))))) (ap (λ (z : ReaderState). is_end z) same ∙ err.0)))
+    ap (λ b. cond b (ok_answer (read_off state UntilShort r at (End ∷ []) [] (without_end (state_of_reader at)))) (answer_with state (consumed_end_line (Err (record {}))))) (ap (λ (z : ReaderState). is_end z) same ∙ err.0)))
 
 pub end-rest : (x y : ReaderState) (answer : Result Unit ExpectedShortPacket) → OnOk answer ((is_end x ≡ true) × (y ≡ without_end x)) → OnErr answer ((is_end x ≡ false) × (y ≡ x)) → y.endpoint ≡ x.endpoint
 end-rest x y (Ok u) ok err = ap (λ (z : ReaderState). z.endpoint) ok.1
 end-rest x y (Err e) ok err = ap (λ (z : ReaderState). z.endpoint) err.1
+
+-- whether it is next is told
+pub end-told : {E : Type 0} (host : HostState) (x : ReaderState) (next : Bool) (before text : String Global) (result : Result Unit E) → next ≡ is_end x → OnOk result (string_bytes text ≡ string_bytes before ++ is_end_line next)
+    → ReaderAnswers host host x x before text result (λ state r at. answer_with state (is_end_line (is_end (state_of_reader at))))
+end-told host x next before text result is printed =
+    reader-told host x before text result (is_end_line next) (λ state r at. answer_with state (is_end_line (is_end (state_of_reader at)))) printed
+    (λ state r at host_was same. ap (λ (z : ReaderState). answer_with state (is_end_line (is_end z))) same ∙ ap (λ b. answer_with state (is_end_line b)) (sym is))
 
 pub few-count : (n : ℕ) (b : Bool) → nat_lt 64 n || b ≡ false → n ≤ 64
 few-count n b free = grind (arith, nat_tests)

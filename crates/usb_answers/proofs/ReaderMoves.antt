@@ -12,11 +12,11 @@ use Rattle.usb_answers.specs.declared.session.Session.TheInside.{Inside}
 use Rattle.usb_names.specs.Names.{named, is_free, freed, set_name}
 use Rattle.usb_names.proofs.NameLemmas.{free-within, length-freed, length-set_name, map-freed, map-set, is_free-map}
 use Rattle.usb_answers.specs.BareReaders.{bare_of}
-use Rattle.usb_answers.specs.State.{State, Endpoint, Reader, kept}
+use Rattle.usb_answers.specs.State.{State, Endpoint, Reader, endpoint_state}
 use Rattle.usb_answers.specs.ReaderAt.{ReaderAt, endpoint_place, reader_place, reader_at}
 use Rattle.usb_answers.specs.Readers.{as_streamed, with_reader, is_free_reader, reader_on, reader_answer, without_reader, inner_answer}
 use Rattle.usb_answers.specs.Submits.{has_direction}
-use Rattle.usb_answers.specs.Answer.{barred, ok_answer, if_open}
+use Rattle.usb_answers.specs.Answer.{condition_answer, ok_answer, if_open}
 use Rattle.usb_answers.specs.SessionState.{SessionState, IsSound}
 use Rattle.usb_answers.specs.SessionFacts.{session_made, made_of, endpoint_of, bare_reader_of, endpoints_with}
 use Rattle.usb_answers.specs.Relation.{Represents}
@@ -97,7 +97,7 @@ module _ (i : Inside) (sound : IsSound (made_of i)) (e r : ℕ) where
   free-own : (state : State) → Represents (made_of i) state → is_free state.endpoints (endpoint_place e) ≡ is_free i.endpoints.items e
   free-own state is = sym (free_kept (made_of i) state (endpoint_place e) is) ∙ free-endpoint i.endpoints.items i.readers.items i.writers.items (places-made i sound) e
 
-  reader-represents : (x : EndpointState) (y : ReaderState) (size : ℕ) (state : State) (h : Endpoint) → named i.endpoints.items e ≡ Some x → is_free i.readers.items r ≡ true → y ≡ fresh_reader x size → Represents (made_of i) state → kept h ≡ x → h.taken ≤ length h.tickets
+  reader-represents : (x : EndpointState) (y : ReaderState) (size : ℕ) (state : State) (h : Endpoint) → named i.endpoints.items e ≡ Some x → is_free i.readers.items r ≡ true → y ≡ fresh_reader x size → Represents (made_of i) state → endpoint_state h ≡ x → h.taken ≤ length h.tickets
       → Represents (made_both i (freed i.endpoints.items e) (set_name i.readers.items r y)) (with_reader state r (endpoint_place e) size h)
   reader-represents x y size state h was free fresh is same few =
       let after = endpoints_with (freed i.endpoints.items e) (set_name i.readers.items r y) i.writers.items in
@@ -107,10 +107,10 @@ module _ (i : Inside) (sound : IsSound (made_of i)) (e r : ℕ) where
       represents-readers (record (made_of i) { endpoints = after }) (record state { endpoints = now.endpoints }) (map (option_map bare_reader_of) (set_name i.readers.items r y)) now.readers moved_
       (map-set bare_reader_of i.readers.items r y
       ∙ ap (set_name (map (option_map bare_reader_of) i.readers.items) r) (ap bare_of (fresh ∙ ap (λ (z : EndpointState). fresh_reader z size) (sym same)))
-      ∙ ap (λ (v : SessionState). set_name v.readers r (bare_of (fresh_reader (kept h) size))) is.is
+      ∙ ap (λ (v : SessionState). set_name v.readers r (bare_of (fresh_reader (endpoint_state h) size))) is.is
       ∙ sym (map-set (λ (z : Reader). z.bare) state.readers r _))
 
-  inner-represents : (x : ReaderState) (y : EndpointState) (state : State) (at : ReaderAt) → named i.readers.items r ≡ Some x → is_free i.endpoints.items e ≡ true → y ≡ endpoint_of x → Represents (made_of i) state → kept at.endpoint ≡ endpoint_of x → at.endpoint.taken ≤ length at.endpoint.tickets
+  inner-represents : (x : ReaderState) (y : EndpointState) (state : State) (at : ReaderAt) → named i.readers.items r ≡ Some x → is_free i.endpoints.items e ≡ true → y ≡ endpoint_of x → Represents (made_of i) state → endpoint_state at.endpoint ≡ endpoint_of x → at.endpoint.taken ≤ length at.endpoint.tickets
       → Represents (made_both i (set_name i.endpoints.items e y) (freed i.readers.items r)) (without_reader state (endpoint_place e) r at)
   inner-represents x y state at was free given is same few =
       let after = endpoints_with (set_name i.endpoints.items e y) (freed i.readers.items r) i.writers.items in
@@ -127,11 +127,11 @@ reader-gives i sound e r x y size state was free fresh input is =
     let o = open_at (made_of i) state (endpoint_place e) x is (taken-endpoint i.endpoints.items i.readers.items i.writers.items (places-made i sound) e x was) in
     let bare : is_free state.readers r ≡ true = free-bare i sound e r state is ∙ free in
     let place : is_free state.endpoints (reader_place r) ≡ true = free-place i sound e r state is free in
-    let direction : has_direction In (kept o.entry) ≡ true = ap (has_direction In) o.same ∙ is-direction In x input in
+    let direction : has_direction In (endpoint_state o.entry) ≡ true = ap (has_direction In) o.same ∙ is-direction In x input in
     rw (o.is, bare, place, direction) (record { state = reader-represents i sound e r x y size state o.entry was free fresh is o.same o.few; same = refl })
 
 -- or its name is in use, nothing is open under the endpoint's, or that is not an IN endpoint
-used-gives : (s : SessionState) (state : State) (r p size : ℕ) (o : Option Endpoint) → Represents s state → is_free state.readers r ≡ false → Gives s condition_line (if_open o (reader_on state r p size) (barred state))
+used-gives : (s : SessionState) (state : State) (r p size : ℕ) (o : Option Endpoint) → Represents s state → is_free state.readers r ≡ false → Gives s condition_line (if_open o (reader_on state r p size) (condition_answer state))
 used-gives s state r p size None is used = barred-gives s state is
 used-gives s state r p size (Some h) is used = rw used (barred-gives s state is)
 
@@ -148,7 +148,7 @@ pub reader-out : (i : Inside) (sound : IsSound (made_of i)) (e r size : ℕ) (x 
 unfolding reader_answer
 reader-out i sound e r size x state was other is =
     let o = open_at (made_of i) state (endpoint_place e) x is (taken-endpoint i.endpoints.items i.readers.items i.writers.items (places-made i sound) e x was) in
-    let direction : has_direction In (kept o.entry) ≡ false = ap (has_direction In) o.same ∙ not-direction In x other in
+    let direction : has_direction In (endpoint_state o.entry) ≡ false = ap (has_direction In) o.same ∙ not-direction In x other in
     rw (o.is, direction) (barred-direction (made_of i) state (is_free_reader state r) (ok_answer (with_reader state r (endpoint_place e) size o.entry)) is)
 
 -- what `inner` answers: the endpoint comes back
@@ -162,7 +162,7 @@ inner-gives i sound e r x y state was free given is =
     rw (o.has.is, own) (record { state = inner-represents i sound e r x y state o.at was free given is (ap (λ (z : ReaderState). z.endpoint) o.has.same) o.few; same = refl })
 
 -- or its name is in use, or no reader is open under that name
-inner_used-gives : (s : SessionState) (state : State) (p r : ℕ) (o : Option ReaderAt) → Represents s state → is_free state.endpoints p ≡ false → Gives s condition_line (if_open o (λ x. if is_free state.endpoints p then ok_answer (without_reader state p r x) else barred state) (barred state))
+inner_used-gives : (s : SessionState) (state : State) (p r : ℕ) (o : Option ReaderAt) → Represents s state → is_free state.endpoints p ≡ false → Gives s condition_line (if_open o (λ x. if is_free state.endpoints p then ok_answer (without_reader state p r x) else condition_answer state) (condition_answer state))
 inner_used-gives s state p r None is used = barred-gives s state is
 inner_used-gives s state p r (Some x) is used = rw used (barred-gives s state is)
 
@@ -172,7 +172,7 @@ inner-used i sound e r state used is = inner_used-gives (made_of i) state (endpo
 
 pub inner-none : (i : Inside) (sound : IsSound (made_of i)) (e r : ℕ) (state : State) → named i.readers.items r ≡ None → Represents (made_of i) state → Gives (made_of i) condition_line (inner_answer state (endpoint_place e) r)
 unfolding inner_answer
-inner-none i sound e r state none is = rw (no_reader_at i (made_of i) r r refl none refl state is) (barred-gives (made_of i) state is)
+inner-none i sound e r state none is = rw (no_reader_at i i.host r r none refl state is) (barred-gives (made_of i) state is)
 
 -- by what the code left
 pub both-same : (P : SessionState → Type 0) (i : Inside) (es mid : List (Option EndpointState)) (rs after : List (Option ReaderState)) → mid ≡ es → after ≡ rs → P (made_both i es rs) → P (made_both i mid after)

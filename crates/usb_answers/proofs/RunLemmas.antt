@@ -25,7 +25,7 @@ use Rattle.usb_io.specs.Readers.{ReaderState}
 use Rattle.usb_io.specs.Writers.{WriterState}
 use Rattle.usb_answers.specs.BareReaders.{BareReader}
 use Rattle.usb_answers.specs.BareWriters.{BareWriter}
-use Rattle.usb_answers.specs.State.{Endpoint, Reader, Writer, kept}
+use Rattle.usb_answers.specs.State.{Endpoint, Reader, Writer, endpoint_state}
 use Rattle.usb_answers.specs.Output.{devices_of, start}
 use Rattle.usb_answers.specs.SessionState.{SessionState, IsSound}
 use Rattle.usb_answers.specs.SessionFacts.{session_made, endpoint_of, bare_reader_of, writer_endpoint, bare_writer_of, endpoints_with}
@@ -121,9 +121,9 @@ sound-start items t p host ds is es rs ws fs start_ d i e q w f =
 empty-start : (items : List Item) → empty_session (tree_of items) (packets_of items) (start items).host ≡ session_of (start items)
 unfolding start
 empty-start items =
-    ap (λ (l : List (Option EndpointState)). record (empty_session (tree_of items) (packets_of items) (start items).host) { endpoints = l }) (map-replicate kept 192)
-    ∙ ap (λ (l : List (Option BareReader)). record (empty_session (tree_of items) (packets_of items) (start items).host) { endpoints = map (option_map kept) (replicate 192 None); readers = l }) (map-replicate (λ (x : Reader). x.bare) 64)
-    ∙ ap (λ (l : List (Option BareWriter)). record (empty_session (tree_of items) (packets_of items) (start items).host) { endpoints = map (option_map kept) (replicate 192 None); readers = map (option_map (λ (x : Reader). x.bare)) (replicate 64 None); writers = l }) (map-replicate (λ (x : Writer). x.bare) 64)
+    ap (λ (l : List (Option EndpointState)). record (empty_session (tree_of items) (packets_of items) (start items).host) { endpoints = l }) (map-replicate endpoint_state 192)
+    ∙ ap (λ (l : List (Option BareReader)). record (empty_session (tree_of items) (packets_of items) (start items).host) { endpoints = map (option_map endpoint_state) (replicate 192 None); readers = l }) (map-replicate (λ (x : Reader). x.bare) 64)
+    ∙ ap (λ (l : List (Option BareWriter)). record (empty_session (tree_of items) (packets_of items) (start items).host) { endpoints = map (option_map endpoint_state) (replicate 192 None); readers = map (option_map (λ (x : Reader). x.bare)) (replicate 64 None); writers = l }) (map-replicate (λ (x : Writer). x.bare) 64)
 
 few-start : (items : List Item) (e : ℕ) (h : Endpoint) → named (start items).endpoints e ≡ Some h → h.taken ≤ length h.tickets
 unfolding start

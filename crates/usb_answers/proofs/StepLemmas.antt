@@ -20,17 +20,16 @@ use Rattle.usb_host.proofs.FollowLemmas.{KeepsTickets, on-same, adds-entered, ta
 use Rattle.usb_host.proofs.StartedLemmas.{Parts, AddsTaken, adds-started, started-count}
 use Rattle.usb_device.specs.Futures.{FutureState, fresh_future}
 use Rattle.usb_script.specs.declared.item.Item.{Item}
+use Rattle.usb_answers.specs.declared.call.Call.{Call}
+use Rattle.usb_answers.specs.Calls.{call_of}
 use Rattle.usb_names.specs.Names.{named, is_free, change_named, freed, set_name, nothing, something}
-use Rattle.usb_answers.specs.State.{State, Endpoint, kept, pending, tickets_of, with_host}
+use Rattle.usb_answers.specs.State.{State, Endpoint, endpoint_state, pending, tickets_of, with_host}
 use Rattle.usb_answers.specs.Answer.{Answer}
 use Rattle.usb_answers.specs.Polls.{one_taken, taken_from}
 use Rattle.usb_answers.specs.Submits.{submitted, with_submission}
 use Rattle.usb_answers.specs.Closes.{without_endpoint, closed}
 use Rattle.usb_answers.specs.Futures.{with_future}
-use Rattle.usb_answers.specs.ReaderAt.{reader_place}
-use Rattle.usb_answers.specs.WriterAt.{writer_place}
-use Rattle.usb_answers.specs.Readers.{reader_closed}
-use Rattle.usb_answers.specs.Writers.{writer_closed}
+use Rattle.usb_answers.specs.Below.{below, given_below}
 use Rattle.usb_answers.specs.Ends.{future_closed_under}
 use Rattle.usb_answers.specs.Answers.{answer}
 use Rattle.usb_answers.specs.Accounts.{TookFew}
@@ -39,11 +38,8 @@ use Rattle.usb_answers.specs.Served.{ClosedEndpoint, tickets_of_all, closed_unde
 use Rattle.usb_names.proofs.NameLemmas.{place_of, free_place, free-within, named-change_same, named-change_other, named-freed, named-freed_other, named-set, named-set_other, length-change, length-freed, length-set_name}
 use Rattle.usb_answers.proofs.TimesLemmas.{one, times, times-append, among, among-once, tickets_in, ticket_in, times_open, times_awaited, listed-once, listed-apart, open-change, open-one, open-two}
 use Rattle.usb_answers.proofs.OrderLemmas.{IsHeld, Stays, held-stays, stays-keeps, leaves-is, leaves-held, InOrder, order-few, order-stays, order-keeps, order-fresh, order-push, order-within, order-takes, front-held, front-stands, pending-all, stays-same, left_by, LeavesTickets, goes-keeps, goes-then, goes-taken, goes-left, IsClosed, closed-goes, closed-order, left-stays}
-use Rattle.usb_answers.proofs.Does.{Quiet, ControlMove, Handed, Parted, handed_of, handed-append, handed-handed, handed-parted, Acts, SameTickets, moved, without_future_of, goes, opens, submits, fits, reads, starts, controls, frees, ends, takes, closes, moves, free-still}
-use Rattle.usb_answers.proofs.ReaderDoes.{reader_closed-does}
-use Rattle.usb_answers.proofs.WriterDoes.{writer_closed-does}
+use Rattle.usb_answers.proofs.Does.{Quiet, quiet-same, Closing, ControlMove, Handed, Parted, handed_of, handed-append, handed-handed, handed-parted, Acts, SameTickets, moved, without_future_of, goes, opens, submits, fits, reads, starts, controls, frees, ends, takes, closes, moves, free-still}
 use Rattle.usb_answers.proofs.ControlLines.{parted_by, control_moves, moves_parting, future_closed_under-does}
-use Rattle.usb_answers.proofs.EndpointLines.{closed-does}
 use Rattle.usb_answers.proofs.EveryLine.{answer-does}
 
 -- each open endpoint is in order, each ticket stands at one place at most, and that of a future is held
@@ -172,9 +168,9 @@ pub step-push : (state : State) (e : ℕ) (b : BufferState) (h : Endpoint) → I
 unfolding change_named
 step-push state e b h inv here =
     let n = tickets_of state in
-    let host = entered host_calls state.host (kept h) b in
-    let adds = adds-entered state.host (kept h) b in
-    let count = entered-count state.host (kept h) b in
+    let host = entered host_calls state.host (endpoint_state h) b in
+    let adds = adds-entered state.host (endpoint_state h) b in
+    let count = entered-count state.host (endpoint_state h) b in
     let es = change_named (with_submission n) state.endpoints e in
     let many : length (tickets host.kernel.past) ≡ suc n = omega (arith, count.past) in
     let new : IsHeld host n = record { hold = adds.hold; is = ap (slice_get host.tickets) (sym inv.count) ∙ adds.last } in
@@ -251,15 +247,15 @@ step-take state e t h inv here front =
 pub step-close : (state : State) (e : ℕ) (h : Endpoint) (lines : List (List ℕ)) → Inv state → named state.endpoints e ≡ Some h → Step state (without_endpoint state e h) (record { endpoint = h; past = state.host.kernel.past; lines = lines } ∷ []) []
 unfolding freed
 step-close state e h lines inv here =
-    let host = left_by state.host (kept h) in
+    let host = left_by state.host (endpoint_state h) in
     let es = freed state.endpoints e in
-    let count = closed-count state.host (kept h) in
+    let count = closed-count state.host (endpoint_state h) in
     let handle : ClosedEndpoint = record { endpoint = h; past = state.host.kernel.past; lines = lines } in
     let lists : (u : ℕ) → times_open u es + times u h.tickets ≡ times_open u state.endpoints = λ u.
     let change = open-change tickets_in u nothing state.endpoints e (Some h) (place_of state.endpoints e h here) in omega arith in
     let whole : (u : ℕ) → times u (tickets_of_all (handle ∷ [])) ≡ times u h.tickets = λ u. ap (times u) (append-nil h.tickets) in
     record {
-      goes = goes-left state.host (kept h) (pending-all state.host h (inv.order e h here));
+      goes = goes-left state.host (endpoint_state h) (pending-all state.host h (inv.order e h here));
       inv = record {
         order = λ d g is. elim (cases_eq d e) [
           | inl same ↦ absurd (none-some g (sym (named-freed state.endpoints e) ∙ (ap (named es) (sym same) ∙ is)))
@@ -268,14 +264,14 @@ step-close state e h lines inv here =
               order-stays state.host host g (λ u there.
               let few = apart-two state d e g h u inv apart was here in
               let part = pending-few h u in
-              left-stays state.host (kept h) u (omega arith)) (inv.order d g was)
+              left-stays state.host (endpoint_state h) u (omega arith)) (inv.order d g was)
         ];
         once = λ u. let was = inv.once u in let l = lists u in let b = among-kept count u in omega arith;
         waits = λ n f u is ticket.
             let none = awaited-apart state n f u inv is ticket in
             let most = open-one tickets_in u state.endpoints e h here in
             let part = pending-few h u in
-            held-stays state.host host u (left-stays state.host (kept h) u (omega arith)) (inv.waits n f u is ticket);
+            held-stays state.host host u (left-stays state.host (endpoint_state h) u (omega arith)) (inv.waits n f u is ticket);
         count = count.count ∙ inv.count ∙ sym count.past;
         names = length-freed state.endpoints e ∙ inv.names;
         read = λ d g is above. elim (cases_eq d e) [
@@ -445,7 +441,7 @@ step-move state from to h g inv here free same read =
     }
 
 -- so is what an answer does
-acts-step : {few : Type 0} {a : Answer} {state : State} {closed : List ClosedEndpoint} {handed : List ControlMove} → few → Acts few a state closed handed → Inv state → Step state a.state closed (handed_of handed)
+pub acts-step : {few : Type 0} {a : Answer} {state : State} {closed : List ClosedEndpoint} {handed : List ControlMove} → few → Acts few a state closed handed → Inv state → Step state a.state closed (handed_of handed)
 acts-step few (goes quiet rest) inv = let first = step-quiet inv quiet in step-then first (acts-step few rest first.inv)
 acts-step few (fits other rest) inv = acts-step few (rest few) inv
 acts-step {state} few (reads e t h above here front other rest) inv = let first = step-take state e t h inv here front in step-then first (acts-step few rest first.inv)
@@ -464,19 +460,16 @@ acts-step {state} few (closes e h lines here other quiet) inv = let first = step
 pub few-taken : (state : State) → Inv state → TookFew state
 few-taken state inv e h is = order-few state.host h (inv.order e h is)
 
-pub handed-moves : (state : State) (item : Item) (a : Answer) → handed_of (control_moves state item a) ≡ control_ticket_by state item a
-handed-moves state item a =
-    let none : handed_of (map Parted (parted_by state item a)) ≡ [] = ap handed_of (sym (append-nil (map Parted (parted_by state item a)))) ∙ handed-parted (parted_by state item a) [] in
-    handed-append (map Handed (control_ticket_by state item a)) (map Parted (parted_by state item a))
-    ∙ (ap (λ ts. handed_of (map Handed (control_ticket_by state item a)) ++ ts) none ∙ (append-nil (handed_of (map Handed (control_ticket_by state item a))) ∙ handed-handed (control_ticket_by state item a)))
+pub handed-moves : (state : State) (call : Call) (a : Answer) → handed_of (control_moves state call a) ≡ control_ticket_by state call a
+handed-moves state call a =
+    let none : handed_of (map Parted (parted_by state call a)) ≡ [] = ap handed_of (sym (append-nil (map Parted (parted_by state call a)))) ∙ handed-parted (parted_by state call a) [] in
+    handed-append (map Handed (control_ticket_by state call a)) (map Parted (parted_by state call a))
+    ∙ (ap (λ ts. handed_of (map Handed (control_ticket_by state call a)) ++ ts) none ∙ (append-nil (handed_of (map Handed (control_ticket_by state call a))) ∙ handed-handed (control_ticket_by state call a)))
 
 pub answer-step : (state : State) (lines : ℕ → List (List ℕ)) (item : Item) → Inv state → Step state (answer state item).state (closed_by state lines item) (control_ticket state item)
 answer-step state lines item inv =
     let a = answer state item in
-    subst (Step state a.state (closed_by state lines item)) (handed-moves state item a) (acts-step (few-taken state inv) (answer-does state lines item) inv)
-
-pub closed-step : (state : State) (e : ℕ) (lines : ℕ → List (List ℕ)) → Inv state → Step state (closed state e) (closed_under state lines e) []
-closed-step state e lines inv = acts-step (few-taken state inv) (closed-does state e lines) inv
+    subst (Step state a.state (closed_by state lines item)) (handed-moves state (call_of item) a) (acts-step (few-taken state inv) (answer-does state lines item) inv)
 
 pub none-handed : (o : Option FutureState) → handed_of (moves_parting o) ≡ []
 none-handed None = refl
@@ -486,9 +479,10 @@ pub future_closed-step : (state : State) (n : ℕ) → Inv state → Step state 
 future_closed-step state n inv =
     subst (Step state (future_closed_under state n) []) (none-handed (named state.futures n)) (acts-step {few = Unit {0}} tt (future_closed_under-does state n) inv)
 
--- and what the end does with readers and writers
-pub reader_closed-step : (state : State) (r : ℕ) (lines : ℕ → List (List ℕ)) → Inv state → Step state (reader_closed state r) (closed_under state lines (reader_place r)) []
-reader_closed-step state r lines inv = acts-step (few-taken state inv) (reader_closed-does state r lines) inv
-
-pub writer_closed-step : (state : State) (w : ℕ) (lines : ℕ → List (List ℕ)) → Inv state → Step state (writer_closed state w) (closed_under state lines (writer_place w)) []
-writer_closed-step state w lines inv = acts-step (few-taken state inv) (writer_closed-does state w lines) inv
+-- and what the end does below a number
+pub below-step : (act : State → ℕ → State) (place : ℕ → ℕ) → Closing act place → (state : State) (lines : ℕ → List (List ℕ)) (k : ℕ) → Inv state
+    → Step state (below act state k) (given_below act (λ s n. closed_under s lines (place n)) state k) []
+below-step act place closing state lines zero inv = step-quiet inv (quiet-same state)
+below-step act place closing state lines (suc k) inv =
+    let first = below-step act place closing state lines k inv in
+    step-then first (acts-step tt (closing (below act state k) k lines) first.inv)

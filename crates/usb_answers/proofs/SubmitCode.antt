@@ -21,8 +21,8 @@ use Rattle.usb_host.proofs.CallFrames.{keeps-open, keeps-submitted, keeps-refuse
 use Rattle.usb_host.proofs.WaitFrames.{line-keeps, line-trans}
 use Rattle.usb_lines.specs.Calls.{condition_line, ok_line}
 use Rattle.usb_names.specs.Names.{change_named}
-use Rattle.usb_answers.specs.State.{State, Endpoint, kept, with_host}
-use Rattle.usb_answers.specs.Answer.{Answer, barred, ok_answer}
+use Rattle.usb_answers.specs.State.{State, Endpoint, endpoint_state, with_host}
+use Rattle.usb_answers.specs.Answer.{Answer, condition_answer, ok_answer}
 use Rattle.usb_answers.specs.Submits.{bars_submission, with_submission, submit_on}
 use Rattle.usb_answers.specs.Closes.{cancelled}
 use Rattle.usb_answers.specs.OpenCalls.{CallAnswers}
@@ -31,10 +31,10 @@ use Rattle.usb_answers.proofs.Queue.{call-comes, call-told, call-host}
 -- a submission by the host and by what its calls see of the endpoint
 abbrev submit_seen : State → Direction → ℕ → BufferState → HostState → EndpointState → Bool → Answer
 submit_seen state direction e b g z bars =
-    if bars then barred state
+    if bars then condition_answer state
     else ok_answer (record state { host = entered host_calls g z b; endpoints = change_named (with_submission (length (tickets g.kernel.past))) state.endpoints e })
 
-submit-seen : (state : State) (direction : Direction) (e : ℕ) (b : BufferState) (h : Endpoint) (old : HostState) (x : EndpointState) (bars : Bool) → state.host ≡ old → kept h ≡ x → bars_submission old.kernel.past direction x ≡ bars → submit_on state direction e b h ≡ submit_seen state direction e b old x bars
+submit-seen : (state : State) (direction : Direction) (e : ℕ) (b : BufferState) (h : Endpoint) (old : HostState) (x : EndpointState) (bars : Bool) → state.host ≡ old → endpoint_state h ≡ x → bars_submission old.kernel.past direction x ≡ bars → submit_on state direction e b h ≡ submit_seen state direction e b old x bars
 submit-seen state direction e b h old x bars host_was same is =
     ap (λ (z : EndpointState). submit_seen state direction e b state.host z (bars_submission state.host.kernel.past direction z)) same
     ∙ ap (λ (g : HostState). submit_seen state direction e b g x (bars_submission g.kernel.past direction x)) host_was
@@ -45,8 +45,8 @@ submit-barred host x before text result direction b bars printed =
     call-told host host x x before text result condition_line (λ state e h. submit_on state direction e b h) refl refl printed
     (λ state e h host_was same. submit-seen state direction e b h host x true host_was same bars)
 
-kept-ticket : (h : Endpoint) (t : ℕ) → h.taken ≤ length h.tickets → kept (with_submission t h) ≡ record (kept h) { pending = (kept h).pending ++ t ∷ [] }
-kept-ticket h t few = ap (λ (l : List ℕ). record (kept h) { pending = l }) (drop-append-le h.taken h.tickets (t ∷ []) few)
+kept-ticket : (h : Endpoint) (t : ℕ) → h.taken ≤ length h.tickets → endpoint_state (with_submission t h) ≡ record (endpoint_state h) { pending = (endpoint_state h).pending ++ t ∷ [] }
+kept-ticket h t few = ap (λ (l : List ℕ). record (endpoint_state h) { pending = l }) (drop-append-le h.taken h.tickets (t ∷ []) few)
 
 more_few : (n t : ℕ) (ts : List ℕ) → n ≤ length ts → n ≤ length (ts ++ t ∷ [])
 more_few n t ts few = omega (arith, length-append ts (t ∷ []))

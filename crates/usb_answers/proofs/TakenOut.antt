@@ -16,17 +16,16 @@ use Rattle.usb_lines.specs.Calls.{condition_line}
 use Rattle.usb_answers.specs.declared.session.Session.TheInside.{Inside}
 use Rattle.usb_names.specs.Names.{named, change_named, freed, set_name, is_free}
 use Rattle.usb_answers.specs.State.{State, Endpoint}
-use Rattle.usb_answers.specs.Answer.{Answer, barred, if_open}
+use Rattle.usb_answers.specs.Answer.{Answer, condition_answer, if_open}
 use Rattle.usb_answers.specs.SessionState.{SessionState, IsSound}
 use Rattle.usb_answers.specs.SessionFacts.{session_made, made_of, endpoint_of, bare_reader_of, writer_endpoint, bare_writer_of, endpoints_with}
 use Rattle.usb_answers.specs.ReaderAt.{endpoint_place}
 use Rattle.usb_answers.specs.Answered.{Answered, Answers}
-use Rattle.usb_answers.specs.OpenCalls.{CallKeeps, CallAnswers, with_called}
+use Rattle.usb_answers.specs.OpenCalls.{CallAnswers, with_called}
 use Rattle.usb_answers.proofs.Answering.{told-answered, answered-none, answered-some, none_kept}
 use Rattle.usb_names.proofs.NameLemmas.{freed-none, freed-free, length-freed, length-set_name, map-change_named, put-changed}
-use Rattle.usb_answers.proofs.Called.{KeepsSession, open_at, sound-put}
+use Rattle.usb_answers.proofs.Called.{KeepsSession, open_at}
 use Rattle.usb_answers.proofs.OpenPlaces.{HasPlaces, named-endpoint, taken-endpoint, put-endpoint}
-use Rattle.usb_answers.proofs.NamedKeys.{none-goes}
 
 -- a session with another host and other endpoints
 abbrev pub made_with : Inside → HostState → List (Option EndpointState) → SessionState
@@ -85,36 +84,28 @@ pub keeps-line : (old new : HostState) → old.steps ≡ [] → Extends old.kern
 keeps-line old new idle past line =
     record { idle = no_front line.front new.steps (sym idle ∙ line.steps); past = past; devices = counts-same old.devices new.devices line.devices; interfaces = line.interfaces }
 
--- a session is sound once what stands at a place was called and put back
-pub sound-called_at : (i : Inside) (now : HostState) (after : List (Option EndpointState)) (p : ℕ) (x y : EndpointState) → IsSound (made_of i) → named (made_of i).endpoints p ≡ Some x → after ≡ set_name (freed (made_of i).endpoints p) p y → CallKeeps i.host now x y → IsSound (record (made_of i) { host = now; endpoints = after })
-sound-called_at i now after p x y sound was put keeps =
-    sound-put (made_of i) now after p x y sound was put (keeps-line i.host now sound.idle keeps.past keeps.line) keeps.stands keeps.key keeps.maximum keeps.others
-    (none-goes i.host.endpoints now.endpoints keeps.line.endpoints)
-
+-- it stands at its place again
 pub made-put : (i : Inside) (after : List (Option EndpointState)) (e : ℕ) (x y : EndpointState) → IsSound (made_of i) → PutBack i.endpoints.items after e x y → endpoints_with after i.readers.items i.writers.items ≡ set_name (freed (made_of i).endpoints (endpoint_place e)) (endpoint_place e) y
 made-put i after e x y sound back = put-endpoint i.endpoints.items i.readers.items i.writers.items (places-made i sound) e after y back.put
 
-pub sound-called : (i : Inside) (now : HostState) (after : List (Option EndpointState)) (e : ℕ) (x y : EndpointState) → IsSound (made_of i) → PutBack i.endpoints.items after e x y → CallKeeps i.host now x y → IsSound (made_with i now after)
-sound-called i now after e x y sound back keeps =
-    sound-called_at i now (endpoints_with after i.readers.items i.writers.items) (endpoint_place e) x y sound (taken-endpoint i.endpoints.items i.readers.items i.writers.items (places-made i sound) e x back.was) (made-put i after e x y sound back) keeps
-
-pub made-called : (i : Inside) (S : SessionState) (now : HostState) (after : List (Option EndpointState)) (e : ℕ) (x y : EndpointState) → IsSound (made_of i) → made_of i ≡ S → PutBack i.endpoints.items after e x y → with_called S (endpoint_place e) now y ≡ made_with i now after
-made-called i S now after e x y sound view back =
-    ap (λ (v : SessionState). with_called v (endpoint_place e) now y) (sym view)
-    ∙ ap (λ (l : List (Option EndpointState)). record (made_of i) { host = now; endpoints = l })
+pub made-called : (i : Inside) (now : HostState) (after : List (Option EndpointState)) (e : ℕ) (x y : EndpointState) → IsSound (made_of i) → PutBack i.endpoints.items after e x y → with_called (made_of i) (endpoint_place e) now y ≡ made_with i now after
+made-called i now after e x y sound back =
+    ap (λ (l : List (Option EndpointState)). record (made_of i) { host = now; endpoints = l })
     (sym (made-put i after e x y sound back ∙ put-changed (λ z. y) (made_of i).endpoints (endpoint_place e) x y (taken-endpoint i.endpoints.items i.readers.items i.writers.items (places-made i sound) e x back.was) refl))
 
-pub answers-called : {E : Type 0} (i : Inside) (S : SessionState) (now : HostState) (after : List (Option EndpointState)) (n e : ℕ) (x y : EndpointState) (before text : String Global) (result : Result Unit E) (call : State → ℕ → Endpoint → Answer) → IsSound (made_of i) → made_of i ≡ S → PutBack i.endpoints.items after n x y → n ≡ e → CallAnswers i.host now x y before text result call → Answers S (made_with i now after) before text result (λ state. if_open (named state.endpoints (endpoint_place e)) (call state (endpoint_place e)) (barred state))
-answers-called i S now after n e x y before text (Err error) call sound view back same answers = tt
-answers-called i S now after n e x y before text (Ok done) call sound view back same answers =
+-- what a call on an endpoint answers, where the session has this host
+pub answers-called : {E : Type 0} (i : Inside) (at now : HostState) (after : List (Option EndpointState)) (n e : ℕ) (x y : EndpointState) (before text : String Global) (result : Result Unit E) (call : State → ℕ → Endpoint → Answer) → IsSound (made_of i) → PutBack i.endpoints.items after n x y → n ≡ e → CallAnswers at now x y before text result call
+    → Answers (record (made_of i) { host = at }) (made_with i now after) before text result (λ state. if_open (named state.endpoints (endpoint_place e)) (call state (endpoint_place e)) (condition_answer state))
+answers-called i at now after n e x y before text (Err error) call sound back same answers = tt
+answers-called i at now after n e x y before text (Ok done) call sound back same answers =
     λ state r.
     let p = endpoint_place n in
-    let was = named-made i S n x sound view back.was in
-    let o = open_at S state p x r was in
-    subst (λ m. Answered (made_with i now after) (string_bytes before) (string_bytes text) (if_open (named state.endpoints (endpoint_place m)) (call state (endpoint_place m)) (barred state))) same
-    (answered-some (made_with i now after) (string_bytes before) (string_bytes text) (named state.endpoints p) o.entry (call state p) (barred state) o.is
-    (subst (λ s. Answered s (string_bytes before) (string_bytes text) (call state p o.entry)) (made-called i S now after n x y sound view back)
-    (answers S state p o.entry r (sym (ap (λ (v : SessionState). v.host) view)) was o.is)))
+    let s : SessionState = record (made_of i) { host = at } in
+    let was = named-made i (made_of i) n x sound refl back.was in
+    let o = open_at s state p x r was in
+    subst (λ m. Answered (made_with i now after) (string_bytes before) (string_bytes text) (if_open (named state.endpoints (endpoint_place m)) (call state (endpoint_place m)) (condition_answer state))) same
+    (answered-some (made_with i now after) (string_bytes before) (string_bytes text) (named state.endpoints p) o.entry (call state p) (condition_answer state) o.is
+    (subst (λ v. Answered v (string_bytes before) (string_bytes text) (call state p o.entry)) (made-called i now after n x y sound back) (answers s state p o.entry r refl was o.is)))
 
 -- nothing is open under the name
 pub same-none : {X : Type 0} (es mid : List (Option X)) (n : ℕ) (taken : Option X) → taken ≡ named es n → taken ≡ None → mid ≡ freed es n → mid ≡ es
@@ -124,13 +115,14 @@ pub none_made : (i : Inside) (S : SessionState) (n : ℕ) → IsSound (made_of i
 none_made i S n sound view none =
     sym (ap (λ (v : SessionState). named v.endpoints (endpoint_place n)) view) ∙ named-endpoint i.endpoints.items i.readers.items i.writers.items (places-made i sound) n ∙ none
 
-pub answers-none : {E : Type 0} (i : Inside) (S : SessionState) (mid : List (Option EndpointState)) (n e : ℕ) (before text : String Global) (result : Result Unit E) (call : State → Endpoint → Answer) → IsSound (made_of i) → made_of i ≡ S → named i.endpoints.items n ≡ None → mid ≡ i.endpoints.items → n ≡ e → OnOk result (string_bytes text ≡ string_bytes before ++ condition_line) → Answers S (made_with i i.host mid) before text result (λ state. if_open (named state.endpoints (endpoint_place e)) (call state) (barred state))
-answers-none i S mid n e before text (Err error) call sound view none rest same is = tt
-answers-none i S mid n e before text (Ok done) call sound view none rest same is =
+pub answers-none : {E : Type 0} (i : Inside) (at : HostState) (mid : List (Option EndpointState)) (n e : ℕ) (before text : String Global) (result : Result Unit E) (call : State → Endpoint → Answer) → IsSound (made_of i) → named i.endpoints.items n ≡ None → mid ≡ i.endpoints.items → n ≡ e → OnOk result (string_bytes text ≡ string_bytes before ++ condition_line)
+    → Answers (record (made_of i) { host = at }) (made_with i at mid) before text result (λ state. if_open (named state.endpoints (endpoint_place e)) (call state) (condition_answer state))
+answers-none i at mid n e before text (Err error) call sound none rest same is = tt
+answers-none i at mid n e before text (Ok done) call sound none rest same is =
     λ state r.
     let p = endpoint_place e in
-    subst (λ l. Answered (made_with i i.host l) (string_bytes before) (string_bytes text) (if_open (named state.endpoints p) (call state) (barred state))) (sym rest)
-    (subst (λ s. Answered s (string_bytes before) (string_bytes text) (if_open (named state.endpoints p) (call state) (barred state))) (sym view)
-    (answered-none S (string_bytes before) (string_bytes text) (named state.endpoints p) (call state) (barred state)
-    (none_kept S state p r (ap (λ m. named S.endpoints (endpoint_place m)) (sym same) ∙ none_made i S n sound view none))
-    (told-answered S state (string_bytes before) (string_bytes text) condition_line r is)))
+    let s : SessionState = record (made_of i) { host = at } in
+    subst (λ l. Answered (made_with i at l) (string_bytes before) (string_bytes text) (if_open (named state.endpoints p) (call state) (condition_answer state))) (sym rest)
+    (answered-none s (string_bytes before) (string_bytes text) (named state.endpoints p) (call state) (condition_answer state)
+    (none_kept s state p r (ap (λ m. named s.endpoints (endpoint_place m)) (sym same) ∙ none_made i (made_of i) n sound refl none))
+    (told-answered s state (string_bytes before) (string_bytes text) condition_line r is))

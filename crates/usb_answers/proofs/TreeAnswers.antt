@@ -83,7 +83,7 @@ match-refused s state path selector error is r =
 -- one packet is looked at
 pub hotplug-gives : (s : SessionState) (state : State) (after : List UdevPacket) (event : Poll HotplugEvent) → event ≡ hotplug_polled s.tree s.packets → after ≡ drop 1 s.packets → Represents s state → Gives (record s { packets = after }) (hotplug_line event) (hotplug_answer state)
 unfolding hotplug_answer
-hotplug-gives s state after event told left r =
+hotplug-gives s state after event answer_with left r =
     record {
       state = record {
         is =
@@ -91,7 +91,7 @@ hotplug-gives s state after event told left r =
             ∙ ap (λ (v : SessionState). record v { packets = drop 1 v.packets }) r.is;
         few = r.few;
       };
-      same = ap hotplug_line (ap (λ (v : SessionState). hotplug_polled v.tree v.packets) (sym r.is) ∙ sym told);
+      same = ap hotplug_line (ap (λ (v : SessionState). hotplug_polled v.tree v.packets) (sym r.is) ∙ sym answer_with);
     }
 
 pub sound-packets : (s : SessionState) (after : List UdevPacket) → IsSound s → IsSound (record s { packets = after })

@@ -25,8 +25,8 @@ use Rattle.usb_host.proofs.WaitFrames.{line-trans, went-waited, went-blocked}
 use Rattle.usb_lines.specs.Calls.{condition_line}
 use Rattle.usb_lines.specs.Completions.{waited_line}
 use Rattle.usb_names.specs.Names.{change_named}
-use Rattle.usb_answers.specs.State.{State, Endpoint, kept}
-use Rattle.usb_answers.specs.Answer.{Answer, told, barred}
+use Rattle.usb_answers.specs.State.{State, Endpoint, endpoint_state}
+use Rattle.usb_answers.specs.Answer.{Answer, answer_with, condition_answer}
 use Rattle.usb_answers.specs.Submits.{has_direction}
 use Rattle.usb_answers.specs.Waits.{wait_on, wait_ended}
 use Rattle.usb_answers.specs.Transfers.{bars_transfer, with_taken, transfer_ended, transfer_on}
@@ -76,9 +76,9 @@ count_of g = length (tickets g.kernel.past)
 
 abbrev transfer_seen : State → ℕ → BufferState → ℕ → HostState → EndpointState → Bool → Answer
 transfer_seen state e b timeout g z bars =
-    if bars then barred state else transfer_ended state e (count_of g) (blocked host_calls (count_of g) timeout (entered host_calls g z b))
+    if bars then condition_answer state else transfer_ended state e (count_of g) (blocked host_calls (count_of g) timeout (entered host_calls g z b))
 
-transfer-seen : (state : State) (direction : Direction) (e : ℕ) (b : BufferState) (timeout : ℕ) (h : Endpoint) (old : HostState) (x : EndpointState) (bars : Bool) → state.host ≡ old → kept h ≡ x → bars_transfer old.kernel.past direction x ≡ bars → transfer_on state direction e b timeout h ≡ transfer_seen state e b timeout old x bars
+transfer-seen : (state : State) (direction : Direction) (e : ℕ) (b : BufferState) (timeout : ℕ) (h : Endpoint) (old : HostState) (x : EndpointState) (bars : Bool) → state.host ≡ old → endpoint_state h ≡ x → bars_transfer old.kernel.past direction x ≡ bars → transfer_on state direction e b timeout h ≡ transfer_seen state e b timeout old x bars
 transfer-seen state direction e b timeout h old x bars host_was same is =
     ap (λ (z : EndpointState). transfer_seen state e b timeout state.host z (bars_transfer state.host.kernel.past direction z)) same
     ∙ ap (λ (g : HostState). transfer_seen state e b timeout g x (bars_transfer g.kernel.past direction x)) host_was
@@ -130,9 +130,9 @@ transfer-answers host now x y before text result direction b timeout c bars same
     record {
       is =
           transfer-seen state direction e b timeout h host x false host_was same bars
-          ∙ ap (λ (v : Option Completion). told (after (host_taken mid t)) (waited_line v)) took.0
-          ∙ ap (λ (g : HostState). told (after g) (waited_line (Some c))) took.1;
-      kept_is = ap (λ (l : List ℕ). record (kept h) { pending = l }) (drop_all_on h.tickets h.taken t few here ∙ sym here) ∙ same ∙ sym same_y;
+          ∙ ap (λ (v : Option Completion). answer_with (after (host_taken mid t)) (waited_line v)) took.0
+          ∙ ap (λ (g : HostState). answer_with (after g) (waited_line (Some c))) took.1;
+      kept_is = ap (λ (l : List ℕ). record (endpoint_state h) { pending = l }) (drop_all_on h.tickets h.taken t few here ∙ sym here) ∙ same ∙ sym same_y;
       few = one_more h.taken t h.tickets few;
     })
 

@@ -46,33 +46,26 @@ use Rattle.usb_lines.specs.Descriptors.{endpoint_words, class_words as interface
 use Rattle.usb_script.specs.declared.item.Item.{Item}
 use Rattle.usb_parse.specs.Parse.{script_of}
 use Rattle.usb_names.specs.Names.{named, is_free, change_named, freed, set_name}
-use Rattle.usb_answers.specs.Now.{now_answer}
 use Rattle.usb_answers.specs.Opens.{open_answer}
-use Rattle.usb_answers.specs.Describes.{device_descriptor_answer, descriptors_answer}
 use Rattle.usb_answers.specs.Claims.{claim_answer}
 use Rattle.usb_answers.specs.Endpoints.{endpoint_answer}
-use Rattle.usb_answers.specs.Submits.{submit_answer}
-use Rattle.usb_answers.specs.Pending.{pending_answer}
-use Rattle.usb_answers.specs.Polls.{poll_answer}
-use Rattle.usb_answers.specs.Steps.{stepped_all, steps_answer}
-use Rattle.usb_answers.specs.Waits.{wait_answer}
-use Rattle.usb_answers.specs.Transfers.{transfer_answer}
+use Rattle.usb_answers.specs.Steps.{stepped_all}
 use Rattle.usb_answers.specs.Clones.{clone_device_answer, clone_interface_answer}
-use Rattle.usb_answers.specs.Configurations.{active_answer, speed_answer, set_configuration_answer, reset_answer}
-use Rattle.usb_answers.specs.Drivers.{detach_answer, attach_answer}
-use Rattle.usb_answers.specs.Settings.{set_alt_setting_answer, get_alt_setting_answer, interface_descriptor_answer}
-use Rattle.usb_answers.specs.Halts.{clear_halt_answer}
 use Rattle.usb_stream_lines.specs.Faults.{io_line}
 use Rattle.usb_stream_lines.specs.Reads.{read_line, buffer_line}
 use Rattle.usb_stream_lines.specs.Writes.{wrote_line}
-use Rattle.usb_answers.specs.Readers.{reader_answer, inner_answer, num_answer, timeout_answer, cancel_reader_answer, close_reader_answer, reader_closed}
-use Rattle.usb_answers.specs.Reads.{read_answer, poll_read_answer, fill_answer, poll_fill_answer, consume_answer, is_end_answer, consume_end_answer}
-use Rattle.usb_answers.specs.Writers.{writer_answer, writer_inner_answer, writer_num_answer, write_timeout_answer, close_writer_answer, writer_closed}
-use Rattle.usb_answers.specs.Writes.{write_answer, poll_write_answer, submit_buffer_answer, submit_end_answer, flush_answer, poll_flush_answer, flush_end_answer, poll_flush_end_answer}
-use Rattle.usb_answers.specs.Controls.{control_answer}
-use Rattle.usb_answers.specs.Futures.{start_answer, poll_future_answer, wait_future_answer}
-use Rattle.usb_answers.specs.Closes.{cancel_answer, close_answer, close_future_answer, close_device_answer, close_interface_answer, release_answer, closed}
-use Rattle.usb_answers.specs.LineAnswers.{line_answer}
+use Rattle.usb_answers.specs.Readers.{reader_answer, inner_answer, close_reader_answer, reader_closed}
+use Rattle.usb_answers.specs.Writers.{writer_answer, writer_inner_answer, close_writer_answer, writer_closed}
+use Rattle.usb_answers.specs.Controls.{on_control}
+use Rattle.usb_answers.specs.Futures.{start_answer, on_future}
+use Rattle.usb_answers.specs.Closes.{close_answer, close_future_answer, close_device_answer, close_interface_answer, release_answer, closed}
+use Rattle.usb_answers.specs.Calls.{call_of}
+use Rattle.usb_answers.specs.DeviceCalls.{on_device}
+use Rattle.usb_answers.specs.InterfaceCalls.{on_interface}
+use Rattle.usb_answers.specs.EndpointCalls.{on_endpoint}
+use Rattle.usb_answers.specs.CalledReaders.{on_reader}
+use Rattle.usb_answers.specs.CalledWriters.{on_writer}
+use Rattle.usb_answers.specs.CallAnswers.{call_answer}
 use Rattle.usb_answers.specs.Answers.{answer}
 use Rattle.usb_answers.specs.Ends.{future_closed_under, interface_closed, name_closed, all_closed, ended}
 use Rattle.usb_answers.specs.Fates.{fate_line, fate_lines}
@@ -80,7 +73,7 @@ use Rattle.usb_answers.specs.Output.{start, output}
 
 -- all that an output unfolds
 unfoldable pub output_on_literals : ⊤
-unfolding output start answer line_answer reader_answer inner_answer num_answer timeout_answer cancel_reader_answer close_reader_answer reader_closed read_answer poll_read_answer fill_answer poll_fill_answer consume_answer is_end_answer consume_end_answer turned read_line buffer_line io_line writer_answer writer_inner_answer writer_num_answer write_timeout_answer close_writer_answer writer_closed write_answer poll_write_answer submit_buffer_answer submit_end_answer flush_answer poll_flush_answer flush_end_answer poll_flush_end_answer drained wrote_line control_answer start_answer poll_future_answer wait_future_answer close_future_answer future_closed_under host_started host_awaited timer_turned data_line failed_line languages_told string_told utf16_chars encode now_answer open_answer device_descriptor_answer descriptors_answer claim_answer endpoint_answer submit_answer pending_answer poll_answer wait_answer transfer_answer cancel_answer close_answer clone_device_answer clone_interface_answer active_answer speed_answer set_configuration_answer reset_answer detach_answer attach_answer set_alt_setting_answer get_alt_setting_answer interface_descriptor_answer clear_halt_answer close_device_answer close_interface_answer release_answer steps_answer stepped_all closed interface_closed name_closed all_closed ended fate_line fate_lines named is_free change_named freed set_name is_used_among is_owned_among claim_ended claim_of owner_gone settled endpoint_left endpoints_left device_changed called descriptors_tried open_tried host_opened open_key host_claimed host_asked endpoint_of_setting host_tries host_submitted host_refused host_discarded host_left host_ended host_taken host_abandoned came host_stepped host_reaped host_turned host_turn waited waited_by_seconds handle_closed handle_cloned after_reset host_detached host_attached host_reset host_configured host_speed_asked speed_of_code alt_setting_set finished transfer_completion completion unreaped chain groups concatenated configurations interfaces_among hex_word error_line done_line count_line now_line ticket_line device_line class_words product_words string_words class_code endpoint_words interface_words setting_words configuration_words descriptors_line configuration_line no_configuration_line speed_line alt_setting_line digits encode_with
+unfolding output start answer call_of call_answer on_device on_interface on_endpoint on_reader on_writer on_control on_future reader_answer inner_answer close_reader_answer reader_closed turned read_line buffer_line io_line writer_answer writer_inner_answer close_writer_answer writer_closed drained wrote_line start_answer close_future_answer future_closed_under host_started host_awaited timer_turned data_line failed_line languages_told string_told utf16_chars encode open_answer claim_answer endpoint_answer close_answer clone_device_answer clone_interface_answer close_device_answer close_interface_answer release_answer stepped_all closed interface_closed name_closed all_closed ended fate_line fate_lines named is_free change_named freed set_name is_used_among is_owned_among claim_ended claim_of owner_gone settled endpoint_left endpoints_left device_changed called descriptors_tried open_tried host_opened open_key host_claimed host_asked endpoint_of_setting host_tries host_submitted host_refused host_discarded host_left host_ended host_taken host_abandoned came host_stepped host_reaped host_turned host_turn waited waited_by_seconds handle_closed handle_cloned after_reset host_detached host_attached host_reset host_configured host_speed_asked speed_of_code alt_setting_set finished transfer_completion completion unreaped chain groups concatenated configurations interfaces_among hex_word error_line done_line count_line now_line ticket_line device_line class_words product_words string_words class_code endpoint_words interface_words setting_words configuration_words descriptors_line configuration_line no_configuration_line speed_line alt_setting_line digits encode_with
 output_on_literals = tt
 
 -- a line of a script, the item that it is, and the line that it is answered, which is empty where it has no answer

@@ -19,8 +19,7 @@ use Rattle.usb_names.proofs.NameLemmas.{named-map, put-changed}
 use Rattle.usb_answers.specs.BareWriters.{BareWriter, bare_writer, writer_with}
 use Rattle.usb_answers.specs.State.{State, Writer}
 use Rattle.usb_answers.specs.WriterAt.{WriterAt, writer_place, writer_at}
-use Rattle.usb_answers.specs.Answer.{Answer, barred, if_open}
-use Rattle.usb_answers.specs.Steps.{lent, then_rested, stepped_all}
+use Rattle.usb_answers.specs.Answer.{Answer, condition_answer, if_open}
 use Rattle.usb_answers.specs.SessionState.{SessionState, IsSound}
 use Rattle.usb_answers.specs.SessionFacts.{session_made, made_of, writer_endpoint, bare_writer_of, endpoints_with}
 use Rattle.usb_answers.specs.Relation.{Represents}
@@ -30,8 +29,8 @@ use Rattle.usb_answers.specs.WriterCalls.{HasWriter, WriterAnswers, with_writer_
 use Rattle.usb_answers.proofs.Answering.{told-answered, answered-none, answered-some}
 use Rattle.usb_answers.proofs.Called.{open_at, sound-writers}
 use Rattle.usb_answers.proofs.OpenPlaces.{taken-writer, put-writer}
-use Rattle.usb_answers.proofs.TakenOut.{PutBack, map-put, map-length, places-made, sound-called_at}
-use Rattle.usb_answers.proofs.Lent.{sound-lent_at, represents-lent, rested-answered, sound-stepped, steps-represent}
+use Rattle.usb_answers.proofs.TakenOut.{PutBack, map-put, map-length, places-made}
+use Rattle.usb_answers.proofs.Lent.{sound-lent_at, sound-stepped}
 
 -- what a call on a writer keeps, by its endpoint
 pub keeps-writer : (old new : Writing HostState) → WriterKeeps old new → CallKeeps old.bus new.bus old.writer.endpoint new.writer.endpoint
@@ -65,19 +64,10 @@ pub writer-put : (i : Inside) (after : List (Option WriterState)) (w : ℕ) (x y
 writer-put i after w x y sound back =
     put-writer i.endpoints.items i.readers.items i.writers.items (places-made i sound) w after y back.put
 
--- a session is sound once a writer was called and put back
-pub sound-writer_called : (i : Inside) (now : HostState) (after : List (Option WriterState)) (w : ℕ) (x y : WriterState) → IsSound (made_of i) → PutBack i.writers.items after w x y → CallKeeps i.host now (writer_endpoint x) (writer_endpoint y) → IsSound (made_writing i now after)
-sound-writer_called i now after w x y sound back keeps =
-    let endpoints = endpoints_with i.endpoints.items i.readers.items after in
-    sound-writers (record (made_of i) { host = now; endpoints = endpoints }) (map (option_map bare_writer_of) after)
-    (sound-called_at i now endpoints (writer_place w) (writer_endpoint x) (writer_endpoint y) sound (writer-made i (made_of i) w x sound refl back.was) (writer-put i after w x y sound back) keeps)
-    (map-length bare_writer_of i.writers.items after w x y back)
-
--- and is the one that the call left
-pub made-writer_called : (i : Inside) (S : SessionState) (now : HostState) (after : List (Option WriterState)) (w : ℕ) (x y : WriterState) → IsSound (made_of i) → made_of i ≡ S → PutBack i.writers.items after w x y → with_writer_called S w now y ≡ made_writing i now after
-made-writer_called i S now after w x y sound view back =
-    ap (λ (v : SessionState). with_writer_called v w now y) (sym view)
-    ∙ ap (λ (l : List (Option EndpointState)). record (made_of i) { host = now; endpoints = l; writers = change_named (λ b. bare_writer_of y) (made_of i).writers w })
+-- the session is the one that the call left
+pub made-writer_called : (i : Inside) (now : HostState) (after : List (Option WriterState)) (w : ℕ) (x y : WriterState) → IsSound (made_of i) → PutBack i.writers.items after w x y → with_writer_called (made_of i) w now y ≡ made_writing i now after
+made-writer_called i now after w x y sound back =
+    ap (λ (l : List (Option EndpointState)). record (made_of i) { host = now; endpoints = l; writers = change_named (λ b. bare_writer_of y) (made_of i).writers w })
     (sym (writer-put i after w x y sound back ∙ put-changed (λ z. writer_endpoint y) (made_of i).endpoints (writer_place w) (writer_endpoint x) (writer_endpoint y) (writer-made i (made_of i) w x sound refl back.was) refl))
     ∙ ap (λ (l : List (Option BareWriter)). record (made_of i) { host = now; endpoints = endpoints_with i.endpoints.items i.readers.items after; writers = l }) (sym (map-put bare_writer_of i.writers.items after w x y back))
 
@@ -120,41 +110,38 @@ has_writer s state w x is endpoint bare =
       few = h.few;
     }
 
--- what a call on a writer answers
-pub answers-writer_called : {E : Type 0} (i : Inside) (S : SessionState) (now : HostState) (after : List (Option WriterState)) (n w : ℕ) (x y : WriterState) (before text : String Global) (result : Result Unit E) (call : State → ℕ → WriterAt → Answer) → IsSound (made_of i) → made_of i ≡ S → PutBack i.writers.items after n x y → n ≡ w → WriterAnswers i.host now x y before text result call → Answers S (made_writing i now after) before text result (λ state. if_open (writer_at state w) (call state w) (barred state))
-answers-writer_called i S now after n w x y before text (Err error) call sound view back same answers = tt
-answers-writer_called i S now after n w x y before text (Ok done) call sound view back same answers =
+-- what a call on a writer answers, where the session has this host
+pub answers-writer_called : {E : Type 0} (i : Inside) (at now : HostState) (after : List (Option WriterState)) (n w : ℕ) (x y : WriterState) (before text : String Global) (result : Result Unit E) (call : State → ℕ → WriterAt → Answer) → IsSound (made_of i) → PutBack i.writers.items after n x y → n ≡ w → WriterAnswers at now x y before text result call
+    → Answers (record (made_of i) { host = at }) (made_writing i now after) before text result (λ state. if_open (writer_at state w) (call state w) (condition_answer state))
+answers-writer_called i at now after n w x y before text (Err error) call sound back same answers = tt
+answers-writer_called i at now after n w x y before text (Ok done) call sound back same answers =
     λ state is.
-    let o = has_writer S state n x is (writer-made i S n x sound view back.was) (bare-made i S n x view back.was) in
-    subst (λ m. Answered (made_writing i now after) (string_bytes before) (string_bytes text) (if_open (writer_at state m) (call state m) (barred state))) same
-    (answered-some (made_writing i now after) (string_bytes before) (string_bytes text) (writer_at state n) o.at (call state n) (barred state) o.has.is
-    (subst (λ s. Answered s (string_bytes before) (string_bytes text) (call state n o.at)) (made-writer_called i S now after n x y sound view back)
-    (answers S state n o.at is (sym (ap (λ (v : SessionState). v.host) view)) o.has)))
+    let s : SessionState = record (made_of i) { host = at } in
+    let o = has_writer s state n x is (writer-made i (made_of i) n x sound refl back.was) (bare-made i (made_of i) n x refl back.was) in
+    subst (λ m. Answered (made_writing i now after) (string_bytes before) (string_bytes text) (if_open (writer_at state m) (call state m) (condition_answer state))) same
+    (answered-some (made_writing i now after) (string_bytes before) (string_bytes text) (writer_at state n) o.at (call state n) (condition_answer state) o.has.is
+    (subst (λ v. Answered v (string_bytes before) (string_bytes text) (call state n o.at)) (made-writer_called i now after n x y sound back) (answers s state n o.at is refl o.has)))
 
 -- nothing is open under the name
 bare_none : (o : Option Writer) → option_map (λ (y : Writer). y.bare) o ≡ None → o ≡ None
 bare_none None is = refl
 bare_none (Some y) is = absurd (cc)
 
-no_bare : (i : Inside) (S : SessionState) (n : ℕ) → made_of i ≡ S → named i.writers.items n ≡ None → named S.writers n ≡ None
-no_bare i S n view none = sym (ap (λ (v : SessionState). named v.writers n) view) ∙ named-map bare_writer_of i.writers.items n ∙ ap (option_map bare_writer_of) none
-
-pub no_writer : (i : Inside) (S : SessionState) (n : ℕ) → made_of i ≡ S → named i.writers.items n ≡ None → (state : State) → Represents S state → named state.writers n ≡ None
-no_writer i S n view none state is = bare_none (named state.writers n) (sym (writers_kept S state n is) ∙ no_bare i S n view none)
-
-pub no_writer_at : (i : Inside) (S : SessionState) (n w : ℕ) → made_of i ≡ S → named i.writers.items n ≡ None → n ≡ w → (state : State) → Represents S state → writer_at state w ≡ None
-no_writer_at i S n w view none same state is =
-    let none_there : named state.writers w ≡ None = ap (named state.writers) (sym same) ∙ no_writer i S n view none state is in
+pub no_writer_at : (i : Inside) (at : HostState) (n w : ℕ) → named i.writers.items n ≡ None → n ≡ w → (state : State) → Represents (record (made_of i) { host = at }) state → writer_at state w ≡ None
+no_writer_at i at n w none same state is =
+    let bare : named (made_of i).writers n ≡ None = named-map bare_writer_of i.writers.items n ∙ ap (option_map bare_writer_of) none in
+    let none_there : named state.writers w ≡ None = ap (named state.writers) (sym same) ∙ bare_none (named state.writers n) (sym (writers_kept (record (made_of i) { host = at }) state n is) ∙ bare) in
     rw none_there refl
 
-pub answers-no_writer : {E : Type 0} (i : Inside) (S : SessionState) (mid : List (Option WriterState)) (n w : ℕ) (before text : String Global) (result : Result Unit E) (call : State → WriterAt → Answer) → made_of i ≡ S → named i.writers.items n ≡ None → mid ≡ i.writers.items → n ≡ w → OnOk result (string_bytes text ≡ string_bytes before ++ condition_line) → Answers S (made_writing i i.host mid) before text result (λ state. if_open (writer_at state w) (call state) (barred state))
-answers-no_writer i S mid n w before text (Err error) call view none rest same printed = tt
-answers-no_writer i S mid n w before text (Ok done) call view none rest same printed =
+pub answers-no_writer : {E : Type 0} (i : Inside) (at : HostState) (mid : List (Option WriterState)) (n w : ℕ) (before text : String Global) (result : Result Unit E) (call : State → WriterAt → Answer) → named i.writers.items n ≡ None → mid ≡ i.writers.items → n ≡ w → OnOk result (string_bytes text ≡ string_bytes before ++ condition_line)
+    → Answers (record (made_of i) { host = at }) (made_writing i at mid) before text result (λ state. if_open (writer_at state w) (call state) (condition_answer state))
+answers-no_writer i at mid n w before text (Err error) call none rest same printed = tt
+answers-no_writer i at mid n w before text (Ok done) call none rest same printed =
     λ state is.
-    subst (λ l. Answered (made_writing i i.host l) (string_bytes before) (string_bytes text) (if_open (writer_at state w) (call state) (barred state))) (sym rest)
-    (subst (λ s. Answered s (string_bytes before) (string_bytes text) (if_open (writer_at state w) (call state) (barred state))) (sym view)
-    (answered-none S (string_bytes before) (string_bytes text) (writer_at state w) (call state) (barred state) (no_writer_at i S n w view none same state is)
-    (told-answered S state (string_bytes before) (string_bytes text) condition_line is printed)))
+    let s : SessionState = record (made_of i) { host = at } in
+    subst (λ l. Answered (made_writing i at l) (string_bytes before) (string_bytes text) (if_open (writer_at state w) (call state) (condition_answer state))) (sym rest)
+    (answered-none s (string_bytes before) (string_bytes text) (writer_at state w) (call state) (condition_answer state) (no_writer_at i at n w none same state is)
+    (told-answered s state (string_bytes before) (string_bytes text) condition_line is printed))
 
 -- a line with steps of its own: the steps are lent, a writer is called, and the rest of them is applied
 pub sound-writer_lent : (i : Inside) (steps : List KernelStep) (at now last : HostState) (after : List (Option WriterState)) (w : ℕ) (x y : WriterState) → IsSound (made_of i) → at ≡ record i.host { steps = steps } → PutBack i.writers.items after w x y → CallKeeps at now (writer_endpoint x) (writer_endpoint y) → last ≡ host_rest now → IsSound (made_writing i last after)
@@ -164,33 +151,7 @@ sound-writer_lent i steps at now last after w x y sound is back keeps rest =
     (sound-lent_at i steps at now last endpoints (writer_place w) (writer_endpoint x) (writer_endpoint y) sound is (writer-made i (made_of i) w x sound refl back.was) (writer-put i after w x y sound back) keeps rest)
     (map-length bare_writer_of i.writers.items after w x y back)
 
-pub answers-writer_lent : {E : Type 0} (i : Inside) (S : SessionState) (steps : List KernelStep) (at now last : HostState) (after : List (Option WriterState)) (n w : ℕ) (x y : WriterState) (before text : String Global) (result : Result Unit E) (call : State → ℕ → WriterAt → Answer) → IsSound (made_of i) → made_of i ≡ S → at ≡ record i.host { steps = steps } → PutBack i.writers.items after n x y → n ≡ w → WriterAnswers at now x y before text result call → last ≡ host_rest now → Answers S (made_writing i last after) before text result (λ state. if_open (writer_at state w) (λ x. then_rested (call (lent state steps) w x)) (barred (stepped_all state steps)))
-answers-writer_lent i S steps at now last after n w x y before text (Err error) call sound view is back same answers rest = tt
-answers-writer_lent i S steps at now last after n w x y before text (Ok done) call sound view is back same answers rest =
-    λ state stands.
-    let b = string_bytes before in
-    let t = string_bytes text in
-    let o = has_writer S state n x stands (writer-made i S n x sound view back.was) (bare-made i S n x view back.was) in
-    let lends = represents-lent i S steps at view is state stands in
-    let called : Answered (with_writer_called S n now y) b t (call (lent state steps) n o.at) =
-    answers (record S { host = at }) (lent state steps) n o.at lends refl (record { endpoint = o.has.endpoint; writer = o.has.writer; is = o.has.is; same = o.has.same }) in
-    subst (λ m. Answered (made_writing i last after) b t (if_open (writer_at state m) (λ x. then_rested (call (lent state steps) m x)) (barred (stepped_all state steps)))) same
-    (answered-some (made_writing i last after) b t (writer_at state n) o.at (λ x. then_rested (call (lent state steps) n x)) (barred (stepped_all state steps)) o.has.is
-    (subst (λ (h : HostState). Answered (made_writing i h after) b t (then_rested (call (lent state steps) n o.at))) (sym rest)
-    (rested-answered (made_writing i now after) now b t (call (lent state steps) n o.at) refl
-    (subst (λ s. Answered s b t (call (lent state steps) n o.at)) (made-writer_called i S now after n x y sound view back) called))))
-
 -- no writer was called
 pub sound-writer_stepped : (i : Inside) (steps : List KernelStep) (at last : HostState) (mid : List (Option WriterState)) → IsSound (made_of i) → at ≡ record i.host { steps = steps } → last ≡ host_rest at → mid ≡ i.writers.items → IsSound (made_writing i last mid)
 sound-writer_stepped i steps at last mid sound is rest none =
     subst (λ l. IsSound (made_writing i last l)) (sym none) (sound-stepped i steps at last i.endpoints.items sound is rest refl)
-
-pub answers-writer_stepped : {E : Type 0} (i : Inside) (S : SessionState) (steps : List KernelStep) (at last : HostState) (mid : List (Option WriterState)) (n w : ℕ) (before text : String Global) (result : Result Unit E) (call : State → WriterAt → Answer) → made_of i ≡ S → at ≡ record i.host { steps = steps } → last ≡ host_rest at → named i.writers.items n ≡ None → mid ≡ i.writers.items → n ≡ w → OnOk result (string_bytes text ≡ string_bytes before ++ condition_line) → Answers S (made_writing i last mid) before text result (λ state. if_open (writer_at state w) (call state) (barred (stepped_all state steps)))
-answers-writer_stepped i S steps at last mid n w before text (Err error) call view is rest none back same printed = tt
-answers-writer_stepped i S steps at last mid n w before text (Ok done) call view is rest none back same printed =
-    λ state stands.
-    let b = string_bytes before in
-    let t = string_bytes text in
-    subst (λ l. Answered (made_writing i last l) b t (if_open (writer_at state w) (call state) (barred (stepped_all state steps)))) (sym back)
-    (answered-none (made_writing i last i.writers.items) b t (writer_at state w) (call state) (barred (stepped_all state steps)) (no_writer_at i S n w view none same state stands)
-    (told-answered (made_writing i last i.writers.items) (stepped_all state steps) b t condition_line (steps-represent i S steps at last view is rest state stands) printed))

@@ -1,8 +1,7 @@
 -- A writer is taken out of its name and closed.
-use Rattle.std.proofs.Common.{◌≡◌, ℕ, List, ◌++◌, length, map, Option, Some, None, true, false, Result, Ok, Err, String, string_bytes, refl, ap, sym, ◌∙◌, subst}
-use Rattle.std.specs.Prelude.{is_some, OnOk}
+use Rattle.std.proofs.Common.{◌≡◌, ℕ, List, length, map, Option, Some, None, true, false, refl, ap, sym, ◌∙◌, subst}
+use Rattle.std.specs.Prelude.{is_some}
 use Rattle.std.specs.Option.{option_map}
-use Rattle.std.specs.declared.alloc.Global.{Global}
 use Rattle.std.proofs.lemmas.List.{length-map}
 use Rattle.usb_endpoint.specs.Handles.{KeepsOthers}
 use Rattle.usb_endpoint.specs.Closes.{after_close}
@@ -10,19 +9,16 @@ use Rattle.usb_host.specs.HostState.{HostState}
 use Rattle.usb_host.specs.HostBus.{bus_of}
 use Rattle.usb_host.specs.HostCalls.{host_calls}
 use Rattle.usb_io.specs.Writers.{WriterState}
-use Rattle.usb_lines.specs.Calls.{condition_line, ok_line}
 use Rattle.usb_answers.specs.declared.session.Session.TheInside.{Inside}
 use Rattle.usb_names.specs.Names.{named, freed}
 use Rattle.usb_names.proofs.NameLemmas.{length-freed, map-freed}
-use Rattle.usb_answers.specs.State.{State, Endpoint, Writer, kept}
+use Rattle.usb_answers.specs.State.{State, Writer, endpoint_state}
 use Rattle.usb_answers.specs.WriterAt.{writer_place}
-use Rattle.usb_answers.specs.Answer.{barred, ok_answer, if_open}
-use Rattle.usb_answers.specs.Writers.{closed_writer, close_writer_answer, writer_closed_at, writer_closed}
+use Rattle.usb_answers.specs.Writers.{writer_closed}
 use Rattle.usb_answers.specs.SessionState.{SessionState, IsSound}
 use Rattle.usb_answers.specs.SessionFacts.{made_of, writer_endpoint, bare_writer_of, endpoints_with}
 use Rattle.usb_answers.specs.Relation.{Represents}
-use Rattle.usb_answers.specs.Answered.{Answered, Answers}
-use Rattle.usb_answers.proofs.Answering.{named_kept, none_kept, told-answered}
+use Rattle.usb_answers.proofs.Answering.{none_kept}
 use Rattle.usb_answers.proofs.Called.{open_at, sound-writers, represents-writers}
 use Rattle.usb_answers.proofs.CloseCode.{after-sound, after-represents}
 use Rattle.usb_answers.proofs.OpenPlaces.{named-writer, freed-writer_after}
@@ -58,7 +54,7 @@ closed_writer-represents i S now mid w x sound view was rest bus state is =
     let o = open_at S state p (writer_endpoint x) is (writer-made i S w x sound view was) in
     rw o.is
     (represents-writers (record (made_of i) { host = now; endpoints = after })
-    (record state { host = after_close host_calls state.host (kept o.entry); endpoints = freed state.endpoints p })
+    (record state { host = after_close host_calls state.host (endpoint_state o.entry); endpoints = freed state.endpoints p })
     (map (option_map bare_writer_of) mid) (freed state.writers w)
     (after-represents i S now after p (writer_endpoint x) view (freed-writer_after i.endpoints.items i.readers.items i.writers.items (places-made i sound) w mid rest) bus state is o)
     (ap (map (option_map bare_writer_of)) rest ∙ map-freed bare_writer_of i.writers.items w ∙ ap (λ (v : SessionState). freed v.writers w) (view ∙ is.is) ∙ sym (map-freed (λ (z : Writer). z.bare) state.writers w)))
@@ -68,28 +64,3 @@ unfolding writer_closed
 nothing-writer_closed i S mid w sound view none rest state is =
     rw (none_kept S state (writer_place w) is (no_endpoint i S w sound view none))
     (subst (λ l. Represents (made_writing i i.host l) state) (sym rest) (subst (λ v. Represents v state) (sym view) is))
-
--- what a close answers
-writer_was_open : (s : SessionState) (state : State) (w : ℕ) (before after : List ℕ) (o : Option Endpoint) → is_some (option_map kept o) ≡ true → Represents s (writer_closed_at state w o) → after ≡ before ++ ok_line → Answered s before after (if_open o (λ h. ok_answer (closed_writer state w h)) (barred state))
-writer_was_open s state w before after None some is printed = absurd (cc)
-writer_was_open s state w before after (Some h) some is printed = told-answered s (closed_writer state w h) before after ok_line is printed
-
-writer_was_free : (s : SessionState) (state : State) (w : ℕ) (before after : List ℕ) (o : Option Endpoint) → is_some (option_map kept o) ≡ false → Represents s (writer_closed_at state w o) → after ≡ before ++ condition_line → Answered s before after (if_open o (λ h. ok_answer (closed_writer state w h)) (barred state))
-writer_was_free s state w before after None some is printed = told-answered s state before after condition_line is printed
-writer_was_free s state w before after (Some h) some is printed = absurd (cc)
-
-pub close_writer-answered : {E : Type 0} (S s : SessionState) (w : ℕ) (before text : String Global) (result : Result Unit E) → is_some (named S.endpoints (writer_place w)) ≡ true → ((state : State) → Represents S state → Represents s (writer_closed state w)) → OnOk result (string_bytes text ≡ string_bytes before ++ ok_line) → Answers S s before text result (λ state. close_writer_answer state w)
-unfolding close_writer_answer writer_closed
-close_writer-answered S s w before text (Err error) some now printed = tt
-close_writer-answered S s w before text (Ok done) some now printed =
-    λ state is.
-    let p = writer_place w in
-    writer_was_open s state w (string_bytes before) (string_bytes text) (named state.endpoints p) (sym (ap is_some (named_kept S state p is)) ∙ some) (now state is) printed
-
-pub close_writer-barred : {E : Type 0} (S s : SessionState) (w : ℕ) (before text : String Global) (result : Result Unit E) → is_some (named S.endpoints (writer_place w)) ≡ false → ((state : State) → Represents S state → Represents s (writer_closed state w)) → OnOk result (string_bytes text ≡ string_bytes before ++ condition_line) → Answers S s before text result (λ state. close_writer_answer state w)
-unfolding close_writer_answer writer_closed
-close_writer-barred S s w before text (Err error) some now printed = tt
-close_writer-barred S s w before text (Ok done) some now printed =
-    λ state is.
-    let p = writer_place w in
-    writer_was_free s state w (string_bytes before) (string_bytes text) (named state.endpoints p) (sym (ap is_some (named_kept S state p is)) ∙ some) (now state is) printed

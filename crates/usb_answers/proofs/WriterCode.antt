@@ -1,6 +1,6 @@
 -- What calls on an open writer answer.
 use Rattle.std.proofs.Common.{◌≡◌, ℕ, ◌≤◌, ◌+◌, ◌-◌, suc, arith, Bool, true, false, cond, List, [], ◌∷◌, ◌++◌, length, map, take, drop, Option, Some, None, Result, Ok, Err, refl, ap, sym, ◌∙◌, subst, String, string_bytes}
-use Rattle.std.specs.Prelude.{option_and_then}
+use Rattle.std.specs.Prelude.{OnOk, option_and_then}
 use Rattle.std.specs.Option.{option_map}
 use Rattle.std.specs.declared.alloc.Global.{Global}
 use Rattle.std.proofs.lemmas.Option.{none-some, same_Some}
@@ -22,16 +22,18 @@ use Rattle.usb_io.specs.WriteAnswers.{write_came, flush_came, flush_end_came, po
 use Rattle.usb_streams.specs.Numbers.{numbers_from}
 use Rattle.usb_streams.specs.Told.{WriterCalls, with_calls, failures_of, count_of}
 use Rattle.usb_streams.proofs.WritesKeep.{Keeps, write-keeps, flush-keeps, flush_end-keeps, poll_flush_end-keeps, submit-keeps, submit_end-keeps}
-use Rattle.usb_writer_lines.specs.Needs.{bars_call, write_need}
+use Rattle.usb_lines.specs.Calls.{condition_line, ok_line}
+use Rattle.usb_writer_lines.specs.Needs.{bars_call, bars_transfers, write_need}
 use Rattle.usb_writer_lines.specs.Printed.{Prints, CameTo}
-use Rattle.usb_names.specs.Names.{named, change_named}
+use Rattle.usb_names.specs.Names.{named, change_named, freed, set_name}
 use Rattle.usb_names.proofs.NameLemmas.{map-change_named, put-changed, put-back}
-use Rattle.usb_answers.specs.State.{State, Endpoint, Writer, kept, tickets_of}
+use Rattle.usb_answers.specs.State.{State, Endpoint, Writer, endpoint_state, tickets_of}
 use Rattle.usb_answers.specs.BareWriters.{BareWriter, bare_writer}
 use Rattle.usb_answers.specs.WriterAt.{WriterAt, writer_place, writer_at, state_of_writer, writing_at}
 use Rattle.usb_answers.specs.Readers.{called_endpoint}
-use Rattle.usb_answers.specs.Writes.{writer_called, called_as}
-use Rattle.usb_answers.specs.Answer.{Answer, told, barred}
+use Rattle.usb_answers.specs.Writers.{with_transfers, transfers_on, with_write_timeout, write_timeout_on}
+use Rattle.usb_answers.specs.Writes.{left_by_writer, called_as}
+use Rattle.usb_answers.specs.Answer.{Answer, answer_with, condition_answer, ok_answer}
 use Rattle.usb_answers.specs.Answered.{Answered}
 use Rattle.usb_answers.specs.SessionState.{SessionState}
 use Rattle.usb_answers.specs.Relation.{Represents, session_of}
@@ -123,15 +125,15 @@ pub submit_end-follows : (w : Writing HostState) → Follows w (submit_end_came 
 submit_end-follows w = submit_end-keeps (Follows w) (follows-kept w) w (follows-same w)
 
 -- the endpoint behind a call
-kept-called : (old new : Writing HostState) (h : Endpoint) → Follows old new → kept h ≡ old.writer.endpoint
-    → kept (called_endpoint (count_of old) (count_of new) new.writer.endpoint.pending h) ≡ new.writer.endpoint
+kept-called : (old new : Writing HostState) (h : Endpoint) → Follows old new → endpoint_state h ≡ old.writer.endpoint
+    → endpoint_state (called_endpoint (count_of old) (count_of new) new.writer.endpoint.pending h) ≡ new.writer.endpoint
 kept-called old new h came same =
     let numbers = numbers_from (count_of old) (count_of new - count_of old) in
     let last = new.writer.endpoint.pending in
     let all = tickets-read h old.writer.endpoint.pending came.taken last numbers (ap (λ (z : EndpointState). z.pending) same) came.same in
     let pending_is : drop (length (h.tickets ++ numbers) - length last) (h.tickets ++ numbers) ≡ last =
     ap (λ (l : List ℕ). drop (length l - length last) l) all ∙ drop-last (take h.taken h.tickets ++ came.taken) last in
-    ap (λ (l : List ℕ). record (kept h) { pending = l }) pending_is
+    ap (λ (l : List ℕ). record (endpoint_state h) { pending = l }) pending_is
     ∙ ap (λ (z : EndpointState). record z { pending = last }) same
     ∙ sym came.rest
 
@@ -155,7 +157,7 @@ writers-called s state w y at g rep was bare =
 
 -- a writer was called and put back
 represents-writer : (s : SessionState) (state : State) (w : ℕ) (host : HostState) (x y : WriterState) (at : WriterAt) (f : Endpoint → Endpoint) (g : Writer → Writer) → Represents s state → HasWriter s state w x at
-    → kept (f at.endpoint) ≡ y.endpoint → (f at.endpoint).taken ≤ length (f at.endpoint).tickets → (g at.writer).bare ≡ bare_writer y
+    → endpoint_state (f at.endpoint) ≡ y.endpoint → (f at.endpoint).taken ≤ length (f at.endpoint).tickets → (g at.writer).bare ≡ bare_writer y
     → Represents (with_writer_called s w host y) (record state { host = host; endpoints = change_named f state.endpoints (writer_place w); writers = change_named g state.writers w })
 represents-writer s state w host x y at f g rep has same few bare =
     let both = both_at state w at has.is in
@@ -185,12 +187,12 @@ same_session s state w host x at has host_was =
 
 -- the session behind a call stands for the state behind it
 represents-called : (s : SessionState) (state : State) (w : ℕ) (old : HostState) (x : WriterState) (v : Writing HostState) (at : WriterAt) (calls : Option WriterCalls) → Follows (writing old x) v → Represents s state → s.host ≡ old → HasWriter s state w x at
-    → Represents (with_writer_called s w v.bus v.writer) (writer_called state w calls v)
+    → Represents (with_writer_called s w v.bus v.writer) (left_by_writer state w calls v)
 represents-called s state w old x v at calls came rep host_was has =
     let host : old ≡ state.host = sym host_was ∙ host_is s state rep in
     let f = called_endpoint (tickets_of state) (count_of v) v.writer.endpoint.pending in
-    let kept_is : kept (f at.endpoint) ≡ v.writer.endpoint =
-    ap (λ (h : HostState). kept (called_endpoint (length (tickets h.kernel.past)) (count_of v) v.writer.endpoint.pending at.endpoint)) (sym host)
+    let kept_is : endpoint_state (f at.endpoint) ≡ v.writer.endpoint =
+    ap (λ (h : HostState). endpoint_state (called_endpoint (length (tickets h.kernel.past)) (count_of v) v.writer.endpoint.pending at.endpoint)) (sym host)
     ∙ kept-called (writing old x) v at.endpoint came (ap (λ (z : WriterState). z.endpoint) has.same) in
     represents-writer s state w v.bus x v.writer at f (λ z. record { bare = bare_writer v.writer; calls = calls }) rep has kept_is (omega arith) refl
 
@@ -212,15 +214,15 @@ writer-answers {A} came need calls line old new x y before text (Ok done) follow
     let there : writing_at state at ≡ writing old x =
     ap (λ (h : HostState). writing h (state_of_writer at)) host ∙ ap (λ (z : WriterState). writing old z) has.same in
     let all = λ (p : Writing HostState). option_map (with_calls (calls p.writer (came p).answer) (failures_of (came p).answer)) at.writer.calls in
-    let answer = λ (p : Writing HostState). cond (bars_call p (need p.writer)) (barred state) (told (writer_called state w (all p) (came p).left) (line (came p).answer)) in
+    let answer = λ (p : Writing HostState). cond (bars_call p (need p.writer)) (condition_answer state) (answer_with (left_by_writer state w (all p) (came p).left) (line (came p).answer)) in
     let by : (b : Bool) → CameTo b (line a.answer) a.left (string_bytes before) (string_bytes text) (writing old x) (writing new y)
-    → Answered (with_writer_called s w new y) (string_bytes before) (string_bytes text) (cond b (barred state) (told (writer_called state w (all (writing old x)) a.left) (line a.answer))) =
+    → Answered (with_writer_called s w new y) (string_bytes before) (string_bytes text) (cond b (condition_answer state) (answer_with (left_by_writer state w (all (writing old x)) a.left) (line a.answer))) =
     elim [
       | true ↦ λ p.
-          subst (λ (v : Writing HostState). Answered (with_writer_called s w v.bus v.writer) (string_bytes before) (string_bytes text) (barred state)) (sym p.1)
-          (subst (λ (z : SessionState). Answered z (string_bytes before) (string_bytes text) (barred state)) (sym (same_session s state w old x at has host_was)) (record { state = rep; line = p.0 }))
+          subst (λ (v : Writing HostState). Answered (with_writer_called s w v.bus v.writer) (string_bytes before) (string_bytes text) (condition_answer state)) (sym p.1)
+          (subst (λ (z : SessionState). Answered z (string_bytes before) (string_bytes text) (condition_answer state)) (sym (same_session s state w old x at has host_was)) (record { state = rep; line = p.0 }))
       | false ↦ λ p.
-          subst (λ (v : Writing HostState). Answered (with_writer_called s w v.bus v.writer) (string_bytes before) (string_bytes text) (told (writer_called state w (all (writing old x)) a.left) (line a.answer))) (sym p.1)
+          subst (λ (v : Writing HostState). Answered (with_writer_called s w v.bus v.writer) (string_bytes before) (string_bytes text) (answer_with (left_by_writer state w (all (writing old x)) a.left) (line a.answer))) (sym p.1)
           (record { state = represents-called s state w old x a.left at (all (writing old x)) follows rep host_was has; line = p.0 })
     ] in
     subst (Answered (with_writer_called s w new y) (string_bytes before) (string_bytes text)) (sym (ap answer there)) (by (bars_call (writing old x) (need x)) prints)
@@ -232,3 +234,54 @@ pub write-answers : {E : Type 0} (timeout : WriterState → ℕ) (src l : List �
 write-answers timeout src l line old new x y before text result same prints =
     writer-answers (λ v. write_came host_calls (timeout v.writer) src v) write_need (λ z r. written_calls src r) line old new x y before text result (write-follows (timeout x) src (writing old x))
     (subst (λ (bytes : List ℕ). Prints (bars_call (writing old x) (write_need x)) line (write_came host_calls (timeout x) bytes (writing old x)) before text (writing old x) (writing new y) result) same prints)
+
+-- a call that asks nothing of the host: a line is told, and nothing else
+pub writer-told : {E : Type 0} (host : HostState) (x : WriterState) (before text : String Global) (result : Result Unit E) (line : List ℕ) (call : State → ℕ → WriterAt → Answer) → OnOk result (string_bytes text ≡ string_bytes before ++ line)
+    → ((state : State) (w : ℕ) (at : WriterAt) → call state w at ≡ answer_with state line) → WriterAnswers host host x x before text result call
+writer-told host x before text (Err error) line call printed tells = tt
+writer-told host x before text (Ok done) line call printed tells =
+    λ s state w at rep host_was has.
+    subst (Answered (with_writer_called s w host x) (string_bytes before) (string_bytes text)) (sym (tells state w at))
+    (subst (λ (v : SessionState). Answered v (string_bytes before) (string_bytes text) (answer_with state line)) (sym (same_session s state w host x at has host_was))
+    (record { state = rep; line = printed }))
+
+-- or something of the writer is set
+pub writer-set : {E : Type 0} (host : HostState) (x y : WriterState) (before text : String Global) (result : Result Unit E) (g : Writer → Writer) (call : State → ℕ → WriterAt → Answer) → y.endpoint ≡ x.endpoint → ((z : Writer) → z.bare ≡ bare_writer x → (g z).bare ≡ bare_writer y) → OnOk result (string_bytes text ≡ string_bytes before ++ ok_line)
+    → ((state : State) (w : ℕ) (at : WriterAt) → call state w at ≡ ok_answer (record state { writers = change_named g state.writers w })) → WriterAnswers host host x y before text result call
+writer-set host x y before text (Err error) g call same sets printed tells = tt
+writer-set host x y before text (Ok done) g call same sets printed tells =
+    λ s state w at rep host_was has.
+    let place = writer_place w in
+    let back : change_named (λ (z : EndpointState). y.endpoint) s.endpoints place ≡ s.endpoints =
+    sym (put-changed (λ z. y.endpoint) s.endpoints place x.endpoint y.endpoint has.endpoint refl)
+    ∙ ap (set_name (freed s.endpoints place) place) same
+    ∙ put-back s.endpoints place x.endpoint has.endpoint in
+    subst (Answered (with_writer_called s w host y) (string_bytes before) (string_bytes text)) (sym (tells state w at))
+    (record {
+      state = record {
+        is =
+            ap (λ (h : HostState). record s { host = h; endpoints = change_named (λ (z : EndpointState). y.endpoint) s.endpoints place; writers = change_named (λ z. bare_writer y) s.writers w }) (sym host_was)
+            ∙ ap (λ (l : List (Option EndpointState)). record s { endpoints = l; writers = change_named (λ z. bare_writer y) s.writers w }) back
+            ∙ ap (λ (v : SessionState). record v { writers = change_named (λ z. bare_writer y) s.writers w }) rep.is
+            ∙ ap (λ (l : List (Option BareWriter)). record (session_of state) { writers = l })
+            (writers-called s state w y at g rep (both_at state w at has.is).0 (sets at.writer (ap (λ (z : WriterState). bare_writer z) has.same)));
+        few = rep.few;
+      };
+      line = printed;
+    })
+
+-- `num` of a writer
+pub transfers-barred : {E : Type 0} (host : HostState) (x : WriterState) (n : ℕ) (before text : String Global) (result : Result Unit E) → bars_transfers n ≡ true → OnOk result (string_bytes text ≡ string_bytes before ++ condition_line) → WriterAnswers host host x x before text result (λ state w at. transfers_on state w n)
+transfers-barred host x n before text result bars printed =
+    writer-told host x before text result condition_line (λ state w at. transfers_on state w n) printed (λ state w at. rw bars refl)
+
+pub transfers-set : {E : Type 0} (host : HostState) (x y : WriterState) (n : ℕ) (before text : String Global) (result : Result Unit E) → bars_transfers n ≡ false → y ≡ record x { n = n } → OnOk result (string_bytes text ≡ string_bytes before ++ ok_line) → WriterAnswers host host x y before text result (λ state w at. transfers_on state w n)
+transfers-set host x y n before text result free is printed =
+    writer-set host x y before text result (with_transfers n) (λ state w at. transfers_on state w n) (ap (λ (z : WriterState). z.endpoint) is)
+    (λ z bare. ap (λ (b : BareWriter). record b { n = n }) bare ∙ ap (λ (v : WriterState). bare_writer v) (sym is)) printed (λ state w at. rw free refl)
+
+-- and `timeout`
+pub write_timeout-set : {E : Type 0} (host : HostState) (x y : WriterState) (timeout : ℕ) (before text : String Global) (result : Result Unit E) → y ≡ record x { timeout = timeout } → OnOk result (string_bytes text ≡ string_bytes before ++ ok_line) → WriterAnswers host host x y before text result (λ state w at. write_timeout_on state w timeout)
+write_timeout-set host x y timeout before text result is printed =
+    writer-set host x y before text result (with_write_timeout timeout) (λ state w at. write_timeout_on state w timeout) (ap (λ (z : WriterState). z.endpoint) is)
+    (λ z bare. ap (λ (b : BareWriter). record b { timeout = timeout }) bare ∙ ap (λ (v : WriterState). bare_writer v) (sym is)) printed (λ state w at. refl)

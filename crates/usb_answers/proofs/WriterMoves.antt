@@ -12,13 +12,13 @@ use Rattle.usb_answers.specs.declared.session.Session.TheInside.{Inside}
 use Rattle.usb_names.specs.Names.{named, is_free, freed, set_name}
 use Rattle.usb_names.proofs.NameLemmas.{length-freed, length-set_name, map-freed, map-set, is_free-map}
 use Rattle.usb_answers.specs.BareWriters.{bare_writer}
-use Rattle.usb_answers.specs.State.{State, Endpoint, Writer, kept}
+use Rattle.usb_answers.specs.State.{State, Endpoint, Writer, endpoint_state}
 use Rattle.usb_answers.specs.ReaderAt.{endpoint_place}
 use Rattle.usb_answers.specs.WriterAt.{WriterAt, writer_place, writer_at}
 use Rattle.usb_answers.specs.Readers.{as_streamed}
 use Rattle.usb_answers.specs.Writers.{with_writer, is_free_writer, writer_on, writer_answer, without_writer, writer_inner_answer}
 use Rattle.usb_answers.specs.Submits.{has_direction}
-use Rattle.usb_answers.specs.Answer.{barred, ok_answer, if_open}
+use Rattle.usb_answers.specs.Answer.{condition_answer, ok_answer, if_open}
 use Rattle.usb_answers.specs.SessionState.{SessionState, IsSound}
 use Rattle.usb_answers.specs.SessionFacts.{session_made, made_of, writer_endpoint, bare_writer_of, endpoints_with}
 use Rattle.usb_answers.specs.Relation.{Represents}
@@ -95,7 +95,7 @@ module _ (i : Inside) (sound : IsSound (made_of i)) (e w : ℕ) where
   free-own : (state : State) → Represents (made_of i) state → is_free state.endpoints (endpoint_place e) ≡ is_free i.endpoints.items e
   free-own state is = sym (free_kept (made_of i) state (endpoint_place e) is) ∙ free-endpoint i.endpoints.items i.readers.items i.writers.items (places-made i sound) e
 
-  writer-represents : (x : EndpointState) (y : WriterState) (size : ℕ) (state : State) (h : Endpoint) → named i.endpoints.items e ≡ Some x → is_free i.writers.items w ≡ true → y ≡ fresh_writer x size → Represents (made_of i) state → kept h ≡ x → h.taken ≤ length h.tickets
+  writer-represents : (x : EndpointState) (y : WriterState) (size : ℕ) (state : State) (h : Endpoint) → named i.endpoints.items e ≡ Some x → is_free i.writers.items w ≡ true → y ≡ fresh_writer x size → Represents (made_of i) state → endpoint_state h ≡ x → h.taken ≤ length h.tickets
       → Represents (made_both i (freed i.endpoints.items e) (set_name i.writers.items w y)) (with_writer state w (endpoint_place e) size h)
   writer-represents x y size state h was free fresh is same few =
       let after = endpoints_with (freed i.endpoints.items e) i.readers.items (set_name i.writers.items w y) in
@@ -105,10 +105,10 @@ module _ (i : Inside) (sound : IsSound (made_of i)) (e w : ℕ) where
       represents-writers (record (made_of i) { endpoints = after }) (record state { endpoints = now.endpoints }) (map (option_map bare_writer_of) (set_name i.writers.items w y)) now.writers moved_
       (map-set bare_writer_of i.writers.items w y
       ∙ ap (set_name (map (option_map bare_writer_of) i.writers.items) w) (ap bare_writer (fresh ∙ ap (λ (z : EndpointState). fresh_writer z size) (sym same)))
-      ∙ ap (λ (v : SessionState). set_name v.writers w (bare_writer (fresh_writer (kept h) size))) is.is
+      ∙ ap (λ (v : SessionState). set_name v.writers w (bare_writer (fresh_writer (endpoint_state h) size))) is.is
       ∙ sym (map-set (λ (z : Writer). z.bare) state.writers w _))
 
-  inner-represents : (x : WriterState) (y : EndpointState) (state : State) (at : WriterAt) → named i.writers.items w ≡ Some x → is_free i.endpoints.items e ≡ true → y ≡ writer_endpoint x → Represents (made_of i) state → kept at.endpoint ≡ writer_endpoint x → at.endpoint.taken ≤ length at.endpoint.tickets
+  inner-represents : (x : WriterState) (y : EndpointState) (state : State) (at : WriterAt) → named i.writers.items w ≡ Some x → is_free i.endpoints.items e ≡ true → y ≡ writer_endpoint x → Represents (made_of i) state → endpoint_state at.endpoint ≡ writer_endpoint x → at.endpoint.taken ≤ length at.endpoint.tickets
       → Represents (made_both i (set_name i.endpoints.items e y) (freed i.writers.items w)) (without_writer state (endpoint_place e) w at)
   inner-represents x y state at was free given is same few =
       let after = endpoints_with (set_name i.endpoints.items e y) i.readers.items (freed i.writers.items w) in
@@ -125,11 +125,11 @@ writer-gives i sound e w x y size state was free fresh output is =
     let o = open_at (made_of i) state (endpoint_place e) x is (taken-endpoint i.endpoints.items i.readers.items i.writers.items (places-made i sound) e x was) in
     let bare : is_free state.writers w ≡ true = free-bare i sound e w state is ∙ free in
     let place : is_free state.endpoints (writer_place w) ≡ true = free-place i sound e w state is free in
-    let direction : has_direction Out (kept o.entry) ≡ true = ap (has_direction Out) o.same ∙ is-direction Out x output in
+    let direction : has_direction Out (endpoint_state o.entry) ≡ true = ap (has_direction Out) o.same ∙ is-direction Out x output in
     rw (o.is, bare, place, direction) (record { state = writer-represents i sound e w x y size state o.entry was free fresh is o.same o.few; same = refl })
 
 -- or its name is in use, nothing is open under the endpoint's, or that is not an OUT endpoint
-used-gives : (s : SessionState) (state : State) (w p size : ℕ) (o : Option Endpoint) → Represents s state → is_free state.writers w ≡ false → Gives s condition_line (if_open o (writer_on state w p size) (barred state))
+used-gives : (s : SessionState) (state : State) (w p size : ℕ) (o : Option Endpoint) → Represents s state → is_free state.writers w ≡ false → Gives s condition_line (if_open o (writer_on state w p size) (condition_answer state))
 used-gives s state w p size None is used = barred-gives s state is
 used-gives s state w p size (Some h) is used = rw used (barred-gives s state is)
 
@@ -146,7 +146,7 @@ pub writer-in : (i : Inside) (sound : IsSound (made_of i)) (e w size : ℕ) (x :
 unfolding writer_answer
 writer-in i sound e w size x state was other is =
     let o = open_at (made_of i) state (endpoint_place e) x is (taken-endpoint i.endpoints.items i.readers.items i.writers.items (places-made i sound) e x was) in
-    let direction : has_direction Out (kept o.entry) ≡ false = ap (has_direction Out) o.same ∙ not-direction Out x other in
+    let direction : has_direction Out (endpoint_state o.entry) ≡ false = ap (has_direction Out) o.same ∙ not-direction Out x other in
     rw (o.is, direction) (barred-direction (made_of i) state (is_free_writer state w) (ok_answer (with_writer state w (endpoint_place e) size o.entry)) is)
 
 -- what `inner` answers: the endpoint comes back
@@ -160,7 +160,7 @@ inner-gives i sound e w x y state was free given is =
     rw (o.has.is, own) (record { state = inner-represents i sound e w x y state o.at was free given is (ap (λ (z : WriterState). z.endpoint) o.has.same) o.few; same = refl })
 
 -- or its name is in use, or no writer is open under that name
-inner_used-gives : (s : SessionState) (state : State) (p w : ℕ) (o : Option WriterAt) → Represents s state → is_free state.endpoints p ≡ false → Gives s condition_line (if_open o (λ x. if is_free state.endpoints p then ok_answer (without_writer state p w x) else barred state) (barred state))
+inner_used-gives : (s : SessionState) (state : State) (p w : ℕ) (o : Option WriterAt) → Represents s state → is_free state.endpoints p ≡ false → Gives s condition_line (if_open o (λ x. if is_free state.endpoints p then ok_answer (without_writer state p w x) else condition_answer state) (condition_answer state))
 inner_used-gives s state p w None is used = barred-gives s state is
 inner_used-gives s state p w (Some x) is used = rw used (barred-gives s state is)
 
@@ -170,7 +170,7 @@ inner-used i sound e w state used is = inner_used-gives (made_of i) state (endpo
 
 pub inner-none : (i : Inside) (sound : IsSound (made_of i)) (e w : ℕ) (state : State) → named i.writers.items w ≡ None → Represents (made_of i) state → Gives (made_of i) condition_line (writer_inner_answer state (endpoint_place e) w)
 unfolding writer_inner_answer
-inner-none i sound e w state none is = rw (no_writer_at i (made_of i) w w refl none refl state is) (barred-gives (made_of i) state is)
+inner-none i sound e w state none is = rw (no_writer_at i i.host w w none refl state is) (barred-gives (made_of i) state is)
 
 -- by what the code left
 pub both-same : (P : SessionState → Type 0) (i : Inside) (es mid : List (Option EndpointState)) (ws after : List (Option WriterState)) → mid ≡ es → after ≡ ws → P (made_both i es ws) → P (made_both i mid after)

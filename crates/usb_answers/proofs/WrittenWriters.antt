@@ -1,16 +1,15 @@
--- What lines on writers keep of those that alone used their endpoints.
-use Rattle.std.proofs.Common.{◌≡◌, ◌≢◌, ◌∙◌, ℕ, ◌+◌, ◌-◌, ◌*◌, ◌/◌, ◌<◌, true, List, [], ◌∷◌, ◌++◌, length, take, drop, take-append-drop, Option, Some, None, Result, refl, ap, sym, subst, inl, inr}
-use Rattle.std.specs.Prelude.{All, nat_lt, nat_le, ◌==◌, ◌||◌, option_and_then, if◌then◌else◌}
+-- The tickets of writers' endpoints tell of their calls, where these alone used them.
+use Rattle.std.proofs.Common.{◌≡◌, ◌∙◌, ℕ, ◌+◌, ◌-◌, ◌*◌, ◌/◌, ◌<◌, Bool, true, List, [], ◌∷◌, ◌++◌, length, take, drop, take-append-drop, Option, Some, None, Result, refl, ap, sym, subst, inl, inr}
+use Rattle.std.specs.Prelude.{All, nat_le, option_and_then, if◌then◌else◌}
 use Rattle.std.specs.Option.{option_map}
-use Rattle.std.proofs.lemmas.Bool.{cond_both, cases_eq, cases_Bool, and_parts, leb-false}
+use Rattle.std.proofs.lemmas.Bool.{cond_both, cases_Bool, and_parts, leb-false}
+use Rattle.std.proofs.lemmas.List.{length-replicate}
 use Rattle.std.proofs.lemmas.List.Elements.{All-nil, All-append}
 use Rattle.std.proofs.lemmas.Option.{none-some, same_Some}
 use Rattle.usb_desc.specs.declared.types.Direction.TheVariants.{In, Out}
 use Rattle.usb_xfer.specs.declared.error.TransferError.{TransferError}
 use Rattle.usb_kernel.specs.declared.event.Event.{Event}
 use Rattle.usb_kernel.specs.Extends.{Extends}
-use Rattle.usb_kernel.proofs.Extends.{extends-same}
-use Rattle.usb_simulated.specs.declared.step.KernelStep.{KernelStep}
 use Rattle.usb_endpoint.specs.EndpointState.{EndpointState}
 use Rattle.usb_host.specs.HostState.{HostState}
 use Rattle.usb_host.specs.EndpointRefusals.{same_direction}
@@ -26,26 +25,43 @@ use Rattle.usb_io.specs.WriteAnswers.{write_came, flush_came, flush_end_came, po
 use Rattle.usb_io.proofs.CarriedLaws.{fresh_tells, later_tells}
 use Rattle.usb_streams.specs.Numbers.{numbers_from}
 use Rattle.usb_streams.specs.WriterCalls.{WriterGoesOn}
-use Rattle.usb_streams.specs.Told.{WriterCalls, no_calls, with_calls, failures_of, failures_at, IsComplete, CallTells}
-use Rattle.usb_streams.proofs.WritesGoOn.{write_goes_on, flush_goes_on, flush_end_goes_on, poll_flush_end_goes_on, submit_goes_on, submit_end_goes_on}
+use Rattle.usb_streams.specs.Told.{WriterCalls, no_calls, with_calls, failures_of, failures_at, IsComplete, CallTells, WriterCall as StreamCall, Write, FlushAll, FlushEnd, PollFlushEnd, Submit, SubmitEnd, left_by, counts_as, failures_by}
+use Rattle.usb_streams.proofs.WritesGoOn.{writer_calls-go_on}
+use Rattle.usb_streams.proofs.Tells.{calls-tell}
 use Rattle.usb_streams.proofs.TicketMoves.{complete-later, failures-later, failures-append}
-use Rattle.usb_streams.proofs.Tells.{write-tells, flush-tells, flush_end-tells, poll_flush_end-tells, submit-tells, submit_end-tells}
-use Rattle.usb_writer_lines.specs.Needs.{bars_call, write_need, flush_need, finish_need, poll_finish_need}
+use Rattle.usb_writer_lines.specs.Needs.{bars_call, bars_transfers, write_need, flush_need, finish_need, poll_finish_need}
+use Rattle.usb_script.specs.declared.item.Item.{Item}
 use Rattle.usb_writer_lines.specs.Printed.{written_line, flushed_line, poll_line, submitted_to}
-use Rattle.usb_names.specs.Names.{named, is_free, freed, change_named}
-use Rattle.usb_names.proofs.NameLemmas.{length-freed, length-set_name, named-change_same, named-change_other, named-freed, named-freed_other, named-set, named-set_other}
+use Rattle.usb_names.specs.Names.{named, is_free, change_named}
+use Rattle.usb_answers.specs.declared.call.Call.{Call as SessionCall}
+use Rattle.usb_answers.specs.declared.call.Call.TheVariants as families
+use Rattle.usb_answers.specs.declared.call.OpenCall.TheVariants as opens
+use Rattle.usb_answers.specs.declared.call.CloseCall.TheVariants as closes
+use Rattle.usb_answers.specs.declared.call.WriterCall.{WriterCall}
+use Rattle.usb_answers.specs.declared.call.WriterCall.TheVariants as writers
 use Rattle.usb_answers.specs.BareWriters.{bare_writer, writer_with}
-use Rattle.usb_answers.specs.State.{State, Endpoint, Writer, kept, tickets_of, with_host}
+use Rattle.usb_answers.specs.State.{State, Endpoint, Reader, Writer, endpoint_state, tickets_of, with_host}
+use Rattle.usb_answers.specs.ReaderAt.{endpoint_place}
 use Rattle.usb_answers.specs.WriterAt.{WriterAt, writer_place, writer_at, state_of_writer, writing_at}
-use Rattle.usb_answers.specs.WrittenScripts.{IsWritten, WritersTell, written_by}
-use Rattle.usb_answers.specs.Answer.{Answer, told, barred, ok_answer, if_open}
+use Rattle.usb_answers.specs.WrittenScripts.{IsWritten, ScriptsAreWritten, written_by}
+use Rattle.usb_answers.specs.Answer.{Answer, answer_with, condition_answer, ok_answer, if_open}
 use Rattle.usb_answers.specs.Submits.{has_direction}
 use Rattle.usb_answers.specs.Readers.{as_streamed, called_endpoint}
-use Rattle.usb_answers.specs.Writers.{nothing_called, with_writer, is_free_writer, writer_on, writer_answer, without_writer, writer_inner_answer, with_transfers, transfers_on, writer_num_answer, with_write_timeout, write_timeout_on, write_timeout_answer, closed_writer, close_writer_answer}
-use Rattle.usb_answers.specs.Writes.{writer_called, called_as, write_on, write_answer, poll_write_on, poll_write_answer, submit_buffer_on, submit_buffer_answer, submit_end_on, submit_end_answer, flush_on, flush_answer, poll_flush_on, poll_flush_answer, flush_end_on, flush_end_answer, poll_flush_end_on, poll_flush_end_answer}
-use Rattle.usb_answers.specs.Steps.{lent, rested, then_rested, stepped_all}
-use Rattle.usb_answers.proofs.OtherLines.{IsApart}
-use Rattle.usb_answers.proofs.StreamPlaces.{small-name, free-small, writer-streamed, writers-apart, LeavesWriters, length-changed, free-freed, drop-nothing, take-nothing, called-parts}
+use Rattle.usb_answers.specs.Writers.{nothing_called, with_writer, is_free_writer, writer_on, writer_answer, without_writer, writer_inner_answer, with_transfers, with_write_timeout, closed_writer, close_writer_answer}
+use Rattle.usb_answers.specs.Writes.{left_by_writer, called_as, write_on, flush_as, finish_as}
+use Rattle.usb_answers.specs.Steps.{with_steps, steps_applied, then_applied}
+use Rattle.usb_answers.specs.CalledWriters.{writer_called, on_writer}
+use Rattle.usb_answers.specs.CallAnswers.{call_answer}
+use Rattle.usb_answers.specs.Answers.{answer}
+use Rattle.usb_answers.specs.Output.{start, behind}
+use Rattle.usb_answers.specs.Behind.{ScriptsGoOn}
+use Rattle.usb_answers.proofs.Crowds.{over-line}
+use Rattle.usb_answers.proofs.LinesBehind.{behind-keeps}
+use Rattle.usb_answers.proofs.OtherLines.{IsApart, place-apart}
+use Rattle.usb_answers.proofs.StreamPlaces.{LeavesWriters, drop-nothing, take-nothing, called-parts}
+use Rattle.usb_answers.proofs.WritersLeave.{leaves-readers}
+use Rattle.usb_answers.proofs.ReadersLeave.{leaves-writers}
+use Rattle.usb_answers.proofs.StreamsKeep.{of_writers, AllOpen, none-open, left-keeps, made-keeps, back-keeps, closed-keeps, own-keeps, called-keeps}
 
 -- the tickets that were taken of an endpoint, and with them what its writer did
 abbrev pub taken_of : Endpoint → List ℕ
@@ -54,8 +70,8 @@ taken_of h = take h.taken h.tickets
 abbrev pub history_of : Endpoint → WriterCalls → WriterHistory
 history_of h c = record { taken = taken_of h; calls = c.accepted }
 
--- the tickets of an OUT endpoint tell of its writer's accepted calls, those that were taken are complete, and failed as the calls answered, and transfers are
--- of whole packets
+-- the tickets of an OUT endpoint tell of its writer's accepted calls, those that were taken are complete, and failed as the calls
+-- answered, and transfers are of whole packets
 pub record TellsAt (past : List Event) (x : WriterAt) (c : WriterCalls) : Type 0 where
   pub output : x.endpoint.address < 128
   pub whole : (more : ℕ) × ((more + 1) * x.endpoint.maximum ≡ x.writer.bare.size)
@@ -63,11 +79,9 @@ pub record TellsAt (past : List Event) (x : WriterAt) (c : WriterCalls) : Type 0
   pub complete : All (IsComplete past) (taken_of x.endpoint)
   pub failed : failures_at past (taken_of x.endpoint) ≡ c.failures
 
--- so do those of each writer that alone used its endpoint; and how many names there are
-pub record AllTell (state : State) : Type 0 where
-  pub readers : length state.readers ≡ 64
-  pub writers : length state.writers ≡ 64
-  pub each : (w : ℕ) (x : WriterAt) (c : WriterCalls) → writer_at state w ≡ Some x → x.writer.calls ≡ Some c → TellsAt state.host.kernel.past x c
+-- so do those of a writer that alone used its endpoint
+abbrev IsTelling : List Event → WriterAt → Type 0
+IsTelling past x = (c : WriterCalls) → x.writer.calls ≡ Some c → TellsAt past x c
 
 -- which says what was written
 is-written : (past : List Event) (x : WriterAt) (c : WriterCalls) → TellsAt past x c → IsWritten past x c
@@ -80,13 +94,10 @@ is-written past x c f =
       failures = f.failed;
     }
 
-pub all-written : (state : State) → AllTell state → WritersTell state
-all-written state f = λ w x c at is. is-written state.host.kernel.past x c (f.each w x c at is)
-
 -- both parts of what is open under a writer's name
-pub record Parts (state : State) (w : ℕ) (x : WriterAt) : Type 0 where
-  pub writer : named state.writers w ≡ Some x.writer
-  pub endpoint : named state.endpoints (writer_place w) ≡ Some x.endpoint
+record Parts (state : State) (w : ℕ) (x : WriterAt) : Type 0 where
+  writer : named state.writers w ≡ Some x.writer
+  endpoint : named state.endpoints (writer_place w) ≡ Some x.endpoint
 
 abbrev at_of : Writer → Endpoint → WriterAt
 at_of y h = record { writer = y; endpoint = h }
@@ -96,14 +107,18 @@ both-parts None p x is = absurd (none-some x is)
 both-parts (Some y) None x is = absurd (none-some x is)
 both-parts (Some y) (Some h) x is = let e = same_Some (at_of y h) x is in (ap (λ (z : WriterAt). Some z.writer) e, ap (λ (z : WriterAt). Some z.endpoint) e)
 
-pub parts-of : (state : State) (w : ℕ) (x : WriterAt) → writer_at state w ≡ Some x → Parts state w x
+parts-of : (state : State) (w : ℕ) (x : WriterAt) → writer_at state w ≡ Some x → Parts state w x
 parts-of state w x is = let b = both-parts (named state.writers w) (named state.endpoints (writer_place w)) x is in record { writer = b.0; endpoint = b.1 }
 
-open-at : (state : State) (w : ℕ) (y : Writer) (h : Endpoint) → named state.writers w ≡ Some y → named state.endpoints (writer_place w) ≡ Some h → writer_at state w ≡ Some (at_of y h)
-open-at state w y h writer endpoint = rw (writer, endpoint) refl
+-- and so it is of each
+abbrev Here : List Event → Writer → Endpoint → Type 0
+Here past y h = IsTelling past (at_of y h)
 
-same-both : (x : WriterAt) (y : Writer) (h : Endpoint) → x.writer ≡ y → x.endpoint ≡ h → at_of y h ≡ x
-same-both x y h writer endpoint = ap (λ (z : Writer). at_of z h) (sym writer) ∙ ap (at_of x.writer) (sym endpoint)
+abbrev AllTell : State → Type 0
+AllTell state = AllOpen of_writers Writer (Here state.host.kernel.past) state.writers state.endpoints
+
+each-writer : (state : State) (w : ℕ) (x : WriterAt) → AllTell state → writer_at state w ≡ Some x → IsTelling state.host.kernel.past x
+each-writer state w x f at = let parts = parts-of state w x at in f.each w x.writer x.endpoint parts.writer parts.endpoint
 
 -- whatever comes
 pub at-later : (old new : List Event) (x : WriterAt) (c : WriterCalls) → Extends old new → TellsAt old x c → TellsAt new x c
@@ -116,59 +131,31 @@ at-later old new x c extends f =
       failed = failures-later old new (taken_of x.endpoint) extends f.complete ∙ f.failed;
     }
 
--- lines that leave the writers
-pub leaves-tell : (old new : State) → Extends old.host.kernel.past new.host.kernel.past → LeavesWriters old new → AllTell old → AllTell new
+stays : (old new : List Event) → Extends old new → (y : Writer) (h : Endpoint) → Here old y h → Here new y h
+stays old new extends y h f c is = at-later old new (at_of y h) c extends (f c is)
+
+-- calls that leave the writers
+leaves-tell : (old new : State) → Extends old.host.kernel.past new.host.kernel.past → LeavesWriters old new → AllTell old → AllTell new
 leaves-tell old new extends leaves f =
-    let names : length new.writers ≡ 64 = ap (λ (ws : List (Option Writer)). length ws) leaves.writers ∙ f.writers in
-    record {
-      readers = leaves.readers ∙ f.readers;
-      writers = names;
-      each = λ w x c at is.
-          let parts = parts-of new w x at in
-          let small = small-name new.writers w x.writer parts.writer names in
-          let was = open-at old w x.writer x.endpoint (sym (ap (λ (ws : List (Option Writer)). named ws w) leaves.writers) ∙ parts.writer) (leaves.endpoints w x.endpoint small parts.endpoint) in
-          at-later old.host.kernel.past new.host.kernel.past x c extends (f.each w x c was is);
-    }
-
--- lines that change one writer
-record Changes (old new : State) (w : ℕ) : Type 0 where
-  readers : new.readers ≡ old.readers
-  names : length new.writers ≡ length old.writers
-  writers : (v : ℕ) → v ≢ w → named new.writers v ≡ named old.writers v
-  endpoints : (v : ℕ) → v < 64 → v ≢ w → named new.endpoints (writer_place v) ≡ named old.endpoints (writer_place v)
-  here : (x : WriterAt) (c : WriterCalls) → Parts new w x → x.writer.calls ≡ Some c → TellsAt new.host.kernel.past x c
-
-changes-tell : (old new : State) (w : ℕ) → Extends old.host.kernel.past new.host.kernel.past → Changes old new w → AllTell old → AllTell new
-changes-tell old new w extends change f =
-    let names : length new.writers ≡ 64 = change.names ∙ f.writers in
-    record {
-      readers = ap (λ rs. length rs) change.readers ∙ f.readers;
-      writers = names;
-      each = λ v x c at is.
-          let parts = parts-of new v x at in
-          elim (cases_eq v w) [
-            | inl same ↦ change.here x c (subst (λ (n : ℕ). Parts new n x) same parts) is
-            | inr apart ↦
-                let small = small-name new.writers v x.writer parts.writer names in
-                let was = open-at old v x.writer x.endpoint (sym (change.writers v apart) ∙ parts.writer) (sym (change.endpoints v small apart) ∙ parts.endpoint) in
-                at-later old.host.kernel.past new.host.kernel.past x c extends (f.each v x c was is)
-          ];
-    }
+    let was = old.host.kernel.past in
+    let now = new.host.kernel.past in
+    subst (λ (ys : List (Option Writer)). AllOpen of_writers Writer (Here now) ys new.endpoints) (sym leaves.writers)
+    (left-keeps of_writers Writer (Here was) (Here now) (stays was now extends) old.writers old.endpoints f new.endpoints leaves.endpoints)
 
 -- the same tickets, and the same calls
 tells-as : (past : List Event) (w : WriterState) (h : WriterHistory) (taken : List ℕ) (calls : List Call) → taken ≡ h.taken → calls ≡ h.calls → Tells past w h → Tells past w (record { taken = taken; calls = calls })
 tells-as past w h taken calls same alike tells = rw (same, alike) tells
 
--- `writer`
+-- a writer is made
 nothing-is : (ts : List ℕ) (c : WriterCalls) → nothing_called ts ≡ Some c → (ts ≡ []) × (c ≡ no_calls)
 nothing-is [] c is = (refl, sym (same_Some no_calls c is))
 nothing-is (t ∷ ts) c is = absurd (none-some c is)
 
-output-of : (h : Endpoint) → has_direction Out (kept h) ≡ true → h.address < 128
+output-of : (h : Endpoint) → has_direction Out (endpoint_state h) ≡ true → h.address < 128
 output-of h is = elim (cases_Bool (nat_le 128 h.address)) [ inl below ↦ absurd (let e : same_direction In Out ≡ true = rw below at is in cc) | inr other ↦ leb-false 128 h.address other ]
 
 abbrev new_writer : Endpoint → ℕ → Writer
-new_writer h size = record { bare = bare_writer (fresh_writer (kept h) size); calls = nothing_called h.tickets }
+new_writer h size = record { bare = bare_writer (fresh_writer (endpoint_state h) size); calls = nothing_called h.tickets }
 
 -- a transfer size is rounded up to whole packets, at least one
 whole-rounded : (maximum size : ℕ) → (more : ℕ) × ((more + 1) * maximum ≡ rounded maximum size)
@@ -184,134 +171,65 @@ fresh-at past h size c output is =
       whole = whole-rounded h.maximum size;
       tells =
           tells-as past (state_of_writer x) nothing_written (taken_of h) c.accepted nothing (ap (λ (d : WriterCalls). d.accepted) none.1)
-          (fresh_tells past (kept h) size (ap (drop h.taken) none.0 ∙ drop-nothing h.taken));
+          (fresh_tells past (endpoint_state h) size (ap (drop h.taken) none.0 ∙ drop-nothing h.taken));
       complete = subst (λ (ts : List ℕ). All (IsComplete past) ts) (sym nothing) (All-nil (IsComplete past));
       failed = ap (failures_at past) nothing ∙ sym (ap (λ (d : WriterCalls). d.failures) none.1);
     }
 
-with_writer-changes : (state : State) (w p size : ℕ) (h : Endpoint) → IsApart p → w < 64 → is_free state.writers w ≡ true → is_free state.endpoints (writer_place w) ≡ true → h.address < 128 → Changes state (with_writer state w p size h) w
-with_writer-changes state w p size h apart small free place output =
-    let y = new_writer h size in
-    record {
-      readers = refl;
-      names = length-set_name state.writers w y;
-      writers = λ v other. named-set_other state.writers w v y other;
-      endpoints = λ v below other.
-          named-set_other (freed state.endpoints p) (writer_place w) (writer_place v) (as_streamed h) (writers-apart v w other)
-          ∙ named-freed_other state.endpoints p (writer_place v) (apart (writer_place v) (writer-streamed v below));
-      here = λ x c parts is.
-          let writer : x.writer ≡ y = same_Some x.writer y (sym parts.writer ∙ named-set state.writers w y free) in
-          let free' = free-freed state.endpoints p (writer_place w) (apart (writer_place w) (writer-streamed w small)) place in
-          let endpoint : x.endpoint ≡ as_streamed h = same_Some x.endpoint (as_streamed h) (sym parts.endpoint ∙ named-set (freed state.endpoints p) (writer_place w) (as_streamed h) free') in
-          subst (λ (z : WriterAt). TellsAt state.host.kernel.past z c) (same-both x y (as_streamed h) writer endpoint)
-          (fresh-at state.host.kernel.past h size c output (sym (ap (λ (z : Writer). z.calls) writer) ∙ is));
-    }
+-- a call that may be barred
+bar-tell : (state : State) (bars : Bool) (call : Answer) → AllTell state → AllTell call.state → AllTell (if bars then condition_answer state else call).state
+bar-tell state bars call f tell = cond_both bars (condition_answer state) call (λ (a : Answer). AllTell a.state) (λ yes_. f) (λ no_. tell)
 
-pub writer-tell : (state : State) (w p size : ℕ) → IsApart p → AllTell state → AllTell (writer_answer state w p size).state
+free-tell : (state : State) (free : Bool) (call : Answer) → AllTell state → (free ≡ true → AllTell call.state) → AllTell (if free then call else condition_answer state).state
+free-tell state free call f tell = cond_both free call (condition_answer state) (λ (a : Answer). AllTell a.state) tell (λ no_. f)
+
+-- one on what is open under a name
+open-tell : {X : Type 0} (state : State) (o : Option X) (call : X → Answer) → AllTell state → ((x : X) → o ≡ Some x → AllTell (call x).state) → AllTell (if_open o call (condition_answer state)).state
+open-tell state None call f tell = f
+open-tell state (Some x) call f tell = tell x refl
+
+writer-tell : (state : State) (w p size : ℕ) → IsApart p → AllTell state → AllTell (writer_answer state w p size).state
 unfolding writer_answer
-writer-tell state w p size apart f = by (named state.endpoints p)
-  where
-    by : (o : Option Endpoint) → AllTell (if_open o (writer_on state w p size) (barred state)).state
-    by None = f
-    by (Some h) =
-        let done = ok_answer (with_writer state w p size h) in
-        cond_both (is_free_writer state w) (if has_direction Out (kept h) then done else barred state) (barred state) (λ (a : Answer). AllTell a.state)
-        (λ free. cond_both (has_direction Out (kept h)) done (barred state) (λ (a : Answer). AllTell a.state)
-        (λ output.
-        let parts = and_parts (is_free state.writers w) (is_free state.endpoints (writer_place w)) free in
-        changes-tell state (with_writer state w p size h) w (extends-same state.host.kernel.past) (with_writer-changes state w p size h apart (free-small state.writers w parts.0 f.writers) parts.0 parts.1 (output-of h output)) f)
-        (λ no_. f))
-        (λ no_. f)
+writer-tell state w p size apart f =
+    let past = state.host.kernel.past in
+    open-tell state (named state.endpoints p) (writer_on state w p size) f (λ h at.
+    let done = ok_answer (with_writer state w p size h) in
+    free-tell state (is_free_writer state w) (if has_direction Out (endpoint_state h) then done else condition_answer state) f (λ free.
+    free-tell state (has_direction Out (endpoint_state h)) done f (λ output.
+    let parts = and_parts (is_free state.writers w) (is_free state.endpoints (writer_place w)) free in
+    made-keeps of_writers Writer (Here past) (Here past) (λ y g is. is) state.writers state.endpoints f w p (new_writer h size) (as_streamed h) apart parts.0 parts.1 (λ c is. fresh-at past h size c (output-of h output) is))))
 
--- `inner`
-without_writer-changes : (state : State) (p w : ℕ) (x : WriterAt) → IsApart p → Changes state (without_writer state p w x) w
-without_writer-changes state p w x apart =
-    record {
-      readers = refl;
-      names = length-freed state.writers w;
-      writers = λ v other. named-freed_other state.writers w v other;
-      endpoints = λ v below other.
-          named-set_other (freed state.endpoints (writer_place w)) p (writer_place v) x.endpoint (apart (writer_place v) (writer-streamed v below))
-          ∙ named-freed_other state.endpoints (writer_place w) (writer_place v) (writers-apart v w other);
-      here = λ y c parts is. absurd (none-some y.writer (sym (named-freed state.writers w) ∙ parts.writer));
-    }
-
-pub inner-tell : (state : State) (p w : ℕ) → IsApart p → AllTell state → AllTell (writer_inner_answer state p w).state
+-- its endpoint comes back
+inner-tell : (state : State) (p w : ℕ) → IsApart p → AllTell state → AllTell (writer_inner_answer state p w).state
 unfolding writer_inner_answer
-inner-tell state p w apart f = by (writer_at state w)
-  where
-    by : (o : Option WriterAt) → AllTell (if_open o (λ x. if is_free state.endpoints p then ok_answer (without_writer state p w x) else barred state) (barred state)).state
-    by None = f
-    by (Some x) =
-        cond_both (is_free state.endpoints p) (ok_answer (without_writer state p w x)) (barred state) (λ (a : Answer). AllTell a.state)
-        (λ yes_. changes-tell state (without_writer state p w x) w (extends-same state.host.kernel.past) (without_writer-changes state p w x apart) f)
-        (λ no_. f)
+inner-tell state p w apart f =
+    let past = state.host.kernel.past in
+    open-tell state (writer_at state w) (λ x. if is_free state.endpoints p then ok_answer (without_writer state p w x) else condition_answer state) f (λ x at.
+    free-tell state (is_free state.endpoints p) (ok_answer (without_writer state p w x)) f (λ free.
+    back-keeps of_writers Writer (Here past) (Here past) (λ y g is. is) state.writers state.endpoints f w p x.endpoint apart))
 
--- `num` and `timeout`: a change of what is set, which leaves calls, transfer size and buffer
-record Sets (change : Writer → Writer) : Type 0 where
-  calls : (y : Writer) → (change y).calls ≡ y.calls
-  keeps : (past : List Event) (y : Writer) (h : Endpoint) (c : WriterCalls) → TellsAt past (at_of y h) c → TellsAt past (at_of (change y) h) c
+-- it is closed
+closed_as-tell : (state : State) (w : ℕ) (o : Option Endpoint) → Extends state.host.kernel.past (if_open o (λ h. ok_answer (closed_writer state w h)) (condition_answer state)).state.host.kernel.past → AllTell state
+    → AllTell (if_open o (λ h. ok_answer (closed_writer state w h)) (condition_answer state)).state
+closed_as-tell state w None extends f = f
+closed_as-tell state w (Some h) extends f =
+    let old = state.host.kernel.past in
+    let new = (closed_writer state w h).host.kernel.past in
+    closed-keeps of_writers Writer (Here old) (Here new) (stays old new extends) state.writers state.endpoints f w
 
-sets-transfers : (n : ℕ) → Sets (with_transfers n)
-sets-transfers n = record { calls = λ y. refl; keeps = λ past y h c f. record { output = f.output; whole = f.whole; tells = f.tells; complete = f.complete; failed = f.failed } }
-
-sets-timeout : (timeout : ℕ) → Sets (with_write_timeout timeout)
-sets-timeout timeout = record { calls = λ y. refl; keeps = λ past y h c f. record { output = f.output; whole = f.whole; tells = f.tells; complete = f.complete; failed = f.failed } }
-
-set-changes : (state : State) (w : ℕ) (change : Writer → Writer) (y : Writer) → Sets change → named state.writers w ≡ Some y → AllTell state → Changes state (record state { writers = change_named change state.writers w }) w
-set-changes state w change y sets at f =
-    record {
-      readers = refl;
-      names = length-changed change state.writers w;
-      writers = λ v other. named-change_other change state.writers w v other;
-      endpoints = λ v below other. refl;
-      here = λ x c parts is.
-          let writer : x.writer ≡ change y = same_Some x.writer (change y) (sym parts.writer ∙ named-change_same change state.writers w ∙ ap (option_map change) at) in
-          let was = f.each w (at_of y x.endpoint) c (open-at state w y x.endpoint at parts.endpoint) (sym (ap (λ (z : Writer). z.calls) writer ∙ sets.calls y) ∙ is) in
-          subst (λ (z : WriterAt). TellsAt state.host.kernel.past z c) (same-both x (change y) x.endpoint writer refl) (sets.keeps state.host.kernel.past y x.endpoint c was);
-    }
-
-set-tell : (state : State) (w : ℕ) (change : Writer → Writer) (y : Writer) → Sets change → named state.writers w ≡ Some y → AllTell state → AllTell (record state { writers = change_named change state.writers w })
-set-tell state w change y sets at f =
-    changes-tell state (record state { writers = change_named change state.writers w }) w (extends-same state.host.kernel.past) (set-changes state w change y sets at f) f
-
-pub num-tell : (state : State) (w n : ℕ) → AllTell state → AllTell (writer_num_answer state w n).state
-unfolding writer_num_answer
-num-tell state w n f = by (named state.writers w) refl
-  where
-    by : (o : Option Writer) → named state.writers w ≡ o → AllTell (if_open o (λ x. transfers_on state w n) (barred state)).state
-    by None at = f
-    by (Some y) at =
-        cond_both (n == 0 || nat_lt 64 n) (barred state) (ok_answer (record state { writers = change_named (with_transfers n) state.writers w })) (λ (a : Answer). AllTell a.state)
-        (λ yes_. f)
-        (λ no_. set-tell state w (with_transfers n) y (sets-transfers n) at f)
-
-pub timeout-tell : (state : State) (w timeout : ℕ) → AllTell state → AllTell (write_timeout_answer state w timeout).state
-unfolding write_timeout_answer
-timeout-tell state w timeout f = by (named state.writers w) refl
-  where
-    by : (o : Option Writer) → named state.writers w ≡ o → AllTell (if_open o (λ x. write_timeout_on state w timeout) (barred state)).state
-    by None at = f
-    by (Some y) at = set-tell state w (with_write_timeout timeout) y (sets-timeout timeout) at f
-
--- `close`
-closed_writer-changes : (state : State) (w : ℕ) (h : Endpoint) → Changes state (closed_writer state w h) w
-closed_writer-changes state w h =
-    record {
-      readers = refl;
-      names = length-freed state.writers w;
-      writers = λ v other. named-freed_other state.writers w v other;
-      endpoints = λ v below other. named-freed_other state.endpoints (writer_place w) (writer_place v) (writers-apart v w other);
-      here = λ x c parts is. absurd (none-some x.writer (sym (named-freed state.writers w) ∙ parts.writer));
-    }
-
-pub close-tell : (state : State) (w : ℕ) → Extends state.host.kernel.past (close_writer_answer state w).state.host.kernel.past → AllTell state → AllTell (close_writer_answer state w).state
+close-tell : (state : State) (w : ℕ) → Extends state.host.kernel.past (close_writer_answer state w).state.host.kernel.past → AllTell state → AllTell (close_writer_answer state w).state
 unfolding close_writer_answer
-close-tell state w extends f = by (named state.endpoints (writer_place w)) extends
-  where
-    by : (o : Option Endpoint) → Extends state.host.kernel.past (if_open o (λ h. ok_answer (closed_writer state w h)) (barred state)).state.host.kernel.past → AllTell (if_open o (λ h. ok_answer (closed_writer state w h)) (barred state)).state
-    by None extends = f
-    by (Some h) extends = changes-tell state (closed_writer state w h) w extends (closed_writer-changes state w h) f
+close-tell state w extends f = closed_as-tell state w (named state.endpoints (writer_place w)) extends f
+
+-- what is set is neither calls nor transfer size nor buffer
+set-tells : (past : List Event) (n timeout : ℕ) (x : WriterAt) → IsTelling past x → IsTelling past (at_of (record x.writer { bare = record x.writer.bare { n = n; timeout = timeout } }) x.endpoint)
+set-tells past n timeout x f c is = let was = f c is in record { output = was.output; whole = was.whole; tells = was.tells; complete = was.complete; failed = was.failed }
+
+own-tell : (state : State) (w : ℕ) (change : Writer → Writer) (x : WriterAt) → writer_at state w ≡ Some x → Here state.host.kernel.past (change x.writer) x.endpoint → AllTell state → AllTell (record state { writers = change_named change state.writers w })
+own-tell state w change x at here f =
+    let past = state.host.kernel.past in
+    let parts = parts-of state w x at in
+    own-keeps of_writers Writer (Here past) (Here past) (λ y g is. is) state.writers state.endpoints f w change x.writer x.endpoint parts.writer parts.endpoint here
 
 -- behind a call of a writer
 abbrev called_at : State → WriterAt → Option WriterCalls → Writing HostState → WriterAt
@@ -326,7 +244,7 @@ called-tells state x v before accepted failures now goes t was =
     let numbers = numbers_from (tickets_of state) (tickets_of (with_host state v.bus) - tickets_of state) in
     let parts = called-parts x.endpoint.taken x.endpoint.tickets numbers t.taken back (sym t.tickets) in
     let x' = called_at state x now v in
-    let endpoint : v.writer.endpoint ≡ kept x'.endpoint = goes.settings.endpoint ∙ ap (λ (l : List ℕ). record (kept x.endpoint) { pending = l }) (sym parts.1) in
+    let endpoint : v.writer.endpoint ≡ endpoint_state x'.endpoint = goes.settings.endpoint ∙ ap (λ (l : List ℕ). record (endpoint_state x.endpoint) { pending = l }) (sym parts.1) in
     let writer : v.writer ≡ state_of_writer x' = ap (λ (e : EndpointState). writer_with e (bare_writer v.writer)) endpoint in
     let after = with_calls accepted failures before in
     record {
@@ -345,22 +263,6 @@ called-tells state x v before accepted failures now goes t was =
           ∙ ap (λ (l : List TransferError). before.failures ++ l) t.failed;
     }
 
-called-changes : (state : State) (w : ℕ) (x : WriterAt) (now : Option WriterCalls) (v : Writing HostState) → Parts state w x → ((c : WriterCalls) → now ≡ Some c → TellsAt v.bus.kernel.past (called_at state x now v) c) → Changes state (writer_called state w now v) w
-called-changes state w x now v was here =
-    let change : Writer → Writer = λ y. record { bare = bare_writer v.writer; calls = now } in
-    let change_ : Endpoint → Endpoint = called_endpoint (tickets_of state) (tickets_of (with_host state v.bus)) v.writer.endpoint.pending in
-    record {
-      readers = refl;
-      names = length-changed change state.writers w;
-      writers = λ u other. named-change_other change state.writers w u other;
-      endpoints = λ u below other. named-change_other change_ state.endpoints (writer_place w) (writer_place u) (writers-apart u w other);
-      here = λ y c parts is.
-          let writer : y.writer ≡ change x.writer = same_Some y.writer (change x.writer) (sym parts.writer ∙ named-change_same change state.writers w ∙ ap (option_map change) was.writer) in
-          let endpoint : y.endpoint ≡ change_ x.endpoint = same_Some y.endpoint (change_ x.endpoint) (sym parts.endpoint ∙ named-change_same change_ state.endpoints (writer_place w) ∙ ap (option_map change_) was.endpoint) in
-          subst (λ (z : WriterAt). TellsAt v.bus.kernel.past z c) (same-both y (change x.writer) (change_ x.endpoint) writer endpoint)
-          (here c (sym (ap (λ (z : Writer). z.calls) writer) ∙ is));
-    }
-
 -- the calls before one
 record Before (accepted : List Call) (failures : List TransferError) (o : Option WriterCalls) (c : WriterCalls) : Type 0 where
   before : WriterCalls
@@ -371,119 +273,116 @@ before-of : (accepted : List Call) (failures : List TransferError) (o : Option W
 before-of accepted failures None c is = absurd (none-some c is)
 before-of accepted failures (Some before) c is = record { before = before; was = refl; is = same_Some (with_calls accepted failures before) c is }
 
-call-tell : (state : State) (w : ℕ) (x : WriterAt) (accepted : List Call) (failures : List TransferError) (v : Writing HostState) → writer_at state w ≡ Some x → WriterGoesOn (writing_at state x) v → (x.endpoint.address < 128 → CallTells (writing_at state x) v accepted failures)
-    → AllTell state → AllTell (writer_called state w (option_map (with_calls accepted failures) x.writer.calls) v)
-call-tell state w x accepted failures v at goes tells f =
+left-tell : (state : State) (w : ℕ) (x : WriterAt) (accepted : List Call) (failures : List TransferError) (v : Writing HostState) → writer_at state w ≡ Some x → WriterGoesOn (writing_at state x) v → (x.endpoint.address < 128 → CallTells (writing_at state x) v accepted failures)
+    → AllTell state → AllTell (left_by_writer state w (option_map (with_calls accepted failures) x.writer.calls) v)
+left-tell state w x accepted failures v at goes tells f =
     let now = option_map (with_calls accepted failures) x.writer.calls in
-    changes-tell state (writer_called state w now v) w goes.past
-    (called-changes state w x now v (parts-of state w x at) (λ c is.
+    let old = state.host.kernel.past in
+    let new = v.bus.kernel.past in
+    let change : Writer → Writer = λ y. record { bare = bare_writer v.writer; calls = now } in
+    let change_ : Endpoint → Endpoint = called_endpoint (tickets_of state) (tickets_of (with_host state v.bus)) v.writer.endpoint.pending in
+    let parts = parts-of state w x at in
+    called-keeps of_writers Writer (Here old) (Here new) (stays old new goes.past) state.writers state.endpoints f w change change_ x.writer x.endpoint parts.writer parts.endpoint (λ c is.
     let b = before-of accepted failures x.writer.calls c is in
-    let was = f.each w x b.before at b.was in
-    subst (λ (d : WriterCalls). TellsAt v.bus.kernel.past (called_at state x now v) d) b.is (called-tells state x v b.before accepted failures now goes (tells was.output) was))) f
+    let was = each-writer state w x f at b.before b.was in
+    subst (λ (d : WriterCalls). TellsAt new (called_at state x now v) d) b.is (called-tells state x v b.before accepted failures now goes (tells was.output) was))
 
--- steps of a line
-lent-tell : (state : State) (steps : List KernelStep) → AllTell state → AllTell (lent state steps)
-lent-tell state steps f = record { readers = f.readers; writers = f.writers; each = f.each }
-
-rested-tell : (state : State) → AllTell state → AllTell (rested state)
-rested-tell state f =
-    record {
-      readers = f.readers;
-      writers = f.writers;
-      each = λ w x c at is. at-later state.host.kernel.past (rested state).host.kernel.past x c (on-rest state.host).past (f.each w x c at is);
-    }
-
-stepped-tell : (state : State) (steps : List KernelStep) → AllTell state → AllTell (stepped_all state steps)
-unfolding stepped_all
-stepped-tell state steps f = rested-tell (lent state steps) (lent-tell state steps f)
+-- with steps, of which those that are left are applied behind it
+applied-tell : (a : Answer) → AllTell a.state → AllTell (then_applied a).state
+applied-tell a f =
+    let old = a.state.host.kernel.past in
+    let new = (steps_applied a.state).host.kernel.past in
+    left-keeps of_writers Writer (Here old) (Here new) (stays old new (on-rest a.state.host).past) a.state.writers a.state.endpoints f a.state.endpoints (λ w h small at. at)
 
 -- what a call is to its writer where it is made
-record ToldCall {A : Type 0} (state : State) (x : WriterAt) (calls : List Call) (a : Answered A WriteFault (Writing HostState)) : Type 0 where
-  goes : WriterGoesOn (writing_at state x) a.left
-  tells : x.endpoint.address < 128 → CallTells (writing_at state x) a.left calls (failures_of a.answer)
+record ToldCall (state : State) (x : WriterAt) (accepted : List Call) (failures : List TransferError) (v : Writing HostState) : Type 0 where
+  goes : WriterGoesOn (writing_at state x) v
+  tells : x.endpoint.address < 128 → CallTells (writing_at state x) v accepted failures
 
-called_as-tell : {A : Type 0} (state : State) (w : ℕ) (x : WriterAt) (need : ℕ) (calls : List Call) (line : Result A WriteFault → List ℕ) (a : Answered A WriteFault (Writing HostState)) → writer_at state w ≡ Some x → ToldCall state x calls a → AllTell state → AllTell (called_as state w x need calls line a).state
-called_as-tell state w x need calls line a at t f =
-    let now = option_map (with_calls calls (failures_of a.answer)) x.writer.calls in
-    cond_both (bars_call (writing_at state x) need) (barred state) (told (writer_called state w now a.left) (line a.answer)) (λ (b : Answer). AllTell b.state)
-    (λ yes_. f)
-    (λ no_. call-tell state w x calls (failures_of a.answer) a.left at t.goes t.tells f)
+told_by : (state : State) (x : WriterAt) (call : StreamCall) → ToldCall state x (counts_as call (writing_at state x)) (failures_by call (writing_at state x)) (left_by call (writing_at state x))
+told_by state x call = record { goes = writer_calls-go_on call (writing_at state x); tells = calls-tell call (writing_at state x) }
 
-stepping-tell : (state : State) (w : ℕ) (steps : List KernelStep) (call : WriterAt → Answer) → AllTell state → ((x : WriterAt) → writer_at state w ≡ Some x → AllTell (call x).state) → AllTell (if_open (writer_at state w) (λ x. then_rested (call x)) (barred (stepped_all state steps))).state
-stepping-tell state w steps call f tell = by (writer_at state w) refl
-  where
-    by : (o : Option WriterAt) → writer_at state w ≡ o → AllTell (if_open o (λ x. then_rested (call x)) (barred (stepped_all state steps))).state
-    by None at = stepped-tell state steps f
-    by (Some x) at = rested-tell (call x).state (tell x at)
+called_as-tell : {A : Type 0} (state : State) (w : ℕ) (x : WriterAt) (need : ℕ) (accepted : List Call) (line : Result A WriteFault → List ℕ) (a : Answered A WriteFault (Writing HostState)) → writer_at state w ≡ Some x → ToldCall state x accepted (failures_of a.answer) a.left
+    → AllTell state → AllTell (called_as state w x need accepted line a).state
+called_as-tell state w x need accepted line a at t f =
+    let now = option_map (with_calls accepted (failures_of a.answer)) x.writer.calls in
+    bar-tell state (bars_call (writing_at state x) need) (answer_with (left_by_writer state w now a.left) (line a.answer)) f (left-tell state w x accepted (failures_of a.answer) a.left at t.goes t.tells f)
 
-open-tell : (state : State) (w : ℕ) (call : WriterAt → Answer) → AllTell state → ((x : WriterAt) → writer_at state w ≡ Some x → AllTell (call x).state) → AllTell (if_open (writer_at state w) call (barred state)).state
-open-tell state w call f tell = by (writer_at state w) refl
-  where
-    by : (o : Option WriterAt) → writer_at state w ≡ o → AllTell (if_open o call (barred state)).state
-    by None at = f
-    by (Some x) at = tell x at
+-- each call on a writer
+write-tell : (state : State) (w : ℕ) (src : List ℕ) (x : WriterAt) (line : Result ℕ WriteFault → List ℕ) (timeout : ℕ) → writer_at state w ≡ Some x → AllTell state → AllTell (write_on state w src x line timeout).state
+write-tell state w src x line timeout at f =
+    let came = write_came host_calls timeout src (writing_at state x) in
+    called_as-tell state w x (write_need (state_of_writer x)) (written_calls src came.answer) line came at (told_by state x (Write timeout src)) f
 
--- the calls
-pub write-tell : (state : State) (w : ℕ) (src : List ℕ) (steps : List KernelStep) → AllTell state → AllTell (write_answer state w src steps).state
-unfolding write_answer
-write-tell state w src steps f =
-    let now = lent state steps in
-    stepping-tell state w steps (write_on now w src) f (λ x at.
+flush-tell : (state : State) (w : ℕ) (x : WriterAt) (line : Result Unit WriteFault → List ℕ) (a : Answered Unit WriteFault (Writing HostState)) → writer_at state w ≡ Some x → ToldCall state x (Flush ∷ []) (failures_of a.answer) a.left → AllTell state → AllTell (flush_as state w x line a).state
+flush-tell state w x line a at t f = called_as-tell state w x (flush_need (state_of_writer x)) (Flush ∷ []) line a at t f
+
+finish-tell : (state : State) (w : ℕ) (x : WriterAt) (line : Result Unit WriteFault → List ℕ) (a : Answered Unit WriteFault (Writing HostState)) → writer_at state w ≡ Some x → ToldCall state x (Finish ∷ []) (failures_of a.answer) a.left → AllTell state → AllTell (finish_as state w x line a).state
+finish-tell state w x line a at t f = called_as-tell state w x (finish_need (state_of_writer x)) (Finish ∷ []) line a at t f
+
+called-tell : (call : WriterCall) (state : State) (w : ℕ) (x : WriterAt) → writer_at state w ≡ Some x → AllTell state → AllTell (writer_called call state w x).state
+called-tell (writers.Write bytes) state w x at f = write-tell state w bytes x written_line x.writer.bare.timeout at f
+called-tell (writers.PollWrite bytes) state w x at f = write-tell state w bytes x (poll_line written_line) 0 at f
+called-tell writers.Submit state w x at f = flush-tell state w x flushed_line (submitted_to (submit_came host_calls (writing_at state x))) at (told_by state x Submit) f
+called-tell writers.SubmitEnd state w x at f = finish-tell state w x flushed_line (submitted_to (submit_end_came host_calls (writing_at state x))) at (told_by state x SubmitEnd) f
+called-tell writers.Flush state w x at f =
     let timeout = x.writer.bare.timeout in
-    let v = writing_at now x in
-    let a = write_came host_calls timeout src v in
-    called_as-tell now w x (write_need (state_of_writer x)) (written_calls src a.answer) written_line a at (record { goes = write_goes_on timeout src v; tells = write-tells timeout src v }) (lent-tell state steps f))
-
-pub poll_write-tell : (state : State) (w : ℕ) (src : List ℕ) → AllTell state → AllTell (poll_write_answer state w src).state
-unfolding poll_write_answer
-poll_write-tell state w src f =
-    open-tell state w (poll_write_on state w src) f (λ x at.
-    let v = writing_at state x in
-    let a = write_came host_calls 0 src v in
-    called_as-tell state w x (write_need (state_of_writer x)) (written_calls src a.answer) (poll_line written_line) a at (record { goes = write_goes_on 0 src v; tells = write-tells 0 src v }) f)
-
-pub submit-tell : (state : State) (w : ℕ) → AllTell state → AllTell (submit_buffer_answer state w).state
-unfolding submit_buffer_answer
-submit-tell state w f =
-    open-tell state w (submit_buffer_on state w) f (λ x at.
-    let v = writing_at state x in
-    called_as-tell state w x (flush_need (state_of_writer x)) (Flush ∷ []) flushed_line (submitted_to (submit_came host_calls v)) at (record { goes = submit_goes_on v; tells = submit-tells v }) f)
-
-pub submit_end-tell : (state : State) (w : ℕ) → AllTell state → AllTell (submit_end_answer state w).state
-unfolding submit_end_answer
-submit_end-tell state w f =
-    open-tell state w (submit_end_on state w) f (λ x at.
-    let v = writing_at state x in
-    called_as-tell state w x (finish_need (state_of_writer x)) (Finish ∷ []) flushed_line (submitted_to (submit_end_came host_calls v)) at (record { goes = submit_end_goes_on v; tells = submit_end-tells v }) f)
-
-pub flush-tell : (state : State) (w : ℕ) (steps : List KernelStep) → AllTell state → AllTell (flush_answer state w steps).state
-unfolding flush_answer
-flush-tell state w steps f =
-    let now = lent state steps in
-    stepping-tell state w steps (flush_on now w) f (λ x at.
+    flush-tell state w x flushed_line (flush_came host_calls timeout (writing_at state x)) at (told_by state x (FlushAll timeout)) f
+called-tell writers.PollFlush state w x at f = flush-tell state w x (poll_line flushed_line) (flush_came host_calls 0 (writing_at state x)) at (told_by state x (FlushAll 0)) f
+called-tell writers.FlushEnd state w x at f =
     let timeout = x.writer.bare.timeout in
-    let v = writing_at now x in
-    called_as-tell now w x (flush_need (state_of_writer x)) (Flush ∷ []) flushed_line (flush_came host_calls timeout v) at (record { goes = flush_goes_on timeout v; tells = flush-tells timeout v }) (lent-tell state steps f))
+    finish-tell state w x flushed_line (flush_end_came host_calls timeout (writing_at state x)) at (told_by state x (FlushEnd timeout)) f
+called-tell writers.PollFlushEnd state w x at f =
+    called_as-tell state w x (poll_finish_need (state_of_writer x)) (begun_calls x.writer.bare.begun) (poll_line flushed_line) (poll_flush_end_came host_calls (writing_at state x)) at (told_by state x PollFlushEnd) f
+called-tell (writers.SetNumTransfers n) state w x at f =
+    bar-tell state (bars_transfers n) (ok_answer (record state { writers = change_named (with_transfers n) state.writers w })) f (own-tell state w (with_transfers n) x at (set-tells state.host.kernel.past n x.writer.bare.timeout x (each-writer state w x f at)) f)
+called-tell (writers.SetWriteTimeout timeout) state w x at f = own-tell state w (with_write_timeout timeout) x at (set-tells state.host.kernel.past x.writer.bare.n timeout x (each-writer state w x f at)) f
 
-pub poll_flush-tell : (state : State) (w : ℕ) → AllTell state → AllTell (poll_flush_answer state w).state
-unfolding poll_flush_answer
-poll_flush-tell state w f =
-    open-tell state w (poll_flush_on state w) f (λ x at.
-    let v = writing_at state x in
-    called_as-tell state w x (flush_need (state_of_writer x)) (Flush ∷ []) (poll_line flushed_line) (flush_came host_calls 0 v) at (record { goes = flush_goes_on 0 v; tells = flush-tells 0 v }) f)
+on_writer-tell : (state : State) (w : ℕ) (call : WriterCall) → AllTell state → AllTell (on_writer state w call).state
+unfolding on_writer
+on_writer-tell state w call f = open-tell state (writer_at state w) (writer_called call state w) f (λ x at. called-tell call state w x at f)
 
-pub flush_end-tell : (state : State) (w : ℕ) (steps : List KernelStep) → AllTell state → AllTell (flush_end_answer state w steps).state
-unfolding flush_end_answer
-flush_end-tell state w steps f =
-    let now = lent state steps in
-    stepping-tell state w steps (flush_end_on now w) f (λ x at.
-    let timeout = x.writer.bare.timeout in
-    let v = writing_at now x in
-    called_as-tell now w x (finish_need (state_of_writer x)) (Finish ∷ []) flushed_line (flush_end_came host_calls timeout v) at (record { goes = flush_end_goes_on timeout v; tells = flush_end-tells timeout v }) (lent-tell state steps f))
+-- each call, where there are 64 names of readers
+call-tell : (state : State) (call : SessionCall) → Extends state.host.kernel.past (call_answer state call).state.host.kernel.past → length state.readers ≡ 64 → AllTell state → AllTell (call_answer state call).state
+unfolding call_answer
+call-tell state (families.Writer w call steps) extends names f = let now = with_steps state steps in applied-tell (on_writer now w call) (on_writer-tell now w call f)
+call-tell state (families.Open (opens.Writer w e size)) extends names f = writer-tell state w (endpoint_place e) size (place-apart e) f
+call-tell state (families.Open (opens.WriterInner e w)) extends names f = inner-tell state (endpoint_place e) w (place-apart e) f
+call-tell state (families.Close (closes.Writer w)) extends names f = close-tell state w extends f
+call-tell state call extends names f = leaves-tell state (call_answer state call).state extends (leaves-writers state call names refl) f
 
-pub poll_flush_end-tell : (state : State) (w : ℕ) → AllTell state → AllTell (poll_flush_end_answer state w).state
-unfolding poll_flush_end_answer
-poll_flush_end-tell state w f =
-    open-tell state w (poll_flush_end_on state w) f (λ x at.
-    let v = writing_at state x in
-    called_as-tell state w x (poll_finish_need (state_of_writer x)) (begun_calls x.writer.bare.begun) (poll_line flushed_line) (poll_flush_end_came host_calls v) at (record { goes = poll_flush_end_goes_on v; tells = poll_flush_end-tells v }) f)
+-- and there are still so many behind it
+names-stay : (state : State) (call : SessionCall) → length state.readers ≡ 64 → length (call_answer state call).state.readers ≡ 64
+names-stay state (families.Writer w call steps) names = ap (λ (ys : List (Option Reader)). length ys) (leaves-readers state (families.Writer w call steps) refl).readers ∙ names
+names-stay state (families.Open (opens.Writer w e size)) names = ap (λ (ys : List (Option Reader)). length ys) (leaves-readers state (families.Open (opens.Writer w e size)) refl).readers ∙ names
+names-stay state (families.Open (opens.WriterInner e w)) names = ap (λ (ys : List (Option Reader)). length ys) (leaves-readers state (families.Open (opens.WriterInner e w)) refl).readers ∙ names
+names-stay state (families.Close (closes.Writer w)) names = ap (λ (ys : List (Option Reader)). length ys) (leaves-readers state (families.Close (closes.Writer w)) refl).readers ∙ names
+names-stay state call names = (leaves-writers state call names refl).readers ∙ names
+
+-- so each line keeps both
+record Told (state : State) : Type 0 where
+  names : length state.readers ≡ 64
+  tell : AllTell state
+
+line-tells : (state : State) (line : Item) → Extends state.host.kernel.past (answer state line).state.host.kernel.past → Told state → Told (answer state line).state
+line-tells state line =
+    over-line (λ (next : State). Extends state.host.kernel.past next.host.kernel.past → Told state → Told next) state line
+    (λ call extends f. record { names = names-stay state call f.names; tell = call-tell state call extends f.names f.tell })
+
+-- and it is so behind the lines of a script
+start-tells : (items : List Item) → Told (start items)
+unfolding start
+start-tells items = record { names = length-replicate {A = Option Reader} 64 None; tell = none-open of_writers Writer (Here []) (start items).endpoints }
+
+tell-at : ScriptsGoOn → (items before : List Item) → Told (behind (start items) before)
+tell-at go items before =
+    behind-keeps Told (λ past. Unit {0}) (record { before = λ old new extends legal. tt; first = start-tells; line = λ state line extends legal f. line-tells state line extends f }) go items before tt
+
+-- of each writer that is open then
+pub tells-behind : ScriptsGoOn → (items before : List Item) (w : ℕ) (x : WriterAt) (c : WriterCalls) → writer_at (behind (start items) before) w ≡ Some x → x.writer.calls ≡ Some c → TellsAt (behind (start items) before).host.kernel.past x c
+tells-behind go items before w x c at is = each-writer (behind (start items) before) w x (tell-at go items before).tell at c is
+
+pub tell-by : ScriptsGoOn → ScriptsAreWritten
+tell-by go items before after all w x c at is =
+    let state = behind (start items) before in
+    is-written state.host.kernel.past x c (each-writer state w x (tell-at go items before).tell at c is)

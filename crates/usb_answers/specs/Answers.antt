@@ -3,11 +3,11 @@ use Rattle.std.specs.Prelude.{if◌then◌else◌}
 use Rattle.usb_script.specs.declared.item.Item.{Item}
 use Rattle.usb_script.specs.ItemKinds.{steps_in}
 use Rattle.usb_answers.specs.State.{State}
-use Rattle.usb_answers.specs.Answer.{Answer, barred}
+use Rattle.usb_answers.specs.Answer.{Answer, condition_answer}
 use Rattle.usb_answers.specs.Steps.{stepped_all}
 use Rattle.usb_answers.specs.Crowded.{bars_line}
-use Rattle.usb_answers.specs.LineAnswers.{line_answer}
+use Rattle.usb_answers.specs.CallAnswers.{line_answer}
 
 -- the steps of a barred call are applied
 unfoldable pub answer : State → Item → Answer
-answer state item = if bars_line state item then barred (stepped_all state (steps_in item)) else line_answer state item
+answer state item = if bars_line state item then condition_answer (stepped_all state (steps_in item)) else line_answer state item

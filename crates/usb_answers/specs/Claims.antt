@@ -5,7 +5,7 @@ use Rattle.usb_host.specs.InterfaceClaims.{claim_tried, claimed_key, host_claime
 use Rattle.usb_names.specs.Names.{is_free, set_name}
 use Rattle.usb_answers.specs.State.{State, with_host}
 use Rattle.usb_answers.specs.OpenAt.{DeviceAt, device_at}
-use Rattle.usb_answers.specs.Answer.{Answer, barred, ok_answer, error_answer, if_open}
+use Rattle.usb_answers.specs.Answer.{Answer, condition_answer, ok_answer, error_answer, if_open}
 
 -- where it is not refused, a handle of this key is open under the name
 abbrev pub claimed_as : State → ℕ → ℕ → Result ℕ ErrorState → Answer
@@ -19,8 +19,8 @@ claim_on state number i reattach x =
     if is_free state.interfaces i
     then claimed_as (with_host state (host_claimed state.host x.key number reattach)) number i
     (claimed_key (length state.host.interfaces) (claim_tried state.host x.opened number reattach))
-    else barred state
+    else condition_answer state
 
 -- the answer, by the device's name
 unfoldable pub claim_answer : State → ℕ → ℕ → ℕ → Bool → Answer
-claim_answer state d number i reattach = if_open (device_at state d) (claim_on state number i reattach) (barred state)
+claim_answer state d number i reattach = if_open (device_at state d) (claim_on state number i reattach) (condition_answer state)

@@ -4,7 +4,7 @@ use Rattle.usb_device.specs.HandleStates.{InterfaceState}
 use Rattle.usb_host.specs.Handles.{device_cloned, handle_cloned}
 use Rattle.usb_names.specs.Names.{named, is_free, set_name}
 use Rattle.usb_answers.specs.State.{State}
-use Rattle.usb_answers.specs.Answer.{Answer, barred, ok_answer, if_open}
+use Rattle.usb_answers.specs.Answer.{Answer, condition_answer, ok_answer, if_open}
 
 -- a handle of the device of this key is open under a name
 abbrev pub with_handle : State → ℕ → ℕ → State
@@ -14,7 +14,7 @@ with_handle state name key =
 -- the answer to `clone` of a device
 unfoldable pub clone_device_answer : State → ℕ → ℕ → Answer
 clone_device_answer state name d =
-    if_open (named state.devices d) (λ key. if is_free state.devices name then ok_answer (with_handle state name key) else barred state) (barred state)
+    if_open (named state.devices d) (λ key. if is_free state.devices name then ok_answer (with_handle state name key) else condition_answer state) (condition_answer state)
 
 -- one more handle of an interface is open, under a name
 abbrev pub with_clone : State → ℕ → InterfaceState → State
@@ -24,4 +24,4 @@ with_clone state name f =
 -- the answer to `clone` of an interface
 unfoldable pub clone_interface_answer : State → ℕ → ℕ → Answer
 clone_interface_answer state name i =
-    if_open (named state.interfaces i) (λ f. if is_free state.interfaces name then ok_answer (with_clone state name f) else barred state) (barred state)
+    if_open (named state.interfaces i) (λ f. if is_free state.interfaces name then ok_answer (with_clone state name f) else condition_answer state) (condition_answer state)

@@ -12,26 +12,22 @@ use Rattle.usb_device.specs.Futures.{FutureState, future_closed}
 use Rattle.usb_host.specs.Owners.{is_shared}
 use Rattle.usb_error.specs.Errors.{interface_in_use_error}
 use Rattle.usb_names.specs.Names.{named, freed}
-use Rattle.usb_answers.specs.State.{State, Endpoint, kept, pending, with_host}
+use Rattle.usb_answers.specs.State.{State, Endpoint, endpoint_state, pending, with_host}
 use Rattle.usb_answers.specs.OpenAt.{InterfaceAt, interface_at}
-use Rattle.usb_answers.specs.Answer.{Answer, barred, ok_answer, error_answer, if_open}
+use Rattle.usb_answers.specs.Answer.{Answer, condition_answer, ok_answer, error_answer, if_open}
 
 -- what is pending at an endpoint is discarded
 abbrev pub cancelled : State → Endpoint → State
 cancelled state h = with_host state (all_discarded host_discarded state.host (pending h))
 
--- the answer to `cancel`
-unfoldable pub cancel_answer : State → ℕ → Answer
-cancel_answer state e = if_open (named state.endpoints e) (λ h. ok_answer (cancelled state h)) (barred state)
-
 -- an endpoint is closed, and its name is free
 abbrev pub without_endpoint : State → ℕ → Endpoint → State
 without_endpoint state e h =
-    record state { host = after_close host_calls state.host (kept h); endpoints = freed state.endpoints e }
+    record state { host = after_close host_calls state.host (endpoint_state h); endpoints = freed state.endpoints e }
 
 -- the answer to `close` of an endpoint
 unfoldable pub close_answer : State → ℕ → Answer
-close_answer state e = if_open (named state.endpoints e) (λ h. ok_answer (without_endpoint state e h)) (barred state)
+close_answer state e = if_open (named state.endpoints e) (λ h. ok_answer (without_endpoint state e h)) (condition_answer state)
 
 -- what is open under a name is closed, if anything is
 abbrev pub closed_at : State → ℕ → Option Endpoint → State
@@ -48,7 +44,7 @@ without_future state n f = record state { host = future_closed state.host f; fut
 
 -- the answer to `close` of a future
 unfoldable pub close_future_answer : State → ℕ → Answer
-close_future_answer state n = if_open (named state.futures n) (λ f. ok_answer (without_future state n f)) (barred state)
+close_future_answer state n = if_open (named state.futures n) (λ f. ok_answer (without_future state n f)) (condition_answer state)
 
 -- a handle of a device is closed, and its name is free
 abbrev pub without_device : State → ℕ → ℕ → State
@@ -57,7 +53,7 @@ without_device state d key =
 
 unfoldable pub close_device_answer : State → ℕ → Answer
 close_device_answer state d =
-    if_open (named state.devices d) (λ key. ok_answer (without_device state d key)) (barred state)
+    if_open (named state.devices d) (λ key. ok_answer (without_device state d key)) (condition_answer state)
 
 -- a handle of an interface is closed, and its name is free
 abbrev pub without_interface : State → ℕ → InterfaceState → State
@@ -67,7 +63,7 @@ without_interface state i f =
 -- the answer to `close` of an interface
 unfoldable pub close_interface_answer : State → ℕ → Answer
 close_interface_answer state i =
-    if_open (named state.interfaces i) (λ f. ok_answer (without_interface state i f)) (barred state)
+    if_open (named state.interfaces i) (λ f. ok_answer (without_interface state i f)) (condition_answer state)
 
 -- the name stays where it is refused
 abbrev pub release_on : State → ℕ → InterfaceAt → Answer
@@ -77,4 +73,4 @@ release_on state i x =
 
 -- the answer to `release`
 unfoldable pub release_answer : State → ℕ → Answer
-release_answer state i = if_open (interface_at state i) (release_on state i) (barred state)
+release_answer state i = if_open (interface_at state i) (release_on state i) (condition_answer state)

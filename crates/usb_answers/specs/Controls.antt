@@ -1,13 +1,12 @@
 -- Control transfers, whose lines are barred where what they name is not open, or where 1,024 tickets are unreaped.
 use Rattle.std.specs.Prelude.{ℕ, nat_le, Bool, List, [], length, Option, if◌then◌else◌}
 use Rattle.std.specs.Option.{option_map, option_map_or}
-use Rattle.usb_desc.specs.declared.types.Direction.TheVariants.{Out}
+use Rattle.usb_desc.specs.declared.types.Direction.TheVariants as direction
 use Rattle.usb_desc.specs.declared.types.TransferType.TheVariants.{Control}
 use Rattle.usb_desc.specs.Setup.{packet, request_type}
 use Rattle.usb_xfer.specs.declared.transfer.Held.TheVariants.{Request}
 use Rattle.usb_kernel.specs.declared.event.Event.{Event}
 use Rattle.usb_kernel.specs.Info.{unreaped}
-use Rattle.usb_simulated.specs.declared.step.KernelStep.{KernelStep}
 use Rattle.usb_error.specs.Outcomes.{result_map}
 use Rattle.usb_xfer.specs.declared.transfer.TransferData.{TransferData}
 use Rattle.usb_host.specs.HostState.{HostState}
@@ -19,10 +18,11 @@ use Rattle.usb_words.specs.declared.control.ControlTarget.{ControlTarget}
 use Rattle.usb_words.specs.declared.control.ControlTarget.TheVariants.{Device, Interface}
 use Rattle.usb_words.specs.Controls.{control_in_of}
 use Rattle.usb_lines.specs.Controls.{received_line, sent_line, descriptor_line, languages_line, string_line}
+use Rattle.usb_answers.specs.declared.call.ControlCall.{ControlCall}
+use Rattle.usb_answers.specs.declared.call.ControlCall.TheVariants.{In, Out, Descriptor, Languages, Text}
 use Rattle.usb_answers.specs.OpenAt.{DeviceAt, InterfaceAt, device_at, interface_at}
-use Rattle.usb_answers.specs.State.{State, with_host}
-use Rattle.usb_answers.specs.Answer.{Answer, told, barred, if_open}
-use Rattle.usb_answers.specs.Steps.{lent, then_rested, stepped_all}
+use Rattle.usb_answers.specs.State.{State}
+use Rattle.usb_answers.specs.Answer.{Answer, HostAnswer, left, at_host, condition_answer, if_open}
 
 -- the kernel's number of the device that is open under this name, or whose interface is
 abbrev pub device_of_target : State → ControlTarget → Option ℕ
@@ -42,47 +42,44 @@ request_with setup bytes =
     record {
       endpoint = 0;
       kind = Control;
-      held = Request (packet (request_type Out setup.control_type setup.recipient) setup.request setup.value setup.index (length bytes)) (record { bytes = bytes; requested = length bytes; room = length bytes });
+      held = Request (packet (request_type direction.Out setup.control_type setup.recipient) setup.request setup.value setup.index (length bytes)) (record { bytes = bytes; requested = length bytes; room = length bytes });
     }
-
--- a call on a device of this number: what it makes of the host, and what it prints
-abbrev pub control_on : (HostState → ℕ → HostState) → (HostState → ℕ → List ℕ) → State → ℕ → Answer
-control_on after line state device =
-    if bars_control state.host.kernel.past then barred state
-    else told (with_host state (after state.host device)) (line state.host device)
-
--- the steps of the line are handed to the host first; those of a barred call are applied all the same
-unfoldable pub control_answer : (HostState → ℕ → HostState) → (HostState → ℕ → List ℕ) → State → ControlTarget → List KernelStep → Answer
-control_answer after line state target steps =
-    if_open (device_of_target state target) (λ device. then_rested (control_on after line (lent state steps) device)) (barred (stepped_all state steps))
 
 -- what is printed of an answer that came. (It always comes)
 abbrev pub came_line : {A : Type 0} → (A → List ℕ) → Option A → List ℕ
 came_line line came = option_map_or line came []
 
--- `ctlin` and `ctlout`: a request is handed in and awaited
-abbrev pub control_in_answer : State → ControlTarget → Setup → ℕ → ℕ → List KernelStep → Answer
-control_in_answer state target setup wanted timeout steps =
-    control_answer (λ h d. controlled h d (request_for setup wanted) timeout)
-    (λ h d. came_line received_line (control_answered h d (request_for setup wanted) timeout)) state target steps
+-- what each transfer is made on
+abbrev pub target_of : ControlCall → ControlTarget
+target_of (In target setup wanted timeout) = target
+target_of (Out target setup bytes timeout) = target
+target_of (Descriptor d kind index language timeout) = Device d
+target_of (Languages d timeout) = Device d
+target_of (Text d index language timeout) = Device d
 
-abbrev pub control_out_answer : State → ControlTarget → Setup → List ℕ → ℕ → List KernelStep → Answer
-control_out_answer state target setup bytes timeout steps =
-    control_answer (λ h d. controlled h d (request_with setup bytes) timeout)
-    (λ h d. came_line (λ r. sent_line (result_map (λ _. tt) r)) (control_answered h d (request_with setup bytes) timeout)) state target steps
+-- each transfer at the device of a number (n): its request is handed in and awaited, and the answer printed
+abbrev pub control_called : ControlCall → HostState → ℕ → HostAnswer
+control_called (In target setup wanted timeout) h n =
+    left (controlled h n (request_for setup wanted) timeout) (came_line received_line (control_answered h n (request_for setup wanted) timeout))
+control_called (Out target setup bytes timeout) h n =
+    left (controlled h n (request_with setup bytes) timeout)
+    (came_line (λ r. sent_line (result_map (λ _. tt) r)) (control_answered h n (request_with setup bytes) timeout))
+control_called (Descriptor d kind index language timeout) h n =
+    left (descriptor_asked h n (descriptor_request kind index language) timeout)
+    (came_line descriptor_line (descriptor_answered h n (descriptor_request kind index language) timeout))
+control_called (Languages d timeout) h n =
+    left (descriptor_asked h n (descriptor_request 3 0 0) timeout)
+    (came_line languages_line (languages_answered h n (descriptor_request 3 0 0) timeout))
+control_called (Text d index language timeout) h n =
+    left (descriptor_asked h n (descriptor_request 3 index language) timeout)
+    (came_line string_line (text_answered h n (descriptor_request 3 index language) timeout))
 
--- `getdesc`, `langs` and `string`: a device is asked for a descriptor
-abbrev pub get_descriptor_answer : State → ℕ → ℕ → ℕ → ℕ → ℕ → List KernelStep → Answer
-get_descriptor_answer state d kind index language timeout steps =
-    control_answer (λ h n. descriptor_asked h n (descriptor_request kind index language) timeout)
-    (λ h n. came_line descriptor_line (descriptor_answered h n (descriptor_request kind index language) timeout)) state (Device d) steps
+-- at the device of a number
+abbrev pub control_on : ControlCall → State → ℕ → Answer
+control_on call state n =
+    if bars_control state.host.kernel.past then condition_answer state
+    else at_host state (control_called call state.host n)
 
-abbrev pub languages_answer : State → ℕ → ℕ → List KernelStep → Answer
-languages_answer state d timeout steps =
-    control_answer (λ h n. descriptor_asked h n (descriptor_request 3 0 0) timeout)
-    (λ h n. came_line languages_line (languages_answered h n (descriptor_request 3 0 0) timeout)) state (Device d) steps
-
-abbrev pub string_answer : State → ℕ → ℕ → ℕ → ℕ → List KernelStep → Answer
-string_answer state d index language timeout steps =
-    control_answer (λ h n. descriptor_asked h n (descriptor_request 3 index language) timeout)
-    (λ h n. came_line string_line (text_answered h n (descriptor_request 3 index language) timeout)) state (Device d) steps
+-- by the name of what it is made on
+unfoldable pub on_control : State → ControlCall → Answer
+on_control state call = if_open (device_of_target state (target_of call)) (control_on call state) (condition_answer state)

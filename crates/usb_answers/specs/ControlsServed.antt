@@ -10,7 +10,7 @@ use Rattle.usb_host.specs.Finishes.{HasEnds}
 use Rattle.usb_lines.specs.Calls.{condition_line}
 use Rattle.usb_lines.specs.Controls.{pending_line}
 use Rattle.usb_script.specs.declared.item.Item.{Item}
-use Rattle.usb_script.specs.Kinds.{answers_control}
+use Rattle.usb_answers.specs.Calls.{call_of, answers_control}
 use Rattle.usb_answers.specs.Answers.{answer}
 use Rattle.usb_answers.specs.Output.{start, behind, final_host}
 use Rattle.usb_answers.specs.Served.{control_tickets, end_given_up}
@@ -39,8 +39,8 @@ pub record ControlsAreServed (items : List Item) : Type 0 where
   pub answered : All (IsAnsweredAsItCame (final_host items)) (control_answers items)
   pub closed : All (IsGivenUp (final_host items)) (closed_futures items)
   pub once : (t : ℕ) → count_by (λ u. u == t) (tickets_parted (control_answers items) (closed_futures items)) ≡ count_by (λ u. u == t) (control_tickets items)
-  pub others : (before after : List Item) (item : Item) → items ≡ before ++ item ∷ after → answers_control item ≡ true →
-      answered_by (behind (start items) before) item (answer (behind (start items) before) item) ≡ [] →
+  pub others : (before after : List Item) (item : Item) → items ≡ before ++ item ∷ after → answers_control (call_of item) ≡ true →
+      answered_by (behind (start items) before) (call_of item) (answer (behind (start items) before) item) ≡ [] →
       ((answer (behind (start items) before) item).line ≡ condition_line) ⊎ ((answer (behind (start items) before) item).line ≡ pending_line)
 
 -- the law: so it is of each script whose tickets have their ends

@@ -8,7 +8,7 @@ use Rattle.usb_host.specs.EndpointOpens.{host_asked, host_tries, with_endpoint}
 use Rattle.usb_names.specs.Names.{is_free, set_name}
 use Rattle.usb_answers.specs.State.{State, Endpoint, with_host}
 use Rattle.usb_answers.specs.OpenAt.{InterfaceAt, interface_at}
-use Rattle.usb_answers.specs.Answer.{Answer, barred, ok_answer, error_answer, if_open}
+use Rattle.usb_answers.specs.Answer.{Answer, condition_answer, ok_answer, error_answer, if_open}
 
 -- an endpoint with no ticket, and the next key
 abbrev pub new_endpoint : HostState → ℕ → ℕ → TransferType → ℕ → Endpoint
@@ -33,9 +33,9 @@ endpoint_asked state e address kind direction x host =
 abbrev pub endpoint_on : State → ℕ → ℕ → TransferType → Direction → InterfaceAt → Answer
 endpoint_on state e address kind direction x =
     if is_free state.endpoints e then endpoint_asked state e address kind direction x (host_asked state.host x.claimed.opened)
-    else barred state
+    else condition_answer state
 
 -- the answer, by the interface's name
 unfoldable pub endpoint_answer : State → ℕ → ℕ → ℕ → TransferType → Direction → Answer
 endpoint_answer state e i address kind direction =
-    if_open (interface_at state i) (endpoint_on state e address kind direction) (barred state)
+    if_open (interface_at state i) (endpoint_on state e address kind direction) (condition_answer state)

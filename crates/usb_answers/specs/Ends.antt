@@ -1,30 +1,26 @@
 -- The end of a session: what is open is closed, readers by number, then writers, then endpoints, then futures, then interfaces and then devices, each by number;
 -- then the tickets are discarded by number, and reaped by number.
-use Rattle.std.specs.Prelude.{ℕ, zero, suc, Option, Some, None}
+use Rattle.std.specs.Prelude.{ℕ, Option, Some, None}
 use Rattle.usb_host.specs.HostState.{HostState}
 use Rattle.usb_host.specs.Finishes.{finished}
 use Rattle.usb_device.specs.HandleStates.{InterfaceState}
 use Rattle.usb_device.specs.Futures.{FutureState}
 use Rattle.usb_names.specs.Names.{named}
 use Rattle.usb_answers.specs.State.{State}
+use Rattle.usb_answers.specs.Below.{below}
 use Rattle.usb_answers.specs.Closes.{closed, without_future, without_interface, without_device}
 use Rattle.usb_answers.specs.Readers.{reader_closed}
 use Rattle.usb_answers.specs.Writers.{writer_closed}
 
--- the readers of the names below k are closed, in order
+-- the readers of the names below k are closed, in order; and so the writers, the endpoints and the others
 abbrev pub readers_closed : State → ℕ → State
-readers_closed state zero = state
-readers_closed state (suc k) = reader_closed (readers_closed state k) k
+readers_closed = below reader_closed
 
--- the writers of the names below k are closed, in order
 abbrev pub writers_closed : State → ℕ → State
-writers_closed state zero = state
-writers_closed state (suc k) = writer_closed (writers_closed state k) k
+writers_closed = below writer_closed
 
--- the endpoints of the names below k are closed, in order
 abbrev pub endpoints_closed : State → ℕ → State
-endpoints_closed state zero = state
-endpoints_closed state (suc k) = closed (endpoints_closed state k) k
+endpoints_closed = below closed
 
 -- the future that is open under a name is closed, if there is one
 abbrev pub future_closed_at : State → ℕ → Option FutureState → State
@@ -35,10 +31,8 @@ future_closed_at state n (Some f) = without_future state n f
 unfoldable pub future_closed_under : State → ℕ → State
 future_closed_under state n = future_closed_at state n (named state.futures n)
 
--- the futures of the names below k are closed, in order
 abbrev pub futures_closed : State → ℕ → State
-futures_closed state zero = state
-futures_closed state (suc k) = future_closed_under (futures_closed state k) k
+futures_closed = below future_closed_under
 
 -- the interface that is open under a name is closed, if there is one
 abbrev pub interface_closed_at : State → ℕ → Option InterfaceState → State
@@ -50,10 +44,8 @@ interface_closed_at state i (Some f) =
 unfoldable pub interface_closed : State → ℕ → State
 interface_closed state i = interface_closed_at state i (named state.interfaces i)
 
--- the interfaces of the names below k are closed, in order
 abbrev pub interfaces_closed : State → ℕ → State
-interfaces_closed state zero = state
-interfaces_closed state (suc k) = interface_closed (interfaces_closed state k) k
+interfaces_closed = below interface_closed
 
 -- the device that is open under a name is closed, if there is one
 abbrev pub device_closed_at : State → ℕ → Option ℕ → State
@@ -64,10 +56,8 @@ device_closed_at state d (Some key) = without_device state d key
 unfoldable pub name_closed : State → ℕ → State
 name_closed state d = device_closed_at state d (named state.devices d)
 
--- the devices of the names below k are closed, in order
 abbrev pub devices_closed : State → ℕ → State
-devices_closed state zero = state
-devices_closed state (suc k) = name_closed (devices_closed state k) k
+devices_closed = below name_closed
 
 -- all readers and writers, then all endpoints, all futures, all interfaces and then all devices are closed
 unfoldable pub all_closed : State → State

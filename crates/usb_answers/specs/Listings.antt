@@ -7,17 +7,17 @@ use Rattle.usb_enum.specs.Listing.{devices}
 use Rattle.usb_listings.specs.Buses.{buses_line}
 use Rattle.usb_listings.specs.Listings.{devices_line}
 use Rattle.usb_answers.specs.State.{State}
-use Rattle.usb_answers.specs.Answer.{Answer, told, error_answer}
+use Rattle.usb_answers.specs.Answer.{Answer, answer_with, error_answer}
 
 abbrev pub listed : State → Result (List DeviceFacts) ErrorState → Answer
-listed state (Ok devices) = told state (devices_line devices)
+listed state (Ok devices) = answer_with state (devices_line devices)
 listed state (Err error) = error_answer state error
 
 unfoldable pub list_answer : State → Answer
 list_answer state = listed state (devices state.tree)
 
 abbrev pub listed_buses : State → Result (List BusFacts) ErrorState → Answer
-listed_buses state (Ok buses) = told state (buses_line buses)
+listed_buses state (Ok buses) = answer_with state (buses_line buses)
 listed_buses state (Err error) = error_answer state error
 
 unfoldable pub buses_answer : State → Answer

@@ -19,12 +19,18 @@ pub record InterfaceAt : Type 0 where
   pub handle : InterfaceState
   pub claimed : ClaimedInterface
 
+abbrev pub device_with : ℕ → OpenDevice → DeviceAt
+device_with key o = record { key = key; opened = o }
+
+abbrev pub interface_with : InterfaceState → ClaimedInterface → InterfaceAt
+interface_with f c = record { handle = f; claimed = c }
+
 -- what the host has of the device that is open under a name
 abbrev pub device_at : State → ℕ → Option DeviceAt
 device_at state d =
-    option_and_then (λ key. option_map (λ o. record { key = key; opened = o }) (value_at state.host.devices key)) (named state.devices d)
+    option_and_then (λ key. option_map (device_with key) (value_at state.host.devices key)) (named state.devices d)
 
 -- what the host has of the interface that is open under a name
 abbrev pub interface_at : State → ℕ → Option InterfaceAt
 interface_at state i =
-    option_and_then (λ (f : InterfaceState). option_map (λ c. record { handle = f; claimed = c }) (value_at state.host.interfaces f.key)) (named state.interfaces i)
+    option_and_then (λ (f : InterfaceState). option_map (interface_with f) (value_at state.host.interfaces f.key)) (named state.interfaces i)

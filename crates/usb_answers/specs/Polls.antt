@@ -1,12 +1,12 @@
 -- `poll`: the oldest pending transfer is taken, where it is reaped.
-use Rattle.std.specs.Prelude.{ℕ, ◌+◌, List, Option, Some, None, slice_get}
+use Rattle.std.specs.Prelude.{ℕ, ◌+◌, List, Option, Some, None}
 use Rattle.usb_xfer.specs.declared.transfer.Completion.{Completion}
 use Rattle.usb_bus.specs.Completions.{transfer_completion}
 use Rattle.usb_host.specs.TicketEnds.{host_taken}
 use Rattle.usb_lines.specs.Completions.{polled_line}
-use Rattle.usb_names.specs.Names.{named, change_named}
+use Rattle.usb_names.specs.Names.{change_named}
 use Rattle.usb_answers.specs.State.{State, Endpoint}
-use Rattle.usb_answers.specs.Answer.{Answer, told, barred, if_open}
+use Rattle.usb_answers.specs.Answer.{Answer, answer_with, condition_answer}
 
 -- an endpoint of which one more ticket was taken
 abbrev pub one_taken : Endpoint → Endpoint
@@ -19,14 +19,10 @@ taken_from state e t =
 
 -- the answer for a ticket: where it has a completion it is taken, and the line prints that; else nothing changes, and the line says so
 abbrev pub took : (Option Completion → List ℕ) → State → ℕ → ℕ → Option Completion → Answer
-took line state e t None = told state (line None)
-took line state e t (Some completion) = told (taken_from state e t) (line (Some completion))
+took line state e t None = answer_with state (line None)
+took line state e t (Some completion) = answer_with (taken_from state e t) (line (Some completion))
 
 -- a poll is barred where nothing is pending
 abbrev pub poll_on : State → ℕ → Option ℕ → Answer
-poll_on state e None = barred state
+poll_on state e None = condition_answer state
 poll_on state e (Some t) = took polled_line state e t (transfer_completion state.host.kernel.past t)
-
--- a poll of an endpoint that is not open is barred. Where n tickets were taken, the oldest pending one is the endpoint's n-th, counted from 0
-unfoldable pub poll_answer : State → ℕ → Answer
-poll_answer state e = if_open (named state.endpoints e) (λ h. poll_on state e (slice_get h.tickets h.taken)) (barred state)

@@ -9,18 +9,18 @@ use Rattle.usb_setup.specs.Selecting.{matched}
 use Rattle.usb_listings.specs.Attributes.{match_line, sysfs_line}
 use Rattle.usb_listings.specs.Devices.{info_line}
 use Rattle.usb_answers.specs.State.{State}
-use Rattle.usb_answers.specs.Answer.{Answer, told}
+use Rattle.usb_answers.specs.Answer.{Answer, answer_with}
 
 abbrev pub probed : State → Result DeviceFacts SysfsError → Answer
-probed state (Ok device) = told state (info_line device)
-probed state (Err error) = told state (sysfs_line error)
+probed state (Ok device) = answer_with state (info_line device)
+probed state (Err error) = answer_with state (sysfs_line error)
 
 unfoldable pub probe_answer : State → List ℕ → Answer
 probe_answer state path = probed state (probe state.tree path)
 
 abbrev pub looked_for : State → Result Bool SysfsError → Answer
-looked_for state (Ok is_match) = told state (match_line is_match)
-looked_for state (Err error) = told state (sysfs_line error)
+looked_for state (Ok is_match) = answer_with state (match_line is_match)
+looked_for state (Err error) = answer_with state (sysfs_line error)
 
 unfoldable pub match_answer : State → List ℕ → List Criterion → Answer
 match_answer state path selector = looked_for state (matched state.tree path selector)

@@ -4,7 +4,7 @@ use Rattle.std.specs.Option.{option_map}
 use Rattle.usb_io.specs.Readers.{ReaderState}
 use Rattle.usb_names.specs.Names.{named}
 use Rattle.usb_answers.specs.BareReaders.{reader_with}
-use Rattle.usb_answers.specs.State.{State, Endpoint, Reader, kept}
+use Rattle.usb_answers.specs.State.{State, Endpoint, Reader, endpoint_state}
 
 -- the place of an endpoint's name among the endpoints that are open: the 64 names come first. (A number that is no name has a
 -- place behind all of them, where nothing is)
@@ -28,4 +28,4 @@ reader_at state r =
 
 -- a reader as its calls see it
 abbrev pub state_of_reader : ReaderAt → ReaderState
-state_of_reader x = reader_with (kept x.endpoint) x.reader.bare
+state_of_reader x = reader_with (endpoint_state x.endpoint) x.reader.bare

@@ -1,5 +1,5 @@
--- `reader`, `inner`, `num`, `timeout`, `cancel` and `close` of a reader, which are barred where it is not open (`reader`: where
--- the endpoint isn't, or the reader's name is in use).
+-- `reader`, `inner`, `num`, `timeout`, `cancel` and `close` of a reader. `inner` and `close` are barred where it is not open, and
+-- `reader` where the endpoint isn't, or the reader's name is in use.
 use Rattle.std.specs.Prelude.{ℕ, ◌-◌, ◌||◌, ◌&&◌, nat_lt, Bool, true, List, [], ◌++◌, length, take, Option, Some, None, if◌then◌else◌}
 use Rattle.usb_desc.specs.declared.types.Direction.TheVariants.{In}
 use Rattle.usb_endpoint.specs.Closes.{all_discarded, after_close}
@@ -12,10 +12,10 @@ use Rattle.usb_host.specs.HostCalls.{host_calls}
 use Rattle.usb_streams.specs.Numbers.{numbers_from}
 use Rattle.usb_names.specs.Names.{named, is_free, freed, set_name, change_named}
 use Rattle.usb_writer_lines.specs.Needs.{bars_need}
-use Rattle.usb_answers.specs.State.{State, Endpoint, Reader, kept, pending, tickets_of, with_host}
+use Rattle.usb_answers.specs.State.{State, Endpoint, Reader, endpoint_state, pending, tickets_of, with_host}
 use Rattle.usb_answers.specs.BareReaders.{bare_of}
 use Rattle.usb_answers.specs.ReaderAt.{ReaderAt, reader_place, reader_at, state_of_reader}
-use Rattle.usb_answers.specs.Answer.{Answer, barred, ok_answer, if_open}
+use Rattle.usb_answers.specs.Answer.{Answer, condition_answer, ok_answer, if_open}
 use Rattle.usb_answers.specs.Submits.{has_direction}
 
 -- a reader is framed where its endpoint has no ticket yet: it has consumed nothing
@@ -33,7 +33,7 @@ with_reader state r e size h =
     record state {
       endpoints = set_name (freed state.endpoints e) (reader_place r) (as_streamed h);
       readers = set_name state.readers r (record {
-        bare = bare_of (fresh_reader (kept h) size);
+        bare = bare_of (fresh_reader (endpoint_state h) size);
         before = take h.taken h.tickets;
         given = [];
         consumed = nothing_consumed h.tickets;
@@ -47,12 +47,12 @@ is_free_reader state r = is_free state.readers r && is_free state.endpoints (rea
 -- of an endpoint that is open (h)
 abbrev pub reader_on : State → ℕ → ℕ → ℕ → Endpoint → Answer
 reader_on state r e size h =
-    if is_free_reader state r then (if has_direction In (kept h) then ok_answer (with_reader state r e size h) else barred state)
-    else barred state
+    if is_free_reader state r then (if has_direction In (endpoint_state h) then ok_answer (with_reader state r e size h) else condition_answer state)
+    else condition_answer state
 
 -- `reader`: a reader is made of an endpoint
 unfoldable pub reader_answer : State → ℕ → ℕ → ℕ → Answer
-reader_answer state r e size = if_open (named state.endpoints e) (reader_on state r e size) (barred state)
+reader_answer state r e size = if_open (named state.endpoints e) (reader_on state r e size) (condition_answer state)
 
 -- the endpoint is open under its own name again, and the reader's is free
 abbrev pub without_reader : State → ℕ → ℕ → ReaderAt → State
@@ -65,7 +65,7 @@ without_reader state e r x =
 -- `inner`: the endpoint comes back, under a name that is free
 unfoldable pub inner_answer : State → ℕ → ℕ → Answer
 inner_answer state e r =
-    if_open (reader_at state r) (λ x. if is_free state.endpoints e then ok_answer (without_reader state e r x) else barred state) (barred state)
+    if_open (reader_at state r) (λ x. if is_free state.endpoints e then ok_answer (without_reader state e r x) else condition_answer state) (condition_answer state)
 
 -- an endpoint behind a call of its reader or writer: each ticket that came to the journal is one of its tickets (from `old` many to
 -- `new` many), and those that are not pending were taken
@@ -93,12 +93,8 @@ with_count n r = record r { n = n }
 -- as many transfers are submitted as are missing of one less
 abbrev pub num_on : State → ℕ → ℕ → ReaderAt → Answer
 num_on state r n x =
-    if nat_lt 64 n || bars_need state.host.kernel.past (length (pending x.endpoint)) (n - 1 - length (pending x.endpoint)) then barred state
+    if nat_lt 64 n || bars_need state.host.kernel.past (length (pending x.endpoint)) (n - 1 - length (pending x.endpoint)) then condition_answer state
     else ok_answer (called state r x.reader.consumed [] (filled_to host_calls (n - 1) (reading state.host (with_count n (state_of_reader x)))))
-
--- `num`: how many transfers are to be pending is set
-unfoldable pub num_answer : State → ℕ → ℕ → Answer
-num_answer state r n = if_open (reader_at state r) (num_on state r n) (barred state)
 
 -- a reader whose waits have this timeout
 abbrev pub with_timeout : ℕ → Reader → Reader
@@ -108,35 +104,27 @@ with_timeout timeout x = record x { bare = record x.bare { timeout = timeout } }
 abbrev pub timeout_on : State → ℕ → ℕ → Answer
 timeout_on state r timeout = ok_answer (record state { readers = change_named (with_timeout timeout) state.readers r })
 
--- `timeout`: the timeout of waits is set, in nanoseconds
-unfoldable pub timeout_answer : State → ℕ → ℕ → Answer
-timeout_answer state r timeout = if_open (named state.readers r) (λ x. timeout_on state r timeout) (barred state)
-
 -- a reader that keeps none pending
 abbrev pub with_none : Reader → Reader
 with_none x = record x { bare = record x.bare { n = 0 } }
 
--- of a reader that is open (x)
+-- what is pending is discarded, from the last to the first, and none is to be pending from then on
 abbrev pub cancel_reader_on : State → ℕ → ReaderAt → Answer
 cancel_reader_on state r x =
     ok_answer (record state { host = all_discarded host_discarded state.host (pending x.endpoint); readers = change_named with_none state.readers r })
-
--- `cancel`: what is pending is discarded, from the last to the first, and none is to be pending from then on
-unfoldable pub cancel_reader_answer : State → ℕ → Answer
-cancel_reader_answer state r = if_open (reader_at state r) (cancel_reader_on state r) (barred state)
 
 -- a reader is closed as its endpoint is, and its name is free
 abbrev pub closed_reader : State → ℕ → Endpoint → State
 closed_reader state r h =
     record state {
-      host = after_close host_calls state.host (kept h);
+      host = after_close host_calls state.host (endpoint_state h);
       endpoints = freed state.endpoints (reader_place r);
       readers = freed state.readers r;
     }
 
 -- `close`
 unfoldable pub close_reader_answer : State → ℕ → Answer
-close_reader_answer state r = if_open (named state.endpoints (reader_place r)) (λ h. ok_answer (closed_reader state r h)) (barred state)
+close_reader_answer state r = if_open (named state.endpoints (reader_place r)) (λ h. ok_answer (closed_reader state r h)) (condition_answer state)
 
 -- what is open under a name is closed, if anything is
 abbrev pub reader_closed_at : State → ℕ → Option Endpoint → State

@@ -1,8 +1,6 @@
--- The calls that read from a reader: each is the reader's own (`Plain`), or stops at a short packet (`UntilShort`). They are
--- barred where it is not open.
+-- The calls that read from a reader: each is the reader's own (`Plain`), or stops at a short packet (`UntilShort`).
 use Rattle.std.specs.Prelude.{ℕ, ◌++◌, nat_lt, Bool, true, false, List, [], ◌∷◌, length, take, map, Option, None, Result, Ok, Err, if◌then◌else◌}
 use Rattle.std.specs.Option.{option_map}
-use Rattle.usb_simulated.specs.declared.step.KernelStep.{KernelStep}
 use Rattle.usb_io.specs.Readers.{ReaderState, with_read, without_end, is_end}
 use Rattle.usb_io.specs.Reads.{reading}
 use Rattle.usb_io.specs.Streams.{Item, Byte, End}
@@ -12,19 +10,19 @@ use Rattle.usb_io.specs.Answers.{Read, fill_came, read_came}
 use Rattle.usb_host.specs.HostState.{HostState}
 use Rattle.usb_host.specs.HostCalls.{host_calls}
 use Rattle.usb_streams.specs.Needs.{read_need}
+use Rattle.usb_streams.specs.ReaderCalls.{given_by}
 use Rattle.usb_stream_lines.specs.Faults.{read_fault_line}
-use Rattle.usb_stream_lines.specs.Reads.{read_line, buffer_line, is_end_line, consumed_end_line}
+use Rattle.usb_stream_lines.specs.Reads.{consumed_end_line}
 use Rattle.usb_lines.specs.Controls.{pending_line}
 use Rattle.usb_words.specs.declared.framing.Framing.{Framing}
 use Rattle.usb_words.specs.declared.framing.Framing.TheVariants.{Plain, UntilShort}
 use Rattle.usb_names.specs.Names.{change_named}
 use Rattle.usb_answers.specs.State.{State, pending}
 use Rattle.usb_answers.specs.BareReaders.{bare_of}
-use Rattle.usb_answers.specs.ReaderAt.{ReaderAt, reader_at, state_of_reader}
+use Rattle.usb_answers.specs.ReaderAt.{ReaderAt, state_of_reader}
 use Rattle.usb_answers.specs.Readers.{called}
 use Rattle.usb_writer_lines.specs.Needs.{bars_need}
-use Rattle.usb_answers.specs.Answer.{Answer, told, barred, ok_answer, if_open}
-use Rattle.usb_answers.specs.Steps.{lent, then_rested, stepped_all}
+use Rattle.usb_answers.specs.Answer.{Answer, answer_with, condition_answer, ok_answer}
 
 -- whether a call stops at a short packet
 abbrev pub is_until_short : Framing → Bool
@@ -35,11 +33,6 @@ is_until_short UntilShort = true
 abbrev pub consumed_with : Framing → List Item → Option (List Item) → Option (List Item)
 consumed_with Plain items consumed = None
 consumed_with UntilShort items consumed = option_map (λ before. before ++ items) consumed
-
--- the bytes that an answer gives
-abbrev pub bytes_given : Result (List ℕ) ReadFault → List ℕ
-bytes_given (Ok bytes) = bytes
-bytes_given (Err fault) = []
 
 -- how many submissions a call may need
 abbrev pub need_of : Framing → ReaderState → ℕ
@@ -62,53 +55,23 @@ polled_given_line line answer = given_line line answer
 -- a call that takes the bytes that it gives
 abbrev pub read_as : State → Framing → ℕ → ReaderAt → (Result (List ℕ) ReadFault → List ℕ) → Read HostState → Answer
 read_as state framing r x line a =
-    told (called state r (consumed_with framing (map Byte (bytes_given a.answer)) x.reader.consumed) (bytes_given a.answer) a.left) (line a.answer)
+    answer_with (called state r (consumed_with framing (map Byte (given_by a.answer)) x.reader.consumed) (given_by a.answer) a.left) (line a.answer)
 
 -- one that lends them
 abbrev pub filled_as : State → Framing → ℕ → ReaderAt → (Result (List ℕ) ReadFault → List ℕ) → Read HostState → Answer
-filled_as state framing r x line a = told (called state r (consumed_with framing [] x.reader.consumed) [] a.left) (line a.answer)
+filled_as state framing r x line a = answer_with (called state r (consumed_with framing [] x.reader.consumed) [] a.left) (line a.answer)
 
--- a read of at most so many bytes, which waits
-abbrev pub read_on : State → Framing → ℕ → ℕ → ReaderAt → Answer
-read_on state framing r most x =
-    if bars_read state framing x then barred state
-    else read_as state framing r x (given_line read_line) (read_came host_calls (is_until_short framing) x.reader.bare.timeout most (reading state.host (state_of_reader x)))
+-- a read of at most so many bytes, which waits for at most so many nanoseconds where none stand
+abbrev pub read_on : State → Framing → ℕ → ℕ → ℕ → (Result (List ℕ) ReadFault → List ℕ) → ReaderAt → Answer
+read_on state framing r most timeout line x =
+    if bars_read state framing x then condition_answer state
+    else read_as state framing r x line (read_came host_calls (is_until_short framing) timeout most (reading state.host (state_of_reader x)))
 
--- `read`, `sread`
-unfoldable pub read_answer : State → Framing → ℕ → ℕ → List KernelStep → Answer
-read_answer state framing r most steps =
-    if_open (reader_at state r) (λ x. then_rested (read_on (lent state steps) framing r most x)) (barred (stepped_all state steps))
-
--- one that doesn't wait
-abbrev pub poll_read_on : State → Framing → ℕ → ℕ → ReaderAt → Answer
-poll_read_on state framing r most x =
-    if bars_read state framing x then barred state
-    else read_as state framing r x (polled_given_line read_line) (read_came host_calls (is_until_short framing) 0 most (reading state.host (state_of_reader x)))
-
--- `pollread`, `pollsread`
-unfoldable pub poll_read_answer : State → Framing → ℕ → ℕ → Answer
-poll_read_answer state framing r most = if_open (reader_at state r) (poll_read_on state framing r most) (barred state)
-
--- the bytes that stand, with a wait where none do
-abbrev pub fill_on : State → Framing → ℕ → ReaderAt → Answer
-fill_on state framing r x =
-    if bars_read state framing x then barred state
-    else filled_as state framing r x (given_line buffer_line) (fill_came host_calls (is_until_short framing) x.reader.bare.timeout (reading state.host (state_of_reader x)))
-
--- `fill`, `sfill`
-unfoldable pub fill_answer : State → Framing → ℕ → List KernelStep → Answer
-fill_answer state framing r steps =
-    if_open (reader_at state r) (λ x. then_rested (fill_on (lent state steps) framing r x)) (barred (stepped_all state steps))
-
--- and without a wait
-abbrev pub poll_fill_on : State → Framing → ℕ → ReaderAt → Answer
-poll_fill_on state framing r x =
-    if bars_read state framing x then barred state
-    else filled_as state framing r x (polled_given_line buffer_line) (fill_came host_calls (is_until_short framing) 0 (reading state.host (state_of_reader x)))
-
--- `pollfill`, `pollsfill`
-unfoldable pub poll_fill_answer : State → Framing → ℕ → Answer
-poll_fill_answer state framing r = if_open (reader_at state r) (poll_fill_on state framing r) (barred state)
+-- the bytes that stand, with such a wait where none do
+abbrev pub fill_on : State → Framing → ℕ → ℕ → (Result (List ℕ) ReadFault → List ℕ) → ReaderAt → Answer
+fill_on state framing r timeout line x =
+    if bars_read state framing x then condition_answer state
+    else filled_as state framing r x line (fill_came host_calls (is_until_short framing) timeout (reading state.host (state_of_reader x)))
 
 -- a reader as a call left it that asks nothing of the host, these items consumed, and these bytes handed over
 abbrev pub read_off : State → Framing → ℕ → ReaderAt → List Item → List ℕ → ReaderState → State
@@ -121,24 +84,12 @@ read_off state framing r x items bytes left =
 -- bytes are taken off, of those that stand
 abbrev pub consume_on : State → Framing → ℕ → ℕ → ReaderAt → Answer
 consume_on state framing r n x =
-    if nat_lt (length x.reader.bare.unread) n then barred state
+    if nat_lt (length x.reader.bare.unread) n then condition_answer state
     else ok_answer (read_off state framing r x (map Byte (take n x.reader.bare.unread)) (take n x.reader.bare.unread) (with_read n (state_of_reader x)))
-
--- `consume`, `sconsume`
-unfoldable pub consume_answer : State → Framing → ℕ → ℕ → Answer
-consume_answer state framing r n = if_open (reader_at state r) (consume_on state framing r n) (barred state)
-
--- `isend`
-unfoldable pub is_end_answer : State → ℕ → Answer
-is_end_answer state r = if_open (reader_at state r) (λ x. told state (is_end_line (is_end (state_of_reader x)))) (barred state)
 
 -- the end is taken off, where it is next
 abbrev pub consume_end_on : State → ℕ → ReaderAt → Answer
 consume_end_on state r x =
     if is_end (state_of_reader x)
-    then told (read_off state UntilShort r x (End ∷ []) [] (without_end (state_of_reader x))) (consumed_end_line (Ok tt))
-    else told state (consumed_end_line (Err (record {})))
-
--- `endmsg`
-unfoldable pub consume_end_answer : State → ℕ → Answer
-consume_end_answer state r = if_open (reader_at state r) (consume_end_on state r) (barred state)
+    then answer_with (read_off state UntilShort r x (End ∷ []) [] (without_end (state_of_reader x))) (consumed_end_line (Ok tt))
+    else answer_with state (consumed_end_line (Err (record {})))

@@ -3,7 +3,7 @@ use Rattle.std.specs.Prelude.{ℕ, ◌≡◌, ◌≤◌, Some, length, map}
 use Rattle.std.specs.Option.{option_map}
 use Rattle.usb_answers.specs.SessionState.{SessionState}
 use Rattle.usb_names.specs.Names.{named}
-use Rattle.usb_answers.specs.State.{State, Endpoint, Reader, Writer, kept}
+use Rattle.usb_answers.specs.State.{State, Endpoint, Reader, Writer, endpoint_state}
 
 -- what a session keeps of a state: of each endpoint the tickets that were not taken, of each reader not what it handed over or consumed, and of each
 -- writer not its calls
@@ -13,7 +13,7 @@ session_of state =
       host = state.host;
       devices = state.devices;
       interfaces = state.interfaces;
-      endpoints = map (option_map kept) state.endpoints;
+      endpoints = map (option_map endpoint_state) state.endpoints;
       readers = map (option_map (λ (x : Reader). x.bare)) state.readers;
       writers = map (option_map (λ (x : Writer). x.bare)) state.writers;
       futures = state.futures;

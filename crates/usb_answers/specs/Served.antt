@@ -1,5 +1,5 @@
 -- Each endpoint that a script opens: its tickets in the order of submission, how many of them were taken, what was printed at that, and how all of them ended.
-use Rattle.std.specs.Prelude.{ℕ, zero, suc, ◌≡◌, ◌<◌, ◌≤◌, ◌==◌, nat_lt, Bool, false, not, ◌&&◌, List, [], ◌∷◌, ◌++◌, take, drop, length, map, flat_map, count_by, Option, Some, None, is_none, is_some, if◌then◌else◌}
+use Rattle.std.specs.Prelude.{ℕ, ◌≡◌, ◌<◌, ◌≤◌, ◌==◌, nat_lt, Bool, false, not, ◌&&◌, List, [], ◌∷◌, ◌++◌, take, drop, length, map, flat_map, count_by, Option, Some, None, is_none, is_some, if◌then◌else◌}
 use Rattle.std.specs.List.{All}
 use Rattle.std.specs.List.Sorted.{IsStrictlyIncreasing}
 use Rattle.std.specs.Option.{option_map_or}
@@ -8,7 +8,9 @@ use Rattle.usb_kernel.specs.Completions.{completion}
 use Rattle.usb_kernel.specs.Tickets.{tickets}
 use Rattle.usb_bus.specs.Completions.{transfer_completion}
 use Rattle.usb_script.specs.declared.item.Item.{Item}
-use Rattle.usb_script.specs.declared.item.Item.TheVariants.{CloseEndpoint, CloseReader, CloseWriter}
+use Rattle.usb_answers.specs.declared.call.Call.{Call}
+use Rattle.usb_answers.specs.declared.call.Call.TheVariants.{Close}
+use Rattle.usb_answers.specs.declared.call.CloseCall.TheVariants as closes
 use Rattle.usb_ledger.specs.declared.ends.TicketEnd.{TicketEnd}
 use Rattle.usb_ledger.specs.declared.ends.TicketEnd.TheVariants.{Taken, Dropped, Reclaimed}
 use Rattle.usb_host.specs.HostState.{HostState}
@@ -19,11 +21,15 @@ use Rattle.usb_names.specs.Names.{named}
 use Rattle.usb_answers.specs.State.{State, Endpoint, tickets_of}
 use Rattle.usb_answers.specs.ReaderAt.{endpoint_place, reader_place}
 use Rattle.usb_answers.specs.WriterAt.{writer_place}
-use Rattle.usb_script.specs.Kinds.{is_of_control}
+use Rattle.usb_answers.specs.Calls.{call_of, is_of_control}
 use Rattle.usb_answers.specs.Answer.{Answer}
 use Rattle.usb_answers.specs.Crowded.{bars_line}
 use Rattle.usb_answers.specs.Answers.{answer}
-use Rattle.usb_answers.specs.Ends.{readers_closed, writers_closed, endpoints_closed}
+use Rattle.usb_answers.specs.Closes.{closed}
+use Rattle.usb_answers.specs.Readers.{reader_closed}
+use Rattle.usb_answers.specs.Writers.{writer_closed}
+use Rattle.usb_answers.specs.Below.{given_below}
+use Rattle.usb_answers.specs.Ends.{readers_closed, writers_closed}
 use Rattle.usb_answers.specs.Output.{start, final_host}
 
 -- a closed endpoint: the endpoint as it is when it is closed, the journal right before that, and the lines that
@@ -60,30 +66,26 @@ abbrev pub closed_under : State → (ℕ → List (List ℕ)) → ℕ → List C
 closed_under state lines e = closed_as state.host.kernel.past (lines e) (named state.endpoints e)
 
 -- the endpoint that a call closes, which may be a reader's or a writer's
-abbrev pub closed_by_call : State → (ℕ → List (List ℕ)) → Item → List ClosedEndpoint
-closed_by_call state lines (CloseEndpoint e) = closed_under state lines (endpoint_place e)
-closed_by_call state lines (CloseReader r) = closed_under state lines (reader_place r)
-closed_by_call state lines (CloseWriter w) = closed_under state lines (writer_place w)
-closed_by_call state lines item = []
+abbrev pub closed_by_call : State → (ℕ → List (List ℕ)) → Call → List ClosedEndpoint
+closed_by_call state lines (Close (closes.Endpoint e)) = closed_under state lines (endpoint_place e)
+closed_by_call state lines (Close (closes.Reader r)) = closed_under state lines (reader_place r)
+closed_by_call state lines (Close (closes.Writer w)) = closed_under state lines (writer_place w)
+closed_by_call state lines call = []
 
 -- the one that an item closes: none where the session is crowded
 abbrev pub closed_by : State → (ℕ → List (List ℕ)) → Item → List ClosedEndpoint
-closed_by state lines item = if bars_line state item then [] else closed_by_call state lines item
+closed_by state lines item = if bars_line state item then [] else closed_by_call state lines (call_of item)
 
--- those of readers that the end of the session closes, of the names below k in order
+-- those of readers that the end of the session closes, of the names below k in order; then those of writers; and then those that have
+-- names of their own
 abbrev pub read_at_end : State → (ℕ → List (List ℕ)) → ℕ → List ClosedEndpoint
-read_at_end state lines zero = []
-read_at_end state lines (suc k) = read_at_end state lines k ++ closed_under (readers_closed state k) lines (reader_place k)
+read_at_end state lines = given_below reader_closed (λ s k. closed_under s lines (reader_place k)) state
 
--- then those of writers
 abbrev pub written_at_end : State → (ℕ → List (List ℕ)) → ℕ → List ClosedEndpoint
-written_at_end state lines zero = []
-written_at_end state lines (suc k) = written_at_end state lines k ++ closed_under (writers_closed state k) lines (writer_place k)
+written_at_end state lines = given_below writer_closed (λ s k. closed_under s lines (writer_place k)) state
 
--- and then those that have names of their own
 abbrev pub closed_at_end : State → (ℕ → List (List ℕ)) → ℕ → List ClosedEndpoint
-closed_at_end state lines zero = []
-closed_at_end state lines (suc k) = closed_at_end state lines k ++ closed_under (endpoints_closed state k) lines k
+closed_at_end state lines = given_below closed (λ s k. closed_under s lines k) state
 
 -- the endpoints that these items close, and then the end of the session
 abbrev pub closed_endpoints_from : State → (ℕ → List (List ℕ)) → List Item → List ClosedEndpoint
@@ -95,13 +97,13 @@ closed_endpoints_from state lines (item ∷ items) = closed_by state lines item 
 unfoldable pub closed_endpoints : List Item → List ClosedEndpoint
 closed_endpoints items = closed_endpoints_from (start items) (λ e. []) items
 
--- the ticket of a control transfer that the answer of a line hands in, if it does: the next number
-abbrev pub control_ticket_by : State → Item → Answer → List ℕ
-control_ticket_by state item a =
-    if is_of_control item && nat_lt (tickets_of state) (tickets_of a.state) then tickets_of state ∷ [] else []
+-- the ticket of a control transfer that the answer of a call hands in, if it does: the next number
+abbrev pub control_ticket_by : State → Call → Answer → List ℕ
+control_ticket_by state call a =
+    if is_of_control call && nat_lt (tickets_of state) (tickets_of a.state) then tickets_of state ∷ [] else []
 
 abbrev pub control_ticket : State → Item → List ℕ
-control_ticket state item = control_ticket_by state item (answer state item)
+control_ticket state item = control_ticket_by state (call_of item) (answer state item)
 
 abbrev pub control_tickets_from : State → List Item → List ℕ
 control_tickets_from state [] = []

@@ -61,8 +61,8 @@ abbrev pub pending : Endpoint → List ℕ
 pending e = drop e.taken e.tickets
 
 -- an endpoint as its calls see it, which keep of its tickets the pending ones
-abbrev pub kept : Endpoint → EndpointState
-kept e =
+abbrev pub endpoint_state : Endpoint → EndpointState
+endpoint_state e =
     record { device = e.device; address = e.address; kind = e.kind; maximum = e.maximum; key = e.key; pending = pending e }
 
 -- the number of tickets

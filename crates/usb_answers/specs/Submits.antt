@@ -9,9 +9,9 @@ use Rattle.usb_endpoint.specs.EndpointState.{EndpointState}
 use Rattle.usb_endpoint.specs.Submits.{entered}
 use Rattle.usb_host.specs.HostCalls.{host_calls}
 use Rattle.usb_host.specs.EndpointRefusals.{same_direction}
-use Rattle.usb_names.specs.Names.{named, change_named}
-use Rattle.usb_answers.specs.State.{State, Endpoint, kept, tickets_of}
-use Rattle.usb_answers.specs.Answer.{Answer, barred, ok_answer, if_open}
+use Rattle.usb_names.specs.Names.{change_named}
+use Rattle.usb_answers.specs.State.{State, Endpoint, endpoint_state, tickets_of}
+use Rattle.usb_answers.specs.Answer.{Answer, condition_answer, ok_answer}
 
 -- whether the endpoint has this direction
 abbrev pub has_direction : Direction → EndpointState → Bool
@@ -30,15 +30,11 @@ with_submission t h = record h { tickets = h.tickets ++ t ∷ [] }
 abbrev pub submitted : State → ℕ → BufferState → Endpoint → State
 submitted state e b h =
     record state {
-      host = entered host_calls state.host (kept h) b;
+      host = entered host_calls state.host (endpoint_state h) b;
       endpoints = change_named (with_submission (tickets_of state)) state.endpoints e;
     }
 
 -- on an endpoint that is open (h)
 abbrev pub submit_on : State → Direction → ℕ → BufferState → Endpoint → Answer
 submit_on state direction e b h =
-    if bars_submission state.host.kernel.past direction (kept h) then barred state else ok_answer (submitted state e b h)
-
--- the answer, by the endpoint's name
-unfoldable pub submit_answer : State → Direction → ℕ → BufferState → Answer
-submit_answer state direction e b = if_open (named state.endpoints e) (submit_on state direction e b) (barred state)
+    if bars_submission state.host.kernel.past direction (endpoint_state h) then condition_answer state else ok_answer (submitted state e b h)

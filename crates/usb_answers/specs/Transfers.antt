@@ -3,7 +3,6 @@ use Rattle.std.specs.Prelude.{ℕ, ◌+◌, ◌==◌, nat_le, not, ◌||◌, Boo
 use Rattle.usb_desc.specs.declared.types.Direction.{Direction}
 use Rattle.usb_xfer.specs.BufferState.{BufferState}
 use Rattle.usb_kernel.specs.declared.event.Event.{Event}
-use Rattle.usb_simulated.specs.declared.step.KernelStep.{KernelStep}
 use Rattle.usb_kernel.specs.Info.{unreaped}
 use Rattle.usb_bus.specs.Completions.{transfer_completion}
 use Rattle.usb_endpoint.specs.EndpointState.{EndpointState}
@@ -13,11 +12,10 @@ use Rattle.usb_host.specs.HostState.{HostState}
 use Rattle.usb_host.specs.HostCalls.{host_calls}
 use Rattle.usb_host.specs.TicketEnds.{host_taken}
 use Rattle.usb_lines.specs.Completions.{waited_line}
-use Rattle.usb_names.specs.Names.{named, change_named}
-use Rattle.usb_answers.specs.State.{State, Endpoint, kept, tickets_of}
-use Rattle.usb_answers.specs.Answer.{Answer, told, barred, if_open}
+use Rattle.usb_names.specs.Names.{change_named}
+use Rattle.usb_answers.specs.State.{State, Endpoint, endpoint_state, tickets_of}
+use Rattle.usb_answers.specs.Answer.{Answer, answer_with, condition_answer}
 use Rattle.usb_answers.specs.Submits.{has_direction}
-use Rattle.usb_answers.specs.Steps.{lent, then_rested, stepped_all}
 
 -- whether a blocking transfer of an open endpoint is barred: where it has the other direction, where a transfer of it is
 -- pending, or where 1,024 tickets are unreaped
@@ -31,21 +29,16 @@ with_taken t h = record h { tickets = h.tickets ++ t ∷ []; taken = h.taken + 1
 -- ticket t is taken, and the completion that the journal now has of it is printed
 abbrev pub transfer_ended : State → ℕ → ℕ → HostState → Answer
 transfer_ended state e t host =
-    told (record state { host = host_taken host t; endpoints = change_named (with_taken t) state.endpoints e })
+    answer_with (record state { host = host_taken host t; endpoints = change_named (with_taken t) state.endpoints e })
     (waited_line (transfer_completion host.kernel.past t))
 
 -- the buffer is submitted as the next ticket, its completion is waited for, and it is taken
 abbrev pub transfer_made : State → ℕ → BufferState → ℕ → Endpoint → Answer
 transfer_made state e b timeout h =
     transfer_ended state e (tickets_of state)
-    (blocked host_calls (tickets_of state) timeout (entered host_calls state.host (kept h) b))
+    (blocked host_calls (tickets_of state) timeout (entered host_calls state.host (endpoint_state h) b))
 
 -- on an endpoint that is open (h)
 abbrev pub transfer_on : State → Direction → ℕ → BufferState → ℕ → Endpoint → Answer
 transfer_on state direction e b timeout h =
-    if bars_transfer state.host.kernel.past direction (kept h) then barred state else transfer_made state e b timeout h
-
--- the steps of a barred call are applied all the same
-unfoldable pub transfer_answer : State → Direction → ℕ → BufferState → ℕ → List KernelStep → Answer
-transfer_answer state direction e b timeout steps =
-    if_open (named state.endpoints e) (λ h. then_rested (transfer_on (lent state steps) direction e b timeout h)) (barred (stepped_all state steps))
+    if bars_transfer state.host.kernel.past direction (endpoint_state h) then condition_answer state else transfer_made state e b timeout h

@@ -5,7 +5,7 @@ use Rattle.usb_host.specs.HostState.{HostState}
 use Rattle.usb_io.specs.Writers.{WriterState, Writing, writing}
 use Rattle.usb_names.specs.Names.{named}
 use Rattle.usb_answers.specs.BareWriters.{writer_with}
-use Rattle.usb_answers.specs.State.{State, Endpoint, Writer, kept}
+use Rattle.usb_answers.specs.State.{State, Endpoint, Writer, endpoint_state}
 
 -- the place of a writer's endpoint: behind those of readers
 abbrev pub writer_place : ℕ → ℕ
@@ -24,7 +24,7 @@ writer_at state w =
 
 -- a writer as its calls see it, and with the host of its session
 abbrev pub state_of_writer : WriterAt → WriterState
-state_of_writer x = writer_with (kept x.endpoint) x.writer.bare
+state_of_writer x = writer_with (endpoint_state x.endpoint) x.writer.bare
 
 abbrev pub writing_at : State → WriterAt → Writing HostState
 writing_at state x = writing state.host (state_of_writer x)

@@ -1,18 +1,13 @@
 -- A call on a writer that a session has open under a name.
-use Rattle.std.specs.Prelude.{ℕ, ◌≡◌, List, Some, Result, OnOk, String, string_bytes}
+use Rattle.std.specs.Prelude.{ℕ, ◌≡◌, Some, Result, OnOk, String, string_bytes}
 use Rattle.std.specs.declared.alloc.Global.{Global}
-use Rattle.usb_simulated.specs.declared.step.KernelStep.{KernelStep}
 use Rattle.usb_host.specs.HostState.{HostState}
 use Rattle.usb_io.specs.Writers.{WriterState}
 use Rattle.usb_names.specs.Names.{named, change_named}
-use Rattle.usb_answers.specs.declared.writer_calls.WriterCall.{WriterCall}
-use Rattle.usb_answers.specs.declared.writer_calls.WriterCall.TheVariants.{Write, PollWrite, Submit, SubmitEnd, Flush, PollFlush, FlushEnd, PollFlushEnd}
 use Rattle.usb_answers.specs.BareWriters.{bare_writer}
 use Rattle.usb_answers.specs.State.{State}
 use Rattle.usb_answers.specs.WriterAt.{WriterAt, writer_place, writer_at, state_of_writer}
-use Rattle.usb_answers.specs.Answer.{Answer, barred, if_open}
-use Rattle.usb_answers.specs.Steps.{lent, then_rested, stepped_all}
-use Rattle.usb_answers.specs.Writes.{write_on, poll_write_on, submit_buffer_on, submit_end_on, flush_on, poll_flush_on, flush_end_on, poll_flush_end_on}
+use Rattle.usb_answers.specs.Answer.{Answer}
 use Rattle.usb_answers.specs.SessionState.{SessionState}
 use Rattle.usb_answers.specs.Relation.{Represents}
 use Rattle.usb_answers.specs.Answered.{Answered}
@@ -42,23 +37,3 @@ WriterAnswers old new x y before after result call =
     ((s : SessionState) (state : State) (w : ℕ) (at : WriterAt) → Represents s state → s.host ≡ old →
     HasWriter s state w x at →
     Answered (with_writer_called s w new y) (string_bytes before) (string_bytes after) (call state w at))
-
--- what each call answers at a writer that is open
-abbrev pub call_on : WriterCall → State → ℕ → WriterAt → Answer
-call_on (Write bytes) state w x = write_on state w bytes.now x
-call_on (PollWrite bytes) state w x = poll_write_on state w bytes.now x
-call_on Submit state w x = submit_buffer_on state w x
-call_on SubmitEnd state w x = submit_end_on state w x
-call_on Flush state w x = flush_on state w x
-call_on PollFlush state w x = poll_flush_on state w x
-call_on FlushEnd state w x = flush_end_on state w x
-call_on PollFlushEnd state w x = poll_flush_end_on state w x
-
--- a call that waits for nothing
-abbrev pub called_answer : WriterCall → State → ℕ → Answer
-called_answer call state w = if_open (writer_at state w) (call_on call state w) (barred state)
-
--- and one that waits, with the steps of its line
-abbrev pub waited_answer : WriterCall → State → ℕ → List KernelStep → Answer
-waited_answer call state w steps =
-    if_open (writer_at state w) (λ x. then_rested (call_on call (lent state steps) w x)) (barred (stepped_all state steps))

@@ -1,5 +1,5 @@
--- `writer`, `inner`, `num`, `timeout` and `close` of a writer, which are barred where it is not open (`writer`: where the
--- endpoint isn't, or the writer's name is in use).
+-- `writer`, `inner`, `num`, `timeout` and `close` of a writer. `inner` and `close` are barred where it is not open, and `writer`
+-- where the endpoint isn't, or the writer's name is in use.
 use Rattle.std.specs.Prelude.{ℕ, ◌&&◌, Bool, List, [], Option, Some, None, if◌then◌else◌}
 use Rattle.usb_desc.specs.declared.types.Direction.TheVariants.{Out}
 use Rattle.usb_endpoint.specs.Closes.{after_close}
@@ -8,10 +8,10 @@ use Rattle.usb_io.specs.Writers.{fresh_writer}
 use Rattle.usb_streams.specs.Told.{WriterCalls, no_calls}
 use Rattle.usb_names.specs.Names.{named, is_free, freed, set_name, change_named}
 use Rattle.usb_writer_lines.specs.Needs.{bars_transfers}
-use Rattle.usb_answers.specs.State.{State, Endpoint, Writer, kept}
+use Rattle.usb_answers.specs.State.{State, Endpoint, Writer, endpoint_state}
 use Rattle.usb_answers.specs.BareWriters.{bare_writer}
 use Rattle.usb_answers.specs.WriterAt.{WriterAt, writer_place, writer_at}
-use Rattle.usb_answers.specs.Answer.{Answer, barred, ok_answer, if_open}
+use Rattle.usb_answers.specs.Answer.{Answer, condition_answer, ok_answer, if_open}
 use Rattle.usb_answers.specs.Submits.{has_direction}
 use Rattle.usb_answers.specs.Readers.{as_streamed}
 
@@ -25,7 +25,7 @@ abbrev pub with_writer : State → ℕ → ℕ → ℕ → Endpoint → State
 with_writer state w e size h =
     record state {
       endpoints = set_name (freed state.endpoints e) (writer_place w) (as_streamed h);
-      writers = set_name state.writers w (record { bare = bare_writer (fresh_writer (kept h) size); calls = nothing_called h.tickets });
+      writers = set_name state.writers w (record { bare = bare_writer (fresh_writer (endpoint_state h) size); calls = nothing_called h.tickets });
     }
 
 -- whether a writer's name may be opened: it and its place among the endpoints are free
@@ -35,12 +35,12 @@ is_free_writer state w = is_free state.writers w && is_free state.endpoints (wri
 -- of an endpoint that is open (h)
 abbrev pub writer_on : State → ℕ → ℕ → ℕ → Endpoint → Answer
 writer_on state w e size h =
-    if is_free_writer state w then (if has_direction Out (kept h) then ok_answer (with_writer state w e size h) else barred state)
-    else barred state
+    if is_free_writer state w then (if has_direction Out (endpoint_state h) then ok_answer (with_writer state w e size h) else condition_answer state)
+    else condition_answer state
 
 -- `writer`: a writer is made of an endpoint
 unfoldable pub writer_answer : State → ℕ → ℕ → ℕ → Answer
-writer_answer state w e size = if_open (named state.endpoints e) (writer_on state w e size) (barred state)
+writer_answer state w e size = if_open (named state.endpoints e) (writer_on state w e size) (condition_answer state)
 
 -- the endpoint is open under its own name again, and the writer's is free
 abbrev pub without_writer : State → ℕ → ℕ → WriterAt → State
@@ -53,7 +53,7 @@ without_writer state e w x =
 -- `inner`: the endpoint comes back, under a name that is free
 unfoldable pub writer_inner_answer : State → ℕ → ℕ → Answer
 writer_inner_answer state e w =
-    if_open (writer_at state w) (λ x. if is_free state.endpoints e then ok_answer (without_writer state e w x) else barred state) (barred state)
+    if_open (writer_at state w) (λ x. if is_free state.endpoints e then ok_answer (without_writer state e w x) else condition_answer state) (condition_answer state)
 
 -- a writer of which so many transfers are to be pending
 abbrev pub with_transfers : ℕ → Writer → Writer
@@ -62,12 +62,8 @@ with_transfers n x = record x { bare = record x.bare { n = n } }
 -- it is one at least, and 64 at most
 abbrev pub transfers_on : State → ℕ → ℕ → Answer
 transfers_on state w n =
-    if bars_transfers n then barred state
+    if bars_transfers n then condition_answer state
     else ok_answer (record state { writers = change_named (with_transfers n) state.writers w })
-
--- `num`: how many transfers are to be pending is set
-unfoldable pub writer_num_answer : State → ℕ → ℕ → Answer
-writer_num_answer state w n = if_open (named state.writers w) (λ x. transfers_on state w n) (barred state)
 
 -- a writer whose waits have this timeout
 abbrev pub with_write_timeout : ℕ → Writer → Writer
@@ -78,22 +74,18 @@ abbrev pub write_timeout_on : State → ℕ → ℕ → Answer
 write_timeout_on state w timeout =
     ok_answer (record state { writers = change_named (with_write_timeout timeout) state.writers w })
 
--- `timeout`: the timeout of waits is set, in nanoseconds
-unfoldable pub write_timeout_answer : State → ℕ → ℕ → Answer
-write_timeout_answer state w timeout = if_open (named state.writers w) (λ x. write_timeout_on state w timeout) (barred state)
-
 -- a writer is closed as its endpoint is, and its name is free. (Bytes that it did not submit are gone)
 abbrev pub closed_writer : State → ℕ → Endpoint → State
 closed_writer state w h =
     record state {
-      host = after_close host_calls state.host (kept h);
+      host = after_close host_calls state.host (endpoint_state h);
       endpoints = freed state.endpoints (writer_place w);
       writers = freed state.writers w;
     }
 
 -- `close`
 unfoldable pub close_writer_answer : State → ℕ → Answer
-close_writer_answer state w = if_open (named state.endpoints (writer_place w)) (λ h. ok_answer (closed_writer state w h)) (barred state)
+close_writer_answer state w = if_open (named state.endpoints (writer_place w)) (λ h. ok_answer (closed_writer state w h)) (condition_answer state)
 
 -- what is open under a name is closed, if anything is
 abbrev pub writer_closed_at : State → ℕ → Option Endpoint → State

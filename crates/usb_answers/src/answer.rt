@@ -1,444 +1,159 @@
 //! The answer to a line of a script.
 
-ghost use Rattle.std.specs.Prelude.{◌≡◌, ◌≤◌, ◌+◌, OnOk, IsTrue, string_bytes};
+ghost use Rattle.std.specs.Prelude.{◌≡◌, ◌≤◌, ◌+◌, OnOk, length, string_bytes};
 ghost use Rattle.usb_script.specs.ItemKinds.{steps_in, places_in};
 ghost use Rattle.usb_answers.specs.State.{State};
-ghost use Rattle.usb_answers.specs.Answer.{barred};
+ghost use Rattle.usb_answers.specs.Answer.{condition_answer};
 ghost use Rattle.usb_answers.specs.Steps.{stepped_all};
+ghost use Rattle.usb_answers.specs.Calls.{places_of};
+ghost use Rattle.usb_answers.specs.TreeCalls.{on_tree};
+ghost use Rattle.usb_answers.specs.NameCalls.{on_open, on_close};
+ghost use Rattle.usb_answers.specs.Futures.{on_future};
+ghost use Rattle.usb_answers.specs.CallAnswers.{call_answer};
 ghost use Rattle.usb_answers.specs.Crowded.{bars_line};
-ghost use Rattle.usb_answers.specs.LineAnswers.{line_answer};
 ghost use Rattle.usb_answers.specs.Answers.{answer};
 ghost use Rattle.usb_answers.specs.Answered.{Answers};
 ghost use Rattle.usb_answers.specs.Relation.{Represents};
-ghost use Rattle.usb_script.specs.Kinds.{is_of_endpoint, is_of_interface, is_of_handle, is_of_reader, sets_reader, is_of_writer, sets_writer, is_of_control, asks_descriptor, is_of_tree};
 
-use crate::reader_calls::ReaderCall;
+use crate::call::{Call, CloseCall, FutureCall, OpenCall, TreeCall};
+use crate::calling::call_of;
 use crate::session::Session;
-use crate::writer_calls::WriterCall;
 use usb_desc::NoMemory;
 use usb_lines::write_condition;
-use usb_script::Item;
+use usb_script::{Item, Name};
 use usb_writer_lines::MOST_UNREAPED;
 
 impl Session {
-    /// The answer to a call on an endpoint that is open.
-    #[tactic(auto, unfolding(crate::specs::LineAnswers::line_answer))]
-    fn answer_endpoint(&mut self, line: &mut String, item: Item) -> Result<(), NoMemory>
-        requires kind { IsTrue (is_of_endpoint item) }
-        requires spare { places_in item ≤ self.old.host.kernel.spare }
+    /// The answer to what is asked of the tree of attributes, or of the packets of udev.
+    fn on_tree(&mut self, line: &mut String, call: TreeCall) -> Result<(), NoMemory>
         ensures answered { Answers self.old self.new line.old line.new result
-            (λ state. line_answer state item) }
-        ensures spare { OnOk result
-            (self.old.host.kernel.spare ≤ self.new.host.kernel.spare + places_in item) }
+            (λ state. on_tree state call) }
+        ensures spare { self.new.host.kernel.spare ≡ self.old.host.kernel.spare }
     {
-        match item {
-            Item::SubmitIn { endpoint, length } => self.submit_in(line, endpoint, length),
-            Item::SubmitOut { endpoint, bytes } => self.submit_out(line, endpoint, bytes),
-            Item::Pending { endpoint } => self.pending(line, endpoint),
-            Item::Poll { endpoint } => self.poll(line, endpoint),
-            Item::Wait {
-                endpoint,
-                timeout,
-                steps,
-            } => self.wait(line, endpoint, timeout, steps),
-            Item::TransferIn {
-                endpoint,
-                length,
-                timeout,
-                steps,
-            } => self.transfer_in(line, endpoint, length, timeout, steps),
-            Item::TransferOut {
-                endpoint,
-                bytes,
-                timeout,
-                steps,
-            } => self.transfer_out(line, endpoint, bytes, timeout, steps),
-            Item::Cancel { endpoint } => self.cancel(line, endpoint),
-            Item::ClearHalt { endpoint } => self.clear_halt(line, endpoint),
-            Item::CloseEndpoint { endpoint } => self.close(line, endpoint),
-            _ => unreachable!(),
+        match call {
+            TreeCall::List => self.list(line),
+            TreeCall::Buses => self.buses(line),
+            TreeCall::Probe(path) => self.probe(line, &path),
+            TreeCall::Match(path, selector) => self.match_device(line, &path, &selector),
+            TreeCall::Hotplug => self.hotplug(line),
         }
     }
 
-    /// The answer to a call on an interface that is claimed, or on an endpoint.
-    #[tactic(auto, unfolding(crate::specs::LineAnswers::line_answer))]
-    fn answer_interface(&mut self, line: &mut String, item: Item) -> Result<(), NoMemory>
-        requires kind { IsTrue (is_of_interface item) }
-        requires spare { places_in item ≤ self.old.host.kernel.spare }
+    /// The answer to a call that opens something under a name that is free.
+    fn on_open(&mut self, line: &mut String, call: OpenCall) -> Result<(), NoMemory>
         ensures answered { Answers self.old self.new line.old line.new result
-            (λ state. line_answer state item) }
-        ensures spare { OnOk result
-            (self.old.host.kernel.spare ≤ self.new.host.kernel.spare + places_in item) }
+            (λ state. on_open state call) }
+        ensures spare { self.new.host.kernel.spare ≡ self.old.host.kernel.spare }
     {
-        match item {
-            Item::CloneInterface { name, interface } => self.clone_interface(line, name, interface),
-            Item::CloseInterface { interface } => self.close_interface(line, interface),
-            Item::SetAltSetting { interface, setting } => {
-                self.set_alt_setting(line, interface, setting)
+        match call {
+            OpenCall::Device {
+                device,
+                bus,
+                address,
+            } => self.open(line, device, bus, address),
+            OpenCall::Path { device, path } => self.open_path(line, device, &path),
+            OpenCall::CloneDevice { name, device } => self.clone_device(line, name, device),
+            OpenCall::Claim {
+                device,
+                number,
+                interface,
+                detach,
+            } => self.claim(line, device, number, interface, detach),
+            OpenCall::CloneInterface { name, interface } => {
+                self.clone_interface(line, name, interface)
             }
-            Item::GetAltSetting { interface } => self.get_alt_setting(line, interface),
-            Item::InterfaceDescriptor { interface } => self.interface_descriptor(line, interface),
-            Item::Release { interface } => self.release(line, interface),
-            Item::Endpoint {
+            OpenCall::Endpoint {
                 endpoint,
                 interface,
                 address,
                 kind,
             } => self.endpoint(line, endpoint, interface, address, kind),
-            item => self.answer_endpoint(line, item),
-        }
-    }
-
-    /// The answer to a call on a device (`open` too), on an interface or on an endpoint, but for
-    /// control transfers and readers.
-    #[tactic(auto, unfolding(crate::specs::LineAnswers::line_answer))]
-    fn answer_handle(&mut self, line: &mut String, item: Item) -> Result<(), NoMemory>
-        requires kind { IsTrue (is_of_handle item) }
-        requires spare { places_in item ≤ self.old.host.kernel.spare }
-        ensures answered { Answers self.old self.new line.old line.new result
-            (λ state. line_answer state item) }
-        ensures spare { OnOk result
-            (self.old.host.kernel.spare ≤ self.new.host.kernel.spare + places_in item) }
-    {
-        match item {
-            Item::Open {
-                device,
-                bus,
-                address,
-            } => self.open(line, device, bus, address),
-            Item::DeviceDescriptor { device } => self.device_descriptor(line, device),
-            Item::Descriptors { device } => self.descriptors(line, device),
-            Item::CloneDevice { name, device } => self.clone_device(line, name, device),
-            Item::CloseDevice { device } => self.close_device(line, device),
-            Item::ActiveConfiguration { device } => self.active_configuration(line, device),
-            Item::Speed { device } => self.speed(line, device),
-            Item::SetConfiguration { device, value } => self.set_configuration(line, device, value),
-            Item::Reset { device } => self.reset(line, device),
-            Item::DetachDriver { device, number } => self.detach_driver(line, device, number),
-            Item::AttachDriver { device, number } => self.attach_driver(line, device, number),
-            Item::Claim {
-                device,
-                number,
-                interface,
-            } => self.claim(line, device, number, interface, false),
-            Item::DetachAndClaim {
-                device,
-                number,
-                interface,
-            } => self.claim(line, device, number, interface, true),
-            item => self.answer_interface(line, item),
-        }
-    }
-
-    /// The answer to a call on the tree of attributes or on packets of udev.
-    #[tactic(auto, unfolding(crate::specs::LineAnswers::line_answer))]
-    fn answer_tree(&mut self, line: &mut String, item: Item) -> Result<(), NoMemory>
-        requires kind { IsTrue (is_of_tree item) }
-        ensures answered { Answers self.old self.new line.old line.new result
-            (λ state. line_answer state item) }
-        ensures spare { OnOk result
-            (self.old.host.kernel.spare ≤ self.new.host.kernel.spare + places_in item) }
-    {
-        match item {
-            Item::List => self.list(line),
-            Item::Buses => self.buses(line),
-            Item::Probe { path } => self.probe(line, &path),
-            Item::Match { path, selector } => self.match_device(line, &path, &selector),
-            Item::Hotplug => self.hotplug(line),
-            Item::OpenPath { device, path } => self.open_path(line, device, &path),
-            _ => unreachable!(),
-        }
-    }
-
-    /// The answer to a call by which a reader is made of an endpoint, set, cancelled or closed.
-    #[tactic(auto, unfolding(crate::specs::LineAnswers::line_answer))]
-    fn answer_reader_setting(&mut self, line: &mut String, item: Item) -> Result<(), NoMemory>
-        requires kind { IsTrue (sets_reader item) }
-        requires spare { places_in item ≤ self.old.host.kernel.spare }
-        ensures answered { Answers self.old self.new line.old line.new result
-            (λ state. line_answer state item) }
-        ensures spare { OnOk result
-            (self.old.host.kernel.spare ≤ self.new.host.kernel.spare + places_in item) }
-    {
-        match item {
-            Item::Reader {
+            OpenCall::Reader {
                 reader,
                 endpoint,
                 transfer_size,
             } => self.reader(line, reader, endpoint, transfer_size),
-            Item::IntoInner { endpoint, reader } => self.inner(line, endpoint, reader),
-            Item::SetNumTransfers { reader, count } => {
-                self.call_reader(line, reader, ReaderCall::SetNumTransfers(count))
-            }
-            Item::SetReadTimeout { reader, timeout } => {
-                self.set_read_timeout(line, reader, timeout)
-            }
-            Item::CancelReader { reader } => self.call_reader(line, reader, ReaderCall::Cancel),
-            Item::CloseReader { reader } => self.close_reader(line, reader),
-            _ => unreachable!(),
-        }
-    }
-
-    /// The answer to a call on a reader that is open.
-    #[tactic(auto, unfolding(crate::specs::LineAnswers::line_answer))]
-    fn answer_reader(&mut self, line: &mut String, item: Item) -> Result<(), NoMemory>
-        requires kind { IsTrue (is_of_reader item) }
-        requires spare { places_in item ≤ self.old.host.kernel.spare }
-        ensures answered { Answers self.old self.new line.old line.new result
-            (λ state. line_answer state item) }
-        ensures spare { OnOk result
-            (self.old.host.kernel.spare ≤ self.new.host.kernel.spare + places_in item) }
-    {
-        match item {
-            Item::Read {
-                framing,
-                reader,
-                length,
-                steps,
-            } => self.wait_reader(line, reader, ReaderCall::Read(framing, length), steps),
-            Item::PollRead {
-                framing,
-                reader,
-                length,
-            } => self.call_reader(line, reader, ReaderCall::PollRead(framing, length)),
-            Item::FillBuf {
-                framing,
-                reader,
-                steps,
-            } => self.wait_reader(line, reader, ReaderCall::FillBuf(framing), steps),
-            Item::PollFillBuf { framing, reader } => {
-                self.call_reader(line, reader, ReaderCall::PollFillBuf(framing))
-            }
-            Item::Consume {
-                framing,
-                reader,
-                count,
-            } => self.call_reader(line, reader, ReaderCall::Consume(framing, count)),
-            Item::IsEnd { reader } => self.is_end(line, reader),
-            Item::ConsumeEnd { reader } => self.call_reader(line, reader, ReaderCall::ConsumeEnd),
-            item => self.answer_reader_setting(line, item),
-        }
-    }
-
-    /// The answer to a call by which a writer is made of an endpoint, set or closed.
-    #[tactic(auto, unfolding(crate::specs::LineAnswers::line_answer))]
-    fn answer_writer_setting(&mut self, line: &mut String, item: Item) -> Result<(), NoMemory>
-        requires kind { IsTrue (sets_writer item) }
-        requires spare { places_in item ≤ self.old.host.kernel.spare }
-        ensures answered { Answers self.old self.new line.old line.new result
-            (λ state. line_answer state item) }
-        ensures spare { OnOk result
-            (self.old.host.kernel.spare ≤ self.new.host.kernel.spare + places_in item) }
-    {
-        match item {
-            Item::Writer {
+            OpenCall::ReaderInner { endpoint, reader } => self.inner(line, endpoint, reader),
+            OpenCall::Writer {
                 writer,
                 endpoint,
                 transfer_size,
             } => self.writer(line, writer, endpoint, transfer_size),
-            Item::WriterIntoInner { endpoint, writer } => self.writer_inner(line, endpoint, writer),
-            Item::SetWriterTransfers { writer, count } => {
-                self.set_writer_transfers(line, writer, count)
-            }
-            Item::SetWriteTimeout { writer, timeout } => {
-                self.set_write_timeout(line, writer, timeout)
-            }
-            Item::CloseWriter { writer } => self.close_writer(line, writer),
-            _ => unreachable!(),
-        }
-    }
-
-    /// The answer to a call on a writer that is open.
-    #[tactic(auto, unfolding(crate::specs::LineAnswers::line_answer, crate::specs::Writes::write_answer, crate::specs::Writes::poll_write_answer))]
-    fn answer_writer(&mut self, line: &mut String, item: Item) -> Result<(), NoMemory>
-        requires kind { IsTrue (is_of_writer item) }
-        requires spare { places_in item ≤ self.old.host.kernel.spare }
-        ensures answered { Answers self.old self.new line.old line.new result
-            (λ state. line_answer state item) }
-        ensures spare { OnOk result
-            (self.old.host.kernel.spare ≤ self.new.host.kernel.spare + places_in item) }
-    {
-        match item {
-            Item::Write {
-                writer,
-                bytes,
-                steps,
-            } => self.wait_writer(line, writer, WriterCall::Write(bytes.as_slice()), steps),
-            Item::PollWrite { writer, bytes } => {
-                self.call_writer(line, writer, WriterCall::PollWrite(bytes.as_slice()))
-            }
-            Item::Submit { writer } => self.call_writer(line, writer, WriterCall::Submit),
-            Item::SubmitEnd { writer } => self.call_writer(line, writer, WriterCall::SubmitEnd),
-            Item::Flush { writer, steps } => {
-                self.wait_writer(line, writer, WriterCall::Flush, steps)
-            }
-            Item::PollFlush { writer } => self.call_writer(line, writer, WriterCall::PollFlush),
-            Item::FlushEnd { writer, steps } => {
-                self.wait_writer(line, writer, WriterCall::FlushEnd, steps)
-            }
-            Item::PollFlushEnd { writer } => {
-                self.call_writer(line, writer, WriterCall::PollFlushEnd)
-            }
-            item => self.answer_writer_setting(line, item),
-        }
-    }
-
-    /// The answer to a request for a descriptor.
-    #[tactic(auto, unfolding(crate::specs::LineAnswers::line_answer))]
-    fn answer_request(&mut self, line: &mut String, item: Item) -> Result<(), NoMemory>
-        requires kind { IsTrue (asks_descriptor item) }
-        requires spare { places_in item ≤ self.old.host.kernel.spare }
-        ensures answered { Answers self.old self.new line.old line.new result
-            (λ state. line_answer state item) }
-        ensures spare { OnOk result
-            (self.old.host.kernel.spare ≤ self.new.host.kernel.spare + places_in item) }
-    {
-        match item {
-            Item::GetDescriptor {
-                device,
-                descriptor_type,
-                index,
-                language,
-                timeout,
-                steps,
-            } => self.get_descriptor(
-                line,
-                device,
-                descriptor_type,
-                index,
-                language,
-                timeout,
-                steps,
-            ),
-            Item::SupportedLanguages {
-                device,
-                timeout,
-                steps,
-            } => self.supported_languages(line, device, timeout, steps),
-            Item::StringDescriptor {
-                device,
-                index,
-                language,
-                timeout,
-                steps,
-            } => self.string_descriptor(line, device, index, language, timeout, steps),
-            _ => unreachable!(),
-        }
-    }
-
-    /// The answer to a control transfer, which is awaited or on its way.
-    #[tactic(auto, unfolding(crate::specs::LineAnswers::line_answer))]
-    fn answer_control(&mut self, line: &mut String, item: Item) -> Result<(), NoMemory>
-        requires kind { IsTrue (is_of_control item) }
-        requires spare { places_in item ≤ self.old.host.kernel.spare }
-        ensures answered { Answers self.old self.new line.old line.new result
-            (λ state. line_answer state item) }
-        ensures spare { OnOk result
-            (self.old.host.kernel.spare ≤ self.new.host.kernel.spare + places_in item) }
-    {
-        match item {
-            Item::ControlIn {
-                target,
-                setup,
-                length,
-                timeout,
-                steps,
-            } => self.control_in(line, target, setup, length, timeout, steps),
-            Item::ControlOut {
-                target,
-                setup,
-                bytes,
-                timeout,
-                steps,
-            } => self.control_out(line, target, setup, bytes, timeout, steps),
-            Item::StartControlIn {
+            OpenCall::WriterInner { endpoint, writer } => self.writer_inner(line, endpoint, writer),
+            OpenCall::ControlIn {
                 future,
                 target,
                 setup,
                 length,
                 timeout,
             } => self.start_control_in(line, future, target, setup, length, timeout),
-            Item::StartControlOut {
+            OpenCall::ControlOut {
                 future,
                 target,
                 setup,
                 bytes,
                 timeout,
             } => self.start_control_out(line, future, target, setup, bytes, timeout),
-            Item::PollFuture { future } => self.poll_future(line, future),
-            Item::WaitFuture { future, steps } => self.wait_future(line, future, steps),
-            Item::CloseFuture { future } => self.close_future(line, future),
-            item => self.answer_request(line, item),
         }
     }
 
-    /// The answer to a line while the session is not crowded.
-    #[tactic(auto, unfolding(crate::specs::LineAnswers::line_answer))]
-    fn answer_line(&mut self, line: &mut String, item: Item) -> Result<(), NoMemory>
-        requires spare { places_in item ≤ self.old.host.kernel.spare }
+    /// The answer to a call that closes what is open under a name.
+    fn on_close(&mut self, line: &mut String, call: CloseCall) -> Result<(), NoMemory>
         ensures answered { Answers self.old self.new line.old line.new result
-            (λ state. line_answer state item) }
-        ensures spare { OnOk result
-            (self.old.host.kernel.spare ≤ self.new.host.kernel.spare + places_in item) }
+            (λ state. on_close state call) }
+        ensures spare { self.new.host.kernel.spare ≡ self.old.host.kernel.spare }
     {
-        match item {
-            Item::Device { .. }
-            | Item::Driver { .. }
-            | Item::Attribute { .. }
-            | Item::Denied { .. }
-            | Item::Child { .. }
-            | Item::Link { .. }
-            | Item::Entry { .. }
-            | Item::Root { .. }
-            | Item::Uevent { .. } => Ok(()),
-            Item::List
-            | Item::Buses
-            | Item::Probe { .. }
-            | Item::Match { .. }
-            | Item::Hotplug
-            | Item::OpenPath { .. } => self.answer_tree(line, item),
-            Item::Now => self.now(line),
-            Item::Steps(steps) => {
+        match call {
+            CloseCall::Device(name) => self.close_device(line, name),
+            CloseCall::Interface(name) => self.close_interface(line, name),
+            CloseCall::Release(name) => self.release(line, name),
+            CloseCall::Endpoint(name) => self.close(line, name),
+            CloseCall::Reader(name) => self.close_reader(line, name),
+            CloseCall::Writer(name) => self.close_writer(line, name),
+            CloseCall::Future(name) => self.close_future(line, name),
+        }
+    }
+
+    /// The answer to a call on the control transfer on its way that has this name.
+    fn on_future(&mut self, line: &mut String, name: Name, call: FutureCall) -> Result<(), NoMemory>
+        requires room { places_of (Call.Future name call) ≤ self.old.host.kernel.spare }
+        ensures answered { Answers self.old self.new line.old line.new result
+            (λ state. on_future state name call) }
+        ensures spare { self.new.host.kernel.spare + places_of (Call.Future name call)
+            ≡ self.old.host.kernel.spare }
+    {
+        match call {
+            FutureCall::Poll => self.poll_future(line, name),
+            FutureCall::Wait(steps) => self.wait_future(line, name, steps),
+        }
+    }
+
+    /// The answer to a call while the session is not crowded.
+    #[tactic(auto, unfolding(crate::specs::CallAnswers::call_answer))]
+    fn call(&mut self, line: &mut String, call: Call) -> Result<(), NoMemory>
+        requires spare { places_of call ≤ self.old.host.kernel.spare }
+        ensures answered { Answers self.old self.new line.old line.new result
+            (λ state. call_answer state call) }
+        ensures spare { self.old.host.kernel.spare
+            ≤ self.new.host.kernel.spare + places_of call }
+    {
+        match call {
+            Call::Setup => Ok(()),
+            Call::Steps(steps) => {
                 self.step_all(steps);
                 Ok(())
             }
-            Item::ControlIn { .. }
-            | Item::ControlOut { .. }
-            | Item::GetDescriptor { .. }
-            | Item::SupportedLanguages { .. }
-            | Item::StringDescriptor { .. }
-            | Item::StartControlIn { .. }
-            | Item::StartControlOut { .. }
-            | Item::PollFuture { .. }
-            | Item::WaitFuture { .. }
-            | Item::CloseFuture { .. } => self.answer_control(line, item),
-            Item::Reader { .. }
-            | Item::IntoInner { .. }
-            | Item::SetNumTransfers { .. }
-            | Item::SetReadTimeout { .. }
-            | Item::CancelReader { .. }
-            | Item::CloseReader { .. }
-            | Item::Read { .. }
-            | Item::PollRead { .. }
-            | Item::FillBuf { .. }
-            | Item::PollFillBuf { .. }
-            | Item::Consume { .. }
-            | Item::IsEnd { .. }
-            | Item::ConsumeEnd { .. } => self.answer_reader(line, item),
-            Item::Writer { .. }
-            | Item::WriterIntoInner { .. }
-            | Item::SetWriterTransfers { .. }
-            | Item::SetWriteTimeout { .. }
-            | Item::CloseWriter { .. }
-            | Item::Write { .. }
-            | Item::PollWrite { .. }
-            | Item::Submit { .. }
-            | Item::SubmitEnd { .. }
-            | Item::Flush { .. }
-            | Item::PollFlush { .. }
-            | Item::FlushEnd { .. }
-            | Item::PollFlushEnd { .. } => self.answer_writer(line, item),
-            item => self.answer_handle(line, item),
+            Call::Now => self.now(line),
+            Call::Tree(call) => self.on_tree(line, call),
+            Call::Open(call) => self.on_open(line, call),
+            Call::Close(call) => self.on_close(line, call),
+            Call::Device(name, call) => self.on_device(line, name, call),
+            Call::Interface(name, call) => self.on_interface(line, name, call),
+            Call::Endpoint(name, call, steps) => self.on_endpoint(line, name, call, steps),
+            Call::Reader(name, call, steps) => self.on_reader(line, name, call, steps),
+            Call::Writer(name, call, steps) => self.on_writer(line, name, call, steps),
+            Call::Control(call, steps) => self.on_control(line, call, steps),
+            Call::Future(name, call) => self.on_future(line, name, call),
         }
     }
 
@@ -457,7 +172,7 @@ impl Session {
     fn answer_barred(&mut self, line: &mut String, item: Item) -> Result<(), NoMemory>
         requires spare { places_in item ≤ self.old.host.kernel.spare }
         ensures answered { Answers self.old self.new line.old line.new result
-            (λ state. barred (stepped_all state (steps_in item))) }
+            (λ state. condition_answer (stepped_all state (steps_in item))) }
         ensures spare { self.old.host.kernel.spare ≤ self.new.host.kernel.spare + places_in item }
     {
         let steps = item.into_steps(*line.allocator());
@@ -476,6 +191,6 @@ impl Session {
         if self.bars_line(&item) {
             return self.answer_barred(line, item);
         }
-        self.answer_line(line, item)
+        self.call(line, call_of(*line.allocator(), item))
     }
 }

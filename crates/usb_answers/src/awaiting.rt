@@ -5,10 +5,11 @@ ghost use Rattle.std.specs.Option.{ForSome};
 ghost use Rattle.usb_kernel.specs.Tickets.{tickets};
 ghost use Rattle.usb_device.specs.Futures.{StandsFuture};
 ghost use Rattle.usb_answers.specs.Controls.{request_for, request_with};
-ghost use Rattle.usb_answers.specs.Futures.{start_answer, poll_future_answer, wait_future_answer};
+ghost use Rattle.usb_answers.specs.Futures.{start_answer, on_future};
 ghost use Rattle.usb_answers.specs.Answered.{Answers};
 ghost use Rattle.usb_answers.specs.TargetCalls.{DevicesStand, InterfacesStand, number_of_target, started_host, started_future};
 
+use crate::call::FutureCall;
 use crate::controlling::bars_control;
 use crate::session::Session;
 use futures::task::Poll;
@@ -173,7 +174,7 @@ impl Session {
     /// `fpoll`: the answer of a future is taken, where its transfer is reaped, and its name is free.
     pub(crate) fn poll_future(&mut self, line: &mut String, name: Name) -> Result<(), NoMemory>
         ensures answered { Answers self.old self.new line.old line.new result
-            (λ state. poll_future_answer state name) }
+            (λ state. on_future state name FutureCall.Poll) }
         ensures spare { self.new.host.kernel.spare ≡ self.old.host.kernel.spare }
     {
         let number = name.number();
@@ -198,7 +199,7 @@ impl Session {
     ) -> Result<(), NoMemory>
         requires room { length steps ≤ self.old.host.kernel.spare }
         ensures answered { Answers self.old self.new line.old line.new result
-            (λ state. wait_future_answer state name steps) }
+            (λ state. on_future state name (FutureCall.Wait steps)) }
         ensures spare { self.new.host.kernel.spare + length steps ≡ self.old.host.kernel.spare }
     {
         self.host.lend_steps(steps.into_vec());

@@ -7,7 +7,7 @@ ghost use Rattle.usb_answers.specs.ReaderAt.{endpoint_place};
 ghost use Rattle.usb_answers.specs.State.{State};
 ghost use Rattle.usb_names.specs.Names.{named, freed};
 ghost use Rattle.usb_answers.specs.Answer.{ok_answer};
-ghost use Rattle.usb_answers.specs.Closes.{cancelled, cancel_answer, closed, close_answer, close_future_answer, close_device_answer, close_interface_answer, release_answer};
+ghost use Rattle.usb_answers.specs.Closes.{cancelled, closed, close_answer, close_future_answer, close_device_answer, close_interface_answer, release_answer};
 ghost use Rattle.usb_answers.specs.Ends.{future_closed_under, interface_closed, name_closed};
 ghost use Rattle.usb_answers.specs.Relation.{Represents};
 ghost use Rattle.usb_answers.specs.Answered.{Answers};
@@ -23,7 +23,7 @@ use usb_script::Name;
 use usb_xfer::Any;
 
 /// Discards the pending transfers of an endpoint that is open.
-fn cancel_open(
+pub(crate) fn cancel_open(
     endpoint: &mut Endpoint<Any, Any>,
     host: &mut Host,
     line: &mut String,
@@ -38,21 +38,6 @@ fn cancel_open(
 }
 
 impl Session {
-    /// `cancel`: the pending transfers of an endpoint are discarded, from the last to the first.
-    pub(crate) fn cancel(&mut self, line: &mut String, name: Name) -> Result<(), NoMemory>
-        ensures answered { Answers self.old self.new line.old line.new result
-            (λ state. cancel_answer state (endpoint_place name)) }
-        ensures spare { self.new.host.kernel.spare ≡ self.old.host.kernel.spare }
-    {
-        let number = name.number();
-        let Some(mut endpoint) = take_at(&mut self.endpoints, number) else {
-            return write_condition(line);
-        };
-        let cancelled = cancel_open(&mut endpoint, &mut self.host, line);
-        put_at(&mut self.endpoints, number, endpoint);
-        cancelled
-    }
-
     /// Closes what is open under the number of an endpoint's name, and says whether anything was.
     pub(crate) fn close_endpoint(&mut self, number: u8) -> bool
         ensures was_open { result ≡ is_some (named self.old.endpoints (endpoint_place number)) }

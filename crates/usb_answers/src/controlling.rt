@@ -1,21 +1,18 @@
-//! `ctlin` and `ctlout`: a control transfer of a device or of an interface, with the steps of the
-//! line.
+//! `ctlin` and `ctlout`: a control transfer of a device or of an interface.
 
-ghost use Rattle.std.specs.Prelude.{◌≡◌, ◌≤◌, ◌<◌, ◌+◌, ◌^◌, length, IfOk};
+ghost use Rattle.std.specs.Prelude.{◌≡◌, ◌<◌, ◌^◌, length, IfOk};
 ghost use Rattle.usb_kernel.specs.Tickets.{tickets};
 ghost use Rattle.usb_error.specs.Outcomes.{result_map};
 ghost use Rattle.usb_device.specs.ControlCalls.{controlled, control_answered};
 ghost use Rattle.usb_lines.specs.Controls.{received_line, sent_line};
-ghost use Rattle.usb_answers.specs.Controls.{bars_control, request_for, request_with, came_line, control_in_answer, control_out_answer};
-ghost use Rattle.usb_answers.specs.Answered.{Answers};
+ghost use Rattle.usb_answers.specs.Controls.{bars_control, request_for, request_with, came_line};
 ghost use Rattle.usb_answers.specs.TargetCalls.{DevicesStand, InterfacesStand, KeepsHandles, TargetAnswers, number_of_target, as_tried};
 
-use crate::session::Session;
 use usb_desc::{Fail, NoMemory};
 use usb_device::{Device, Host, Interface};
 use usb_lines::{write_condition, write_received, write_sent};
 use usb_names::open_at;
-use usb_script::{ControlData, ControlTarget, Setup, Steps, Timeout};
+use usb_script::{ControlTarget, Setup, Timeout};
 use usb_writer_lines::MOST_UNREAPED;
 
 /// Whether a control transfer is barred: too many tickets are unreaped.
@@ -39,7 +36,7 @@ pub fn answer_of<T, E>(tried: Result<T, Fail<E>>) -> Result<Result<T, E>, NoMemo
 }
 
 /// Asks a device or an interface that is open for so many bytes.
-fn control_in_open(
+pub(crate) fn control_in_open(
     devices: &[Option<Device>],
     interfaces: &[Option<Interface>],
     host: &mut Host,
@@ -80,7 +77,7 @@ fn control_in_open(
 }
 
 /// Sends these bytes to a device or to an interface that is open.
-fn control_out_open(
+pub(crate) fn control_out_open(
     devices: &[Option<Device>],
     interfaces: &[Option<Interface>],
     host: &mut Host,
@@ -119,69 +116,5 @@ fn control_out_open(
             let tried = interface.control_out(host, request, timeout.nanoseconds());
             write_sent(line, &answer_of(tried)?)
         }
-    }
-}
-
-impl Session {
-    /// `ctlin`: a device is asked for so many bytes, at most so many nanoseconds of the kernel's
-    /// clock before the transfer is cancelled. The steps are applied meanwhile, and those that are
-    /// left right after it.
-    pub(crate) fn control_in(
-        &mut self,
-        line: &mut String,
-        target: ControlTarget,
-        setup: Setup,
-        wanted: u16,
-        timeout: Timeout,
-        steps: Steps,
-    ) -> Result<(), NoMemory>
-        requires room { length steps ≤ self.old.host.kernel.spare }
-        ensures answered { Answers self.old self.new line.old line.new result
-            (λ state. control_in_answer state target setup wanted timeout steps) }
-        ensures spare { self.new.host.kernel.spare + length steps ≡ self.old.host.kernel.spare }
-    {
-        self.host.lend_steps(steps.into_vec());
-        let answered = control_in_open(
-            &self.devices,
-            &self.interfaces,
-            &mut self.host,
-            line,
-            target,
-            setup,
-            wanted,
-            timeout,
-        );
-        self.host.rest();
-        answered
-    }
-
-    /// `ctlout`: these bytes are sent to a device, likewise.
-    pub(crate) fn control_out(
-        &mut self,
-        line: &mut String,
-        target: ControlTarget,
-        setup: Setup,
-        bytes: ControlData,
-        timeout: Timeout,
-        steps: Steps,
-    ) -> Result<(), NoMemory>
-        requires room { length steps ≤ self.old.host.kernel.spare }
-        ensures answered { Answers self.old self.new line.old line.new result
-            (λ state. control_out_answer state target setup bytes timeout steps) }
-        ensures spare { self.new.host.kernel.spare + length steps ≡ self.old.host.kernel.spare }
-    {
-        self.host.lend_steps(steps.into_vec());
-        let answered = control_out_open(
-            &self.devices,
-            &self.interfaces,
-            &mut self.host,
-            line,
-            target,
-            setup,
-            bytes.as_slice(),
-            timeout,
-        );
-        self.host.rest();
-        answered
     }
 }

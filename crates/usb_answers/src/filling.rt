@@ -10,7 +10,8 @@ ghost use Rattle.usb_io.specs.Along.{ReadsAlong};
 ghost use Rattle.usb_io.specs.Reads.{reading, KeepsSettings};
 ghost use Rattle.usb_io.specs.contracts.reader.EndpointRead.{the_row};
 ghost use Rattle.usb_io.specs.Lent.{Filled, PollFilled};
-ghost use Rattle.usb_answers.specs.Reads.{is_until_short, fill_on, poll_fill_on};
+ghost use Rattle.usb_stream_lines.specs.Reads.{buffer_line};
+ghost use Rattle.usb_answers.specs.Reads.{is_until_short, given_line, polled_given_line, fill_on};
 ghost use Rattle.usb_answers.specs.OpenCalls.{CallKeeps};
 ghost use Rattle.usb_answers.specs.ReaderCalls.{ReaderAnswers};
 
@@ -57,7 +58,8 @@ pub(crate) fn fill_open(
         reader.new.endpoint }
     ensures answered { ReaderAnswers host.old host.new reader.old
         reader.new line.old line.new result
-        (λ state r at. fill_on state framing r at) }
+        (λ state r at. fill_on state framing r at.reader.bare.timeout
+        (given_line buffer_line) at) }
 {
     if bars_read(host, framing, reader) {
         return write_condition(line);
@@ -103,7 +105,7 @@ pub(crate) fn poll_fill_open(
         reader.new.endpoint }
     ensures answered { ReaderAnswers host.old host.new reader.old
         reader.new line.old line.new result
-        (λ state r at. poll_fill_on state framing r at) }
+        (λ state r at. fill_on state framing r 0 (polled_given_line buffer_line) at) }
 {
     if bars_read(host, framing, reader) {
         return write_condition(line);

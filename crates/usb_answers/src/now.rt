@@ -3,7 +3,8 @@
 ghost use Rattle.std.specs.Prelude.{◌≡◌, OnOk, string_bytes};
 ghost use Rattle.usb_answers.specs.State.{State};
 ghost use Rattle.usb_answers.specs.Answered.{Answers};
-ghost use Rattle.usb_answers.specs.Now.{now_answer};
+ghost use Rattle.usb_lines.specs.Completions.{now_line};
+ghost use Rattle.usb_answers.specs.Answer.{answer_with};
 
 use crate::session::Session;
 use usb_desc::NoMemory;
@@ -12,7 +13,8 @@ use usb_lines::write_now;
 impl Session {
     /// `now`: the time on the kernel's clock.
     pub(crate) fn now(&self, line: &mut String) -> Result<(), NoMemory>
-        ensures answered { Answers self.now self.now line.old line.new result now_answer }
+        ensures answered { Answers self.now self.now line.old line.new result
+            (λ state. answer_with state (now_line state.host.kernel.clock)) }
     {
         write_now(line, self.host.kernel().now())
     }

@@ -1,26 +1,33 @@
 //! `pending` and `poll`: the transfers of an endpoint that were submitted and not taken.
 
-ghost use Rattle.std.specs.Prelude.{◌≡◌, slice_get};
+ghost use Rattle.std.specs.Prelude.{◌≡◌, length, slice_get};
 ghost use Rattle.usb_endpoint.specs.Handles.{Stands};
 ghost use Rattle.usb_host.specs.HostBus.{bus_of};
-ghost use Rattle.usb_answers.specs.ReaderAt.{endpoint_place};
-ghost use Rattle.usb_answers.specs.Pending.{pending_answer};
-ghost use Rattle.usb_answers.specs.Polls.{poll_on, poll_answer};
-ghost use Rattle.usb_answers.specs.Answered.{Answers};
+ghost use Rattle.usb_host.specs.HostState.{HostState};
+ghost use Rattle.usb_lines.specs.Completions.{count_line};
+ghost use Rattle.usb_answers.specs.State.{pending};
+ghost use Rattle.usb_answers.specs.Answer.{answer_with};
+ghost use Rattle.usb_answers.specs.Polls.{poll_on};
 ghost use Rattle.usb_answers.specs.OpenCalls.{CallKeeps, CallAnswers};
 
-use crate::session::Session;
 use futures::task::Poll;
 use usb_desc::NoMemory;
 use usb_device::Host;
 use usb_endpoint::Endpoint;
 use usb_lines::{write_condition, write_count, write_polled};
-use usb_names::{open_at, put_at, take_at};
-use usb_script::Name;
 use usb_xfer::Any;
 
+/// Counts the pending transfers of an endpoint that is open.
+pub(crate) fn pending_open(endpoint: &Endpoint<Any, Any>, line: &mut String) -> Result<(), NoMemory>
+    ensures answered { (host : HostState) → CallAnswers host host endpoint.now endpoint.now
+        line.old line.new result
+        (λ state e h. answer_with state (count_line (length (pending h)))) }
+{
+    write_count(line, endpoint.pending())
+}
+
 /// Polls an endpoint that is open.
-fn poll_open(
+pub(crate) fn poll_open(
     endpoint: &mut Endpoint<Any, Any>,
     host: &mut Host,
     line: &mut String,
@@ -36,33 +43,5 @@ fn poll_open(
     match endpoint.poll_next_complete(host) {
         Poll::Ready(completion) => write_polled(line, &Some(completion)),
         Poll::Pending => write_polled(line, &None),
-    }
-}
-
-impl Session {
-    /// `pending`: how many transfers of an endpoint are pending.
-    pub(crate) fn pending(&self, line: &mut String, name: Name) -> Result<(), NoMemory>
-        ensures answered { Answers self.now self.now line.old line.new result
-            (λ state. pending_answer state (endpoint_place name)) }
-    {
-        match open_at(&self.endpoints, name.number()) {
-            Some(endpoint) => write_count(line, endpoint.pending()),
-            None => write_condition(line),
-        }
-    }
-
-    /// `poll`: the oldest pending transfer of an endpoint is taken, where it is reaped.
-    pub(crate) fn poll(&mut self, line: &mut String, name: Name) -> Result<(), NoMemory>
-        ensures answered { Answers self.old self.new line.old line.new result
-            (λ state. poll_answer state (endpoint_place name)) }
-        ensures spare { self.new.host.kernel.spare ≡ self.old.host.kernel.spare }
-    {
-        let number = name.number();
-        let Some(mut endpoint) = take_at(&mut self.endpoints, number) else {
-            return write_condition(line);
-        };
-        let polled = poll_open(&mut endpoint, &mut self.host, line);
-        put_at(&mut self.endpoints, number, endpoint);
-        polled
     }
 }

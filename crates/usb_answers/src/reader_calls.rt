@@ -1,16 +1,19 @@
-//! The calls on a reader that is open: `read`, `fill` and `consume` in each framing, `endmsg`, `num`
-//! and `cancel`.
+//! Calls on a reader.
 
 ghost use Rattle.std.specs.Prelude.{◌≡◌, ◌≤◌, ◌+◌, length};
 ghost use Rattle.usb_endpoint.specs.Handles.{Stands};
 ghost use Rattle.usb_host.specs.HostBus.{bus_of};
-ghost use Rattle.usb_answers.specs.CalledReaders.{call_on, called_answer, waited_answer};
+ghost use Rattle.usb_answers.specs.Steps.{along_steps};
+ghost use Rattle.usb_answers.specs.ReaderCalls.{ReaderAnswers};
+ghost use Rattle.usb_answers.specs.CalledReaders.{reader_called, on_reader};
 ghost use Rattle.usb_answers.specs.Answered.{Answers};
 ghost use Rattle.usb_answers.specs.OpenCalls.{CallKeeps};
-ghost use Rattle.usb_answers.specs.ReaderCalls.{ReaderAnswers};
 
+use crate::call::ReaderCall;
 use crate::filling::{fill_open, poll_fill_open};
-use crate::reader_settings::{cancel_reader_open, consume_end_open, consume_open, num_open};
+use crate::reader_settings::{
+    cancel_reader_open, consume_end_open, consume_open, is_end_open, num_open, timeout_open,
+};
 use crate::reading::{poll_read_open, read_open};
 use crate::session::Session;
 use usb_desc::NoMemory;
@@ -18,33 +21,11 @@ use usb_device::Host;
 use usb_io::EndpointRead;
 use usb_lines::write_condition;
 use usb_names::{put_at, take_at};
-use usb_script::{Framing, Length, Name, ReadLength, Steps};
+use usb_script::{Name, Steps};
 use usb_xfer::Any;
 
-/// A call on a reader.
-#[derive(Clone, Copy)]
-pub(crate) enum ReaderCall {
-    /// At most so many bytes are read, with a wait where there are none.
-    Read(Framing, ReadLength),
-    /// The same, of those that are there.
-    PollRead(Framing, ReadLength),
-    /// The bytes that stand are shown, with a wait where there are none.
-    FillBuf(Framing),
-    /// The same, of those that are there.
-    PollFillBuf(Framing),
-    /// So many of the bytes that stand are taken off.
-    Consume(Framing, Length),
-    /// The end of a message is taken off, where it is next.
-    ConsumeEnd,
-    /// How many transfers are to be pending is set, and as many are handed in as are missing of one
-    /// less.
-    SetNumTransfers(u32),
-    /// The pending transfers are discarded, from the last to the first.
-    Cancel,
-}
-
 /// Calls a reader that is open.
-fn call_open(
+fn call_reader(
     reader: &mut EndpointRead<Any>,
     host: &mut Host,
     line: &mut String,
@@ -54,7 +35,7 @@ fn call_open(
     ensures keeps { CallKeeps host.old host.new reader.old.endpoint
         reader.new.endpoint }
     ensures answered { ReaderAnswers host.old host.new reader.old
-        reader.new line.old line.new result (call_on call) }
+        reader.new line.old line.new result (reader_called call) }
 {
     match call {
         ReaderCall::Read(framing, most) => read_open(reader, host, line, framing, most),
@@ -62,36 +43,17 @@ fn call_open(
         ReaderCall::FillBuf(framing) => fill_open(reader, host, line, framing),
         ReaderCall::PollFillBuf(framing) => poll_fill_open(reader, host, line, framing),
         ReaderCall::Consume(framing, count) => consume_open(reader, line, framing, count),
+        ReaderCall::IsEnd => is_end_open(reader, line),
         ReaderCall::ConsumeEnd => consume_end_open(reader, line),
         ReaderCall::SetNumTransfers(count) => num_open(reader, host, line, count),
+        ReaderCall::SetReadTimeout(timeout) => timeout_open(reader, line, timeout),
         ReaderCall::Cancel => cancel_reader_open(reader, host, line),
     }
 }
 
 impl Session {
-    /// A call on the reader of this name that waits for nothing.
-    pub(crate) fn call_reader(
-        &mut self,
-        line: &mut String,
-        name: Name,
-        call: ReaderCall,
-    ) -> Result<(), NoMemory>
-        ensures answered { Answers self.old self.new line.old line.new result
-            (λ state. called_answer call state name) }
-        ensures spare { self.new.host.kernel.spare ≡ self.old.host.kernel.spare }
-    {
-        let number = name.number();
-        let Some(mut reader) = take_at(&mut self.readers, number) else {
-            return write_condition(line);
-        };
-        let called = call_open(&mut reader, &mut self.host, line, call);
-        put_at(&mut self.readers, number, reader);
-        called
-    }
-
-    /// A call on the reader of this name that may wait. The steps are applied meanwhile, and those
-    /// that are left right after it.
-    pub(crate) fn wait_reader(
+    /// A call on the reader of this name. The steps are applied while it waits, and those that are left right after it.
+    pub(crate) fn on_reader(
         &mut self,
         line: &mut String,
         name: Name,
@@ -100,7 +62,7 @@ impl Session {
     ) -> Result<(), NoMemory>
         requires room { length steps ≤ self.old.host.kernel.spare }
         ensures answered { Answers self.old self.new line.old line.new result
-            (λ state. waited_answer call state name steps) }
+            (λ state. along_steps state steps (λ s. on_reader s name call)) }
         ensures spare { self.new.host.kernel.spare + length steps ≡ self.old.host.kernel.spare }
     {
         let number = name.number();
@@ -109,7 +71,7 @@ impl Session {
             self.host.rest();
             return write_condition(line);
         };
-        let called = call_open(&mut reader, &mut self.host, line, call);
+        let called = call_reader(&mut reader, &mut self.host, line, call);
         put_at(&mut self.readers, number, reader);
         self.host.rest();
         called

@@ -6,20 +6,20 @@ ghost use Rattle.usb_endpoint.specs.Handles.{Stands};
 ghost use Rattle.usb_host.specs.HostState.{HostState};
 ghost use Rattle.usb_host.specs.HostBus.{bus_of};
 ghost use Rattle.usb_io.specs.Readers.{with_read, without_end, is_end};
+ghost use Rattle.usb_stream_lines.specs.Reads.{is_end_line};
 ghost use Rattle.usb_writer_lines.specs.Needs.{bars_need};
-ghost use Rattle.usb_answers.specs.Readers.{num_on, timeout_on, timeout_answer, cancel_reader_on};
-ghost use Rattle.usb_answers.specs.Reads.{consume_on, is_end_answer, consume_end_on};
-ghost use Rattle.usb_answers.specs.Answered.{Answers};
+ghost use Rattle.usb_answers.specs.Readers.{num_on, timeout_on, cancel_reader_on};
+ghost use Rattle.usb_answers.specs.Reads.{consume_on, consume_end_on};
+ghost use Rattle.usb_answers.specs.ReaderAt.{state_of_reader};
+ghost use Rattle.usb_answers.specs.Answer.{answer_with};
 ghost use Rattle.usb_answers.specs.OpenCalls.{CallKeeps};
 ghost use Rattle.usb_answers.specs.ReaderCalls.{ReaderAnswers};
 
-use crate::session::Session;
 use usb_desc::NoMemory;
 use usb_device::Host;
 use usb_io::{EndpointRead, ExpectedShortPacket};
 use usb_lines::{write_condition, write_ok};
-use usb_names::{open_at, put_at, take_at};
-use usb_script::{Framing, Length, Name, Timeout};
+use usb_script::{Framing, Length, Timeout};
 use usb_stream_lines::{write_consumed_end, write_is_end};
 use usb_writer_lines::{MOST_PENDING, bars_need};
 use usb_xfer::Any;
@@ -59,7 +59,7 @@ pub(crate) fn num_open(
 }
 
 /// Sets the timeout of the waits of a reader that is open.
-fn timeout_open(
+pub(crate) fn timeout_open(
     reader: &mut EndpointRead<Any>,
     line: &mut String,
     timeout: Timeout,
@@ -151,35 +151,11 @@ fn is_at_end(reader: &EndpointRead<Any>) -> bool
     reader.available() == 0 && reader.has_end()
 }
 
-impl Session {
-    /// `timeout`: the timeout of the waits of a reader is set.
-    pub(crate) fn set_read_timeout(
-        &mut self,
-        line: &mut String,
-        name: Name,
-        timeout: Timeout,
-    ) -> Result<(), NoMemory>
-        ensures answered { Answers self.old self.new line.old line.new result
-            (λ state. timeout_answer state name timeout) }
-        ensures spare { self.new.host.kernel.spare ≡ self.old.host.kernel.spare }
-    {
-        let number = name.number();
-        let Some(mut reader) = take_at(&mut self.readers, number) else {
-            return write_condition(line);
-        };
-        let set = timeout_open(&mut reader, line, timeout);
-        put_at(&mut self.readers, number, reader);
-        set
-    }
-
-    /// `isend`: whether the end of a message is next in a reader.
-    pub(crate) fn is_end(&self, line: &mut String, name: Name) -> Result<(), NoMemory>
-        ensures answered { Answers self.now self.now line.old line.new result
-            (λ state. is_end_answer state name) }
-    {
-        match open_at(&self.readers, name.number()) {
-            Some(reader) => write_is_end(line, is_at_end(reader)),
-            None => write_condition(line),
-        }
-    }
+/// Says whether the end of a message is next in a reader that is open.
+pub(crate) fn is_end_open(reader: &EndpointRead<Any>, line: &mut String) -> Result<(), NoMemory>
+    ensures answered { (host : HostState) → ReaderAnswers host host reader.now
+        reader.now line.old line.new result
+        (λ state r at. answer_with state (is_end_line (is_end (state_of_reader at)))) }
+{
+    write_is_end(line, is_at_end(reader))
 }

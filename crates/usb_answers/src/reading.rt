@@ -9,8 +9,9 @@ ghost use Rattle.usb_io.specs.Answers.{read_came, ReadFails};
 ghost use Rattle.usb_io.specs.Along.{ReadsAlong};
 ghost use Rattle.usb_io.specs.Reads.{reading};
 ghost use Rattle.usb_io.specs.Answered.{answered, as_wait, InTime};
+ghost use Rattle.usb_stream_lines.specs.Reads.{read_line};
 ghost use Rattle.usb_writer_lines.specs.Needs.{bars_need};
-ghost use Rattle.usb_answers.specs.Reads.{is_until_short, need_of, read_on, poll_read_on};
+ghost use Rattle.usb_answers.specs.Reads.{is_until_short, need_of, given_line, polled_given_line, read_on};
 ghost use Rattle.usb_answers.specs.OpenCalls.{CallKeeps};
 ghost use Rattle.usb_answers.specs.ReaderCalls.{ReaderAnswers};
 
@@ -84,7 +85,8 @@ pub(crate) fn read_open(
         reader.new.endpoint }
     ensures answered { ReaderAnswers host.old host.new reader.old
         reader.new line.old line.new result
-        (λ state r at. read_on state framing r most at) }
+        (λ state r at. read_on state framing r most at.reader.bare.timeout
+        (given_line read_line) at) }
 {
     if bars_read(host, framing, reader) {
         return write_condition(line);
@@ -138,7 +140,7 @@ pub(crate) fn poll_read_open(
         reader.new.endpoint }
     ensures answered { ReaderAnswers host.old host.new reader.old
         reader.new line.old line.new result
-        (λ state r at. poll_read_on state framing r most at) }
+        (λ state r at. read_on state framing r most 0 (polled_given_line read_line) at) }
 {
     if bars_read(host, framing, reader) {
         return write_condition(line);

@@ -1,24 +1,22 @@
-//! `getdesc`, `langs` and `string`: a device is asked for a descriptor, with the steps of the line.
+//! `getdesc`, `langs` and `string`: a device is asked for a descriptor.
 
-ghost use Rattle.std.specs.Prelude.{◌≡◌, ◌≤◌, ◌+◌, length, []};
+ghost use Rattle.std.specs.Prelude.{[]};
 ghost use Rattle.std.specs.Int.NonZero.{non_zero_u8_get};
 ghost use Rattle.usb_device.specs.DescriptorCalls.{descriptor_request, descriptor_asked, descriptor_answered, languages_answered, text_answered};
 ghost use Rattle.usb_words.specs.declared.control.ControlTarget.TheVariants as target;
 ghost use Rattle.usb_lines.specs.Controls.{descriptor_line, languages_line, string_line};
-ghost use Rattle.usb_answers.specs.Controls.{came_line, get_descriptor_answer, languages_answer, string_answer};
-ghost use Rattle.usb_answers.specs.Answered.{Answers};
+ghost use Rattle.usb_answers.specs.Controls.{came_line};
 ghost use Rattle.usb_answers.specs.TargetCalls.{DevicesStand, KeepsHandles, TargetAnswers, number_of_target};
 
 use crate::controlling::{answer_of, bars_control};
-use crate::session::Session;
 use usb_desc::NoMemory;
 use usb_device::{Device, Host};
 use usb_lines::{write_condition, write_descriptor, write_languages, write_string};
 use usb_names::open_at;
-use usb_script::{Name, Steps, StringIndex, Timeout};
+use usb_script::{Name, StringIndex, Timeout};
 
 /// Asks a device that is open for a descriptor by its type, index and language.
-fn get_descriptor_open(
+pub(crate) fn get_descriptor_open(
     devices: &[Option<Device>],
     host: &mut Host,
     line: &mut String,
@@ -53,7 +51,7 @@ fn get_descriptor_open(
 }
 
 /// Asks a device that is open for the languages of its strings.
-fn languages_open(
+pub(crate) fn languages_open(
     devices: &[Option<Device>],
     host: &mut Host,
     line: &mut String,
@@ -79,7 +77,7 @@ fn languages_open(
 }
 
 /// Asks a device that is open for a string.
-fn string_open(
+pub(crate) fn string_open(
     devices: &[Option<Device>],
     host: &mut Host,
     line: &mut String,
@@ -104,88 +102,4 @@ fn string_open(
     };
     let tried = device.get_string_descriptor(host, index.get(), language, timeout.nanoseconds());
     write_string(line, &answer_of(tried)?)
-}
-
-impl Session {
-    /// `getdesc`: a device is asked for a descriptor by its type, index and language, at most so
-    /// many nanoseconds of the kernel's clock before the transfer is cancelled. The steps are applied
-    /// meanwhile, and those that are left right after it.
-    pub(crate) fn get_descriptor(
-        &mut self,
-        line: &mut String,
-        device: Name,
-        descriptor_type: u8,
-        index: u8,
-        language: u16,
-        timeout: Timeout,
-        steps: Steps,
-    ) -> Result<(), NoMemory>
-        requires room { length steps ≤ self.old.host.kernel.spare }
-        ensures answered { Answers self.old self.new line.old line.new result
-            (λ state. get_descriptor_answer state device descriptor_type index language timeout
-            steps) }
-        ensures spare { self.new.host.kernel.spare + length steps ≡ self.old.host.kernel.spare }
-    {
-        self.host.lend_steps(steps.into_vec());
-        let answered = get_descriptor_open(
-            &self.devices,
-            &mut self.host,
-            line,
-            device,
-            descriptor_type,
-            index,
-            language,
-            timeout,
-        );
-        self.host.rest();
-        answered
-    }
-
-    /// `langs`: a device is asked for the languages of its strings, likewise.
-    pub(crate) fn supported_languages(
-        &mut self,
-        line: &mut String,
-        device: Name,
-        timeout: Timeout,
-        steps: Steps,
-    ) -> Result<(), NoMemory>
-        requires room { length steps ≤ self.old.host.kernel.spare }
-        ensures answered { Answers self.old self.new line.old line.new result
-            (λ state. languages_answer state device timeout steps) }
-        ensures spare { self.new.host.kernel.spare + length steps ≡ self.old.host.kernel.spare }
-    {
-        self.host.lend_steps(steps.into_vec());
-        let answered = languages_open(&self.devices, &mut self.host, line, device, timeout);
-        self.host.rest();
-        answered
-    }
-
-    /// `string`: a device is asked for a string in a language, likewise.
-    pub(crate) fn string_descriptor(
-        &mut self,
-        line: &mut String,
-        device: Name,
-        index: StringIndex,
-        language: u16,
-        timeout: Timeout,
-        steps: Steps,
-    ) -> Result<(), NoMemory>
-        requires room { length steps ≤ self.old.host.kernel.spare }
-        ensures answered { Answers self.old self.new line.old line.new result
-            (λ state. string_answer state device index language timeout steps) }
-        ensures spare { self.new.host.kernel.spare + length steps ≡ self.old.host.kernel.spare }
-    {
-        self.host.lend_steps(steps.into_vec());
-        let answered = string_open(
-            &self.devices,
-            &mut self.host,
-            line,
-            device,
-            &index,
-            language,
-            timeout,
-        );
-        self.host.rest();
-        answered
-    }
 }

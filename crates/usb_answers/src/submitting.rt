@@ -1,23 +1,15 @@
 //! `submitin` and `submitout`: a transfer is handed in.
 
 ghost use Rattle.std.specs.Prelude.{◌≡◌};
-ghost use Rattle.usb_desc.specs.declared.types.Direction.{Direction};
 ghost use Rattle.usb_endpoint.specs.Handles.{Stands};
 ghost use Rattle.usb_host.specs.HostBus.{bus_of};
-ghost use Rattle.usb_answers.specs.ReaderAt.{endpoint_place};
-ghost use Rattle.usb_answers.specs.Buffers.{in_buffer, out_buffer};
-ghost use Rattle.usb_answers.specs.Submits.{has_direction, bars_submission, submit_on, submit_answer};
-ghost use Rattle.usb_answers.specs.Answered.{Answers};
+ghost use Rattle.usb_answers.specs.Submits.{has_direction, bars_submission, submit_on};
 ghost use Rattle.usb_answers.specs.OpenCalls.{CallKeeps, CallAnswers};
 
-use crate::buffers::{in_buffer, out_buffer};
-use crate::session::Session;
 use usb_desc::{Direction, NoMemory};
 use usb_device::Host;
 use usb_endpoint::Endpoint;
 use usb_lines::{write_condition, write_ok};
-use usb_names::{put_at, take_at};
-use usb_script::{Data, Length, Name};
 use usb_writer_lines::{MOST_PENDING, MOST_UNREAPED};
 use usb_xfer::{Any, Buffer};
 
@@ -40,7 +32,7 @@ fn bars_submission(host: &Host, direction: Direction, endpoint: &Endpoint<Any, A
 }
 
 /// Submits a buffer to an endpoint that is open.
-fn submit_open(
+pub(crate) fn submit_open(
     endpoint: &mut Endpoint<Any, Any>,
     host: &mut Host,
     line: &mut String,
@@ -58,56 +50,5 @@ fn submit_open(
     match endpoint.submit(host, buffer) {
         Ok(()) => write_ok(line),
         Err(_) => Err(NoMemory),
-    }
-}
-
-impl Session {
-    fn submit(
-        &mut self,
-        line: &mut String,
-        direction: Direction,
-        name: Name,
-        buffer: Buffer,
-    ) -> Result<(), NoMemory>
-        ensures answered { Answers self.old self.new line.old line.new result
-            (λ state. submit_answer state direction (endpoint_place name) buffer) }
-        ensures spare { self.new.host.kernel.spare ≡ self.old.host.kernel.spare }
-    {
-        let number = name.number();
-        let Some(mut endpoint) = take_at(&mut self.endpoints, number) else {
-            return write_condition(line);
-        };
-        let submitted = submit_open(&mut endpoint, &mut self.host, line, direction, buffer);
-        put_at(&mut self.endpoints, number, endpoint);
-        submitted
-    }
-
-    /// `submitin`: a transfer that asks for so many bytes is handed in.
-    pub(crate) fn submit_in(
-        &mut self,
-        line: &mut String,
-        name: Name,
-        length: Length,
-    ) -> Result<(), NoMemory>
-        ensures answered { Answers self.old self.new line.old line.new result
-            (λ state. submit_answer state Direction.In (endpoint_place name) (in_buffer length)) }
-        ensures spare { self.new.host.kernel.spare ≡ self.old.host.kernel.spare }
-    {
-        let buffer = in_buffer(*line.allocator(), length)?;
-        self.submit(line, Direction::In, name, buffer)
-    }
-
-    /// `submitout`: a transfer of these bytes is handed in.
-    pub(crate) fn submit_out(
-        &mut self,
-        line: &mut String,
-        name: Name,
-        bytes: Data,
-    ) -> Result<(), NoMemory>
-        ensures answered { Answers self.old self.new line.old line.new result
-            (λ state. submit_answer state Direction.Out (endpoint_place name) (out_buffer bytes)) }
-        ensures spare { self.new.host.kernel.spare ≡ self.old.host.kernel.spare }
-    {
-        self.submit(line, Direction::Out, name, out_buffer(bytes))
     }
 }

@@ -15,10 +15,10 @@ use Rattle.usb_answers.specs.ReaderAt.{ReaderAt, state_of_reader}
 use Rattle.usb_answers.specs.WriterAt.{WriterAt}
 use Rattle.usb_answers.specs.Output.{start, final_host, behind}
 use Rattle.usb_answers.proofs.HandleLemmas.{scripts-go_on}
-use Rattle.usb_answers.proofs.WrittenWriters.{TellsAt, at-later}
-use Rattle.usb_answers.proofs.WrittenBehind.{tell-at}
+use Rattle.usb_answers.proofs.WrittenWriters.{TellsAt, at-later, tells-behind}
 use Rattle.usb_answers.proofs.FramedReaders.{FollowsAt, history_of}
-use Rattle.usb_answers.proofs.FramedBehind.{behind-extends, follow-at}
+use Rattle.usb_answers.proofs.FramedBehind.{follow-at}
+use Rattle.usb_answers.proofs.LinesBehind.{behind-extends}
 use Rattle.usb_session.specs.Exchanges.{exchange_of, OnlyExchange, MessagesAlwaysArrive, MessagesKeepArriving}
 
 arrive : (past : List Event) (x : WriterAt) (y : ReaderAt) (c : WriterCalls) (consumed : List Item) → TellsAt past x c → FollowsAt past y consumed → OnlyExchange past x y c → AreFirstOf (messages consumed) (messages (items_of c.accepted))
@@ -44,8 +44,8 @@ arrive past x y c consumed tells follows only =
 
 pub messages-arrive : (items : List Line) → IsLawful (final_host items).kernel.past → MessagesAlwaysArrive items
 messages-arrive items lawful before after all w r x y c consumed writer calls reader framed only =
-    arrive (behind (start items) before).host.kernel.past x y c consumed ((tell-at scripts-go_on items before).each w x c writer calls)
-    ((follow-at scripts-go_on items lawful before after all).each r y consumed reader framed) only
+    arrive (behind (start items) before).host.kernel.past x y c consumed (tells-behind scripts-go_on items before w x c writer calls)
+    (follow-at scripts-go_on items lawful before after all r y reader consumed framed) only
 
 -- so it is of the writer as it was before
 pub messages-keep-arriving : (items : List Line) → IsLawful (final_host items).kernel.past → MessagesKeepArriving items
@@ -53,5 +53,5 @@ messages-keep-arriving items lawful before middle after all w r x y c consumed w
     let old = (behind (start items) before).host.kernel.past in
     let new = (behind (start items) (before ++ middle)).host.kernel.past in
     arrive new x y c consumed
-    (at-later old new x c (behind-extends scripts-go_on items before middle) ((tell-at scripts-go_on items before).each w x c writer calls))
-    ((follow-at scripts-go_on items lawful (before ++ middle) after all).each r y consumed reader framed) only
+    (at-later old new x c (behind-extends scripts-go_on items before middle) (tells-behind scripts-go_on items before w x c writer calls))
+    (follow-at scripts-go_on items lawful (before ++ middle) after all r y reader consumed framed) only

@@ -35,19 +35,19 @@ whole_of_known (Some xs) new bytes read e r =
     let same : xs ≡ bytes = cc in sym same ∙ ReadWhole-known xs read new r
 
 -- where nothing fails, want of memory is the only error
-pub memory_alone : (s : Streams) (e : SessionError) → HasReason s e → IsSmooth s → e ≡ Memory
-memory_alone s (Malformed line) reason smooth =
-    let same = whole_of_known s.left s.left' smooth.bytes reason.0.bytes smooth.known reason.0.read in
+pub memory_alone : (old new : Streams) (e : SessionError) → HasReason old new e → IsSmooth old new → e ≡ Memory
+memory_alone old new (Malformed line) reason smooth =
+    let same = whole_of_known old.left new.left smooth.bytes reason.0.bytes smooth.known reason.0.read in
     let here : script_of smooth.bytes ≡ Err (Malformed line) = ap script_of same ∙ reason.0.parsed in
     let valid = smooth.valid in cc
-memory_alone s TooLong reason smooth =
-    let less = took_of_known s.left s.left' smooth.bytes reason.0.bytes smooth.known reason.0.taken in
+memory_alone old new TooLong reason smooth =
+    let less = took_of_known old.left new.left smooth.bytes reason.0.bytes smooth.known reason.0.taken in
     let count = reason.0.count in
     let here : script_of smooth.bytes ≡ Err TooLong = long_is_refused smooth.bytes (omega arith) in
     let valid = smooth.valid in cc
-memory_alone s ReadFault reason smooth = absurd (smooth.reads reason.0)
-memory_alone s WriteFault reason smooth = absurd (smooth.writes reason.0)
-memory_alone s Memory reason smooth = refl
+memory_alone old new ReadFault reason smooth = absurd (smooth.reads reason.0)
+memory_alone old new WriteFault reason smooth = absurd (smooth.writes reason.0)
+memory_alone old new Memory reason smooth = refl
 
 pub Keeps_self : (o : Option (List ℕ)) → Keeps o o
 Keeps_self None = tt
@@ -64,12 +64,12 @@ small_is_malformed bytes e few same =
     only_malformed (parse bytes) e (rw small at same)
 
 -- what was read doesn't parse
-pub parsing_reason : (s : Streams) (e : SessionError) (bytes : List ℕ) → ReadWhole s.left s.left' bytes → length bytes < 1048577 → OrMemory {X = List Item} (Err e) (script_of bytes) → Keeps s.written s.written' → HasReason s e
-parsing_reason s (Malformed line) bytes read few parsed kept = (record { bytes = bytes; read = read; parsed = parsed }, kept)
-parsing_reason s TooLong bytes read few parsed kept = let m = small_is_malformed bytes TooLong few parsed in let e = m.1 in cc
-parsing_reason s ReadFault bytes read few parsed kept = let m = small_is_malformed bytes ReadFault few parsed in let e = m.1 in cc
-parsing_reason s WriteFault bytes read few parsed kept = let m = small_is_malformed bytes WriteFault few parsed in let e = m.1 in cc
-parsing_reason s Memory bytes read few parsed kept = inl kept
+pub parsing_reason : (old new : Streams) (e : SessionError) (bytes : List ℕ) → ReadWhole old.left new.left bytes → length bytes < 1048577 → OrMemory {X = List Item} (Err e) (script_of bytes) → Keeps old.written new.written → HasReason old new e
+parsing_reason old new (Malformed line) bytes read few parsed kept = (record { bytes = bytes; read = read; parsed = parsed }, kept)
+parsing_reason old new TooLong bytes read few parsed kept = let m = small_is_malformed bytes TooLong few parsed in let e = m.1 in cc
+parsing_reason old new ReadFault bytes read few parsed kept = let m = small_is_malformed bytes ReadFault few parsed in let e = m.1 in cc
+parsing_reason old new WriteFault bytes read few parsed kept = let m = small_is_malformed bytes WriteFault few parsed in let e = m.1 in cc
+parsing_reason old new Memory bytes read few parsed kept = inl kept
 
 -- and the source has ended
 pub parsing_ends : (ended : Type 0) (bytes : List ℕ) (e : SessionError) → ended → length bytes < 1048577 → OrMemory {X = List Item} (Err e) (script_of bytes) → EndsReading {X = Summary} ended (Err e)
@@ -80,26 +80,26 @@ parsing_ends ended bytes WriteFault has few parsed = has
 parsing_ends ended bytes Memory has few parsed = tt
 
 -- each ticket of an answered script has one end
-pub answered-ends : (s : Streams) (summary : Summary) → IsAnswered s summary → summary.taken + summary.dropped + summary.reclaimed ≡ summary.tickets
-answered-ends s summary answered =
+pub answered-ends : (old new : Streams) (summary : Summary) → IsAnswered old new summary → summary.taken + summary.dropped + summary.reclaimed ≡ summary.tickets
+answered-ends old new summary answered =
     rw answered.summed (one_end_each (count_by is_call answered.items) (final_host answered.items) answered.ended)
 
 -- where nothing fails, the only errors are the parse's and want of memory
-parse_alone : (s : Streams) (bytes : List ℕ) (e : SessionError) → HasReason s e → IsQuiet s bytes → (e ≡ Memory) ⊎ (script_of bytes ≡ Err e)
-parse_alone s bytes (Malformed line) reason quiet =
-    inr (ap script_of (whole_of_known s.left s.left' bytes reason.0.bytes quiet.known reason.0.read) ∙ reason.0.parsed)
-parse_alone s bytes TooLong reason quiet =
-    let less = took_of_known s.left s.left' bytes reason.0.bytes quiet.known reason.0.taken in
+parse_alone : (old new : Streams) (bytes : List ℕ) (e : SessionError) → HasReason old new e → IsQuiet old new bytes → (e ≡ Memory) ⊎ (script_of bytes ≡ Err e)
+parse_alone old new bytes (Malformed line) reason quiet =
+    inr (ap script_of (whole_of_known old.left new.left bytes reason.0.bytes quiet.known reason.0.read) ∙ reason.0.parsed)
+parse_alone old new bytes TooLong reason quiet =
+    let less = took_of_known old.left new.left bytes reason.0.bytes quiet.known reason.0.taken in
     let count = reason.0.count in
     inr (long_is_refused bytes (omega arith))
-parse_alone s bytes ReadFault reason quiet = absurd (quiet.reads reason.0)
-parse_alone s bytes WriteFault reason quiet = absurd (quiet.writes reason.0)
-parse_alone s bytes Memory reason quiet = inl refl
+parse_alone old new bytes ReadFault reason quiet = absurd (quiet.reads reason.0)
+parse_alone old new bytes WriteFault reason quiet = absurd (quiet.writes reason.0)
+parse_alone old new bytes Memory reason quiet = inl refl
 
-pub exact_of : (s : Streams) (bytes : List ℕ) (r : Result Summary SessionError) → IfOk r (IsAnswered s) → IfErr r (HasReason s) → IsQuiet s bytes → IsExact bytes r
-exact_of s bytes (Ok summary) ok err quiet =
-    (ok.items, ap script_of (whole_of_known s.left s.left' bytes ok.script.bytes quiet.known ok.script.read) ∙ ok.script.parsed)
-exact_of s bytes (Err e) ok err quiet = parse_alone s bytes e err quiet
+pub exact_of : (old new : Streams) (bytes : List ℕ) (r : Result Summary SessionError) → IfOk r (IsAnswered old new) → IfErr r (HasReason old new) → IsQuiet old new bytes → IsExact bytes r
+exact_of old new bytes (Ok summary) ok err quiet =
+    (ok.items, ap script_of (whole_of_known old.left new.left bytes ok.script.bytes quiet.known ok.script.read) ∙ ok.script.parsed)
+exact_of old new bytes (Err e) ok err quiet = parse_alone old new bytes e err quiet
 
 -- the status is then what the bytes parse to, or that of want of memory
 pub exact_status : {X : Type 0} (bytes : List ℕ) (r : Result X SessionError) → IsExact bytes r → (status_of r ≡ 7) ⊎ (status_of r ≡ status_of (script_of bytes))
@@ -115,39 +115,39 @@ same_length (Some zs) (Some ws) known xs ys e p q =
     let second : length zs ≡ length ys + length ws = ap length q ∙ length-append ys ws in omega arith
 
 -- what was read to its end and isn't too long is no longer than a script may be
-never_full : (s : Streams) (items : Result (List Item) SessionError) → ReadAs s items → (items ≡ Err TooLong → ⊥) → GaveTooMany s → ⊥
-never_full s items read other gave =
-    let same = same_length s.left s.left' gave.bytes read.bytes gave.taken.bytes gave.known read.read.taken gave.taken.taken in
+never_full : (old new : Streams) (items : Result (List Item) SessionError) → ReadAs old new items → (items ≡ Err TooLong → ⊥) → GaveTooMany old new → ⊥
+never_full old new items read other gave =
+    let same = same_length old.left new.left gave.bytes read.bytes gave.taken.bytes gave.known read.read.taken gave.taken.taken in
     let count = gave.taken.count in
     other (sym read.parsed ∙ long_is_refused read.bytes (omega arith))
 
 -- nor is what was taken before a read that failed
-never_spared : (s : Streams) → TookAtMost 1048576 s.left s.left' → GaveTooMany s → ⊥
-never_spared s took gave =
-    let same = same_length s.left s.left' gave.bytes took.bytes gave.taken.bytes gave.known took.taken gave.taken.taken in
+never_spared : (old new : Streams) → TookAtMost 1048576 old.left new.left → GaveTooMany old new → ⊥
+never_spared old new took gave =
+    let same = same_length old.left new.left gave.bytes took.bytes gave.taken.bytes gave.known took.taken gave.taken.taken in
     let count = gave.taken.count in
     let most = took.count in omega arith
 
 -- the byte past the longest script was taken: the script is too long, or memory was lacking
-pub too_many_of : (s : Streams) (r : Result Summary SessionError) → IfOk r (IsAnswered s) → IfErr r (HasReason s) → (IsErrOf r ReadFault → TookAtMost 1048576 s.left s.left') → GaveTooMany s → (r ≡ Err TooLong) ⊎ (r ≡ Err Memory)
-too_many_of s (Ok summary) ok err spares gave = absurd (never_full s (Ok ok.items) ok.script (λ e. cc) gave)
-too_many_of s (Err (Malformed line)) ok err spares gave = absurd (never_full s (Err (Malformed line)) err.0 (λ e. cc) gave)
-too_many_of s (Err TooLong) ok err spares gave = inl refl
-too_many_of s (Err ReadFault) ok err spares gave = absurd (never_spared s (spares refl) gave)
-too_many_of s (Err WriteFault) ok err spares gave = absurd (never_full s (Ok err.1.items) err.1.script (λ e. cc) gave)
-too_many_of s (Err Memory) ok err spares gave = inr refl
+pub too_many_of : (old new : Streams) (r : Result Summary SessionError) → IfOk r (IsAnswered old new) → IfErr r (HasReason old new) → (IsErrOf r ReadFault → TookAtMost 1048576 old.left new.left) → GaveTooMany old new → (r ≡ Err TooLong) ⊎ (r ≡ Err Memory)
+too_many_of old new (Ok summary) ok err spares gave = absurd (never_full old new (Ok ok.items) ok.script (λ e. cc) gave)
+too_many_of old new (Err (Malformed line)) ok err spares gave = absurd (never_full old new (Err (Malformed line)) err.0 (λ e. cc) gave)
+too_many_of old new (Err TooLong) ok err spares gave = inl refl
+too_many_of old new (Err ReadFault) ok err spares gave = absurd (never_spared old new (spares refl) gave)
+too_many_of old new (Err WriteFault) ok err spares gave = absurd (never_full old new (Ok err.1.items) err.1.script (λ e. cc) gave)
+too_many_of old new (Err Memory) ok err spares gave = inr refl
 
 -- the source was read to its end: the answer is what its bytes parse to, or writing failed, or memory was lacking
-pub parsed_of : (s : Streams) (ended : Type 0) (bytes : List ℕ) (r : Result Summary SessionError) → IfOk r (IsAnswered s) → IfErr r (HasReason s) → EndsReading ended r → ended → s.left ≡ Some bytes → AnswersBytes bytes r
-parsed_of s ended bytes (Ok summary) ok err ends has known =
-    (ok.items, ap script_of (whole_of_known s.left s.left' bytes ok.script.bytes known ok.script.read) ∙ ok.script.parsed)
-parsed_of s ended bytes (Err (Malformed line)) ok err ends has known =
-    ap script_of (whole_of_known s.left s.left' bytes err.0.bytes known err.0.read) ∙ err.0.parsed
-parsed_of s ended bytes (Err TooLong) ok err ends has known = absurd (ends has)
-parsed_of s ended bytes (Err ReadFault) ok err ends has known = absurd (ends has)
-parsed_of s ended bytes (Err WriteFault) ok err ends has known =
-    (err.1.items, ap script_of (whole_of_known s.left s.left' bytes err.1.script.bytes known err.1.script.read) ∙ err.1.script.parsed)
-parsed_of s ended bytes (Err Memory) ok err ends has known = tt
+pub parsed_of : (old new : Streams) (ended : Type 0) (bytes : List ℕ) (r : Result Summary SessionError) → IfOk r (IsAnswered old new) → IfErr r (HasReason old new) → EndsReading ended r → ended → old.left ≡ Some bytes → AnswersBytes bytes r
+parsed_of old new ended bytes (Ok summary) ok err ends has known =
+    (ok.items, ap script_of (whole_of_known old.left new.left bytes ok.script.bytes known ok.script.read) ∙ ok.script.parsed)
+parsed_of old new ended bytes (Err (Malformed line)) ok err ends has known =
+    ap script_of (whole_of_known old.left new.left bytes err.0.bytes known err.0.read) ∙ err.0.parsed
+parsed_of old new ended bytes (Err TooLong) ok err ends has known = absurd (ends has)
+parsed_of old new ended bytes (Err ReadFault) ok err ends has known = absurd (ends has)
+parsed_of old new ended bytes (Err WriteFault) ok err ends has known =
+    (err.1.items, ap script_of (whole_of_known old.left new.left bytes err.1.script.bytes known err.1.script.read) ∙ err.1.script.parsed)
+parsed_of old new ended bytes (Err Memory) ok err ends has known = tt
 
 -- the same of statuses
 pub ended_status : {X : Type 0} (ended : Type 0) (r : Result X SessionError) → EndsReading ended r → (status_of r ≡ 0) ⊎ (status_of r ≡ 3) ⊎ (status_of r ≡ 6) → ended

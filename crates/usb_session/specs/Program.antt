@@ -58,16 +58,16 @@ abbrev pub Reports : Option (List ℕ) → Option (List ℕ) → ℕ → ℕ →
 Reports old new before now line = (Appends old new line × (now ≡ before)) ⊎ (RoseByOne before now × WrotePrefix old new line)
 
 -- a session that gave this answer
-abbrev pub IsSession : Streams → Result Summary SessionError → Type 0
-IsSession s (Ok summary) = IsAnswered s summary
-IsSession s (Err e) = HasReason s e
+abbrev pub IsSession : Streams → Streams → Result Summary SessionError → Type 0
+IsSession old new (Ok summary) = IsAnswered old new summary
+IsSession old new (Err e) = HasReason old new e
 
 -- what the call with words for a session answers, its status, and what the sink for reports got:
 -- the bytes that this sink tells (`told`) and its count of faults, before the call and, with a
 -- prime, after it
-pub record RunsSession (s : Streams) (told told' : Option (List ℕ)) (faults faults' status : ℕ) : Type 0 where
+pub record RunsSession (old new : Streams) (told told' : Option (List ℕ)) (faults faults' status : ℕ) : Type 0 where
   pub answer : Result Summary SessionError
-  pub session : IsSession s answer
+  pub session : IsSession old new answer
   pub status_is : status ≡ status_of answer
   pub report : Reports told told' faults faults' (report_of answer)
 

@@ -21,36 +21,23 @@ use Rattle.usb_answers.specs.WrittenScripts.{WritersAreTold}
 use Rattle.usb_session.specs.Exchanges.{MessagesAlwaysArrive, MessagesKeepArriving}
 use Rattle.usb_answers.specs.declared.summary.Summary.{Summary}
 
--- what a source and a sink tell of themselves before a call and after it
+-- what a source and a sink tell of themselves: the bytes that are left, and those that were written, where they are told, and
+-- the counts of faults
 pub record Streams : Type 0 where
   pub left : Option (List ℕ)
-  pub left' : Option (List ℕ)
   pub read_faults : ℕ
-  pub read_faults' : ℕ
   pub written : Option (List ℕ)
-  pub written' : Option (List ℕ)
   pub write_faults : ℕ
-  pub write_faults' : ℕ
 
--- these of a source and a sink before a call and after it (with a prime), by the functions that
--- give a source's bytes and faults and a sink's
-abbrev pub streams : {S K : Type 0} → (S → Option (List ℕ)) → (S → ℕ) → (K → Option (List ℕ)) → (K → ℕ) → S → S → K → K → Streams
-streams left faults written counted source source' sink sink' =
-    record {
-      left = left source;
-      left' = left source';
-      read_faults = faults source;
-      read_faults' = faults source';
-      written = written sink;
-      written' = written sink';
-      write_faults = counted sink;
-      write_faults' = counted sink';
-    }
+-- by the functions that give a source's bytes and faults, and a sink's
+abbrev pub streams : {S K : Type 0} → (S → Option (List ℕ)) → (S → ℕ) → (K → Option (List ℕ)) → (K → ℕ) → S → K → Streams
+streams left faults written counted source sink =
+    record { left = left source; read_faults = faults source; written = written sink; write_faults = counted sink }
 
 -- the source was read to its end, and this is what its bytes parse to
-pub record ReadAs (s : Streams) (items : Result (List Item) SessionError) : Type 0 where
+pub record ReadAs (old new : Streams) (items : Result (List Item) SessionError) : Type 0 where
   pub bytes : List ℕ
-  pub read : ReadWhole s.left s.left' bytes
+  pub read : ReadWhole old.left new.left bytes
   pub parsed : script_of bytes ≡ items
 
 -- a valid script was read, and its whole output was written; at its end the host has as many
@@ -64,10 +51,10 @@ pub record ReadAs (s : Streams) (items : Result (List Item) SessionError) : Type
 -- the bytes of the tickets that it took, the tickets of a writer's endpoint carry what the writer
 -- wrote, and where a device only echoes from the one to the other, the messages that the reader
 -- ended are the first of those that the writer ended, also once the writer is gone
-pub record IsAnswered (s : Streams) (summary : Summary) : Type 0 where
+pub record IsAnswered (old new : Streams) (summary : Summary) : Type 0 where
   pub items : List Item
-  pub script : ReadAs s (Ok items)
-  pub wrote : Appends s.written s.written' (output items)
+  pub script : ReadAs old new (Ok items)
+  pub wrote : Appends old.written new.written (output items)
   pub summed : summary ≡ sum_of items
   pub ended : HasEnds (final_host items).tickets
   pub reaped : HasCompletions (final_host items).kernel.past
@@ -85,37 +72,37 @@ pub record IsAnswered (s : Streams) (summary : Summary) : Type 0 where
   pub keeps_arriving : MessagesKeepArriving items
 
 -- a valid script was read, and a prefix of its output was written
-pub record IsCutOff (s : Streams) : Type 0 where
+pub record IsCutOff (old new : Streams) : Type 0 where
   pub items : List Item
-  pub script : ReadAs s (Ok items)
-  pub wrote : WrotePrefix s.written s.written' (output items)
+  pub script : ReadAs old new (Ok items)
+  pub wrote : WrotePrefix old.written new.written (output items)
 
 -- why a session fails, and what it wrote
-abbrev pub HasReason : Streams → SessionError → Type 0
-HasReason s (Malformed line) = ReadAs s (Err (Malformed line)) × Keeps s.written s.written'
-HasReason s TooLong = TookTooMany s.left s.left' × Keeps s.written s.written'
-HasReason s ReadFault = Rose s.read_faults s.read_faults' × Keeps s.written s.written'
-HasReason s WriteFault = Rose s.write_faults s.write_faults' × IsCutOff s
-HasReason s Memory = Keeps s.written s.written' ⊎ IsCutOff s
+abbrev pub HasReason : Streams → Streams → SessionError → Type 0
+HasReason old new (Malformed line) = ReadAs old new (Err (Malformed line)) × Keeps old.written new.written
+HasReason old new TooLong = TookTooMany old.left new.left × Keeps old.written new.written
+HasReason old new ReadFault = Rose old.read_faults new.read_faults × Keeps old.written new.written
+HasReason old new WriteFault = Rose old.write_faults new.write_faults × IsCutOff old new
+HasReason old new Memory = Keeps old.written new.written ⊎ IsCutOff old new
 
 -- counts of faults never fall
-abbrev pub FaultsNeverFall : Streams → Type 0
-FaultsNeverFall s = (s.read_faults ≤ s.read_faults') × (s.write_faults ≤ s.write_faults')
+abbrev pub FaultsNeverFall : Streams → Streams → Type 0
+FaultsNeverFall old new = (old.read_faults ≤ new.read_faults) × (old.write_faults ≤ new.write_faults)
 
 -- before the call a source told its bytes, which are a valid script, and no count of faults rose in the call
-pub record IsSmooth (s : Streams) : Type 0 where
+pub record IsSmooth (old new : Streams) : Type 0 where
   pub bytes : List ℕ
   pub items : List Item
-  pub known : s.left ≡ Some bytes
+  pub known : old.left ≡ Some bytes
   pub valid : script_of bytes ≡ Ok items
-  pub reads : Rose s.read_faults s.read_faults' → ⊥
-  pub writes : Rose s.write_faults s.write_faults' → ⊥
+  pub reads : Rose old.read_faults new.read_faults → ⊥
+  pub writes : Rose old.write_faults new.write_faults → ⊥
 
 -- before the call a source told these bytes, and no count of faults rose in the call
-pub record IsQuiet (s : Streams) (bytes : List ℕ) : Type 0 where
-  pub known : s.left ≡ Some bytes
-  pub reads : Rose s.read_faults s.read_faults' → ⊥
-  pub writes : Rose s.write_faults s.write_faults' → ⊥
+pub record IsQuiet (old new : Streams) (bytes : List ℕ) : Type 0 where
+  pub known : old.left ≡ Some bytes
+  pub reads : Rose old.read_faults new.read_faults → ⊥
+  pub writes : Rose old.write_faults new.write_faults → ⊥
 
 -- where the source's bytes are these and nothing failed: the answer is Ok where they parse, and else the parse's error; or memory was lacking
 abbrev pub IsExact : {X : Type 0} → List ℕ → Result X SessionError → Type 0
@@ -123,10 +110,10 @@ IsExact bytes (Ok x) = (items : List Item) × (script_of bytes ≡ Ok items)
 IsExact bytes (Err e) = (e ≡ Memory) ⊎ (script_of bytes ≡ Err e)
 
 -- before the call a source told its bytes, and in the call it gave one more than a script may have
-pub record GaveTooMany (s : Streams) : Type 0 where
+pub record GaveTooMany (old new : Streams) : Type 0 where
   pub bytes : List ℕ
-  pub known : s.left ≡ Some bytes
-  pub taken : TookTooMany s.left s.left'
+  pub known : old.left ≡ Some bytes
+  pub taken : TookTooMany old.left new.left
 
 -- where the source's bytes are these and were read to the end: they parse, and the answer is Ok or writing failed; or the answer is
 -- the parse's error; or memory was lacking

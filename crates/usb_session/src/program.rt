@@ -199,7 +199,8 @@ fn answer_words<S: Source, K: Sink, D: Sink>(
         source.new ≡ source.old }
     ensures unwritten { is_usage (map string_bytes words.now) ≡ true → sink.new ≡ sink.old }
     ensures session { is_session (map string_bytes words.now) ≡ true → RunsSession
-        (streams S.left S.faults K.written K.faults source.old source.new sink.old sink.new)
+        (streams S.left S.faults K.written K.faults source.old sink.old)
+        (streams S.left S.faults K.written K.faults source.new sink.new)
         (D.written diag.old) (D.written diag.new) (D.faults diag.old) (D.faults diag.new) result }
     ensures generate { (n : ℕ) → generate_count (map string_bytes words.now) ≡ Some n →
         RunsLine (generate_line n) (K.written sink.old) (K.written sink.new)
@@ -208,29 +209,36 @@ fn answer_words<S: Source, K: Sink, D: Sink>(
     // Of a session: where the status is 0, the whole output was written.
     ensures done { is_session (map string_bytes words.now) ≡ true → result ≡ 0 →
         (summary : Summary) × IsAnswered
-        (streams S.left S.faults K.written K.faults source.old source.new sink.old sink.new)
+        (streams S.left S.faults K.written K.faults source.old sink.old)
+        (streams S.left S.faults K.written K.faults source.new sink.new)
         summary }
     ensures malformed { result ≡ 3 → (line : ℕ) × HasReason
-        (streams S.left S.faults K.written K.faults source.old source.new sink.old sink.new)
+        (streams S.left S.faults K.written K.faults source.old sink.old)
+        (streams S.left S.faults K.written K.faults source.new sink.new)
         (SessionError.Malformed line) }
     ensures too_long { result ≡ 4 → HasReason
-        (streams S.left S.faults K.written K.faults source.old source.new sink.old sink.new)
+        (streams S.left S.faults K.written K.faults source.old sink.old)
+        (streams S.left S.faults K.written K.faults source.new sink.new)
         SessionError.TooLong }
     ensures read_fault { result ≡ 5 → HasReason
-        (streams S.left S.faults K.written K.faults source.old source.new sink.old sink.new)
+        (streams S.left S.faults K.written K.faults source.old sink.old)
+        (streams S.left S.faults K.written K.faults source.new sink.new)
         SessionError.ReadFault }
     ensures write_fault { is_session (map string_bytes words.now) ≡ true → result ≡ 6 →
         HasReason
-        (streams S.left S.faults K.written K.faults source.old source.new sink.old sink.new)
+        (streams S.left S.faults K.written K.faults source.old sink.old)
+        (streams S.left S.faults K.written K.faults source.new sink.new)
         SessionError.WriteFault }
     ensures memory { is_session (map string_bytes words.now) ≡ true → result ≡ 7 →
         HasReason
-        (streams S.left S.faults K.written K.faults source.old source.new sink.old sink.new)
+        (streams S.left S.faults K.written K.faults source.old sink.old)
+        (streams S.left S.faults K.written K.faults source.new sink.new)
         SessionError.Memory }
     // Where nothing fails, the status is what the script's bytes parse to, or want of memory.
     ensures exact { is_session (map string_bytes words.now) ≡ true →
         (bytes : List ℕ) → IsQuiet
-        (streams S.left S.faults K.written K.faults source.old source.new sink.old sink.new) bytes →
+        (streams S.left S.faults K.written K.faults source.old sink.old)
+        (streams S.left S.faults K.written K.faults source.new sink.new) bytes →
         (result ≡ 7) ⊎ (result ≡ status_of (script_of bytes)) }
     // The source has ended exactly where the whole script was read (but for want of memory), and then the status is what its bytes
     // parse to, or that of a write fault.
@@ -242,7 +250,8 @@ fn answer_words<S: Source, K: Sink, D: Sink>(
         (result ≡ status_of (script_of bytes)) ⊎ (result ≡ 6) ⊎ (result ≡ 7) }
     // The byte past the longest script is taken only where the script is too long, or memory was lacking.
     ensures too_many { is_session (map string_bytes words.now) ≡ true → GaveTooMany
-        (streams S.left S.faults K.written K.faults source.old source.new sink.old sink.new) →
+        (streams S.left S.faults K.written K.faults source.old sink.old)
+        (streams S.left S.faults K.written K.faults source.new sink.new) →
         (result ≡ 4) ⊎ (result ≡ 7) }
     // After a read that failed nothing more is read, and never more than one byte past the longest script.
     ensures stops { result ≡ 5 →
@@ -258,7 +267,8 @@ fn answer_words<S: Source, K: Sink, D: Sink>(
     // A valid script, whose source tells its bytes, is answered where no read or write fails, unless memory runs out.
     ensures complete { is_session (map string_bytes words.now) ≡ true →
         IsSmooth
-        (streams S.left S.faults K.written K.faults source.old source.new sink.old sink.new)
+        (streams S.left S.faults K.written K.faults source.old sink.old)
+        (streams S.left S.faults K.written K.faults source.new sink.new)
         → (result ≡ 0) ⊎ (result ≡ 7) }
 {
     if is_session(words) {
@@ -297,7 +307,8 @@ pub fn run_program<R: Threads + Wait + Sync, S: Source, K: Sink, D: Sink, G: Gat
         source.new ≡ source.old }
     ensures unwritten { is_usage (map string_bytes words.now.items) ≡ true → sink.new ≡ sink.old }
     ensures session { is_session (map string_bytes words.now.items) ≡ true → RunsSession
-        (streams S.left S.faults K.written K.faults source.old source.new sink.old sink.new)
+        (streams S.left S.faults K.written K.faults source.old sink.old)
+        (streams S.left S.faults K.written K.faults source.new sink.new)
         (D.written diag.old) (D.written diag.new) (D.faults diag.old) (D.faults diag.new) result }
     ensures live { (n : ℕ) → live_count (map string_bytes words.now.items) ≡ Some n →
         RunsLine (live_line n) (K.written sink.old) (K.written sink.new)
@@ -310,29 +321,36 @@ pub fn run_program<R: Threads + Wait + Sync, S: Source, K: Sink, D: Sink, G: Gat
     // Of a session: where the status is 0, the whole output was written.
     ensures done { is_session (map string_bytes words.now.items) ≡ true → result ≡ 0 →
         (summary : Summary) × IsAnswered
-        (streams S.left S.faults K.written K.faults source.old source.new sink.old sink.new)
+        (streams S.left S.faults K.written K.faults source.old sink.old)
+        (streams S.left S.faults K.written K.faults source.new sink.new)
         summary }
     ensures malformed { result ≡ 3 → (line : ℕ) × HasReason
-        (streams S.left S.faults K.written K.faults source.old source.new sink.old sink.new)
+        (streams S.left S.faults K.written K.faults source.old sink.old)
+        (streams S.left S.faults K.written K.faults source.new sink.new)
         (SessionError.Malformed line) }
     ensures too_long { result ≡ 4 → HasReason
-        (streams S.left S.faults K.written K.faults source.old source.new sink.old sink.new)
+        (streams S.left S.faults K.written K.faults source.old sink.old)
+        (streams S.left S.faults K.written K.faults source.new sink.new)
         SessionError.TooLong }
     ensures read_fault { result ≡ 5 → HasReason
-        (streams S.left S.faults K.written K.faults source.old source.new sink.old sink.new)
+        (streams S.left S.faults K.written K.faults source.old sink.old)
+        (streams S.left S.faults K.written K.faults source.new sink.new)
         SessionError.ReadFault }
     ensures write_fault { is_session (map string_bytes words.now.items) ≡ true → result ≡ 6 →
         HasReason
-        (streams S.left S.faults K.written K.faults source.old source.new sink.old sink.new)
+        (streams S.left S.faults K.written K.faults source.old sink.old)
+        (streams S.left S.faults K.written K.faults source.new sink.new)
         SessionError.WriteFault }
     ensures memory { is_session (map string_bytes words.now.items) ≡ true → result ≡ 7 →
         HasReason
-        (streams S.left S.faults K.written K.faults source.old source.new sink.old sink.new)
+        (streams S.left S.faults K.written K.faults source.old sink.old)
+        (streams S.left S.faults K.written K.faults source.new sink.new)
         SessionError.Memory }
     // Where nothing fails, the status is what the script's bytes parse to, or want of memory.
     ensures exact { is_session (map string_bytes words.now.items) ≡ true →
         (bytes : List ℕ) → IsQuiet
-        (streams S.left S.faults K.written K.faults source.old source.new sink.old sink.new) bytes →
+        (streams S.left S.faults K.written K.faults source.old sink.old)
+        (streams S.left S.faults K.written K.faults source.new sink.new) bytes →
         (result ≡ 7) ⊎ (result ≡ status_of (script_of bytes)) }
     // The source has ended exactly where the whole script was read (but for want of memory), and then the status is what its bytes
     // parse to, or that of a write fault.
@@ -344,7 +362,8 @@ pub fn run_program<R: Threads + Wait + Sync, S: Source, K: Sink, D: Sink, G: Gat
         (result ≡ status_of (script_of bytes)) ⊎ (result ≡ 6) ⊎ (result ≡ 7) }
     // The byte past the longest script is taken only where the script is too long, or memory was lacking.
     ensures too_many { is_session (map string_bytes words.now.items) ≡ true → GaveTooMany
-        (streams S.left S.faults K.written K.faults source.old source.new sink.old sink.new) →
+        (streams S.left S.faults K.written K.faults source.old sink.old)
+        (streams S.left S.faults K.written K.faults source.new sink.new) →
         (result ≡ 4) ⊎ (result ≡ 7) }
     // After a read that failed nothing more is read, and never more than one byte past the longest script.
     ensures stops { result ≡ 5 →
@@ -360,7 +379,8 @@ pub fn run_program<R: Threads + Wait + Sync, S: Source, K: Sink, D: Sink, G: Gat
     // A valid script, whose source tells its bytes, is answered where no read or write fails, unless memory runs out.
     ensures complete { is_session (map string_bytes words.now.items) ≡ true →
         IsSmooth
-        (streams S.left S.faults K.written K.faults source.old source.new sink.old sink.new)
+        (streams S.left S.faults K.written K.faults source.old sink.old)
+        (streams S.left S.faults K.written K.faults source.new sink.new)
         → (result ≡ 0) ⊎ (result ≡ 7) }
 {
     let words = words.as_slice();

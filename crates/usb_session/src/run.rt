@@ -228,11 +228,14 @@ fn answer_source<S: Source, K: Sink>(
 ) -> Result<Summary, SessionError>
     requires { ¬ (S.has_ended source.old) }
     ensures ok { IfOk result (IsAnswered
-        (streams S.left S.faults K.written K.faults source.old source.new sink.old sink.new)) }
+        (streams S.left S.faults K.written K.faults source.old sink.old)
+        (streams S.left S.faults K.written K.faults source.new sink.new)) }
     ensures err { IfErr result (HasReason
-        (streams S.left S.faults K.written K.faults source.old source.new sink.old sink.new)) }
+        (streams S.left S.faults K.written K.faults source.old sink.old)
+        (streams S.left S.faults K.written K.faults source.new sink.new)) }
     ensures later { FaultsNeverFall
-        (streams S.left S.faults K.written K.faults source.old source.new sink.old sink.new) }
+        (streams S.left S.faults K.written K.faults source.old sink.old)
+        (streams S.left S.faults K.written K.faults source.new sink.new) }
     ensures stops { IsErrOf result SessionError.ReadFault →
         FailedLast (S.faults source.old) (S.faults source.new) (S.has_failed source.new) }
     ensures ends { EndsReading (S.has_ended source.new) result }
@@ -263,20 +266,25 @@ pub fn run_session<S: Source, K: Sink>(
 ) -> Result<Summary, SessionError>
     requires { ¬ (S.has_ended source.old) }
     ensures ok { IfOk result (IsAnswered
-        (streams S.left S.faults K.written K.faults source.old source.new sink.old sink.new)) }
+        (streams S.left S.faults K.written K.faults source.old sink.old)
+        (streams S.left S.faults K.written K.faults source.new sink.new)) }
     ensures err { IfErr result (HasReason
-        (streams S.left S.faults K.written K.faults source.old source.new sink.old sink.new)) }
+        (streams S.left S.faults K.written K.faults source.old sink.old)
+        (streams S.left S.faults K.written K.faults source.new sink.new)) }
     ensures later { FaultsNeverFall
-        (streams S.left S.faults K.written K.faults source.old source.new sink.old sink.new) }
+        (streams S.left S.faults K.written K.faults source.old sink.old)
+        (streams S.left S.faults K.written K.faults source.new sink.new) }
     // Each ticket was taken, dropped or reclaimed.
     ensures ends { IfOk result (λ s. s.taken + s.dropped + s.reclaimed ≡ s.tickets) }
     // A valid script, whose source tells its bytes, is answered where no read or write fails, unless memory runs out.
     ensures complete { IsSmooth
-        (streams S.left S.faults K.written K.faults source.old source.new sink.old sink.new) →
+        (streams S.left S.faults K.written K.faults source.old sink.old)
+        (streams S.left S.faults K.written K.faults source.new sink.new) →
         IfErr result (λ e. e ≡ SessionError.Memory) }
     // Where nothing fails, the answer is what the script's bytes parse to, or want of memory.
     ensures exact { (bytes : List ℕ) → IsQuiet
-        (streams S.left S.faults K.written K.faults source.old source.new sink.old sink.new) bytes →
+        (streams S.left S.faults K.written K.faults source.old sink.old)
+        (streams S.left S.faults K.written K.faults source.new sink.new) bytes →
         IsExact bytes result }
     // The source has ended exactly where the whole script was read (but for want of memory), and then the answer is what its bytes
     // parse to, or a write fault of a script that parses.
@@ -285,7 +293,8 @@ pub fn run_session<S: Source, K: Sink>(
         AnswersBytes bytes result }
     // The byte past the longest script is taken only where the script is too long, or memory was lacking.
     ensures too_many { GaveTooMany
-        (streams S.left S.faults K.written K.faults source.old source.new sink.old sink.new) →
+        (streams S.left S.faults K.written K.faults source.old sink.old)
+        (streams S.left S.faults K.written K.faults source.new sink.new) →
         (result ≡ Err SessionError.TooLong) ⊎ (result ≡ Err SessionError.Memory) }
     // After a read that failed nothing more is read, and never more than one byte past the longest script.
     ensures stops { IsErrOf result SessionError.ReadFault →

@@ -6,14 +6,21 @@ use std::test::Fail;
 
 /// Makes a reader with 64 transfers, each of which gets a packet of no bytes; behind it a line of steps begins.
 const READER: (&str, &str) = (
-    "reader r0 e0 64\nnum r0 64\npollread r0 5\n! ",
-    "ok\nok\npending\n",
+    "reader r0 e0 64\n\
+     num r0 64\n\
+     pollread r0 5\n\
+     ! ",
+    "ok\n\
+     ok\n\
+     pending\n",
 );
 
 /// Hands a control transfer in, which goes on without its name.
 const GIVEN_UP: (&str, &str) = (
-    "fin f0 d0 vendor device 30 0000 0000 64 100\nclose f0\n",
-    "ok\nok\n",
+    "fin f0 d0 vendor device 30 0000 0000 64 100\n\
+     close f0\n",
+    "ok\n\
+     ok\n",
 );
 
 /// Appends a text so often.
@@ -65,7 +72,14 @@ fn push_crowd(text: &mut String) -> Result<(), AllocError> {
 #[test]
 fn bars_every_call_above_1024_unreaped(rt: HostRuntime) -> Result<(), Fail> {
     let mut script = crowding(rt.alloc())?;
-    script.push_str("now\npoll e0\nclose d0\nisend r0\npending e0\nlist\n")?;
+    script.push_str(
+        "now\n\
+                     poll e0\n\
+                     close d0\n\
+                     isend r0\n\
+                     pending e0\n\
+                     list\n",
+    )?;
     let mut output = crowded(rt.alloc())?;
     push_times(&mut output, "condition\n", 6)?;
     push_crowd(&mut output)?;
@@ -79,12 +93,25 @@ fn makes_calls_again_once_1024_are_unreaped(rt: HostRuntime) -> Result<(), Fail>
     // The control transfers are finished, and 59 of them reaped; then one more behind a barred call.
     script.push_str("! clock 100 ; timer ; ")?;
     push_times(&mut script, "reap ; ", 58)?;
-    script.push_str("reap\nnow\nread r0 5 : reap ; clock 107\nnow\n")?;
+    script.push_str(
+        "reap\n\
+                     now\n\
+                     read r0 5 : reap ; clock 107\n\
+                     now\n",
+    )?;
     script.push_str(GIVEN_UP.0)?;
     script.push_str("! reap\n")?;
     script.push_str(GIVEN_UP.0)?;
     let mut output = crowded(rt.alloc())?;
-    output.push_str("condition\ncondition\nnow 107\ncondition\ncondition\nok\nok\n")?;
+    output.push_str(
+        "condition\n\
+                     condition\n\
+                     now 107\n\
+                     condition\n\
+                     condition\n\
+                     ok\n\
+                     ok\n",
+    )?;
     push_crowd(&mut output)?;
     push_fates(&mut output, 1148, 1149, "k0 80 cancelled 0 reclaimed")?;
     let wanted = (0, output.as_str(), "");

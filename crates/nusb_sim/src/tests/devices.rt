@@ -7,23 +7,99 @@ use std::test::Fail;
 const CALLS: [(&str, &str, &str); 4] = [
     (
         "owners and alternate settings",
-        "device k0 1 6 3 1 1201000200000040aaaabbbb0001000000010902200001010080320904000002ff0000000705810240000007050202400000\nopen d0 1 6\nclaim d0 0 i0\nclone i1 i0\nrelease i0\nclose i1\nendpoint e0 i0 81 bulk-in\nalt i0 0\nclose e0\nalt i0 0\nalt i0 1\ngetalt i0\nrelease i0\nclaim d0 0 i0\n",
-        "ok\nok\nok\nerror Busy interface is still in use\nok\nok\nerror Busy can't change alternate setting while endpoints are in use\nok\nok\nerror NotFound alternate setting not found (errno 22)\nalt 0\nok\nok\n",
+        "device k0 1 6 3 1 1201000200000040aaaabbbb0001000000010902200001010080320904000002ff0000000705810240000007050202400000\n\
+         open d0 1 6\n\
+         claim d0 0 i0\n\
+         clone i1 i0\n\
+         release i0\n\
+         close i1\n\
+         endpoint e0 i0 81 bulk-in\n\
+         alt i0 0\n\
+         close e0\n\
+         alt i0 0\n\
+         alt i0 1\n\
+         getalt i0\n\
+         release i0\n\
+         claim d0 0 i0\n",
+        "ok\n\
+         ok\n\
+         ok\n\
+         error Busy interface is still in use\n\
+         ok\n\
+         ok\n\
+         error Busy can't change alternate setting while endpoints are in use\n\
+         ok\n\
+         ok\n\
+         error NotFound alternate setting not found (errno 22)\n\
+         alt 0\n\
+         ok\n\
+         ok\n",
     ),
     (
         "kernel drivers",
-        "device k0 1 6 3 1 1201000200000040aaaabbbb0001000000010902200001010080320904000002ff0000000705810240000007050202400000\ndriver k0 0\nopen d0 1 6\nclaim d0 0 i0\ndetachclaim d0 0 i0\nattach d0 0\nclose i0\nclaim d0 0 i0\ndetach d0 0\ndetach d0 0\nclaim d0 0 i0\n",
-        "ok\nerror Busy interface is busy (errno 16)\nok\nerror Busy kernel driver already attached (errno 16)\nok\nerror Busy interface is busy (errno 16)\nok\nerror Other no kernel driver attached (errno 61)\nok\n",
+        "device k0 1 6 3 1 1201000200000040aaaabbbb0001000000010902200001010080320904000002ff0000000705810240000007050202400000\n\
+         driver k0 0\n\
+         open d0 1 6\n\
+         claim d0 0 i0\n\
+         detachclaim d0 0 i0\n\
+         attach d0 0\n\
+         close i0\n\
+         claim d0 0 i0\n\
+         detach d0 0\n\
+         detach d0 0\n\
+         claim d0 0 i0\n",
+        "ok\n\
+         error Busy interface is busy (errno 16)\n\
+         ok\n\
+         error Busy kernel driver already attached (errno 16)\n\
+         ok\n\
+         error Busy interface is busy (errno 16)\n\
+         ok\n\
+         error Other no kernel driver attached (errno 61)\n\
+         ok\n",
     ),
     (
         "configuration and reset",
-        "device k0 1 6 3 1 1201000200000040aaaabbbb0001000000010902200001010080320904000002ff0000000705810240000007050202400000\nopen d0 1 6\nsetconfig d0 7\nsetconfig d0 0\nactive d0\nclaim d0 0 i0\nsetconfig d0 1\nactive d0\nspeed d0\nclone d2 d0\nreset d0\nclaim d0 0 i0\nactive d0\nopen d1 1 6\n",
-        "ok\nerror NotFound configuration not found (errno 22)\nok\nnoconfig device is not configured\nerror NotFound interface not found (errno 2)\nok\nconfig 1\nspeed High\nok\nok\nerror Disconnected device disconnected (errno 19)\nconfig 1\nerror Disconnected device not found (errno 2)\n",
+        "device k0 1 6 3 1 1201000200000040aaaabbbb0001000000010902200001010080320904000002ff0000000705810240000007050202400000\n\
+         open d0 1 6\n\
+         setconfig d0 7\n\
+         setconfig d0 0\n\
+         active d0\n\
+         claim d0 0 i0\n\
+         setconfig d0 1\n\
+         active d0\n\
+         speed d0\n\
+         clone d2 d0\n\
+         reset d0\n\
+         claim d0 0 i0\n\
+         active d0\n\
+         open d1 1 6\n",
+        "ok\n\
+         error NotFound configuration not found (errno 22)\n\
+         ok\n\
+         noconfig device is not configured\n\
+         error NotFound interface not found (errno 2)\n\
+         ok\n\
+         config 1\n\
+         speed High\n\
+         ok\n\
+         ok\n\
+         error Disconnected device disconnected (errno 19)\n\
+         config 1\n\
+         error Disconnected device not found (errno 2)\n",
     ),
     (
         "armed refusal used once",
-        "device k0 1 6 3 1 1201000200000040aaaabbbb0001000000010902200001010080320904000002ff0000000705810240000007050202400000\nopen d0 1 6\nclaim d0 0 i0\n! refuse k0 alt 71\nalt i0 0\nalt i0 0\n",
-        "ok\nok\nerror Other failed to set alternate setting (errno 71)\nok\n",
+        "device k0 1 6 3 1 1201000200000040aaaabbbb0001000000010902200001010080320904000002ff0000000705810240000007050202400000\n\
+         open d0 1 6\n\
+         claim d0 0 i0\n\
+         ! refuse k0 alt 71\n\
+         alt i0 0\n\
+         alt i0 0\n",
+        "ok\n\
+         ok\n\
+         error Other failed to set alternate setting (errno 71)\n\
+         ok\n",
     ),
 ];
 
@@ -36,38 +112,261 @@ fn answers_calls_on_devices_and_interfaces(rt: HostRuntime) -> Result<(), Fail> 
 const HOSTS: [(&str, &str, &str); 7] = [
     (
         "a claim that detached the driver attaches it",
-        "device k0 1 6 3 1 1201000200000040aaaabbbb0001000000020902290001010080320904000001ff000000070581024000000904000101ff000000070581024000000902120001020080320904010000ff000000\ndriver k0 0\nopen d0 1 6\nclaim d0 0 i0\ndetachclaim d0 0 i0\nattach d0 0\nclose i0\ndetachclaim d0 0 i0\ndetach d0 0\nclose i0\nattach d0 0\ndetach d0 0\ndetach d0 0\nclaim d0 0 i0\nclose i0\ndetachclaim d0 0 i0\nclose i0\nclaim d0 0 i0\ndetach d0 0\nattach d0 0\nsetconfig d0 2\ndetach d0 0\nattach d0 0\n",
-        "ok\nerror Busy interface is busy (errno 16)\nok\nerror Busy kernel driver already attached (errno 16)\nok\nok\nerror Other no kernel driver attached (errno 61)\nok\nerror Busy kernel driver already attached (errno 16)\nok\nerror Other no kernel driver attached (errno 61)\nok\nok\nok\nok\nerror Busy interface is busy (errno 16)\nok\nok\nok\nerror NotFound interface not found (errno 22)\nerror NotFound interface not found (errno 22)\n",
+        "device k0 1 6 3 1 1201000200000040aaaabbbb0001000000020902290001010080320904000001ff000000070581024000000904000101ff000000070581024000000902120001020080320904010000ff000000\n\
+         driver k0 0\n\
+         open d0 1 6\n\
+         claim d0 0 i0\n\
+         detachclaim d0 0 i0\n\
+         attach d0 0\n\
+         close i0\n\
+         detachclaim d0 0 i0\n\
+         detach d0 0\n\
+         close i0\n\
+         attach d0 0\n\
+         detach d0 0\n\
+         detach d0 0\n\
+         claim d0 0 i0\n\
+         close i0\n\
+         detachclaim d0 0 i0\n\
+         close i0\n\
+         claim d0 0 i0\n\
+         detach d0 0\n\
+         attach d0 0\n\
+         setconfig d0 2\n\
+         detach d0 0\n\
+         attach d0 0\n",
+        "ok\n\
+         error Busy interface is busy (errno 16)\n\
+         ok\n\
+         error Busy kernel driver already attached (errno 16)\n\
+         ok\n\
+         ok\n\
+         error Other no kernel driver attached (errno 61)\n\
+         ok\n\
+         error Busy kernel driver already attached (errno 16)\n\
+         ok\n\
+         error Other no kernel driver attached (errno 61)\n\
+         ok\n\
+         ok\n\
+         ok\n\
+         ok\n\
+         error Busy interface is busy (errno 16)\n\
+         ok\n\
+         ok\n\
+         ok\n\
+         error NotFound interface not found (errno 22)\n\
+         error NotFound interface not found (errno 22)\n",
     ),
     (
         "owners keep an interface, and endpoints its setting",
-        "device k0 1 6 3 1 1201000200000040aaaabbbb0001000000020902290001010080320904000001ff000000070581024000000904000101ff000000070581024000000902120001020080320904010000ff000000\nopen d0 1 6\nclaim d0 0 i0\nclone i1 i0\nrelease i1\nclose i1\nalt i0 1\ngetalt i0\nifdesc i0\nalt i0 2\nendpoint e0 i0 81 bulk-in\nalt i0 0\nhalt e0\nclose e0\nsetconfig d0 2\nalt i0 0\ngetalt i0\nifdesc i0\n",
-        "ok\nok\nok\nerror Busy interface is still in use\nok\nok\nalt 1\nif 0.1 ff 00 00 ep 81 bulk 64 0\nerror NotFound alternate setting not found (errno 22)\nok\nerror Busy can't change alternate setting while endpoints are in use\nok\nok\nerror Busy device is busy (errno 16)\nok\nalt 0\nif 0.0 ff 00 00 ep 81 bulk 64 0\n",
+        "device k0 1 6 3 1 1201000200000040aaaabbbb0001000000020902290001010080320904000001ff000000070581024000000904000101ff000000070581024000000902120001020080320904010000ff000000\n\
+         open d0 1 6\n\
+         claim d0 0 i0\n\
+         clone i1 i0\n\
+         release i1\n\
+         close i1\n\
+         alt i0 1\n\
+         getalt i0\n\
+         ifdesc i0\n\
+         alt i0 2\n\
+         endpoint e0 i0 81 bulk-in\n\
+         alt i0 0\n\
+         halt e0\n\
+         close e0\n\
+         setconfig d0 2\n\
+         alt i0 0\n\
+         getalt i0\n\
+         ifdesc i0\n",
+        "ok\n\
+         ok\n\
+         ok\n\
+         error Busy interface is still in use\n\
+         ok\n\
+         ok\n\
+         alt 1\n\
+         if 0.1 ff 00 00 ep 81 bulk 64 0\n\
+         error NotFound alternate setting not found (errno 22)\n\
+         ok\n\
+         error Busy can't change alternate setting while endpoints are in use\n\
+         ok\n\
+         ok\n\
+         error Busy device is busy (errno 16)\n\
+         ok\n\
+         alt 0\n\
+         if 0.0 ff 00 00 ep 81 bulk 64 0\n",
     ),
     (
         "configurations are set and asked for",
-        "device k0 1 6 3 1 1201000200000040aaaabbbb0001000000020902290001010080320904000001ff000000070581024000000904000101ff000000070581024000000902120001020080320904010000ff000000\nopen d0 1 6\nactive d0\nsetconfig d0 7\nactive d0\nsetconfig d0 0\nactive d0\nclaim d0 0 i0\nsetconfig d0 2\nactive d0\nclaim d0 0 i0\nopen d1 1 6\nsetconfig d1 1\nclose d1\nclaim d0 0 i0\nactive d0\n",
-        "ok\nconfig 1\nerror NotFound configuration not found (errno 22)\nconfig 1\nok\nnoconfig device is not configured\nerror NotFound interface not found (errno 2)\nok\nconfig 2\nerror NotFound interface not found (errno 2)\nok\nok\nok\nok\nconfig 1\n",
+        "device k0 1 6 3 1 1201000200000040aaaabbbb0001000000020902290001010080320904000001ff000000070581024000000904000101ff000000070581024000000902120001020080320904010000ff000000\n\
+         open d0 1 6\n\
+         active d0\n\
+         setconfig d0 7\n\
+         active d0\n\
+         setconfig d0 0\n\
+         active d0\n\
+         claim d0 0 i0\n\
+         setconfig d0 2\n\
+         active d0\n\
+         claim d0 0 i0\n\
+         open d1 1 6\n\
+         setconfig d1 1\n\
+         close d1\n\
+         claim d0 0 i0\n\
+         active d0\n",
+        "ok\n\
+         config 1\n\
+         error NotFound configuration not found (errno 22)\n\
+         config 1\n\
+         ok\n\
+         noconfig device is not configured\n\
+         error NotFound interface not found (errno 2)\n\
+         ok\n\
+         config 2\n\
+         error NotFound interface not found (errno 2)\n\
+         ok\n\
+         ok\n\
+         ok\n\
+         ok\n\
+         config 1\n",
     ),
     (
         "speeds by their codes, and a configuration that is not there",
-        "device k0 1 1 1 9 1201000200000040aaaabbbb0001000000020902290001010080320904000001ff000000070581024000000904000101ff000000070581024000000902120001020080320904010000ff000000\ndevice k1 1 2 2 9 1201000200000040aaaabbbb0001000000020902290001010080320904000001ff000000070581024000000904000101ff000000070581024000000902120001020080320904010000ff000000\ndevice k2 1 3 3 9 1201000200000040aaaabbbb0001000000020902290001010080320904000001ff000000070581024000000904000101ff000000070581024000000902120001020080320904010000ff000000\ndevice k3 1 4 5 9 1201000200000040aaaabbbb0001000000020902290001010080320904000001ff000000070581024000000904000101ff000000070581024000000902120001020080320904010000ff000000\ndevice k4 1 5 6 9 1201000200000040aaaabbbb0001000000020902290001010080320904000001ff000000070581024000000904000101ff000000070581024000000902120001020080320904010000ff000000\ndevice k5 1 6 4 9 1201000200000040aaaabbbb0001000000020902290001010080320904000001ff000000070581024000000904000101ff000000070581024000000902120001020080320904010000ff000000\nopen d0 1 1\nspeed d0\nactive d0\nopen d1 1 2\nspeed d1\nactive d1\nopen d2 1 3\nspeed d2\nactive d2\nopen d3 1 4\nspeed d3\nactive d3\nopen d4 1 5\nspeed d4\nactive d4\nopen d5 1 6\nspeed d5\nactive d5\n",
-        "ok\nspeed Low\nnoconfig no descriptor found for active configuration 9\nok\nspeed Full\nnoconfig no descriptor found for active configuration 9\nok\nspeed High\nnoconfig no descriptor found for active configuration 9\nok\nspeed Super\nnoconfig no descriptor found for active configuration 9\nok\nspeed SuperPlus\nnoconfig no descriptor found for active configuration 9\nok\nspeed none\nnoconfig no descriptor found for active configuration 9\n",
+        "device k0 1 1 1 9 1201000200000040aaaabbbb0001000000020902290001010080320904000001ff000000070581024000000904000101ff000000070581024000000902120001020080320904010000ff000000\n\
+         device k1 1 2 2 9 1201000200000040aaaabbbb0001000000020902290001010080320904000001ff000000070581024000000904000101ff000000070581024000000902120001020080320904010000ff000000\n\
+         device k2 1 3 3 9 1201000200000040aaaabbbb0001000000020902290001010080320904000001ff000000070581024000000904000101ff000000070581024000000902120001020080320904010000ff000000\n\
+         device k3 1 4 5 9 1201000200000040aaaabbbb0001000000020902290001010080320904000001ff000000070581024000000904000101ff000000070581024000000902120001020080320904010000ff000000\n\
+         device k4 1 5 6 9 1201000200000040aaaabbbb0001000000020902290001010080320904000001ff000000070581024000000904000101ff000000070581024000000902120001020080320904010000ff000000\n\
+         device k5 1 6 4 9 1201000200000040aaaabbbb0001000000020902290001010080320904000001ff000000070581024000000904000101ff000000070581024000000902120001020080320904010000ff000000\n\
+         open d0 1 1\n\
+         speed d0\n\
+         active d0\n\
+         open d1 1 2\n\
+         speed d1\n\
+         active d1\n\
+         open d2 1 3\n\
+         speed d2\n\
+         active d2\n\
+         open d3 1 4\n\
+         speed d3\n\
+         active d3\n\
+         open d4 1 5\n\
+         speed d4\n\
+         active d4\n\
+         open d5 1 6\n\
+         speed d5\n\
+         active d5\n",
+        "ok\n\
+         speed Low\n\
+         noconfig no descriptor found for active configuration 9\n\
+         ok\n\
+         speed Full\n\
+         noconfig no descriptor found for active configuration 9\n\
+         ok\n\
+         speed High\n\
+         noconfig no descriptor found for active configuration 9\n\
+         ok\n\
+         speed Super\n\
+         noconfig no descriptor found for active configuration 9\n\
+         ok\n\
+         speed SuperPlus\n\
+         noconfig no descriptor found for active configuration 9\n\
+         ok\n\
+         speed none\n\
+         noconfig no descriptor found for active configuration 9\n",
     ),
     (
         "an armed refusal is used once, by its call",
-        "device k0 1 6 3 1 1201000200000040aaaabbbb0001000000020902290001010080320904000001ff000000070581024000000904000101ff000000070581024000000902120001020080320904010000ff000000\nopen d0 1 6\n! refuse k0 open 101 ; refuse k0 readdesc 102 ; refuse k0 getconfig 103 ; refuse k0 getconfig 104 ; refuse k0 setconfig 105 ; refuse k0 claim 106 ; refuse k0 detachclaim 107 ; refuse k0 attach 108 ; refuse k0 attach 109 ; refuse k0 detach 110 ; refuse k0 alt 111 ; refuse k0 halt 112 ; refuse k0 speed 113\nopen d1 1 6\nopen d1 1 6\nopen d1 1 6\nactive d0\nopen d1 1 6\nsetconfig d1 2\nsetconfig d1 2\nclose d1\nactive d0\nsetconfig d0 1\nclaim d0 0 i0\ndetachclaim d0 0 i0\ndetachclaim d0 0 i0\nclose i0\nattach d0 0\ndetach d0 0\nclaim d0 0 i0\nalt i0 1\nalt i0 1\ngetalt i0\nendpoint e0 i0 81 bulk-in\nhalt e0\nhalt e0\nspeed d0\nspeed d0\n",
-        "ok\nerror Other failed to open device (errno 101)\nerror Other failed to read descriptors (errno 102)\nerror Other failed to read sysfs bConfigurationValue\nconfig 1\nok\nerror Other failed to set configuration (errno 105)\nok\nok\nconfig 2\nok\nerror Other failed to claim interface (errno 106)\nerror Other failed to claim interface (errno 107)\nok\nok\nerror Other failed to attach kernel driver (errno 109)\nerror Other failed to detach kernel driver (errno 110)\nok\nerror Other failed to set alternate setting (errno 111)\nok\nalt 1\nok\nerror Other failed to clear halt (errno 112)\nok\nspeed none\nspeed High\n",
+        "device k0 1 6 3 1 1201000200000040aaaabbbb0001000000020902290001010080320904000001ff000000070581024000000904000101ff000000070581024000000902120001020080320904010000ff000000\n\
+         open d0 1 6\n\
+         ! refuse k0 open 101 ; refuse k0 readdesc 102 ; refuse k0 getconfig 103 ; refuse k0 getconfig 104 ; refuse k0 setconfig 105 ; refuse k0 claim 106 ; refuse k0 detachclaim 107 ; refuse k0 attach 108 ; refuse k0 attach 109 ; refuse k0 detach 110 ; refuse k0 alt 111 ; refuse k0 halt 112 ; refuse k0 speed 113\n\
+         open d1 1 6\n\
+         open d1 1 6\n\
+         open d1 1 6\n\
+         active d0\n\
+         open d1 1 6\n\
+         setconfig d1 2\n\
+         setconfig d1 2\n\
+         close d1\n\
+         active d0\n\
+         setconfig d0 1\n\
+         claim d0 0 i0\n\
+         detachclaim d0 0 i0\n\
+         detachclaim d0 0 i0\n\
+         close i0\n\
+         attach d0 0\n\
+         detach d0 0\n\
+         claim d0 0 i0\n\
+         alt i0 1\n\
+         alt i0 1\n\
+         getalt i0\n\
+         endpoint e0 i0 81 bulk-in\n\
+         halt e0\n\
+         halt e0\n\
+         speed d0\n\
+         speed d0\n",
+        "ok\n\
+         error Other failed to open device (errno 101)\n\
+         error Other failed to read descriptors (errno 102)\n\
+         error Other failed to read sysfs bConfigurationValue\n\
+         config 1\n\
+         ok\n\
+         error Other failed to set configuration (errno 105)\n\
+         ok\n\
+         ok\n\
+         config 2\n\
+         ok\n\
+         error Other failed to claim interface (errno 106)\n\
+         error Other failed to claim interface (errno 107)\n\
+         ok\n\
+         ok\n\
+         error Other failed to attach kernel driver (errno 109)\n\
+         error Other failed to detach kernel driver (errno 110)\n\
+         ok\n\
+         error Other failed to set alternate setting (errno 111)\n\
+         ok\n\
+         alt 1\n\
+         ok\n\
+         error Other failed to clear halt (errno 112)\n\
+         ok\n\
+         speed none\n\
+         speed High\n",
     ),
     (
         "a device that is reset is gone",
-        "device k0 1 6 3 1 1201000200000040aaaabbbb0001000000020902290001010080320904000001ff000000070581024000000904000101ff000000070581024000000902120001020080320904010000ff000000\nopen d0 1 6\n! refuse k0 reset 71\nreset d0\nreset d0\nreset d0\nactive d0\nclose d0\nopen d0 1 6\n",
-        "ok\nerror Other failed to reset device (errno 71)\nok\nerror Disconnected device disconnected (errno 19)\nconfig 1\nok\nerror Disconnected device not found (errno 2)\n",
+        "device k0 1 6 3 1 1201000200000040aaaabbbb0001000000020902290001010080320904000001ff000000070581024000000904000101ff000000070581024000000902120001020080320904010000ff000000\n\
+         open d0 1 6\n\
+         ! refuse k0 reset 71\n\
+         reset d0\n\
+         reset d0\n\
+         reset d0\n\
+         active d0\n\
+         close d0\n\
+         open d0 1 6\n",
+        "ok\n\
+         error Other failed to reset device (errno 71)\n\
+         ok\n\
+         error Disconnected device disconnected (errno 19)\n\
+         config 1\n\
+         ok\n\
+         error Disconnected device not found (errno 2)\n",
     ),
     (
         "an endpoint is an owner of its interface",
-        "device k0 1 6 3 1 1201000200000040aaaabbbb0001000000010902200001010080320904000002ff0000000705810240000007050202400000\nopen d0 1 6\nclaim d0 0 i0\nendpoint e0 i0 81 bulk-in\nclose i0\nclaim d0 0 i1\nclose e0\nclaim d0 0 i1\n",
-        "ok\nok\nok\nok\nerror Busy interface is busy (errno 16)\nok\nok\n",
+        "device k0 1 6 3 1 1201000200000040aaaabbbb0001000000010902200001010080320904000002ff0000000705810240000007050202400000\n\
+         open d0 1 6\n\
+         claim d0 0 i0\n\
+         endpoint e0 i0 81 bulk-in\n\
+         close i0\n\
+         claim d0 0 i1\n\
+         close e0\n\
+         claim d0 0 i1\n",
+        "ok\n\
+         ok\n\
+         ok\n\
+         ok\n\
+         error Busy interface is busy (errno 16)\n\
+         ok\n\
+         ok\n",
     ),
 ];
 

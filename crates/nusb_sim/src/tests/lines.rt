@@ -11,7 +11,9 @@ const LINES: [(&str, &[u8], u8, &str, &str); 9] = [
     ("empty line with CR LF", b"\r\n", 0, "", ""),
     (
         "skipped lines",
-        b"\n  \n# poll e0\npoll e0\n",
+        b"\n  \n\
+          # poll e0\n\
+          poll e0\n",
         0,
         "condition\n",
         "",
@@ -23,7 +25,8 @@ const LINES: [(&str, &[u8], u8, &str, &str); 9] = [
     ("tab", b"\topen d0 1 6\n", 3, "", MALFORMED_1),
     (
         "malformed after a comment",
-        b"# a comment\nopen d0 1\n",
+        b"# a comment\n\
+          open d0 1\n",
         3,
         "",
         "nusb_sim: malformed line 2\n",

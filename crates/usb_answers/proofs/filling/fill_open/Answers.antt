@@ -20,7 +20,7 @@ returns-in-Ok-clause-keeps c = keeps-along _ _ _ _ c.fill_bytes.follows.holds-at
 pub returns-in-Ok-clause-answered : goal.returns-in-Ok-clause-answered
 returns-in-Ok-clause-answered c =
     fill-gave c.args.framing c.args.host.now c.fill_bytes.new.host c.args.reader.now c.fill_bytes.follows.lender-at-none c.fill_bytes.follows.holds-at-none.2 (sym c.bars_read.ensures.barred ∙ c.if-bars_read.false)
-    c.args.line.now c.write_buffer.new.out c.write_buffer.result (Ok c.in-Ok.bytes.now)
+    (λ z. z.timeout) (given_line buffer_line) c.args.line.now c.write_buffer.new.out c.write_buffer.result (Ok c.in-Ok.bytes.now)
     (rw c.in-Ok.is at c.fill_bytes.follows.holds-at-none.0) c.write_buffer.ensures.text
 
 pub returns-in-Err-Cause-clause-keeps : goal.returns-in-Err-Cause-clause-keeps
@@ -29,7 +29,7 @@ returns-in-Err-Cause-clause-keeps c = keeps-along _ _ _ _ c.fill_bytes.follows.h
 pub returns-in-Err-Cause-clause-answered : goal.returns-in-Err-Cause-clause-answered
 returns-in-Err-Cause-clause-answered c =
     fill-gave c.args.framing c.args.host.now c.fill_bytes.new.host c.args.reader.now c.fill_bytes.follows.lender-at-none c.fill_bytes.follows.holds-at-none.2 (sym c.bars_read.ensures.barred ∙ c.if-bars_read.false)
-    c.args.line.now c.write_read_fault.new.out c.write_read_fault.result (Err c.in-Err-Cause.fault)
+    (λ z. z.timeout) (given_line buffer_line) c.args.line.now c.write_read_fault.new.out c.write_read_fault.result (Err c.in-Err-Cause.fault)
     (rw (c.in-Err-Cause.is, c.in-Err-Cause.field-0-is) at c.fill_bytes.follows.holds-at-none.0) c.write_read_fault.ensures.text
 
 pub returns-in-Err-Memory-clause-keeps : goal.returns-in-Err-Memory-clause-keeps

@@ -9,7 +9,7 @@ use Rattle.usb_host.specs.HostCalls.{host_calls}
 use Rattle.usb_stream_lines.specs.Reads.{read_line}
 use Rattle.usb_answers.specs.ReaderAt.{state_of_reader}
 use Rattle.usb_answers.specs.Reads.{is_until_short, polled_given_line, read_as}
-use Rattle.usb_answers.proofs.ReaderCode.{keeps-along, reads-barred, poll_read-gave, printed-in_time}
+use Rattle.usb_answers.proofs.ReaderCode.{keeps-along, reads-barred, read-gave, printed-in_time}
 use Rattle.usb_answers.proofs.reading.poll_read_open.Goals as goal
 
 pub returns-then-bars_read-clause-answered : goal.returns-then-bars_read-clause-answered
@@ -26,8 +26,8 @@ returns-in-Ready-Ok-clause-answered c =
     let written = with_items_is c.in_ok-bytes.bytes c.poll_bytes.new.dest (omega (arith, ap length c.deref_mut.ensures.value)) in
     let now : c.deref.result.now ≡ c.poll_bytes.new.dest = c.deref.ensures.value ∙ written in
     let size : length c.deref_mut.result.now ≡ c.args.most = search rules in
-    poll_read-gave c.args.framing c.args.host.now c.poll_bytes.new.host c.args.reader.now c.poll_bytes.new.reader c.poll_bytes.ensures.goes (sym c.bars_read.ensures.barred ∙ c.if-bars_read.false)
-    c.args.line.now c.write_read.new.out c.write_read.result c.args.most (Ok (take c.in-Ready-Ok.count c.poll_bytes.new.dest))
+    read-gave c.args.framing c.args.host.now c.poll_bytes.new.host c.args.reader.now c.poll_bytes.new.reader c.poll_bytes.ensures.goes (sym c.bars_read.ensures.barred ∙ c.if-bars_read.false)
+    (λ z. 0) (polled_given_line read_line) c.args.line.now c.write_read.new.out c.write_read.result c.args.most (Ok (take c.in-Ready-Ok.count c.poll_bytes.new.dest))
     (subst (λ m. read_came host_calls (is_until_short c.args.framing) 0 m (reading c.args.host.now c.args.reader.now) ≡ answered (Ok (take c.in-Ready-Ok.count c.poll_bytes.new.dest)) (reading c.poll_bytes.new.host c.poll_bytes.new.reader)) size
     (rw (c.in-Ready-Ok.is, c.in-Ready-Ok.field-0-is) at c.poll_bytes.ensures.read))
     (subst (λ l. OnOk c.write_read.result (string_bytes c.write_read.new.out ≡ string_bytes c.args.line.now ++ read_line (take c.in-Ready-Ok.count l))) now c.write_read.ensures.text)
@@ -38,8 +38,8 @@ returns-in-Ready-Err-Cause-clause-keeps c = keeps-along _ _ _ _ c.poll_bytes.ens
 pub returns-in-Ready-Err-Cause-clause-answered : goal.returns-in-Ready-Err-Cause-clause-answered
 returns-in-Ready-Err-Cause-clause-answered c =
     let size : length c.deref_mut.result.now ≡ c.args.most = search rules in
-    poll_read-gave c.args.framing c.args.host.now c.poll_bytes.new.host c.args.reader.now c.poll_bytes.new.reader c.poll_bytes.ensures.goes (sym c.bars_read.ensures.barred ∙ c.if-bars_read.false)
-    c.args.line.now c.write_read_fault.new.out c.write_read_fault.result c.args.most (Err c.in-Ready-Err-Cause.fault)
+    read-gave c.args.framing c.args.host.now c.poll_bytes.new.host c.args.reader.now c.poll_bytes.new.reader c.poll_bytes.ensures.goes (sym c.bars_read.ensures.barred ∙ c.if-bars_read.false)
+    (λ z. 0) (polled_given_line read_line) c.args.line.now c.write_read_fault.new.out c.write_read_fault.result c.args.most (Err c.in-Ready-Err-Cause.fault)
     (subst (λ m. read_came host_calls (is_until_short c.args.framing) 0 m (reading c.args.host.now c.args.reader.now) ≡ answered (Err c.in-Ready-Err-Cause.fault) (reading c.poll_bytes.new.host c.poll_bytes.new.reader)) size
     (rw (c.in-Ready-Err-Cause.is, c.in-Ready-Err-Cause.field-0-is, c.in-Ready-Err-Cause.field-0-0-is) at c.poll_bytes.ensures.failed))
     (printed-in_time read_line c.in-Ready-Err-Cause.fault c.args.line.now c.write_read_fault.new.out c.write_read_fault.result (rw (c.in-Ready-Err-Cause.is, c.in-Ready-Err-Cause.field-0-is, c.in-Ready-Err-Cause.field-0-0-is) at c.poll_bytes.ensures.in_time) c.write_read_fault.ensures.text)
@@ -53,7 +53,7 @@ returns-clause-keeps c = keeps-along _ _ _ _ c.poll_bytes.ensures.line c.poll_by
 pub returns-clause-answered : goal.returns-clause-answered
 returns-clause-answered c =
     let size : length c.deref_mut.result.now ≡ c.args.most = search rules in
-    poll_read-gave c.args.framing c.args.host.now c.poll_bytes.new.host c.args.reader.now c.poll_bytes.new.reader c.poll_bytes.ensures.goes (sym c.bars_read.ensures.barred ∙ c.if-bars_read.false)
-    c.args.line.now c.write_pending.new.out c.write_pending.result c.args.most (Err TimedOut)
+    read-gave c.args.framing c.args.host.now c.poll_bytes.new.host c.args.reader.now c.poll_bytes.new.reader c.poll_bytes.ensures.goes (sym c.bars_read.ensures.barred ∙ c.if-bars_read.false)
+    (λ z. 0) (polled_given_line read_line) c.args.line.now c.write_pending.new.out c.write_pending.result c.args.most (Err TimedOut)
     (subst (λ m. read_came host_calls (is_until_short c.args.framing) 0 m (reading c.args.host.now c.args.reader.now) ≡ answered (Err TimedOut) (reading c.poll_bytes.new.host c.poll_bytes.new.reader)) size (rw c.in-Pending.is at c.poll_bytes.ensures.failed))
     c.write_pending.ensures.text

@@ -26,7 +26,7 @@ returns-in-Ok-clause-answered c =
     let now : c.deref.result.now ≡ c.read_bytes.new.dest = c.deref.ensures.value ∙ written in
     let size : length c.deref_mut.result.now ≡ c.args.most = search rules in
     read-gave c.args.framing c.args.host.now c.read_bytes.new.host c.args.reader.now c.read_bytes.new.reader c.read_bytes.ensures.goes (sym c.bars_read.ensures.barred ∙ c.if-bars_read.false)
-    c.args.line.now c.write_read.new.out c.write_read.result c.args.most (Ok (take c.in-Ok.count c.read_bytes.new.dest))
+    (λ z. z.timeout) (given_line read_line) c.args.line.now c.write_read.new.out c.write_read.result c.args.most (Ok (take c.in-Ok.count c.read_bytes.new.dest))
     (subst (λ m. read_came host_calls (is_until_short c.args.framing) c.args.reader.now.timeout m (reading c.args.host.now c.args.reader.now) ≡ answered (Ok (take c.in-Ok.count c.read_bytes.new.dest)) (reading c.read_bytes.new.host c.read_bytes.new.reader)) size c.in-Ok.ensures.read)
     (subst (λ l. OnOk c.write_read.result (string_bytes c.write_read.new.out ≡ string_bytes c.args.line.now ++ read_line (take c.in-Ok.count l))) now c.write_read.ensures.text)
 
@@ -37,7 +37,7 @@ pub returns-in-Err-Cause-clause-answered : goal.returns-in-Err-Cause-clause-answ
 returns-in-Err-Cause-clause-answered c =
     let size : length c.deref_mut.result.now ≡ c.args.most = search rules in
     read-gave c.args.framing c.args.host.now c.read_bytes.new.host c.args.reader.now c.read_bytes.new.reader c.read_bytes.ensures.goes (sym c.bars_read.ensures.barred ∙ c.if-bars_read.false)
-    c.args.line.now c.write_read_fault.new.out c.write_read_fault.result c.args.most (Err c.in-Err-Cause.fault)
+    (λ z. z.timeout) (given_line read_line) c.args.line.now c.write_read_fault.new.out c.write_read_fault.result c.args.most (Err c.in-Err-Cause.fault)
     (subst (λ m. read_came host_calls (is_until_short c.args.framing) c.args.reader.now.timeout m (reading c.args.host.now c.args.reader.now) ≡ answered (Err c.in-Err-Cause.fault) (reading c.read_bytes.new.host c.read_bytes.new.reader)) size (rw c.in-Err-Cause.field-0-is at c.in-Err-Cause.ensures.failed))
     c.write_read_fault.ensures.text
 

@@ -7,4 +7,4 @@ returns-then-bars_line-clause-answered c =
 
 pub returns-clause-answered : goal.returns-clause-answered
 returns-clause-answered c =
-    answers-line _ _ c.args.line.now c.answer_line.new.line c.args.item c.answer_line.result c.bars_line.result c.bars_line.ensures.value c.if-bars_line.false c.answer_line.ensures.answered
+    answers-line _ _ c.args.line.now c.call.new.line c.args.item c.call.result c.bars_line.result c.bars_line.ensures.value c.if-bars_line.false c.call_of.result c.call_of.ensures.call c.call.ensures.answered

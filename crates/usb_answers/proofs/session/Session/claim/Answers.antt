@@ -8,7 +8,7 @@ use Rattle.usb_answers.proofs.SoundDevices.{device-of}
 use Rattle.usb_names.proofs.NameLemmas.{found_at, free_at}
 use Rattle.usb_answers.proofs.Answering.{answers, answers-same}
 use Rattle.usb_answers.proofs.Handled.{sound-claimed, sound-refused}
-use Rattle.usb_answers.proofs.Interfaces.{claim-gives, claim-refused, claim-none, claim-used, claim-spare}
+use Rattle.usb_answers.proofs.ClaimCode.{claim-gives, claim-refused, claim-none, claim-used, claim-spare}
 use Rattle.usb_answers.proofs.session.Session.claim.Goals as goal
 
 pub returns-in_default-clause-answered : goal.returns-in_default-clause-answered

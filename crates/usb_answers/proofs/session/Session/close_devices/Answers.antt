@@ -1,13 +1,13 @@
 use Rattle.std.proofs.Common.{sym, subst, ◌∙◌}
-use Rattle.usb_answers.specs.Ends.{devices_closed}
+use Rattle.usb_answers.specs.Ends.{name_closed, devices_closed}
 use Rattle.usb_answers.specs.Relation.{Represents}
-use Rattle.usb_answers.proofs.EndLemmas.{none-more, devices_closed-more}
+use Rattle.usb_answers.proofs.EndLemmas.{none-more, below-more}
 use Rattle.usb_answers.proofs.session.Session.close_devices.Goals as goal
 
 pub loop-name-preserved : goal.loop-name-preserved
 loop-name-preserved c = record {
   stands =
-      λ state r. subst (Represents c.close_name.new.self) (sym (devices_closed-more state c.loop-name.name))
+      λ state r. subst (Represents c.close_name.new.self) (sym (below-more name_closed state c.loop-name.name))
       (c.close_name.ensures.stands (devices_closed state c.loop-name.name) (c.loop-name.invariant.stands state r));
   none = none-more c.loop-name.self.devices c.close_name.new.self.devices c.loop-name.name c.close_name.ensures.freed c.loop-name.invariant.none;
   interfaces = c.close_name.ensures.interfaces ∙ c.loop-name.invariant.interfaces;

@@ -5,7 +5,7 @@ use Rattle.usb_answers.specs.Closes.{closed}
 use Rattle.usb_answers.specs.Ends.{endpoints_closed}
 use Rattle.usb_answers.specs.Relation.{Represents}
 use Rattle.usb_answers.proofs.OpenPlaces.{own_place}
-use Rattle.usb_answers.proofs.EndLemmas.{none-more, same-apart, endpoints_closed-more}
+use Rattle.usb_answers.proofs.EndLemmas.{none-more, same-apart, below-more}
 use Rattle.usb_answers.proofs.session.Session.close_endpoints.Goals as goal
 
 pub loop-name-preserved : goal.loop-name-preserved
@@ -18,7 +18,7 @@ loop-name-preserved c =
     let rest : after ≡ freed before name = c.close_endpoint.ensures.freed ∙ ap (freed before) place in
     record {
       stands =
-          λ state r. subst (Represents c.close_endpoint.new.self) (sym (endpoints_closed-more state name))
+          λ state r. subst (Represents c.close_endpoint.new.self) (sym (below-more closed state name))
           (subst (λ p. Represents c.close_endpoint.new.self (closed (endpoints_closed state name) p)) place
           (c.close_endpoint.ensures.stands (endpoints_closed state name) (c.loop-name.invariant.stands state r)));
       none = none-more before after name rest c.loop-name.invariant.none;

@@ -4,7 +4,7 @@ use Rattle.usb_answers.specs.SessionState.{SessionState}
 use Rattle.usb_answers.specs.SessionFacts.{made_of}
 use Rattle.usb_answers.proofs.HandleHosts.{closed-keeps, spare-beside}
 use Rattle.usb_answers.proofs.Handled.{sound-closed}
-use Rattle.usb_answers.proofs.EndLemmas.{close_interface-code, interface-nothing, interface-sound_same}
+use Rattle.usb_answers.proofs.HandleCloses.{close_interface-code, interface-nothing, interface-sound_same}
 use Rattle.usb_answers.proofs.session.Session.close_handle.Goals as goal
 
 pub invariant_of-self : goal.invariant_of-self

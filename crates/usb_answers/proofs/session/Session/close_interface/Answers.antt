@@ -1,13 +1,23 @@
-use Rattle.std.proofs.Common.{sym, ◌∙◌}
-use Rattle.usb_answers.proofs.InterfaceHandles.{close_interface-answered, close_interface-barred}
+use Rattle.std.proofs.Common.{true, false, ap, sym, ◌∙◌}
+use Rattle.std.specs.Prelude.{is_some}
+use Rattle.usb_names.specs.Names.{named}
+use Rattle.usb_answers.specs.State.{State}
+use Rattle.usb_answers.specs.Closes.{close_interface_answer}
+use Rattle.usb_answers.specs.Ends.{interface_closed_at, interface_closed}
+use Rattle.usb_answers.specs.SessionState.{SessionState}
+use Rattle.usb_answers.proofs.CloseAnswers.{close-answers}
 use Rattle.usb_answers.proofs.session.Session.close_interface.Goals as goal
 
 pub returns-then-close_handle-clause-answered : goal.returns-then-close_handle-clause-answered
+unfolding close_interface_answer interface_closed
 returns-then-close_handle-clause-answered c =
-    close_interface-answered c.args.self.now c.close_handle.new.self c.number.result c.args.name c.args.line.now c.write_ok.new.out c.write_ok.result c.number.ensures.value
-    (sym c.close_handle.ensures.was_open ∙ c.if-close_handle.true) c.close_handle.ensures.stands c.write_ok.ensures.text
+    close-answers (λ (state : State) n. named state.interfaces n) interface_closed_at c.args.self.now c.close_handle.new.self c.number.result c.args.name c.args.line.now c.write_ok.new.out c.write_ok.result true c.number.ensures.value
+    (λ state r. ap (λ (v : SessionState). is_some (named v.interfaces c.number.result)) (sym r.is) ∙ sym c.close_handle.ensures.was_open ∙ c.if-close_handle.true)
+    c.close_handle.ensures.stands c.write_ok.ensures.text
 
 pub returns-else-close_handle-clause-answered : goal.returns-else-close_handle-clause-answered
+unfolding close_interface_answer interface_closed
 returns-else-close_handle-clause-answered c =
-    close_interface-barred c.args.self.now c.close_handle.new.self c.number.result c.args.name c.args.line.now c.write_condition.new.out c.write_condition.result c.number.ensures.value
-    (sym c.close_handle.ensures.was_open ∙ c.if-close_handle.false) c.close_handle.ensures.stands c.write_condition.ensures.text
+    close-answers (λ (state : State) n. named state.interfaces n) interface_closed_at c.args.self.now c.close_handle.new.self c.number.result c.args.name c.args.line.now c.write_condition.new.out c.write_condition.result false c.number.ensures.value
+    (λ state r. ap (λ (v : SessionState). is_some (named v.interfaces c.number.result)) (sym r.is) ∙ sym c.close_handle.ensures.was_open ∙ c.if-close_handle.false)
+    c.close_handle.ensures.stands c.write_condition.ensures.text

@@ -3,7 +3,7 @@ use Rattle.usb_host.specs.HostState.{HostState}
 use Rattle.usb_answers.specs.SessionState.{SessionState}
 use Rattle.usb_answers.specs.SessionFacts.{made_of}
 use Rattle.usb_answers.proofs.DeviceHandles.{sound-device_closed}
-use Rattle.usb_answers.proofs.EndLemmas.{close_name-code, device-nothing, device-sound_same}
+use Rattle.usb_answers.proofs.HandleCloses.{close_name-code, device-nothing, device-sound_same}
 use Rattle.usb_answers.proofs.session.Session.close_name.Goals as goal
 
 pub invariant_of-self : goal.invariant_of-self

@@ -4,7 +4,7 @@ use Rattle.usb_answers.specs.ReaderAt.{reader_place}
 use Rattle.usb_answers.specs.Readers.{reader_closed}
 use Rattle.usb_answers.specs.Ends.{readers_closed}
 use Rattle.usb_answers.specs.Relation.{Represents}
-use Rattle.usb_answers.proofs.EndLemmas.{is_name, no_name, none-more_behind, readers_closed-more}
+use Rattle.usb_answers.proofs.EndLemmas.{is_name, no_name, none-more_behind, below-more}
 use Rattle.usb_answers.proofs.session.Session.close_readers.Goals as goal
 
 pub loop-number-preserved : goal.loop-number-preserved
@@ -15,7 +15,7 @@ loop-number-preserved c =
     let before = c.loop-number.self in
     record {
       stands =
-          λ state r. subst (Represents after) (ap (reader_closed (readers_closed state number)) same ∙ sym (readers_closed-more state number))
+          λ state r. subst (Represents after) (ap (reader_closed (readers_closed state number)) same ∙ sym (below-more reader_closed state number))
           (c.close_reader_at.ensures.stands (readers_closed state number) (c.loop-number.invariant.stands state r));
       none = none-more_behind 64 before.endpoints after.endpoints number (c.close_reader_at.ensures.freed ∙ ap (λ n. freed before.endpoints (reader_place n)) same) c.loop-number.invariant.none;
     }

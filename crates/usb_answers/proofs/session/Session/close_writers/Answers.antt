@@ -5,7 +5,7 @@ use Rattle.usb_answers.specs.WriterAt.{writer_place}
 use Rattle.usb_answers.specs.Writers.{writer_closed}
 use Rattle.usb_answers.specs.Ends.{writers_closed}
 use Rattle.usb_answers.specs.Relation.{Represents}
-use Rattle.usb_answers.proofs.EndLemmas.{is_name, no_name, none-more_behind, same-apart, writers_closed-more}
+use Rattle.usb_answers.proofs.EndLemmas.{is_name, no_name, none-more_behind, same-apart, below-more}
 use Rattle.usb_answers.proofs.session.Session.close_writers.Goals as goal
 
 pub loop-number-preserved : goal.loop-number-preserved
@@ -17,7 +17,7 @@ loop-number-preserved c =
     let rest : after.endpoints ≡ freed before.endpoints (writer_place number) = c.close_writer_at.ensures.freed ∙ ap (λ n. freed before.endpoints (writer_place n)) same in
     record {
       stands =
-          λ state r. subst (Represents after) (ap (writer_closed (writers_closed state number)) same ∙ sym (writers_closed-more state number))
+          λ state r. subst (Represents after) (ap (writer_closed (writers_closed state number)) same ∙ sym (below-more writer_closed state number))
           (c.close_writer_at.ensures.stands (writers_closed state number) (c.loop-number.invariant.stands state r));
       none = none-more_behind 128 before.endpoints after.endpoints number rest c.loop-number.invariant.none;
       readers = λ r below.

@@ -1,15 +1,29 @@
 use Rattle.std.proofs.Common.{◌≡◌, ◌∙◌, ℕ, None, ap, sym, refl}
+use Rattle.usb_host.specs.HostState.{HostState}
+use Rattle.usb_host.specs.HostBus.{owner_at}
 use Rattle.usb_host.specs.Finishes.{HasEnds, KeepsNothing}
 use Rattle.usb_names.specs.Names.{named}
-use Rattle.usb_answers.specs.State.{State}
-use Rattle.usb_answers.specs.Ends.{readers_closed, writers_closed, endpoints_closed, futures_closed, interfaces_closed, devices_closed}
+use Rattle.usb_answers.specs.State.{State, endpoint_state}
+use Rattle.usb_answers.specs.Ends.{readers_closed, writers_closed, endpoints_closed, futures_closed, interfaces_closed, devices_closed, all_closed}
 use Rattle.usb_answers.specs.Relation.{Represents}
 use Rattle.usb_answers.specs.Accounts.{Accounted}
 use Rattle.usb_answers.specs.SessionState.{SessionState}
 use Rattle.usb_answers.specs.SessionFacts.{made_of}
 use Rattle.usb_answers.proofs.TakenOut.{places-made}
-use Rattle.usb_answers.proofs.EndLemmas.{none-all, none-closed, none-endpoints, none-readers, none-writers, end-host, end-ended, end-none, end-empty}
+use Rattle.usb_answers.proofs.EndLemmas.{none-all, none-closed, none-endpoints, none-readers, none-writers, unmapped, end-host, end-none, end-empty}
+use Rattle.usb_answers.proofs.AccountLemmas.{accounted-all_closed, accounted-none}
+use Rattle.usb_answers.proofs.Answering.{named_kept, host_is}
 use Rattle.usb_answers.proofs.session.Session.end.Goals as goal
+
+-- all is closed, so no endpoint and no future holds a ticket, and each ticket of the host has its end
+end-ended : (s : SessionState) (before now : HostState) (state : State) → before ≡ s.host → ((e : ℕ) → named s.endpoints e ≡ None) → ((n : ℕ) → named s.futures n ≡ None) → Represents s (devices_closed (interfaces_closed (futures_closed (endpoints_closed (writers_closed (readers_closed state 64) 64) 64) 64) 64) 64) → Accounted state
+    → (((t : ℕ) → owner_at before.tickets t ≡ None) → HasEnds now.tickets) → HasEnds now.tickets
+unfolding all_closed
+end-ended s before now state same none gone r a ends =
+    let last = all_closed state in
+    let closed_all : (e : ℕ) → named last.endpoints e ≡ None = λ e. unmapped endpoint_state (named last.endpoints e) (sym (named_kept s last e r) ∙ none e) in
+    let all_gone : (n : ℕ) → named last.futures n ≡ None = λ n. ap (λ (v : SessionState). named v.futures n) (sym r.is) ∙ gone n in
+    ends (λ t. ap (λ (h : HostState). owner_at h.tickets t) (same ∙ host_is s last r) ∙ accounted-none last (accounted-all_closed state a) closed_all all_gone t)
 
 pub drop_names-requires : goal.drop_names-requires
 drop_names-requires c = record {

@@ -1,13 +1,11 @@
 use Rattle.std.proofs.Common.{◌∙◌, sym, ap}
 use Rattle.usb_kernel.specs.Value.{KernelState}
 use Rattle.usb_lines.specs.Completions.{now_line}
-use Rattle.usb_answers.specs.Now.{now_answer}
 use Rattle.usb_answers.specs.SessionState.{SessionState}
 use Rattle.usb_answers.proofs.Answering.{answers-same}
 use Rattle.usb_answers.proofs.session.Session.now.Goals as goal
 
 pub returns : goal.returns
-unfolding now_answer
 returns c =
     record {
       answered = answers-same _ _ _ c.self.view_is c.write_now.ensures.text

@@ -5,7 +5,7 @@ use Rattle.usb_answers.specs.SessionState.{SessionState, IsSound}
 use Rattle.usb_answers.specs.SessionFacts.{made_of}
 use Rattle.usb_names.proofs.NameLemmas.{free_at}
 use Rattle.usb_answers.proofs.Answering.{answers, answers-same}
-use Rattle.usb_answers.proofs.Devices.{open-sound, open-left, open-gives, open-refused, open-barred, open-spare}
+use Rattle.usb_answers.proofs.OpenCode.{open-sound, open-left, open-gives, open-refused, open-barred, open-spare}
 use Rattle.usb_answers.proofs.session.Session.open.Goals as goal
 
 pub returns-then-not-is_free-clause-answered : goal.returns-then-not-is_free-clause-answered

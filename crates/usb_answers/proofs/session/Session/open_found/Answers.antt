@@ -4,7 +4,7 @@ use Rattle.usb_names.specs.Names.{set_name, is_free}
 use Rattle.usb_answers.specs.SessionState.{SessionState, IsSound}
 use Rattle.usb_answers.specs.SessionFacts.{made_of}
 use Rattle.usb_answers.proofs.Answering.{answers}
-use Rattle.usb_answers.proofs.Devices.{open-sound, open-left, open-gives, open-refused, open-spare}
+use Rattle.usb_answers.proofs.OpenCode.{open-sound, open-left, open-gives, open-refused, open-spare}
 use Rattle.usb_answers.proofs.session.Session.open_found.Goals as goal
 
 pub invariant_of-self : goal.invariant_of-self

@@ -1,9 +1,11 @@
 use Rattle.std.proofs.Common.{◌∙◌, ap, sym}
+use Rattle.usb_device.specs.Futures.{future_answer}
 use Rattle.usb_names.specs.Names.{is_free}
+use Rattle.usb_answers.specs.Futures.{future_polled, on_future}
 use Rattle.usb_answers.specs.SessionState.{SessionState}
 use Rattle.usb_answers.specs.SessionFacts.{made_of}
 use Rattle.usb_answers.proofs.Answering.{answers}
-use Rattle.usb_answers.proofs.FutureCalls.{poll-none, polled-sound, polled-spare, polled-gives, pending-same, pending-sound, pending-gives}
+use Rattle.usb_answers.proofs.FutureCalls.{none-gives, polled-sound, polled-spare, polled-gives, pending-same, pending-sound, pending-gives}
 use Rattle.usb_answers.proofs.FutureCloses.{future-sound_same}
 use Rattle.usb_names.proofs.NameLemmas.{freed-free}
 use Rattle.usb_answers.proofs.session.Session.poll_future.Goals as goal
@@ -13,9 +15,10 @@ invariant_of-self c =
     future-sound_same (made_of c.self.inside) c.take_at.new.names.items c.number-number.result c.self.invariant (sym c.take_at.ensures.taken ∙ c.in_default.is) c.take_at.ensures.rest
 
 pub returns-in_default-clause-answered : goal.returns-in_default-clause-answered
+unfolding on_future
 returns-in_default-clause-answered c =
     answers _ _ _ c.self.view_is c.write_condition.ensures.text
-    (λ state r. poll-none (made_of c.self.inside) state c.take_at.new.names.items c.args.name r
+    (λ state r. none-gives (made_of c.self.inside) state c.take_at.new.names.items c.args.name (λ f. future_polled state c.args.name f (future_answer state.host f)) r
     (rw c.number-number.ensures.value at (sym c.take_at.ensures.taken ∙ c.in_default.is)) (rw c.number-number.ensures.value at c.take_at.ensures.rest))
 
 pub poll-requires-clause-stands : goal.poll-requires-clause-stands

@@ -8,7 +8,7 @@ use Rattle.usb_names.proofs.NameLemmas.{freed-free}
 use Rattle.usb_answers.proofs.Answering.{answers}
 use Rattle.usb_answers.proofs.HandleHosts.{closed-keeps, spare-beside}
 use Rattle.usb_answers.proofs.Handled.{sound-closed}
-use Rattle.usb_answers.proofs.EndLemmas.{interface-sound_same}
+use Rattle.usb_answers.proofs.HandleCloses.{interface-sound_same}
 use Rattle.usb_answers.proofs.InterfaceHandles.{release-none, release-gives, release-refused, sound-given_back, given_back, alone-answer, shared-answer}
 use Rattle.usb_answers.proofs.session.Session.release.Goals as goal
 use Rattle.usb_answers.proofs.session.Session.release.Goals.{After-write_ok, After-write_error}

@@ -1,10 +1,14 @@
-use Rattle.std.proofs.Common.{◌∙◌, sym}
+use Rattle.std.proofs.Common.{◌∙◌, refl, sym}
+use Rattle.usb_names.specs.Names.{named}
+use Rattle.usb_answers.specs.Answer.{condition_answer, if_open}
+use Rattle.usb_answers.specs.Futures.{future_waited, on_future}
+use Rattle.usb_answers.specs.SessionState.{SessionState}
 use Rattle.usb_answers.specs.SessionFacts.{made_of}
 use Rattle.usb_answers.proofs.Answering.{answers}
 use Rattle.usb_answers.proofs.ControlCode.{spare-controlled}
 use Rattle.usb_answers.proofs.ControlHosts.{keeps-same}
-use Rattle.usb_answers.proofs.FutureCalls.{wait-stands, waited-sound, waited-spare, waited-gives, wait-none_sound, wait-none}
-use Rattle.usb_answers.proofs.Lent.{lent_is}
+use Rattle.usb_answers.proofs.FutureCalls.{wait-stands, waited-sound, waited-spare, waited-gives, wait-none_sound, none-gives}
+use Rattle.usb_answers.proofs.Lent.{lent_is, answers-along}
 use Rattle.usb_answers.proofs.session.Session.wait_future.Goals as goal
 
 pub invariant_of-self : goal.invariant_of-self
@@ -13,11 +17,14 @@ invariant_of-self c =
     (sym c.take_at.ensures.taken ∙ c.in_default.is) c.take_at.ensures.rest
 
 pub returns-in_default-clause-answered : goal.returns-in_default-clause-answered
+unfolding on_future
 returns-in_default-clause-answered c =
-    answers _ _ _ c.self.view_is c.write_condition.ensures.text
-    (λ state r. wait-none (made_of c.self.inside) state c.args.steps c.lend_steps.new.self c.rest.new.self c.take_at.new.names.items c.args.name r
-    (lent_is c.self.inside.host _ _ _ c.lend_steps.ensures.steps c.into_vec.ensures.value) c.rest.ensures.rest
-    (rw c.number.ensures.value at (sym c.take_at.ensures.taken ∙ c.in_default.is)) (rw c.number.ensures.value at c.take_at.ensures.rest))
+    let lent : SessionState = record (made_of c.self.inside) { host = c.lend_steps.new.self } in
+    answers-along _ (made_of c.self.inside) (record lent { futures = c.take_at.new.names.items }) c.args.steps _ _ _ c.args.line.now c.write_condition.new.out c.write_condition.result
+    (λ s. if_open (named s.futures c.args.name) (future_waited s c.args.name) (condition_answer s)) c.self.view_is (lent_is c.self.inside.host _ _ _ c.lend_steps.ensures.steps c.into_vec.ensures.value) refl c.rest.ensures.rest
+    (answers _ _ _ refl c.write_condition.ensures.text
+    (λ state r. none-gives lent state c.take_at.new.names.items c.args.name (future_waited state c.args.name) r
+    (rw c.number.ensures.value at (sym c.take_at.ensures.taken ∙ c.in_default.is)) (rw c.number.ensures.value at c.take_at.ensures.rest)))
 
 pub returns-in_default-clause-spare : goal.returns-in_default-clause-spare
 returns-in_default-clause-spare c =
@@ -34,12 +41,14 @@ invariant_of-self-2 c =
     (sym c.take_at.ensures.taken ∙ c.in-Some.is) c.take_at.ensures.rest c.wait-answer.ensures.host c.rest-2.ensures.rest
 
 pub returns-clause-answered : goal.returns-clause-answered
+unfolding on_future
 returns-clause-answered c =
-    answers _ _ _ c.self.view_is c.write_received.ensures.text
-    (λ state r. waited-gives (made_of c.self.inside) state c.args.steps c.lend_steps.new.self c.wait-answer.new.host c.rest-2.new.self c.take_at.new.names.items c.args.name c.in-Some.future _ r
-    (lent_is c.self.inside.host _ _ _ c.lend_steps.ensures.steps c.into_vec.ensures.value)
-    (rw c.number.ensures.value at (sym c.take_at.ensures.taken ∙ c.in-Some.is)) (rw c.number.ensures.value at c.take_at.ensures.rest)
-    c.wait-answer.ensures.host c.rest-2.ensures.rest c.wait-answer.ensures.answer)
+    let lent : SessionState = record (made_of c.self.inside) { host = c.lend_steps.new.self } in
+    answers-along _ (made_of c.self.inside) (record lent { host = c.wait-answer.new.host; futures = c.take_at.new.names.items }) c.args.steps _ _ _ c.args.line.now c.write_received.new.out c.write_received.result
+    (λ s. if_open (named s.futures c.args.name) (future_waited s c.args.name) (condition_answer s)) c.self.view_is (lent_is c.self.inside.host _ _ _ c.lend_steps.ensures.steps c.into_vec.ensures.value) refl c.rest-2.ensures.rest
+    (answers _ _ _ refl c.write_received.ensures.text
+    (λ state r. waited-gives lent state c.wait-answer.new.host c.take_at.new.names.items c.args.name c.in-Some.future _ r
+    (rw c.number.ensures.value at (sym c.take_at.ensures.taken ∙ c.in-Some.is)) (rw c.number.ensures.value at c.take_at.ensures.rest) c.wait-answer.ensures.host c.wait-answer.ensures.answer))
 
 pub returns-clause-spare : goal.returns-clause-spare
 returns-clause-spare c =
