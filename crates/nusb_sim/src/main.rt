@@ -7,7 +7,7 @@ mod tests;
 use std::io::BufWriter;
 use std::process::ExitCode;
 use std::{env, io};
-use usb_session::{
+use usb_session_run::{
     OpenGate, Seen, StdSink, StdSource, end_program, lack_memory, refuse_words, run_program,
 };
 

@@ -18,7 +18,7 @@ use std::process::Abort;
 use std::sync::Wait;
 use std::test::Fail;
 use std::thread::Threads;
-use usb_session::{
+use usb_session_run::{
     Gate, Gathers, MemSink, MemSource, OpenGate, Seen, StdSink, StdSource, SureSink, SureSource,
     end_program, run_program, run_session,
 };

@@ -7,6 +7,7 @@ mod configuration;
 mod control;
 mod device;
 mod endpoint;
+pub mod errno;
 mod error;
 mod interface;
 mod interfaces;

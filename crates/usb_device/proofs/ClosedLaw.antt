@@ -2,13 +2,13 @@
 use Rattle.std.proofs.Common.{ℕ, suc, ◌≡◌, ◌+◌, arith, Bool, false, List, [], ◌∷◌, Option, Some, None, refl, ◌∙◌}
 use Rattle.std.specs.Prelude.{◌||◌, nat_lt, slice_get}
 use Rattle.std.specs.List.{list_any, count_by, enumerate_from}
-use Rattle.usb_registry.specs.History.{value_at}
-use Rattle.usb_ledger.specs.Entries.{HostTicket, HostEndpoint, ClaimedInterface, HeldBy, Abandoned, Ended}
-use Rattle.usb_ledger.specs.declared.opened.OpenDevice.{OpenDevice}
-use Rattle.usb_ledger.specs.Owners.{is_ticket_of, lives, lives_on, if_there, has_living, is_owned_among}
-use Rattle.usb_ledger.specs.Devices.{is_held}
-use Rattle.usb_host.specs.HostState.{HostState}
-use Rattle.usb_host.specs.Finishes.{HasEnds}
+use Rattle.usb_device_tables.specs.History.{value_at}
+use Rattle.usb_device_ledger.specs.Entries.{HostTicket, HostEndpoint, ClaimedInterface, HeldBy, Abandoned, Ended}
+use Rattle.usb_device_ledger.specs.declared.opened.OpenDevice.{OpenDevice}
+use Rattle.usb_device_ledger.specs.Owners.{is_ticket_of, lives, lives_on, if_there, has_living, is_owned_among}
+use Rattle.usb_device_ledger.specs.Devices.{is_held}
+use Rattle.usb_device_host.specs.HostState.{HostState}
+use Rattle.usb_device_host.specs.Finishes.{HasEnds}
 use Rattle.usb_device.specs.DeviceLaws.{holds_at, DevicesAreHeld}
 use Rattle.usb_device.specs.OwnerLaws.{InterfacesAreOwned, EndpointsLive}
 use Rattle.usb_device.specs.ClosedLaws.{IsClosed, ClosedKeepsNothing}

@@ -1,8 +1,8 @@
 -- Handles of open devices stand where these keep their counts.
 use Rattle.std.proofs.Common.{ℕ, arith}
-use Rattle.usb_host.specs.HostState.{HostState}
+use Rattle.usb_device_host.specs.HostState.{HostState}
 use Rattle.usb_device.specs.HandleStates.{StandsDevice}
-use Rattle.usb_ledger.proofs.DeviceLemmas.{KeepsCounts, KeepsOpened, counted-new}
+use Rattle.usb_device_ledger.proofs.DeviceLemmas.{KeepsCounts, KeepsOpened, counted-new}
 
 pub counts-stands : (h g : HostState) (key : ℕ) → KeepsCounts h.devices g.devices → StandsDevice h key → StandsDevice g key
 counts-stands h g key keeps stands =

@@ -6,21 +6,21 @@ use Rattle.std.proofs.lemmas.Option.{none-some, same_Some}
 use Rattle.usb_kernel.specs.declared.event.Event.{Event}
 use Rattle.usb_kernel.specs.declared.submission.Done.{Done}
 use Rattle.usb_kernel.specs.Completions.{completion}
-use Rattle.usb_endpoint.specs.Closes.{all_discarded, all_abandoned}
-use Rattle.usb_endpoint.specs.Handles.{AreHeld, IsApart}
-use Rattle.usb_registry.specs.History.{value_at}
-use Rattle.usb_ledger.specs.declared.ends.TicketEnd.{TicketEnd}
-use Rattle.usb_ledger.specs.declared.ends.TicketEnd.TheVariants.{Dropped}
+use Rattle.usb_device_endpoint.specs.Closes.{all_discarded, all_abandoned}
+use Rattle.usb_device_endpoint.specs.Handles.{AreHeld, IsApart}
+use Rattle.usb_device_tables.specs.History.{value_at}
+use Rattle.usb_device_ledger.specs.declared.ends.TicketEnd.{TicketEnd}
+use Rattle.usb_device_ledger.specs.declared.ends.TicketEnd.TheVariants.{Dropped}
 use Rattle.usb_device.specs.EndLaws.{DroppedWhereReaped, FutureDroppedWhereReaped}
 use Rattle.usb_device.specs.Futures.{closed_by}
-use Rattle.usb_ledger.specs.Entries.{HostTicket, Hold, HeldBy, Abandoned, Ended}
-use Rattle.usb_host.specs.HostState.{HostState}
-use Rattle.usb_ledger.specs.EndedTickets.{end_at, ended_at}
-use Rattle.usb_host.specs.HostBus.{owner_at, held_as}
-use Rattle.usb_host.specs.HostCalls.{host_discarded, host_left}
-use Rattle.usb_host.specs.Releases.{endpoint_left, settled}
-use Rattle.usb_host.specs.TicketEnds.{ended_as, host_ended, given_up, host_abandoned}
-use Rattle.usb_host.proofs.CloseLemmas.{discards-tickets, discards-completion, abandoned-past, abandoned-others, by_set, left-tickets}
+use Rattle.usb_device_ledger.specs.Entries.{HostTicket, Hold, HeldBy, Abandoned, Ended}
+use Rattle.usb_device_host.specs.HostState.{HostState}
+use Rattle.usb_device_ledger.specs.EndedTickets.{end_at, ended_at}
+use Rattle.usb_device_host.specs.HostBus.{owner_at, held_as}
+use Rattle.usb_device_host.specs.HostCalls.{host_discarded, host_left}
+use Rattle.usb_device_host.specs.Releases.{endpoint_left, settled}
+use Rattle.usb_device_host.specs.TicketEnds.{ended_as, host_ended, given_up, host_abandoned}
+use Rattle.usb_device_host.proofs.CloseLemmas.{discards-tickets, discards-completion, abandoned-past, abandoned-others, by_set, left-tickets}
 
 -- a ticket that is given up has its end where it was reaped
 abbrev dropped_if : Bool → Option TicketEnd

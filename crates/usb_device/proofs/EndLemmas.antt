@@ -7,37 +7,37 @@ use Rattle.usb_xfer.specs.BufferState.{BufferState}
 use Rattle.usb_xfer.specs.declared.transfer.TransferData.{TransferData}
 use Rattle.usb_xfer.specs.Transfers.{buffer_held}
 use Rattle.usb_error.specs.ErrorState.{ErrorState}
-use Rattle.usb_simulated.specs.declared.step.KernelStep.{KernelStep}
+use Rattle.usb_kernel_devices.specs.declared.step.KernelStep.{KernelStep}
 use Rattle.usb_kernel.specs.declared.submission.Done.{Done}
 use Rattle.usb_kernel.specs.Tickets.{tickets}
 use Rattle.usb_kernel.specs.declared.submission.Submission.{Submission}
 use Rattle.usb_kernel.specs.Completions.{completion, reapable}
 use Rattle.usb_kernel.specs.Steps.{after_step, step_done, after_reap}
 use Rattle.usb_kernel.proofs.Places.{slice_get-append_left, slice_get-set_other}
-use Rattle.usb_bus.specs.declared.route.Route.{Route}
-use Rattle.usb_ledger.specs.declared.ends.TicketEnd.{TicketEnd}
-use Rattle.usb_ledger.specs.declared.ends.TicketEnd.TheVariants.{Taken, Dropped, Reclaimed}
-use Rattle.usb_registry.specs.History.{value_at}
-use Rattle.usb_ledger.specs.declared.opened.OpenDevice.{OpenDevice}
-use Rattle.usb_ledger.specs.Entries.{HostTicket, HostEndpoint, ClaimedInterface, fresh_interface, HeldBy, Abandoned, Ended}
-use Rattle.usb_host.specs.HostState.{HostState}
-use Rattle.usb_ledger.specs.EndedTickets.{end_at, ended_at}
-use Rattle.usb_host.proofs.TurnKeeps.{IsKept, kept-turned, kept-awaited}
+use Rattle.usb_device_endpoint.specs.declared.route.Route.{Route}
+use Rattle.usb_device_ledger.specs.declared.ends.TicketEnd.{TicketEnd}
+use Rattle.usb_device_ledger.specs.declared.ends.TicketEnd.TheVariants.{Taken, Dropped, Reclaimed}
+use Rattle.usb_device_tables.specs.History.{value_at}
+use Rattle.usb_device_ledger.specs.declared.opened.OpenDevice.{OpenDevice}
+use Rattle.usb_device_ledger.specs.Entries.{HostTicket, HostEndpoint, ClaimedInterface, fresh_interface, HeldBy, Abandoned, Ended}
+use Rattle.usb_device_host.specs.HostState.{HostState}
+use Rattle.usb_device_ledger.specs.EndedTickets.{end_at, ended_at}
+use Rattle.usb_device_host.proofs.TurnKeeps.{IsKept, kept-turned, kept-awaited}
 use Rattle.usb_device.specs.EndLaws.{KeepsEnds, EndsStay}
-use Rattle.usb_host.specs.Releases.{endpoint_left, settled, owner_gone}
-use Rattle.usb_host.specs.TicketEnds.{ended_as, host_ended, host_taken, given_up, host_abandoned, reclaimed_if, came}
-use Rattle.usb_host.specs.HostTurns.{host_stepped, host_reaped, host_turned, all_stepped, host_rest}
-use Rattle.usb_host.specs.HostAwaits.{host_awaited}
-use Rattle.usb_host.specs.Controls.{host_started}
-use Rattle.usb_host.specs.HostCalls.{submitted_with, host_submitted, refused_with, host_refused, host_discarded, closed_if, host_left}
-use Rattle.usb_host.specs.Finishes.{discarded_below, reaped_below, finished}
-use Rattle.usb_host.specs.Handles.{handle_added, handle_cloned, handle_gone, handle_closed}
-use Rattle.usb_ledger.specs.Owners.{has_living}
-use Rattle.usb_host.specs.OnDevices.{detached_on, host_detached, attached_on, host_attached, reset_on, host_reset, configured_on, host_configured, speed_asked_on, host_speed_asked}
-use Rattle.usb_host.specs.OnInterfaces.{alt_setting_asked, alt_setting_on, alt_setting_set}
-use Rattle.usb_host.specs.Opens.{open_tried, opened_by, host_opened}
-use Rattle.usb_host.specs.InterfaceClaims.{claim_tried, kernel_claimed, claimed_by, claimed_on, host_claimed}
-use Rattle.usb_host.specs.EndpointOpens.{asked_on, host_asked}
+use Rattle.usb_device_host.specs.Releases.{endpoint_left, settled, owner_gone}
+use Rattle.usb_device_host.specs.TicketEnds.{ended_as, host_ended, host_taken, given_up, host_abandoned, reclaimed_if, came}
+use Rattle.usb_device_host.specs.HostTurns.{host_stepped, host_reaped, host_turned, all_stepped, host_rest}
+use Rattle.usb_device_host.specs.HostAwaits.{host_awaited}
+use Rattle.usb_device_host.specs.Controls.{host_started}
+use Rattle.usb_device_host.specs.HostCalls.{submitted_with, host_submitted, refused_with, host_refused, host_discarded, closed_if, host_left}
+use Rattle.usb_device_host.specs.Finishes.{discarded_below, reaped_below, finished}
+use Rattle.usb_device_host.specs.Handles.{handle_added, handle_cloned, handle_gone, handle_closed}
+use Rattle.usb_device_ledger.specs.Owners.{has_living}
+use Rattle.usb_device_host.specs.OnDevices.{detached_on, host_detached, attached_on, host_attached, reset_on, host_reset, configured_on, host_configured, speed_asked_on, host_speed_asked}
+use Rattle.usb_device_host.specs.OnInterfaces.{alt_setting_asked, alt_setting_on, alt_setting_set}
+use Rattle.usb_device_host.specs.Opens.{open_tried, opened_by, host_opened}
+use Rattle.usb_device_host.specs.InterfaceClaims.{claim_tried, kernel_claimed, claimed_by, claimed_on, host_claimed}
+use Rattle.usb_device_host.specs.EndpointOpens.{asked_on, host_asked}
 
 same : (h : HostState) → KeepsEnds h h
 same h t end at = at

@@ -1,11 +1,11 @@
 -- The keys of what is opened last.
 use Rattle.std.proofs.Common.{ℕ, zero, suc, arith, ◌≡◌, ◌<◌, true, false, List, [], ◌∷◌, length, Option}
-use Rattle.usb_registry.proofs.ValueLemmas.{value-within}
-use Rattle.usb_endpoint.specs.EndpointState.{EndpointState}
-use Rattle.usb_endpoint.specs.Handles.{Stands}
-use Rattle.usb_ledger.specs.Entries.{HostEndpoint}
-use Rattle.usb_host.specs.HostState.{HostState}
-use Rattle.usb_host.specs.HostBus.{key_at, bus_of}
+use Rattle.usb_device_tables.proofs.ValueLemmas.{value-within}
+use Rattle.usb_device_endpoint.specs.EndpointState.{EndpointState}
+use Rattle.usb_device_endpoint.specs.Handles.{Stands}
+use Rattle.usb_device_ledger.specs.Entries.{HostEndpoint}
+use Rattle.usb_device_host.specs.HostState.{HostState}
+use Rattle.usb_device_host.specs.HostBus.{key_at, bus_of}
 use Rattle.usb_device.specs.HandleStates.{InterfaceState, StandsInterface}
 
 -- a handle that stands has a key below the next one

@@ -11,31 +11,31 @@ use Rattle.usb_kernel.specs.Extends.{Extends}
 use Rattle.usb_kernel.specs.Tickets.{Ticket, tickets}
 use Rattle.usb_kernel.specs.Completions.{completion}
 use Rattle.usb_kernel.proofs.Extends.{extends-same, ticket-stays, completion-stays}
-use Rattle.usb_bus.specs.BusState.{BusState, without_owner, without_key}
-use Rattle.usb_bus.specs.Completions.{completion_of, transfer_completion}
-use Rattle.usb_endpoint.specs.Handles.{KeepsOthers}
-use Rattle.usb_endpoint.specs.Waits.{is_reaped}
-use Rattle.usb_registry.proofs.SerialLemmas.{cases_Option}
+use Rattle.usb_device_endpoint.specs.BusState.{BusState, without_owner, without_key}
+use Rattle.usb_kernel.specs.TransferCompletions.{completion_of, transfer_completion}
+use Rattle.usb_device_endpoint.specs.Handles.{KeepsOthers}
+use Rattle.usb_device_endpoint.specs.Waits.{is_reaped}
+use Rattle.usb_device_tables.proofs.SerialLemmas.{cases_Option}
 use Rattle.usb_xfer.specs.declared.transfer.TransferData.{TransferData}
-use Rattle.usb_host.specs.HostState.{HostState}
-use Rattle.usb_host.specs.HostBus.{bus_of, owner_at, key_at}
-use Rattle.usb_host.specs.HostCalls.{host_left, host_calls}
-use Rattle.usb_host.specs.HostFrames.{ClaimsGoOn, HostGoesOn}
-use Rattle.usb_host.specs.HostAwaits.{deadline_of}
+use Rattle.usb_device_host.specs.HostState.{HostState}
+use Rattle.usb_device_host.specs.HostBus.{bus_of, owner_at, key_at}
+use Rattle.usb_device_host.specs.HostCalls.{host_left, host_calls}
+use Rattle.usb_device_host.specs.HostFrames.{ClaimsGoOn, HostGoesOn}
+use Rattle.usb_device_host.specs.HostAwaits.{deadline_of}
 use Rattle.usb_device.specs.HandleStates.{InterfaceState, StandsDevice, StandsInterface}
-use Rattle.usb_host.specs.TicketEnds.{host_taken, host_abandoned}
-use Rattle.usb_host.specs.Controls.{control_submission, host_started, request_started, deadline_after}
+use Rattle.usb_device_host.specs.TicketEnds.{host_taken, host_abandoned}
+use Rattle.usb_device_host.specs.Controls.{control_submission, host_started, request_started, deadline_after}
 use Rattle.usb_device.specs.Futures.{FutureState, IsOnItsWay, StandsFuture, fresh_future, future_taken, taken_by, future_closed, closed_by, future_awaited, awaited_by}
 use Rattle.usb_device.specs.ControlCalls.{request_awaited, controlled}
-use Rattle.usb_host.proofs.ClaimFrames.{goes-refl, goes-same, goes-trans}
-use Rattle.usb_host.proofs.HostKeeps.{KeepsLine}
-use Rattle.usb_host.proofs.CallFrames.{bus-taken, bus-abandoned, bus-left, keeps-taken, keeps-abandoned, line-left, interfaces-left}
-use Rattle.usb_ledger.proofs.DeviceLemmas.{there-same, opened-same}
+use Rattle.usb_device_host.proofs.ClaimFrames.{goes-refl, goes-same, goes-trans}
+use Rattle.usb_device_host.proofs.HostKeeps.{KeepsLine}
+use Rattle.usb_device_host.proofs.CallFrames.{bus-taken, bus-abandoned, bus-left, keeps-taken, keeps-abandoned, line-left, interfaces-left}
+use Rattle.usb_device_ledger.proofs.DeviceLemmas.{there-same, opened-same}
 use Rattle.usb_device.proofs.DeviceLemmas.{kept-stands}
 use Rattle.usb_device.proofs.StandLemmas.{StandsInterface-same}
 use Rattle.usb_device.proofs.FreshKeys.{key-within}
-use Rattle.usb_host.proofs.WaitFrames.{went-nowhere, went-awaited}
-use Rattle.usb_host.proofs.ControlLemmas.{started-key, started-held, started-due, started-line, started-interfaces, started-past, started-others}
+use Rattle.usb_device_host.proofs.WaitFrames.{went-nowhere, went-awaited}
+use Rattle.usb_device_host.proofs.ControlLemmas.{started-key, started-held, started-due, started-line, started-interfaces, started-past, started-others}
 
 -- what a call of a future leaves as it was: the line, the open devices, the claimed interfaces with
 -- an open handle, and the journal, which goes on
@@ -118,7 +118,7 @@ module _ (h mid : HostState) (t key : ℕ) (bus : bus_of mid ≡ record (bus_of 
 stays-none : (h : HostState) → HandlesStay h h
 stays-none h = record { line = record { steps = refl; spare = refl; devices = refl }; interfaces = goes-refl h.interfaces; past = extends-same h.kernel.past }
 
-others-none : (b : BusState) (key : ℕ) → KeepsOthers b b key
+pub others-none : (b : BusState) (key : ℕ) → KeepsOthers b b key
 others-none b key = record { tickets = λ t k other held. held; keys = λ k other open_. open_ }
 
 taken_by-stays : (h : HostState) (key : ℕ) (o : Option ℕ) → HandlesStay h (taken_by h key o)

@@ -6,27 +6,27 @@ use Rattle.std.proofs.lemmas.Bool.{cases_Bool, cases_eq, cases_lt, eq-eqb, ne_eq
 use Rattle.std.proofs.lemmas.Grind.{common_steps}
 use Rattle.std.proofs.lemmas.Option.{none-some, same_Some}
 use Rattle.std.proofs.lemmas.List.Sums.{sum_by-cons}
-use Rattle.usb_registry.specs.History.{value_at}
-use Rattle.usb_registry.proofs.ValueLemmas.{some-of, is-some, value-within, value-last, value-pushed, value-put, value-push_cases}
+use Rattle.usb_device_tables.specs.History.{value_at}
+use Rattle.usb_device_tables.proofs.ValueLemmas.{some-of, is-some, value-within, value-last, value-pushed, value-put, value-push_cases}
 use Rattle.usb_error.specs.ErrorState.{ErrorState}
 use Rattle.usb_kernel.specs.Value.{KernelState}
-use Rattle.usb_ledger.specs.Entries.{ClaimedInterface, fresh_interface}
-use Rattle.usb_ledger.specs.OwnerRows.{one_if}
-use Rattle.usb_ledger.proofs.ListLemmas.{count-push, count-some}
-use Rattle.usb_ledger.specs.declared.opened.OpenDevice.{OpenDevice}
-use Rattle.usb_host.specs.HostState.{HostState, host_of}
-use Rattle.usb_ledger.specs.Devices.{is_held, if_held, device_changed, handle_more, handle_less, interface_more, interface_less}
+use Rattle.usb_device_ledger.specs.Entries.{ClaimedInterface, fresh_interface}
+use Rattle.usb_device_ledger.specs.OwnerRows.{one_if}
+use Rattle.usb_device_ledger.proofs.ListLemmas.{count-push, count-some}
+use Rattle.usb_device_ledger.specs.declared.opened.OpenDevice.{OpenDevice}
+use Rattle.usb_device_host.specs.HostState.{HostState, host_of}
+use Rattle.usb_device_ledger.specs.Devices.{is_held, if_held, device_changed, handle_more, handle_less, interface_more, interface_less}
 use Rattle.usb_device.specs.DeviceLaws.{holds, holds_at, DevicesAreHeld}
-use Rattle.usb_host.specs.HostFrames.{ClaimsGoOn}
-use Rattle.usb_host.proofs.ClaimFrames.{goes-ended}
+use Rattle.usb_device_host.specs.HostFrames.{ClaimsGoOn}
+use Rattle.usb_device_host.proofs.ClaimFrames.{goes-ended}
 use Rattle.usb_device.proofs.OwnerLawLists.{entry-at}
 use Rattle.usb_device.specs.HandleStates.{StandsDevice}
-use Rattle.usb_host.specs.Releases.{owner_gone}
-use Rattle.usb_host.specs.Handles.{device_cloned, device_closed, handle_added, handle_cloned, devices_left, handle_gone, handle_closed}
-use Rattle.usb_host.specs.Opens.{open_tried, open_key, with_key, opened_by, host_opened}
-use Rattle.usb_host.specs.InterfaceClaims.{kernel_claimed, claim_tried, claimed_by, claimed_on, host_claimed}
-use Rattle.usb_ledger.proofs.DeviceLemmas.{KeepsOpened, opened-same, opened-changed, changed-at, changed-other, KeepsCounts, counts-same, counted-new, counted-old}
-use Rattle.usb_host.proofs.TryLemmas.{open-counts}
+use Rattle.usb_device_host.specs.Releases.{owner_gone}
+use Rattle.usb_device_host.specs.Handles.{device_cloned, device_closed, handle_added, handle_cloned, devices_left, handle_gone, handle_closed}
+use Rattle.usb_device_host.specs.Opens.{open_tried, open_key, with_key, opened_by, host_opened}
+use Rattle.usb_device_host.specs.InterfaceClaims.{kernel_claimed, claim_tried, claimed_by, claimed_on, host_claimed}
+use Rattle.usb_device_ledger.proofs.DeviceLemmas.{KeepsOpened, opened-same, opened-changed, changed-at, changed-other, KeepsCounts, counts-same, counted-new, counted-old}
+use Rattle.usb_device_host.proofs.TryLemmas.{open-counts}
 
 -- counts over lists of interfaces
 count-cons : {X : Type 0} (p : X → Bool) (x : X) (xs : List X) → count_by p (x ∷ xs) ≡ one_if (p x) + count_by p xs

@@ -2,60 +2,60 @@
 use Rattle.std.proofs.Common.{ℕ, zero, suc, ◌≡◌, arith, Bool, cond, List, length, slice_get, Option, Some, None, refl, ap, sym, ◌∙◌, Result, Ok, Err, inl, inr}
 use Rattle.std.specs.Prelude.{is_some, nat_lt}
 use Rattle.std.proofs.lemmas.Bool.{cond_both, cases_eq}
-use Rattle.usb_simulated.specs.declared.step.KernelStep.{KernelStep}
+use Rattle.usb_kernel_devices.specs.declared.step.KernelStep.{KernelStep}
 use Rattle.usb_kernel.specs.declared.submission.Done.{Done}
 use Rattle.usb_kernel.specs.Completions.{completion, reapable}
 use Rattle.usb_kernel.specs.Steps.{after_step, step_done, after_reap}
 use Rattle.usb_kernel.specs.Tickets.{tickets}
 use Rattle.usb_error.specs.ErrorState.{ErrorState}
-use Rattle.usb_endpoint.specs.Waits.{waited}
-use Rattle.usb_endpoint.specs.Blocking.{blocked}
-use Rattle.usb_registry.specs.History.{value_at}
-use Rattle.usb_registry.proofs.ValueLemmas.{value-push}
-use Rattle.usb_ledger.specs.Entries.{ClaimedInterface, HostTicket, HeldBy, Abandoned, Ended}
-use Rattle.usb_ledger.specs.declared.ends.TicketEnd.{TicketEnd}
-use Rattle.usb_ledger.specs.declared.ends.TicketEnd.TheVariants.{Taken, Dropped}
-use Rattle.usb_ledger.specs.declared.opened.OpenDevice.{OpenDevice}
-use Rattle.usb_ledger.specs.Devices.{device_changed, handle_more, handle_less}
-use Rattle.usb_ledger.specs.Owners.{has_living}
-use Rattle.usb_host.specs.HostState.{HostState}
-use Rattle.usb_host.specs.HostFrames.{ClaimsGoOn, LineGoesOn, HostGoesOn}
-use Rattle.usb_host.specs.TicketEnds.{ended_as, host_ended, host_taken, given_up, host_abandoned, came}
-use Rattle.usb_host.specs.HostTurns.{with_past, host_stepped, host_reaped, host_turned, host_rest}
-use Rattle.usb_host.specs.HostCalls.{host_submitted, host_refused, host_discarded, host_left, host_timed, host_idled, host_calls}
-use Rattle.usb_host.specs.HostAwaits.{host_awaited}
-use Rattle.usb_host.specs.Controls.{host_started}
-use Rattle.usb_host.specs.Finishes.{discarded_below, reaped_below, finished}
+use Rattle.usb_device_endpoint.specs.Waits.{waited}
+use Rattle.usb_device_endpoint.specs.Blocking.{blocked}
+use Rattle.usb_device_tables.specs.History.{value_at}
+use Rattle.usb_device_tables.proofs.ValueLemmas.{value-push}
+use Rattle.usb_device_ledger.specs.Entries.{ClaimedInterface, HostTicket, HeldBy, Abandoned, Ended}
+use Rattle.usb_device_ledger.specs.declared.ends.TicketEnd.{TicketEnd}
+use Rattle.usb_device_ledger.specs.declared.ends.TicketEnd.TheVariants.{Taken, Dropped}
+use Rattle.usb_device_ledger.specs.declared.opened.OpenDevice.{OpenDevice}
+use Rattle.usb_device_ledger.specs.Devices.{device_changed, handle_more, handle_less}
+use Rattle.usb_device_ledger.specs.Owners.{has_living}
+use Rattle.usb_device_host.specs.HostState.{HostState}
+use Rattle.usb_device_host.specs.HostFrames.{ClaimsGoOn, LineGoesOn, HostGoesOn}
+use Rattle.usb_device_host.specs.TicketEnds.{ended_as, host_ended, host_taken, given_up, host_abandoned, came}
+use Rattle.usb_device_host.specs.HostTurns.{with_past, host_stepped, host_reaped, host_turned, host_rest}
+use Rattle.usb_device_host.specs.HostCalls.{host_submitted, host_refused, host_discarded, host_left, host_timed, host_idled, host_calls}
+use Rattle.usb_device_host.specs.HostAwaits.{host_awaited}
+use Rattle.usb_device_host.specs.Controls.{host_started}
+use Rattle.usb_device_host.specs.Finishes.{discarded_below, reaped_below, finished}
 use Rattle.usb_device.specs.HandleStates.{InterfaceState, StandsDevice, StandsInterface}
-use Rattle.usb_host.specs.Handles.{device_cloned, device_closed, handle_added, handle_cloned, handle_closed}
-use Rattle.usb_host.specs.Opens.{open_tried, opened_by, host_opened}
-use Rattle.usb_host.specs.InterfaceClaims.{host_claimed}
-use Rattle.usb_host.specs.EndpointOpens.{host_asked}
-use Rattle.usb_host.specs.OnDevices.{host_detached, detached_on, host_attached, attached_on, host_configured, configured_on, configured_unless, set_configuration_errno, host_speed_asked, speed_asked_on, host_reset, reset_on}
-use Rattle.usb_host.specs.OnInterfaces.{alt_setting_errno, setting_unless, alt_setting_asked, alt_setting_on, alt_setting_set}
+use Rattle.usb_device_host.specs.Handles.{device_cloned, device_closed, handle_added, handle_cloned, handle_closed}
+use Rattle.usb_device_host.specs.Opens.{open_tried, opened_by, host_opened}
+use Rattle.usb_device_host.specs.InterfaceClaims.{host_claimed}
+use Rattle.usb_device_host.specs.EndpointOpens.{host_asked}
+use Rattle.usb_device_host.specs.OnDevices.{host_detached, detached_on, host_attached, attached_on, host_configured, configured_on, configured_unless, set_configuration_errno, host_speed_asked, speed_asked_on, host_reset, reset_on}
+use Rattle.usb_device_host.specs.OnInterfaces.{alt_setting_errno, setting_unless, alt_setting_asked, alt_setting_on, alt_setting_set}
 use Rattle.usb_device.specs.HeldLaws.{KeepsDevices, KeepsOtherDevices, KeepsHeld, DevicesStayHeld}
-use Rattle.usb_host.proofs.HostFrames.{ended_as-is, ended_as-goes, came-is, came-goes}
-use Rattle.usb_host.proofs.ClaimFrames.{goes-same, goes-refl, goes-trans}
-use Rattle.usb_host.proofs.CallFrames.{keeps-submitted, keeps-refused, line-left, interfaces-left}
-use Rattle.usb_host.proofs.WaitFrames.{went-rest, went-turned, went-waited, went-blocked, went-awaited}
-use Rattle.usb_host.proofs.HostKeeps.{KeepsOpen}
-use Rattle.usb_host.proofs.ControlLemmas.{started-line, started-interfaces}
-use Rattle.usb_host.proofs.InterfaceFrames.{asked-is, asked-counts}
-use Rattle.usb_ledger.proofs.DeviceLemmas.{KeepsCounts, KeepsOpened, counts_of, counts-same, counts-set, counted-new, changed-at, changed-other, held-handle_more}
+use Rattle.usb_device_host.proofs.HostFrames.{ended_as-is, ended_as-goes, came-is, came-goes}
+use Rattle.usb_device_host.proofs.ClaimFrames.{goes-same, goes-refl, goes-trans}
+use Rattle.usb_device_host.proofs.CallFrames.{keeps-submitted, keeps-refused, line-left, interfaces-left}
+use Rattle.usb_device_host.proofs.WaitFrames.{went-rest, went-turned, went-waited, went-blocked, went-awaited}
+use Rattle.usb_device_host.proofs.HostKeeps.{KeepsOpen}
+use Rattle.usb_device_host.proofs.ControlLemmas.{started-line, started-interfaces}
+use Rattle.usb_device_host.proofs.InterfaceFrames.{asked-is, asked-counts}
+use Rattle.usb_device_ledger.proofs.DeviceLemmas.{KeepsCounts, KeepsOpened, counts_of, counts-same, counts-set, counted-new, changed-at, changed-other, held-handle_more}
 use Rattle.usb_device.proofs.HeldDevices.{held-goes, held-written, held-start, held-opened, held-device_cloned, held-device_closed, held-claimed, held-handle_cloned, held-handle_closed, opened-claimed, opened-handle_closed}
 
 -- what a host does by itself, and most calls: no open device changes, and claimed interfaces go on
-record LeavesDevices (old new : HostState) : Type 0 where
+pub record LeavesDevices (old new : HostState) : Type 0 where
   pub devices : new.devices ≡ old.devices
   pub interfaces : ClaimsGoOn old.interfaces new.interfaces
 
-leaves-refl : (h : HostState) → LeavesDevices h h
+pub leaves-refl : (h : HostState) → LeavesDevices h h
 leaves-refl h = record { devices = refl; interfaces = goes-refl h.interfaces }
 
-leaves-trans : (a b c : HostState) → LeavesDevices a b → LeavesDevices b c → LeavesDevices a c
+pub leaves-trans : (a b c : HostState) → LeavesDevices a b → LeavesDevices b c → LeavesDevices a c
 leaves-trans a b c first second = record { devices = second.devices ∙ first.devices; interfaces = goes-trans a.interfaces b.interfaces c.interfaces first.interfaces second.interfaces }
 
-leaves-open : (old new : HostState) → KeepsOpen old new → LeavesDevices old new
+pub leaves-open : (old new : HostState) → KeepsOpen old new → LeavesDevices old new
 leaves-open old new keeps = record { devices = keeps.line.devices; interfaces = keeps.interfaces }
 
 -- devices stay that keep their counts
@@ -86,7 +86,7 @@ reaped-leaves : (h : HostState) (t : ℕ) → LeavesDevices h (host_reaped h t)
 unfolding host_reaped
 reaped-leaves h t = let came_ = came-leaves (with_past h (after_reap h.kernel.past t)) (reapable h.kernel.past t) in record { devices = came_.devices; interfaces = came_.interfaces }
 
-discarded-leaves : (h : HostState) (t : ℕ) → LeavesDevices h (host_discarded h t)
+pub discarded-leaves : (h : HostState) (t : ℕ) → LeavesDevices h (host_discarded h t)
 unfolding host_discarded
 discarded-leaves h t = record { devices = refl; interfaces = goes-refl h.interfaces }
 
@@ -97,7 +97,7 @@ ended-leaves : (h : HostState) (t : ℕ) (end : TicketEnd) → LeavesDevices h (
 unfolding host_ended
 ended-leaves h t end = ended_as-leaves h t end (slice_get h.tickets t)
 
-taken-leaves : (h : HostState) (t : ℕ) → LeavesDevices h (host_taken h t)
+pub taken-leaves : (h : HostState) (t : ℕ) → LeavesDevices h (host_taken h t)
 unfolding host_taken
 taken-leaves h t = ended-leaves h t Taken
 
@@ -107,13 +107,13 @@ given_up-leaves h t (Some (HeldBy hold)) = record { devices = refl; interfaces =
 given_up-leaves h t (Some (Abandoned key)) = leaves-refl h
 given_up-leaves h t (Some (Ended end)) = leaves-refl h
 
-abandoned-leaves : (h : HostState) (t : ℕ) → LeavesDevices h (host_abandoned h t)
+pub abandoned-leaves : (h : HostState) (t : ℕ) → LeavesDevices h (host_abandoned h t)
 unfolding host_abandoned
 abandoned-leaves h t =
     let given = given_up h t (slice_get h.tickets t) in
     cond_both (is_some (completion h.kernel.past t)) (host_ended h t Dropped) given (LeavesDevices h) (λ yes_. ended-leaves h t Dropped) (λ no_. given_up-leaves h t (slice_get h.tickets t))
 
-left-leaves : (h : HostState) (key : ℕ) → LeavesDevices h (host_left h key)
+pub left-leaves : (h : HostState) (key : ℕ) → LeavesDevices h (host_left h key)
 left-leaves h key = record { devices = (line-left h key).devices; interfaces = interfaces-left h key }
 
 timed-leaves : (h : HostState) → LeavesDevices h (host_timed h)
@@ -123,7 +123,7 @@ idled-leaves : (h : HostState) (until : ℕ) → LeavesDevices h (host_idled h u
 idled-leaves h until = record { devices = refl; interfaces = goes-refl h.interfaces }
 
 -- turns and waits
-line-leaves : (old new : HostState) → LineGoesOn old new → LeavesDevices old new
+pub line-leaves : (old new : HostState) → LineGoesOn old new → LeavesDevices old new
 line-leaves old new line = record { devices = line.devices; interfaces = line.interfaces }
 
 went-held : (old new : HostState) → HostGoesOn old new → KeepsHeld old new

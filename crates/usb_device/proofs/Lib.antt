@@ -1,5 +1,6 @@
 pub mod DeviceLemmas
 pub mod StandLemmas
+pub mod IntoLemmas
 pub mod FreshKeys
 pub mod FutureFrames
 pub mod EndLemmas
@@ -17,4 +18,6 @@ pub mod OwnerLawClaims
 pub mod OwnerLaw
 pub mod HeldDevices
 pub mod HeldLaw
+pub mod KeptLemmas
+pub mod ForDrivers
 pub mod ClosedLaw

@@ -3,7 +3,7 @@ use Rattle.std.proofs.Common.{ℕ, ◌≡◌, false}
 use Rattle.std.proofs.lemmas.Option.{none-some}
 use Rattle.usb_kernel.specs.ClaimLaws.{is_claimed}
 use Rattle.usb_kernel.specs.Value.{KernelState}
-use Rattle.usb_host.specs.HostState.{host_of}
+use Rattle.usb_device_host.specs.HostState.{host_of}
 use Rattle.usb_device.specs.OwnerLaws.{ClaimsAreOwned, ClaimsStayOwned}
 use Rattle.usb_device.proofs.OwnerLawTurns.{stepped-owned, reaped-owned, rest-owned, discarded-owned, ended-owned, taken-owned, abandoned-owned, finished-owned}
 use Rattle.usb_device.proofs.OwnerLawCalls.{submitted-owned, started-owned, refused-owned, left-owned, timed-owned, idled-owned, halt-owned, opened-owned, device_cloned-owned, device_closed-owned, asked-owned, configured-owned, reset-owned, detached-owned, attached-owned, speed-owned, setting-owned, cloned-owned, closed-owned, closed-alive, closed-others, endpoint-owned}

@@ -9,37 +9,37 @@ use Rattle.usb_xfer.specs.declared.transfer.TransferData.{TransferData}
 use Rattle.usb_xfer.specs.declared.transfer.Held.TheVariants.{Nothing}
 use Rattle.usb_kernel.specs.declared.submission.Submission.{Submission}
 use Rattle.usb_xfer.specs.Transfers.{buffer_held}
-use Rattle.usb_simulated.specs.declared.step.KernelCall.TheVariants as call
+use Rattle.usb_kernel_devices.specs.declared.step.KernelCall.TheVariants as call
 use Rattle.usb_kernel.specs.ClaimLaws.{is_claimed}
 use Rattle.usb_kernel.specs.Value.{KernelState}
-use Rattle.usb_simulated.specs.Claims.{no_rules}
-use Rattle.usb_simulated.specs.Calls.{same, set_configuration_rules, with_configuration, detach_rules, without_driver, attach_rules, with_driver, set_interface_rules}
+use Rattle.usb_kernel_devices.specs.Claims.{no_rules}
+use Rattle.usb_kernel_devices.specs.Calls.{same, set_configuration_rules, with_configuration, detach_rules, without_driver, attach_rules, with_driver, set_interface_rules}
 use Rattle.usb_kernel.specs.Calls.{called, after_reset}
 use Rattle.usb_kernel.specs.Submits.{kernel_submitted, kernel_refused}
 use Rattle.usb_kernel.proofs.Places.{slice_get-append_seam}
-use Rattle.usb_registry.proofs.ValueLemmas.{value-set_same, value-set_other, value-push_cases}
-use Rattle.usb_bus.specs.declared.route.Route.{Route}
-use Rattle.usb_bus.specs.Routes.{submission_of}
-use Rattle.usb_registry.specs.History.{value_at}
-use Rattle.usb_host.specs.Handles.{devices_left}
-use Rattle.usb_ledger.specs.declared.opened.OpenDevice.{OpenDevice}
-use Rattle.usb_ledger.specs.Entries.{ClaimedInterface, HostTicket, HostEndpoint, HeldBy, control_endpoint}
-use Rattle.usb_host.specs.HostState.{HostState}
-use Rattle.usb_host.specs.HostBus.{key_at}
-use Rattle.usb_ledger.specs.Owners.{is_ticket_of, if_there, lives, is_of, lives_on, has_living, is_owned_among}
+use Rattle.usb_device_tables.proofs.ValueLemmas.{value-set_same, value-set_other, value-push_cases}
+use Rattle.usb_device_endpoint.specs.declared.route.Route.{Route}
+use Rattle.usb_device_endpoint.specs.Routes.{submission_of}
+use Rattle.usb_device_tables.specs.History.{value_at}
+use Rattle.usb_device_host.specs.Handles.{devices_left}
+use Rattle.usb_device_ledger.specs.declared.opened.OpenDevice.{OpenDevice}
+use Rattle.usb_device_ledger.specs.Entries.{ClaimedInterface, HostTicket, HostEndpoint, HeldBy, control_endpoint}
+use Rattle.usb_device_host.specs.HostState.{HostState}
+use Rattle.usb_device_host.specs.HostBus.{key_at}
+use Rattle.usb_device_ledger.specs.Owners.{is_ticket_of, if_there, lives, is_of, lives_on, has_living, is_owned_among}
 use Rattle.usb_device.specs.OwnerLaws.{KeepsOwned, KeepsClaimed, KeepsClaims, KeepsOthers, EndpointsLive, IsOwned}
-use Rattle.usb_host.proofs.ClaimFrames.{handles-own, goes-ended}
-use Rattle.usb_host.specs.Releases.{owner_gone}
-use Rattle.usb_host.specs.HostCalls.{with_held, submitted_with, host_submitted, refused_with, host_refused, closed_if, host_left, host_timed, host_idled, host_halt_cleared}
+use Rattle.usb_device_host.proofs.ClaimFrames.{handles-own, goes-ended}
+use Rattle.usb_device_host.specs.Releases.{owner_gone}
+use Rattle.usb_device_host.specs.HostCalls.{with_held, submitted_with, host_submitted, refused_with, host_refused, closed_if, host_left, host_timed, host_idled, host_halt_cleared}
 use Rattle.usb_device.specs.HandleStates.{InterfaceState, StandsInterface}
-use Rattle.usb_host.specs.Handles.{device_cloned, device_closed, handle_added, handle_cloned, handle_gone, handle_closed}
-use Rattle.usb_host.specs.Opens.{open_tried, host_opened}
-use Rattle.usb_host.specs.EndpointOpens.{asked_on, host_asked, with_endpoint}
-use Rattle.usb_host.specs.OnDevices.{detached_on, host_detached, attached_on, host_attached, reset_on, host_reset, configured_on, host_configured, speed_asked_on, host_speed_asked}
-use Rattle.usb_host.specs.OnInterfaces.{alt_setting_errno, setting_unless, alt_setting_asked, alt_setting_on, alt_setting_set}
-use Rattle.usb_host.proofs.InterfaceFrames.{armed_as, opened-is}
-use Rattle.usb_host.specs.Controls.{host_started}
-use Rattle.usb_host.proofs.EndpointLemmas.{key-new}
+use Rattle.usb_device_host.specs.Handles.{device_cloned, device_closed, handle_added, handle_cloned, handle_gone, handle_closed}
+use Rattle.usb_device_host.specs.Opens.{open_tried, host_opened}
+use Rattle.usb_device_host.specs.EndpointOpens.{asked_on, host_asked, with_endpoint}
+use Rattle.usb_device_host.specs.OnDevices.{detached_on, host_detached, attached_on, host_attached, reset_on, host_reset, configured_on, host_configured, speed_asked_on, host_speed_asked}
+use Rattle.usb_device_host.specs.OnInterfaces.{alt_setting_errno, setting_unless, alt_setting_asked, alt_setting_on, alt_setting_set}
+use Rattle.usb_device_host.proofs.InterfaceFrames.{armed_as, opened-is}
+use Rattle.usb_device_host.specs.Controls.{host_started}
+use Rattle.usb_device_host.proofs.EndpointLemmas.{key-new}
 use Rattle.usb_device.proofs.OwnerLawLists.{any-at, any-push, any-push_at, or_true}
 use Rattle.usb_device.proofs.OwnerLawKernel.{called-claimed, reset-claimed}
 use Rattle.usb_device.proofs.OwnerLawKept.{claim_as, claim_at, at-claim, at-none, claims-kept, stays, claimed-refl, follow}

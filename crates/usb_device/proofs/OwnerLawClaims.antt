@@ -4,27 +4,27 @@ use Rattle.std.specs.Prelude.{IsSome}
 use Rattle.std.specs.Option.{option_map}
 use Rattle.std.proofs.lemmas.Bool.{cases_Bool, cases_eq}
 use Rattle.std.proofs.lemmas.Option.{same_Some}
-use Rattle.usb_simulated.specs.declared.devices.DeviceState.{DeviceState}
-use Rattle.usb_simulated.specs.declared.step.KernelCall.TheVariants as call
-use Rattle.usb_simulated.specs.Claims.{claim_rules, with_claim, ok_unless}
-use Rattle.usb_simulated.specs.Calls.{detach_and_claim_rules, with_claimed_only}
+use Rattle.usb_kernel_devices.specs.declared.devices.DeviceState.{DeviceState}
+use Rattle.usb_kernel_devices.specs.declared.step.KernelCall.TheVariants as call
+use Rattle.usb_kernel_devices.specs.Claims.{claim_rules, with_claim, ok_unless}
+use Rattle.usb_kernel_devices.specs.Calls.{detach_and_claim_rules, with_claimed_only}
 use Rattle.usb_kernel.specs.ClaimLaws.{is_claimed}
 use Rattle.usb_kernel.specs.Value.{KernelState}
-use Rattle.usb_simulated.proofs.InterfaceLemmas.{contains-insert_other}
+use Rattle.usb_kernel_devices.proofs.InterfaceLemmas.{contains-insert_other}
 use Rattle.usb_kernel.proofs.ArmedLemmas.{refused-changes_none}
 use Rattle.usb_kernel.proofs.CallsKept.{claimed-refused, detach_and_claim-acts}
 use Rattle.usb_kernel.proofs.ClaimCalls.{claim-claims}
-use Rattle.usb_registry.proofs.ValueLemmas.{value-last, value-past, value-push, value-pushed}
+use Rattle.usb_device_tables.proofs.ValueLemmas.{value-last, value-past, value-push, value-pushed}
 use Rattle.usb_error.specs.Errors.{claim_error}
-use Rattle.usb_endpoint.specs.CallErrors.{or_error}
-use Rattle.usb_registry.specs.History.{value_at}
-use Rattle.usb_ledger.specs.Devices.{device_changed, interface_more}
-use Rattle.usb_ledger.specs.declared.opened.OpenDevice.{OpenDevice}
-use Rattle.usb_ledger.specs.Entries.{ClaimedInterface, fresh_interface}
-use Rattle.usb_host.specs.HostState.{HostState}
-use Rattle.usb_ledger.specs.Owners.{is_owned_among}
+use Rattle.usb_device_endpoint.specs.CallErrors.{or_error}
+use Rattle.usb_device_tables.specs.History.{value_at}
+use Rattle.usb_device_ledger.specs.Devices.{device_changed, interface_more}
+use Rattle.usb_device_ledger.specs.declared.opened.OpenDevice.{OpenDevice}
+use Rattle.usb_device_ledger.specs.Entries.{ClaimedInterface, fresh_interface}
+use Rattle.usb_device_host.specs.HostState.{HostState}
+use Rattle.usb_device_ledger.specs.Owners.{is_owned_among}
 use Rattle.usb_device.specs.OwnerLaws.{is_owned_claim, InterfacesAreOwned, HasEnded, KeepsClaimed, KeepsClaims}
-use Rattle.usb_host.specs.InterfaceClaims.{claim_errno, kernel_claimed, claimed_by, claimed_on, host_claimed}
+use Rattle.usb_device_host.specs.InterfaceClaims.{claim_errno, kernel_claimed, claimed_by, claimed_on, host_claimed}
 use Rattle.usb_device.proofs.OwnerLawKernel.{called-claimed}
 use Rattle.usb_device.proofs.OwnerLawTells.{owns, at-owns, tells-from, tells-to, named, unnamed, Gains, tells-gain}
 use Rattle.usb_device.proofs.OwnerLawKept.{claim_as, claim_at, same-owns, same-owned, same-ended, stays}

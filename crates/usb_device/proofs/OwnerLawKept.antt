@@ -3,12 +3,12 @@ use Rattle.std.proofs.Common.{ℕ, ◌≡◌, ◌≤◌, arith, length, List, Bo
 use Rattle.std.specs.Prelude.{◌==◌, ◌&&◌}
 use Rattle.std.specs.Option.{option_map, option_map_or}
 use Rattle.std.proofs.lemmas.Option.{none-some, same_Some}
-use Rattle.usb_registry.specs.History.{value_at}
+use Rattle.usb_device_tables.specs.History.{value_at}
 use Rattle.usb_kernel.specs.ClaimLaws.{is_claimed}
-use Rattle.usb_ledger.specs.Entries.{ClaimedInterface}
-use Rattle.usb_host.specs.HostState.{HostState}
-use Rattle.usb_ledger.specs.Owners.{is_owned_among}
-use Rattle.usb_host.specs.HostFrames.{ClaimsGoOn}
+use Rattle.usb_device_ledger.specs.Entries.{ClaimedInterface}
+use Rattle.usb_device_host.specs.HostState.{HostState}
+use Rattle.usb_device_ledger.specs.Owners.{is_owned_among}
+use Rattle.usb_device_host.specs.HostFrames.{ClaimsGoOn}
 use Rattle.usb_device.specs.OwnerLaws.{is_owned_claim, IsOwned, HasEnded, KeepsOwned, KeepsClaimed, KeepsClaims, EndpointsLive}
 use Rattle.usb_device.proofs.OwnerLawTells.{owns, tells-from, tells-to, tells-same}
 

@@ -3,21 +3,21 @@ use Rattle.std.proofs.Common.{ℕ, ◌≡◌, ◌≢◌, true, false, cond, List
 use Rattle.std.specs.Prelude.{◌==◌}
 use Rattle.std.specs.Option.{option_map, option_map_or}
 use Rattle.std.proofs.lemmas.Bool.{cases_eq}
-use Rattle.usb_simulated.specs.declared.devices.DeviceState.{DeviceState}
-use Rattle.usb_simulated.specs.declared.devices.SimDevice.{SimDevice}
-use Rattle.usb_simulated.specs.declared.step.KernelCall.{KernelCall}
-use Rattle.usb_simulated.specs.declared.step.KernelCall.TheVariants as call
-use Rattle.usb_simulated.specs.declared.step.KernelStep.{KernelStep}
-use Rattle.usb_simulated.specs.declared.step.KernelStep.TheVariants as step
-use Rattle.usb_simulated.specs.Interfaces.{contains}
-use Rattle.usb_simulated.specs.Devices.{fresh_device, device_of, change_device, unplugged}
-use Rattle.usb_simulated.specs.Claims.{no_rules, without_claim, after_release}
-use Rattle.usb_simulated.specs.Calls.{devices_called}
+use Rattle.usb_kernel_devices.specs.declared.devices.DeviceState.{DeviceState}
+use Rattle.usb_kernel_devices.specs.declared.devices.SimDevice.{SimDevice}
+use Rattle.usb_kernel_devices.specs.declared.step.KernelCall.{KernelCall}
+use Rattle.usb_kernel_devices.specs.declared.step.KernelCall.TheVariants as call
+use Rattle.usb_kernel_devices.specs.declared.step.KernelStep.{KernelStep}
+use Rattle.usb_kernel_devices.specs.declared.step.KernelStep.TheVariants as step
+use Rattle.usb_kernel_devices.specs.Interfaces.{contains}
+use Rattle.usb_kernel_devices.specs.Devices.{fresh_device, device_of, change_device, unplugged}
+use Rattle.usb_kernel_devices.specs.Claims.{no_rules, without_claim, after_release}
+use Rattle.usb_kernel_devices.specs.Calls.{devices_called}
 use Rattle.usb_kernel.specs.Calls.{errno_of, called, reset_by, after_reset}
 use Rattle.usb_kernel.specs.ClaimLaws.{is_claimed}
 use Rattle.usb_kernel.specs.Steps.{devices_stepped}
 use Rattle.usb_kernel.specs.Value.{KernelState}
-use Rattle.usb_simulated.proofs.InterfaceLemmas.{contains-remove_other}
+use Rattle.usb_kernel_devices.proofs.InterfaceLemmas.{contains-remove_other}
 use Rattle.usb_kernel.proofs.ClaimLemmas.{KeepsNumber, device-changed, device-other}
 
 -- no interface is claimed of the devices that a kernel is made with

@@ -4,7 +4,7 @@ use Rattle.std.specs.Prelude.{◌||◌}
 use Rattle.std.specs.List.{list_any, enumerate_from}
 use Rattle.std.proofs.lemmas.Bool.{cases_Bool}
 use Rattle.std.proofs.lemmas.Option.{none-some, same_Some}
-use Rattle.usb_registry.specs.History.{value_at}
+use Rattle.usb_device_tables.specs.History.{value_at}
 
 -- an entry, and what is there
 pub entry-at : {X : Type 0} (xs : List (Option X)) (i : ℕ) (x : X) → value_at xs i ≡ Some x → slice_get xs i ≡ Some (Some x)

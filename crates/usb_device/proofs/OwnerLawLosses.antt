@@ -4,21 +4,21 @@ use Rattle.std.specs.Prelude.{◌==◌, ◌&&◌}
 use Rattle.std.proofs.lemmas.Bool.{cases_eq}
 use Rattle.std.proofs.lemmas.Option.{none-some}
 use Rattle.std.specs.Option.{option_map}
-use Rattle.usb_registry.proofs.ValueLemmas.{value-set_same, value-set_other}
-use Rattle.usb_registry.specs.History.{value_at}
-use Rattle.usb_simulated.specs.declared.step.KernelCall.TheVariants as call
-use Rattle.usb_simulated.specs.Claims.{after_release}
-use Rattle.usb_simulated.specs.Calls.{attach_rules, with_driver}
+use Rattle.usb_device_tables.proofs.ValueLemmas.{value-set_same, value-set_other}
+use Rattle.usb_device_tables.specs.History.{value_at}
+use Rattle.usb_kernel_devices.specs.declared.step.KernelCall.TheVariants as call
+use Rattle.usb_kernel_devices.specs.Claims.{after_release}
+use Rattle.usb_kernel_devices.specs.Calls.{attach_rules, with_driver}
 use Rattle.usb_kernel.specs.Calls.{called}
 use Rattle.usb_kernel.specs.ClaimLaws.{is_claimed}
 use Rattle.usb_kernel.specs.Value.{KernelState}
 use Rattle.usb_kernel.proofs.ClaimLemmas.{release-ends}
-use Rattle.usb_ledger.specs.declared.owners.EndedClaim.{EndedClaim}
-use Rattle.usb_ledger.specs.Entries.{ClaimedInterface}
-use Rattle.usb_host.specs.HostState.{HostState}
-use Rattle.usb_ledger.specs.Owners.{is_owned_among}
-use Rattle.usb_ledger.specs.Releases.{claim_ended}
-use Rattle.usb_host.specs.Releases.{released, without_ended, with_ended}
+use Rattle.usb_device_ledger.specs.declared.owners.EndedClaim.{EndedClaim}
+use Rattle.usb_device_ledger.specs.Entries.{ClaimedInterface}
+use Rattle.usb_device_host.specs.HostState.{HostState}
+use Rattle.usb_device_ledger.specs.Owners.{is_owned_among}
+use Rattle.usb_device_ledger.specs.Releases.{claim_ended}
+use Rattle.usb_device_host.specs.Releases.{released, without_ended, with_ended}
 use Rattle.usb_device.specs.OwnerLaws.{is_owned_claim, InterfacesAreOwned, HasEnded, KeepsOwned}
 use Rattle.usb_device.proofs.OwnerLawKernel.{called-claimed, release-claimed}
 use Rattle.usb_device.proofs.OwnerLawTells.{owns, at-owns, tells-from, tells-to, named, unnamed, tells-same, Loses, tells-loss}

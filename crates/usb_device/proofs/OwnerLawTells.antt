@@ -2,10 +2,10 @@
 use Rattle.std.proofs.Common.{ℕ, arith, ◌≡◌, ◌≢◌, ◌+◌, Bool, true, false, Option, Some, None, slice_get, ◌⊎◌, inl, inr, refl, sym, ◌∙◌, ap, subst}
 use Rattle.std.specs.Prelude.{◌==◌, ◌&&◌, option_and_then}
 use Rattle.std.proofs.lemmas.Bool.{cases_eq, eq-eqb, ne_eqb}
-use Rattle.usb_registry.specs.History.{value_at}
+use Rattle.usb_device_tables.specs.History.{value_at}
 use Rattle.usb_kernel.specs.ClaimLaws.{is_claimed}
-use Rattle.usb_ledger.specs.Entries.{ClaimedInterface}
-use Rattle.usb_host.specs.HostState.{HostState}
+use Rattle.usb_device_ledger.specs.Entries.{ClaimedInterface}
+use Rattle.usb_device_host.specs.HostState.{HostState}
 use Rattle.usb_device.specs.OwnerLaws.{is_owned_claim, has_owner, ClaimsAreOwned}
 use Rattle.usb_device.proofs.OwnerLawLists.{any-found, any-at, entry-at}
 

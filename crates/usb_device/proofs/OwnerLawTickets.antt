@@ -5,18 +5,18 @@ use Rattle.std.specs.Option.{option_map}
 use Rattle.std.specs.List.{list_any, enumerate_from}
 use Rattle.std.proofs.lemmas.Bool.{cases_Bool, cases_eq, eq-eqb, ne_eqb}
 use Rattle.std.proofs.lemmas.Option.{none-some}
-use Rattle.usb_registry.specs.History.{value_at}
-use Rattle.usb_registry.proofs.ValueLemmas.{value-set_same, value-set_other, value-taken}
-use Rattle.usb_ledger.specs.declared.ends.TicketEnd.{TicketEnd}
-use Rattle.usb_ledger.specs.Entries.{ClaimedInterface, HostTicket, HostEndpoint, Ended}
-use Rattle.usb_host.specs.HostState.{HostState}
-use Rattle.usb_ledger.specs.Owners.{is_ticket_of, if_there, lives, is_of, lives_on, has_living, is_owned_among}
-use Rattle.usb_ledger.specs.Releases.{claim_ended, interface_at, claim_of, without_claim, endpoints_left}
-use Rattle.usb_host.specs.Releases.{with_ended, endpoint_left, settled}
+use Rattle.usb_device_tables.specs.History.{value_at}
+use Rattle.usb_device_tables.proofs.ValueLemmas.{value-set_same, value-set_other, value-taken}
+use Rattle.usb_device_ledger.specs.declared.ends.TicketEnd.{TicketEnd}
+use Rattle.usb_device_ledger.specs.Entries.{ClaimedInterface, HostTicket, HostEndpoint, Ended}
+use Rattle.usb_device_host.specs.HostState.{HostState}
+use Rattle.usb_device_ledger.specs.Owners.{is_ticket_of, if_there, lives, is_of, lives_on, has_living, is_owned_among}
+use Rattle.usb_device_ledger.specs.Releases.{claim_ended, interface_at, claim_of, without_claim, endpoints_left}
+use Rattle.usb_device_host.specs.Releases.{with_ended, endpoint_left, settled}
 use Rattle.usb_device.specs.OwnerLaws.{KeepsOwned, KeepsClaimed, KeepsClaims, EndpointsLive}
 use Rattle.usb_device.proofs.OwnerLawLists.{entry-at, any-alike, any-at, any-one, any-put, any-set, any-taken, or_true}
 use Rattle.usb_device.proofs.OwnerLawKept.{claim_at, at-none, owned-kept, claims-kept, claimed-refl, claimed-goes, claimed-trans}
-use Rattle.usb_host.proofs.ClaimFrames.{goes-ended}
+use Rattle.usb_device_host.proofs.ClaimFrames.{goes-ended}
 use Rattle.usb_device.proofs.OwnerLawLosses.{OwnerLeft, owned-settled}
 
 -- a host with other tickets and endpoints

@@ -1,24 +1,24 @@
 -- The owners of interfaces over steps, reaps and discards.
 use Rattle.std.proofs.Common.{ℕ, zero, suc, ◌≡◌, ◌+◌, Bool, true, false, cond, List, [], ◌∷◌, length, set, slice_get, Option, Some, None, refl, ap, ◌∙◌}
 use Rattle.std.specs.Prelude.{is_some, ◌&&◌, ◌||◌}
-use Rattle.usb_simulated.specs.declared.step.KernelStep.{KernelStep}
+use Rattle.usb_kernel_devices.specs.declared.step.KernelStep.{KernelStep}
 use Rattle.usb_kernel.specs.declared.submission.Done.{Done}
 use Rattle.usb_kernel.specs.ClaimLaws.{is_claimed}
 use Rattle.usb_kernel.specs.Value.{KernelState}
 use Rattle.usb_kernel.specs.Tickets.{tickets}
 use Rattle.usb_kernel.specs.Completions.{completion, reapable}
 use Rattle.usb_kernel.specs.Steps.{after_step, step_done, after_reap}
-use Rattle.usb_registry.specs.History.{value_at}
-use Rattle.usb_ledger.specs.declared.ends.TicketEnd.{TicketEnd}
-use Rattle.usb_ledger.specs.declared.ends.TicketEnd.TheVariants.{Taken, Dropped, Reclaimed}
-use Rattle.usb_ledger.specs.Entries.{HostTicket, HostEndpoint, Hold, HeldBy, Abandoned, Ended}
-use Rattle.usb_host.specs.HostState.{HostState}
-use Rattle.usb_ledger.specs.Owners.{is_ticket_of, lives, is_of, lives_on}
+use Rattle.usb_device_tables.specs.History.{value_at}
+use Rattle.usb_device_ledger.specs.declared.ends.TicketEnd.{TicketEnd}
+use Rattle.usb_device_ledger.specs.declared.ends.TicketEnd.TheVariants.{Taken, Dropped, Reclaimed}
+use Rattle.usb_device_ledger.specs.Entries.{HostTicket, HostEndpoint, Hold, HeldBy, Abandoned, Ended}
+use Rattle.usb_device_host.specs.HostState.{HostState}
+use Rattle.usb_device_ledger.specs.Owners.{is_ticket_of, lives, is_of, lives_on}
 use Rattle.usb_device.specs.OwnerLaws.{KeepsClaims}
-use Rattle.usb_host.specs.TicketEnds.{with_ticket, ended_as, host_ended, host_taken, given_up, host_abandoned, reclaimed_if, came}
-use Rattle.usb_host.specs.HostTurns.{with_past, host_stepped, host_reaped, all_stepped, host_rest}
-use Rattle.usb_host.specs.HostCalls.{host_discarded}
-use Rattle.usb_host.specs.Finishes.{discarded_below, reaped_below, finished}
+use Rattle.usb_device_host.specs.TicketEnds.{with_ticket, ended_as, host_ended, host_taken, given_up, host_abandoned, reclaimed_if, came}
+use Rattle.usb_device_host.specs.HostTurns.{with_past, host_stepped, host_reaped, all_stepped, host_rest}
+use Rattle.usb_device_host.specs.HostCalls.{host_discarded}
+use Rattle.usb_device_host.specs.Finishes.{discarded_below, reaped_below, finished}
 use Rattle.usb_device.proofs.OwnerLawLists.{any-put}
 use Rattle.usb_device.proofs.OwnerLawKernel.{stepped-claimed}
 use Rattle.usb_device.proofs.OwnerLawKept.{claim_at, claims-kept, stays, follow, claimed-refl}

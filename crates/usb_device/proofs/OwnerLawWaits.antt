@@ -1,12 +1,12 @@
 -- The owners of interfaces over turns and waits.
 use Rattle.std.proofs.Common.{ℕ}
-use Rattle.usb_endpoint.specs.Waits.{waited}
-use Rattle.usb_endpoint.specs.Blocking.{blocked}
-use Rattle.usb_host.specs.HostState.{HostState}
-use Rattle.usb_host.specs.HostTurns.{host_stepped, host_turned}
-use Rattle.usb_host.specs.HostCalls.{host_calls}
-use Rattle.usb_host.specs.HostAwaits.{host_awaited}
-use Rattle.usb_host.proofs.TurnKeeps.{IsKept, kept-turned, kept-waited, kept-blocked, kept-awaited}
+use Rattle.usb_device_endpoint.specs.Waits.{waited}
+use Rattle.usb_device_endpoint.specs.Blocking.{blocked}
+use Rattle.usb_device_host.specs.HostState.{HostState}
+use Rattle.usb_device_host.specs.HostTurns.{host_stepped, host_turned}
+use Rattle.usb_device_host.specs.HostCalls.{host_calls}
+use Rattle.usb_device_host.specs.HostAwaits.{host_awaited}
+use Rattle.usb_device_host.proofs.TurnKeeps.{IsKept, kept-turned, kept-waited, kept-blocked, kept-awaited}
 use Rattle.usb_device.specs.OwnerLaws.{KeepsClaims}
 use Rattle.usb_device.proofs.OwnerLawKept.{stays, follow}
 use Rattle.usb_device.proofs.OwnerLawTurns.{steps-owned, stepped-owned, reaped-owned, discarded-owned}

@@ -1,26 +1,26 @@
 -- Handles stand over the calls of a host.
 use Rattle.std.proofs.Common.{ℕ, ◌≡◌, Bool, List, [], ◌∷◌, ◌++◌, length, Option, Some, None, refl, ◌∙◌, ap, arith, Result, Ok, Err, subst, sym, inl, inr, cond}
-use Rattle.usb_registry.specs.History.{value_at}
-use Rattle.usb_ledger.specs.declared.opened.OpenDevice.{OpenDevice}
-use Rattle.usb_ledger.specs.Entries.{ClaimedInterface, fresh_interface}
-use Rattle.usb_host.specs.HostState.{HostState}
-use Rattle.usb_host.specs.InterfaceClaims.{claim_tried, kernel_claimed, claimed_by, claimed_on, host_claimed, claimed_key}
-use Rattle.usb_host.specs.EndpointOpens.{host_asked, with_endpoint}
+use Rattle.usb_device_tables.specs.History.{value_at}
+use Rattle.usb_device_ledger.specs.declared.opened.OpenDevice.{OpenDevice}
+use Rattle.usb_device_ledger.specs.Entries.{ClaimedInterface, fresh_interface}
+use Rattle.usb_device_host.specs.HostState.{HostState}
+use Rattle.usb_device_host.specs.InterfaceClaims.{claim_tried, kernel_claimed, claimed_by, claimed_on, host_claimed, claimed_key}
+use Rattle.usb_device_host.specs.EndpointOpens.{host_asked, with_endpoint}
 use Rattle.usb_device.specs.HandleStates.{InterfaceState, StandsInterface, StandsDevice}
 use Rattle.usb_error.specs.ErrorState.{ErrorState}
-use Rattle.usb_host.specs.Opens.{open_tried, opened_by, host_opened, open_key, with_key}
-use Rattle.usb_ledger.specs.Devices.{device_changed, interface_more}
-use Rattle.usb_ledger.proofs.DeviceLemmas.{KeepsThere, held-interface_more, counts-there, changed-at, changed-other}
-use Rattle.usb_host.specs.HostFrames.{ClaimsGoOn}
+use Rattle.usb_device_host.specs.Opens.{open_tried, opened_by, host_opened, open_key, with_key}
+use Rattle.usb_device_ledger.specs.Devices.{device_changed, interface_more}
+use Rattle.usb_device_ledger.proofs.DeviceLemmas.{KeepsThere, held-interface_more, counts-there, changed-at, changed-other}
+use Rattle.usb_device_host.specs.HostFrames.{ClaimsGoOn}
 use Rattle.std.specs.Prelude.{IsSome}
-use Rattle.usb_host.proofs.InterfaceFrames.{asked-is, asked-counts, claimed-there, claimed_on-stays, claimed_on-there}
+use Rattle.usb_device_host.proofs.InterfaceFrames.{asked-is, asked-counts, claimed-there, claimed_on-stays, claimed_on-there}
 use Rattle.usb_desc.specs.declared.error.Fail.{Fail}
-use Rattle.usb_registry.proofs.ValueLemmas.{is-some, value-last}
+use Rattle.usb_device_tables.proofs.ValueLemmas.{is-some, value-last}
 use Rattle.std.proofs.lemmas.Bool.{cases_eq}
-use Rattle.usb_host.specs.CallErrors.{Leaves}
-use Rattle.usb_host.proofs.Left.{left}
-use Rattle.usb_host.proofs.TryLemmas.{open-counts}
-use Rattle.usb_host.proofs.OpeningLemmas.{claimed-at}
+use Rattle.usb_device_host.specs.CallErrors.{Leaves}
+use Rattle.usb_device_host.proofs.Left.{left}
+use Rattle.usb_device_host.proofs.TryLemmas.{open-counts}
+use Rattle.usb_device_host.proofs.OpeningLemmas.{claimed-at}
 
 -- a handle stands while claimed interfaces go on
 pub StandsInterface-same : (h g : HostState) (f : InterfaceState) → ClaimsGoOn h.interfaces g.interfaces → KeepsThere h.devices g.devices → StandsInterface h f → StandsInterface g f
@@ -80,7 +80,7 @@ opened-stands h bus address key is =
     opened-new (record h { kernel = step.kernel }) step.answer key (λ o made. (open-counts bus address h.kernel o made).0) is
 
 -- and that of an interface that was claimed
-claimed-next : (next key : ℕ) (tried : Result (Unit {0}) ErrorState) → claimed_key next tried ≡ Ok key → (key ≡ next) × (tried ≡ Ok tt)
+pub claimed-next : (next key : ℕ) (tried : Result (Unit {0}) ErrorState) → claimed_key next tried ≡ Ok key → (key ≡ next) × (tried ≡ Ok tt)
 claimed-next next key (Err error) is = absurd (cc)
 claimed-next next key (Ok done) is = (cc, refl)
 

@@ -1,12 +1,12 @@
 -- What a host keeps where all is closed: nothing.
 use Rattle.std.specs.Prelude.{ℕ, ◌≡◌, false, Some}
-use Rattle.usb_registry.specs.History.{value_at}
-use Rattle.usb_ledger.specs.declared.opened.OpenDevice.{OpenDevice}
-use Rattle.usb_ledger.specs.Entries.{ClaimedInterface, HostEndpoint}
-use Rattle.usb_host.specs.HostState.{HostState}
+use Rattle.usb_device_tables.specs.History.{value_at}
+use Rattle.usb_device_ledger.specs.declared.opened.OpenDevice.{OpenDevice}
+use Rattle.usb_device_ledger.specs.Entries.{ClaimedInterface, HostEndpoint}
+use Rattle.usb_device_host.specs.HostState.{HostState}
 use Rattle.usb_device.specs.DeviceLaws.{DevicesAreHeld}
 use Rattle.usb_device.specs.OwnerLaws.{InterfacesAreOwned, EndpointsLive}
-use Rattle.usb_host.specs.Finishes.{HasEnds, KeepsNothing}
+use Rattle.usb_device_host.specs.Finishes.{HasEnds, KeepsNothing}
 
 -- no handle is open, and each ticket has its end
 pub record IsClosed (h : HostState) : Type 0 where

@@ -4,8 +4,8 @@ use Rattle.usb_desc.specs.declared.error.Fail.{Fail}
 use Rattle.usb_desc.specs.declared.error.Fail.TheVariants.{Cause, Memory}
 use Rattle.usb_xfer.specs.declared.error.TransferError.{TransferError}
 use Rattle.usb_xfer.specs.declared.transfer.TransferData.{TransferData}
-use Rattle.usb_host.specs.HostState.{HostState}
-use Rattle.usb_host.specs.Controls.{request_started}
+use Rattle.usb_device_host.specs.HostState.{HostState}
+use Rattle.usb_device_host.specs.Controls.{request_started}
 use Rattle.usb_device.specs.Futures.{fresh_future, future_awaited, future_taken, future_answer}
 
 -- a request to a device was handed in, and a wait went on until its completion was there

@@ -13,7 +13,7 @@ use Rattle.usb_xfer.specs.declared.error.TransferError.{TransferError}
 use Rattle.usb_error.specs.Outcomes.{◌>>=◌}
 use Rattle.usb_error.specs.declared.descriptor_error.GetDescriptorError.{GetDescriptorError}
 use Rattle.usb_error.specs.declared.descriptor_error.GetDescriptorError.TheVariants.{Transfer, InvalidDescriptor}
-use Rattle.usb_host.specs.HostState.{HostState}
+use Rattle.usb_device_host.specs.HostState.{HostState}
 use Rattle.usb_device.specs.ControlCalls.{controlled, control_answered}
 
 -- the request GET_DESCRIPTOR for a type, an index and a language

@@ -1,11 +1,11 @@
 -- Which open devices a host keeps.
 use Rattle.std.specs.Prelude.{ℕ, ◌≡◌, ◌<◌, ◌==◌, ◌&&◌, Bool, true, false, nat_lt, Option, Some, None, IsSome}
 use Rattle.std.specs.List.{count_by}
-use Rattle.usb_registry.specs.History.{value_at}
-use Rattle.usb_ledger.specs.Entries.{ClaimedInterface}
-use Rattle.usb_ledger.specs.declared.opened.OpenDevice.{OpenDevice}
-use Rattle.usb_ledger.specs.Devices.{is_held}
-use Rattle.usb_host.specs.HostState.{HostState}
+use Rattle.usb_device_tables.specs.History.{value_at}
+use Rattle.usb_device_ledger.specs.Entries.{ClaimedInterface}
+use Rattle.usb_device_ledger.specs.declared.opened.OpenDevice.{OpenDevice}
+use Rattle.usb_device_ledger.specs.Devices.{is_held}
+use Rattle.usb_device_host.specs.HostState.{HostState}
 
 -- whether a claimed interface holds the open device of a key: it was claimed on it, and has an open handle
 abbrev pub holds : ℕ → ClaimedInterface → Bool

@@ -1,31 +1,31 @@
 -- The ends of tickets.
 use Rattle.std.specs.Prelude.{ℕ, ◌≡◌, Bool, Some, None, is_some, slice_get, if◌then◌else◌}
-use Rattle.usb_simulated.specs.declared.step.KernelStep.{KernelStep}
+use Rattle.usb_kernel_devices.specs.declared.step.KernelStep.{KernelStep}
 use Rattle.usb_xfer.specs.declared.transfer.TransferData.{TransferData}
-use Rattle.usb_bus.specs.declared.route.Route.{Route}
+use Rattle.usb_device_endpoint.specs.declared.route.Route.{Route}
 use Rattle.usb_kernel.specs.declared.submission.Submission.{Submission}
 use Rattle.usb_kernel.specs.Completions.{completion}
-use Rattle.usb_endpoint.specs.EndpointState.{EndpointState}
-use Rattle.usb_endpoint.specs.Handles.{Stands}
-use Rattle.usb_endpoint.specs.Closes.{after_close}
-use Rattle.usb_ledger.specs.declared.ends.TicketEnd.{TicketEnd}
-use Rattle.usb_ledger.specs.declared.ends.TicketEnd.TheVariants.{Dropped}
-use Rattle.usb_host.specs.HostState.{HostState}
-use Rattle.usb_ledger.specs.EndedTickets.{end_at}
-use Rattle.usb_host.specs.HostBus.{bus_of}
-use Rattle.usb_host.specs.HostTurns.{host_stepped, host_turned, host_reaped, host_rest}
-use Rattle.usb_host.specs.HostCalls.{host_submitted, host_refused, host_discarded, host_left, host_timed, host_idled, host_halt_cleared, host_calls}
-use Rattle.usb_host.specs.TicketEnds.{host_taken, host_abandoned}
-use Rattle.usb_host.specs.HostAwaits.{host_awaited}
-use Rattle.usb_host.specs.Controls.{host_started}
+use Rattle.usb_device_endpoint.specs.EndpointState.{EndpointState}
+use Rattle.usb_device_endpoint.specs.Handles.{Stands}
+use Rattle.usb_device_endpoint.specs.Closes.{after_close}
+use Rattle.usb_device_ledger.specs.declared.ends.TicketEnd.{TicketEnd}
+use Rattle.usb_device_ledger.specs.declared.ends.TicketEnd.TheVariants.{Dropped}
+use Rattle.usb_device_host.specs.HostState.{HostState}
+use Rattle.usb_device_ledger.specs.EndedTickets.{end_at}
+use Rattle.usb_device_host.specs.HostBus.{bus_of}
+use Rattle.usb_device_host.specs.HostTurns.{host_stepped, host_turned, host_reaped, host_rest}
+use Rattle.usb_device_host.specs.HostCalls.{host_submitted, host_refused, host_discarded, host_left, host_timed, host_idled, host_halt_cleared, host_calls}
+use Rattle.usb_device_host.specs.TicketEnds.{host_taken, host_abandoned}
+use Rattle.usb_device_host.specs.HostAwaits.{host_awaited}
+use Rattle.usb_device_host.specs.Controls.{host_started}
 use Rattle.usb_device.specs.Futures.{FutureState, StandsFuture, future_closed}
-use Rattle.usb_host.specs.Finishes.{finished}
-use Rattle.usb_host.specs.Handles.{device_cloned, device_closed, handle_cloned, handle_closed}
-use Rattle.usb_host.specs.Opens.{host_opened}
-use Rattle.usb_host.specs.InterfaceClaims.{host_claimed}
-use Rattle.usb_host.specs.EndpointOpens.{host_asked, with_endpoint}
-use Rattle.usb_host.specs.OnDevices.{host_detached, host_attached, host_reset, host_configured, host_speed_asked}
-use Rattle.usb_host.specs.OnInterfaces.{alt_setting_set}
+use Rattle.usb_device_host.specs.Finishes.{finished}
+use Rattle.usb_device_host.specs.Handles.{device_cloned, device_closed, handle_cloned, handle_closed}
+use Rattle.usb_device_host.specs.Opens.{host_opened}
+use Rattle.usb_device_host.specs.InterfaceClaims.{host_claimed}
+use Rattle.usb_device_host.specs.EndpointOpens.{host_asked, with_endpoint}
+use Rattle.usb_device_host.specs.OnDevices.{host_detached, host_attached, host_reset, host_configured, host_speed_asked}
+use Rattle.usb_device_host.specs.OnInterfaces.{alt_setting_set}
 
 -- a ticket that has an end keeps it
 abbrev pub KeepsEnds : HostState → HostState → Type 0

@@ -7,15 +7,15 @@ use Rattle.usb_desc.specs.declared.types.Direction.TheVariants.{Out, In}
 use Rattle.usb_xfer.specs.declared.error.TransferError.{TransferError}
 use Rattle.usb_xfer.specs.declared.transfer.Completion.{Completion}
 use Rattle.usb_kernel.specs.Tickets.{tickets}
-use Rattle.usb_bus.specs.Completions.{transfer_completion}
+use Rattle.usb_kernel.specs.TransferCompletions.{transfer_completion}
 use Rattle.usb_xfer.specs.declared.transfer.TransferData.{TransferData}
-use Rattle.usb_endpoint.specs.Waits.{is_reaped}
-use Rattle.usb_host.specs.HostState.{HostState}
-use Rattle.usb_host.specs.HostBus.{owner_at, key_at}
-use Rattle.usb_host.specs.HostCalls.{host_left, host_calls}
-use Rattle.usb_host.specs.HostAwaits.{deadline_of, host_awaited}
-use Rattle.usb_host.specs.TicketEnds.{host_taken, host_abandoned}
-use Rattle.usb_host.specs.Controls.{deadline_after}
+use Rattle.usb_device_endpoint.specs.Waits.{is_reaped}
+use Rattle.usb_device_host.specs.HostState.{HostState}
+use Rattle.usb_device_host.specs.HostBus.{owner_at, key_at}
+use Rattle.usb_device_host.specs.HostCalls.{host_left, host_calls}
+use Rattle.usb_device_host.specs.HostAwaits.{deadline_of, host_awaited}
+use Rattle.usb_device_host.specs.TicketEnds.{host_taken, host_abandoned}
+use Rattle.usb_device_host.specs.Controls.{deadline_after}
 
 -- a future: the key of its control endpoint, the ticket that this holds, or nothing once a poll has
 -- taken it, the ticket's deadline, and where the data go

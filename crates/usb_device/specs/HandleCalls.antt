@@ -1,17 +1,22 @@
--- A claim gives a handle of an interface, and a release takes one or hands it back.
+-- A claim gives a handle of an interface, and a release takes one or hands it back. A handle of a device is
+-- turned into one of an interface, and that into an endpoint.
 use Rattle.std.specs.Prelude.{ℕ, ◌≡◌, Bool, true, false, length, Result, Ok, Err, OnOk, OnErr, IfOk, Some}
 use Rattle.usb_desc.specs.declared.error.Fail.{Fail}
+use Rattle.usb_desc.specs.declared.types.Direction.{Direction}
+use Rattle.usb_desc.specs.declared.types.TransferType.{TransferType}
+use Rattle.usb_device_endpoint.specs.EndpointState.{EndpointState}
 use Rattle.usb_error.specs.ErrorState.{ErrorState}
 use Rattle.usb_error.specs.Errors.{interface_in_use_error}
 use Rattle.usb_error.specs.Outcomes.{Tried, result_map}
-use Rattle.usb_registry.specs.History.{value_at}
-use Rattle.usb_ledger.specs.declared.opened.OpenDevice.{OpenDevice}
-use Rattle.usb_ledger.specs.Entries.{ClaimedInterface}
-use Rattle.usb_host.specs.HostState.{HostState}
-use Rattle.usb_host.specs.Owners.{is_shared}
-use Rattle.usb_host.specs.CallErrors.{Leaves}
-use Rattle.usb_host.specs.Handles.{handle_closed}
-use Rattle.usb_host.specs.InterfaceClaims.{claimed_key, claim_tried, host_claimed}
+use Rattle.usb_device_tables.specs.History.{value_at}
+use Rattle.usb_device_ledger.specs.declared.opened.OpenDevice.{OpenDevice}
+use Rattle.usb_device_ledger.specs.Entries.{ClaimedInterface}
+use Rattle.usb_device_host.specs.HostState.{HostState}
+use Rattle.usb_device_host.specs.Owners.{is_shared}
+use Rattle.usb_device_host.specs.CallErrors.{Leaves}
+use Rattle.usb_device_host.specs.Handles.{device_closed, handle_closed}
+use Rattle.usb_device_host.specs.EndpointOpens.{OpensEndpoint}
+use Rattle.usb_device_host.specs.InterfaceClaims.{claimed_key, claim_tried, host_claimed}
 use Rattle.usb_device.specs.HandleStates.{InterfaceState}
 
 -- an interface of the open device of this key is claimed, or the kernel refuses
@@ -23,6 +28,21 @@ pub record ClaimsInterface (old new : HostState) (key interface : ℕ) (reattach
       (claimed_key (length old.interfaces) (claim_tried old device interface reattach))
   pub number : IfOk result (λ i. i.number ≡ interface)
   pub host : Leaves result new (host_claimed old key interface reattach) old
+
+-- and then the handle of the device is closed
+pub record ClaimsAndCloses (old new : HostState) (key interface : ℕ) (reattach : Bool)
+    (result : Result InterfaceState (Fail ErrorState)) : Type 0 where
+  pub between : HostState
+  pub claims : ClaimsInterface old between key interface reattach result
+  pub closed : new ≡ device_closed between key
+
+-- an endpoint of the claimed interface of this key is opened, or it is refused, and then the handle
+-- of the interface is closed
+pub record OpensAndCloses (old new : HostState) (key address : ℕ) (kind : TransferType)
+    (direction : Direction) (result : Result EndpointState (Fail ErrorState)) : Type 0 where
+  pub between : HostState
+  pub opens : OpensEndpoint old between key address kind direction result
+  pub closed : new ≡ handle_closed between key
 
 -- the answer to a release: where the interface has another owner, the handle comes back
 abbrev pub release_answer : InterfaceState → Bool → Result (Unit {0}) (InterfaceState × ErrorState)

@@ -1,9 +1,9 @@
 -- Handles, and when they stand.
 use Rattle.std.specs.Prelude.{ℕ, ◌≡◌, ◌<◌, Some, IsSome}
-use Rattle.usb_ledger.specs.Entries.{ClaimedInterface}
-use Rattle.usb_registry.specs.History.{value_at}
-use Rattle.usb_ledger.specs.declared.opened.OpenDevice.{OpenDevice}
-use Rattle.usb_host.specs.HostState.{HostState}
+use Rattle.usb_device_ledger.specs.Entries.{ClaimedInterface}
+use Rattle.usb_device_tables.specs.History.{value_at}
+use Rattle.usb_device_ledger.specs.declared.opened.OpenDevice.{OpenDevice}
+use Rattle.usb_device_host.specs.HostState.{HostState}
 
 -- a handle of an interface: the interface's key and its number
 pub record InterfaceState : Type 0 where

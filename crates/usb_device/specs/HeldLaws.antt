@@ -1,29 +1,29 @@
 -- Which open devices a host keeps over each call.
 use Rattle.std.specs.Prelude.{ℕ, ◌≡◌, ◌≢◌, ◌<◌, ◌≤◌, Bool, List, Option, Some}
 use Rattle.usb_xfer.specs.declared.transfer.TransferData.{TransferData}
-use Rattle.usb_simulated.specs.declared.step.KernelStep.{KernelStep}
+use Rattle.usb_kernel_devices.specs.declared.step.KernelStep.{KernelStep}
 use Rattle.usb_kernel.specs.declared.submission.Submission.{Submission}
 use Rattle.usb_kernel.specs.Value.{KernelState}
-use Rattle.usb_bus.specs.declared.route.Route.{Route}
-use Rattle.usb_endpoint.specs.Waits.{waited}
-use Rattle.usb_endpoint.specs.Blocking.{blocked}
-use Rattle.usb_registry.specs.History.{value_at}
-use Rattle.usb_ledger.specs.declared.ends.TicketEnd.{TicketEnd}
-use Rattle.usb_ledger.specs.declared.opened.OpenDevice.{OpenDevice}
-use Rattle.usb_host.specs.HostState.{HostState, host_of}
-use Rattle.usb_host.specs.HostTurns.{host_stepped, host_reaped, host_turned, host_rest}
-use Rattle.usb_host.specs.HostCalls.{host_submitted, host_refused, host_discarded, host_left, host_timed, host_idled, host_halt_cleared, host_calls}
-use Rattle.usb_host.specs.HostAwaits.{host_awaited}
-use Rattle.usb_host.specs.Controls.{host_started}
-use Rattle.usb_host.specs.TicketEnds.{host_ended, host_taken, host_abandoned}
-use Rattle.usb_host.specs.Finishes.{finished}
+use Rattle.usb_device_endpoint.specs.declared.route.Route.{Route}
+use Rattle.usb_device_endpoint.specs.Waits.{waited}
+use Rattle.usb_device_endpoint.specs.Blocking.{blocked}
+use Rattle.usb_device_tables.specs.History.{value_at}
+use Rattle.usb_device_ledger.specs.declared.ends.TicketEnd.{TicketEnd}
+use Rattle.usb_device_ledger.specs.declared.opened.OpenDevice.{OpenDevice}
+use Rattle.usb_device_host.specs.HostState.{HostState, host_of}
+use Rattle.usb_device_host.specs.HostTurns.{host_stepped, host_reaped, host_turned, host_rest}
+use Rattle.usb_device_host.specs.HostCalls.{host_submitted, host_refused, host_discarded, host_left, host_timed, host_idled, host_halt_cleared, host_calls}
+use Rattle.usb_device_host.specs.HostAwaits.{host_awaited}
+use Rattle.usb_device_host.specs.Controls.{host_started}
+use Rattle.usb_device_host.specs.TicketEnds.{host_ended, host_taken, host_abandoned}
+use Rattle.usb_device_host.specs.Finishes.{finished}
 use Rattle.usb_device.specs.HandleStates.{InterfaceState, StandsDevice, StandsInterface}
-use Rattle.usb_host.specs.Handles.{device_cloned, device_closed, handle_cloned, handle_closed}
-use Rattle.usb_host.specs.Opens.{host_opened}
-use Rattle.usb_host.specs.InterfaceClaims.{host_claimed}
-use Rattle.usb_host.specs.EndpointOpens.{host_asked, with_endpoint}
-use Rattle.usb_host.specs.OnDevices.{host_detached, host_attached, host_reset, host_configured, host_speed_asked}
-use Rattle.usb_host.specs.OnInterfaces.{alt_setting_set}
+use Rattle.usb_device_host.specs.Handles.{device_cloned, device_closed, handle_cloned, handle_closed}
+use Rattle.usb_device_host.specs.Opens.{host_opened}
+use Rattle.usb_device_host.specs.InterfaceClaims.{host_claimed}
+use Rattle.usb_device_host.specs.EndpointOpens.{host_asked, with_endpoint}
+use Rattle.usb_device_host.specs.OnDevices.{host_detached, host_attached, host_reset, host_configured, host_speed_asked}
+use Rattle.usb_device_host.specs.OnInterfaces.{alt_setting_set}
 use Rattle.usb_device.specs.DeviceLaws.{DevicesAreHeld}
 
 -- an open device with an open handle stays, with at least its handles

@@ -7,5 +7,6 @@ pub mod LineLaws
 pub mod EndLaws
 pub mod OwnerLaws
 pub mod DeviceLaws
+pub mod KeptHandles
 pub mod HeldLaws
 pub mod ClosedLaws

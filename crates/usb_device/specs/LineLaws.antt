@@ -1,12 +1,12 @@
 -- How the line of a host goes on.
 use Rattle.std.specs.Prelude.{ℕ, ◌≡◌, ◌≤◌, ◌+◌, [], length}
-use Rattle.usb_endpoint.specs.Waits.{waited}
-use Rattle.usb_endpoint.specs.Blocking.{blocked}
-use Rattle.usb_host.specs.HostState.{HostState}
-use Rattle.usb_host.specs.HostTurns.{host_turned, host_rest}
-use Rattle.usb_host.specs.HostCalls.{host_calls}
-use Rattle.usb_host.specs.HostAwaits.{host_awaited}
-use Rattle.usb_host.specs.HostFrames.{LineGoesOn, HostGoesOn}
+use Rattle.usb_device_endpoint.specs.Waits.{waited}
+use Rattle.usb_device_endpoint.specs.Blocking.{blocked}
+use Rattle.usb_device_host.specs.HostState.{HostState}
+use Rattle.usb_device_host.specs.HostTurns.{host_turned, host_rest}
+use Rattle.usb_device_host.specs.HostCalls.{host_calls}
+use Rattle.usb_device_host.specs.HostAwaits.{host_awaited}
+use Rattle.usb_device_host.specs.HostFrames.{LineGoesOn, HostGoesOn}
 
 -- a turn, a wait and a blocking transfer take steps only from the front of the line, and end
 -- nothing that endpoints hold

@@ -3,19 +3,20 @@
 ghost use Rattle.std.specs.Prelude.{◌≡◌, ◌<◌, ◌^◌, [], length, IfOk, OnOk, OnErr};
 ghost use Rattle.std.specs.Option.{ForSome};
 ghost use Rattle.usb_desc.specs.declared.types.TransferType.TheVariants.{Control};
-ghost use Rattle.usb_registry.specs.History.{value_at};
+ghost use Rattle.usb_device_tables.specs.History.{value_at};
 ghost use Rattle.usb_xfer.specs.Transfers.{IsRequest, request_in, request_out};
 ghost use Rattle.usb_error.specs.Outcomes.{result_map};
 ghost use Rattle.usb_device.specs.HandleStates.{StandsDevice, StandsInterface};
-ghost use Rattle.usb_host.specs.CallErrors.{Leaves};
-ghost use Rattle.usb_host.specs.Controls.{request_started};
+ghost use Rattle.usb_device.specs.KeptHandles.{HandlesStand};
+ghost use Rattle.usb_device_host.specs.CallErrors.{Leaves};
+ghost use Rattle.usb_device_host.specs.Controls.{request_started};
 ghost use Rattle.usb_device.specs.Futures.{StandsFuture, fresh_future};
 ghost use Rattle.usb_device.specs.ControlCalls.{controlled, control_answered, Answers};
 
 use crate::device::{Device, Interface};
 use crate::future::TransferFuture;
 use usb_desc::{ControlIn, ControlOut, Direction, Fail, NoMemory};
-use usb_host::Host;
+use usb_device_host::Host;
 use usb_xfer::{TransferData, TransferError};
 
 /// The future of a control transfer that is handed in to a device.
@@ -31,6 +32,7 @@ fn start(
     ensures ok { OnOk result (host.new ≡ request_started host.old device request timeout) }
     ensures err { OnErr result (host.new ≡ host.old) }
     ensures stands { IfOk result (StandsFuture host.new) }
+    ensures handles { HandlesStand host.old host.new }
 {
     let direction = Direction::from_address(request.endpoint);
     let started = host.start_control(device, request, timeout)?;
@@ -49,6 +51,7 @@ fn finish(
     ensures answer { Answers (result_map (λ bytes. bytes.items) result)
         (control_answered host.old device request timeout) }
     ensures host { Leaves result host.new (controlled host.old device request timeout) host.old }
+    ensures handles { HandlesStand host.old host.new }
 {
     let future = match start(host, device, request, timeout) {
         Ok(future) => future,
@@ -63,7 +66,7 @@ fn finish(
 impl Device {
     /// Starts a control transfer on the device's endpoint 0 whose data come from the device (USB
     /// 2.0, section 9.3). Its deadline is `timeout` nanoseconds away, of which those of a day count
-    /// at most (`deadline_after`, Controls.antt of usb_host): the first turn of the kernel's timer
+    /// at most (`deadline_after`, Controls.antt of usb_device_host): the first turn of the kernel's timer
     /// from then on discards it, if it is unfinished. An `Err` is want of memory, and then nothing
     /// has changed.
     pub fn start_control_in(
@@ -79,6 +82,7 @@ impl Device {
         ensures err { OnErr result (host.new ≡ host.old) }
         ensures future_stands { IfOk result (StandsFuture host.new) }
         ensures stands { StandsDevice host.new self.now }
+        ensures handles { HandlesStand host.old host.new }
     {
         let request = TransferData::new_control_in(host.allocator(), setup)?;
         let device = self.device_number(host);
@@ -103,6 +107,7 @@ impl Device {
         ensures err { OnErr result (host.new ≡ host.old) }
         ensures future_stands { IfOk result (StandsFuture host.new) }
         ensures stands { StandsDevice host.new self.now }
+        ensures handles { HandlesStand host.old host.new }
     {
         let request = TransferData::new_control_out(host.allocator(), setup)?;
         let device = self.device_number(host);
@@ -129,6 +134,7 @@ impl Device {
             Leaves result host.new (controlled host.old o.device (request_in setup) timeout)
             host.old) }
         ensures stands { StandsDevice host.new self.now }
+        ensures handles { HandlesStand host.old host.new }
     {
         let Ok(request) = TransferData::new_control_in(host.allocator(), setup) else {
             return Err(Fail::Memory);
@@ -158,6 +164,7 @@ impl Device {
             Leaves result host.new
             (controlled host.old o.device (request_out setup.entry) timeout) host.old) }
         ensures stands { StandsDevice host.new self.now }
+        ensures handles { HandlesStand host.old host.new }
     {
         let Ok(request) = TransferData::new_control_out(host.allocator(), setup) else {
             return Err(Fail::Memory);
@@ -173,7 +180,7 @@ impl Device {
 impl Interface {
     /// Starts a control transfer on the endpoint 0 of the interface's device whose data come from
     /// the device (USB 2.0, section 9.3). Its deadline is `timeout` nanoseconds away, of which those
-    /// of a day count at most (`deadline_after`, Controls.antt of usb_host): the first turn of the
+    /// of a day count at most (`deadline_after`, Controls.antt of usb_device_host): the first turn of the
     /// kernel's timer from then on discards it, if it is unfinished. An `Err` is want of memory, and
     /// then nothing has changed.
     pub fn start_control_in(
@@ -189,6 +196,7 @@ impl Interface {
         ensures err { OnErr result (host.new ≡ host.old) }
         ensures future_stands { IfOk result (StandsFuture host.new) }
         ensures stands { StandsInterface host.new self.now }
+        ensures handles { HandlesStand host.old host.new }
     {
         let request = TransferData::new_control_in(host.allocator(), setup)?;
         let device = self.device_number(host);
@@ -213,6 +221,7 @@ impl Interface {
         ensures err { OnErr result (host.new ≡ host.old) }
         ensures future_stands { IfOk result (StandsFuture host.new) }
         ensures stands { StandsInterface host.new self.now }
+        ensures handles { HandlesStand host.old host.new }
     {
         let request = TransferData::new_control_out(host.allocator(), setup)?;
         let device = self.device_number(host);
@@ -239,6 +248,7 @@ impl Interface {
             Leaves result host.new (controlled host.old c.device (request_in setup) timeout)
             host.old) }
         ensures stands { StandsInterface host.new self.now }
+        ensures handles { HandlesStand host.old host.new }
     {
         let Ok(request) = TransferData::new_control_in(host.allocator(), setup) else {
             return Err(Fail::Memory);
@@ -269,6 +279,7 @@ impl Interface {
             Leaves result host.new
             (controlled host.old c.device (request_out setup.entry) timeout) host.old) }
         ensures stands { StandsInterface host.new self.now }
+        ensures handles { HandlesStand host.old host.new }
     {
         let Ok(request) = TransferData::new_control_out(host.allocator(), setup) else {
             return Err(Fail::Memory);

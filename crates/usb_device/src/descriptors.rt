@@ -3,10 +3,11 @@
 ghost use Rattle.std.specs.Prelude.{string_bytes};
 ghost use Rattle.std.specs.Option.{ForSome};
 ghost use Rattle.std.specs.Int.NonZero.{non_zero_u8_get};
-ghost use Rattle.usb_registry.specs.History.{value_at};
+ghost use Rattle.usb_device_tables.specs.History.{value_at};
 ghost use Rattle.usb_error.specs.Outcomes.{result_map};
 ghost use Rattle.usb_device.specs.HandleStates.{StandsDevice};
-ghost use Rattle.usb_host.specs.CallErrors.{Leaves};
+ghost use Rattle.usb_device.specs.KeptHandles.{HandlesStand};
+ghost use Rattle.usb_device_host.specs.CallErrors.{Leaves};
 ghost use Rattle.usb_device.specs.ControlCalls.{Answers};
 ghost use Rattle.usb_device.specs.DescriptorCalls.{descriptor_request, descriptor_asked, descriptor_answered, text_answered, languages_answered, LeavesEither};
 
@@ -16,8 +17,8 @@ use usb_desc::{
     ControlIn, ControlType, Fail, Languages, Recipient, StringError, decode_string_descriptor,
     validate_string_descriptor,
 };
+use usb_device_host::Host;
 use usb_error::GetDescriptorError;
-use usb_host::Host;
 
 /// The request GET_DESCRIPTOR.
 const GET_DESCRIPTOR: u8 = 0x06;
@@ -50,6 +51,7 @@ impl Device {
             Leaves result host.new (descriptor_asked host.old o.device
             (descriptor_request desc_type desc_index language_id) timeout) host.old) }
         ensures stands { StandsDevice host.new self.now }
+        ensures handles { HandlesStand host.old host.new }
     {
         let setup = ControlIn {
             control_type: ControlType::Standard,
@@ -86,6 +88,7 @@ impl Device {
             Leaves result host.new (descriptor_asked host.old o.device (descriptor_request 3 0 0)
             timeout) host.old) }
         ensures stands { StandsDevice host.new self.now }
+        ensures handles { HandlesStand host.old host.new }
     {
         match self.get_descriptor(host, STRING_TYPE, 0, 0, timeout) {
             Ok(bytes) => {
@@ -123,6 +126,7 @@ impl Device {
             (descriptor_asked host.old o.device
             (descriptor_request 3 (non_zero_u8_get desc_index) language_id) timeout) host.old) }
         ensures stands { StandsDevice host.new self.now }
+        ensures handles { HandlesStand host.old host.new }
     {
         let alloc = host.allocator();
         match self.get_descriptor(host, STRING_TYPE, desc_index.get(), language_id, timeout) {

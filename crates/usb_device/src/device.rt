@@ -4,19 +4,20 @@ ghost use Rattle.std.specs.Prelude.{◌≡◌, IsOk, ◌+◌, ◌-◌, ◌^◌, 
 ghost use Rattle.std.specs.Option.{ForSome, option_copied};
 ghost use Rattle.usb_desc.specs.Configurations as spec;
 ghost use Rattle.usb_desc.specs.Fields.{direction_of_address};
-ghost use Rattle.usb_host.specs.HostState.{HostState};
-ghost use Rattle.usb_device.specs.HandleCalls.{ClaimsInterface, ReleasesInterface};
+ghost use Rattle.usb_device_host.specs.HostState.{HostState};
+ghost use Rattle.usb_device.specs.HandleCalls.{ClaimsInterface, ClaimsAndCloses, OpensAndCloses, ReleasesInterface};
 ghost use Rattle.usb_device.specs.HandleStates.{StandsDevice, StandsInterface};
-ghost use Rattle.usb_endpoint.specs.Handles.{Stands, KeepsOthers};
-ghost use Rattle.usb_host.specs.HostBus.{bus_of};
-ghost use Rattle.usb_host.specs.EndpointOpens.{OpensEndpoint, host_asked};
-ghost use Rattle.usb_host.specs.Handles.{device_cloned, device_closed, handle_cloned, handle_closed};
-ghost use Rattle.usb_host.specs.OnDevices.{detach_tried, host_detached, attach_tried, host_attached, reset_tried, host_reset, set_configuration_tried, host_configured, speed_tried, host_speed_asked, active_of};
-ghost use Rattle.usb_host.specs.OnInterfaces.{alt_setting_tried, alt_setting_set, current_setting, all_settings};
-ghost use Rattle.usb_host.specs.Opens.{host_opened, open_key};
-ghost use Rattle.usb_host.specs.CallErrors.{Leaves};
+ghost use Rattle.usb_device.specs.KeptHandles.{HandlesStand, StandBesideDevice, StandBesideInterface};
+ghost use Rattle.usb_device_endpoint.specs.Handles.{Stands, KeepsOthers};
+ghost use Rattle.usb_device_host.specs.HostBus.{bus_of};
+ghost use Rattle.usb_device_host.specs.EndpointOpens.{OpensEndpoint, host_asked};
+ghost use Rattle.usb_device_host.specs.Handles.{device_cloned, device_closed, handle_cloned, handle_closed};
+ghost use Rattle.usb_device_host.specs.OnDevices.{detach_tried, host_detached, attach_tried, host_attached, reset_tried, host_reset, set_configuration_tried, host_configured, speed_tried, host_speed_asked, active_of};
+ghost use Rattle.usb_device_host.specs.OnInterfaces.{alt_setting_tried, alt_setting_set, current_setting, all_settings};
+ghost use Rattle.usb_device_host.specs.Opens.{host_opened, open_key};
+ghost use Rattle.usb_device_host.specs.CallErrors.{Leaves};
 ghost use Rattle.usb_error.specs.Outcomes.{Tried};
-ghost use Rattle.usb_registry.specs.History.{value_at};
+ghost use Rattle.usb_device_tables.specs.History.{value_at};
 
 use std::alloc::Global;
 use std::fmt;
@@ -24,11 +25,11 @@ use std::marker::Model;
 use usb_desc::{
     ConfigurationDescriptor, Configurations, DeviceDescriptor, Fail, InterfaceDescriptor, NoMemory,
 };
-use usb_endpoint::Endpoint;
+use usb_device_endpoint::Endpoint;
+use usb_device_host::{AltSettingsOf, Host};
+use usb_device_tables::Key;
+use usb_enum_sysfs::Speed;
 use usb_error::{ActiveConfigurationError, Error};
-use usb_host::{AltSettingsOf, Host};
-use usb_registry::Key;
-use usb_sysfs::Speed;
 use usb_xfer::{KnownDirection, KnownType};
 
 /// A handle of a device that is open at a host. `close` spends it.
@@ -87,6 +88,7 @@ impl Device {
         ensures tried { Tried result (open_key host.old bus address) }
         ensures host { Leaves result host.new (host_opened host.old bus address) host.old }
         ensures stands { IfOk result (StandsDevice host.new) }
+        ensures handles { HandlesStand host.old host.new }
     {
         match host.open_device(alloc, bus, address) {
             Ok(key) => Ok(Device { key }),
@@ -104,6 +106,8 @@ impl Device {
         ensures err { OnErr result (host.new ≡ host.old) }
         ensures full { OnErr result (ForSome (value_at host.old.devices self.now) (λ o.
             o.handles ≡ 2 ^ 64 - 1)) }
+        ensures stands { StandsDevice host.new self.now }
+        ensures handles { HandlesStand host.old host.new }
     {
         host.clone_device(self.key)?;
         Ok(Device { key: self.key })
@@ -115,6 +119,7 @@ impl Device {
     pub fn close(self, host: &mut Host)
         requires stands { StandsDevice host.old self }
         ensures closed { host.new ≡ device_closed host.old self }
+        ensures handles { StandBesideDevice host.old host.new self }
     {
         let Device { key } = self;
         host.close_device(key);
@@ -162,6 +167,7 @@ impl Device {
         requires stands { StandsDevice host.old self.now }
         ensures host { host.new ≡ host_asked host.old self.now }
         ensures stands { StandsDevice host.new self.now }
+        ensures handles { HandlesStand host.old host.new }
     {
         host.ask_configuration(self.key);
     }
@@ -192,6 +198,8 @@ impl Device {
         ensures speed { ForSome (value_at host.old.devices self.now) (λ o.
             result ≡ speed_tried host.old o) }
         ensures host { host.new ≡ host_speed_asked host.old self.now }
+        ensures stands { StandsDevice host.new self.now }
+        ensures handles { HandlesStand host.old host.new }
     {
         host.speed(self.key)
     }
@@ -209,6 +217,8 @@ impl Device {
         ensures result { ForSome (value_at host.old.devices self.now) (λ o.
             result ≡ set_configuration_tried host.old o value) }
         ensures host { host.new ≡ host_configured host.old self.now value }
+        ensures stands { StandsDevice host.new self.now }
+        ensures handles { HandlesStand host.old host.new }
     {
         host.set_configuration(self.key, value)
     }
@@ -227,6 +237,8 @@ impl Device {
         ensures result { ForSome (value_at host.old.devices self.now) (λ o.
             result ≡ reset_tried host.old o) }
         ensures host { host.new ≡ host_reset host.old self.now }
+        ensures stands { StandsDevice host.new self.now }
+        ensures handles { HandlesStand host.old host.new }
     {
         host.reset(self.key)
     }
@@ -242,6 +254,8 @@ impl Device {
         ensures result { ForSome (value_at host.old.devices self.now) (λ o.
             result ≡ detach_tried host.old o interface) }
         ensures host { host.new ≡ host_detached host.old self.now interface }
+        ensures stands { StandsDevice host.new self.now }
+        ensures handles { HandlesStand host.old host.new }
     {
         host.detach(self.key, interface)
     }
@@ -257,6 +271,8 @@ impl Device {
         ensures result { ForSome (value_at host.old.devices self.now) (λ o.
             result ≡ attach_tried host.old o interface) }
         ensures host { host.new ≡ host_attached host.old self.now interface }
+        ensures stands { StandsDevice host.new self.now }
+        ensures handles { HandlesStand host.old host.new }
     {
         host.attach(self.key, interface)
     }
@@ -268,6 +284,7 @@ impl Device {
         ensures claims { ClaimsInterface host.old host.new self.now interface false result }
         ensures stands { IfOk result (StandsInterface host.new) }
         ensures device { StandsDevice host.new self.now }
+        ensures handles { HandlesStand host.old host.new }
     {
         match host.claim(self.key, interface, false) {
             Ok(key) => Ok(Interface {
@@ -291,6 +308,7 @@ impl Device {
         ensures claims { ClaimsInterface host.old host.new self.now interface true result }
         ensures stands { IfOk result (StandsInterface host.new) }
         ensures device { StandsDevice host.new self.now }
+        ensures handles { HandlesStand host.old host.new }
     {
         match host.claim(self.key, interface, true) {
             Ok(key) => Ok(Interface {
@@ -299,6 +317,45 @@ impl Device {
             }),
             Err(error) => Err(error),
         }
+    }
+
+    /// Claims an interface, as `claim_interface`, and closes the device's handle, whether the
+    /// interface is claimed or not. The interface holds its open device.
+    ///
+    /// # Errors
+    ///
+    /// Those of `claim_interface`.
+    pub fn into_interface(self, host: &mut Host, interface: u8) -> Result<Interface, Fail<Error>>
+        requires stands { StandsDevice host.old self }
+        ensures claims { ClaimsAndCloses host.old host.new self interface false result }
+        ensures stands { IfOk result (StandsInterface host.new) }
+        ensures handles { StandBesideDevice host.old host.new self }
+    {
+        let claimed = self.claim_interface(host, interface);
+        self.close(host);
+        claimed
+    }
+
+    /// Claims an interface and detaches its kernel driver, as `detach_and_claim_interface`, and
+    /// closes the device's handle, whether the interface is claimed or not. The interface holds its
+    /// open device.
+    ///
+    /// # Errors
+    ///
+    /// Those of `detach_and_claim_interface`.
+    pub fn detach_and_into_interface(
+        self,
+        host: &mut Host,
+        interface: u8,
+    ) -> Result<Interface, Fail<Error>>
+        requires stands { StandsDevice host.old self }
+        ensures claims { ClaimsAndCloses host.old host.new self interface true result }
+        ensures stands { IfOk result (StandsInterface host.new) }
+        ensures handles { StandBesideDevice host.old host.new self }
+    {
+        let claimed = self.detach_and_claim_interface(host, interface);
+        self.close(host);
+        claimed
     }
 }
 
@@ -328,6 +385,8 @@ impl Interface {
         ensures err { OnErr result (host.new ≡ host.old) }
         ensures full { OnErr result (ForSome (value_at host.old.interfaces self.now.key) (λ c.
             c.handles ≡ 2 ^ 64 - 1)) }
+        ensures stands { StandsInterface host.new self.now }
+        ensures handles { HandlesStand host.old host.new }
     {
         host.clone_handle(self.key)?;
         Ok(Interface {
@@ -341,6 +400,7 @@ impl Interface {
     pub fn close(self, host: &mut Host)
         requires stands { StandsInterface host.old self }
         ensures closed { host.new ≡ handle_closed host.old self.key }
+        ensures handles { StandBesideInterface host.old host.new self.key }
     {
         let Interface { key, number: _ } = self;
         host.close_handle(key);
@@ -351,6 +411,7 @@ impl Interface {
     pub fn release(self, host: &mut Host) -> Result<(), (Interface, Error)>
         requires stands { StandsInterface host.old self }
         ensures releases { ReleasesInterface host.old host.new self result }
+        ensures handles { StandBesideInterface host.old host.new self.key }
     {
         if host.is_shared(self.key) {
             return Err((self, Error::interface_in_use()));
@@ -371,6 +432,8 @@ impl Interface {
         ensures result { ForSome (value_at host.old.interfaces self.now.key) (λ c.
             result ≡ alt_setting_tried host.old self.now.key c setting) }
         ensures host { host.new ≡ alt_setting_set host.old self.now.key setting }
+        ensures stands { StandsInterface host.new self.now }
+        ensures handles { HandlesStand host.old host.new }
     {
         host.set_alt_setting(self.key, setting)
     }
@@ -391,6 +454,7 @@ impl Interface {
         ensures host { ForSome (value_at host.old.interfaces self.now.key) (λ c.
             host.new ≡ host_asked host.old c.opened) }
         ensures stands { StandsInterface host.new self.now }
+        ensures handles { HandlesStand host.old host.new }
     {
         host.ask_configuration_of(self.key);
     }
@@ -434,6 +498,7 @@ impl Interface {
         ensures stands { IfOk result (Stands (bus_of host.new)) }
         ensures others { IfOk result (λ e. KeepsOthers (bus_of host.old) (bus_of host.new) e.key) }
         ensures interface { StandsInterface host.new self.now }
+        ensures handles { HandlesStand host.old host.new }
     {
         match host.open_endpoint(self.key, address, T::TYPE, D::DIR) {
             Ok(route) => {
@@ -448,5 +513,27 @@ impl Interface {
             }
             Err(error) => Err(error),
         }
+    }
+
+    /// Opens an endpoint, as `endpoint`, and closes the interface's handle, whether the endpoint is
+    /// opened or not. The endpoint owns the claim: where it is the last owner the claim ends with it.
+    ///
+    /// # Errors
+    ///
+    /// Those of `endpoint`.
+    pub fn into_endpoint<T: KnownType, D: KnownDirection>(
+        self,
+        host: &mut Host,
+        address: u8,
+    ) -> Result<Endpoint<T, D>, Fail<Error>>
+        requires stands { StandsInterface host.old self }
+        ensures opens { OpensAndCloses host.old host.new self.key address T.TYPE D.DIR result }
+        ensures direction { IfOk result (λ e. direction_of_address e.address ≡ D.DIR) }
+        ensures stands { IfOk result (Stands (bus_of host.new)) }
+        ensures handles { StandBesideInterface host.old host.new self.key }
+    {
+        let opened = self.endpoint::<T, D>(host, address);
+        self.close(host);
+        opened
     }
 }

@@ -1,19 +1,20 @@
 //! Control transfers on their way.
 
 ghost use Rattle.std.specs.Prelude.{◌≡◌, true, Some, None, Ok, IsSome};
-ghost use Rattle.usb_bus.specs.Completions.{transfer_completion};
+ghost use Rattle.usb_kernel.specs.TransferCompletions.{transfer_completion};
 ghost use Rattle.usb_error.specs.Outcomes.{result_map};
-ghost use Rattle.usb_endpoint.specs.Polls.{IfReady, IfPending};
-ghost use Rattle.usb_host.specs.HostBus.{owner_at, key_at};
-ghost use Rattle.usb_host.specs.HostCalls.{host_left};
-ghost use Rattle.usb_host.specs.TicketEnds.{host_taken};
+ghost use Rattle.usb_device_endpoint.specs.Polls.{IfReady, IfPending};
+ghost use Rattle.usb_device_host.specs.HostBus.{owner_at, key_at};
+ghost use Rattle.usb_device_host.specs.HostCalls.{host_left};
+ghost use Rattle.usb_device_host.specs.TicketEnds.{host_taken};
 ghost use Rattle.usb_device.specs.Futures.{FutureState, StandsFuture, spent_future, future_taken, future_closed, future_awaited, future_answer, control_answer};
+ghost use Rattle.usb_device.specs.KeptHandles.{StandBesideKey};
 
 use futures::task::Poll;
 use std::marker::Model;
 use usb_desc::Direction;
-use usb_host::{Host, StartedControl};
-use usb_ledger::TicketEnd;
+use usb_device_host::{Host, StartedControl};
+use usb_device_ledger::TicketEnd;
 use usb_xfer::{Completion, MaybeFuture, Pending, TransferData, TransferError};
 
 /// A control transfer on its way (USB 2.0, section 9.3). It has its answer once: by `wait`, or by
@@ -94,6 +95,7 @@ impl TransferFuture {
         ensures same_host { IfPending result (host.new ≡ host.old) }
         ensures same { IfPending result (self.new ≡ self.old) }
         ensures stands { StandsFuture host.new self.new }
+        ensures handles { StandBesideKey host.old host.new self.old.key }
     {
         match host.poll_control(self.key, &mut self.pending) {
             Some(completion) => Poll::Ready(answer_of(self.direction, completion)),
@@ -114,6 +116,7 @@ impl TransferFuture {
         ensures host { host.new ≡ future_taken (future_awaited host.old self) self }
         ensures answer { future_answer (future_awaited host.old self) self
             ≡ Some (result_map (λ bytes. bytes.items) result) }
+        ensures handles { StandBesideKey host.old host.new self.key }
     {
         let TransferFuture {
             key,
@@ -140,6 +143,7 @@ impl TransferFuture {
     pub fn close(self, host: &mut Host)
         requires stands { StandsFuture host.old self }
         ensures host { host.new ≡ future_closed host.old self }
+        ensures handles { StandBesideKey host.old host.new self.key }
     {
         let TransferFuture {
             key,
@@ -158,6 +162,7 @@ impl<'a> MaybeFuture for OnHost<'a> {
     ghost use Rattle.std.specs.Prelude.{◌≡◌, Some, IsSome};
     ghost use Rattle.usb_error.specs.Outcomes.{result_map};
     ghost use Rattle.usb_device.specs.Futures.{StandsFuture, future_taken, future_awaited, future_answer};
+    ghost use Rattle.usb_device.specs.KeptHandles.{StandBesideKey};
 
     type Output = Result<Vec<u8>, TransferError>;
 
@@ -174,6 +179,7 @@ impl<'a> MaybeFuture for OnHost<'a> {
         ensures host { self.exit.1.0.now
             ≡ future_taken (future_awaited self.entry.host.now self.entry.future)
             self.entry.future }
+        ensures handles { StandBesideKey self.entry.host.now self.exit.1.0.now self.entry.future.key }
     {
         let OnHost { future, host } = self;
         future.wait(host)

@@ -10,11 +10,11 @@ use Rattle.std.proofs.lemmas.Bool.Decides.{nat_tests}
 use Rattle.std.proofs.lemmas.List.Elements.{All-nil, All-cons}
 use Rattle.std.proofs.lemmas.Option.{same_Some}
 use Rattle.usb_error.specs.Outcomes.{◌>>=◌}
-use Rattle.usb_sysfs.specs.Attributes.{attribute, value_of, value_or, string}
-use Rattle.usb_sysfs.specs.Numbers.{number, is_numeral, hex_byte, without_prefix}
-use Rattle.usb_sysfs.specs.Paths.{path_in}
-use Rattle.usb_sysfs.specs.Tree.{Tree, text_at}
-use Rattle.usb_sysfs.specs.declared.sysfs.SysfsError.{SysfsError}
+use Rattle.usb_enum_sysfs.specs.Attributes.{attribute, value_of, value_or, string}
+use Rattle.usb_enum_sysfs.specs.Numbers.{number, is_numeral, hex_byte, without_prefix}
+use Rattle.usb_enum_sysfs.specs.Paths.{path_in}
+use Rattle.usb_enum_sysfs.specs.Tree.{Tree, text_at}
+use Rattle.usb_enum_sysfs.specs.declared.sysfs.SysfsError.{SysfsError}
 use Rattle.usb_enum.specs.Devices.{InterfaceFacts}
 use Rattle.usb_enum.specs.Probing.{interface, interface_in}
 

@@ -2,10 +2,10 @@
 use Rattle.std.proofs.Common.{◌≡◌, ℕ, List, Result, Ok, Err, refl}
 use Rattle.std.specs.Prelude.{codes}
 use Rattle.usb_error.specs.Outcomes.{◌>>=◌}
-use Rattle.usb_sysfs.specs.Attributes.{attribute}
-use Rattle.usb_sysfs.specs.Numbers.{decimal_byte, hex_byte, hex_word, version_word}
-use Rattle.usb_sysfs.specs.Tree.{Tree}
-use Rattle.usb_sysfs.specs.declared.sysfs.SysfsError.{SysfsError}
+use Rattle.usb_enum_sysfs.specs.Attributes.{attribute}
+use Rattle.usb_enum_sysfs.specs.Numbers.{decimal_byte, hex_byte, hex_word, version_word}
+use Rattle.usb_enum_sysfs.specs.Tree.{Tree}
+use Rattle.usb_enum_sysfs.specs.declared.sysfs.SysfsError.{SysfsError}
 use Rattle.usb_enum.specs.NumberParts.{place_numbers, product_numbers, class_numbers}
 use Rattle.usb_enum.specs.Probing.{numbers}
 use Rattle.usb_enum.specs.declared.numbers.ClassNumbers.{ClassNumbers}

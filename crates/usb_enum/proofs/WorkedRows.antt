@@ -4,17 +4,17 @@ use Rattle.std.specs.Prelude.{codes}
 use Rattle.std.specs.Str.{is_utf8, chars, trim_start, trim_end}
 use Rattle.std.specs.Path.{path_file_name, split_last_component, trim_trailing, rsplit_once}
 use lib.Utf8.{encode}
-use Rattle.usb_sysfs.specs.Numbers.{number}
+use Rattle.usb_enum_sysfs.specs.Numbers.{number}
 use Rattle.usb_enum.specs.Controllers.{controller_of}
-use Rattle.usb_sysfs.specs.Tree.{Tree, bare}
+use Rattle.usb_enum_sysfs.specs.Tree.{Tree, bare}
 use Rattle.usb_enum.specs.Udev.{received, notice_in}
 use Rattle.usb_enum.specs.Devices.{DeviceFacts}
 use Rattle.usb_enum.specs.Probing.{probe, by_number}
-use Rattle.usb_sysfs.specs.Speeds.{speed_of}
-use Rattle.usb_sysfs.specs.declared.speed.Speed.TheVariants.{High}
-use Rattle.usb_sysfs.specs.declared.tree.Attribute.{Attribute}
+use Rattle.usb_enum_sysfs.specs.Speeds.{speed_of}
+use Rattle.usb_enum_sysfs.specs.declared.speed.Speed.TheVariants.{High}
+use Rattle.usb_enum_sysfs.specs.declared.tree.Attribute.{Attribute}
 use Rattle.usb_enum.specs.declared.controller.UsbControllerType.TheVariants.{XHCI, EHCI}
-use Rattle.usb_sysfs.specs.declared.tree.Attribute.TheVariants.{Content}
+use Rattle.usb_enum_sysfs.specs.declared.tree.Attribute.TheVariants.{Content}
 
 controllers : (controller_of (codes "xhci_hcd") ≡ Some XHCI) × (controller_of (codes "ehci-pci") ≡ Some EHCI) × (controller_of (codes "hci") ≡ None) × (controller_of (codes "hci_xhci") ≡ None)
 controllers = (refl, refl, refl, refl)

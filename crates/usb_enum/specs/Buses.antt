@@ -10,8 +10,8 @@ use Rattle.usb_enum.specs.Controllers.{controller_of}
 use Rattle.usb_enum.specs.Devices.{DeviceFacts}
 use Rattle.usb_enum.specs.Listing.{root_hubs}
 use Rattle.usb_error.specs.Outcomes.{◌>>=◌}
-use Rattle.usb_sysfs.specs.Paths.{path_in}
-use Rattle.usb_sysfs.specs.Tree.{Tree}
+use Rattle.usb_enum_sysfs.specs.Paths.{path_in}
+use Rattle.usb_enum_sysfs.specs.Tree.{Tree}
 use Rattle.usb_enum.specs.declared.controller.UsbControllerType.{UsbControllerType}
 
 pub record BusFacts : Type 0 where

@@ -2,7 +2,7 @@
 use Rattle.std.specs.Prelude.{ℕ, ◌+◌, ◌/◌, ◌%◌, List, [], ◌∷◌, Option}
 use Rattle.usb_enum.specs.declared.device.DeviceId.{DeviceId}
 use Rattle.usb_enum.specs.declared.numbers.Numbers.{Numbers}
-use Rattle.usb_sysfs.specs.declared.speed.Speed.{Speed}
+use Rattle.usb_enum_sysfs.specs.declared.speed.Speed.{Speed}
 
 pub record InterfaceFacts : Type 0 where
   pub number : ℕ

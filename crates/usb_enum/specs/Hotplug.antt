@@ -5,7 +5,7 @@ use Rattle.futures.specs.declared.task.Poll.TheVariants.{Ready, Pending}
 use Rattle.std.specs.Option.{option_and_then, option_map}
 use Rattle.std.specs.Result.{result_ok}
 use Rattle.usb_enum.specs.Probing.{probe}
-use Rattle.usb_sysfs.specs.Tree.{Tree}
+use Rattle.usb_enum_sysfs.specs.Tree.{Tree}
 use Rattle.usb_enum.specs.Udev.{Notice, notice_in}
 use Rattle.usb_enum.specs.declared.hotplug.HotplugEvent.{HotplugEvent}
 use Rattle.usb_enum.specs.declared.hotplug.HotplugEvent.TheVariants.{Connected, Disconnected}

@@ -8,7 +8,7 @@ use Rattle.usb_enum.specs.Devices.{DeviceFacts}
 use Rattle.usb_error.specs.Outcomes.{◌>>=◌}
 use Rattle.usb_enum.specs.Probing.{probe}
 use Rattle.usb_enum.specs.Selectors.{SelectorFacts, matches_any}
-use Rattle.usb_sysfs.specs.Tree.{Tree}
+use Rattle.usb_enum_sysfs.specs.Tree.{Tree}
 use Rattle.usb_enum.specs.declared.enumeration.Kind.{Kind}
 use Rattle.usb_enum.specs.declared.enumeration.Kind.TheVariants.{Devices, RootHubs}
 

@@ -1,10 +1,10 @@
 -- The parts of the numbers of a device, in the order in which they are read.
 use Rattle.std.specs.Prelude.{ℕ, List, codes, Result, Ok}
 use Rattle.usb_error.specs.Outcomes.{◌>>=◌}
-use Rattle.usb_sysfs.specs.Attributes.{attribute}
-use Rattle.usb_sysfs.specs.Numbers.{decimal_byte, hex_byte, hex_word, version_word}
-use Rattle.usb_sysfs.specs.Tree.{Tree}
-use Rattle.usb_sysfs.specs.declared.sysfs.SysfsError.{SysfsError}
+use Rattle.usb_enum_sysfs.specs.Attributes.{attribute}
+use Rattle.usb_enum_sysfs.specs.Numbers.{decimal_byte, hex_byte, hex_word, version_word}
+use Rattle.usb_enum_sysfs.specs.Tree.{Tree}
+use Rattle.usb_enum_sysfs.specs.declared.sysfs.SysfsError.{SysfsError}
 use Rattle.usb_enum.specs.declared.numbers.ClassNumbers.{ClassNumbers}
 use Rattle.usb_enum.specs.declared.numbers.PlaceNumbers.{PlaceNumbers}
 use Rattle.usb_enum.specs.declared.numbers.ProductNumbers.{ProductNumbers}

@@ -2,15 +2,15 @@
 use Rattle.std.specs.Prelude.{ℕ, ◌==◌, List, filter, codes, Option, None, Result, Ok, if◌then◌else◌}
 use Rattle.std.specs.Result.{result_ok}
 use Rattle.std.specs.List.{filter_map, flat_map, list_any, range_with_len}
-use Rattle.usb_sysfs.specs.Attributes.{attribute, string}
+use Rattle.usb_enum_sysfs.specs.Attributes.{attribute, string}
 use Rattle.usb_enum.specs.Devices.{DeviceFacts, InterfaceFacts, bus_id_of}
-use Rattle.usb_sysfs.specs.Numbers.{decimal_byte, hex_byte, hex_word, version_word}
+use Rattle.usb_enum_sysfs.specs.Numbers.{decimal_byte, hex_byte, hex_word, version_word}
 use Rattle.usb_error.specs.Outcomes.{◌>>=◌}
-use Rattle.usb_sysfs.specs.Paths.{path_in}
-use Rattle.usb_sysfs.specs.Ports.{ports}
-use Rattle.usb_sysfs.specs.Speeds.{speed}
-use Rattle.usb_sysfs.specs.Tree.{Tree, children_of}
-use Rattle.usb_sysfs.specs.declared.sysfs.SysfsError.{SysfsError}
+use Rattle.usb_enum_sysfs.specs.Paths.{path_in}
+use Rattle.usb_enum_sysfs.specs.Ports.{ports}
+use Rattle.usb_enum_sysfs.specs.Speeds.{speed}
+use Rattle.usb_enum_sysfs.specs.Tree.{Tree, children_of}
+use Rattle.usb_enum_sysfs.specs.declared.sysfs.SysfsError.{SysfsError}
 use Rattle.usb_enum.specs.declared.numbers.Numbers.{Numbers}
 
 -- the numbers of a device: the first attribute that fails is the error

@@ -3,7 +3,7 @@ use Rattle.std.specs.Prelude.{ℕ, ◌+◌, ◌*◌, ◌==◌, ◌&&◌, ◌||�
 use Rattle.std.specs.List.{filter_map, list_any, slice_split, starts_with, before_first, after_first}
 use Rattle.std.specs.Option.{option_and_then}
 use Rattle.std.specs.Str.{bytes_eq, is_utf8}
-use Rattle.usb_sysfs.specs.Numbers.{decimal_byte}
+use Rattle.usb_enum_sysfs.specs.Numbers.{decimal_byte}
 
 -- `libudev`, a zero, and the number FEEDCAFE, high bytes first
 abbrev pub magic : List ℕ

@@ -16,8 +16,8 @@ use std::alloc::Global;
 use std::marker::Model;
 use std::path::Path;
 use usb_desc::{Fail, NoMemory};
+use usb_enum_sysfs::{AttrTree, Text, path_in};
 use usb_error::Error;
-use usb_sysfs::{AttrTree, Text, path_in};
 
 /// A bus: its root hub and its controller.
 #[derive(Debug, Drop)]

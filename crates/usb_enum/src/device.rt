@@ -10,8 +10,8 @@ use crate::numbers::Numbers;
 use std::alloc::Global;
 use std::marker::Model;
 use usb_desc::{Fail, NoMemory};
+use usb_enum_sysfs::{Speed, SysfsPath, Text};
 use usb_error::Error;
-use usb_sysfs::{Speed, SysfsPath, Text};
 
 /// Where a device is, by its bus and its address.
 #[derive(Clone, Copy, PartialEq, Eq, Hash, Debug)]

@@ -11,8 +11,8 @@ use crate::probe::probe_device;
 use crate::selector::DeviceSelector;
 use std::alloc::Global;
 use usb_desc::{Fail, NoMemory};
+use usb_enum_sysfs::{AttrTree, SysfsPath, Text};
 use usb_error::Error;
-use usb_sysfs::{AttrTree, SysfsPath, Text};
 
 /// What is listed.
 #[derive(Clone, Copy, PartialEq, Eq, Debug)]

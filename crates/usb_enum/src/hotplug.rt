@@ -11,8 +11,8 @@ use std::alloc::Global;
 use std::collections::VecDeque;
 use std::marker::Model;
 use usb_desc::{Fail, NoMemory};
+use usb_enum_sysfs::{AttrTree, SysfsPath};
 use usb_kernel::Bytes;
-use usb_sysfs::{AttrTree, SysfsPath};
 
 /// A device that came or went.
 #[derive(Debug, Drop)]

@@ -7,8 +7,8 @@ ghost use Rattle.usb_desc.specs.declared.error.Fail.TheVariants.{Memory};
 use std::alloc::AllocError;
 use std::marker::Model;
 use usb_desc::{Fail, NoMemory};
+use usb_enum_sysfs::Text;
 use usb_error::Error;
-use usb_sysfs::Text;
 
 /// An interface of a device, as its driver's folder shows it.
 #[derive(Debug, Drop)]

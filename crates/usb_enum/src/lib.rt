@@ -25,6 +25,6 @@ pub use numbers::Numbers;
 pub use probe::probe_device;
 pub use selector::DeviceSelector;
 pub use string_descriptor::StringDescriptor;
-pub use usb_sysfs::{
+pub use usb_enum_sysfs::{
     AttrTree, Attribute, FromHexStr, Speed, SysfsError, SysfsErrorKind, SysfsPath, Text,
 };

@@ -6,7 +6,7 @@ ghost use Rattle.usb_enum.specs.Probing.{numbers};
 
 use std::alloc::Global;
 use usb_desc::Fail;
-use usb_sysfs::{AttrTree, SysfsError, read_decimal, read_hex, read_version};
+use usb_enum_sysfs::{AttrTree, SysfsError, read_decimal, read_hex, read_version};
 
 /// Where a device is, and what its descriptor says it is: USB 2.0, section 9.6.1.
 #[derive(Clone, Copy, Debug)]

@@ -3,10 +3,10 @@
 ghost use Rattle.std.specs.Prelude.{◌≡◌, ◌==◌, IfOk, codes};
 ghost use Rattle.std.specs.List.{list_any, filter_map};
 ghost use Rattle.usb_error.specs.Outcomes.{Tried};
-ghost use Rattle.usb_sysfs.specs.Attributes.{string};
-ghost use Rattle.usb_sysfs.specs.Ports.{ports};
-ghost use Rattle.usb_sysfs.specs.Speeds.{speed};
-ghost use Rattle.usb_sysfs.specs.Tree.{children_of};
+ghost use Rattle.usb_enum_sysfs.specs.Attributes.{string};
+ghost use Rattle.usb_enum_sysfs.specs.Ports.{ports};
+ghost use Rattle.usb_enum_sysfs.specs.Speeds.{speed};
+ghost use Rattle.usb_enum_sysfs.specs.Tree.{children_of};
 ghost use Rattle.usb_enum.specs.Devices.{bus_id_of};
 ghost use Rattle.usb_enum.specs.Probing.{probe, device_of, interface, interface_in, interfaces};
 
@@ -15,7 +15,7 @@ use crate::interface::InterfaceInfo;
 use crate::numbers::{Numbers, read_numbers};
 use std::alloc::Global;
 use usb_desc::{Fail, NoMemory};
-use usb_sysfs::{
+use usb_enum_sysfs::{
     AttrTree, Speed, SysfsError, SysfsPath, Text, path_in, read_hex, read_ports, read_speed,
     read_string,
 };

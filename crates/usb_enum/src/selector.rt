@@ -9,7 +9,7 @@ use crate::device::DeviceInfo;
 use crate::interface::{InterfaceInfo, copy_of};
 use std::marker::Model;
 use usb_desc::NoMemory;
-use usb_sysfs::Text;
+use usb_enum_sysfs::Text;
 
 /// What a device is asked to be. What is not given is not asked.
 #[derive(Debug, Drop)]

@@ -6,7 +6,7 @@ ghost use Rattle.std.specs.Option.{option_map, option_to_list};
 ghost use Rattle.usb_enum.specs.Announcements.{notice_of_announcement};
 ghost use Rattle.usb_enum.specs.Udev.{received, magic, number_at, section, property_bytes, property, properties, last_value, last_or, is_foreign, notice_of, notice_in};
 
-use usb_sysfs::decimal_byte;
+use usb_enum_sysfs::decimal_byte;
 
 /// The first bytes of each packet: a name, and a number with its high bytes first.
 const MAGIC: [u8; 12] = *b"libudev\0\xfe\xed\xca\xfe";

@@ -6,7 +6,7 @@ use crate::kind::ErrorKind;
 use crate::message::Message;
 use std::fmt;
 use std::marker::Model;
-use usb_xfer::errno::{ACCES, BUSY, INVAL, NODATA, NODEV, NOENT, PERM};
+use usb_desc::errno::{ACCES, BUSY, INVAL, NODATA, NODEV, NOENT, PERM};
 
 /// Why an operation failed. Its text is the message, and then ` (errno N)` where the system gave a
 /// code.

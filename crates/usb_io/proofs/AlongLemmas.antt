@@ -2,12 +2,12 @@
 use Rattle.std.proofs.Common.{◌∙◌, ◌≡◌, ℕ, max, ◌+◌, ◌<◌, ◌≤◌, arith, [], ◌∷◌, ◌++◌, length, length-append, Result, Ok, Err, OnOk, OnErr, Bool, refl, ap, subst}
 use Rattle.usb_xfer.specs.BufferState.{BufferState}
 use Rattle.usb_kernel.proofs.Extends.{extends-same, extends-trans}
-use Rattle.usb_bus.specs.declared.route.Route.{Route}
-use Rattle.usb_bus.specs.BusState.{BusState}
-use Rattle.usb_endpoint.specs.EndpointState.{EndpointState}
-use Rattle.usb_endpoint.specs.Handles.{Stands, KeepsOthers}
-use Rattle.usb_endpoint.specs.Submits.{Enters}
-use Rattle.usb_endpoint.proofs.HandleLemmas.{others_in_turn}
+use Rattle.usb_device_endpoint.specs.declared.route.Route.{Route}
+use Rattle.usb_device_endpoint.specs.BusState.{BusState}
+use Rattle.usb_device_endpoint.specs.EndpointState.{EndpointState}
+use Rattle.usb_device_endpoint.specs.Handles.{Stands, KeepsOthers}
+use Rattle.usb_device_endpoint.specs.Submits.{Enters}
+use Rattle.usb_device_endpoint.proofs.HandleLemmas.{others_in_turn}
 use Rattle.usb_io.specs.Along.{KeepsAlong, WentOn, WritesAlong}
 
 -- where nothing was done all is kept

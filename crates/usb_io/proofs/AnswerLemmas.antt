@@ -3,7 +3,7 @@ use Rattle.std.proofs.Common.{◌≡◌, ◌≤◌, ◌∙◌, ℕ, arith, Bool,
 use Rattle.std.proofs.Math.Seq.{take-length}
 use Rattle.std.proofs.lemmas.List.{take-append-le, length-take-le}
 use Rattle.std.proofs.lemmas.Slice.{drop-append-drop}
-use Rattle.usb_bus.specs.BusCalls.{BusCalls}
+use Rattle.usb_device_endpoint.specs.BusCalls.{BusCalls}
 use Rattle.usb_io.specs.Readers.{with_read}
 use Rattle.usb_io.specs.Reads.{Reading, reading, turned}
 use Rattle.usb_io.specs.Answered.{answered}

@@ -12,12 +12,12 @@ use Rattle.usb_kernel.specs.Submissions.{body_of}
 use Rattle.usb_kernel.specs.Submits.{submit_or_refuse}
 use Rattle.usb_kernel.specs.WholePackets.{is_whole}
 use Rattle.usb_kernel.proofs.Extends.{ticket-stays, extends-event}
-use Rattle.usb_bus.specs.BusState.{BusState}
-use Rattle.usb_bus.specs.Routes.{submission_of}
-use Rattle.usb_endpoint.specs.EndpointState.{EndpointState, route_of}
-use Rattle.usb_endpoint.specs.Submits.{Enters}
+use Rattle.usb_device_endpoint.specs.BusState.{BusState}
+use Rattle.usb_device_endpoint.specs.Routes.{submission_of}
+use Rattle.usb_device_endpoint.specs.EndpointState.{EndpointState, route_of}
+use Rattle.usb_device_endpoint.specs.Submits.{Enters}
 use Rattle.usb_io.specs.Readers.{no_bytes}
-use Rattle.usb_bus.specs.BusCalls.{BusCalls}
+use Rattle.usb_device_endpoint.specs.BusCalls.{BusCalls}
 use Rattle.usb_io.specs.Writers.{WriterState, Writing, writing, out_buffer, empty_buffer, send, sent, sent_end, kept_buffer, with_taken, KeepsWriter}
 use Rattle.usb_io.specs.WriteAnswers.{accepted, accepted_count, accepts}
 use Rattle.usb_io.specs.Writes.{Call, Accept, Flush, Finish, Written, written, flushes, ending, accepts as accepts_of}

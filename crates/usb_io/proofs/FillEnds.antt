@@ -4,9 +4,9 @@ use Rattle.std.specs.Prelude.{is_none, not, ◌&&◌}
 use Rattle.std.proofs.lemmas.Bool.{false≢true}
 use Rattle.usb_xfer.specs.declared.transfer.Completion.{Completion}
 use Rattle.usb_xfer.specs.declared.error.TransferError.{TransferError}
-use Rattle.usb_bus.specs.BusCalls.{BusCalls}
-use Rattle.usb_endpoint.specs.EndpointState.{EndpointState}
-use Rattle.usb_endpoint.specs.Waits.{wait_next}
+use Rattle.usb_device_endpoint.specs.BusCalls.{BusCalls}
+use Rattle.usb_device_endpoint.specs.EndpointState.{EndpointState}
+use Rattle.usb_device_endpoint.specs.Waits.{wait_next}
 use Rattle.usb_io.specs.Readers.{ReaderState, no_bytes, turns, is_end}
 use Rattle.usb_io.specs.Reads.{Reading, pending_of, begin_turn, front_read, turn_from, turn_once, turned_on, turned_if, turned_from, turned, most_turns}
 use Rattle.usb_io.specs.Answers.{without_bytes, standing, answer, fill_came}

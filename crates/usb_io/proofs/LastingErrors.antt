@@ -1,7 +1,7 @@
 -- A reader with a lasting error and no unread byte doesn't turn, so each read tells the error.
 use Rattle.std.proofs.Common.{◌≡◌, ◌-◌, ℕ, zero, suc, length, Bool, true, false, List, [], ◌∷◌, Err, refl, ap}
 use Rattle.usb_xfer.specs.declared.error.TransferError.{TransferError}
-use Rattle.usb_bus.specs.BusCalls.{BusCalls}
+use Rattle.usb_device_endpoint.specs.BusCalls.{BusCalls}
 use Rattle.usb_io.specs.Readers.{ReaderState, turns}
 use Rattle.usb_io.specs.Reads.{Reading, Turns, submit_more, pending_of, turned}
 use Rattle.usb_io.specs.Answers.{answer, read_of}

@@ -6,9 +6,9 @@ use Rattle.std.proofs.lemmas.Bool.{and_parts}
 use Rattle.usb_desc.specs.declared.error.Fail.{Fail}
 use Rattle.usb_desc.specs.declared.error.Fail.TheVariants.{Cause, Memory}
 use Rattle.usb_xfer.specs.declared.transfer.Completion.{Completion}
-use Rattle.usb_bus.specs.BusCalls.{BusCalls}
-use Rattle.usb_bus.specs.Completions.{transfer_completion}
-use Rattle.usb_endpoint.specs.Waits.{taken_if, polled_of, front_of, waited}
+use Rattle.usb_device_endpoint.specs.BusCalls.{BusCalls}
+use Rattle.usb_kernel.specs.TransferCompletions.{transfer_completion}
+use Rattle.usb_device_endpoint.specs.Waits.{taken_if, polled_of, front_of, waited}
 use Rattle.usb_io.specs.Readers.{ReaderState, no_bytes, with_taken, with_read, without_end, turns}
 use Rattle.usb_io.specs.Reads.{Reading, reading, pending_of, ended_off, submit_one, submit_more, begin_turn, wait_read, turn_from, turn_once, Turns, turned_on, turned_if, turned_from, turned, most_turns, FilledShort, TurnedShort, filled_to}
 use Rattle.usb_io.specs.Answered.{answered}

@@ -2,9 +2,9 @@
 use Rattle.std.proofs.Common.{ℕ, ◌≡◌, ◌<◌, ◌∙◌, arith, Bool, true, false, List, [], ◌∷◌, length, Option, Some, None, Result, Ok, Err, refl, ap, sym, subst}
 use Rattle.usb_xfer.specs.declared.error.TransferError.{TransferError}
 use Rattle.usb_xfer.specs.declared.transfer.Completion.{Completion}
-use Rattle.usb_bus.specs.BusCalls.{BusCalls}
-use Rattle.usb_endpoint.specs.EndpointState.{EndpointState}
-use Rattle.usb_endpoint.specs.Waits.{Polled, front_of, taken_if, polled_of, waited, wait_next}
+use Rattle.usb_device_endpoint.specs.BusCalls.{BusCalls}
+use Rattle.usb_device_endpoint.specs.EndpointState.{EndpointState}
+use Rattle.usb_device_endpoint.specs.Waits.{Polled, front_of, taken_if, polled_of, waited, wait_next}
 use Rattle.usb_io.specs.declared.fault.WriteFault.TheVariants.{Transfer, TimedOut}
 use Rattle.usb_io.specs.declared.fronts.Taken.{Taken}
 use Rattle.usb_io.specs.declared.fronts.Taken.TheVariants.{Took, NotCome}

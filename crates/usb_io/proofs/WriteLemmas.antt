@@ -1,6 +1,6 @@
 -- What writes and flushes answer, by the fronts that they took.
 use Rattle.std.proofs.Common.{ℕ, ◌≡◌, ◌≢◌, ◌∙◌, true, List, Ok, Err, refl, ap, sym}
-use Rattle.usb_bus.specs.BusCalls.{BusCalls}
+use Rattle.usb_device_endpoint.specs.BusCalls.{BusCalls}
 use Rattle.usb_io.specs.declared.fault.WriteFault.{WriteFault}
 use Rattle.usb_io.specs.declared.fault.WriteFault.TheVariants.{Transfer, TimedOut}
 use Rattle.usb_io.specs.Answered.{answered}

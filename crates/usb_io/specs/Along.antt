@@ -1,9 +1,9 @@
 -- What a call on a reader or a writer keeps of its endpoint and of the rest of its bus.
 use Rattle.std.specs.Prelude.{max, ◌≤◌, ◌≡◌, length}
-use Rattle.usb_bus.specs.BusState.{BusState}
-use Rattle.usb_bus.specs.Later.{Extends, GoesOn}
-use Rattle.usb_endpoint.specs.EndpointState.{EndpointState}
-use Rattle.usb_endpoint.specs.Handles.{Stands, KeepsOthers}
+use Rattle.usb_device_endpoint.specs.BusState.{BusState}
+use Rattle.usb_device_endpoint.specs.Later.{Extends, GoesOn}
+use Rattle.usb_device_endpoint.specs.EndpointState.{EndpointState}
+use Rattle.usb_device_endpoint.specs.Handles.{Stands, KeepsOthers}
 
 -- the bus went on so (On); the endpoint stands, and is the same but for what is pending, of which there are no more than 64, or
 -- than there were; and the others stand too

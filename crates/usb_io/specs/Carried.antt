@@ -5,8 +5,8 @@ use Rattle.usb_desc.specs.declared.error.Fail.TheVariants.{Cause, Memory}
 use Rattle.usb_kernel.specs.declared.event.Event.{Event}
 use Rattle.usb_kernel.specs.declared.event.Body.TheVariants.{Sent}
 use Rattle.usb_kernel.specs.Tickets.{Ticket, tickets}
-use Rattle.usb_bus.specs.BusState.{BusState}
-use Rattle.usb_endpoint.specs.EndpointState.{EndpointState}
+use Rattle.usb_device_endpoint.specs.BusState.{BusState}
+use Rattle.usb_device_endpoint.specs.EndpointState.{EndpointState}
 use Rattle.usb_io.specs.declared.fault.WriteFault.{WriteFault}
 use Rattle.usb_io.specs.Streams.{IsAscending}
 use Rattle.usb_io.specs.Writers.{WriterState}

@@ -2,7 +2,7 @@
 use Rattle.std.specs.Prelude.{ℕ, ◌≡◌, ◌+◌, ◌*◌, ◌<◌, List, [], ◌∷◌, ◌++◌, map, unwrap_or}
 use Rattle.usb_kernel.specs.declared.event.Event.{Event}
 use Rattle.usb_kernel.specs.Extends.{Extends}
-use Rattle.usb_endpoint.specs.EndpointState.{EndpointState}
+use Rattle.usb_device_endpoint.specs.EndpointState.{EndpointState}
 use Rattle.usb_io.specs.Streams.{Byte, stream_of}
 use Rattle.usb_io.specs.Writers.{WriterState, fresh_writer}
 use Rattle.usb_io.specs.Writes.{Call, Finish, written, packets_of, items_of, NoMidFlush, IsMessage, after_writes}

@@ -1,9 +1,9 @@
 -- How a writer takes the fronts of its queue, on any bus.
 use Rattle.std.specs.Prelude.{ℕ, Bool, true, false, List, [], ◌∷◌, length, Option, Some, None, Ok, Err, is_none, nat_le, nat_lt, ◌&&◌}
 use Rattle.usb_xfer.specs.declared.transfer.Completion.{Completion}
-use Rattle.usb_bus.specs.BusCalls.{BusCalls}
-use Rattle.usb_endpoint.specs.EndpointState.{EndpointState}
-use Rattle.usb_endpoint.specs.Waits.{Polled, wait_next}
+use Rattle.usb_device_endpoint.specs.BusCalls.{BusCalls}
+use Rattle.usb_device_endpoint.specs.EndpointState.{EndpointState}
+use Rattle.usb_device_endpoint.specs.Waits.{Polled, wait_next}
 use Rattle.usb_io.specs.declared.fault.WriteFault.{WriteFault}
 use Rattle.usb_io.specs.declared.fault.WriteFault.TheVariants.{Transfer, TimedOut}
 use Rattle.usb_io.specs.declared.fronts.Taken.{Taken}

@@ -2,9 +2,9 @@
 use Rattle.std.specs.Prelude.{ℕ, List, [], ◌∷◌, Option, Some}
 use Rattle.std.specs.Coded.{×_prop, →_prop, Unit-prop, Coded-set, coded_option, coded_ℕ}
 use mathlib.Core.HLevel.{×₃_prop}
-use Rattle.usb_bus.specs.BusState.{BusState}
-use Rattle.usb_endpoint.specs.EndpointState.{EndpointState}
-use Rattle.usb_endpoint.specs.Handles.{IsApart, AreHeld}
+use Rattle.usb_device_endpoint.specs.BusState.{BusState}
+use Rattle.usb_device_endpoint.specs.EndpointState.{EndpointState}
+use Rattle.usb_device_endpoint.specs.Handles.{IsApart, AreHeld}
 
 none-prop : IsProp ⊥
 none-prop = elim [ ]

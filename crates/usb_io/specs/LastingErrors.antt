@@ -3,7 +3,7 @@ use Rattle.std.specs.Prelude.{ℕ, ◌≡◌, Bool, false, List, [], Some, Err}
 use Rattle.usb_xfer.specs.declared.transfer.Completion.{Completion}
 use Rattle.usb_xfer.specs.declared.error.TransferError.{TransferError}
 use Rattle.usb_xfer.specs.declared.error.TransferError.TheVariants.{Cancelled}
-use Rattle.usb_bus.specs.BusCalls.{BusCalls}
+use Rattle.usb_device_endpoint.specs.BusCalls.{BusCalls}
 use Rattle.usb_io.specs.Readers.{ReaderState, with_taken}
 use Rattle.usb_io.specs.Reads.{Reading, filled_to, TurnedShort}
 use Rattle.usb_io.specs.Answered.{answered}

@@ -8,13 +8,13 @@ use Rattle.usb_desc.specs.declared.error.Fail.{Fail}
 use Rattle.usb_desc.specs.declared.error.Fail.TheVariants.{Cause, Memory}
 use Rattle.usb_xfer.specs.declared.error.TransferError.{TransferError}
 use Rattle.usb_xfer.specs.declared.error.TransferError.TheVariants as transfer
-use Rattle.usb_bus.specs.BusState.{BusState}
+use Rattle.usb_device_endpoint.specs.BusState.{BusState}
 use Rattle.usb_io.specs.declared.fault.ReadFault.{ReadFault}
 use Rattle.usb_io.specs.declared.fault.ReadFault.TheVariants.{Transfer, TimedOut, UnexpectedEof}
 use Rattle.usb_io.specs.declared.fault.WriteFault.{WriteFault}
 use Rattle.usb_io.specs.declared.fault.WriteFault.TheVariants as write
 use Rattle.usb_io.specs.Answers.{FillFails}
-use Rattle.usb_bus.specs.BusCalls.{BusCalls}
+use Rattle.usb_device_endpoint.specs.BusCalls.{BusCalls}
 use Rattle.usb_io.specs.Reads.{Reading}
 use Rattle.usb_io.specs.WriteAnswers.{WriteFails, FlushFails}
 use Rattle.usb_io.specs.Carried.{TellsOn, flushed_calls}

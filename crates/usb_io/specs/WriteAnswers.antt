@@ -1,7 +1,7 @@
 -- What the writes and flushes of a writer answer, on any bus.
 use Rattle.std.specs.Prelude.{ℕ, ◌≡◌, ◌<◌, ◌+◌, ◌-◌, ◌++◌, ◌==◌, ◌⊎◌, false, true, List, [], length, take, min, Option, Some, None, unwrap_or, Result, Ok, Err, if◌then◌else◌}
 use Rattle.usb_desc.specs.declared.error.Fail.{Fail}
-use Rattle.usb_bus.specs.BusCalls.{BusCalls}
+use Rattle.usb_device_endpoint.specs.BusCalls.{BusCalls}
 use Rattle.usb_io.specs.declared.fault.WriteFault.{WriteFault}
 use Rattle.usb_io.specs.declared.fault.WriteFault.TheVariants.{Transfer, TimedOut}
 use Rattle.usb_io.specs.Answered.{Answered, answered, FailedAs}

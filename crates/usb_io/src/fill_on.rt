@@ -17,8 +17,8 @@ use crate::fault::ReadFault;
 use crate::read_on::{ReadOn, std_error};
 use crate::turned::Turned;
 use std::io::{self, BufRead};
-use usb_bus::Bus;
 use usb_desc::{Fail, NoMemory};
+use usb_device_endpoint::Bus;
 use usb_xfer::BulkOrInterrupt;
 
 impl<'a, T: BulkOrInterrupt, B: Bus> ReadOn<'a, T, B> {

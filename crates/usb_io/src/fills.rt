@@ -3,7 +3,7 @@
 ghost use Rattle.std.specs.Prelude.{◌≡◌, true, false};
 ghost use Rattle.std.specs.Borrow.{sem};
 ghost use Rattle.std.specs.Io.BufRead.{Rests};
-ghost use Rattle.usb_endpoint.specs.Handles.{Stands};
+ghost use Rattle.usb_device_endpoint.specs.Handles.{Stands};
 ghost use Rattle.usb_io.specs.Following.{FollowsOn};
 ghost use Rattle.usb_io.specs.Lent.{Filled, PollFilled};
 ghost use Rattle.usb_io.specs.Along.{ReadsAlong};
@@ -13,8 +13,8 @@ ghost use Rattle.usb_io.specs.contracts.reader.EndpointRead.{the_row};
 use crate::fault::ReadFault;
 use crate::reader::EndpointRead;
 use futures::task::Poll;
-use usb_bus::Bus;
 use usb_desc::Fail;
+use usb_device_endpoint::Bus;
 use usb_xfer::BulkOrInterrupt;
 
 impl<T: BulkOrInterrupt> EndpointRead<T> {

@@ -1,7 +1,7 @@
 //! How a writer takes the fronts of its queue.
 
 ghost use Rattle.std.specs.Prelude.{◌≡◌, ◌<◌, [], true, false, length, OnOk};
-ghost use Rattle.usb_endpoint.specs.Handles.{Stands};
+ghost use Rattle.usb_device_endpoint.specs.Handles.{Stands};
 ghost use Rattle.usb_io.specs.Along.{WritesAlong};
 ghost use Rattle.usb_io.specs.Answered.{answered};
 ghost use Rattle.usb_io.specs.Fronts.{taken_once, waits_on, drained};
@@ -10,7 +10,7 @@ ghost use Rattle.usb_io.specs.Carried.{TellsOn};
 
 use crate::fault::WriteFault;
 use crate::writer::EndpointWrite;
-use usb_bus::Bus;
+use usb_device_endpoint::Bus;
 use usb_xfer::{BulkOrInterrupt, Completion, TransferError};
 
 /// What a wait for the front came to.

@@ -1,13 +1,13 @@
 //! Readers and writers made of endpoints.
 
 ghost use Rattle.std.specs.Prelude.{◌≡◌, ◌<◌, ◌^◌};
-ghost use Rattle.usb_endpoint.specs.EndpointState.{EndpointState};
+ghost use Rattle.usb_device_endpoint.specs.EndpointState.{EndpointState};
 ghost use Rattle.usb_io.specs.Readers.{rounded, fresh_reader};
 ghost use Rattle.usb_io.specs.Writers.{fresh_writer};
 
 use crate::reader::EndpointRead;
 use crate::writer::EndpointWrite;
-use usb_endpoint::Endpoint;
+use usb_device_endpoint::Endpoint;
 use usb_xfer::{BulkOrInterrupt, In, Out};
 
 /// What a reader can be made of.

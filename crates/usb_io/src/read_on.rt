@@ -8,8 +8,8 @@ ghost use Rattle.usb_io.specs.StdErrors.{std_kind, std_kind_of_transfer};
 use crate::fault::ReadFault;
 use crate::reader::EndpointRead;
 use std::io::{self, ErrorKind, Read};
-use usb_bus::Bus;
 use usb_desc::Fail;
+use usb_device_endpoint::Bus;
 use usb_xfer::{BulkOrInterrupt, TransferError};
 
 /// A reader and the bus that it reads by.
@@ -116,7 +116,7 @@ impl<'a, T: BulkOrInterrupt, B: Bus> Read for ReadOn<'a, T, B> {
 
 impl<T: BulkOrInterrupt> EndpointRead<T> {
     ghost use Rattle.std.specs.Prelude.{false};
-    ghost use Rattle.usb_endpoint.specs.Handles.{Stands};
+    ghost use Rattle.usb_device_endpoint.specs.Handles.{Stands};
 
     /// The reader on this bus, for std's traits.
     pub fn on<'a, B: Bus>(&'a mut self, bus: &'a mut B) -> ReadOn<'a, T, B>

@@ -1,7 +1,7 @@
 //! The submissions of a writer.
 
 ghost use Rattle.std.specs.Prelude.{◌≡◌, ◌+◌, ◌<◌, ◌≤◌, ◌∷◌, [], false, length, unwrap_or, None, IfErr, OnOk, OnErr};
-ghost use Rattle.usb_endpoint.specs.Handles.{Stands};
+ghost use Rattle.usb_device_endpoint.specs.Handles.{Stands};
 ghost use Rattle.usb_kernel.specs.WholePackets.{is_whole};
 ghost use Rattle.usb_io.specs.Along.{WritesAlong};
 ghost use Rattle.usb_io.specs.Writers.{writing, empty_buffer, send, sent, sent_end, end_need, EndShort, KeepsWriter};
@@ -10,8 +10,8 @@ ghost use Rattle.usb_io.specs.Carried.{CarriesOn, sent_bytes, ended_bytes, submi
 ghost use Rattle.usb_io.specs.Writes.{Finish};
 
 use crate::writer::EndpointWrite;
-use usb_bus::Bus;
 use usb_desc::NoMemory;
+use usb_device_endpoint::Bus;
 use usb_xfer::{Buffer, BulkOrInterrupt};
 
 impl<T: BulkOrInterrupt> EndpointWrite<T> {

@@ -9,8 +9,8 @@ use crate::fault::WriteFault;
 use crate::read_on::transfer_error;
 use crate::writer::EndpointWrite;
 use std::io::{self, ErrorKind, Write};
-use usb_bus::Bus;
 use usb_desc::Fail;
+use usb_device_endpoint::Bus;
 use usb_xfer::BulkOrInterrupt;
 
 /// A writer and the bus that it writes by.
@@ -93,7 +93,7 @@ impl<'a, T: BulkOrInterrupt, B: Bus> Write for WriteOn<'a, T, B> {
 }
 
 impl<T: BulkOrInterrupt> EndpointWrite<T> {
-    ghost use Rattle.usb_endpoint.specs.Handles.{Stands};
+    ghost use Rattle.usb_device_endpoint.specs.Handles.{Stands};
 
     /// The writer on this bus, for std's trait.
     pub fn on<'a, B: Bus>(&'a mut self, bus: &'a mut B) -> WriteOn<'a, T, B>

@@ -1,15 +1,14 @@
 //! A writer of an OUT endpoint.
 
 ghost use Rattle.std.specs.Prelude.{◌≡◌, ◌<◌, ◌≤◌, ◌^◌, length};
-ghost use Rattle.usb_endpoint.specs.Handles.{Stands, KeepsOthers};
-ghost use Rattle.usb_endpoint.specs.Closes.{after_close};
+ghost use Rattle.usb_device_endpoint.specs.Handles.{Stands, KeepsOthers};
+ghost use Rattle.usb_device_endpoint.specs.Closes.{after_close};
 ghost use Rattle.usb_io.specs.Readers.{rounded};
 ghost use Rattle.usb_io.specs.Writers.{fresh_writer, standing_count};
 
 use crate::reader::round_up;
 use std::marker::Model;
-use usb_bus::Bus;
-use usb_endpoint::Endpoint;
+use usb_device_endpoint::{Bus, Endpoint};
 use usb_xfer::{Buffer, BulkOrInterrupt, Out};
 
 /// A writer of an OUT endpoint, which gathers bytes into transfers of one size.

@@ -1,7 +1,7 @@
 //! The writes and flushes of a writer.
 
 ghost use Rattle.std.specs.Prelude.{◌≡◌, ◌+◌, ◌<◌, ◌≤◌, ◌++◌, [], false, length, take, unwrap_or, None, Ok, IfOk, IfErr, OnOk, OnErr};
-ghost use Rattle.usb_endpoint.specs.Handles.{Stands};
+ghost use Rattle.usb_device_endpoint.specs.Handles.{Stands};
 ghost use Rattle.usb_io.specs.Along.{WritesAlong};
 ghost use Rattle.usb_io.specs.Answered.{answered, as_wait, InTime};
 ghost use Rattle.usb_io.specs.Fronts.{waits_on};
@@ -12,8 +12,8 @@ ghost use Rattle.usb_io.specs.Carried.{CarriesOn, full_bytes, written_calls, flu
 use crate::fault::WriteFault;
 use crate::writer::EndpointWrite;
 use futures::task::Poll;
-use usb_bus::Bus;
 use usb_desc::{Fail, NoMemory};
+use usb_device_endpoint::Bus;
 use usb_xfer::{Buffer, BulkOrInterrupt};
 
 impl<T: BulkOrInterrupt> EndpointWrite<T> {

@@ -1,17 +1,17 @@
 -- A call that only asks changes what is armed, and nothing where it answers.
 use Rattle.std.proofs.Common.{◌≡◌, ℕ, List, Option, Some, None, Ok, refl, ap}
 use Rattle.std.specs.Prelude.{find}
-use Rattle.usb_simulated.specs.declared.devices.DeviceState.{DeviceState}
-use Rattle.usb_simulated.specs.declared.step.KernelCall.{KernelCall}
-use Rattle.usb_simulated.specs.declared.step.KernelCall.TheVariants as call
-use Rattle.usb_simulated.specs.Claims.{is_at}
-use Rattle.usb_simulated.specs.Refusals.{armed_errno, armed_left}
-use Rattle.usb_simulated.specs.Calls.{answer_of, devices_called, same}
+use Rattle.usb_kernel_devices.specs.declared.devices.DeviceState.{DeviceState}
+use Rattle.usb_kernel_devices.specs.declared.step.KernelCall.{KernelCall}
+use Rattle.usb_kernel_devices.specs.declared.step.KernelCall.TheVariants as call
+use Rattle.usb_kernel_devices.specs.Claims.{is_at}
+use Rattle.usb_kernel_devices.specs.Refusals.{armed_errno, armed_left}
+use Rattle.usb_kernel_devices.specs.Calls.{answer_of, devices_called, same}
 use Rattle.usb_kernel.specs.Calls.{errno_of, asked, called, open_by, after_open_by, after_open}
 use Rattle.usb_kernel.specs.CallLaws.{AnswersUseNone, OpensUseNone}
 use Rattle.usb_kernel.specs.Value.{KernelState}
-use Rattle.usb_simulated.proofs.DeviceLemmas.{same-change}
-use Rattle.usb_simulated.proofs.QueueLinks.{unarmed}
+use Rattle.usb_kernel_devices.proofs.DeviceLemmas.{same-change}
+use Rattle.usb_kernel_devices.proofs.QueueLinks.{unarmed}
 use Rattle.usb_kernel.proofs.CallsKept.{accepted, keeps-armed}
 
 unrefused : {X : Type 0} (give : DeviceState → X) (e : Option ℕ) (o : Option DeviceState) (x : X) → answer_of give e o ≡ Ok x → e ≡ None

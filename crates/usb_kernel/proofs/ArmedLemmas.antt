@@ -2,10 +2,10 @@
 use Rattle.std.proofs.Common.{◌≡◌, ◌≢◌, ℕ, true, false, cond, List, [], ◌∷◌, drop, refl, ap, inl, inr, arith}
 use Rattle.std.specs.Prelude.{◌==◌, ◌&&◌, is_some}
 use Rattle.std.proofs.lemmas.Bool.{cases_Bool, cases_eq}
-use Rattle.usb_simulated.specs.declared.step.Armed.{Armed}
-use Rattle.usb_simulated.specs.declared.step.KernelCall.{KernelCall}
-use Rattle.usb_simulated.specs.Devices.{plugged_device}
-use Rattle.usb_simulated.specs.Refusals.{call_number, is_armed_for, disarmed}
+use Rattle.usb_kernel_devices.specs.declared.step.Armed.{Armed}
+use Rattle.usb_kernel_devices.specs.declared.step.KernelCall.{KernelCall}
+use Rattle.usb_kernel_devices.specs.Devices.{plugged_device}
+use Rattle.usb_kernel_devices.specs.Refusals.{call_number, is_armed_for, disarmed}
 use Rattle.usb_kernel.specs.Calls.{called}
 use Rattle.usb_kernel.specs.CallLaws.{UnpluggedIsRefused, ArmedComesFirst, armed_for, ArmedIsUsedOnce, OthersStayArmed, RefusedChangesNone}
 

@@ -1,19 +1,19 @@
 -- Calls on devices, and what they leave.
 use Rattle.std.proofs.Common.{◌≡◌, ℕ, ◌+◌, ◌-◌, arith, List, ◌∷◌, Option, Some, None, Result, Ok, Err, refl, sym, ◌∙◌}
 use Rattle.std.specs.Prelude.{OnOk, OnErr}
-use Rattle.usb_simulated.specs.declared.devices.DeviceState.{DeviceState}
-use Rattle.usb_simulated.specs.declared.step.Armed.{Armed}
+use Rattle.usb_kernel_devices.specs.declared.devices.DeviceState.{DeviceState}
+use Rattle.usb_kernel_devices.specs.declared.step.Armed.{Armed}
 use Rattle.usb_kernel.specs.declared.event.Event.TheVariants.{Unplug}
-use Rattle.usb_simulated.specs.declared.step.KernelCall.{KernelCall}
-use Rattle.usb_simulated.specs.declared.step.KernelCall.TheVariants as call
-use Rattle.usb_simulated.specs.Devices.{plugged_device, change_device, unplugged, devices_unplugged}
-use Rattle.usb_simulated.specs.Claims.{ok_unless, result_by, no_rules}
-use Rattle.usb_simulated.specs.Refusals.{call_refusal, armed_left}
-use Rattle.usb_simulated.specs.Calls.{same}
+use Rattle.usb_kernel_devices.specs.declared.step.KernelCall.{KernelCall}
+use Rattle.usb_kernel_devices.specs.declared.step.KernelCall.TheVariants as call
+use Rattle.usb_kernel_devices.specs.Devices.{plugged_device, change_device, unplugged, devices_unplugged}
+use Rattle.usb_kernel_devices.specs.Claims.{ok_unless, result_by, no_rules}
+use Rattle.usb_kernel_devices.specs.Refusals.{call_refusal, armed_left}
+use Rattle.usb_kernel_devices.specs.Calls.{same}
 use Rattle.usb_kernel.specs.Calls.{errno_of, asked, called, after_reset}
 use Rattle.usb_kernel.specs.Steps.{after_unplug}
 use Rattle.usb_kernel.specs.Value.{KernelState}
-use Rattle.usb_simulated.proofs.DeviceLemmas.{same-change}
+use Rattle.usb_kernel_devices.proofs.DeviceLemmas.{same-change}
 
 -- a call that is not refused before its rules finds its device plugged
 pub record Found (devices : List DeviceState) (d : ℕ) : Type 0 where

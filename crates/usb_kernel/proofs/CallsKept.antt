@@ -6,25 +6,25 @@ use Rattle.std.specs.Option.{option_map, option_map_or}
 use Rattle.std.proofs.lemmas.Bool.{cases_Bool, cases_eq}
 use Rattle.usb_desc.specs.Configurations.{configurations}
 use Rattle.usb_desc.specs.Lookups.{has_value}
-use Rattle.usb_simulated.specs.declared.calls.DeviceCall.{DeviceCall}
-use Rattle.usb_simulated.specs.declared.calls.DeviceCall.TheVariants as device
-use Rattle.usb_simulated.specs.declared.devices.DeviceState.{DeviceState}
-use Rattle.usb_simulated.specs.declared.devices.SimDevice.{SimDevice}
-use Rattle.usb_simulated.specs.declared.step.KernelCall.{KernelCall}
-use Rattle.usb_simulated.specs.declared.step.KernelCall.TheVariants as call
-use Rattle.usb_simulated.specs.declared.step.KernelStep.TheVariants as step
-use Rattle.usb_simulated.specs.Interfaces.{contains, is_empty, remove}
-use Rattle.usb_simulated.specs.Devices.{fresh_device, device_of, if_plugged, plugged_device, change_device, unplugged}
-use Rattle.usb_simulated.specs.Claims.{has_interface, claim_rules, with_claim, without_claim, no_rules}
-use Rattle.usb_simulated.specs.Refusals.{armed_errno, armed_left}
-use Rattle.usb_simulated.specs.Calls.{devices_called, same, set_configuration_rules, with_configuration, detach_and_claim_rules, with_claimed_only, detach_rules, without_driver, attach_rules, with_driver, set_interface_rules}
+use Rattle.usb_kernel_devices.specs.declared.calls.DeviceCall.{DeviceCall}
+use Rattle.usb_kernel_devices.specs.declared.calls.DeviceCall.TheVariants as device
+use Rattle.usb_kernel_devices.specs.declared.devices.DeviceState.{DeviceState}
+use Rattle.usb_kernel_devices.specs.declared.devices.SimDevice.{SimDevice}
+use Rattle.usb_kernel_devices.specs.declared.step.KernelCall.{KernelCall}
+use Rattle.usb_kernel_devices.specs.declared.step.KernelCall.TheVariants as call
+use Rattle.usb_kernel_devices.specs.declared.step.KernelStep.TheVariants as step
+use Rattle.usb_kernel_devices.specs.Interfaces.{contains, is_empty, remove}
+use Rattle.usb_kernel_devices.specs.Devices.{fresh_device, device_of, if_plugged, plugged_device, change_device, unplugged}
+use Rattle.usb_kernel_devices.specs.Claims.{has_interface, claim_rules, with_claim, without_claim, no_rules}
+use Rattle.usb_kernel_devices.specs.Refusals.{armed_errno, armed_left}
+use Rattle.usb_kernel_devices.specs.Calls.{devices_called, same, set_configuration_rules, with_configuration, detach_and_claim_rules, with_claimed_only, detach_rules, without_driver, attach_rules, with_driver, set_interface_rules}
 use Rattle.usb_kernel.specs.Calls.{errno_of, called, reset_by, after_reset}
 use Rattle.usb_kernel.specs.DeviceCalls.{after_call}
 use Rattle.usb_kernel.specs.ClaimLaws.{is_claimed}
 use Rattle.usb_kernel.specs.CallLaws.{ClaimedIsRefused, configuration_of, CallsKeepClaims, ResetsKeepClaims, DetachAndClaimActs, DetachActs, AttachActs, StartIsExclusive, CallsStayExclusive, ResetsStayExclusive, ReleasesStayExclusive, StepsStayExclusive, ResetIsUnplug, RefusedReset, ResetUnplugs}
 use Rattle.usb_kernel.specs.Value.{KernelState}
-use Rattle.usb_simulated.proofs.InterfaceLemmas.{contains-insert, contains-insert_other, contains-remove, contains-remove_other}
-use Rattle.usb_simulated.proofs.QueueLinks.{unarmed}
+use Rattle.usb_kernel_devices.proofs.InterfaceLemmas.{contains-insert, contains-insert_other, contains-remove, contains-remove_other}
+use Rattle.usb_kernel_devices.proofs.QueueLinks.{unarmed}
 use Rattle.usb_kernel.proofs.ClaimLemmas.{KeepsNumber, device-changed, device-other, insert-keeps}
 
 -- what is true of a device stays true after a change of it, or of another

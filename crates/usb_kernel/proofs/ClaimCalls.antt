@@ -1,18 +1,18 @@
 -- Claims of interfaces, as calls.
 use Rattle.std.proofs.Common.{◌≡◌, ℕ, false, true, List, Some, None, refl, ap, sym, ◌∙◌, inl, inr}
 use Rattle.std.proofs.lemmas.Bool.{cases_Bool}
-use Rattle.usb_simulated.specs.declared.calls.DeviceCall.TheVariants.{Claim}
-use Rattle.usb_simulated.specs.declared.devices.DeviceState.{DeviceState}
-use Rattle.usb_simulated.specs.declared.step.KernelCall.TheVariants as call
-use Rattle.usb_simulated.specs.Interfaces.{contains}
-use Rattle.usb_simulated.specs.Devices.{device_of, change_device}
-use Rattle.usb_simulated.specs.Claims.{has_interface, claim_rules, with_claim, without_claim}
-use Rattle.usb_simulated.specs.Refusals.{armed_errno}
+use Rattle.usb_kernel_devices.specs.declared.calls.DeviceCall.TheVariants.{Claim}
+use Rattle.usb_kernel_devices.specs.declared.devices.DeviceState.{DeviceState}
+use Rattle.usb_kernel_devices.specs.declared.step.KernelCall.TheVariants as call
+use Rattle.usb_kernel_devices.specs.Interfaces.{contains}
+use Rattle.usb_kernel_devices.specs.Devices.{device_of, change_device}
+use Rattle.usb_kernel_devices.specs.Claims.{has_interface, claim_rules, with_claim, without_claim}
+use Rattle.usb_kernel_devices.specs.Refusals.{armed_errno}
 use Rattle.usb_kernel.specs.Calls.{called}
 use Rattle.usb_kernel.specs.DeviceCalls.{call_errno, after_call}
 use Rattle.usb_kernel.specs.ClaimLaws.{ClaimedIsBusy, ClaimMakesClaimed, SecondClaimIsBusy, ClaimsKeep, ReleaseUndoes, RefusedClaims}
 use Rattle.usb_kernel.specs.Value.{KernelState}
-use Rattle.usb_simulated.proofs.InterfaceLemmas.{contains-insert, remove-insert}
+use Rattle.usb_kernel_devices.proofs.InterfaceLemmas.{contains-insert, remove-insert}
 use Rattle.usb_kernel.proofs.ClaimLemmas.{undone}
 use Rattle.usb_kernel.proofs.CallsKept.{Accepted, accepted, keeps-armed, acts, calls-keep}
 

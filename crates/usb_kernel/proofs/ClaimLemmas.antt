@@ -3,13 +3,13 @@ use Rattle.std.proofs.Common.{◌≡◌, ◌≢◌, ℕ, true, false, cond, List
 use Rattle.std.specs.Prelude.{◌==◌}
 use Rattle.std.specs.Option.{option_map, option_map_or}
 use Rattle.std.proofs.lemmas.Bool.{cases_Bool, cases_eq, ne_eqb, eq-eqb}
-use Rattle.usb_simulated.specs.declared.devices.DeviceState.{DeviceState}
-use Rattle.usb_simulated.specs.declared.step.KernelStep.TheVariants as step
-use Rattle.usb_simulated.specs.Interfaces.{contains, insert}
-use Rattle.usb_simulated.specs.Devices.{has_device_number, device_of, change_device, unplugged}
-use Rattle.usb_simulated.specs.Claims.{without_claim}
+use Rattle.usb_kernel_devices.specs.declared.devices.DeviceState.{DeviceState}
+use Rattle.usb_kernel_devices.specs.declared.step.KernelStep.TheVariants as step
+use Rattle.usb_kernel_devices.specs.Interfaces.{contains, insert}
+use Rattle.usb_kernel_devices.specs.Devices.{has_device_number, device_of, change_device, unplugged}
+use Rattle.usb_kernel_devices.specs.Claims.{without_claim}
 use Rattle.usb_kernel.specs.ClaimLaws.{is_claimed, ReleasesKeep, StepsKeep, ReleaseEnds}
-use Rattle.usb_simulated.proofs.InterfaceLemmas.{contains-insert, contains-insert_other, contains-remove, contains-remove_other}
+use Rattle.usb_kernel_devices.proofs.InterfaceLemmas.{contains-insert, contains-insert_other, contains-remove, contains-remove_other}
 
 -- the device of a number after a change of it, and of another
 abbrev pub KeepsNumber : (DeviceState → DeviceState) → Type 0

@@ -8,11 +8,11 @@ use Rattle.std.proofs.lemmas.Option.{slice_get_past}
 use Rattle.usb_kernel.specs.declared.event.Event.{Event}
 use Rattle.usb_kernel.specs.declared.event.Event.TheVariants.{Submit, Packet, Ack, Echo, Fail, Discard, Reap, Unplug}
 use Rattle.usb_kernel.specs.declared.event.Body.{Body}
-use Rattle.usb_simulated.specs.declared.devices.DeviceState.{DeviceState}
+use Rattle.usb_kernel_devices.specs.declared.devices.DeviceState.{DeviceState}
 use Rattle.usb_kernel.specs.declared.submission.Done.{Done}
 use Rattle.usb_kernel.specs.declared.submission.Submission.{Submission}
-use Rattle.usb_simulated.specs.declared.step.KernelStep.{KernelStep}
-use Rattle.usb_simulated.specs.declared.step.KernelStep.TheVariants as step
+use Rattle.usb_kernel_devices.specs.declared.step.KernelStep.{KernelStep}
+use Rattle.usb_kernel_devices.specs.declared.step.KernelStep.TheVariants as step
 use Rattle.usb_kernel.specs.Tickets.{Ticket, tickets}
 use Rattle.usb_kernel.specs.Fates.{Fate, fresh, with_packet, with_ack, finish, reap, unplug}
 use Rattle.usb_kernel.specs.Journal.{fate, oldest, oldest_among, at_ticket, at_oldest, change, taken_of, ack_comes, echo_comes}
@@ -20,7 +20,7 @@ use Rattle.usb_kernel.specs.Submissions.{refuse_event, refused_of}
 use Rattle.usb_kernel.specs.Completions.{refused_done, completion, completion_if, completion_for, completed, done_if, reapable}
 use Rattle.usb_kernel.specs.Steps.{after_packet, after_ack, after_echo, after_fail, after_unplug, after_reap, after_reap_of, reapable_of, reaped_by, after_discard, is_unfinished, stepped, step_done}
 use Rattle.usb_kernel.specs.Timers.{due, discarded_in_order, timer_turned}
-use Rattle.usb_simulated.specs.Devices.{plugged_device}
+use Rattle.usb_kernel_devices.specs.Devices.{plugged_device}
 use Rattle.usb_kernel.proofs.Places.{slice_get-append_left, slice_get-append_seam}
 use Rattle.usb_kernel.proofs.Fresh.{fate-fresh}
 use Rattle.usb_kernel.proofs.Final.{reaped_is_final}

@@ -11,7 +11,7 @@ use Rattle.usb_kernel.specs.Journal.{fate}
 use Rattle.usb_kernel.specs.Steps.{is_unfinished, after_discard}
 use Rattle.usb_kernel.specs.Rows.{row_of, Agrees}
 use Rattle.usb_kernel.proofs.Fresh.{length-rows}
-use Rattle.usb_kernel.proofs.Steps.{Agrees-set, RowAt, some_not_none}
+use Rattle.usb_kernel.proofs.StepLemmas.{Agrees-set, RowAt, some_not_none}
 
 pub after_discard-none : (past : List Event) (t : ℕ) → is_unfinished past t ≡ false → after_discard past t ≡ past
 after_discard-none past t none = rw none refl

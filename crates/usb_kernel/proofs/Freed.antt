@@ -13,7 +13,7 @@ use Rattle.usb_kernel.specs.Journal.{oldest}
 use Rattle.usb_kernel.specs.Steps.{after_packet, after_ack, after_echo}
 use Rattle.usb_kernel.specs.Rows.{is_open_row, owed}
 use Rattle.usb_kernel.specs.Passing.{StandsAt, IsOpenOut, IsOpenIn, passed}
-use Rattle.usb_kernel.proofs.Steps.{owed-set}
+use Rattle.usb_kernel.proofs.StepLemmas.{owed-set}
 use Rattle.usb_kernel.proofs.Passing.{pass-owed}
 
 -- at an endpoint of the other direction there is no event

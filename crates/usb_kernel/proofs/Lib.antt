@@ -1,5 +1,5 @@
 pub mod RowLemmas
-pub mod Steps
+pub mod StepLemmas
 pub mod TableLemmas
 pub mod Fresh
 pub mod Discards

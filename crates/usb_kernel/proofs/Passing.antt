@@ -23,7 +23,7 @@ use Rattle.usb_kernel.specs.Unreaped.{AreListed, GoesOn}
 use Rattle.usb_kernel.proofs.RowLemmas.{room_left}
 use Rattle.usb_kernel.proofs.Places.{slice_get-set_other}
 use Rattle.usb_kernel.proofs.Unreaped.{goes_on-ack, goes_on-packet}
-use Rattle.usb_kernel.proofs.Steps.{Found, found, open_row, not_reaped, Agrees-packet, Agrees-ack}
+use Rattle.usb_kernel.proofs.StepLemmas.{Found, found, open_row, not_reaped, Agrees-packet, Agrees-ack}
 use Rattle.usb_kernel.proofs.OpenLists.{open-ack_other}
 use Rattle.usb_kernel.proofs.Echoes.{Agrees-echo, rows-apart, read_at, read_back}
 

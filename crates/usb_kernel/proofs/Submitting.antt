@@ -4,11 +4,11 @@ use Rattle.std.specs.Prelude.{is_some, OnOk, OnErr}
 use Rattle.std.specs.Option.{option_copied}
 use Rattle.std.specs.Result.{is_ok}
 use Rattle.std.proofs.lemmas.Bool.{false≢true}
-use Rattle.usb_simulated.specs.declared.devices.DeviceState.{DeviceState}
-use Rattle.usb_simulated.specs.declared.step.Armed.{Armed}
+use Rattle.usb_kernel_devices.specs.declared.devices.DeviceState.{DeviceState}
+use Rattle.usb_kernel_devices.specs.declared.step.Armed.{Armed}
 use Rattle.usb_kernel.specs.declared.kernel.Kernel.TheInside.{Inside}
 use Rattle.usb_kernel.specs.contracts.kernel.Kernel.{the_view}
-use Rattle.usb_simulated.specs.Errnos.{IsErrno}
+use Rattle.usb_kernel_devices.specs.Errnos.{IsErrno}
 use Rattle.usb_kernel.specs.Value.{KernelState}
 
 pub plugged-none : (o : Option (Bor DeviceState)) (p : Option DeviceState) → option_copied o ≡ p → is_some o ≡ false → is_some p ≡ false

@@ -3,13 +3,13 @@ use Rattle.std.specs.Prelude.{◌≡◌, refl, ℕ, true, List, [], ◌∷◌, S
 use Rattle.usb_desc.specs.Chain.{chain}
 use Rattle.usb_desc.specs.Groups.{groups}
 use Rattle.usb_desc.specs.Configurations.{concatenated, configurations}
-use Rattle.usb_simulated.specs.declared.step.Armed.{Armed}
-use Rattle.usb_simulated.specs.declared.step.KernelCall.TheVariants as call
+use Rattle.usb_kernel_devices.specs.declared.step.Armed.{Armed}
+use Rattle.usb_kernel_devices.specs.declared.step.KernelCall.TheVariants as call
 use Rattle.usb_kernel.specs.Value.{KernelState}
-use Rattle.usb_simulated.specs.Interfaces.{set_of}
-use Rattle.usb_simulated.specs.Calls.{same, set_configuration_rules, with_configuration, detach_and_claim_rules, with_claimed_only, detach_rules, without_driver, attach_rules, with_driver, set_interface_rules}
+use Rattle.usb_kernel_devices.specs.Interfaces.{set_of}
+use Rattle.usb_kernel_devices.specs.Calls.{same, set_configuration_rules, with_configuration, detach_and_claim_rules, with_claimed_only, detach_rules, without_driver, attach_rules, with_driver, set_interface_rules}
 use Rattle.usb_kernel.specs.Calls.{errno_of, called, open_answer, after_reset}
-use Rattle.usb_simulated.specs.Claims.{claim_rules, with_claim, after_release}
+use Rattle.usb_kernel_devices.specs.Claims.{claim_rules, with_claim, after_release}
 
 abbrev bytes : List ℕ
 bytes =

@@ -1,19 +1,19 @@
 -- Laws of the calls on devices.
 use Rattle.std.specs.Prelude.{ℕ, ◌≡◌, ◌≢◌, Bool, true, false, List, drop, filter, map, Option, Some, None, IsSome, option_map, is_some, Ok}
 use Rattle.std.specs.Option.{option_map_or}
-use Rattle.usb_simulated.specs.declared.calls.DeviceCall.{DeviceCall}
-use Rattle.usb_simulated.specs.declared.devices.DeviceState.{DeviceState}
-use Rattle.usb_simulated.specs.declared.devices.SimDevice.{SimDevice}
-use Rattle.usb_simulated.specs.declared.step.Armed.{Armed}
-use Rattle.usb_simulated.specs.declared.step.KernelCall.{KernelCall}
-use Rattle.usb_simulated.specs.declared.step.KernelCall.TheVariants as call
-use Rattle.usb_simulated.specs.declared.step.KernelStep.{KernelStep}
-use Rattle.usb_simulated.specs.declared.step.KernelStep.TheVariants as step
-use Rattle.usb_simulated.specs.Interfaces.{contains}
-use Rattle.usb_simulated.specs.Devices.{fresh_device, device_of, plugged_device}
-use Rattle.usb_simulated.specs.Claims.{claim_rules, after_release, no_rules}
-use Rattle.usb_simulated.specs.Refusals.{call_number, is_armed_for, armed_errno, armed_left}
-use Rattle.usb_simulated.specs.Calls.{same, set_configuration_rules, detach_and_claim_rules, with_claimed_only, detach_rules, without_driver, attach_rules, with_driver}
+use Rattle.usb_kernel_devices.specs.declared.calls.DeviceCall.{DeviceCall}
+use Rattle.usb_kernel_devices.specs.declared.devices.DeviceState.{DeviceState}
+use Rattle.usb_kernel_devices.specs.declared.devices.SimDevice.{SimDevice}
+use Rattle.usb_kernel_devices.specs.declared.step.Armed.{Armed}
+use Rattle.usb_kernel_devices.specs.declared.step.KernelCall.{KernelCall}
+use Rattle.usb_kernel_devices.specs.declared.step.KernelCall.TheVariants as call
+use Rattle.usb_kernel_devices.specs.declared.step.KernelStep.{KernelStep}
+use Rattle.usb_kernel_devices.specs.declared.step.KernelStep.TheVariants as step
+use Rattle.usb_kernel_devices.specs.Interfaces.{contains}
+use Rattle.usb_kernel_devices.specs.Devices.{fresh_device, device_of, plugged_device}
+use Rattle.usb_kernel_devices.specs.Claims.{claim_rules, after_release, no_rules}
+use Rattle.usb_kernel_devices.specs.Refusals.{call_number, is_armed_for, armed_errno, armed_left}
+use Rattle.usb_kernel_devices.specs.Calls.{same, set_configuration_rules, detach_and_claim_rules, with_claimed_only, detach_rules, without_driver, attach_rules, with_driver}
 use Rattle.usb_kernel.specs.Calls.{errno_of, called, open_answer, after_open, after_reset}
 use Rattle.usb_kernel.specs.DeviceCalls.{after_call}
 use Rattle.usb_kernel.specs.ClaimLaws.{is_claimed}

@@ -2,13 +2,13 @@
 -- else by the first refusal that is armed for it, which is used up, and else by the first of its rules.
 use Rattle.std.specs.Prelude.{ℕ, ◌-◌, ◌∷◌, Option, Some, None, find, Result, Err}
 use Rattle.usb_kernel.specs.declared.event.Event.TheVariants.{Unplug}
-use Rattle.usb_simulated.specs.declared.devices.DeviceState.{DeviceState}
-use Rattle.usb_simulated.specs.declared.step.KernelCall.{KernelCall}
-use Rattle.usb_simulated.specs.declared.step.KernelCall.TheVariants as call
-use Rattle.usb_simulated.specs.Devices.{plugged_device, unplugged}
-use Rattle.usb_simulated.specs.Claims.{is_at, no_rules}
-use Rattle.usb_simulated.specs.Refusals.{armed_errno, disarmed, call_refusal, armed_left}
-use Rattle.usb_simulated.specs.Calls.{◌or_else◌, rules_of, answer_of, devices_called}
+use Rattle.usb_kernel_devices.specs.declared.devices.DeviceState.{DeviceState}
+use Rattle.usb_kernel_devices.specs.declared.step.KernelCall.{KernelCall}
+use Rattle.usb_kernel_devices.specs.declared.step.KernelCall.TheVariants as call
+use Rattle.usb_kernel_devices.specs.Devices.{plugged_device, unplugged}
+use Rattle.usb_kernel_devices.specs.Claims.{is_at, no_rules}
+use Rattle.usb_kernel_devices.specs.Refusals.{armed_errno, disarmed, call_refusal, armed_left}
+use Rattle.usb_kernel_devices.specs.Calls.{◌or_else◌, rules_of, answer_of, devices_called}
 use Rattle.usb_kernel.specs.Value.{KernelState}
 
 -- the errno of a call: the refusal that comes before its rules, or that of its rules
@@ -51,4 +51,4 @@ reset_by k d None = record k { past = Unplug d ∷ k.past; spare = k.spare - 1 }
 unfoldable pub after_reset : KernelState → ℕ → KernelState
 after_reset k d = reset_by (called k d call.Reset no_rules unplugged) d (errno_of k d call.Reset no_rules)
 
--- release: no rule of refusal, and no armed refusal (Claims.antt of usb_simulated)
+-- release: no rule of refusal, and no armed refusal (Claims.antt of usb_kernel_devices)

@@ -1,14 +1,14 @@
 -- Laws of claims.
 use Rattle.std.specs.Prelude.{ℕ, ◌≡◌, ◌≢◌, Bool, true, false, List, Some, None}
 use Rattle.std.specs.Option.{option_map_or}
-use Rattle.usb_simulated.specs.declared.calls.DeviceCall.TheVariants.{Claim}
-use Rattle.usb_simulated.specs.declared.devices.DeviceState.{DeviceState}
-use Rattle.usb_simulated.specs.declared.step.KernelCall.TheVariants as call
-use Rattle.usb_simulated.specs.declared.step.KernelStep.{KernelStep}
-use Rattle.usb_simulated.specs.Interfaces.{contains}
-use Rattle.usb_simulated.specs.Devices.{device_of}
-use Rattle.usb_simulated.specs.Claims.{has_interface, after_release}
-use Rattle.usb_simulated.specs.Refusals.{armed_errno}
+use Rattle.usb_kernel_devices.specs.declared.calls.DeviceCall.TheVariants.{Claim}
+use Rattle.usb_kernel_devices.specs.declared.devices.DeviceState.{DeviceState}
+use Rattle.usb_kernel_devices.specs.declared.step.KernelCall.TheVariants as call
+use Rattle.usb_kernel_devices.specs.declared.step.KernelStep.{KernelStep}
+use Rattle.usb_kernel_devices.specs.Interfaces.{contains}
+use Rattle.usb_kernel_devices.specs.Devices.{device_of}
+use Rattle.usb_kernel_devices.specs.Claims.{has_interface, after_release}
+use Rattle.usb_kernel_devices.specs.Refusals.{armed_errno}
 use Rattle.usb_kernel.specs.DeviceCalls.{call_errno, after_call}
 use Rattle.usb_kernel.specs.Steps.{devices_stepped}
 use Rattle.usb_kernel.specs.Value.{KernelState}

@@ -1,7 +1,7 @@
 -- What the calls with rules of their own make of a kernel. They change no journal.
 use Rattle.std.specs.Prelude.{ℕ, Option}
-use Rattle.usb_simulated.specs.declared.calls.DeviceCall.{DeviceCall}
-use Rattle.usb_simulated.specs.DeviceCalls.{kind_of, call_rules, call_change}
+use Rattle.usb_kernel_devices.specs.declared.calls.DeviceCall.{DeviceCall}
+use Rattle.usb_kernel_devices.specs.DeviceCalls.{kind_of, call_rules, call_change}
 use Rattle.usb_kernel.specs.Value.{KernelState}
 use Rattle.usb_kernel.specs.Calls.{errno_of, called}
 

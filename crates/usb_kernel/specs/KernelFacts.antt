@@ -4,7 +4,7 @@ use Rattle.std.specs.List.{All}
 use Rattle.usb_kernel.specs.declared.kernel.Kernel.TheInside.{Inside}
 use Rattle.usb_kernel.specs.Tickets.{tickets}
 use Rattle.usb_kernel.specs.Legal.{IsLawful}
-use Rattle.usb_simulated.specs.Refusals.{HasArmedErrno}
+use Rattle.usb_kernel_devices.specs.Refusals.{HasArmedErrno}
 use Rattle.usb_kernel.specs.Rows.{Agrees, owed}
 use Rattle.usb_kernel.specs.Deadlines.{KeepsDeadlines}
 

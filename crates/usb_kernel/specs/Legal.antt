@@ -2,7 +2,7 @@
 use Rattle.std.specs.Prelude.{List, [], ◌∷◌}
 use Rattle.usb_kernel.specs.declared.event.Event.{Event}
 use Rattle.usb_kernel.specs.declared.event.Event.TheVariants.{Submit, Refuse, Fail}
-use Rattle.usb_simulated.specs.Errnos.{IsErrno}
+use Rattle.usb_kernel_devices.specs.Errnos.{IsErrno}
 use Rattle.usb_kernel.specs.Submissions.{WantsWhole}
 
 -- a submission wants whole packets, and the errno of a refusal or of a failure is from 1 to 4095

@@ -27,3 +27,5 @@ pub mod Waits
 pub mod Laws
 pub mod ClaimLaws
 pub mod CallLaws
+pub mod TransferCompletions
+pub mod Holds

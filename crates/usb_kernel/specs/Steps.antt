@@ -3,15 +3,15 @@ pub use Rattle.usb_kernel.specs.Discards.{is_unfinished, after_discard}
 use Rattle.std.specs.Prelude.{ℕ, ◌-◌, List, [], ◌∷◌, ◌++◌, max, Option, Some, None, is_some, nat_le, nat_lt, ◌&&◌, if◌then◌else◌}
 use Rattle.usb_kernel.specs.declared.event.Event.{Event}
 use Rattle.usb_kernel.specs.declared.event.Event.TheVariants.{Packet, Ack, Echo, Fail, Reap, Unplug}
-use Rattle.usb_simulated.specs.declared.devices.DeviceState.{DeviceState}
+use Rattle.usb_kernel_devices.specs.declared.devices.DeviceState.{DeviceState}
 use Rattle.usb_kernel.specs.declared.submission.Done.{Done}
-use Rattle.usb_simulated.specs.declared.step.Armed.{Armed}
-use Rattle.usb_simulated.specs.declared.step.KernelStep.{KernelStep}
-use Rattle.usb_simulated.specs.declared.step.KernelStep.TheVariants as step
+use Rattle.usb_kernel_devices.specs.declared.step.Armed.{Armed}
+use Rattle.usb_kernel_devices.specs.declared.step.KernelStep.{KernelStep}
+use Rattle.usb_kernel_devices.specs.declared.step.KernelStep.TheVariants as step
 use Rattle.usb_kernel.specs.Journal.{oldest}
-use Rattle.usb_simulated.specs.Errnos.{IsErrno}
+use Rattle.usb_kernel_devices.specs.Errnos.{IsErrno}
 use Rattle.usb_kernel.specs.Completions.{reapable, lowest}
-use Rattle.usb_simulated.specs.Devices.{plugged_device, devices_unplugged}
+use Rattle.usb_kernel_devices.specs.Devices.{plugged_device, devices_unplugged}
 use Rattle.usb_kernel.specs.Timers.{timer_turned}
 use Rattle.usb_kernel.specs.Value.{KernelState}
 

@@ -2,16 +2,16 @@
 -- yet, or a refused one, which has its completion at once.
 use Rattle.std.specs.Prelude.{ℕ, List, ◌∷◌, length, Option, Some, None}
 use Rattle.usb_kernel.specs.declared.event.Event.{Event}
-use Rattle.usb_simulated.specs.declared.devices.DeviceState.{DeviceState}
-use Rattle.usb_simulated.specs.declared.step.Armed.{Armed}
-use Rattle.usb_simulated.specs.declared.step.KernelCall.TheVariants as call
+use Rattle.usb_kernel_devices.specs.declared.devices.DeviceState.{DeviceState}
+use Rattle.usb_kernel_devices.specs.declared.step.Armed.{Armed}
+use Rattle.usb_kernel_devices.specs.declared.step.KernelCall.TheVariants as call
 use Rattle.usb_kernel.specs.declared.submission.Submission.{Submission}
 use Rattle.usb_kernel.specs.declared.submission.Submitted.{Submitted}
 use Rattle.usb_kernel.specs.declared.submission.Submitted.TheVariants.{Queued, Refused}
 use Rattle.usb_kernel.specs.Tickets.{tickets}
 use Rattle.usb_kernel.specs.Submissions.{submit_event, refuse_event}
 use Rattle.usb_kernel.specs.Completions.{refused_done}
-use Rattle.usb_simulated.specs.Refusals.{call_refusal, armed_left}
+use Rattle.usb_kernel_devices.specs.Refusals.{call_refusal, armed_left}
 use Rattle.usb_kernel.specs.Value.{KernelState}
 
 -- the errno with which a submission to a device is refused: 19 (ENODEV) where it is not plugged,

@@ -3,7 +3,7 @@
 ghost use Rattle.std.specs.Prelude.{◌≡◌, IfOk};
 
 use usb_desc::NoMemory;
-use usb_simulated::Bytes;
+use usb_kernel_devices::Bytes;
 
 /// What a submission sends (OUT), or how many bytes it wants (IN).
 #[derive(Clone, Drop)]

@@ -2,6 +2,8 @@
 //! them.
 #![tactic(auto)]
 
+mod completion;
+mod devices;
 mod echo;
 mod event;
 mod journal;
@@ -9,10 +11,13 @@ mod kernel;
 mod laws;
 mod lists;
 mod slot;
+mod steps;
 mod submission;
 mod table;
 mod timer;
+mod transfers;
 
+pub use completion::completion_from;
 pub use event::{Body, Event};
 pub use kernel::{Kernel, is_send_and_sync};
 pub use laws::{
@@ -23,7 +28,7 @@ pub use laws::{
     resets_are_unplugs, submissions_open_tickets, tickets_are_closed, waiting_tickets_are_counted,
 };
 pub use submission::{Done, Submission, Submitted, TicketInfo};
-pub use usb_simulated::{
+pub use usb_desc::errno;
+pub use usb_kernel_devices::{
     Armed, Bytes, DeviceState, InterfaceSet, KernelCall, KernelStep, SimDevice,
 };
-pub use usb_xfer::errno;

@@ -6,7 +6,7 @@ ghost use Rattle.usb_kernel.specs.Submissions.{body_of, submit_event, refuse_eve
 use crate::event::{Body, Event};
 use std::alloc::Global;
 use usb_desc::{NoMemory, TransferType};
-use usb_simulated::Bytes;
+use usb_kernel_devices::Bytes;
 use usb_xfer::Buffer;
 
 /// A transfer that is handed in. A control transfer uses endpoint 0x00 or 0x80 and has its setup

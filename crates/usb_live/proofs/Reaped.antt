@@ -13,7 +13,7 @@ use Rattle.usb_kernel.specs.Completions.{reapable, completion, completed, done_i
 use Rattle.usb_kernel.specs.Steps.{after_reap}
 use Rattle.usb_kernel.specs.Value.{KernelState}
 use Rattle.usb_kernel.proofs.Completions.{completion-reap}
-use Rattle.usb_bus.specs.Completions.{completion_of}
+use Rattle.usb_kernel.specs.TransferCompletions.{completion_of}
 use Rattle.usb_live.specs.Answers.{Reaps}
 
 ticket_of : (t : ℕ) (s : Ticket) (f : Fate) (done : Done) → done_if t f s ≡ Some done → done.ticket ≡ t

@@ -10,7 +10,7 @@ use Rattle.usb_live.specs.declared.view.HandlerCell.{HandlerCell}
 use Rattle.usb_live.specs.declared.view.Handled.{Handled}
 use Rattle.usb_live.specs.declared.view.Handled.TheVariants.{Idle, Working, Reclaimed}
 use Rattle.usb_live.specs.declared.seats.CellStep.{CellStep}
-use Rattle.usb_bus.specs.Completions.{completion_of}
+use Rattle.usb_kernel.specs.TransferCompletions.{completion_of}
 use Rattle.usb_live.specs.Rows.{handler_cell}
 use Rattle.usb_live.specs.Steps.{handling, looked, MayFind}
 

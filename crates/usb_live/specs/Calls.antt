@@ -16,7 +16,7 @@ use Rattle.usb_live.specs.declared.entry.Receipt.{Receipt}
 use Rattle.usb_live.specs.declared.entry.Tally.{Tally}
 use Rattle.usb_live.specs.Rows.{stage_at}
 use Rattle.usb_live.specs.Seats.{owner_looks}
-use Rattle.usb_bus.specs.Routes.{submission_of}
+use Rattle.usb_device_endpoint.specs.Routes.{submission_of}
 use Rattle.usb_live.specs.Submits.{submitted, after_submitted, entry_of}
 use Rattle.usb_live.specs.Live.{Live, IsLeft, placed, emptied}
 

@@ -3,14 +3,14 @@ use Rattle.std.specs.Prelude.{◌≡◌, ◌≢◌, ◌⊎◌, ℕ, ◌^◌, ◌
 use Rattle.usb_xfer.specs.declared.transfer.Completion.{Completion}
 use Rattle.usb_kernel.specs.declared.submission.Submitted.{Submitted}
 use Rattle.usb_kernel.specs.declared.submission.Submitted.TheVariants as submission
-use Rattle.usb_bus.specs.Completions.{completion_of}
+use Rattle.usb_kernel.specs.TransferCompletions.{completion_of}
 use Rattle.usb_live.specs.declared.view.View.{View}
 use Rattle.usb_live.specs.declared.view.Owned.{Owned}
 use Rattle.usb_live.specs.declared.view.Owned.TheVariants.{Free, Mine, Pending, Left}
 use Rattle.usb_live.specs.declared.view.OwnerCell.{OwnerCell}
 use Rattle.usb_live.specs.declared.entry.Entry.{Entry}
 use Rattle.usb_live.specs.declared.entry.Tally.{Tally}
-use Rattle.usb_bus.specs.declared.route.Route.{Route}
+use Rattle.usb_device_endpoint.specs.declared.route.Route.{Route}
 use Rattle.usb_live.specs.Rows.{stage_at}
 use Rattle.usb_live.specs.Seats.{OwnerState, owns, owner_looks, has_own}
 

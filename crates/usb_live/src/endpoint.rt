@@ -1,4 +1,5 @@
 //! A queue of transfers over a row.
+
 ghost use Rattle.std.specs.Prelude.{◌≡◌, ℕ, ◌+◌, ◌*◌, ◌^◌, ◌<◌, true, false, [], List, None, IfOk, IfErr, OnOk, OnErr, MatchOption, MatchBool, length, slice_set, slice_index_or, cond, ◌⊎◌};
 ghost use Rattle.futures.specs.Task.{IsArmed, Hears, Keeps};
 ghost use Rattle.futures.specs.declared.task.Poll.TheVariants.{Ready};
@@ -6,7 +7,7 @@ ghost use Rattle.usb_kernel.specs.Submits.{number_of};
 ghost use Rattle.usb_live.specs.declared.view.Owned.TheVariants.{Free, Mine, Left};
 ghost use Rattle.usb_live.specs.Rows.{owner_cell};
 ghost use Rattle.usb_live.specs.Seats.{OwnerState, owner_in, owns, owner_looks, has_own, hears};
-ghost use Rattle.usb_bus.specs.Routes.{submission_of};
+ghost use Rattle.usb_device_endpoint.specs.Routes.{submission_of};
 ghost use Rattle.usb_live.specs.Submits.{is_valid, submitted, after_submitted, entry_of};
 ghost use Rattle.usb_live.specs.Live.{LiesInCell, IsDropped, placed};
 
@@ -17,8 +18,8 @@ use std::alloc::Global;
 use std::collections::VecDeque;
 use std::marker::Model;
 use std::sync::Wait;
-use usb_bus::{Route, completion_from};
-use usb_kernel::{Kernel, Submission, Submitted, errno};
+use usb_device_endpoint::Route;
+use usb_kernel::{Kernel, Submission, Submitted, completion_from, errno};
 use usb_xfer::{Buffer, Notify};
 
 /// A queue of transfers that lie in the cells of a row. `close` ends it: an endpoint is never dropped.

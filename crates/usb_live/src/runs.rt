@@ -14,8 +14,8 @@ use futures::task::Poll;
 use std::alloc::Global;
 use std::sync::Wait;
 use std::thread::{Threads, join, yield_now};
-use usb_bus::Route;
 use usb_desc::{NoMemory, TransferType};
+use usb_device_endpoint::Route;
 use usb_kernel::{Bytes, Kernel, KernelStep, SimDevice};
 use usb_xfer::{Buffer, Notify};
 

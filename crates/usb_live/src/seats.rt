@@ -1,4 +1,5 @@
 //! The two seats of a row, as their holders see them.
+
 ghost use Rattle.std.specs.Prelude.{◌≡◌, ◌+◌, ◌*◌, ◌/◌, ◌%◌, ◌^◌, ◌<◌, true, false, Some, IfOk, MatchBool};
 ghost use Rattle.std.specs.Arc.{arc_value};
 ghost use Rattle.usb_live.specs.declared.view.Owned.TheVariants.{Free, Mine, Pending, Left};
@@ -13,9 +14,8 @@ use futures::task::Context;
 use std::alloc::{AllocError, Global};
 use std::marker::Model;
 use std::sync::{Arc, Wait};
-use usb_bus::completion_from;
 use usb_desc::NoMemory;
-use usb_kernel::Kernel;
+use usb_kernel::{Kernel, completion_from};
 use usb_xfer::{Completion, Notify};
 
 /// The owner of a row between its calls, with the place where it hears of the handler's moves.

@@ -1,1 +1,10 @@
-mod OtherLetters
+pub mod FirstLine
+pub mod OnLiterals
+pub mod ParseOn
+pub mod TakenLemmas
+mod WorkedScripts
+mod Lengths
+mod LinesRead
+mod ReadOn
+pub mod ScriptsParse
+mod WritesRead

@@ -1,5 +1,8 @@
-pub mod Forms
-pub mod ItemKinds
-pub mod Kinds
-pub mod LineForms
-pub mod Shapes
+pub mod ErrorText
+pub mod Order
+pub mod Outcome
+pub mod Parse
+pub mod ScriptFacts
+pub mod Taken
+pub mod Generated
+pub mod Scripts

@@ -1,25 +1,18 @@
-//! The lines of scripts for the simulated host, each by itself: its words, and the item that it gives.
+//! Whole scripts: their lines in order, the rules that look back at the lines before, and why a
+//! script is not answered; and scripts that are generated, in which as many messages as are asked
+//! for go from a writer to a reader, over a device that echoes each packet.
 #![tactic(auto)]
 
-mod by_letter;
-mod control_line;
-mod copies;
-mod device_line;
-mod endpoint_line;
-mod item;
-mod line;
-mod reader_line;
-mod reading;
-mod setup_line;
-mod shape;
-mod tree_line;
-mod writer_line;
+mod error;
+mod generated;
+mod laws;
+mod lines;
+mod message;
+mod order;
+mod round_trip;
+mod script;
 
-pub use item::Item;
-pub use line::read_line;
-pub use reading::Reading;
-pub use usb_steps::Steps;
-pub use usb_words::{
-    ControlData, ControlTarget, Criterion, Data, EndpointKind, Errno, FileName, Framing, Length,
-    Name, Path, ReadLength, Selector, Setup, StringIndex, Target, Timeout, number_between,
-};
+pub use error::SessionError;
+pub use generated::generate;
+pub use laws::generated_scripts_parse;
+pub use script::{MAX_SCRIPT, Script, parse_script};

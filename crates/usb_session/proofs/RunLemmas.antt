@@ -1,126 +1,146 @@
--- The run over the items of a script, and what the sink got.
-use Rattle.std.proofs.Common.{◌≡◌, ℕ, ◌+◌, ◌-◌, ◌<◌, Bool, true, false, cond, Result, Ok, Err, IfOk, List, [], ◌∷◌, ◌++◌, length, count_by, refl, ap, sym, ◌∙◌, subst, arith}
-use Rattle.std.specs.declared.option.Option.{Option}
-use Rattle.std.specs.Io.KnownBytes.{Appends}
-use Rattle.std.proofs.lemmas.List.{append-nil}
-use Rattle.std.proofs.lemmas.List.Sums.{sum_by-cons}
-use Rattle.usb_script.specs.declared.item.Item.{Item}
-use Rattle.usb_script.specs.ItemKinds.{is_call}
-use Rattle.usb_host.specs.HostState.{HostState}
-use Rattle.usb_host.specs.Finishes.{HasEnds, KeepsNothing}
-use Rattle.usb_answers.specs.SessionState.{SessionState}
-use Rattle.usb_answers.specs.declared.summary.Summary.{Summary}
-use Rattle.usb_kernel.specs.Tickets.{tickets}
-use Rattle.usb_answers.specs.State.{State}
-use Rattle.usb_answers.specs.Answers.{answer}
-use Rattle.usb_answers.specs.Answered.{Answered}
-use Rattle.usb_answers.specs.Ends.{ended}
-use Rattle.usb_answers.specs.Fates.{fate_line, fate_lines, fate_lines_from}
-use Rattle.usb_answers.specs.Output.{output, output_from, last_host, final_host, start}
-use Rattle.usb_answers.specs.Relation.{Represents}
-use Rattle.usb_answers.specs.Sums.{counts_of, sum_of}
-use Rattle.usb_answers.specs.Accounts.{Accounted}
-use Rattle.usb_answers.proofs.AccountLemmas.{accounted-start, accounted-answer}
-use Rattle.usb_answers.proofs.FateLemmas.{fate_lines_from-step, fate_lines-all}
-use Rattle.usb_session.specs.Causes.{Wrote, WrotePrefix}
-use Rattle.usb_session.specs.Running.{AllAnswered}
-use Rattle.usb_session.proofs.OutsideLemmas.{Wrote_none, Wrote_more, Wrote_all, Wrote_prefix}
+-- A session at its beginning.
+use Rattle.std.proofs.Common.{◌≡◌, ℕ, ◌≤◌, arith, List, [], ◌++◌, length, map, replicate, Option, Some, None, true, false, refl, ap, sym, ◌∙◌, subst}
+use Rattle.std.specs.Prelude.{max}
+use Rattle.std.specs.Option.{option_map}
+use Rattle.std.proofs.lemmas.List.{length-replicate, replicate-append-replicate}
+use Rattle.std.proofs.lemmas.Option.{none-some}
+use Rattle.usb_device_tables.specs.History.{value_at}
+use Rattle.usb_kernel_devices.specs.declared.devices.SimDevice.{SimDevice}
+use Rattle.usb_kernel.specs.Value.{KernelState}
+use Rattle.usb_kernel_devices.specs.Devices.{fresh_device}
+use Rattle.usb_enum_sysfs.specs.Tree.{Tree}
+use Rattle.usb_enum.specs.declared.hotplug.UdevPacket.{UdevPacket}
+use Rattle.usb_session_tree.specs.Trees.{tree_of}
+use Rattle.usb_session_tree.specs.Packets.{packets_of}
+use Rattle.usb_device_endpoint.specs.EndpointState.{EndpointState}
+use Rattle.usb_device_ledger.specs.Entries.{ClaimedInterface, HostEndpoint}
+use Rattle.usb_device_host.specs.HostState.{HostState, host_of}
+use Rattle.usb_device_host.specs.HostBus.{key_at}
+use Rattle.usb_device.specs.HandleStates.{InterfaceState}
+use Rattle.usb_device.specs.Futures.{FutureState}
+use Rattle.usb_script_lines.specs.declared.item.Item.{Item}
+use Rattle.usb_script_lines.specs.ItemKinds.{place_count}
+use Rattle.usb_session_calls.specs.Names.{named}
+use Rattle.usb_io.specs.Readers.{ReaderState}
+use Rattle.usb_io.specs.Writers.{WriterState}
+use Rattle.usb_session_calls.specs.BareReaders.{BareReader}
+use Rattle.usb_session_calls.specs.BareWriters.{BareWriter}
+use Rattle.usb_session_calls.specs.State.{Endpoint, Reader, Writer, endpoint_state}
+use Rattle.usb_session.specs.Output.{devices_of, start}
+use Rattle.usb_session_calls.specs.SessionState.{SessionState, IsSound}
+use Rattle.usb_session_calls.specs.SessionParts.{session_made, endpoint_of, bare_reader_of, writer_endpoint, bare_writer_of, endpoints_with}
+use Rattle.usb_session_calls.specs.Relation.{Represents, session_of}
+use Rattle.usb_session_calls.proofs.NameLemmas.{named-replicate, map-replicate}
 
--- a session on the way through the items: what it stands for, what was written and what is left
-pub record Running (old new : Option (List ℕ)) (s : SessionState) (items : List Item) (whole : List ℕ) (last : HostState) : Type 0 where
-  pub now : State
-  pub stands : Represents s now
-  pub accounted : Accounted now
-  pub wrote : Wrote old new whole (output_from now items)
-  pub leads : last_host now items ≡ last
+-- the host at the beginning
+larger : (a b : ℕ) → a ≡ 0 → max a b ≡ b
+larger a b none = omega arith
 
-pub running-start : (old : Option (List ℕ)) (s : SessionState) (items : List Item) → Represents s (start items) → Running old old s items (output items) (final_host items)
-unfolding output final_host
-running-start old s items r = record { now = start items; stands = r; accounted = accounted-start items; wrote = Wrote_none old (output_from (start items) items); leads = refl }
+pub host-start : (k now : KernelState) (items : List Item) (devices : List (ℕ × SimDevice)) (places : ℕ) → k.past ≡ [] → k.devices ≡ map fresh_device devices → devices ≡ devices_of items → k.clock ≡ 0 → k.armed ≡ [] → k.spare ≡ 0 → now ≡ record k { spare = now.spare } → now.spare ≡ max k.spare places → places ≡ place_count items → host_of now ≡ (start items).host
+unfolding start
+host-start k now items devices places past known are clock armed none rest spare all =
+    let room : now.spare ≡ place_count items = spare ∙ larger k.spare places none ∙ all in
+    let simulated = known ∙ ap (map fresh_device) are in
+    ap host_of rest ∙ rw (past, simulated, clock, armed, room) refl
 
--- the line of the first item that is left
-line-left : (now : State) (item : Item) (items : List Item) (line : List ℕ) → line ≡ (answer now item).line → line ++ output_from (answer now item).state items ≡ output_from now (item ∷ items)
-line-left now item items line same = ap (λ l. l ++ output_from (answer now item).state items) same
+-- the beginning
+nobody : {X : Type 0} (n e : ℕ) (x : X) → named (replicate n None) e ≡ Some x → ⊥
+nobody {X} n e x is = none-some x (sym (named-replicate n e) ∙ is)
 
-pub running-on : {old mid : Option (List ℕ)} {whole : List ℕ} {last : HostState} (new : Option (List ℕ)) (s next : SessionState) (item : Item) (items : List Item) (line : List ℕ) → Running old mid s (item ∷ items) whole last → ((state : State) → Represents s state → Answered next [] line (answer state item)) → Appends mid new line → Running old new next items whole last
-running-on new s next item items line run answered appends =
-    let a = answered run.now run.stands in
+-- a session with nothing open
+abbrev pub empty_session : Tree → List UdevPacket → HostState → SessionState
+empty_session t p host = record { host = host; devices = replicate 64 None; interfaces = replicate 64 None; endpoints = replicate 192 None; readers = replicate 64 None; writers = replicate 64 None; futures = replicate 64 None; tree = t; packets = p }
+
+empty-sound : (t : Tree) (p : List UdevPacket) (host : HostState) → host.steps ≡ [] → host.interfaces ≡ [] → host.devices ≡ [] → host.endpoints ≡ [] → IsSound (empty_session t p host)
+empty-sound t p host idle none nothing closed =
     record {
-      now = (answer run.now item).state;
-      stands = a.state;
-      accounted = accounted-answer run.now item run.stands.few run.accounted;
-      wrote = Wrote_more new line (output_from (answer run.now item).state items) run.wrote appends (line-left run.now item items line a.line);
-      leads = run.leads;
+      idle = idle;
+      device_names = length-replicate {A = Option ℕ} 64 None;
+      interface_names = length-replicate {A = Option InterfaceState} 64 None;
+      endpoint_names = length-replicate {A = Option EndpointState} 192 None;
+      reader_names = length-replicate {A = Option BareReader} 64 None;
+      writer_names = length-replicate {A = Option BareWriter} 64 None;
+      devices_stand = λ d key is. absurd (nobody 64 d key is);
+      devices_counted = λ key o at. absurd (none-some o (sym (ap (λ ds. value_at ds key) nothing) ∙ at));
+      devices_held = record {
+        held = λ key o at. absurd (none-some o (sym (ap (λ ds. value_at ds key) nothing) ∙ at));
+        counted = λ key o at. absurd (none-some o (sym (ap (λ ds. value_at ds key) nothing) ∙ at));
+        there = λ i c at some. absurd (none-some c (sym (ap (λ (l : List (Option ClaimedInterface)). value_at l i) none) ∙ at));
+      };
+      interfaces_stand = λ i f is. absurd (nobody 64 i f is);
+      interfaces_counted = λ key c at. absurd (none-some c (sym (ap (λ (l : List (Option ClaimedInterface)). value_at l key) none) ∙ at));
+      endpoints_stand = λ e h is. absurd (nobody 192 e h is);
+      endpoints_small = λ e h is. absurd (nobody 192 e h is);
+      endpoints_differ = λ d e g h isg ish apart. absurd (nobody 192 d g isg);
+      keys_named = λ key open_. let no_ : false ≡ true = sym (ap (λ (es : List (Option HostEndpoint)). key_at es key) closed) ∙ open_ in absurd (cc);
+      future_names = length-replicate {A = Option FutureState} 64 None;
+      futures_wait = λ n f is. absurd (nobody 64 n f is);
+      futures_stand = λ n f is. absurd (nobody 64 n f is);
+      futures_differ = λ m n f g isf isg apart. absurd (nobody 64 m f isf);
+      futures_apart = λ e n h f ish isf. absurd (nobody 64 n f isf);
     }
 
--- the sink failed within a line
-pub running-cut : {old mid : Option (List ℕ)} {whole : List ℕ} {last : HostState} (new : Option (List ℕ)) (s next : SessionState) (item : Item) (items : List Item) (line : List ℕ) → Running old mid s (item ∷ items) whole last → ((state : State) → Represents s state → Answered next [] line (answer state item)) → WrotePrefix mid new line → WrotePrefix old new whole
-running-cut new s next item items line run answered cut =
-    let a = answered run.now run.stands in
-    Wrote_prefix new line (output_from (answer run.now item).state items) run.wrote cut (line-left run.now item items line a.line)
+none-places : (es : List (Option EndpointState)) (rs : List (Option ReaderState)) (ws : List (Option WriterState)) → es ≡ replicate 64 None → rs ≡ replicate 64 None → ws ≡ replicate 64 None → endpoints_with es rs ws ≡ replicate 192 None
+none-places es rs ws e q w =
+    let none_read : map (option_map endpoint_of) rs ≡ replicate 64 None = ap (map (option_map endpoint_of)) q ∙ sym (map-replicate endpoint_of 64) in
+    let none_written : map (option_map writer_endpoint) ws ≡ replicate 64 None = ap (map (option_map writer_endpoint)) w ∙ sym (map-replicate writer_endpoint 64) in
+    ap (λ (l : List (Option EndpointState)). l ++ (map (option_map endpoint_of) rs ++ map (option_map writer_endpoint) ws)) e
+    ∙ ap (λ (l : List (Option EndpointState)). replicate 64 None ++ (l ++ map (option_map writer_endpoint) ws)) none_read
+    ∙ ap (λ (l : List (Option EndpointState)). replicate 64 None ++ (replicate 64 None ++ l)) none_written
+    ∙ ap (λ (l : List (Option EndpointState)). replicate 64 None ++ l) (replicate-append-replicate 64 64 None)
+    ∙ replicate-append-replicate 64 128 None
 
--- memory was wanting before the first line
-pub running-none : (old : Option (List ℕ)) (whole : List ℕ) → WrotePrefix old old whole
-running-none old whole = (whole, Wrote_none old whole)
+made-empty : (t : Tree) (p : List UdevPacket) (host : HostState) (ds : List (Option ℕ)) (is : List (Option InterfaceState)) (es : List (Option EndpointState)) (rs : List (Option ReaderState)) (ws : List (Option WriterState)) (fs : List (Option FutureState)) → ds ≡ replicate 64 None → is ≡ replicate 64 None → es ≡ replicate 64 None → rs ≡ replicate 64 None → ws ≡ replicate 64 None → fs ≡ replicate 64 None → session_made t p host ds is es rs ws fs ≡ empty_session t p host
+made-empty t p host ds is es rs ws fs d i e q w f =
+    ap (λ (l : List (Option ℕ)). session_made t p host l is es rs ws fs) d ∙ ap (λ (l : List (Option InterfaceState)). session_made t p host (replicate 64 None) l es rs ws fs) i
+    ∙ ap (λ (l : List (Option EndpointState)). record (empty_session t p host) { endpoints = l; readers = map (option_map bare_reader_of) rs; writers = map (option_map bare_writer_of) ws; futures = fs }) (none-places es rs ws e q w)
+    ∙ ap (λ (l : List (Option BareReader)). record (empty_session t p host) { readers = l; writers = map (option_map bare_writer_of) ws; futures = fs }) (ap (map (option_map bare_reader_of)) q ∙ sym (map-replicate bare_reader_of 64))
+    ∙ ap (λ (l : List (Option BareWriter)). record (empty_session t p host) { writers = l; futures = fs }) (ap (map (option_map bare_writer_of)) w ∙ sym (map-replicate bare_writer_of 64))
+    ∙ ap (λ (l : List (Option FutureState)). record (empty_session t p host) { futures = l }) f
 
--- all items are answered
-pub running-done : {old new : Option (List ℕ)} (s : SessionState) (items : List Item) → Running old new s [] (output items) (final_host items) → AllAnswered old new s items
-running-done s items run = record { now = run.now; stands = run.stands; accounted = run.accounted; wrote = run.wrote; leads = run.leads }
+start-steps : (items : List Item) → (start items).host.steps ≡ []
+unfolding start
+start-steps items = refl
 
--- a call is counted, and what is no call is not
-pub calls-yes : (item : Item) (items : List Item) (b : Bool) → b ≡ is_call item → b ≡ true → count_by is_call (item ∷ items) ≡ 1 + count_by is_call items
-calls-yes item items b is passes =
-    let call : is_call item ≡ true = sym is ∙ passes in
-    sum_by-cons (λ x. cond (is_call x) 1 0) item items ∙ rw call refl
+start-interfaces : (items : List Item) → (start items).host.interfaces ≡ []
+unfolding start
+start-interfaces items = refl
 
-pub calls-no : (item : Item) (items : List Item) (b : Bool) → b ≡ is_call item → b ≡ false → count_by is_call (item ∷ items) ≡ count_by is_call items
-calls-no item items b is fails =
-    let other : is_call item ≡ false = sym is ∙ fails in
-    sum_by-cons (λ x. cond (is_call x) 1 0) item items ∙ rw other (omega arith)
+start-devices : (items : List Item) → (start items).host.devices ≡ []
+unfolding start
+start-devices items = refl
 
--- but for the fate lines of the host at the end all is written
-pub answered-but_fates : {old new : Option (List ℕ)} (s : SessionState) (host : HostState) (items : List Item) → AllAnswered old new s items → ((state : State) → Represents s state → host ≡ ended state) → Wrote old new (output items) (fate_lines host)
-answered-but_fates {old} {new} s host items done ends =
-    subst (λ (h : HostState). Wrote old new (output items) (fate_lines h)) (sym (ends done.now done.stands)) done.wrote
+start-endpoints : (items : List Item) → (start items).host.endpoints ≡ []
+unfolding start
+start-endpoints items = refl
 
--- and then they are
-pub answered-end : {old mid : Option (List ℕ)} (new : Option (List ℕ)) (host : HostState) (items : List Item) → Wrote old mid (output items) (fate_lines host) → Appends mid new (fate_lines host) → Appends old new (output items)
-answered-end new host items wrote appends = Wrote_all (Wrote_more new (fate_lines host) [] wrote appends (append-nil (fate_lines host))) refl
+pub sound-start : (items : List Item) (t : Tree) (p : List UdevPacket) (host : HostState) (ds : List (Option ℕ)) (is : List (Option InterfaceState)) (es : List (Option EndpointState)) (rs : List (Option ReaderState)) (ws : List (Option WriterState)) (fs : List (Option FutureState)) → host ≡ (start items).host → ds ≡ replicate 64 None → is ≡ replicate 64 None → es ≡ replicate 64 None → rs ≡ replicate 64 None → ws ≡ replicate 64 None → fs ≡ replicate 64 None → IsSound (session_made t p host ds is es rs ws fs)
+sound-start items t p host ds is es rs ws fs start_ d i e q w f =
+    subst IsSound (sym (made-empty t p host ds is es rs ws fs d i e q w f)) (empty-sound t p host (ap (λ (h : HostState). h.steps) start_ ∙ start-steps items) (ap (λ (h : HostState). h.interfaces) start_ ∙ start-interfaces items) (ap (λ (h : HostState). h.devices) start_ ∙ start-devices items) (ap (λ (h : HostState). h.endpoints) start_ ∙ start-endpoints items))
 
-pub answered-cut : {old mid : Option (List ℕ)} (new : Option (List ℕ)) (host : HostState) (items : List Item) → Wrote old mid (output items) (fate_lines host) → WrotePrefix mid new (fate_lines host) → WrotePrefix old new (output items)
-answered-cut new host items wrote cut = Wrote_prefix new (fate_lines host) [] wrote cut (append-nil (fate_lines host))
+empty-start : (items : List Item) → empty_session (tree_of items) (packets_of items) (start items).host ≡ session_of (start items)
+unfolding start
+empty-start items =
+    ap (λ (l : List (Option EndpointState)). record (empty_session (tree_of items) (packets_of items) (start items).host) { endpoints = l }) (map-replicate endpoint_state 192)
+    ∙ ap (λ (l : List (Option BareReader)). record (empty_session (tree_of items) (packets_of items) (start items).host) { endpoints = map (option_map endpoint_state) (replicate 192 None); readers = l }) (map-replicate (λ (x : Reader). x.bare) 64)
+    ∙ ap (λ (l : List (Option BareWriter)). record (empty_session (tree_of items) (packets_of items) (start items).host) { endpoints = map (option_map endpoint_state) (replicate 192 None); readers = map (option_map (λ (x : Reader). x.bare)) (replicate 64 None); writers = l }) (map-replicate (λ (x : Writer). x.bare) 64)
 
--- the host at the end is the last of the script, and each of its tickets has its end
-pub host-final : {old new : Option (List ℕ)} (s : SessionState) (host : HostState) (items : List Item) → AllAnswered old new s items → ((state : State) → Represents s state → host ≡ ended state) → host ≡ final_host items
-host-final s host items done ends = ends done.now done.stands ∙ done.leads
+few-start : (items : List Item) (e : ℕ) (h : Endpoint) → named (start items).endpoints e ≡ Some h → h.taken ≤ length h.tickets
+unfolding start
+few-start items e h is = absurd (nobody 192 e h is)
 
-pub host-ended : {old new : Option (List ℕ)} (s : SessionState) (host : HostState) (items : List Item) → AllAnswered old new s items → ((state : State) → Represents s state → Accounted state → HasEnds host.tickets) → HasEnds host.tickets
-host-ended s host items done ends = ends done.now done.stands done.accounted
+pub represents-start : (items : List Item) (t : Tree) (p : List UdevPacket) (host : HostState) (ds : List (Option ℕ)) (is : List (Option InterfaceState)) (es : List (Option EndpointState)) (rs : List (Option ReaderState)) (ws : List (Option WriterState)) (fs : List (Option FutureState)) → host ≡ (start items).host → ds ≡ replicate 64 None → is ≡ replicate 64 None → es ≡ replicate 64 None → rs ≡ replicate 64 None → ws ≡ replicate 64 None → fs ≡ replicate 64 None → t ≡ tree_of items → p ≡ packets_of items → Represents (session_made t p host ds is es rs ws fs) (start items)
+represents-start items t p host ds is es rs ws fs start_ d i e q w f known left =
+    record {
+      is =
+          made-empty t p host ds is es rs ws fs d i e q w f ∙ ap (empty_session t p) start_ ∙ ap (λ s. empty_session s p (start items).host) known
+          ∙ ap (λ l. empty_session (tree_of items) l (start items).host) left ∙ empty-start items;
+      few = few-start items;
+    }
 
--- and it keeps nothing
-pub host-nothing : {old new : Option (List ℕ)} (s : SessionState) (host : HostState) (items : List Item) → AllAnswered old new s items → ((state : State) → Represents s state → Accounted state → KeepsNothing host) → KeepsNothing host
-host-nothing s host items done keeps = keeps done.now done.stands done.accounted
+spare-of_start : (items : List Item) → (start items).host.kernel.spare ≡ place_count items
+unfolding start
+spare-of_start items = refl
 
--- the summary of the last host
-pub answered-sum : (host : HostState) (items : List Item) (calls : ℕ) (summary : Summary) → host ≡ final_host items → summary ≡ counts_of calls host → calls ≡ count_by is_call items → summary ≡ sum_of items
-answered-sum host items calls summary final sums counted =
-    sums ∙ ap (counts_of calls) final ∙ ap (λ n. counts_of n (final_host items)) counted
-
--- what is so anyhow is so where a call answered
-pub always-ok : {T E Q : Type 0} (r : Result T E) → Q → IfOk r (λ x. Q)
-always-ok (Ok x) q = q
-always-ok (Err e) q = tt
-
--- the fate lines
-pub fates-start : (old : Option (List ℕ)) (h : HostState) → Wrote old old (fate_lines h) (fate_lines_from h 0 (length (tickets h.kernel.past) - 0))
-fates-start old h = rw (← fate_lines-all h) (Wrote_none old (fate_lines h))
-
-pub fates-on : {old mid : Option (List ℕ)} (new : Option (List ℕ)) (h : HostState) (t n : ℕ) (line : List ℕ) → t < n → n ≡ length (tickets h.kernel.past) → line ≡ fate_line h t → Wrote old mid (fate_lines h) (fate_lines_from h t (length (tickets h.kernel.past) - t)) → Appends mid new line → Wrote old new (fate_lines h) (fate_lines_from h (t + 1) (length (tickets h.kernel.past) - (t + 1)))
-fates-on new h t n line below all is wrote appends =
-    let within : t < length (tickets h.kernel.past) = omega arith in
-    Wrote_more new line (fate_lines_from h (t + 1) (length (tickets h.kernel.past) - (t + 1))) wrote appends (rw is (sym (fate_lines_from-step h t (length (tickets h.kernel.past)) within)))
-
-pub fates-cut : {old mid : Option (List ℕ)} (new : Option (List ℕ)) (h : HostState) (t n : ℕ) (line : List ℕ) → t < n → n ≡ length (tickets h.kernel.past) → line ≡ fate_line h t → Wrote old mid (fate_lines h) (fate_lines_from h t (length (tickets h.kernel.past) - t)) → WrotePrefix mid new line → WrotePrefix old new (fate_lines h)
-fates-cut new h t n line below all is wrote cut =
-    let within : t < length (tickets h.kernel.past) = omega arith in
-    Wrote_prefix new line (fate_lines_from h (t + 1) (length (tickets h.kernel.past) - (t + 1))) wrote cut (rw is (sym (fate_lines_from-step h t (length (tickets h.kernel.past)) within)))
+pub spare-start : (items : List Item) (host : HostState) (places : ℕ) → host ≡ (start items).host → places ≡ place_count items → host.kernel.spare ≡ places
+spare-start items host places start_ all = ap (λ (h : HostState). h.kernel.spare) start_ ∙ spare-of_start items ∙ sym all

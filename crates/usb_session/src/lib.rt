@@ -1,25 +1,34 @@
-//! A session: reads a script, answers it and writes the answers.
+//! The answers of a session: its state, what each line of a script is answered, the end of the session and the fates
+//! of its tickets.
 #![tactic(auto)]
 
-mod generation;
-mod live;
-mod memory;
-mod outside;
-mod program;
-mod reading;
-mod run;
-mod standard;
-mod sure;
-mod writing;
+mod answer;
+mod awaiting;
+mod claiming;
+mod cloning;
+mod closing;
+mod ending;
+mod endpoints;
+mod families;
+mod fates;
+mod laws;
+mod listing;
+mod now;
+mod opening;
+mod probing;
+mod reader_names;
+mod session;
+mod stepping;
+mod summary;
+mod watching;
+mod writer_names;
 
-pub use memory::{MemSink, MemSource};
-pub use outside::{Failed, Gathers, Sink, Source};
-pub use program::{end_program, lack_memory, refuse_words, run_program};
-pub use run::run_session;
-pub use standard::{StdSink, StdSource};
-pub use sure::{SureSink, SureSource};
-pub use usb_answers::Summary;
-pub use usb_generated::generate;
-pub use usb_live::{Gate, OpenGate, Seen};
-pub use usb_parse::{Script, SessionError, parse_script};
-pub use usb_script::{Item, Steps};
+pub use fates::{tickets, write_fate};
+pub use laws::{
+    controls_are_served, each_ticket_is_accounted_for, endpoints_are_served_in_order,
+    fates_are_final, framed_readers_follow, lines_print_what_they_took,
+    polls_answer_for_their_place, readers_hand_over, scripts_go_on, writers_tell,
+};
+pub use session::Session;
+pub use summary::Summary;
+pub use usb_device::Host;

@@ -6,13 +6,13 @@ ghost use Rattle.usb_xfer.specs.TransferStatus.{status_of};
 ghost use Rattle.usb_xfer.specs.TransferTexts.{errno_text, error_word};
 ghost use Rattle.usb_xfer.specs.TransferTexts.{status_word as word_of};
 
-use crate::errno::{
-    COMM, CONNRESET, ILSEQ, INVAL, NODEV, NOENT, OVERFLOW, PIPE, PROTO, SHUTDOWN, TIME, TIMEDOUT,
-};
 use std::alloc::{AllocError, Global};
 use std::error::Error;
 use std::fmt;
 use usb_desc::NoMemory;
+use usb_desc::errno::{
+    COMM, CONNRESET, ILSEQ, INVAL, NODEV, NOENT, OVERFLOW, PIPE, PROTO, SHUTDOWN, TIME, TIMEDOUT,
+};
 
 /// Why a transfer failed.
 #[derive(Clone, Copy, PartialEq, Eq, Debug)]

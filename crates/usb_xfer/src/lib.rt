@@ -3,7 +3,6 @@
 #![tactic(auto)]
 
 mod buffer;
-pub mod errno;
 mod error;
 mod future;
 mod marker;

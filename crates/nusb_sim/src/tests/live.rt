@@ -5,7 +5,7 @@ ghost use Rattle.std.specs.Prelude.{◌≡◌, false};
 use super::{expect, expect_faults, expect_run, run_with};
 use std::test::Fail;
 use std::thread::yield_now;
-use usb_session::{Gate, Seen};
+use usb_session_run::{Gate, Seen};
 
 /// Always passes. At its first pass it waits for `seen`, and notes in `asked` that it was asked and in `found` that it found it set.
 #[derive(Drop)]

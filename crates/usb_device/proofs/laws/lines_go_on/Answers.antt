@@ -1,4 +1,4 @@
-use Rattle.usb_host.proofs.WaitFrames.{went-turned, went-waited, went-blocked, went-awaited, went-rest, rest-steps, rest-spare}
+use Rattle.usb_device_host.proofs.WaitFrames.{went-turned, went-waited, went-blocked, went-awaited, went-rest, rest-steps, rest-spare}
 use Rattle.usb_device.proofs.laws.lines_go_on.Goals as goal
 
 pub returns : goal.returns

@@ -1,7 +1,7 @@
 use Rattle.std.proofs.Common.{◌≡◌, ◌++◌, map}
 use Rattle.std.specs.List.{filter_map}
 use Rattle.std.specs.String.{string_bytes}
-use Rattle.usb_sysfs.specs.Tree.{children_of}
+use Rattle.usb_enum_sysfs.specs.Tree.{children_of}
 use Rattle.usb_enum.specs.Probing.{interface_in}
 use Rattle.usb_enum.proofs.probe.find_interfaces.Given as goal
 

@@ -2,7 +2,7 @@ use Rattle.std.proofs.Common.{rules, ◌≡◌, ◌∙◌, ◌<◌, ap, refl, No
 use Rattle.std.specs.List.{All, flat_map, range_with_len}
 use Rattle.std.proofs.lemmas.List.Sorted.{IsNonDecreasingBy-from_sort_by_key, answers_always, All-permutation}
 use Rattle.usb_enum.specs.Devices.{InterfaceFacts}
-use Rattle.usb_sysfs.specs.Tree.{children_of}
+use Rattle.usb_enum_sysfs.specs.Tree.{children_of}
 use Rattle.usb_enum.specs.Probing.{by_number, with_number}
 use Rattle.usb_enum.proofs.OrderLemmas.{sorted_parts}
 use Rattle.usb_enum.proofs.InterfaceLemmas.{interfaces_below}

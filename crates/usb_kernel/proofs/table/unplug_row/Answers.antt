@@ -4,7 +4,7 @@ use Rattle.std.proofs.lemmas.List.Elements.{All-set}
 use Rattle.std.proofs.lemmas.Option.{none-some}
 use Rattle.usb_kernel.specs.declared.slot.TicketRow.{TicketRow}
 use Rattle.usb_kernel.specs.Rows.{IsRoomy, owed, row_unplugged}
-use Rattle.usb_kernel.proofs.Steps.{All-slice_get, set_read}
+use Rattle.usb_kernel.proofs.StepLemmas.{All-slice_get, set_read}
 use Rattle.usb_kernel.proofs.Echoes.{read_at}
 use Rattle.usb_kernel.proofs.Unreaped.{row_read, none_unless, finishes-fail}
 use Rattle.usb_kernel.proofs.Unplugs.{unplugged-open, unplugged-other, unplugged-finished}

@@ -1,5 +1,9 @@
 use Rattle.std.proofs.Common.{ℕ, refl, false, Ok, Err}
 use Rattle.usb_device.proofs.StandLemmas.{claimed-stands, claimed-device}
+use Rattle.usb_device_host.specs.InterfaceClaims.{host_claimed}
+use Rattle.usb_device_host.proofs.Left.{left}
+use Rattle.usb_device.specs.KeptHandles.{HandlesStand}
+use Rattle.usb_device.proofs.KeptLemmas.{stand-none, stand-claimed}
 use Rattle.usb_device.proofs.device.Device.claim_interface.Goals as goal
 
 pub returns-in-Ok-clause-claims : goal.returns-in-Ok-clause-claims
@@ -42,3 +46,11 @@ pub returns-in-Err-clause-device : goal.returns-in-Err-clause-device
 returns-in-Err-clause-device c =
     let key = c.self.view_is in
     claimed-device {A = ℕ} c.args.host.now c.claim.new.self c.args.self.now c.args.interface false (Err c.in-Err.error) c.requires.stands (rw key at c.in-Err.ensures.host)
+
+pub returns-in-Ok-clause-handles : goal.returns-in-Ok-clause-handles
+returns-in-Ok-clause-handles c = rw c.in-Ok.ensures.host (stand-claimed c.args.host.now c.self.inside.key.serial c.args.interface false)
+
+pub returns-in-Err-clause-handles : goal.returns-in-Err-clause-handles
+returns-in-Err-clause-handles c =
+    let host = c.args.host.now in
+    left {A = ℕ} (HandlesStand host) (Err c.in-Err.error) c.claim.new.self (host_claimed host c.self.inside.key.serial c.args.interface false) host c.in-Err.ensures.host (stand-claimed host c.self.inside.key.serial c.args.interface false) (stand-none host)

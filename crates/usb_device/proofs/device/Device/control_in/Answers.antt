@@ -1,7 +1,7 @@
-use Rattle.usb_host.specs.HostState.{HostState}
+use Rattle.usb_device_host.specs.HostState.{HostState}
 use Rattle.usb_device.specs.HandleStates.{StandsDevice}
 use Rattle.usb_device.specs.ControlCalls.{controlled}
-use Rattle.usb_host.proofs.Left.{left}
+use Rattle.usb_device_host.proofs.Left.{left}
 use Rattle.usb_device.proofs.FutureFrames.{device-controlled}
 use Rattle.usb_device.proofs.device.Device.control_in.Goals as goal
 

@@ -1,11 +1,12 @@
 use Rattle.std.proofs.Common.{◌≡◌, ◌∙◌, ap, Some, length, []}
-use Rattle.usb_registry.specs.History.{value_at}
-use Rattle.usb_bus.specs.declared.route.Route.{Route}
-use Rattle.usb_endpoint.specs.EndpointState.{EndpointState}
+use Rattle.usb_device_tables.specs.History.{value_at}
+use Rattle.usb_device_endpoint.specs.declared.route.Route.{Route}
+use Rattle.usb_device_endpoint.specs.EndpointState.{EndpointState}
 use Rattle.usb_device.specs.HandleStates.{InterfaceState}
-use Rattle.usb_host.specs.EndpointOpens.{host_asked, with_endpoint}
-use Rattle.usb_host.proofs.EndpointLemmas.{endpoint-stands, endpoint-others}
+use Rattle.usb_device_host.specs.EndpointOpens.{host_asked, with_endpoint}
+use Rattle.usb_device_host.proofs.EndpointLemmas.{endpoint-stands, endpoint-others}
 use Rattle.usb_device.proofs.StandLemmas.{endpoint-interface, asked-interface}
+use Rattle.usb_device.proofs.KeptLemmas.{stand-asked, stand-endpoint}
 use Rattle.usb_device.proofs.device.Interface.endpoint.Goals as goal
 
 pub returns-in-Ok-clause-opens : goal.returns-in-Ok-clause-opens
@@ -70,3 +71,17 @@ returns-in-Err-clause-opens g c =
       ok = tt;
       err = c.in-Err.ensures.err claim at;
     }
+
+pub returns-in-Ok-clause-handles : goal.returns-in-Ok-clause-handles
+returns-in-Ok-clause-handles g c =
+    let host = c.args.host.now in
+    let stands = c.requires.stands in
+    let at : value_at host.interfaces c.self.inside.key.serial ≡ Some stands.claim = ap (λ (i : InterfaceState). value_at host.interfaces i.key) c.self.view_is ∙ stands.at in
+    rw (c.in-Ok.ensures.ok stands.claim at) (stand-endpoint host stands.claim.opened c.self.inside.key.serial c.args.address)
+
+pub returns-in-Err-clause-handles : goal.returns-in-Err-clause-handles
+returns-in-Err-clause-handles g c =
+    let host = c.args.host.now in
+    let stands = c.requires.stands in
+    let at : value_at host.interfaces c.self.inside.key.serial ≡ Some stands.claim = ap (λ (i : InterfaceState). value_at host.interfaces i.key) c.self.view_is ∙ stands.at in
+    rw (c.in-Err.ensures.err stands.claim at) (stand-asked host stands.claim.opened)

@@ -1,4 +1,4 @@
-use Rattle.usb_ledger.proofs.LedgerLemmas.{either}
+use Rattle.usb_device_ledger.proofs.LedgerLemmas.{either}
 use Rattle.usb_device.proofs.FutureFrames.{interface-started}
 use Rattle.usb_device.proofs.device.Interface.start_control_in.Goals as goal
 

@@ -1,6 +1,6 @@
 use Rattle.std.proofs.Common.{◌<◌, length, ap, sym, subst, ◌∙◌}
-use Rattle.usb_endpoint.proofs.PollLemmas.{took-next}
-use Rattle.usb_endpoint.proofs.WaitLemmas.{wait-vain}
+use Rattle.usb_device_endpoint.proofs.PollLemmas.{took-next}
+use Rattle.usb_device_endpoint.proofs.WaitLemmas.{wait-vain}
 use Rattle.usb_io.specs.declared.fronts.Taken.TheVariants.{Took}
 use Rattle.usb_io.specs.Writers.{WriterState, writing}
 use Rattle.usb_io.proofs.Carrying.{tells_taken, tells_missed}

@@ -1,6 +1,6 @@
 use Rattle.std.proofs.Common.{◌≡◌, None, ap, sym, ◌∙◌}
-use Rattle.usb_simulated.specs.Refusals.{call_refusal}
-use Rattle.usb_simulated.specs.DeviceCalls.{kind_of, call_rules, call_change}
+use Rattle.usb_kernel_devices.specs.Refusals.{call_refusal}
+use Rattle.usb_kernel_devices.specs.DeviceCalls.{kind_of, call_rules, call_change}
 use Rattle.usb_kernel.specs.Value.{KernelState}
 use Rattle.usb_kernel.proofs.CallLemmas.{called-refused, errno-rows, called-rows}
 use Rattle.usb_kernel.proofs.kernel.Kernel.call.Goals as goal

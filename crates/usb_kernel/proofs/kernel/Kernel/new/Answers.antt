@@ -1,6 +1,6 @@
 use Rattle.std.proofs.Common.{◌<◌, ℕ, arith, refl}
 use Rattle.std.proofs.lemmas.List.Elements.{All-nil}
-use Rattle.usb_simulated.specs.Refusals.{HasArmedErrno}
+use Rattle.usb_kernel_devices.specs.Refusals.{HasArmedErrno}
 use Rattle.usb_kernel.proofs.Fresh.{Agrees-none, All-none}
 use Rattle.usb_kernel.proofs.kernel.Kernel.new.Goals as goal
 

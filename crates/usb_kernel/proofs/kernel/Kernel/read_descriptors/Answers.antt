@@ -1,9 +1,9 @@
 use Rattle.std.proofs.Common.{◌≡◌, Some, Ok, refl, ap, sym, ◌∙◌}
-use Rattle.usb_simulated.specs.declared.devices.DeviceState.{DeviceState}
-use Rattle.usb_simulated.specs.declared.step.KernelCall.TheVariants as call
-use Rattle.usb_simulated.specs.Devices.{plugged_device}
-use Rattle.usb_simulated.specs.Claims.{no_rules}
-use Rattle.usb_simulated.specs.Calls.{same}
+use Rattle.usb_kernel_devices.specs.declared.devices.DeviceState.{DeviceState}
+use Rattle.usb_kernel_devices.specs.declared.step.KernelCall.TheVariants as call
+use Rattle.usb_kernel_devices.specs.Devices.{plugged_device}
+use Rattle.usb_kernel_devices.specs.Claims.{no_rules}
+use Rattle.usb_kernel_devices.specs.Calls.{same}
 use Rattle.usb_kernel.specs.Value.{KernelState}
 use Rattle.usb_kernel.proofs.CallLemmas.{called-refused, called-asked, asked-refused, asked-found}
 use Rattle.usb_kernel.proofs.kernel.Kernel.read_descriptors.Goals as goal

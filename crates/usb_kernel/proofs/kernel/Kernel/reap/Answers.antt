@@ -4,7 +4,7 @@ use Rattle.usb_kernel.specs.Rows.{Agrees}
 use Rattle.usb_kernel.specs.Completions.{reapable}
 use Rattle.usb_kernel.specs.Deadlines.{KeepsDeadlines}
 use Rattle.usb_kernel.specs.Steps.{after_reap}
-use Rattle.usb_kernel.proofs.Steps.{after_reap-none, after_reap-some}
+use Rattle.usb_kernel.proofs.StepLemmas.{after_reap-none, after_reap-some}
 use Rattle.usb_kernel.proofs.Kept.{past_is, rest-past, owed-left, has-room_owed, kept-event, kept-quiet, used-freed, same-spare, reapable-finished}
 use Rattle.usb_kernel.proofs.kernel.Kernel.reap.Goals as goal
 

@@ -1,7 +1,7 @@
 use Rattle.std.proofs.Common.{sym, ◌∙◌}
-use Rattle.usb_simulated.specs.declared.step.KernelCall.TheVariants as call
-use Rattle.usb_simulated.specs.Claims.{no_rules}
-use Rattle.usb_simulated.specs.Calls.{same}
+use Rattle.usb_kernel_devices.specs.declared.step.KernelCall.TheVariants as call
+use Rattle.usb_kernel_devices.specs.Claims.{no_rules}
+use Rattle.usb_kernel_devices.specs.Calls.{same}
 use Rattle.usb_kernel.proofs.CallLemmas.{called-refused, called-asked}
 use Rattle.usb_kernel.proofs.kernel.Kernel.speed.Goals as goal
 

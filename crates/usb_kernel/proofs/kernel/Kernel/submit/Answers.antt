@@ -1,8 +1,8 @@
 use Rattle.std.proofs.Common.{◌≡◌, Some, None, true, false, sym, ap, ◌∙◌}
 use Rattle.std.specs.Prelude.{is_some}
-use Rattle.usb_simulated.specs.Devices.{plugged_device}
-use Rattle.usb_simulated.specs.Refusals.{armed_errno, disarmed}
-use Rattle.usb_simulated.specs.declared.step.KernelCall.TheVariants as call
+use Rattle.usb_kernel_devices.specs.Devices.{plugged_device}
+use Rattle.usb_kernel_devices.specs.Refusals.{armed_errno, disarmed}
+use Rattle.usb_kernel_devices.specs.declared.step.KernelCall.TheVariants as call
 use Rattle.usb_kernel.specs.Value.{KernelState}
 use Rattle.usb_kernel.proofs.Kept.{past_is, devices_is, armed_is, kept-disarmed}
 use Rattle.usb_kernel.proofs.Submitting.{plugged-none, plugged-some, nodev, on_ok, on_ok-err, on_err-ok, rest-both, rest-disarmed}

@@ -1,6 +1,6 @@
 use Rattle.std.proofs.Common.{refl, sym, ap, ◌∙◌, reverse}
 use Rattle.std.specs.List.{sum_by}
-use Rattle.usb_simulated.specs.Devices.{devices_unplugged}
+use Rattle.usb_kernel_devices.specs.Devices.{devices_unplugged}
 use Rattle.usb_kernel.specs.declared.event.Event.TheVariants.{Unplug}
 use Rattle.usb_kernel.specs.Rows.{Agrees, owed}
 use Rattle.usb_kernel.specs.Steps.{after_unplug}

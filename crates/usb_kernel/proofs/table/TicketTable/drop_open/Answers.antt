@@ -1,5 +1,5 @@
 use Rattle.std.proofs.Common.{◌<◌, length, ◌∙◌, refl, ap}
-use Rattle.usb_kernel.proofs.Steps.{row_at, set_read, All-slice_get}
+use Rattle.usb_kernel.proofs.StepLemmas.{row_at, set_read, All-slice_get}
 use Rattle.usb_kernel.proofs.Discards.{after_discard-none, after_discard-some, is_unfinished-beyond, is_unfinished-row, Agrees-discard, none_when, not_none_when}
 use Rattle.usb_kernel.specs.Rows.{Agrees, IsRoomy, owed}
 use Rattle.usb_kernel.proofs.Unreaped.{same_rows, row_read, finishes-fail}

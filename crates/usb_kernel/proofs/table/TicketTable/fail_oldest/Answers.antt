@@ -1,5 +1,5 @@
 use Rattle.std.proofs.Common.{sym, ap, ◌∙◌}
-use Rattle.usb_kernel.proofs.Steps.{found, oldest-none, open_row, Agrees-fail, after_fail-none, after_fail-some}
+use Rattle.usb_kernel.proofs.StepLemmas.{found, oldest-none, open_row, Agrees-fail, after_fail-none, after_fail-some}
 use Rattle.usb_kernel.specs.Rows.{Agrees, owed}
 use Rattle.usb_kernel.proofs.Unreaped.{same_rows, row_read, finishes-fail}
 use Rattle.std.specs.List.{sum_by}

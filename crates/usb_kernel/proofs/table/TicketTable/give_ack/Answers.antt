@@ -1,6 +1,6 @@
 use Rattle.std.proofs.Common.{arith, sym, ap, ◌∙◌}
 use Rattle.std.specs.List.{sum_by}
-use Rattle.usb_kernel.proofs.Steps.{found, oldest-none, open_row, Agrees-ack, after_ack-none, after_ack-some}
+use Rattle.usb_kernel.proofs.StepLemmas.{found, oldest-none, open_row, Agrees-ack, after_ack-none, after_ack-some}
 use Rattle.usb_kernel.specs.Rows.{Agrees, owed}
 use Rattle.usb_kernel.proofs.Unreaped.{same_rows, row_read, goes_on-ack}
 use Rattle.usb_kernel.proofs.Passing.{owed-open}

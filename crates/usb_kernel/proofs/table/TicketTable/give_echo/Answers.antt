@@ -1,6 +1,6 @@
 use Rattle.std.proofs.Common.{sym, ap, ◌∙◌}
 use Rattle.std.specs.List.{sum_by}
-use Rattle.usb_kernel.proofs.Steps.{found, oldest-none}
+use Rattle.usb_kernel.proofs.StepLemmas.{found, oldest-none}
 use Rattle.usb_kernel.proofs.Passing.{after_echo-none_out, after_echo-none_in, after_echo-some, sends-of, takes-of, Agrees-pass, pass-listed}
 use Rattle.usb_kernel.specs.Rows.{Agrees, owed}
 use Rattle.usb_kernel.proofs.Unreaped.{same_rows}

@@ -1,5 +1,5 @@
 use Rattle.std.proofs.Common.{arith, sym, ap, ◌∙◌}
-use Rattle.usb_kernel.proofs.Steps.{found, oldest-none, open_row, Agrees-packet, after_packet-none, after_packet-some}
+use Rattle.usb_kernel.proofs.StepLemmas.{found, oldest-none, open_row, Agrees-packet, after_packet-none, after_packet-some}
 use Rattle.usb_kernel.specs.Rows.{Agrees, owed}
 use Rattle.usb_kernel.proofs.Unreaped.{same_rows, row_read, goes_on-packet}
 use Rattle.std.specs.List.{sum_by}

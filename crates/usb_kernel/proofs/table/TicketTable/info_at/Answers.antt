@@ -1,5 +1,5 @@
 use Rattle.std.proofs.Common.{length, arith, ap}
-use Rattle.usb_kernel.proofs.Steps.{row_at, info-row}
+use Rattle.usb_kernel.proofs.StepLemmas.{row_at, info-row}
 use Rattle.usb_kernel.specs.Rows.{Agrees}
 use Rattle.usb_kernel.specs.TableState.{TableState}
 use Rattle.usb_kernel.proofs.Unreaped.{same_rows}

@@ -1,7 +1,7 @@
 use Rattle.std.proofs.Common.{sym, ap, ◌∙◌}
 use Rattle.std.specs.Prelude.{is_some}
 use Rattle.std.proofs.lemmas.Bool.{and_parts}
-use Rattle.usb_kernel.proofs.Steps.{set_read, row_at, reapable-row, reapable-none, row_done-none, after_reap-none, after_reap-some, Agrees-reap}
+use Rattle.usb_kernel.proofs.StepLemmas.{set_read, row_at, reapable-row, reapable-none, row_done-none, after_reap-none, after_reap-some, Agrees-reap}
 use Rattle.usb_kernel.specs.Rows.{Agrees, owed}
 use Rattle.usb_kernel.proofs.Unreaped.{same_rows, row_read, is_reaped-done}
 use Rattle.std.specs.List.{sum_by}

@@ -1,0 +1,6 @@
+pub mod OpenLemmas
+pub mod TicketLemmas
+pub mod ReportLemmas
+pub mod HandleCounts
+pub mod OpenHandles
+pub mod KeptHandles

@@ -1,0 +1,3 @@
+pub mod Reports
+pub mod Reading
+pub mod Closing

@@ -1,0 +1,43 @@
+//! Transfers of a host's endpoint, and what is kept of handles that are closed. Expected values
+//! come from the rules of the simulation.
+
+use crate::hosts::PACKET;
+use std::alloc::Global;
+use usb_device::{Buffer, Bulk, Bus, Completion, Device, Error, Fail, Host, In};
+
+/// Reads one packet from bulk IN endpoint 0x81 of the device at bus 1 and address 6, within a
+/// second.
+fn read_packet(alloc: Global, host: &mut Host) -> Result<Option<Completion>, Fail<Error>> {
+    let Ok(buffer) = Buffer::new(alloc, 64) else {
+        return Err(Fail::Memory);
+    };
+    let device = Device::open_at(alloc, host, 1, 6)?;
+    let interface = device.into_interface(host, 0)?;
+    let mut endpoint = interface.into_endpoint::<Bulk, In>(host, 0x81)?;
+    let done = match endpoint.submit(host, buffer) {
+        Ok(()) => Ok(endpoint.wait_next_complete(host, 1_000_000_000)),
+        Err(_) => Err(Fail::Memory),
+    };
+    endpoint.close(host); // what is still on its way is given up, once
+    done
+}
+
+/// Whether the packet is read.
+pub fn has_packet(alloc: Global, host: &mut Host) -> bool {
+    match read_packet(alloc, host) {
+        Ok(Some(done)) => done.buffer.as_slice() == PACKET.as_slice(),
+        _ => false,
+    }
+}
+
+/// Opens the device, claims its interface, opens an endpoint, submits, closes all and reaps, again
+/// and again. Says whether each table has room for at most one entry then.
+pub fn leaves_room(alloc: Global, host: &mut Host) -> bool {
+    for _ in 0..100_000 {
+        if read_packet(alloc, host).is_err() {
+            return false;
+        }
+        let _ = host.turn();
+    }
+    host.device_capacity() <= 1 && host.interface_capacity() <= 1 && host.endpoint_count() == 0
+}

@@ -1,7 +1,0 @@
--- Framed readers follow their streams over each script.
-use Rattle.usb_answers.specs.Framed.{FramedScriptsFollow}
-use Rattle.usb_answers.proofs.HandleLemmas.{scripts-go_on}
-use Rattle.usb_answers.proofs.FramedBehind.{follow-by}
-
-pub framed-scripts : FramedScriptsFollow
-framed-scripts = follow-by scripts-go_on

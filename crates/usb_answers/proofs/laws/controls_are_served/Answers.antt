@@ -1,5 +1,0 @@
-use Rattle.usb_answers.proofs.ControlsLaw.{scripts-serve_controls}
-use Rattle.usb_answers.proofs.laws.controls_are_served.Goals as goal
-
-pub returns : goal.returns
-returns c = record { controls = scripts-serve_controls }

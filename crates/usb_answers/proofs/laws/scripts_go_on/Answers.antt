@@ -1,5 +1,0 @@
-use Rattle.usb_answers.proofs.HandleLemmas.{scripts-go_on}
-use Rattle.usb_answers.proofs.laws.scripts_go_on.Goals as goal
-
-pub returns : goal.returns
-returns c = scripts-go_on

@@ -1,8 +1,0 @@
-use Rattle.usb_answers.proofs.PollCode.{pending-counted}
-use Rattle.usb_answers.proofs.polling.pending_open.Goals as goal
-
-pub returns : goal.returns
-returns c = record {
-  answered = λ host.
-      pending-counted host c.args.endpoint.now c.pending.result c.args.line.now c.write_count.new.out c.write_count.result c.pending.ensures.count c.write_count.ensures.text;
-}

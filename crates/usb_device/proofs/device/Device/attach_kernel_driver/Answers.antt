@@ -1,0 +1,8 @@
+use Rattle.usb_device.proofs.KeptLemmas.{stand-attached}
+use Rattle.usb_device.proofs.device.Device.attach_kernel_driver.Goals as goal
+
+pub returns-clause-handles : goal.returns-clause-handles
+returns-clause-handles c = rw c.attach.ensures.host (stand-attached c.args.host.now c.self.inside.key.serial c.args.interface)
+
+pub returns-clause-stands : goal.returns-clause-stands
+returns-clause-stands c = (returns-clause-handles c).devices c.args.self.now c.requires.stands

@@ -1,0 +1,9 @@
+//! A bench for the tests of drivers: a host with one simulated device, which makes the steps that a
+//! test lists.
+#![tactic(auto)]
+
+mod bench;
+#[cfg(test)]
+mod tests;
+
+pub use bench::SimBench;

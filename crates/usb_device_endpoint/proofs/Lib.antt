@@ -1,0 +1,14 @@
+pub mod SlotLemmas
+pub mod KernelBusLemmas
+pub mod Frames
+pub mod HandleLemmas
+pub mod SubmitLemmas
+pub mod CloseLemmas
+pub mod WaitLemmas
+pub mod OrderLemmas
+pub mod EndLemmas
+pub mod PollLemmas
+pub mod BlockingLemmas
+pub mod SecondLemmas
+pub mod WaitKeeps
+pub mod AllStandLemmas

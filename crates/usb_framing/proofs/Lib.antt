@@ -1,9 +1,0 @@
-pub mod Parts
-pub mod Oldest
-pub mod Sames
-pub mod Paces
-pub mod Handles
-pub mod Echoes
-pub mod Framed
-pub mod Messages
-pub mod Worked

@@ -1,5 +1,0 @@
-mod Lengths
-mod LinesRead
-mod ReadOn
-pub mod ScriptsParse
-mod WritesRead

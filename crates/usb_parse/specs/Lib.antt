@@ -1,6 +1,0 @@
-pub mod ErrorText
-pub mod Order
-pub mod Outcome
-pub mod Parse
-pub mod ScriptFacts
-pub mod Taken

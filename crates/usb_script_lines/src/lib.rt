@@ -1,0 +1,17 @@
+//! The lines of scripts for the simulated host, each by itself: its words, and the item that it gives.
+#![tactic(auto)]
+
+mod by_letter;
+mod copies;
+mod form;
+mod item;
+mod line;
+mod reading;
+
+pub use item::Item;
+pub use line::read_line;
+pub use reading::Reading;
+pub use usb_script_words::{
+    ControlData, ControlTarget, Criterion, Data, EndpointKind, Errno, FileName, Framing, Length,
+    Name, Path, ReadLength, Selector, Setup, Steps, StringIndex, Target, Timeout, number_between,
+};

@@ -1,0 +1,6 @@
+mod EqualWords
+mod FirstWord
+pub mod PathLemmas
+pub mod SelectorLemmas
+pub mod TableLemmas
+pub mod StepsOfLine

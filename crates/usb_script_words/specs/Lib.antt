@@ -1,0 +1,15 @@
+pub mod Controls
+pub mod EndpointKinds
+pub mod FieldForms
+pub mod Fields
+pub mod Letters
+pub mod Lines
+pub mod Outcome
+pub mod Places
+pub mod Selectors
+pub mod Tables
+pub mod Timeouts
+pub mod Words
+pub mod KernelSteps
+pub mod StepForms
+pub mod StepRanges

@@ -1,0 +1,285 @@
+-- What endpoints and futures hold stays accounted for over each answer.
+use Rattle.std.proofs.Common.{◌≡◌, ◌≢◌, ℕ, ◌≤◌, ◌+◌, suc, zero, arith, List, [], ◌∷◌, ◌++◌, length, drop, Option, Some, None, true, refl, ap, sym, ◌∙◌, subst, slice_get, inl, inr, ◌⊎◌}
+use Rattle.std.specs.List.{Contains}
+use Rattle.std.specs.Option.{option_map}
+use Rattle.std.proofs.lemmas.Bool.{cases_eq}
+use Rattle.std.proofs.lemmas.List.Elements.{Contains-append_left, Contains-push}
+use Rattle.std.proofs.lemmas.Option.{none-some, same_Some}
+use Rattle.usb_xfer.specs.BufferState.{BufferState}
+use Rattle.usb_xfer.specs.declared.transfer.TransferData.{TransferData}
+use Rattle.usb_device_host.specs.HostState.{HostState}
+use Rattle.usb_device_host.specs.HostBus.{owner_at}
+use Rattle.usb_device_host.specs.Controls.{control_submission}
+use Rattle.usb_device_host.proofs.CountLemmas.{CountsOneMore, taken-count, closed-count, entered-count}
+use Rattle.usb_device_host.proofs.HeldLemmas.{taken-held, Contains-behind, closed-held, entered-held}
+use Rattle.usb_device_host.proofs.StartedLemmas.{Parts, AddsTaken, started-count, started-owner, holds-follows}
+use Rattle.usb_device.specs.Futures.{FutureState, fresh_future}
+use Rattle.usb_session_calls.specs.Names.{named, is_free, change_named, freed, set_name}
+use Rattle.usb_session_calls.specs.State.{State, Endpoint, endpoint_state, pending, tickets_of, with_host}
+use Rattle.usb_session_calls.specs.Answer.{Answer}
+use Rattle.usb_session_calls.specs.Submits.{submitted, with_submission}
+use Rattle.usb_session_calls.specs.Polls.{one_taken, taken_from}
+use Rattle.usb_session_calls.specs.Closes.{without_endpoint, closed}
+use Rattle.usb_session_calls.specs.ReaderAt.{reader_place}
+use Rattle.usb_session_calls.specs.WriterAt.{writer_place}
+use Rattle.usb_session_calls.specs.Readers.{reader_closed}
+use Rattle.usb_session_calls.specs.Writers.{writer_closed}
+use Rattle.usb_session.specs.Below.{below}
+use Rattle.usb_session.specs.Futures.{with_future}
+use Rattle.usb_session.specs.Ends.{readers_closed, writers_closed, endpoints_closed, futures_closed, all_closed}
+use Rattle.usb_session.specs.Output.{start}
+use Rattle.usb_session.specs.Accounts.{Covered, IsAwaited, Accounted, StartIsAccounted, AnswerKeepsAccounts, CloseKeepsAccounts}
+use Rattle.usb_session.specs.Served.{ClosedEndpoint}
+use Rattle.usb_session_calls.proofs.NameLemmas.{named_of, free_place, named-change_same, named-change_other, named-freed_other, named-set, named-set_other}
+use Rattle.usb_session.proofs.Does.{Quiet, Closing, ControlMove, Acts, SameTickets, moved, without_future_of, goes, opens, submits, fits, reads, starts, controls, frees, ends, takes, closes, moves, free-still}
+use Rattle.usb_session.proofs.DeviceLines.{handles-quiet}
+use Rattle.usb_session.proofs.EndpointLines.{closed-does}
+use Rattle.usb_session.proofs.ControlLines.{future_closed_under-does}
+use Rattle.usb_session.proofs.ReaderDoes.{reader_closed-does}
+use Rattle.usb_session.proofs.WriterDoes.{writer_closed-does}
+use Rattle.usb_session.proofs.EveryLine.{answer-does}
+
+-- the start
+pub accounted-start : StartIsAccounted
+unfolding start
+accounted-start items = record { held = λ t key own. absurd (none-some key own); count = refl }
+
+-- a ticket is pending at an endpoint that is open under a name, or that of a future
+abbrev Has : State → ℕ → ℕ → Type 0
+Has state t key = Covered state.endpoints t key ⊎ IsAwaited state.futures t key
+
+either : {A B C D : Type 0} → (A → C) → (B → D) → A ⊎ B → C ⊎ D
+either f g (inl a) = inl (f a)
+either f g (inr b) = inr (g b)
+
+accounted-quiet : {state next : State} → Quiet state next → Accounted state → Accounted next
+accounted-quiet {state} {next} quiet a =
+    record {
+      held = λ t key own.
+          either (subst (λ l. Covered l t key) (sym quiet.endpoints)) (subst (λ l. IsAwaited l t key) (sym quiet.futures))
+          (a.held t key (holds-follows state.host next.host quiet.keeps quiet.count t key own));
+      count = quiet.count.count ∙ a.count ∙ sym quiet.count.past;
+    }
+
+-- an endpoint is opened under a name that is free
+covered-set : (endpoints : List (Option Endpoint)) (e : ℕ) (x : Endpoint) (t key : ℕ) → is_free endpoints e ≡ true → Covered endpoints t key → Covered (set_name endpoints e x) t key
+covered-set endpoints e x t key free c =
+    elim (cases_eq c.name e) [
+      | inl same ↦ absurd (none-some c.entry (sym (named_of endpoints e None (free_place endpoints e free)) ∙ ap (named endpoints) (sym same) ∙ c.at))
+      | inr apart ↦ record { name = c.name; entry = c.entry; at = named-set_other endpoints e c.name x apart ∙ c.at; key_is = c.key_is; in_pending = c.in_pending }
+    ]
+
+accounted-open : (state : State) (e : ℕ) (x : Endpoint) → is_free state.endpoints e ≡ true → Accounted state → Accounted (record state { endpoints = set_name state.endpoints e x })
+accounted-open state e x free a = record { held = λ t key own. either (covered-set state.endpoints e x t key free) (λ w. w) (a.held t key own); count = a.count }
+
+-- an endpoint was called, and has the ticket still
+covered-entry : {endpoints : List (Option Endpoint)} {t key : ℕ} (c : Covered endpoints t key) (e : ℕ) (h : Endpoint) → named endpoints e ≡ Some h → c.name ≡ e → c.entry ≡ h
+covered-entry {endpoints} c e h here same = same_Some c.entry h (sym c.at ∙ ap (named endpoints) same ∙ here)
+
+covered-change : (endpoints : List (Option Endpoint)) (f : Endpoint → Endpoint) (e : ℕ) (h : Endpoint) (t key : ℕ) → named endpoints e ≡ Some h → (f h).key ≡ h.key → (Contains (pending h) t → Contains (pending (f h)) t) → Covered endpoints t key → Covered (change_named f endpoints e) t key
+covered-change endpoints f e h t key here same_key stays c =
+    elim (cases_eq c.name e) [
+      | inl same ↦
+          let entry = covered-entry c e h here same in
+          record {
+            name = e;
+            entry = f h;
+            at = named-change_same f endpoints e ∙ ap (option_map f) here;
+            key_is = same_key ∙ sym (ap (λ (x : Endpoint). x.key) entry) ∙ c.key_is;
+            in_pending = stays (subst (λ (x : Endpoint). Contains (pending x) t) entry c.in_pending);
+          }
+      | inr apart ↦ record { name = c.name; entry = c.entry; at = named-change_other f endpoints e c.name apart ∙ c.at; key_is = c.key_is; in_pending = c.in_pending }
+    ]
+
+-- a ticket more at the end
+drop-push : {X : Type 0} (n : ℕ) (xs : List X) (x : X) → n ≤ length xs → drop n (xs ++ x ∷ []) ≡ drop n xs ++ x ∷ []
+drop-push zero xs x within = refl
+drop-push (suc n) [] x within = absurd (omega arith)
+drop-push (suc n) (y ∷ ys) x within = drop-push n ys x (omega arith)
+
+pushed-old : (n : ℕ) (xs : List ℕ) (x y : ℕ) → n ≤ length xs → Contains (drop n xs) y → Contains (drop n (xs ++ x ∷ [])) y
+pushed-old n xs x y within there = subst (λ l. Contains l y) (sym (drop-push n xs x within)) (Contains-append_left (drop n xs) (x ∷ []) y there)
+
+pushed-new : (n : ℕ) (xs : List ℕ) (x : ℕ) → n ≤ length xs → Contains (drop n (xs ++ x ∷ [])) x
+pushed-new n xs x within = subst (λ l. Contains l x) (sym (drop-push n xs x within)) (Contains-push (drop n xs) x)
+
+accounted-submit : (state : State) (e : ℕ) (b : BufferState) (h : Endpoint) → named state.endpoints e ≡ Some h → h.taken ≤ length h.tickets → Accounted state → Accounted (submitted state e b h)
+accounted-submit state e b h here few a =
+    let n = tickets_of state in
+    let one = entered-count state.host (endpoint_state h) b in
+    record {
+      held = λ t key own.
+          elim (entered-held state.host (endpoint_state h) b t key own) [
+            | inl new ↦ inl record {
+              name = e;
+              entry = with_submission n h;
+              at = named-change_same (with_submission n) state.endpoints e ∙ ap (option_map (with_submission n)) here;
+              key_is = sym new.1;
+              in_pending = subst (λ (u : ℕ). Contains (drop h.taken (h.tickets ++ n ∷ [])) u) (sym (new.0 ∙ a.count)) (pushed-new h.taken h.tickets n few);
+            }
+            | inr old ↦ either (covered-change state.endpoints (with_submission n) e h t key here refl (pushed-old h.taken h.tickets n t few)) (λ w. w) (a.held t key old)
+          ];
+      count = one.count ∙ ap (λ m. m + 1) a.count ∙ sym one.past;
+    }
+
+-- the ticket at the place of those that were taken is taken
+behind : (n : ℕ) (xs : List ℕ) (t u : ℕ) → slice_get xs n ≡ Some t → u ≢ t → Contains (drop n xs) u → Contains (drop (suc n) xs) u
+behind n [] t u at apart there = absurd (none-some t at)
+behind zero (x ∷ xs) t u at apart there = Contains-behind x xs u (λ same. apart (sym same ∙ same_Some x t at)) there
+behind (suc n) (x ∷ xs) t u at apart there = behind n xs t u at apart there
+
+one_taken-stays : (h : Endpoint) (t u : ℕ) → slice_get h.tickets h.taken ≡ Some t → u ≢ t → Contains (pending h) u → Contains (pending (one_taken h)) u
+one_taken-stays h t u front apart there =
+    let more : h.taken + 1 ≡ suc h.taken = omega arith in rw more (behind h.taken h.tickets t u front apart there)
+
+accounted-take : (state : State) (e t : ℕ) (h : Endpoint) → named state.endpoints e ≡ Some h → slice_get h.tickets h.taken ≡ Some t → Accounted state → Accounted (taken_from state e t)
+accounted-take state e t h here front a =
+    let keeps = taken-count state.host t in
+    record {
+      held = λ u key own.
+          let was = taken-held state.host t u key own in
+          either (covered-change state.endpoints one_taken e h u key here refl (one_taken-stays h t u front was.0)) (λ w. w) (a.held u key was.1);
+      count = keeps.count ∙ a.count ∙ sym keeps.past;
+    }
+
+-- an endpoint is closed, and holds nothing any more
+covered-freed : (endpoints : List (Option Endpoint)) (e : ℕ) (h : Endpoint) (t key : ℕ) → named endpoints e ≡ Some h → (Contains (pending h) t → ⊥) → Covered endpoints t key → Covered (freed endpoints e) t key
+covered-freed endpoints e h t key here gone c =
+    elim (cases_eq c.name e) [
+      | inl same ↦ absurd (gone (subst (λ (x : Endpoint). Contains (pending x) t) (covered-entry c e h here same) c.in_pending))
+      | inr apart ↦ record { name = c.name; entry = c.entry; at = named-freed_other endpoints e c.name apart ∙ c.at; key_is = c.key_is; in_pending = c.in_pending }
+    ]
+
+accounted-close : (state : State) (e : ℕ) (h : Endpoint) → named state.endpoints e ≡ Some h → Accounted state → Accounted (without_endpoint state e h)
+accounted-close state e h here a =
+    let keeps = closed-count state.host (endpoint_state h) in
+    record {
+      held = λ t key own.
+          let was = closed-held state.host (endpoint_state h) t key own in
+          either (covered-freed state.endpoints e h t key here was.1) (λ w. w) (a.held t key was.0);
+      count = keeps.count ∙ a.count ∙ sym keeps.past;
+    }
+
+-- a control transfer is handed in, and its future is open under a name that was free
+awaited-set : (futures : List (Option FutureState)) (n : ℕ) (x : FutureState) (t key : ℕ) → is_free futures n ≡ true → IsAwaited futures t key → IsAwaited (set_name futures n x) t key
+awaited-set futures n x t key free w =
+    elim (cases_eq w.name n) [
+      | inl same ↦ absurd (none-some w.future (sym (named_of futures n None (free_place futures n free)) ∙ ap (named futures) (sym same) ∙ w.at))
+      | inr apart ↦ record { name = w.name; future = w.future; at = named-set_other futures n w.name x apart ∙ w.at; key_is = w.key_is; ticket_is = w.ticket_is }
+    ]
+
+accounted-start_future : (state : State) (n : ℕ) (request : TransferData) (timeout device : ℕ) → is_free state.futures n ≡ true → Accounted state → Accounted (with_future state n request timeout device)
+accounted-start_future state n request timeout device free a =
+    let s = control_submission state.host device request timeout in
+    let x = fresh_future state.host request timeout in
+    let one = started-count state.host s in
+    record {
+      held = λ t key own.
+          elim (started-owner state.host s t key own) [
+            | inl new ↦ inr record {
+              name = n;
+              future = x;
+              at = named-set state.futures n x free;
+              key_is = sym new.1;
+              ticket_is = ap (λ u. Some u) (sym (new.0 ∙ a.count));
+            }
+            | inr old ↦ either (λ c. c) (awaited-set state.futures n x t key free) (a.held t key old)
+          ];
+      count = one.count ∙ ap (λ m. m + 1) a.count ∙ sym one.past;
+    }
+
+-- it is awaited, and its ticket taken at once
+accounted-control : (state : State) (host : HostState) → CountsOneMore state.host host → AddsTaken state.host host → Accounted state → Accounted (with_host state host)
+accounted-control state host one adds a =
+    record {
+      held = λ t key own. a.held t key (adds.held t key own);
+      count = one.count ∙ ap (λ m. m + 1) a.count ∙ sym one.past;
+    }
+
+-- the host parts with the ticket of a future, whose name is free then
+awaited-freed : (futures : List (Option FutureState)) (n : ℕ) (f : FutureState) (t key : ℕ) → named futures n ≡ Some f → f.ticket ≢ Some t → IsAwaited futures t key → IsAwaited (freed futures n) t key
+awaited-freed futures n f t key here apart_ w =
+    elim (cases_eq w.name n) [
+      | inl same ↦
+          let entry : w.future ≡ f = same_Some w.future f (sym w.at ∙ ap (named futures) same ∙ here) in
+          absurd (apart_ (ap (λ (x : FutureState). x.ticket) (sym entry) ∙ w.ticket_is))
+      | inr apart ↦ record { name = w.name; future = w.future; at = named-freed_other futures n w.name apart ∙ w.at; key_is = w.key_is; ticket_is = w.ticket_is }
+    ]
+
+accounted-free : (state : State) (n : ℕ) (f : FutureState) (host : HostState) → named state.futures n ≡ Some f → Parts state.host host f.ticket → Accounted state → Accounted (without_future_of state host n)
+accounted-free state n f host here parts a =
+    record {
+      held = λ t key own.
+          let was = parts.held t key own in
+          either (λ c. c) (awaited-freed state.futures n f t key here was.0) (a.held t key was.1);
+      count = parts.count.count ∙ a.count ∙ sym parts.count.past;
+    }
+
+-- an endpoint goes to another place, which was free
+accounted-move : (state : State) (from to : ℕ) (h g : Endpoint) → named state.endpoints from ≡ Some h → is_free state.endpoints to ≡ true → SameTickets h g → Accounted state → Accounted (moved state from to g)
+accounted-move state from to h g here free same a =
+    let mid = freed state.endpoints from in
+    let still = free-still state.endpoints from to h here free in
+    let all : pending h ≡ pending g = ap (λ (n : ℕ). drop n h.tickets) (sym same.taken) ∙ ap (λ (l : List ℕ). drop g.taken l) (sym same.tickets) in
+    let covered : (t key : ℕ) → Covered state.endpoints t key → Covered (set_name mid to g) t key = λ t key c. elim (cases_eq c.name from) [
+      | inl at ↦
+          let entry = covered-entry c from h here at in
+          record {
+            name = to;
+            entry = g;
+            at = named-set mid to g still;
+            key_is = same.key ∙ (sym (ap (λ (x : Endpoint). x.key) entry) ∙ c.key_is);
+            in_pending = subst (λ (l : List ℕ). Contains l t) all (subst (λ (x : Endpoint). Contains (pending x) t) entry c.in_pending);
+          }
+      | inr away ↦ covered-set mid to g t key still (record { name = c.name; entry = c.entry; at = named-freed_other state.endpoints from c.name away ∙ c.at; key_is = c.key_is; in_pending = c.in_pending })
+    ] in
+    record { held = λ t key own. either (covered t key) (λ w. w) (a.held t key own); count = a.count }
+
+-- so over each answer
+acts-accounted : {few : Type 0} {a : Answer} {state : State} {closed : List ClosedEndpoint} {handed : List ControlMove} → few → Acts few a state closed handed → Accounted state → Accounted a.state
+acts-accounted few (goes quiet rest) acc = acts-accounted few rest (accounted-quiet quiet acc)
+acts-accounted few (fits other rest) acc = acts-accounted few (rest few) acc
+acts-accounted {state} few (reads e t h above here front other rest) acc = acts-accounted few rest (accounted-take state e t h here front acc)
+acts-accounted {state} few (moves from to h g here free same read other quiet) acc = accounted-quiet quiet (accounted-move state from to h g here free same acc)
+acts-accounted {state} few (opens e x free none zero_ outside rest) acc = acts-accounted few rest (accounted-open state e x free acc)
+acts-accounted {state} few (submits e b h here within rest) acc = acts-accounted few rest (accounted-submit state e b h here (within few) acc)
+acts-accounted {state} few (starts n request timeout device free rest) acc = acts-accounted few rest (accounted-start_future state n request timeout device free acc)
+acts-accounted {state} few (controls host one adds rest) acc = acts-accounted few rest (accounted-control state host one (adds acc.count) acc)
+acts-accounted {state} few (frees n f host here parts rest) acc = acts-accounted few rest (accounted-free state n f host here parts acc)
+acts-accounted few (ends other quiet) acc = accounted-quiet quiet acc
+acts-accounted {state} few (takes e t h c here front came line quiet) acc = accounted-quiet quiet (accounted-take state e t h here (front few) acc)
+acts-accounted {state} few (closes e h lines here other quiet) acc = accounted-quiet quiet (accounted-close state e h here acc)
+
+pub accounted-answer : AnswerKeepsAccounts
+accounted-answer state item few a = acts-accounted few (answer-does state (λ e. []) item) a
+
+-- and over the closes at the end
+accounted-below : (act : State → ℕ → State) (place : ℕ → ℕ) → Closing act place → (state : State) (k : ℕ) → Accounted state → Accounted (below act state k)
+accounted-below act place closing state zero a = a
+accounted-below act place closing state (suc k) a = acts-accounted tt (closing (below act state k) k (λ e. [])) (accounted-below act place closing state k a)
+
+accounted-futures : (state : State) (n : ℕ) → Accounted state → Accounted (futures_closed state n)
+accounted-futures state zero a = a
+accounted-futures state (suc n) a = acts-accounted {few = Unit {0}} tt (future_closed_under-does (futures_closed state n) n) (accounted-futures state n a)
+
+pub accounted-all_closed : CloseKeepsAccounts
+unfolding all_closed
+accounted-all_closed state a =
+    let read = readers_closed state 64 in
+    let written = writers_closed read 64 in
+    let mid = endpoints_closed written 64 in
+    accounted-quiet (handles-quiet (futures_closed mid 64))
+    (accounted-futures mid 64
+    (accounted-below closed (λ e. e) closed-does written 64 (accounted-below writer_closed writer_place writer_closed-does read 64 (accounted-below reader_closed reader_place reader_closed-does state 64 a))))
+
+-- where no name is open no ticket is held
+pub accounted-none : (state : State) → Accounted state → ((e : ℕ) → named state.endpoints e ≡ None) → ((n : ℕ) → named state.futures n ≡ None) → (t : ℕ) → owner_at state.host.tickets t ≡ None
+accounted-none state a none gone t = by (owner_at state.host.tickets t) refl
+  where
+    nobody : (key : ℕ) → Has state t key → ⊥
+    nobody key (inl c) = none-some c.entry (sym (none c.name) ∙ c.at)
+    nobody key (inr w) = none-some w.future (sym (gone w.name) ∙ w.at)
+
+    by : (o : Option ℕ) → owner_at state.host.tickets t ≡ o → owner_at state.host.tickets t ≡ None
+    by None is = is
+    by (Some key) is = absurd (nobody key (a.held t key is))

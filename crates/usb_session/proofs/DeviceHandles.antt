@@ -1,0 +1,101 @@
+-- Handles of devices are cloned and closed.
+use Rattle.std.proofs.Common.{◌≡◌, ℕ, arith, true, false, List, length, Option, Some, None, refl, ap, sym, ◌∙◌, subst, inl, inr}
+use Rattle.std.specs.Prelude.{◌==◌}
+use Rattle.std.specs.List.{count_by}
+use Rattle.std.proofs.lemmas.Bool.{eq-eqb, ne_eqb}
+use Rattle.usb_session_text.specs.Calls.{ok_line, condition_line}
+use Rattle.usb_device_ledger.specs.OwnerRows.{one_if}
+use Rattle.usb_device_host.specs.HostState.{HostState}
+use Rattle.usb_device.specs.HandleStates.{StandsDevice}
+use Rattle.usb_device_ledger.specs.Devices.{handle_more, handle_less}
+use Rattle.usb_device_host.specs.Handles.{device_cloned, device_closed}
+use Rattle.usb_device.proofs.HeldDevices.{held-device_cloned, held-device_closed}
+use Rattle.usb_session_calls.specs.Names.{named, is_free, freed, set_name}
+use Rattle.usb_session_calls.specs.State.{State}
+use Rattle.usb_session_calls.specs.Clones.{clone_device_answer}
+use Rattle.usb_session_calls.specs.SessionState.{SessionState, IsSound, is_device_of}
+use Rattle.usb_session_calls.specs.Relation.{Represents}
+use Rattle.usb_session_calls.proofs.NameLemmas.{length-set_name, length-freed, names-set}
+use Rattle.usb_session_calls.proofs.Answering.{Gives, barred-gives, host_is}
+use Rattle.usb_session_calls.proofs.Called.{names-freed}
+use Rattle.usb_session_calls.proofs.CountedDevices.{count-opened, count-closed, devices-changed, stands-changed}
+use Rattle.usb_session_calls.proofs.SoundDevices.{sound-device}
+
+-- what a session has open under a name is open in the state
+device_is : (s : SessionState) (state : State) (d : ℕ) (o : Option ℕ) → Represents s state → named s.devices d ≡ o → named state.devices d ≡ o
+device_is s state d o r at = ap (λ (v : SessionState). named v.devices d) (sym r.is) ∙ at
+
+-- one more handle is open
+cloned-here : (s : SessionState) (after : List (Option ℕ)) (n d key : ℕ) → IsSound s → named s.devices d ≡ Some key → is_free s.devices n ≡ true → after ≡ set_name s.devices n key → IsSound (record s { host = device_cloned s.host key; devices = after })
+cloned-here s after n d key sound at free put =
+    let now = device_cloned s.host key in
+    let stands = sound.devices_stand d key at in
+    let one : one_if (key == key) ≡ 1 = ap one_if (eq-eqb key key refl) in
+    let here : count_by (is_device_of key) after ≡ (handle_more stands.device).handles =
+    ap (count_by (is_device_of key)) put ∙ omega (arith, one, count-opened key s.devices n key free, sound.devices_counted key stands.device stands.at) in
+    sound-device s now after sound refl refl refl (ap (λ (l : List (Option ℕ)). length l) put ∙ length-set_name s.devices n key)
+    (λ e k open_. stands-changed s.host now after key handle_more stands.device stands.at refl here e k open_
+    (elim (names-set s.devices after n e key k free put open_) [
+      | inl same ↦ subst (StandsDevice s.host) (sym same.1) stands
+      | inr there ↦ sound.devices_stand e k there.1
+    ]))
+    (devices-changed s.host.devices now.devices s.devices after key handle_more stands.device stands.at refl here
+    (λ k apart.
+    let none : one_if (key == k) ≡ 0 = ap one_if (ne_eqb key k apart) in
+    ap (count_by (is_device_of k)) put ∙ omega (arith, none, count-opened k s.devices n key free))
+    sound.devices_counted)
+    (held-device_cloned s.host key stands sound.devices_held)
+
+pub sound-device_cloned : (s : SessionState) (now : HostState) (after : List (Option ℕ)) (n d key : ℕ) → IsSound s → now ≡ device_cloned s.host key → named s.devices d ≡ Some key → is_free s.devices n ≡ true → after ≡ set_name s.devices n key → IsSound (record s { host = now; devices = after })
+sound-device_cloned s now after n d key sound is at free put =
+    subst (λ (h : HostState). IsSound (record s { host = h; devices = after })) (sym is) (cloned-here s after n d key sound at free put)
+
+-- a handle is closed
+closed-here : (s : SessionState) (after : List (Option ℕ)) (d key : ℕ) → IsSound s → named s.devices d ≡ Some key → after ≡ freed s.devices d → IsSound (record s { host = device_closed s.host key; devices = after })
+closed-here s after d key sound at rest =
+    let now = device_closed s.host key in
+    let stands = sound.devices_stand d key at in
+    let one : one_if (key == key) ≡ 1 = ap one_if (eq-eqb key key refl) in
+    let here : count_by (is_device_of key) after ≡ (handle_less stands.device).handles =
+    ap (count_by (is_device_of key)) rest ∙ omega (arith, one, count-closed key s.devices d key at, sound.devices_counted key stands.device stands.at) in
+    sound-device s now after sound refl refl refl (ap (λ (l : List (Option ℕ)). length l) rest ∙ length-freed s.devices d)
+    (λ e k open_. stands-changed s.host now after key handle_less stands.device stands.at refl here e k open_
+    (sound.devices_stand e k (names-freed s.devices after d e k rest open_).1))
+    (devices-changed s.host.devices now.devices s.devices after key handle_less stands.device stands.at refl here
+    (λ k apart.
+    let none : one_if (key == k) ≡ 0 = ap one_if (ne_eqb key k apart) in
+    ap (count_by (is_device_of k)) rest ∙ omega (arith, none, count-closed k s.devices d key at))
+    sound.devices_counted)
+    (held-device_closed s.host key stands sound.devices_held)
+
+pub sound-device_closed : (s : SessionState) (now : HostState) (after : List (Option ℕ)) (d key : ℕ) → IsSound s → named s.devices d ≡ Some key → after ≡ freed s.devices d → now ≡ device_closed s.host key → IsSound (record s { host = now; devices = after })
+sound-device_closed s now after d key sound at rest is =
+    subst (λ (h : HostState). IsSound (record s { host = h; devices = after })) (sym is) (closed-here s after d key sound at rest)
+
+represents-devices : (s : SessionState) (state : State) (now host : HostState) (after names : List (Option ℕ)) → Represents s state → now ≡ host → after ≡ names → Represents (record s { host = now; devices = after }) (record state { host = host; devices = names })
+represents-devices s state now host after names r is put =
+    record {
+      is =
+          ap (λ (h : HostState). record s { host = h; devices = after }) is
+          ∙ ap (λ (l : List (Option ℕ)). record s { host = host; devices = l }) put
+          ∙ ap (λ (v : SessionState). record v { host = host; devices = names }) r.is;
+      few = r.few;
+    }
+
+pub clone_device-none : (s : SessionState) (state : State) (n d : ℕ) → named s.devices d ≡ None → Represents s state → Gives s condition_line (clone_device_answer state n d)
+unfolding clone_device_answer
+clone_device-none s state n d none r = rw (device_is s state d None r none) (barred-gives s state r)
+
+pub clone_device-used : (s : SessionState) (state : State) (n d key : ℕ) → named s.devices d ≡ Some key → is_free s.devices n ≡ false → Represents s state → Gives s condition_line (clone_device_answer state n d)
+unfolding clone_device_answer
+clone_device-used s state n d key at used r =
+    let here : is_free state.devices n ≡ false = ap (λ (v : SessionState). is_free v.devices n) (sym r.is) ∙ used in
+    rw (device_is s state d (Some key) r at, here) (barred-gives s state r)
+
+pub clone_device-gives : (s : SessionState) (state : State) (now : HostState) (after : List (Option ℕ)) (n d key : ℕ) → named s.devices d ≡ Some key → is_free s.devices n ≡ true → now ≡ device_cloned s.host key → after ≡ set_name s.devices n key → Represents s state → Gives (record s { host = now; devices = after }) ok_line (clone_device_answer state n d)
+unfolding clone_device_answer
+clone_device-gives s state now after n d key at free is put r =
+    let here : is_free state.devices n ≡ true = ap (λ (v : SessionState). is_free v.devices n) (sym r.is) ∙ free in
+    let host : now ≡ device_cloned state.host key = is ∙ ap (λ (h : HostState). device_cloned h key) (host_is s state r) in
+    let names : after ≡ set_name state.devices n key = put ∙ ap (λ (v : SessionState). set_name v.devices n key) r.is in
+    rw (device_is s state d (Some key) r at, here) (record { state = represents-devices s state now (device_cloned state.host key) after (set_name state.devices n key) r host names; same = refl })

@@ -1,0 +1,253 @@
+-- What a line does.
+use Rattle.std.proofs.Common.{◌≡◌, ◌≢◌, ℕ, ◌≤◌, Bool, true, false, List, [], ◌∷◌, ◌++◌, map, codes, length, Option, Some, None, Result, Ok, Err, refl, ap, sym, ◌∙◌, subst, slice_get}
+use Rattle.std.specs.Prelude.{nat_eq, option_and_then, if◌then◌else◌}
+use Rattle.std.specs.List.{starts_with}
+use Rattle.std.specs.Option.{option_map}
+use Rattle.std.proofs.lemmas.Bool.{cond_both}
+use Rattle.std.proofs.lemmas.Option.{none-some, same_Some}
+use Rattle.usb_xfer.specs.BufferState.{BufferState}
+use Rattle.usb_xfer.specs.declared.transfer.Completion.{Completion}
+use Rattle.usb_error.specs.ErrorState.{ErrorState}
+use Rattle.usb_kernel_devices.specs.declared.step.KernelStep.{KernelStep}
+use Rattle.usb_kernel.specs.Tickets.{tickets}
+use Rattle.usb_kernel.specs.TransferCompletions.{transfer_completion}
+use Rattle.usb_xfer.specs.declared.transfer.TransferData.{TransferData}
+use Rattle.usb_device_host.specs.HostState.{HostState}
+use Rattle.usb_device_host.proofs.CountLemmas.{KeepsCount, CountsOneMore, count-trans, rest-count}
+use Rattle.usb_device_host.proofs.FollowLemmas.{KeepsTickets, on-then, on-kept, on-rest}
+use Rattle.usb_device_host.proofs.StartedLemmas.{Parts, AddsTaken}
+use Rattle.usb_device.specs.Futures.{FutureState}
+use Rattle.usb_session_text.specs.Calls.{ok_line, condition_line, error_line, result_line}
+use Rattle.usb_session_text.specs.Completions.{done_line}
+use Rattle.usb_session_calls.specs.Names.{named, is_free, is_free_place, freed, set_name, nothing}
+use Rattle.usb_session_calls.proofs.NameLemmas.{named_of, free_place, slice_get-change_other}
+use Rattle.usb_session_calls.specs.State.{State, Endpoint, tickets_of, with_host}
+use Rattle.usb_session_calls.specs.Answer.{Answer, answer_with, condition_answer, ok_answer, error_answer, silent, if_open}
+use Rattle.usb_session_calls.specs.Submits.{submitted}
+use Rattle.usb_session_calls.specs.Polls.{taken_from}
+use Rattle.usb_session.specs.Futures.{with_future}
+use Rattle.usb_session_calls.specs.Closes.{without_endpoint}
+use Rattle.usb_session_calls.specs.Steps.{with_steps, steps_applied, stepped_all, then_applied, along_steps}
+use Rattle.usb_session.specs.Accounts.{TookFew}
+use Rattle.usb_session.specs.Served.{ClosedEndpoint, closed_as, closed_under}
+use Rattle.usb_session.specs.ControlAnswers.{listed}
+
+-- the host went on, and no endpoint or future was opened or closed, and no ticket submitted or taken
+pub record Quiet (old new : State) : Type 0 where
+  pub keeps : KeepsTickets old.host new.host
+  pub count : KeepsCount old.host new.host
+  pub endpoints : new.endpoints ≡ old.endpoints
+  pub futures : new.futures ≡ old.futures
+
+-- a future is open under a name no more
+abbrev pub without_future_of : State → HostState → ℕ → State
+without_future_of state host n = record state { host = host; futures = freed state.futures n }
+
+-- the host has as many tickets as the journal
+abbrev pub CountsAlike : HostState → Type 0
+CountsAlike h = length h.tickets ≡ length (tickets h.kernel.past)
+
+-- whether a line begins as that of a completion
+abbrev pub says_done : List ℕ → Bool
+says_done line = starts_with nat_eq line (codes "done")
+
+-- the endpoint of one place is at another, where nothing was
+abbrev pub moved : State → ℕ → ℕ → Endpoint → State
+moved state from to g = record state { endpoints = set_name (freed state.endpoints from) to g }
+
+-- these are two places, and the other is free then, too
+places-differ : (es : List (Option Endpoint)) (from to : ℕ) (h : Endpoint) → named es from ≡ Some h → is_free es to ≡ true → to ≢ from
+places-differ es from to h here free same = absurd (none-some h (sym (named_of es to None (free_place es to free)) ∙ (ap (named es) same ∙ here)))
+
+pub free-still : (es : List (Option Endpoint)) (from to : ℕ) (h : Endpoint) → named es from ≡ Some h → is_free es to ≡ true → is_free (freed es from) to ≡ true
+unfolding is_free freed
+free-still es from to h here free = ap is_free_place (slice_get-change_other nothing es from to (places-differ es from to h here free)) ∙ free
+
+-- an endpoint with the tickets of another
+pub record SameTickets (h g : Endpoint) : Type 0 where
+  pub key : g.key ≡ h.key
+  pub tickets : g.tickets ≡ h.tickets
+  pub taken : g.taken ≡ h.taken
+
+-- a control transfer is handed in, or the host parts with the ticket of one: it was answered, or its future closed
+pub data ControlMove : Type 0 where
+  Handed : ℕ → ControlMove
+  Parted : ℕ → ControlMove
+
+-- the tickets that are handed in, and those that the host parts with
+abbrev pub handed_of : List ControlMove → List ℕ
+handed_of [] = []
+handed_of (Handed t ∷ moves) = t ∷ handed_of moves
+handed_of (Parted t ∷ moves) = handed_of moves
+
+abbrev pub parted_of : List ControlMove → List ℕ
+parted_of [] = []
+parted_of (Handed t ∷ moves) = parted_of moves
+parted_of (Parted t ∷ moves) = t ∷ parted_of moves
+
+pub handed-append : (ms ns : List ControlMove) → handed_of (ms ++ ns) ≡ handed_of ms ++ handed_of ns
+handed-append [] ns = refl
+handed-append (Handed t ∷ ms) ns = ap (λ ts. t ∷ ts) (handed-append ms ns)
+handed-append (Parted t ∷ ms) ns = handed-append ms ns
+
+pub parted-append : (ms ns : List ControlMove) → parted_of (ms ++ ns) ≡ parted_of ms ++ parted_of ns
+parted-append [] ns = refl
+parted-append (Handed t ∷ ms) ns = parted-append ms ns
+parted-append (Parted t ∷ ms) ns = ap (λ ts. t ∷ ts) (parted-append ms ns)
+
+pub handed-handed : (ts : List ℕ) → handed_of (map Handed ts) ≡ ts
+handed-handed [] = refl
+handed-handed (t ∷ ts) = ap (λ us. t ∷ us) (handed-handed ts)
+
+pub handed-parted : (ts : List ℕ) (ms : List ControlMove) → handed_of (map Parted ts ++ ms) ≡ handed_of ms
+handed-parted [] ms = refl
+handed-parted (t ∷ ts) ms = handed-parted ts ms
+
+pub parted-handed : (ts : List ℕ) (ms : List ControlMove) → parted_of (map Handed ts ++ ms) ≡ parted_of ms
+parted-handed [] ms = refl
+parted-handed (t ∷ ts) ms = parted-handed ts ms
+
+pub parted-parted : (ts : List ℕ) → parted_of (map Parted ts) ≡ ts
+parted-parted [] = refl
+parted-parted (t ∷ ts) = ap (λ us. t ∷ us) (parted-parted ts)
+
+-- what an answer does from a state on, the endpoints that it closes, and what becomes of the control transfers of its line: the
+-- host goes on, endpoints are opened (at no place of a reader or a writer) and tickets submitted, a reader or a writer takes a
+-- ticket (`reads`), a control transfer is handed in (`starts`: its future is opened; `controls`: it is awaited and its ticket
+-- taken at once), and the host parts with the ticket of a future, whose name is free then; and then there is nothing more, or a
+-- ticket is taken and its completion printed, or an endpoint is closed, or goes to another place (`moves`: from then on a reader
+-- or a writer was made of it; at the place of one it was before). `few` is what is asked of the state before the line: no more
+-- tickets of an endpoint were taken than it has. It may be used for all that is done (`fits`)
+pub data Acts (few : Type 0) (a : Answer) : State → List ClosedEndpoint → List ControlMove → Type 0 where
+  goes : {state next : State} {closed : List ClosedEndpoint} {handed : List ControlMove} → Quiet state next → Acts few a next closed handed → Acts few a state closed handed
+  opens : {state : State} {closed : List ClosedEndpoint} {handed : List ControlMove} (e : ℕ) (x : Endpoint) → is_free state.endpoints e ≡ true → x.tickets ≡ [] → x.taken ≡ 0
+      → (64 ≤ e → 192 ≤ e) → Acts few a (record state { endpoints = set_name state.endpoints e x }) closed handed → Acts few a state closed handed
+  submits : {state : State} {closed : List ClosedEndpoint} {handed : List ControlMove} (e : ℕ) (b : BufferState) (h : Endpoint) → named state.endpoints e ≡ Some h
+      → (few → h.taken ≤ length h.tickets) → Acts few a (submitted state e b h) closed handed → Acts few a state closed handed
+  fits : {state : State} {closed : List ClosedEndpoint} {handed : List ControlMove} → says_done a.line ≡ false → (few → Acts few a state closed handed) → Acts few a state closed handed
+  reads : {state : State} {closed : List ClosedEndpoint} {handed : List ControlMove} (e t : ℕ) (h : Endpoint) → 64 ≤ e → named state.endpoints e ≡ Some h → slice_get h.tickets h.taken ≡ Some t
+      → says_done a.line ≡ false → Acts few a (taken_from state e t) closed handed → Acts few a state closed handed
+  starts : {state : State} {closed : List ClosedEndpoint} {handed : List ControlMove} (n : ℕ) (request : TransferData) (timeout device : ℕ) → is_free state.futures n ≡ true
+      → Acts few a (with_future state n request timeout device) closed handed → Acts few a state closed (Handed (tickets_of state) ∷ handed)
+  controls : {state : State} {closed : List ClosedEndpoint} {handed : List ControlMove} (host : HostState) → CountsOneMore state.host host → (CountsAlike state.host → AddsTaken state.host host)
+      → Acts few a (with_host state host) closed handed → Acts few a state closed (Handed (tickets_of state) ∷ Parted (tickets_of state) ∷ handed)
+  frees : {state : State} {closed : List ClosedEndpoint} {handed : List ControlMove} (n : ℕ) (f : FutureState) (host : HostState) → named state.futures n ≡ Some f → Parts state.host host f.ticket
+      → Acts few a (without_future_of state host n) closed handed → Acts few a state closed (map Parted (listed f.ticket) ++ handed)
+  ends : {state : State} → says_done a.line ≡ false → Quiet state a.state → Acts few a state [] []
+  takes : {state : State} (e t : ℕ) (h : Endpoint) (c : Completion) → named state.endpoints e ≡ Some h → (few → slice_get h.tickets h.taken ≡ Some t)
+      → transfer_completion state.host.kernel.past t ≡ Some c → a.line ≡ done_line c → Quiet (taken_from state e t) a.state → Acts few a state [] []
+  closes : {state : State} (e : ℕ) (h : Endpoint) (lines : List (List ℕ)) → named state.endpoints e ≡ Some h → says_done a.line ≡ false
+      → Quiet (without_endpoint state e h) a.state → Acts few a state (record { endpoint = h; past = state.host.kernel.past; lines = lines } ∷ []) []
+  moves : {state : State} (from to : ℕ) (h g : Endpoint) → named state.endpoints from ≡ Some h → is_free state.endpoints to ≡ true → SameTickets h g
+      → ((64 ≤ from → h.was_streamed ≡ true) → g.was_streamed ≡ true) → says_done a.line ≡ false → Quiet (moved state from to g) a.state → Acts few a state [] []
+
+-- what the answer of a line does that closes no endpoint, and hands in no control transfer
+abbrev pub Does : State → Answer → Type 0
+Does state a = Acts (TookFew state) a state [] []
+
+pub quiet-then : {a b c : State} → Quiet a b → Quiet b c → Quiet a c
+quiet-then {a} {b} {c} first second =
+    record {
+      keeps = on-then a.host b.host c.host first.keeps second.keeps;
+      count = count-trans a.host b.host c.host first.count second.count;
+      endpoints = second.endpoints ∙ first.endpoints;
+      futures = second.futures ∙ first.futures;
+    }
+
+-- journal and tickets are as they were
+pub quiet-aside : (old new : State) → new.host.kernel.past ≡ old.host.kernel.past → new.host.tickets ≡ old.host.tickets → new.endpoints ≡ old.endpoints → new.futures ≡ old.futures → Quiet old new
+quiet-aside old new past same endpoints futures =
+    record {
+      keeps = on-kept old.host new.host past same;
+      count = record { count = ap (λ l. length l) same; past = ap (λ p. length (tickets p)) past };
+      endpoints = endpoints;
+      futures = futures;
+    }
+
+pub quiet-same : (state : State) → Quiet state state
+quiet-same state = quiet-aside state state refl refl refl refl
+
+quiet-rested : (state : State) → Quiet state (steps_applied state)
+quiet-rested state = record { keeps = on-rest state.host; count = rest-count state.host; endpoints = refl; futures = refl }
+
+pub quiet-lent : (state : State) (steps : List KernelStep) → Quiet state (with_steps state steps)
+quiet-lent state steps = quiet-aside state (with_steps state steps) refl refl refl refl
+
+pub quiet-stepped : (state : State) (steps : List KernelStep) → Quiet state (stepped_all state steps)
+unfolding stepped_all
+quiet-stepped state steps = quiet-then (quiet-lent state steps) (quiet-rested (with_steps state steps))
+
+-- a line that only asks, and the lines of calls that give no value
+pub told-does : {few : Type 0} (state : State) (line : List ℕ) → says_done line ≡ false → Acts few (answer_with state line) state [] []
+told-does state line other = ends other (quiet-same state)
+
+pub barred-does : {few : Type 0} (state : State) → Acts few (condition_answer state) state [] []
+barred-does state = told-does state condition_line refl
+
+pub ok-does : {few : Type 0} (state : State) → Acts few (ok_answer state) state [] []
+ok-does state = told-does state ok_line refl
+
+pub error-does : {few : Type 0} (state : State) (error : ErrorState) → Acts few (error_answer state error) state [] []
+unfolding error_line
+error-does state error = told-does state (error_line error) refl
+
+-- a call on what is open under a name
+pub named-does : {X : Type 0} {state : State} (o : Option X) (call : X → Answer) → ((x : X) → o ≡ Some x → Does state (call x)) → Does state (if_open o call (condition_answer state))
+named-does {state} None call does = barred-does state
+named-does (Some x) call does = does x refl
+
+-- an endpoint is closed, where one is open at its place
+pub closing-does : {few : Type 0} (state : State) (e : ℕ) (lines : ℕ → List (List ℕ)) (a : Option Endpoint → Answer) → says_done (a None).line ≡ false → Quiet state (a None).state
+    → ((h : Endpoint) → says_done (a (Some h)).line ≡ false) → ((h : Endpoint) → Quiet (without_endpoint state e h) (a (Some h)).state) → Acts few (a (named state.endpoints e)) state (closed_under state lines e) []
+closing-does {few} state e lines a none same other quiet = by (named state.endpoints e) refl
+  where
+    by : (o : Option Endpoint) → named state.endpoints e ≡ o → Acts few (a o) state (closed_as state.host.kernel.past (lines e) o) []
+    by None here = ends none same
+    by (Some h) here = closes e h (lines e) here (other h) (quiet h)
+
+-- an act of the end of a session closes what is open at a place, if anything is
+abbrev pub Closing : (State → ℕ → State) → (ℕ → ℕ) → Type 0
+Closing act place = (state : State) (n : ℕ) (lines : ℕ → List (List ℕ)) → Acts (Unit {0}) (silent (act state n)) state (closed_under state lines (place n)) []
+
+-- what is open under a name has its endpoint at its place
+pub endpoint-at : {X Y : Type 0} (p : Option X) (o : Option Endpoint) (both : X → Endpoint → Y) (its : Y → Endpoint) (y : Y) → ((x : X) (h : Endpoint) → its (both x h) ≡ h)
+    → option_and_then (λ x. option_map (both x) o) p ≡ Some y → o ≡ Some (its y)
+endpoint-at None o both its y same is = absurd (none-some y is)
+endpoint-at (Some x) None both its y same is = absurd (none-some y is)
+endpoint-at (Some x) (Some h) both its y same is = ap (λ g. Some g) (sym (same x h)) ∙ ap (λ z. Some (its z)) (same_Some (both x h) y is)
+
+-- it is done, or refused
+pub result-other : (r : Result (Unit {0}) ErrorState) → says_done (result_line r) ≡ false
+unfolding error_line
+result-other (Ok done) = refl
+result-other (Err error) = refl
+
+-- one that is allowed where a name is free, one that is barred for another reason, and one that may be refused
+pub free-does : {state : State} {free : Bool} {call : Answer} → (free ≡ true → Does state call) → Does state (if free then call else condition_answer state)
+free-does {state} {free} {call} does = cond_both free call (condition_answer state) (Does state) does (λ no_. barred-does state)
+
+pub bar-does : {state : State} {bars : Bool} {call : Answer} → (bars ≡ false → Does state call) → Does state (if bars then condition_answer state else call)
+bar-does {state} {bars} {call} does = cond_both bars (condition_answer state) call (Does state) (λ yes_. barred-does state) does
+
+pub try-does : {X : Type 0} {state : State} (call : Result X ErrorState → Answer) (tried : Result X ErrorState) → ((error : ErrorState) → call (Err error) ≡ error_answer state error) → ((x : X) → Does state (call (Ok x))) → Does state (call tried)
+try-does {state} call (Err error) refused does = subst (Does state) (sym (refused error)) (error-does state error)
+try-does call (Ok x) refused does = does x
+
+-- with the steps of its line
+rest-does : {few : Type 0} {a : Answer} {state : State} {closed : List ClosedEndpoint} {handed : List ControlMove} → Acts few a state closed handed → Acts few (then_applied a) state closed handed
+rest-does (goes quiet rest) = goes quiet (rest-does rest)
+rest-does (opens e x free none zero_ apart rest) = opens e x free none zero_ apart (rest-does rest)
+rest-does (submits e b h here few rest) = submits e b h here few (rest-does rest)
+rest-does (fits other rest) = fits other (λ few_. rest-does (rest few_))
+rest-does (reads e t h above here front other rest) = reads e t h above here front other (rest-does rest)
+rest-does (starts n request timeout device free rest) = starts n request timeout device free (rest-does rest)
+rest-does (controls host one adds rest) = controls host one adds (rest-does rest)
+rest-does (frees n f host here parts rest) = frees n f host here parts (rest-does rest)
+rest-does {a} (ends other quiet) = ends other (quiet-then quiet (quiet-rested a.state))
+rest-does {a} (takes e t h c here front came line quiet) = takes e t h c here front came line (quiet-then quiet (quiet-rested a.state))
+rest-does {a} (closes e h lines here other quiet) = closes e h lines here other (quiet-then quiet (quiet-rested a.state))
+rest-does {a} (moves from to h g here free same read other quiet) = moves from to h g here free same read other (quiet-then quiet (quiet-rested a.state))
+
+pub along-does : {few : Type 0} {closed : List ClosedEndpoint} {handed : List ControlMove} (state : State) (steps : List KernelStep) (call : State → Answer)
+    → Acts few (call (with_steps state steps)) (with_steps state steps) closed handed → Acts few (along_steps state steps call) state closed handed
+along-does state steps call does = goes (quiet-lent state steps) (rest-does does)

@@ -1,0 +1,149 @@
+-- What the calls on endpoints do.
+use Rattle.std.proofs.Common.{◌≡◌, ℕ, ◌≤◌, arith, List, [], ◌∷◌, ◌++◌, length, drop, length-drop, Option, Some, None, Result, true, false, refl, ap, sym, ◌∙◌, slice_get}
+use Rattle.std.specs.Prelude.{not, ◌||◌, ◌==◌, nat_le, is_some}
+use Rattle.std.specs.Option.{option_map}
+use Rattle.std.proofs.lemmas.Bool.{or_parts, eqb-true, not-false}
+use Rattle.usb_desc.specs.declared.types.Direction.{Direction}
+use Rattle.usb_desc.specs.declared.types.Direction.TheVariants.{In, Out}
+use Rattle.usb_desc.specs.declared.types.TransferType.{TransferType}
+use Rattle.usb_xfer.specs.BufferState.{BufferState}
+use Rattle.usb_xfer.specs.declared.transfer.Completion.{Completion}
+use Rattle.usb_error.specs.ErrorState.{ErrorState}
+use Rattle.usb_error.specs.Errors.{clear_halt_error}
+use Rattle.usb_device_endpoint.specs.CallErrors.{or_error}
+use Rattle.usb_kernel.specs.declared.event.Event.{Event}
+use Rattle.usb_kernel.specs.Info.{unreaped}
+use Rattle.usb_kernel.proofs.Places.{slice_get-append_seam}
+use Rattle.usb_kernel.specs.TransferCompletions.{transfer_completion}
+use Rattle.usb_device_endpoint.specs.EndpointState.{EndpointState}
+use Rattle.usb_device_endpoint.specs.Waits.{waited}
+use Rattle.usb_device_endpoint.specs.Blocking.{blocked}
+use Rattle.usb_device_host.specs.HostCalls.{host_halt_result, host_halt_cleared, host_calls}
+use Rattle.usb_device_host.specs.EndpointOpens.{host_asked, host_tries, with_endpoint}
+use Rattle.usb_device_host.proofs.CountLemmas.{asked-count, entered-count, waited-count, blocked-count, all_discarded-count}
+use Rattle.usb_device_host.proofs.FollowLemmas.{on-asked, on-waited, on-blocked, on-all_discarded}
+use Rattle.usb_device_host.proofs.FoundLemmas.{blocked-found}
+use Rattle.usb_session_text.specs.Completions.{count_line, done_line, polled_line, waited_line}
+use Rattle.usb_session_calls.specs.Names.{named, is_free, change_named}
+use Rattle.usb_session_calls.specs.declared.call.EndpointCall.{EndpointCall}
+use Rattle.usb_session_calls.specs.declared.call.EndpointCall.TheVariants.{SubmitIn, SubmitOut, Pending, Poll, Wait, TransferIn, TransferOut, Cancel, ClearHalt}
+use Rattle.usb_session_calls.specs.Buffers.{in_buffer, out_buffer}
+use Rattle.usb_session_calls.specs.EndpointCalls.{endpoint_called, on_endpoint}
+use Rattle.usb_session_calls.specs.State.{State, Endpoint, endpoint_state, pending, tickets_of, with_host}
+use Rattle.usb_session_calls.specs.Answer.{condition_answer, ok_answer, silent, if_open}
+use Rattle.usb_session_calls.specs.OpenAt.{InterfaceAt, interface_at}
+use Rattle.usb_session_calls.specs.Endpoints.{new_endpoint, endpoint_as, endpoint_answer}
+use Rattle.usb_session_calls.specs.Submits.{with_submission, submitted, submit_on, has_direction}
+use Rattle.usb_session_calls.specs.Polls.{one_taken, taken_from, took, poll_on}
+use Rattle.usb_session_calls.specs.Waits.{wait_on}
+use Rattle.usb_session_calls.specs.Transfers.{bars_transfer, with_taken, transfer_made, transfer_on}
+use Rattle.usb_session_calls.specs.Closes.{without_endpoint, close_answer, closed_at, closed}
+use Rattle.usb_session.specs.Served.{closed_under}
+use Rattle.usb_session_calls.proofs.NameLemmas.{named-change_same, change-change}
+use Rattle.usb_session.proofs.Does.{Acts, Does, says_done, goes, opens, submits, ends, takes, quiet-aside, quiet-same, told-does, barred-does, free-does, bar-does, try-does, ok-does, named-does, closing-does, result-other}
+use Rattle.usb_session_calls.proofs.DeviceHosts.{halt-aside}
+
+-- an endpoint is opened
+endpoint_as-does : (state : State) (e address : ℕ) (kind : TransferType) (x : InterfaceAt) (tried : Result ℕ ErrorState) → is_free state.endpoints e ≡ true → (64 ≤ e → 192 ≤ e) → Does state (endpoint_as state e address kind x tried)
+endpoint_as-does state e address kind x tried free outside =
+    try-does (endpoint_as state e address kind x) tried (λ error. refl) (λ maximum.
+    goes (quiet-aside state (with_host state (with_endpoint state.host x.handle.key address)) refl refl refl refl)
+    (opens e (new_endpoint state.host x.claimed.device address kind maximum) free refl refl outside (ok-does _)))
+
+pub endpoint-does : (state : State) (e i address : ℕ) (kind : TransferType) (direction : Direction) → (64 ≤ e → 192 ≤ e) → Does state (endpoint_answer state e i address kind direction)
+unfolding endpoint_answer
+endpoint-does state e i address kind direction outside =
+    named-does (interface_at state i) _ (λ x is.
+    free-does (λ free.
+    let host = host_asked state.host x.claimed.opened in
+    goes (record { keeps = on-asked state.host x.claimed.opened; count = asked-count state.host x.claimed.opened; endpoints = refl; futures = refl })
+    (endpoint_as-does (with_host state host) e address kind x (host_tries host x.handle.key x.claimed address kind direction) free outside)))
+
+-- a ticket is submitted
+submit_on-does : (state : State) (direction : Direction) (e : ℕ) (b : BufferState) (h : Endpoint) → named state.endpoints e ≡ Some h → Does state (submit_on state direction e b h)
+submit_on-does state direction e b h here = bar-does (λ no_. submits e b h here (λ few. few e h here) (ok-does (submitted state e b h)))
+
+-- the ticket at the place of those that were taken is taken
+took-does : (line : Option Completion → List ℕ) (state : State) (e t : ℕ) (h : Endpoint) (o : Option Completion) → says_done (line None) ≡ false → ((c : Completion) → line (Some c) ≡ done_line c) → named state.endpoints e ≡ Some h → slice_get h.tickets h.taken ≡ Some t → transfer_completion state.host.kernel.past t ≡ o → Does state (took line state e t o)
+took-does line state e t h None other done here front is = told-does state (line None) other
+took-does line state e t h (Some c) other done here front is = takes e t h c here (λ few. front) is (done c) (quiet-same (taken_from state e t))
+
+poll_on-does : (state : State) (e : ℕ) (h : Endpoint) (o : Option ℕ) → named state.endpoints e ≡ Some h → slice_get h.tickets h.taken ≡ o → Does state (poll_on state e o)
+poll_on-does state e h None here front = barred-does state
+poll_on-does state e h (Some t) here front = took-does polled_line state e t h (transfer_completion state.host.kernel.past t) refl (λ c. refl) here front refl
+
+wait_on-does : (state : State) (e timeout : ℕ) (h : Endpoint) (o : Option ℕ) → named state.endpoints e ≡ Some h → slice_get h.tickets h.taken ≡ o → Does state (wait_on state e timeout o)
+wait_on-does state e timeout h None here front = barred-does state
+wait_on-does state e timeout h (Some t) here front =
+    let mid = with_host state (waited host_calls t timeout state.host) in
+    goes (record { keeps = on-waited state.host t timeout; count = waited-count state.host t timeout; endpoints = refl; futures = refl })
+    (took-does waited_line mid e t h (transfer_completion mid.host.kernel.past t) refl (λ c. refl) here front refl)
+
+-- a blocking transfer at an endpoint where none is pending: its ticket is submitted, comes, and is taken
+transfer-free : (past : List Event) (direction : Direction) (h : EndpointState) → bars_transfer past direction h ≡ false → length h.pending ≡ 0
+transfer-free past direction h allowed =
+    let others = or_parts (not (has_direction direction h)) (not (length h.pending == 0) || nat_le 1024 (unreaped past)) allowed in
+    let none = or_parts (not (length h.pending == 0)) (nat_le 1024 (unreaped past)) others.1 in
+    eqb-true (length h.pending) 0 (not-false (length h.pending == 0) none.0)
+
+option-taken : (n : ℕ) (o : Option Endpoint) → option_map one_taken (option_map (with_submission n) o) ≡ option_map (with_taken n) o
+option-taken n None = refl
+option-taken n (Some h) = refl
+
+pushed-taken : (n : ℕ) (es : List (Option Endpoint)) (e : ℕ) → change_named one_taken (change_named (with_submission n) es e) e ≡ change_named (with_taken n) es e
+unfolding change_named
+pushed-taken n es e = change-change (option_map (with_submission n)) (option_map one_taken) (option_map (with_taken n)) es e (λ o at. option-taken n o)
+
+pub some-of : {X : Type 0} (o : Option X) → is_some o ≡ true → (x : X) × (o ≡ Some x)
+some-of None is = absurd (cc)
+some-of (Some x) is = (x, refl)
+
+pushed-front : (n : ℕ) (xs : List ℕ) (x : ℕ) → n ≤ length xs → length (drop n xs) ≡ 0 → slice_get (xs ++ x ∷ []) n ≡ Some x
+pushed-front n xs x within none = let all : n ≡ length xs = omega (arith, length-drop n xs) in ap (slice_get (xs ++ x ∷ [])) all ∙ slice_get-append_seam xs x
+
+transfer_made-does : (state : State) (e : ℕ) (b : BufferState) (timeout : ℕ) (h : Endpoint) → named state.endpoints e ≡ Some h → length (pending h) ≡ 0 → Does state (transfer_made state e b timeout h)
+transfer_made-does state e b timeout h here none =
+    let n = tickets_of state in
+    let sent = submitted state e b h in
+    let last = with_host sent (blocked host_calls n timeout sent.host) in
+    let one = entered-count state.host (endpoint_state h) b in
+    let found = some-of (transfer_completion last.host.kernel.past n) (blocked-found sent.host n timeout (omega (arith, one.past))) in
+    submits e b h here (λ few. few e h here) (goes (record { keeps = on-blocked sent.host n timeout; count = blocked-count sent.host n timeout; endpoints = refl; futures = refl })
+    (takes e n (with_submission n h) found.0 (named-change_same (with_submission n) state.endpoints e ∙ ap (option_map (with_submission n)) here)
+    (λ few. pushed-front h.taken h.tickets n (few e h here) none) found.1 (ap waited_line found.1)
+    (quiet-aside (taken_from last e n) (transfer_made state e b timeout h).state refl refl (sym (pushed-taken n state.endpoints e)) refl)))
+
+transfer_on-does : (state : State) (direction : Direction) (e : ℕ) (b : BufferState) (timeout : ℕ) (h : Endpoint) → named state.endpoints e ≡ Some h → Does state (transfer_on state direction e b timeout h)
+transfer_on-does state direction e b timeout h here =
+    bar-does (λ allowed. transfer_made-does state e b timeout h here (transfer-free state.host.kernel.past direction (endpoint_state h) allowed))
+
+-- so each call at an endpoint that is open
+called-does : (state : State) (e : ℕ) (h : Endpoint) (call : EndpointCall) → named state.endpoints e ≡ Some h → Does state (endpoint_called call state e h)
+unfolding count_line
+called-does state e h (SubmitIn n) here = submit_on-does state In e (in_buffer n) h here
+called-does state e h (SubmitOut bytes) here = submit_on-does state Out e (out_buffer bytes) h here
+called-does state e h Pending here = told-does state (count_line (length (pending h))) refl
+called-does state e h Poll here = poll_on-does state e h (slice_get h.tickets h.taken) here refl
+called-does state e h (Wait timeout) here = wait_on-does state e timeout h (slice_get h.tickets h.taken) here refl
+called-does state e h (TransferIn n timeout) here = transfer_on-does state In e (in_buffer n) timeout h here
+called-does state e h (TransferOut bytes timeout) here = transfer_on-does state Out e (out_buffer bytes) timeout h here
+called-does state e h Cancel here =
+    ends refl (record { keeps = on-all_discarded state.host (pending h); count = all_discarded-count state.host (pending h); endpoints = refl; futures = refl })
+called-does state e h ClearHalt here =
+    let aside = halt-aside state.host h.device h.address in
+    ends (result-other (or_error clear_halt_error (host_halt_result state.host h.device h.address)))
+    (quiet-aside state (with_host state (host_halt_cleared state.host h.device h.address)) aside.past aside.handles.tickets refl refl)
+
+pub on_endpoint-does : (state : State) (e : ℕ) (call : EndpointCall) → Does state (on_endpoint state e call)
+unfolding on_endpoint
+on_endpoint-does state e call = named-does (named state.endpoints e) (endpoint_called call state e) (λ h here. called-does state e h call here)
+
+-- an endpoint is closed
+pub closed-does : {few : Type 0} (state : State) (e : ℕ) (lines : ℕ → List (List ℕ)) → Acts few (silent (closed state e)) state (closed_under state lines e) []
+unfolding closed
+closed-does state e lines = closing-does state e lines (λ o. silent (closed_at state e o)) refl (quiet-same state) (λ h. refl) (λ h. quiet-same (without_endpoint state e h))
+
+pub close-does : {few : Type 0} (state : State) (e : ℕ) (lines : ℕ → List (List ℕ)) → Acts few (close_answer state e) state (closed_under state lines e) []
+unfolding close_answer
+close-does state e lines =
+    closing-does state e lines (λ o. if_open o (λ h. ok_answer (without_endpoint state e h)) (condition_answer state)) refl (quiet-same state) (λ h. refl) (λ h. quiet-same (without_endpoint state e h))

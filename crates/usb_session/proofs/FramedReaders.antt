@@ -1,0 +1,128 @@
+-- Framed readers follow their streams.
+use Rattle.std.proofs.Common.{◌≡◌, ◌∙◌, ℕ, ◌-◌, ◌≤◌, true, List, [], ◌∷◌, ◌++◌, take, drop, map, Option, Some, refl, ap, sym, subst}
+use Rattle.std.proofs.lemmas.Option.{none-some, same_Some}
+use Rattle.usb_kernel.specs.declared.event.Event.{Event}
+use Rattle.usb_kernel.specs.Legal.{IsLawful}
+use Rattle.usb_device_endpoint.specs.EndpointState.{EndpointState}
+use Rattle.usb_device_host.specs.HostState.{HostState}
+use Rattle.usb_io.specs.Readers.{ReaderState, with_read, without_end, is_end}
+use Rattle.usb_io.specs.Reads.{Reading}
+use Rattle.usb_io.specs.Streams.{Item, Byte, End}
+use Rattle.usb_io.specs.Following.{History, no_history, Follows}
+use Rattle.usb_io.proofs.Following.{fresh_follows, later_follows, reading_follows, ending_follows}
+use Rattle.usb_session_streams.specs.Numbers.{numbers_from}
+use Rattle.usb_session_streams.specs.ReaderCalls.{ReaderCall, read_by, handed_by, is_framed}
+use Rattle.usb_session_streams.specs.Framed.{GoesOnToFollow}
+use Rattle.usb_session_streams.proofs.ReadsGoOn.{reader_calls-go_on}
+use Rattle.usb_session_streams.proofs.FramedCalls.{lawful-before, follows-as, framed_calls-follow}
+use Rattle.usb_script_words.specs.declared.framing.Framing.{Framing}
+use Rattle.usb_script_words.specs.declared.framing.Framing.TheVariants.{UntilShort}
+use Rattle.usb_session_calls.specs.BareReaders.{bare_of, reader_with}
+use Rattle.usb_session_calls.specs.State.{State, Endpoint, endpoint_state, tickets_of, with_host}
+use Rattle.usb_session_calls.specs.ReaderAt.{ReaderAt, state_of_reader}
+use Rattle.usb_session_calls.specs.Readers.{nothing_consumed}
+use Rattle.usb_session.proofs.StreamPlaces.{drop-nothing, take-nothing, called-parts}
+use Rattle.usb_session.proofs.ReadersKeep.{made_of, set_to, off_at, called_at, reading_at, Consumes, consumes-with, ReaderLaw}
+
+-- what a framed reader consumed, and which of its endpoint's tickets were taken
+abbrev pub history_of : Endpoint → List Item → History
+history_of h consumed = record { taken = take h.taken h.tickets; consumed = consumed }
+
+-- a reader of an IN endpoint follows its stream
+pub record FollowsAt (past : List Event) (x : ReaderAt) (consumed : List Item) : Type 0 where
+  pub input : 128 ≤ x.endpoint.address
+  pub follows : Follows past (state_of_reader x) (history_of x.endpoint consumed)
+
+-- so it is of one that is framed
+abbrev pub IsFollowing : List Event → ReaderAt → Type 0
+IsFollowing past x = (consumed : List Item) → x.reader.consumed ≡ Some consumed → FollowsAt past x consumed
+
+-- as it is made it has consumed nothing
+nothing-is : (ts : List ℕ) (consumed : List Item) → nothing_consumed ts ≡ Some consumed → (ts ≡ []) × (consumed ≡ [])
+nothing-is [] consumed is = (refl, sym (same_Some [] consumed is))
+nothing-is (t ∷ ts) consumed is = absurd (none-some consumed is)
+
+made-follows : (past : List Event) (h : Endpoint) (size : ℕ) → 128 ≤ h.address → IsFollowing past (made_of h size)
+made-follows past h size input consumed is =
+    let x = made_of h size in
+    let none = nothing-is h.tickets consumed is in
+    record {
+      input = input;
+      follows =
+          follows-as past (state_of_reader x) no_history (take h.taken h.tickets) consumed (ap (take h.taken) none.0 ∙ take-nothing h.taken) none.1
+          (fresh_follows past (state_of_reader x) (ap (drop h.taken) none.0 ∙ drop-nothing h.taken) refl refl);
+    }
+
+-- behind a call
+step-follows : (state : State) (x : ReaderAt) (w : Reading HostState) (before : List Item) (bytes : List ℕ) (now : Option (List Item)) → w.reader.endpoint ≡ record (endpoint_state x.endpoint) { pending = w.reader.endpoint.pending } → 128 ≤ x.endpoint.address
+    → GoesOnToFollow (reading_at state x) w (history_of x.endpoint before) bytes → FollowsAt w.bus.kernel.past (called_at state now bytes w x) (before ++ map Byte bytes)
+step-follows state x w before bytes now rest input g =
+    let k = x.endpoint.taken in
+    let ts = x.endpoint.tickets in
+    let back = w.reader.endpoint.pending in
+    let parts = called-parts k ts (numbers_from (tickets_of state) (tickets_of (with_host state w.bus) - tickets_of state)) g.taken back g.came in
+    let x' = called_at state now bytes w x in
+    let endpoint : w.reader.endpoint ≡ endpoint_state x'.endpoint = rest ∙ ap (λ (l : List ℕ). record (endpoint_state x.endpoint) { pending = l }) (sym parts.1) in
+    let reader : w.reader ≡ state_of_reader x' = ap (λ (e : EndpointState). reader_with e (bare_of w.reader)) endpoint in
+    record {
+      input = input;
+      follows =
+          subst (λ (r : ReaderState). Follows w.bus.kernel.past r (history_of x'.endpoint (before ++ map Byte bytes))) reader
+          (follows-as w.bus.kernel.past w.reader (record { taken = take k ts ++ g.taken; consumed = before ++ map Byte bytes }) (take x'.endpoint.taken x'.endpoint.tickets) (before ++ map Byte bytes) parts.0 refl g.follows);
+    }
+
+call-follows : (state : State) (call : ReaderCall) (now : Option (List Item)) (x : ReaderAt) → Consumes (is_framed call) (map Byte (handed_by call (reading_at state x))) x.reader.consumed now
+    → IsLawful (read_by call (reading_at state x)).left.bus.kernel.past → IsFollowing state.host.kernel.past x
+    → IsFollowing (read_by call (reading_at state x)).left.bus.kernel.past (called_at state now (handed_by call (reading_at state x)) (read_by call (reading_at state x)).left x)
+call-follows state call now x consumes lawful f consumed is =
+    let w = reading_at state x in
+    let left = (read_by call w).left in
+    let bytes = handed_by call w in
+    let b = consumes consumed is in
+    let was = f b.before b.was in
+    let g = framed_calls-follow call w b.within was.input lawful (history_of x.endpoint b.before) was.follows in
+    subst (λ (all : List Item). FollowsAt left.bus.kernel.past (called_at state now bytes left x) all) b.is
+    (step-follows state x left b.before bytes now (reader_calls-go_on call w).endpoint was.input g)
+
+-- what is set is not what it follows by
+set-follows : (past : List Event) (n timeout : ℕ) (x : ReaderAt) → IsFollowing past x → IsFollowing past (set_to n timeout x)
+set-follows past n timeout x f consumed is =
+    let was = f consumed is in
+    record { input = was.input; follows = record { mine = was.follows.mine; up = was.follows.up; reaped = was.follows.reaped; read = was.follows.read } }
+
+-- what stands is taken off
+read-follows : (past : List Event) (framing : Framing) (n : ℕ) (x : ReaderAt) → IsFollowing past x → IsFollowing past (off_at framing (map Byte (take n x.reader.bare.unread)) (take n x.reader.bare.unread) (with_read n (state_of_reader x)) x)
+read-follows past framing n x f consumed is =
+    let b = consumes-with framing (map Byte (take n x.reader.bare.unread)) x.reader.consumed consumed is in
+    let was = f b.before b.was in
+    record {
+      input = was.input;
+      follows =
+          subst (λ (all : List Item). Follows past (with_read n (state_of_reader x)) (history_of x.endpoint all)) b.is
+          (reading_follows past (state_of_reader x) (history_of x.endpoint b.before) n was.follows);
+    }
+
+end-follows : (past : List Event) (x : ReaderAt) → is_end (state_of_reader x) ≡ true → IsFollowing past x → IsFollowing past (off_at UntilShort (End ∷ []) [] (without_end (state_of_reader x)) x)
+end-follows past x ended f consumed is =
+    let b = consumes-with UntilShort (End ∷ []) x.reader.consumed consumed is in
+    let was = f b.before b.was in
+    record {
+      input = was.input;
+      follows =
+          subst (λ (all : List Item). Follows past (without_end (state_of_reader x)) (history_of x.endpoint all)) b.is
+          (ending_follows past (state_of_reader x) (history_of x.endpoint b.before) ended was.follows);
+    }
+
+pub following : ReaderLaw IsFollowing IsLawful
+following =
+    record {
+      before = lawful-before;
+      later = λ old new x extends f consumed is.
+          let was = f consumed is in
+          record { input = was.input; follows = later_follows old new (state_of_reader x) (history_of x.endpoint consumed) extends was.follows };
+      made = made-follows;
+      set = set-follows;
+      called = call-follows;
+      read = read-follows;
+      ended = end-follows;
+    }

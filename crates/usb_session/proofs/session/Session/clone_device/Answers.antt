@@ -1,0 +1,42 @@
+use Rattle.std.proofs.Common.{◌≡◌, ◌∙◌, ap}
+use Rattle.usb_device_host.specs.HostState.{HostState}
+use Rattle.usb_session_calls.specs.SessionState.{SessionState}
+use Rattle.std.specs.Option.{option_copied}
+use Rattle.usb_session_calls.specs.Names.{set_name}
+use Rattle.usb_session.specs.SessionFacts.{made_of}
+use Rattle.usb_session_calls.proofs.NameLemmas.{found_at, free_at}
+use Rattle.usb_session_calls.proofs.Answering.{answers, answers-same}
+use Rattle.usb_session.proofs.DeviceHandles.{sound-device_cloned, clone_device-none, clone_device-used, clone_device-gives}
+use Rattle.usb_session.proofs.session.Session.clone_device.Goals as goal
+use Rattle.usb_session.proofs.session.Session.clone_device.Goals.{After-write_ok}
+
+put : (c : After-write_ok) → c.put_at.new.names.items ≡ set_name c.self.inside.devices.items c.args.name c.in-Some.device.now
+put c = rw (← c.number-3.ensures.value, ← c.in_ok-clone.ensures.handle) c.put_at.ensures.after
+
+pub returns-in_default-clause-answered : goal.returns-in_default-clause-answered
+returns-in_default-clause-answered c =
+    answers-same _ _ _ c.self.view_is c.write_condition.ensures.text
+    (λ state r. clone_device-none (made_of c.self.inside) state c.args.name c.args.device (found_at _ _ _ _ _ _ c.deref.ensures.value c.number.ensures.value c.open_at.ensures.value (ap option_copied c.in_default.is)) r)
+
+pub returns-then-not-is_free-clause-answered : goal.returns-then-not-is_free-clause-answered
+returns-then-not-is_free-clause-answered c =
+    answers-same _ _ _ c.self.view_is c.write_condition-then-not-is_free.ensures.text
+    (λ state r. clone_device-used (made_of c.self.inside) state c.args.name c.args.device c.in-Some.device.now
+    (found_at _ _ _ _ _ _ c.deref.ensures.value c.number.ensures.value c.open_at.ensures.value (ap option_copied c.in-Some.is))
+    (free_at _ _ _ _ _ _ c.deref-2.ensures.value c.number-2.ensures.value c.is_free.ensures.free c.if-not-is_free.true) r)
+
+pub invariant_of-self-2 : goal.invariant_of-self-2
+invariant_of-self-2 c =
+    sound-device_cloned (made_of c.self.inside) c.clone_on.new.host c.put_at.new.names.items c.args.name c.args.device c.in-Some.device.now c.self.invariant c.in_ok-clone.ensures.ok
+    (found_at _ _ _ _ _ _ c.deref.ensures.value c.number.ensures.value c.open_at.ensures.value (ap option_copied c.in-Some.is))
+    (free_at _ _ _ _ _ _ c.deref-2.ensures.value c.number-2.ensures.value c.is_free.ensures.free c.if-not-is_free.false) (put c)
+
+pub returns-clause-answered : goal.returns-clause-answered
+returns-clause-answered c =
+    answers _ _ _ c.self.view_is c.write_ok.ensures.text
+    (λ state r. clone_device-gives (made_of c.self.inside) state c.clone_on.new.host c.put_at.new.names.items c.args.name c.args.device c.in-Some.device.now
+    (found_at _ _ _ _ _ _ c.deref.ensures.value c.number.ensures.value c.open_at.ensures.value (ap option_copied c.in-Some.is))
+    (free_at _ _ _ _ _ _ c.deref-2.ensures.value c.number-2.ensures.value c.is_free.ensures.free c.if-not-is_free.false) c.in_ok-clone.ensures.ok (put c) r)
+
+pub returns-clause-spare : goal.returns-clause-spare
+returns-clause-spare c = ap (λ (h : HostState). h.kernel.spare) c.in_ok-clone.ensures.ok ∙ ap (λ (v : SessionState). v.host.kernel.spare) c.self.view_is

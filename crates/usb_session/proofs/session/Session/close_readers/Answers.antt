@@ -1,0 +1,24 @@
+use Rattle.std.proofs.Common.{◌≡◌, ◌∙◌, arith, ap, sym, subst}
+use Rattle.usb_session_calls.specs.Names.{freed}
+use Rattle.usb_session_calls.specs.ReaderAt.{reader_place}
+use Rattle.usb_session_calls.specs.Readers.{reader_closed}
+use Rattle.usb_session.specs.Ends.{readers_closed}
+use Rattle.usb_session_calls.specs.Relation.{Represents}
+use Rattle.usb_session.proofs.EndLemmas.{is_name, no_name, none-more_behind, below-more}
+use Rattle.usb_session.proofs.session.Session.close_readers.Goals as goal
+
+pub loop-number-preserved : goal.loop-number-preserved
+loop-number-preserved c =
+    let number = c.loop-number.number in
+    let same : c.in-Some.name ≡ number = is_name number c.in-Some.name (sym c.new.ensures.value ∙ c.in-Some.is) in
+    let after = c.close_reader_at.new.self in
+    let before = c.loop-number.self in
+    record {
+      stands =
+          λ state r. subst (Represents after) (ap (reader_closed (readers_closed state number)) same ∙ sym (below-more reader_closed state number))
+          (c.close_reader_at.ensures.stands (readers_closed state number) (c.loop-number.invariant.stands state r));
+      none = none-more_behind 64 before.endpoints after.endpoints number (c.close_reader_at.ensures.freed ∙ ap (λ n. freed before.endpoints (reader_place n)) same) c.loop-number.invariant.none;
+    }
+
+pub unreachable-requires : goal.unreachable-requires
+unreachable-requires c = absurd (no_name c.loop-number.number (omega (arith, c.loop-number-test.true)) (sym c.new.ensures.value ∙ c.in_default.is))

@@ -1,0 +1,113 @@
+use Rattle.std.proofs.Common.{◌≡◌, ◌∙◌, ℕ, None, ap, sym, refl}
+use Rattle.usb_device_host.specs.HostState.{HostState}
+use Rattle.usb_device_host.specs.HostBus.{owner_at}
+use Rattle.usb_device_host.specs.Finishes.{HasEnds, KeepsNothing}
+use Rattle.usb_session_calls.specs.Names.{named}
+use Rattle.usb_session_calls.specs.State.{State, endpoint_state}
+use Rattle.usb_session.specs.Ends.{readers_closed, writers_closed, endpoints_closed, futures_closed, interfaces_closed, devices_closed, all_closed}
+use Rattle.usb_session_calls.specs.Relation.{Represents}
+use Rattle.usb_session.specs.Accounts.{Accounted}
+use Rattle.usb_session_calls.specs.SessionState.{SessionState}
+use Rattle.usb_session.specs.SessionFacts.{made_of}
+use Rattle.usb_session.proofs.TakenOut.{places-made}
+use Rattle.usb_session.proofs.EndLemmas.{none-all, none-closed, none-endpoints, none-readers, none-writers, unmapped, end-host, end-none, end-empty}
+use Rattle.usb_session.proofs.AccountLemmas.{accounted-all_closed, accounted-none}
+use Rattle.usb_session_calls.proofs.Answering.{named_kept, host_is}
+use Rattle.usb_session.proofs.session.Session.end.Goals as goal
+
+-- all is closed, so no endpoint and no future holds a ticket, and each ticket of the host has its end
+end-ended : (s : SessionState) (before now : HostState) (state : State) → before ≡ s.host → ((e : ℕ) → named s.endpoints e ≡ None) → ((n : ℕ) → named s.futures n ≡ None) → Represents s (devices_closed (interfaces_closed (futures_closed (endpoints_closed (writers_closed (readers_closed state 64) 64) 64) 64) 64) 64) → Accounted state
+    → (((t : ℕ) → owner_at before.tickets t ≡ None) → HasEnds now.tickets) → HasEnds now.tickets
+unfolding all_closed
+end-ended s before now state same none gone r a ends =
+    let last = all_closed state in
+    let closed_all : (e : ℕ) → named last.endpoints e ≡ None = λ e. unmapped endpoint_state (named last.endpoints e) (sym (named_kept s last e r) ∙ none e) in
+    let all_gone : (n : ℕ) → named last.futures n ≡ None = λ n. ap (λ (v : SessionState). named v.futures n) (sym r.is) ∙ gone n in
+    ends (λ t. ap (λ (h : HostState). owner_at h.tickets t) (same ∙ host_is s last r) ∙ accounted-none last (accounted-all_closed state a) closed_all all_gone t)
+
+pub drop_names-requires : goal.drop_names-requires
+drop_names-requires c = record {
+  none =
+      none-all c.session.inside.futures.items c.session.invariant.future_names
+      (λ n below. ap (λ (v : SessionState). named v.futures n) c.session.view_is ∙ ap (λ l. named l n) (c.close_devices.ensures.futures ∙ c.close_interfaces.ensures.futures) ∙ c.close_futures.ensures.none n below);
+}
+
+pub drop_names-requires-2 : goal.drop_names-requires-2
+drop_names-requires-2 c = record {
+  none = none-endpoints c.session.inside.endpoints.items c.session.inside.readers.items c.session.inside.writers.items (places-made c.session.inside c.session.invariant)
+      (none-closed c.close_readers.new.self.endpoints c.close_writers.new.self.endpoints c.close_endpoints.new.self.endpoints (made_of c.session.inside).endpoints c.session.invariant.endpoint_names
+      c.close_readers.ensures.none c.close_writers.ensures.readers c.close_writers.ensures.none c.close_endpoints.ensures.streams c.close_endpoints.ensures.none
+      (λ n. ap (λ (v : SessionState). named v.endpoints n) c.session.view_is ∙ ap (λ l. named l n) (c.close_devices.ensures.endpoints ∙ c.close_interfaces.ensures.endpoints ∙ c.close_futures.ensures.endpoints)));
+}
+
+pub drop_names-requires-3 : goal.drop_names-requires-3
+drop_names-requires-3 c = record {
+  none = none-readers c.session.inside.endpoints.items c.session.inside.readers.items c.session.inside.writers.items (places-made c.session.inside c.session.invariant)
+      (none-closed c.close_readers.new.self.endpoints c.close_writers.new.self.endpoints c.close_endpoints.new.self.endpoints (made_of c.session.inside).endpoints c.session.invariant.endpoint_names
+      c.close_readers.ensures.none c.close_writers.ensures.readers c.close_writers.ensures.none c.close_endpoints.ensures.streams c.close_endpoints.ensures.none
+      (λ n. ap (λ (v : SessionState). named v.endpoints n) c.session.view_is ∙ ap (λ l. named l n) (c.close_devices.ensures.endpoints ∙ c.close_interfaces.ensures.endpoints ∙ c.close_futures.ensures.endpoints)));
+}
+
+pub drop_names-requires-4 : goal.drop_names-requires-4
+drop_names-requires-4 c = record {
+  none = none-writers c.session.inside.endpoints.items c.session.inside.readers.items c.session.inside.writers.items (places-made c.session.inside c.session.invariant)
+      (none-closed c.close_readers.new.self.endpoints c.close_writers.new.self.endpoints c.close_endpoints.new.self.endpoints (made_of c.session.inside).endpoints c.session.invariant.endpoint_names
+      c.close_readers.ensures.none c.close_writers.ensures.readers c.close_writers.ensures.none c.close_endpoints.ensures.streams c.close_endpoints.ensures.none
+      (λ n. ap (λ (v : SessionState). named v.endpoints n) c.session.view_is ∙ ap (λ l. named l n) (c.close_devices.ensures.endpoints ∙ c.close_interfaces.ensures.endpoints ∙ c.close_futures.ensures.endpoints)));
+}
+
+pub drop_names-requires-5 : goal.drop_names-requires-5
+drop_names-requires-5 c = record {
+  none =
+      none-all c.session.inside.interfaces.items c.session.invariant.interface_names
+      (λ n below. ap (λ (v : SessionState). named v.interfaces n) c.session.view_is ∙ ap (λ l. named l n) c.close_devices.ensures.interfaces ∙ c.close_interfaces.ensures.none n below);
+}
+
+pub drop_names-requires-6 : goal.drop_names-requires-6
+drop_names-requires-6 c = record {
+  none =
+      none-all c.session.inside.devices.items c.session.invariant.device_names
+      (λ n below. ap (λ (v : SessionState). named v.devices n) c.session.view_is ∙ c.close_devices.ensures.none n below);
+}
+
+pub returns : goal.returns
+returns c =
+    let s = made_of c.session.inside in
+    let before = c.session.inside.host in
+    let now = c.finish.new.self in
+    let no_devices : (d : ℕ) → named s.devices d ≡ None =
+    none-all s.devices c.session.invariant.device_names
+    (λ n below. ap (λ (v : SessionState). named v.devices n) c.session.view_is ∙ c.close_devices.ensures.none n below) in
+    let no_interfaces : (i : ℕ) → named s.interfaces i ≡ None =
+    none-all s.interfaces c.session.invariant.interface_names
+    (λ n below. ap (λ (v : SessionState). named v.interfaces n) c.session.view_is ∙ ap (λ l. named l n) c.close_devices.ensures.interfaces ∙ c.close_interfaces.ensures.none n below) in
+    let no_endpoints : (e : ℕ) → named s.endpoints e ≡ None =
+    none-closed c.close_readers.new.self.endpoints c.close_writers.new.self.endpoints c.close_endpoints.new.self.endpoints s.endpoints c.session.invariant.endpoint_names
+    c.close_readers.ensures.none c.close_writers.ensures.readers c.close_writers.ensures.none c.close_endpoints.ensures.streams c.close_endpoints.ensures.none
+    (λ n. ap (λ (v : SessionState). named v.endpoints n) c.session.view_is ∙ ap (λ l. named l n) (c.close_devices.ensures.endpoints ∙ c.close_interfaces.ensures.endpoints ∙ c.close_futures.ensures.endpoints)) in
+    let no_futures : (n : ℕ) → named s.futures n ≡ None =
+    none-all s.futures c.session.invariant.future_names
+    (λ n below. ap (λ (v : SessionState). named v.futures n) c.session.view_is ∙ ap (λ l. named l n) (c.close_devices.ensures.futures ∙ c.close_interfaces.ensures.futures) ∙ c.close_futures.ensures.none n below) in
+    let stands : (state : State) → Represents c.args.self state → Represents c.close_devices.new.self (devices_closed (interfaces_closed (futures_closed (endpoints_closed (writers_closed (readers_closed state 64) 64) 64) 64) 64) 64) =
+    λ state r.
+    let read = readers_closed state 64 in
+    let written = writers_closed read 64 in
+    let closed = endpoints_closed written 64 in
+    c.close_devices.ensures.stands (interfaces_closed (futures_closed closed 64) 64)
+    (c.close_interfaces.ensures.stands (futures_closed closed 64)
+    (c.close_futures.ensures.stands closed (c.close_endpoints.ensures.stands written (c.close_writers.ensures.stands read (c.close_readers.ensures.stands state r))))) in
+    let ends : (state : State) → Represents c.args.self state → Accounted state → HasEnds now.tickets =
+    λ state r a. end-ended c.close_devices.new.self before now state (ap (λ (v : SessionState). v.host) c.session.view_is)
+    (λ n. sym (ap (λ (v : SessionState). named v.endpoints n) c.session.view_is) ∙ no_endpoints n)
+    (λ n. sym (ap (λ (v : SessionState). named v.futures n) c.session.view_is) ∙ no_futures n)
+    (stands state r) a c.finish.ensures.ended in
+    let nothing : (state : State) → Represents c.args.self state → Accounted state → KeepsNothing now =
+    λ state r a. end-empty s before now refl c.finish.ensures.finished c.session.invariant no_devices no_interfaces no_endpoints no_futures c.nothing_is_kept_that_has_gone.ensures.owned c.nothing_is_kept_that_has_gone.ensures.alive (ends state r a) in
+    record {
+      host = λ state r. end-host c.close_devices.new.self before now state (sym (ap (λ (v : SessionState). v.host) c.session.view_is)) c.finish.ensures.finished (stands state r);
+      ended = ends;
+      reaped = c.finish.ensures.reaped;
+      lawful = rw (← c.kernel.ensures.kernel) c.journal.ensures.lawful;
+      none_open = end-none s before now refl c.finish.ensures.finished c.session.invariant no_devices no_interfaces;
+      keeps_nothing = nothing;
+    }

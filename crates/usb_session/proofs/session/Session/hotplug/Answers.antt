@@ -1,0 +1,12 @@
+use Rattle.usb_session.specs.SessionFacts.{made_of}
+use Rattle.usb_session_calls.proofs.Answering.{answers}
+use Rattle.usb_session.proofs.TreeAnswers.{hotplug-gives, sound-packets}
+use Rattle.usb_session.proofs.session.Session.hotplug.Goals as goal
+
+pub invariant_of-self : goal.invariant_of-self
+invariant_of-self c = sound-packets (made_of c.self.inside) c.poll_next.new.self c.self.invariant
+
+pub returns-clause-answered : goal.returns-clause-answered
+returns-clause-answered c =
+    answers _ _ _ c.self.view_is c.write_hotplug.ensures.text
+    (λ state r. hotplug-gives (made_of c.self.inside) state c.poll_next.new.self _ c.in_ok-event.ensures.event c.in_ok-event.ensures.ok r)

@@ -1,0 +1,15 @@
+use Rattle.usb_session.specs.SessionFacts.{made_of}
+use Rattle.usb_session_calls.proofs.Answering.{answers-same}
+use Rattle.usb_session.proofs.TreeAnswers.{match-gives, match-refused}
+use Rattle.usb_session.proofs.session.Session.match_device.Goals as goal
+
+pub returns-in-Ok : goal.returns-in-Ok
+returns-in-Ok c = record {
+  answered = answers-same _ _ _ c.self.view_is c.write_match.ensures.text (λ state r. match-gives (made_of c.self.inside) state c.args.path.now c.args.selector.now _ c.in-Ok.ensures.tried r);
+}
+
+pub returns-in-Err-Cause : goal.returns-in-Err-Cause
+returns-in-Err-Cause c = record {
+  answered = answers-same _ _ _ c.self.view_is (rw c.in-Err-Cause.error-is at c.write_sysfs_error.ensures.text)
+      (λ state r. match-refused (made_of c.self.inside) state c.args.path.now c.args.selector.now _ (rw c.in-Err-Cause.field-0-is at c.in-Err-Cause.ensures.tried) r);
+}

@@ -1,0 +1,32 @@
+-- What readers hand over of the completions of their tickets, over a script.
+use Rattle.std.specs.Prelude.{ℕ, ◌≡◌, List, ◌++◌, take, All, Some}
+use Rattle.usb_kernel.specs.declared.event.Event.{Event}
+use Rattle.usb_script_lines.specs.declared.item.Item.{Item as Line}
+use Rattle.usb_session_streams.specs.Handed.{completed_bytes}
+use Rattle.usb_session_streams.specs.Told.{IsComplete}
+use Rattle.usb_session_calls.specs.State.{State, pending}
+use Rattle.usb_session_calls.specs.ReaderAt.{ReaderAt, reader_at}
+use Rattle.usb_session.specs.Output.{start, behind}
+
+-- of the tickets that were taken of a reader's endpoint the first were taken before the reader was made of it, and then the reader
+-- took these. Each has its completion. What the reader handed over, and then what is unread, are the bytes of these completions,
+-- in order, also of those that failed or were cancelled. So what it handed over is a prefix of the bytes of all completions that
+-- the tickets that it took and those that are pending have
+pub record IsHandedOver (past : List Event) (x : ReaderAt) : Type 0 where
+  pub taken : List ℕ
+  pub tickets : take x.endpoint.taken x.endpoint.tickets ≡ x.reader.before ++ taken
+  pub complete : All (IsComplete past) taken
+  pub bytes : completed_bytes past taken ≡ x.reader.given ++ x.reader.bare.unread
+  pub prefix : (rest : List ℕ) × (x.reader.given ++ rest ≡ completed_bytes past (taken ++ pending x.endpoint))
+
+-- so it is of each open reader, whether its calls are plain ones or end at short packets
+abbrev pub ReadersHandOver : State → Type 0
+ReadersHandOver state = (r : ℕ) (x : ReaderAt) → reader_at state r ≡ Some x → IsHandedOver state.host.kernel.past x
+
+-- before the first line of a script and behind each
+abbrev pub BytesAreHandedOver : List Line → Type 0
+BytesAreHandedOver items = (before after : List Line) → before ++ after ≡ items → ReadersHandOver (behind (start items) before)
+
+-- the law: so it is of each script
+abbrev pub ScriptsHandOver : Type 0
+ScriptsHandOver = (items : List Line) → BytesAreHandedOver items

@@ -1,0 +1,146 @@
+//! The end of a session.
+
+ghost use Rattle.std.specs.Prelude.{◌≡◌, ◌<◌, ◌≤◌, ℕ, Some, None};
+ghost use Rattle.usb_kernel.specs.Legal.{IsLawful};
+ghost use Rattle.usb_device_host.specs.Finishes.{HasEnds, HasCompletions, KeepsNothing};
+ghost use Rattle.usb_device_tables.specs.History.{value_at};
+ghost use Rattle.usb_session_calls.specs.State.{State};
+ghost use Rattle.usb_session_calls.specs.Names.{named, freed};
+ghost use Rattle.usb_session_calls.specs.ReaderAt.{reader_place};
+ghost use Rattle.usb_session_calls.specs.WriterAt.{writer_place};
+ghost use Rattle.usb_session.specs.Ends.{readers_closed, writers_closed, endpoints_closed, futures_closed, interfaces_closed, devices_closed, ended};
+ghost use Rattle.usb_session_calls.specs.Relation.{Represents};
+ghost use Rattle.usb_session.specs.Accounts.{Accounted};
+
+use crate::session::Session;
+use usb_device::Host;
+use usb_script_lines::Name;
+use usb_session_calls::drop_names;
+
+impl Session {
+    /// Closes the readers by number.
+    fn close_readers(&mut self)
+        ensures stands { (state : State) → Represents self.old state →
+            Represents self.new (readers_closed state 64) }
+        ensures none { (r : ℕ) → r < 64 → named self.new.endpoints (reader_place r) ≡ None }
+    {
+        for number in 0..64 {
+            let Some(name) = Name::new(number) else {
+                unreachable!()
+            };
+            self.close_reader_at(name);
+        }
+    }
+
+    /// Closes the writers by number.
+    fn close_writers(&mut self)
+        ensures stands { (state : State) → Represents self.old state →
+            Represents self.new (writers_closed state 64) }
+        ensures none { (w : ℕ) → w < 64 → named self.new.endpoints (writer_place w) ≡ None }
+        ensures readers { (r : ℕ) → r < 64 → named self.new.endpoints (reader_place r)
+            ≡ named self.old.endpoints (reader_place r) }
+    {
+        for number in 0..64 {
+            let Some(name) = Name::new(number) else {
+                unreachable!()
+            };
+            self.close_writer_at(name);
+        }
+    }
+
+    /// Closes the endpoints by number.
+    fn close_endpoints(&mut self)
+        ensures stands { (state : State) → Represents self.old state →
+            Represents self.new (endpoints_closed state 64) }
+        ensures none { (e : ℕ) → e < 64 → named self.new.endpoints e ≡ None }
+        ensures streams { (e : ℕ) → 64 ≤ e → named self.new.endpoints e
+            ≡ named self.old.endpoints e }
+    {
+        for name in 0..64 {
+            self.close_endpoint(name);
+        }
+    }
+
+    /// Closes the futures by number.
+    fn close_futures(&mut self)
+        ensures stands { (state : State) → Represents self.old state →
+            Represents self.new (futures_closed state 64) }
+        ensures none { (f : ℕ) → f < 64 → named self.new.futures f ≡ None }
+        ensures endpoints { self.new.endpoints ≡ self.old.endpoints }
+    {
+        for name in 0..64 {
+            self.close_future_at(name);
+        }
+    }
+
+    /// Closes the interfaces by number.
+    fn close_interfaces(&mut self)
+        ensures stands { (state : State) → Represents self.old state →
+            Represents self.new (interfaces_closed state 64) }
+        ensures none { (i : ℕ) → i < 64 → named self.new.interfaces i ≡ None }
+        ensures endpoints { self.new.endpoints ≡ self.old.endpoints }
+        ensures futures { self.new.futures ≡ self.old.futures }
+    {
+        for name in 0..64 {
+            self.close_handle(name);
+        }
+    }
+
+    /// Closes the devices by number.
+    fn close_devices(&mut self)
+        ensures stands { (state : State) → Represents self.old state →
+            Represents self.new (devices_closed state 64) }
+        ensures none { (d : ℕ) → d < 64 → named self.new.devices d ≡ None }
+        ensures interfaces { self.new.interfaces ≡ self.old.interfaces }
+        ensures endpoints { self.new.endpoints ≡ self.old.endpoints }
+        ensures futures { self.new.futures ≡ self.old.futures }
+    {
+        for name in 0..64 {
+            self.close_name(name);
+        }
+    }
+
+    /// Closes what is open, readers, then writers, then endpoints, then futures, then interfaces and then devices, each by number; and gives the host,
+    /// at which all tickets are discarded and then reaped, by number. Then the journal is lawful, each ticket has its completion and
+    /// its end, and the host keeps no open device, no claimed interface and no endpoint.
+    pub fn end(self) -> Host
+        ensures host { (state : State) → Represents self state → result ≡ ended state }
+        ensures ended { (state : State) → Represents self state → Accounted state →
+            HasEnds result.tickets }
+        ensures reaped { HasCompletions result.kernel.past }
+        ensures lawful { IsLawful result.kernel.past }
+        ensures none_open { (d : ℕ) → value_at result.devices d ≡ None }
+        ensures keeps_nothing { (state : State) → Represents self state → Accounted state →
+            KeepsNothing result }
+    {
+        let mut session = self;
+        session.close_readers();
+        session.close_writers();
+        session.close_endpoints();
+        session.close_futures();
+        session.close_interfaces();
+        session.close_devices();
+        let Session {
+            mut host,
+            devices,
+            interfaces,
+            endpoints,
+            readers,
+            writers,
+            futures,
+            tree: _tree,
+            watch: _watch,
+        } = session;
+        drop_names(futures);
+        drop_names(endpoints);
+        drop_names(readers);
+        drop_names(writers);
+        drop_names(interfaces);
+        drop_names(devices);
+        host.finish();
+        host.nothing_is_kept_that_has_gone();
+        // The contract of this call says that the journal is lawful.
+        let _ = host.kernel().journal();
+        host
+    }
+}

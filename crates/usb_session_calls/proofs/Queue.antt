@@ -1,0 +1,136 @@
+-- What calls on an open endpoint answer.
+use Rattle.std.proofs.Common.{◌≡◌, ℕ, ◌≤◌, ◌+◌, suc, zero, arith, List, [], ◌∷◌, ◌++◌, length, drop, Option, Some, None, Result, Ok, Err, refl, ap, sym, ◌∙◌, subst, slice_get, String, string_bytes}
+use Rattle.std.specs.Prelude.{OnOk}
+use Rattle.std.specs.Option.{option_map}
+use Rattle.std.specs.declared.alloc.Global.{Global}
+use Rattle.std.proofs.lemmas.Option.{same_Some}
+use Rattle.usb_xfer.specs.declared.transfer.Completion.{Completion}
+use Rattle.usb_kernel.specs.Extends.{Extends}
+use Rattle.usb_kernel.proofs.Extends.{extends-same}
+use Rattle.usb_kernel.specs.TransferCompletions.{transfer_completion}
+use Rattle.usb_device_endpoint.specs.EndpointState.{EndpointState}
+use Rattle.usb_device_endpoint.specs.Waits.{Polled, front_found, taken_if, polled_of, polled}
+use Rattle.usb_device_host.specs.HostState.{HostState}
+use Rattle.usb_device_host.specs.HostFrames.{LineGoesOn}
+use Rattle.usb_device_host.specs.HostCalls.{host_calls}
+use Rattle.usb_device_host.specs.TicketEnds.{host_taken}
+use Rattle.usb_device_host.proofs.CallFrames.{keeps-open, keeps-taken}
+use Rattle.usb_device_host.proofs.WaitFrames.{line-keeps}
+use Rattle.usb_device_host.proofs.FollowLemmas.{taken-past}
+use Rattle.usb_session_calls.specs.Names.{named, change_named}
+use Rattle.usb_session_calls.specs.State.{State, Endpoint, endpoint_state, with_host}
+use Rattle.usb_session_calls.specs.Answer.{Answer, answer_with}
+use Rattle.usb_session_calls.specs.Answered.{Answered}
+use Rattle.usb_session_calls.specs.Polls.{took, one_taken}
+use Rattle.usb_session_calls.specs.SessionState.{SessionState}
+use Rattle.usb_session_calls.specs.Relation.{Represents}
+use Rattle.usb_session_calls.specs.OpenCalls.{CallAnswers, with_called}
+use Rattle.usb_session_calls.proofs.Answering.{named_kept, host_is, told-answered}
+use Rattle.usb_session_calls.proofs.NameLemmas.{put-changed, put-back}
+use Rattle.usb_session_calls.proofs.Called.{represents-put, represents-host}
+
+-- an answer by which the host is another and the endpoint is changed, and a line is told
+pub record Comes (state : State) (e : ℕ) (h : Endpoint) (now : HostState) (y : EndpointState) (f : Endpoint → Endpoint) (line : List ℕ) (a : Answer) : Type 0 where
+  pub is : a ≡ answer_with (record state { host = now; endpoints = change_named f state.endpoints e }) line
+  pub kept_is : endpoint_state (f h) ≡ y
+  pub few : (f h).taken ≤ length (f h).tickets
+
+kept_at : (s : SessionState) (state : State) (e : ℕ) (x : EndpointState) (h : Endpoint) → Represents s state → named s.endpoints e ≡ Some x → named state.endpoints e ≡ Some h → endpoint_state h ≡ x
+kept_at s state e x h r was at = same_Some (endpoint_state h) x (ap (option_map endpoint_state) (sym at) ∙ sym (named_kept s state e r) ∙ was)
+
+pub call-comes : {E : Type 0} (old now : HostState) (x y : EndpointState) (before text : String Global) (result : Result Unit E) (f : Endpoint → Endpoint) (line : List ℕ) (call : State → ℕ → Endpoint → Answer) → OnOk result (string_bytes text ≡ string_bytes before ++ line) → ((state : State) (e : ℕ) (h : Endpoint) → state.host ≡ old → endpoint_state h ≡ x → h.taken ≤ length h.tickets → Comes state e h now y f line (call state e h)) → CallAnswers old now x y before text result call
+call-comes old now x y before text (Err error) f line call printed comes = tt
+call-comes old now x y before text (Ok done) f line call printed comes =
+    λ s state e h r host was at.
+    let same = kept_at s state e x h r was at in
+    let c = comes state e h (sym (host_is s state r) ∙ host) same (r.few e h at) in
+    subst (Answered (with_called s e now y) (string_bytes before) (string_bytes text)) (sym c.is)
+    (told-answered (with_called s e now y) (record state { host = now; endpoints = change_named f state.endpoints e }) (string_bytes before) (string_bytes text) line
+    (represents-put s state now (with_called s e now y).endpoints f e x y (record { entry = h; is = at; same = same; few = r.few e h at }) r (sym (put-changed (λ z. y) s.endpoints e x y was refl)) c.kept_is c.few)
+    printed)
+
+-- only the host goes on
+with_same : (s : SessionState) (e : ℕ) (x y : EndpointState) (host : HostState) → y ≡ x → named s.endpoints e ≡ Some x → record s { host = host } ≡ with_called s e host y
+with_same s e x y host same was =
+    ap (λ (l : List (Option EndpointState)). record s { host = host; endpoints = l }) (sym (put-back s.endpoints e x was) ∙ put-changed (λ z. x) s.endpoints e x x was refl)
+    ∙ ap (with_called s e host) (sym same)
+
+pub call-host : {E : Type 0} (old now : HostState) (x y : EndpointState) (before text : String Global) (result : Result Unit E) (line : List ℕ) (call : State → ℕ → Endpoint → Answer) → y ≡ x → OnOk result (string_bytes text ≡ string_bytes before ++ line) → ((state : State) (e : ℕ) (h : Endpoint) → state.host ≡ old → endpoint_state h ≡ x → call state e h ≡ answer_with (with_host state now) line) → CallAnswers old now x y before text result call
+call-host old now x y before text (Err error) line call same printed tells = tt
+call-host old now x y before text (Ok done) line call same printed tells =
+    λ s state e h r host was at.
+    subst (Answered (with_called s e now y) (string_bytes before) (string_bytes text)) (sym (tells state e h (sym (host_is s state r) ∙ host) (kept_at s state e x h r was at)))
+    (subst (λ v. Answered v (string_bytes before) (string_bytes text) (answer_with (with_host state now) line)) (with_same s e x y now same was)
+    (told-answered (record s { host = now }) (with_host state now) (string_bytes before) (string_bytes text) line (represents-host s state now r) printed))
+
+-- nothing is changed
+pub call-told : {E : Type 0} (old now : HostState) (x y : EndpointState) (before text : String Global) (result : Result Unit E) (line : List ℕ) (call : State → ℕ → Endpoint → Answer) → now ≡ old → y ≡ x → OnOk result (string_bytes text ≡ string_bytes before ++ line) → ((state : State) (e : ℕ) (h : Endpoint) → state.host ≡ old → endpoint_state h ≡ x → call state e h ≡ answer_with state line) → CallAnswers old now x y before text result call
+call-told old now x y before text result line call stays same printed tells =
+    call-host old now x y before text result line call same printed
+    (λ state e h host_was kept_is. tells state e h host_was kept_is ∙ ap (λ (g : HostState). answer_with (with_host state g) line) (host_was ∙ sym stays))
+
+-- the oldest pending ticket stands at the place of those that were taken
+front-at : (xs : List ℕ) (n : ℕ) → slice_get xs n ≡ slice_get (drop n xs) 0
+front-at [] zero = refl
+front-at [] (suc n) = refl
+front-at (x ∷ xs) zero = refl
+front-at (x ∷ xs) (suc n) = front-at xs n
+
+pub front_kept : (h : Endpoint) (x : EndpointState) (l : List ℕ) → endpoint_state h ≡ x → x.pending ≡ l → slice_get h.tickets h.taken ≡ slice_get l 0
+front_kept h x l same is = front-at h.tickets h.taken ∙ ap (λ (z : EndpointState). slice_get z.pending 0) same ∙ ap (λ (l : List ℕ). slice_get l 0) is
+
+drop_on : (xs : List ℕ) (n t : ℕ) (ts : List ℕ) → drop n xs ≡ t ∷ ts → (drop (n + 1) xs ≡ ts) × (n + 1 ≤ length xs)
+drop_on [] zero t ts is = absurd (cc)
+drop_on [] (suc n) t ts is = absurd (cc)
+drop_on (x ∷ xs) zero t ts is = (cc, omega arith)
+drop_on (x ∷ xs) (suc n) t ts is =
+    let more = drop_on xs n t ts is in
+    let s : suc n + 1 ≡ suc (n + 1) = omega arith in
+    (rw s more.0, omega (arith, more.1))
+
+-- it is taken where it is reaped at the host (mid) that the call came to. It is the first of these
+module _ {E : Type 0} (print : Option Completion → List ℕ) (old mid now : HostState) (x y : EndpointState) (before text : String Global) (result : Result Unit E) (call : State → ℕ → Endpoint → Answer) (t : ℕ) (ts : List ℕ) (r : Option Completion)
+    (was : x.pending ≡ t ∷ ts) (printed : OnOk result (string_bytes text ≡ string_bytes before ++ print r))
+    (takes : (state : State) (e : ℕ) (h : Endpoint) → state.host ≡ old → slice_get h.tickets h.taken ≡ Some t → call state e h ≡ took print (with_host state mid) e t (transfer_completion mid.kernel.past t)) where
+  took-answers : (o : Option Completion) → transfer_completion mid.kernel.past t ≡ o → taken_if host_calls mid x t ts o ≡ front_found r now y → CallAnswers old now x y before text result call
+  took-answers None none is =
+      call-host old now x y before text result (print r) call (sym (ap (λ (p : Polled HostState). p.endpoint) is)) printed
+      (λ state e h host_was same.
+      takes state e h host_was (front_kept h x (t ∷ ts) same was)
+      ∙ ap (took print (with_host state mid) e t) none
+      ∙ ap (λ (p : Polled HostState). answer_with (with_host state p.bus) (print p.completion)) is)
+  took-answers (Some c) come is =
+      call-comes old now x y before text result one_taken (print r) call printed
+      (λ state e h host_was same few.
+      let more = drop_on h.tickets h.taken t ts (ap (λ (z : EndpointState). z.pending) same ∙ was) in
+      record {
+        is =
+            takes state e h host_was (front_kept h x (t ∷ ts) same was)
+            ∙ ap (took print (with_host state mid) e t) come
+            ∙ ap (λ (p : Polled HostState). answer_with (record state { host = p.bus; endpoints = change_named one_taken state.endpoints e }) (print p.completion)) is;
+        kept_is = ap (λ (l : List ℕ). record (endpoint_state h) { pending = l }) more.0 ∙ ap (λ (z : EndpointState). record z { pending = ts }) same ∙ ap (λ (p : Polled HostState). p.endpoint) is;
+        few = more.1;
+      })
+
+  pub front-answers : polled host_calls mid x ≡ front_found r now y → CallAnswers old now x y before text result call
+  front-answers is = took-answers (transfer_completion mid.kernel.past t) refl (sym (ap (polled_of host_calls mid x) was) ∙ is)
+
+-- what a poll keeps of a host, and of the endpoint
+module _ (mid : HostState) (x : EndpointState) where
+  taken_if-keeps : (P : Polled HostState → Type 0) (t : ℕ) (ts : List ℕ) (o : Option Completion) → P (front_found None mid x) → ((c : Completion) → P (front_found (Some c) (host_taken mid t) (record x { pending = ts }))) → P (taken_if host_calls mid x t ts o)
+  taken_if-keeps P t ts None here taken = here
+  taken_if-keeps P t ts (Some c) here taken = taken c
+
+  polled_of-keeps : (P : Polled HostState → Type 0) (l : List ℕ) → P (front_found None mid x) → ((t : ℕ) (ts : List ℕ) (c : Completion) → P (front_found (Some c) (host_taken mid t) (record x { pending = ts }))) → P (polled_of host_calls mid x l)
+  polled_of-keeps P [] here taken = here
+  polled_of-keeps P (t ∷ ts) here taken = taken_if-keeps P t ts (transfer_completion mid.kernel.past t) here (taken t ts)
+
+  module _ (r : Option Completion) (now : HostState) (y : EndpointState) (is : polled host_calls mid x ≡ front_found r now y) where
+    pub polled-goes : LineGoesOn mid now
+    polled-goes = subst (λ (p : Polled HostState). LineGoesOn mid p.bus) is (polled_of-keeps (λ p. LineGoesOn mid p.bus) x.pending (line-keeps mid mid (keeps-open mid)) (λ t ts c. line-keeps mid (host_taken mid t) (keeps-taken mid t)))
+
+    pub polled-past : Extends mid.kernel.past now.kernel.past
+    polled-past = subst (λ (p : Polled HostState). Extends mid.kernel.past p.bus.kernel.past) is (polled_of-keeps (λ p. Extends mid.kernel.past p.bus.kernel.past) x.pending (extends-same mid.kernel.past) (λ t ts c. record { more = []; is = taken-past mid t }))
+
+    pub polled-rest : y ≡ record x { pending = y.pending }
+    polled-rest = subst (λ (p : Polled HostState). p.endpoint ≡ record x { pending = p.endpoint.pending }) is (polled_of-keeps (λ p. p.endpoint ≡ record x { pending = p.endpoint.pending }) x.pending refl (λ t ts c. refl))

@@ -1,0 +1,28 @@
+//! `halt`: the halt of an endpoint is cleared.
+
+ghost use Rattle.std.specs.Prelude.{◌≡◌};
+ghost use Rattle.usb_device_endpoint.specs.Handles.{Stands};
+ghost use Rattle.usb_device_host.specs.HostBus.{bus_of};
+ghost use Rattle.usb_session_calls.specs.State.{State};
+ghost use Rattle.usb_session_calls.specs.Halts.{halt_cleared};
+ghost use Rattle.usb_session_calls.specs.OpenCalls.{CallKeeps, CallAnswers};
+
+use usb_desc::NoMemory;
+use usb_device::Host;
+use usb_device_endpoint::Endpoint;
+use usb_session_text::{write_condition, write_result};
+use usb_xfer::Any;
+
+/// Clears the halt of an endpoint that is open.
+pub(crate) fn clear_open(
+    endpoint: &mut Endpoint<Any, Any>,
+    host: &mut Host,
+    line: &mut String,
+) -> Result<(), NoMemory>
+    requires stands { Stands (bus_of host.old) endpoint.old }
+    ensures keeps { CallKeeps host.old host.new endpoint.old endpoint.new }
+    ensures answered { CallAnswers host.old host.new endpoint.old endpoint.new
+        line.old line.new result (λ state e h. halt_cleared state h) }
+{
+    write_result(line, &endpoint.clear_halt(host))
+}

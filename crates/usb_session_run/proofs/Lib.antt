@@ -1,0 +1,7 @@
+pub mod Exchanges
+pub mod WorkedExchanges
+pub mod LiveLemmas
+pub mod MemoryLemmas
+pub mod OutsideLemmas
+pub mod RunLemmas
+pub mod SessionLemmas

@@ -1,0 +1,9 @@
+pub mod Causes
+pub mod OneLine
+pub mod Live
+pub mod Generate
+pub mod Memory
+pub mod Program
+pub mod Exchanges
+pub mod Session
+pub mod Running

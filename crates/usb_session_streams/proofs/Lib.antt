@@ -1,0 +1,12 @@
+pub mod LinesGoOn
+pub mod ReadsGoOn
+pub mod TicketsCome
+pub mod FramedCalls
+pub mod HandedCalls
+pub mod WritesKeep
+pub mod WritesGoOn
+pub mod WritesLeave
+pub mod TicketMoves
+pub mod Tells
+mod WorkedLines
+mod Keeps

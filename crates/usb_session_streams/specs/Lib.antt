@@ -1,0 +1,13 @@
+pub mod ReaderCalls
+pub mod WriterCalls
+pub mod ReadNeeds
+pub mod Numbers
+pub mod Framed
+pub mod Handed
+pub mod Told
+pub mod Faults
+pub mod Reads
+pub mod Writes
+pub mod Needs
+pub mod Printed
+pub mod Short

@@ -1,0 +1,59 @@
+-- The calls on a reader at a host as values, and what each keeps.
+use Rattle.std.specs.Prelude.{ℕ, ◌≡◌, Bool, true, false, List, [], Result, Ok, Err, nat_le}
+use Rattle.usb_kernel.specs.Extends.{Extends}
+use Rattle.usb_device_host.specs.HostState.{HostState}
+use Rattle.usb_device_host.specs.HostCalls.{host_calls}
+use Rattle.usb_device_host.specs.HostFrames.{LineGoesOn}
+use Rattle.usb_io.specs.Answered.{answered}
+use Rattle.usb_io.specs.Reads.{Reading, KeepsSettings, filled_to}
+use Rattle.usb_io.specs.Answers.{Read as ReadAnswer, fill_came, read_came}
+use Rattle.usb_io.specs.declared.fault.ReadFault.{ReadFault}
+
+-- a call that lends the bytes that stand, and a read of at most so many: of the reader, or until a short packet, with a timeout in
+-- nanoseconds; and submissions until so many are pending
+pub data ReaderCall : Type 0 where
+  Fill : (until_short : Bool) (timeout : ℕ) → ReaderCall
+  Read : (until_short : Bool) (timeout most : ℕ) → ReaderCall
+  Submit : (goal : ℕ) → ReaderCall
+
+-- what it answers, and what it leaves
+abbrev pub read_by : ReaderCall → Reading HostState → ReadAnswer HostState
+read_by (Fill until_short timeout) w = fill_came host_calls until_short timeout w
+read_by (Read until_short timeout most) w = read_came host_calls until_short timeout most w
+read_by (Submit goal) w = answered (Ok []) (filled_to host_calls goal w)
+
+-- the bytes that an answer gives
+abbrev pub given_by : Result (List ℕ) ReadFault → List ℕ
+given_by (Ok bytes) = bytes
+given_by (Err fault) = []
+
+-- those that a call hands over: only a read does
+abbrev pub handed_by : ReaderCall → Reading HostState → List ℕ
+handed_by (Fill until_short timeout) w = []
+handed_by (Read until_short timeout most) w = given_by (read_came host_calls until_short timeout most w).answer
+handed_by (Submit goal) w = []
+
+-- whether it goes no further than a short packet
+abbrev pub is_framed : ReaderCall → Bool
+is_framed (Fill until_short timeout) = until_short
+is_framed (Read until_short timeout most) = until_short
+is_framed (Submit goal) = true
+
+-- whether it asks for a byte
+abbrev pub asks_some : ReaderCall → Bool
+asks_some (Fill until_short timeout) = true
+asks_some (Read until_short timeout most) = nat_le 1 most
+asks_some (Submit goal) = false
+
+-- steps were taken from the front of the line alone, and what is open stays open; the journal went
+-- on; the reader has the same endpoint, with other tickets pending, and the same settings
+pub record ReaderGoesOn (old new : Reading HostState) : Type 0 where
+  pub line : LineGoesOn old.bus new.bus
+  pub past : Extends old.bus.kernel.past new.bus.kernel.past
+  pub endpoint : new.reader.endpoint
+      ≡ record old.reader.endpoint { pending = new.reader.endpoint.pending }
+  pub settings : KeepsSettings old.reader new.reader
+
+-- so it is with each call
+abbrev pub ReaderCallsGoOn : Type 0
+ReaderCallsGoOn = (call : ReaderCall) (w : Reading HostState) → ReaderGoesOn w (read_by call w).left

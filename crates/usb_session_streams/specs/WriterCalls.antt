@@ -1,0 +1,16 @@
+-- What each call on a writer at a host keeps.
+use Rattle.usb_kernel.specs.Extends.{Extends}
+use Rattle.usb_device_host.specs.HostState.{HostState}
+use Rattle.usb_device_host.specs.HostFrames.{LineGoesOn}
+use Rattle.usb_io.specs.Writers.{Writing, KeepsWriter}
+use Rattle.usb_session_streams.specs.Told.{WriterCall, left_by}
+
+-- steps were taken from the front of the line alone, and what is open stays open; the journal went
+-- on; the writer has the same endpoint, with other tickets pending, and the same settings
+pub record WriterGoesOn (old new : Writing HostState) : Type 0 where
+  pub line : LineGoesOn old.bus new.bus
+  pub past : Extends old.bus.kernel.past new.bus.kernel.past
+  pub settings : KeepsWriter old.writer new.writer
+
+abbrev pub WriterCallsGoOn : Type 0
+WriterCallsGoOn = (call : WriterCall) (w : Writing HostState) → WriterGoesOn w (left_by call w)

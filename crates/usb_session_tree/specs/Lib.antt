@@ -1,0 +1,9 @@
+pub mod Parts
+pub mod Devices
+pub mod Listings
+pub mod Buses
+pub mod Attributes
+pub mod Events
+pub mod Trees
+pub mod Packets
+pub mod Selecting

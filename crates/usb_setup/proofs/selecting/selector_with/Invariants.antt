@@ -1,9 +1,0 @@
-use Rattle.std.proofs.Common.{◌≡◌, drop}
-use Rattle.std.specs.Prelude.{fold}
-use Rattle.usb_enum.specs.Selectors.{all_devices}
-use Rattle.usb_setup.specs.Selecting.{with_criterion}
-use Rattle.usb_setup.proofs.selecting.selector_with.Given as goal
-
-abbrev pub invariant-loop-criterion : goal.invariant-loop-criterion
-invariant-loop-criterion l =
-    fold with_criterion l.selector (drop l.criterion-index l.criteria) ≡ fold with_criterion all_devices l.criteria

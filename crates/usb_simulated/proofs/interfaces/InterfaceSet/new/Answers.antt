@@ -1,5 +1,0 @@
-use Rattle.usb_simulated.proofs.InterfaceLemmas.{numbers_from-none}
-use Rattle.usb_simulated.proofs.interfaces.InterfaceSet.new.Goals as goal
-
-pub returns : goal.returns
-returns c = record { none = numbers_from-none 0 256 }

@@ -1,5 +1,0 @@
-use Rattle.usb_simulated.proofs.InterfaceLemmas.{remove-all}
-use Rattle.usb_simulated.proofs.interfaces.InterfaceSet.remove.Goals as goal
-
-pub returns : goal.returns
-returns c = record { numbers = rw (← c.self.view_is) (remove-all c.self.inside.flags c.args.number) }

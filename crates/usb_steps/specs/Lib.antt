@@ -1,3 +1,0 @@
-pub mod KernelSteps
-pub mod StepForms
-pub mod StepRanges

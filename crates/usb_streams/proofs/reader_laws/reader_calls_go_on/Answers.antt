@@ -1,5 +1,0 @@
-use Rattle.usb_streams.proofs.ReadsGoOn.{reader_calls-go_on}
-use Rattle.usb_streams.proofs.reader_laws.reader_calls_go_on.Goals as goal
-
-pub returns : goal.returns
-returns c = record { law = reader_calls-go_on }

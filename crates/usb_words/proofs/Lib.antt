@@ -1,5 +1,0 @@
-mod EqualWords
-mod FirstWord
-pub mod PathLemmas
-pub mod SelectorLemmas
-pub mod TableLemmas
