@@ -68,10 +68,10 @@ fn line_d(alloc: Global, name: &[u8], words: &[&[u8]]) -> Result<Item, LineError
     }
 }
 
-/// A line whose first word begins with `e` or `f`.
-fn line_ef(alloc: Global, name: &[u8], words: &[&[u8]]) -> Result<Item, LineError>
+/// A line whose first word begins with `e`.
+fn line_e(alloc: Global, name: &[u8], words: &[&[u8]]) -> Result<Item, LineError>
     ensures value { Gives (λ i. i) result
-        (read_by (beginning (codes "ef") forms) name.now (texts words.now)) }
+        (read_by (beginning (codes "e") forms) name.now (texts words.now)) }
     ensures few { IfOk result (λ item. places_in item ≤ length words.now) }
 {
     rows! {
@@ -79,6 +79,17 @@ fn line_ef(alloc: Global, name: &[u8], words: &[&[u8]]) -> Result<Item, LineErro
         b"endmsg" => ConsumeEnd { reader: r }
         b"endpoint" => Endpoint { endpoint: e, interface: i, address: HH, kind: KIND }
         b"entry" => Entry { name: NAME, path: PATH }
+    }
+}
+
+/// A line whose first word begins with `f`.
+fn line_f(alloc: Global, name: &[u8], words: &[&[u8]]) -> Result<Item, LineError>
+    ensures value { Gives (λ i. i) result
+        (read_by (beginning (codes "f") forms) name.now (texts words.now)) }
+    ensures few { IfOk result (λ item. places_in item ≤ length words.now) }
+{
+    rows! {
+        alloc, name, words;
         b"fill" => FillBuf(Plain) { reader: r; steps }
         b"fin" => StartControlIn { future: f, target: X; setup: CTL; length: CONTROL_N, timeout: TIME }
         b"flush" => Flush { writer: w; steps }
@@ -89,10 +100,10 @@ fn line_ef(alloc: Global, name: &[u8], words: &[&[u8]]) -> Result<Item, LineErro
     }
 }
 
-/// A line whose first word begins with `g`, `h` or `i`.
-fn line_ghi(alloc: Global, name: &[u8], words: &[&[u8]]) -> Result<Item, LineError>
+/// A line whose first word begins with `g` or `h`.
+fn line_gh(alloc: Global, name: &[u8], words: &[&[u8]]) -> Result<Item, LineError>
     ensures value { Gives (λ i. i) result
-        (read_by (beginning (codes "ghi") forms) name.now (texts words.now)) }
+        (read_by (beginning (codes "gh") forms) name.now (texts words.now)) }
     ensures few { IfOk result (λ item. places_in item ≤ length words.now) }
 {
     rows! {
@@ -101,16 +112,27 @@ fn line_ghi(alloc: Global, name: &[u8], words: &[&[u8]]) -> Result<Item, LineErr
         b"getdesc" => GetDescriptor { device: d, descriptor_type: B, index: B, language: HHHH, timeout: TIME; steps }
         b"halt" => ClearHalt { endpoint: e }
         b"hotplug" => Hotplug {}
+    }
+}
+
+/// A line whose first word begins with `i`.
+fn line_i(alloc: Global, name: &[u8], words: &[&[u8]]) -> Result<Item, LineError>
+    ensures value { Gives (λ i. i) result
+        (read_by (beginning (codes "i") forms) name.now (texts words.now)) }
+    ensures few { IfOk result (λ item. places_in item ≤ length words.now) }
+{
+    rows! {
+        alloc, name, words;
         b"ifdesc" => InterfaceDescriptor { interface: i }
         b"inner" => IntoInner { endpoint: e, reader: r } or WriterIntoInner { endpoint: e, writer: w }
         b"isend" => IsEnd { reader: r }
     }
 }
 
-/// A line whose first word begins with `l`, `m`, `n` or `o`.
-fn line_lmno(alloc: Global, name: &[u8], words: &[&[u8]]) -> Result<Item, LineError>
+/// A line whose first word begins with `l` or `m`.
+fn line_lm(alloc: Global, name: &[u8], words: &[&[u8]]) -> Result<Item, LineError>
     ensures value { Gives (λ i. i) result
-        (read_by (beginning (codes "lmno") forms) name.now (texts words.now)) }
+        (read_by (beginning (codes "lm") forms) name.now (texts words.now)) }
     ensures few { IfOk result (λ item. places_in item ≤ length words.now) }
 {
     rows! {
@@ -119,6 +141,17 @@ fn line_lmno(alloc: Global, name: &[u8], words: &[&[u8]]) -> Result<Item, LineEr
         b"link" => Link { path: PATH, name: NAME, target: TEXT }
         b"list" => List {}
         b"match" => Match { path: PATH, selector: SEL }
+    }
+}
+
+/// A line whose first word begins with `n` or `o`.
+fn line_no(alloc: Global, name: &[u8], words: &[&[u8]]) -> Result<Item, LineError>
+    ensures value { Gives (λ i. i) result
+        (read_by (beginning (codes "no") forms) name.now (texts words.now)) }
+    ensures few { IfOk result (λ item. places_in item ≤ length words.now) }
+{
+    rows! {
+        alloc, name, words;
         b"now" => Now {}
         b"num" => SetNumTransfers { reader: r, count: COUNT } or SetWriterTransfers { writer: w, count: COUNT }
         b"open" => Open { device: d, bus: B, address: B }
@@ -163,10 +196,10 @@ fn line_r(alloc: Global, name: &[u8], words: &[&[u8]]) -> Result<Item, LineError
     }
 }
 
-/// A line whose first word begins with `s`, `t` or `u`.
-fn line_stu(alloc: Global, name: &[u8], words: &[&[u8]]) -> Result<Item, LineError>
+/// A line whose first word begins with `s`.
+fn line_s(alloc: Global, name: &[u8], words: &[&[u8]]) -> Result<Item, LineError>
     ensures value { Gives (λ i. i) result
-        (read_by (beginning (codes "stu") forms) name.now (texts words.now)) }
+        (read_by (beginning (codes "s") forms) name.now (texts words.now)) }
     ensures few { IfOk result (λ item. places_in item ≤ length words.now) }
 {
     rows! {
@@ -179,15 +212,26 @@ fn line_stu(alloc: Global, name: &[u8], words: &[&[u8]]) -> Result<Item, LineErr
         b"string" => StringDescriptor { device: d, index: INDEX, language: HHHH, timeout: TIME; steps }
         b"submitin" => SubmitIn { endpoint: e, length: N }
         b"submitout" => SubmitOut { endpoint: e, bytes: BYTES }
+    }
+}
+
+/// A line whose first word begins with `t` or `u`.
+fn line_tu(alloc: Global, name: &[u8], words: &[&[u8]]) -> Result<Item, LineError>
+    ensures value { Gives (λ i. i) result
+        (read_by (beginning (codes "tu") forms) name.now (texts words.now)) }
+    ensures few { IfOk result (λ item. places_in item ≤ length words.now) }
+{
+    rows! {
+        alloc, name, words;
         b"timeout" => SetReadTimeout { reader: r, timeout: TIME } or SetWriteTimeout { writer: w, timeout: TIME }
         b"uevent" => Uevent { groups: T, bytes: VALUE }
     }
 }
 
-/// A line whose first word begins with `w` or `x`.
-fn line_wx(alloc: Global, name: &[u8], words: &[&[u8]]) -> Result<Item, LineError>
+/// A line whose first word begins with `w`.
+fn line_w(alloc: Global, name: &[u8], words: &[&[u8]]) -> Result<Item, LineError>
     ensures value { Gives (λ i. i) result
-        (read_by (beginning (codes "wx") forms) name.now (texts words.now)) }
+        (read_by (beginning (codes "w") forms) name.now (texts words.now)) }
     ensures few { IfOk result (λ item. places_in item ≤ length words.now) }
 {
     rows! {
@@ -197,6 +241,17 @@ fn line_wx(alloc: Global, name: &[u8], words: &[&[u8]]) -> Result<Item, LineErro
         b"write" => Write { writer: w, bytes: BYTES; steps }
         b"writer" => Writer { writer: w, endpoint: e, transfer_size: N }
         b"wsubmit" => Submit { writer: w }
+    }
+}
+
+/// A line whose first word begins with `x`.
+fn line_x(alloc: Global, name: &[u8], words: &[&[u8]]) -> Result<Item, LineError>
+    ensures value { Gives (λ i. i) result
+        (read_by (beginning (codes "x") forms) name.now (texts words.now)) }
+    ensures few { IfOk result (λ item. places_in item ≤ length words.now) }
+{
+    rows! {
+        alloc, name, words;
         b"xferin" => TransferIn { endpoint: e, length: N, timeout: TIME; steps }
         b"xferout" => TransferOut { endpoint: e, bytes: BYTES, timeout: TIME; steps }
     }
@@ -215,13 +270,18 @@ pub fn with_first_word(alloc: Global, name: &[u8], words: &[&[u8]]) -> Result<It
         b'!' | b'a' | b'b' => line_ab(alloc, name, words),
         b'c' => line_c(alloc, name, words),
         b'd' => line_d(alloc, name, words),
-        b'e' | b'f' => line_ef(alloc, name, words),
-        b'g' | b'h' | b'i' => line_ghi(alloc, name, words),
-        b'l' | b'm' | b'n' | b'o' => line_lmno(alloc, name, words),
+        b'e' => line_e(alloc, name, words),
+        b'f' => line_f(alloc, name, words),
+        b'g' | b'h' => line_gh(alloc, name, words),
+        b'i' => line_i(alloc, name, words),
+        b'l' | b'm' => line_lm(alloc, name, words),
+        b'n' | b'o' => line_no(alloc, name, words),
         b'p' => line_p(alloc, name, words),
         b'r' => line_r(alloc, name, words),
-        b's' | b't' | b'u' => line_stu(alloc, name, words),
-        b'w' | b'x' => line_wx(alloc, name, words),
+        b's' => line_s(alloc, name, words),
+        b't' | b'u' => line_tu(alloc, name, words),
+        b'w' => line_w(alloc, name, words),
+        b'x' => line_x(alloc, name, words),
         _ => Err(LineError::Malformed),
     }
 }
