@@ -1,11 +1,11 @@
 -- What it means that a writer's tickets carry the transfers of its calls.
 use Rattle.std.proofs.Common.{ℕ, ◌≡◌, List, [], ◌∷◌, ◌++◌, refl, ap, sym, subst, ◌∙◌, map}
 use Rattle.usb_io.specs.Streams.{Byte, stream_of}
-use Rattle.usb_io.specs.Writes.{Finish, written, packets_of, items_of, NoMidFlush, after_writes}
-use Rattle.usb_io.specs.CarriedLaws.{FreshTells, LaterTells, TicketsSayItems, TicketsAreFramed}
+use Rattle.usb_io.specs.Writes.{Finish, written, packets_of, marks_of, NoMidFlush, after_writes}
+use Rattle.usb_io.specs.CarriedLaws.{FreshTells, LaterTells, TicketsSayMarks, TicketsAreFramed}
 use Rattle.usb_io.proofs.Carrying.{all-later}
 use Rattle.usb_io.proofs.Messages.{messages_are_framed}
-use Rattle.usb_io.proofs.Pieces.{packets_say_items}
+use Rattle.usb_io.proofs.Pieces.{packets_say_marks}
 
 pub fresh_tells : FreshTells
 fresh_tells past e size none = record { carries = rw none (tt, tt); stands = refl }
@@ -16,11 +16,11 @@ later_tells old new w h extends tells = record {
   stands = tells.stands;
 }
 
-pub tickets_say_items : TicketsSayItems
-tickets_say_items past w h more some whole plain tells =
+pub tickets_say_marks : TicketsSayMarks
+tickets_say_marks past w h more some whole plain tells =
     let m = w.endpoint.maximum in
-    let says = packets_say_items m more h.calls some (subst (λ (size : ℕ). NoMidFlush m size h.calls) (sym whole) plain) in
-    let same : stream_of m (packets_of m (written m w.size h.calls).transfers) ++ map Byte (written m w.size h.calls).standing ≡ items_of h.calls = subst (λ (size : ℕ). stream_of m (packets_of m (written m size h.calls).transfers) ++ map Byte (written m size h.calls).standing ≡ items_of h.calls) whole says in
+    let says = packets_say_marks m more h.calls some (subst (λ (size : ℕ). NoMidFlush m size h.calls) (sym whole) plain) in
+    let same : stream_of m (packets_of m (written m w.size h.calls).transfers) ++ map Byte (written m w.size h.calls).standing ≡ marks_of h.calls = subst (λ (size : ℕ). stream_of m (packets_of m (written m size h.calls).transfers) ++ map Byte (written m size h.calls).standing ≡ marks_of h.calls) whole says in
     ((written m w.size h.calls).transfers, tells.carries, ap (λ (bytes : List ℕ). stream_of m (packets_of m (written m w.size h.calls).transfers) ++ map Byte bytes) tells.stands ∙ same)
 
 pub tickets_are_framed : TicketsAreFramed

@@ -9,10 +9,10 @@ use Rattle.usb_kernel.specs.Tickets.{Ticket, tickets}
 use Rattle.usb_kernel.specs.Fates.{Fate}
 use Rattle.usb_kernel.specs.Journal.{fate}
 use Rattle.usb_kernel.proofs.Rules.{KeepsAlways, event-keeps-always, tickets-stay}
-use Rattle.usb_io.specs.Streams.{Item, Byte, End, marks, stream_of, among, packets_at, added, delivered, Each}
-use Rattle.usb_io.specs.Writes.{written, packets_of, items_of}
+use Rattle.usb_io.specs.Streams.{Mark, Byte, End, marks, stream_of, among, packets_at, added, delivered, Each}
+use Rattle.usb_io.specs.Writes.{written, packets_of, marks_of}
 use Rattle.usb_io.proofs.Delivered.{each-map, each-among, finish-packets, with_ack-packets, reap-packets, added-more}
-use Rattle.usb_io.proofs.Pieces.{packets_say_items}
+use Rattle.usb_io.proofs.Pieces.{packets_say_marks}
 use Rattle.usb_io.specs.Messages.{messages_from, messages, AreFirstOf}
 use Rattle.usb_io.specs.Exchange.{Exchange}
 use Rattle.usb_io.specs.MessageLaws.{MessagesAreFirst}
@@ -21,7 +21,7 @@ use Rattle.usb_io.proofs.Handles.{IfIn, each-at, new-untouched}
 use Rattle.usb_io.proofs.Framed.{ins-like, echoes_come_in_order}
 
 -- the first of the items have the first of the messages
-messages-first : (bytes : List ℕ) (xs ys : List Item) → AreFirstOf (messages_from bytes xs) (messages_from bytes (xs ++ ys))
+messages-first : (bytes : List ℕ) (xs ys : List Mark) → AreFirstOf (messages_from bytes xs) (messages_from bytes (xs ++ ys))
 messages-first bytes [] ys = (messages_from bytes ys, refl)
 messages-first bytes (Byte b ∷ xs) ys = messages-first (bytes ++ b ∷ []) xs ys
 messages-first bytes (End ∷ xs) ys = let h = messages-first [] xs ys in (h.0, ap (λ (ms : List (List ℕ)). bytes ∷ ms) h.1)
@@ -59,11 +59,11 @@ makes-none k (event ∷ past) t of =
     ]
 
 -- where nothing stands in both together, nothing stands in front, and nothing behind
-left-empty : (xs ys : List Item) → xs ++ ys ≡ [] → xs ≡ []
+left-empty : (xs ys : List Mark) → xs ++ ys ≡ [] → xs ≡ []
 left-empty [] ys none = refl
 left-empty (x ∷ xs) ys none = cc
 
-right-empty : (xs ys : List Item) → xs ++ ys ≡ [] → ys ≡ []
+right-empty : (xs ys : List Mark) → xs ++ ys ≡ [] → ys ≡ []
 right-empty [] ys none = none
 right-empty (x ∷ xs) ys none = cc
 
@@ -84,7 +84,7 @@ stream-empty k (event ∷ past) of =
     rw (flat_map-append (marks 0) (delivered k.ins past) (flat_map (added past event) (among k.ins (event ∷ past))), stream-empty k past before) (added-empty k past event (among k.ins (event ∷ past)) each)
 
 -- the first of what came, of what was sent, and of what was written
-chain : (m : ℕ) (consumed more : List Item) (came rest sent : List (List ℕ)) (standing items : List Item) → consumed ++ more ≡ stream_of m came → came ++ rest ≡ sent → stream_of m sent ++ standing ≡ items → consumed ++ (more ++ (stream_of m rest ++ standing)) ≡ items
+chain : (m : ℕ) (consumed more : List Mark) (came rest sent : List (List ℕ)) (standing items : List Mark) → consumed ++ more ≡ stream_of m came → came ++ rest ≡ sent → stream_of m sent ++ standing ≡ items → consumed ++ (more ++ (stream_of m rest ++ standing)) ≡ items
 chain m consumed more came rest sent standing items first second third =
     rw (← third, ← second, flat_map-append (marks m) came rest, ← first) (simp append_assoc)
 
@@ -93,8 +93,8 @@ messages_are_first k past m more calls consumed only plain there up mine prefix 
     elim (cases_lt 0 m) [
       | inl some ↦
           let first = echoes_come_in_order k past m (written m ((more + 1) * m) calls).transfers some only there up mine in
-          let says = packets_say_items m more calls some plain in
-          let all = chain m consumed prefix.0 (delivered k.ins past) first.0 (packets_of m (written m ((more + 1) * m) calls).transfers) _ (items_of calls) prefix.1 first.1 says in
+          let says = packets_say_marks m more calls some plain in
+          let all = chain m consumed prefix.0 (delivered k.ins past) first.0 (packets_of m (written m ((more + 1) * m) calls).transfers) _ (marks_of calls) prefix.1 first.1 says in
           let result = messages-first [] consumed _ in
           (result.0, result.1 ∙ ap messages all)
       | inr least ↦
@@ -102,5 +102,5 @@ messages_are_first k past m more calls consumed only plain there up mine prefix 
           let ins : Each (IfIn k 0 (tickets past)) k.ins = rw zero at (ins-like k past m mine) in
           let nothing : stream_of m (delivered k.ins past) ≡ [] = rw zero (stream-empty k past ins) in
           let none : consumed ≡ [] = left-empty consumed prefix.0 (prefix.1 ∙ nothing) in
-          (messages (items_of calls), rw none refl)
+          (messages (marks_of calls), rw none refl)
     ]

@@ -5,7 +5,7 @@ use Rattle.usb_kernel.specs.declared.event.Event.TheVariants.{Submit, Echo, Reap
 use Rattle.usb_kernel.specs.declared.event.Body.TheVariants.{Wanted, Sent}
 use Rattle.usb_io.specs.Streams.{stream_of, delivered, IsAscending, Each}
 use Rattle.usb_io.specs.Following.{IsMine}
-use Rattle.usb_io.specs.Writes.{Call, Accept, Finish, written, items_of, NoMidFlush}
+use Rattle.usb_io.specs.Writes.{Call, Accept, Finish, written, marks_of, NoMidFlush}
 use Rattle.usb_io.specs.Carried.{AllCarry}
 use Rattle.usb_io.specs.Messages.{messages}
 use Rattle.usb_io.specs.Exchange.{Exchange, OnlyEchoes}
@@ -36,7 +36,7 @@ five_are_met = (
   (record { s = _; at = refl; device = refl; endpoint = refl; maximum = refl; wanted = 6; body = refl }, tt),
 )
 
-pub five_messages : (messages (stream_of 2 (delivered five.ins five_past)) ≡ (1 ∷ 2 ∷ 3 ∷ 4 ∷ 5 ∷ []) ∷ []) × (messages (items_of five_calls) ≡ (1 ∷ 2 ∷ 3 ∷ 4 ∷ 5 ∷ []) ∷ [])
+pub five_messages : (messages (stream_of 2 (delivered five.ins five_past)) ≡ (1 ∷ 2 ∷ 3 ∷ 4 ∷ 5 ∷ []) ∷ []) × (messages (marks_of five_calls) ≡ (1 ∷ 2 ∷ 3 ∷ 4 ∷ 5 ∷ []) ∷ [])
 five_messages = (refl, refl)
 
 -- an empty message comes, and of the next one, of a byte, nothing yet
@@ -58,5 +58,5 @@ empty_are_met = (
   (record { s = _; at = refl; device = refl; endpoint = refl; maximum = refl; wanted = 2; body = refl }, tt),
 )
 
-pub empty_messages : (messages (stream_of 2 (delivered empty.ins empty_past)) ≡ [] ∷ []) × (messages (items_of empty_calls) ≡ [] ∷ (7 ∷ []) ∷ [])
+pub empty_messages : (messages (stream_of 2 (delivered empty.ins empty_past)) ≡ [] ∷ []) × (messages (marks_of empty_calls) ≡ [] ∷ (7 ∷ []) ∷ [])
 empty_messages = (refl, refl)

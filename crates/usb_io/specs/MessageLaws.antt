@@ -1,9 +1,9 @@
 -- Laws of messages that are echoed.
 use Rattle.std.specs.Prelude.{ℕ, ◌+◌, ◌*◌, ◌<◌, List}
 use Rattle.usb_kernel.specs.declared.event.Event.{Event}
-use Rattle.usb_io.specs.Streams.{Item, stream_of, delivered, IsAscending, Each}
+use Rattle.usb_io.specs.Streams.{Mark, stream_of, delivered, IsAscending, Each}
 use Rattle.usb_io.specs.Following.{IsMine, IsPrefixOf}
-use Rattle.usb_io.specs.Writes.{Call, written, packets_of, items_of, NoMidFlush}
+use Rattle.usb_io.specs.Writes.{Call, written, packets_of, marks_of, NoMidFlush}
 use Rattle.usb_io.specs.Carried.{AllCarry}
 use Rattle.usb_io.specs.Messages.{messages, AreFirstOf}
 use Rattle.usb_io.specs.Exchange.{Exchange, OnlyEchoes}
@@ -20,9 +20,9 @@ EchoesComeInOrder =
 -- flush found unsubmitted bytes
 abbrev pub MessagesAreFirst : Type 0
 MessagesAreFirst =
-    (x : Exchange) (past : List Event) (m more : ℕ) (calls : List Call) (consumed : List Item) →
+    (x : Exchange) (past : List Event) (m more : ℕ) (calls : List Call) (consumed : List Mark) →
     OnlyEchoes x past → NoMidFlush m ((more + 1) * m) calls →
     AllCarry past x.device x.output m x.outs (written m ((more + 1) * m) calls).transfers →
     IsAscending x.outs → Each (IsMine past x.device x.input m) x.ins →
     IsPrefixOf consumed (stream_of m (delivered x.ins past)) →
-    AreFirstOf (messages consumed) (messages (items_of calls))
+    AreFirstOf (messages consumed) (messages (marks_of calls))

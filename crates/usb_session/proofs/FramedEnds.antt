@@ -14,7 +14,7 @@ use Rattle.usb_device_host.specs.HostState.{HostState}
 use Rattle.usb_device_host.specs.HostCalls.{host_calls}
 use Rattle.usb_io.specs.Readers.{no_bytes, is_end}
 use Rattle.usb_io.specs.Reads.{Reading, reading}
-use Rattle.usb_io.specs.Streams.{Item, Byte, End, stream_of, delivered}
+use Rattle.usb_io.specs.Streams.{Mark, Byte, End, stream_of, delivered}
 use Rattle.usb_io.specs.Following.{IsPrefixOf}
 use Rattle.usb_io.specs.StreamFaults.{read_fault}
 use Rattle.usb_io.specs.declared.fault.ReadFault.{ReadFault}
@@ -108,7 +108,7 @@ polled-none print none (Err TimedOut) is = absurd (none.pending is)
 polled-none print none (Err UnexpectedEof) is = absurd (none.fault (read_fault UnexpectedEof) is)
 
 -- what a call left of a reader
-as-end : (state : State) (r : ℕ) (x0 x : ReaderAt) (items : Option (List Item)) (bytes : List ℕ) (w : Reading HostState) → reader_at state r ≡ Some x0 → is_end w.reader ≡ true → reader_at (called state r items bytes w) r ≡ Some x → is_end (state_of_reader x) ≡ true
+as-end : (state : State) (r : ℕ) (x0 x : ReaderAt) (items : Option (List Mark)) (bytes : List ℕ) (w : Reading HostState) → reader_at state r ≡ Some x0 → is_end w.reader ≡ true → reader_at (called state r items bytes w) r ≡ Some x → is_end (state_of_reader x) ≡ true
 as-end state r x0 x items bytes w was ends at =
     let change : Reader → Reader = λ y. record y { bare = bare_of w.reader; given = y.given ++ bytes; consumed = items } in
     let now = parts-of (called state r items bytes w) r x at in
@@ -170,12 +170,12 @@ pub poll_fill-ends : (r : ℕ) (state : State) (x : ReaderAt) → reader_at stat
 poll_fill-ends r state x was = fill_on-ends state r 0 (polled_given_line buffer_line) x (polled-none buffer_line buffer-none) was
 
 -- the stream of a reader's endpoint
-pub prefix-at : (past : List Event) (x : ReaderAt) (consumed : List Item) → FollowsAt past x consumed → IsPrefixOf consumed (stream_at past x.endpoint)
+pub prefix-at : (past : List Event) (x : ReaderAt) (consumed : List Mark) → FollowsAt past x consumed → IsPrefixOf consumed (stream_at past x.endpoint)
 prefix-at past x consumed f =
     subst (λ (ts : List ℕ). IsPrefixOf consumed (stream_of x.endpoint.maximum (delivered ts past))) (take-append-drop x.endpoint.taken x.endpoint.tickets)
     (consumed_is_prefix past (state_of_reader x) (history_of x.endpoint consumed) f.follows)
 
-pub end-at : (past : List Event) (x : ReaderAt) (consumed : List Item) → FollowsAt past x consumed → is_end (state_of_reader x) ≡ true → IsPrefixOf (consumed ++ End ∷ []) (stream_at past x.endpoint)
+pub end-at : (past : List Event) (x : ReaderAt) (consumed : List Mark) → FollowsAt past x consumed → is_end (state_of_reader x) ≡ true → IsPrefixOf (consumed ++ End ∷ []) (stream_at past x.endpoint)
 end-at past x consumed f is =
     subst (λ (ts : List ℕ). IsPrefixOf (consumed ++ End ∷ []) (stream_of x.endpoint.maximum (delivered ts past))) (take-append-drop x.endpoint.taken x.endpoint.tickets)
     (end_is_next past (state_of_reader x) (history_of x.endpoint consumed) f.follows is)

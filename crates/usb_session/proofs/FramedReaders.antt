@@ -7,7 +7,7 @@ use Rattle.usb_device_endpoint.specs.EndpointState.{EndpointState}
 use Rattle.usb_device_host.specs.HostState.{HostState}
 use Rattle.usb_io.specs.Readers.{ReaderState, with_read, without_end, is_end}
 use Rattle.usb_io.specs.Reads.{Reading}
-use Rattle.usb_io.specs.Streams.{Item, Byte, End}
+use Rattle.usb_io.specs.Streams.{Mark, Byte, End}
 use Rattle.usb_io.specs.Following.{History, no_history, Follows}
 use Rattle.usb_io.proofs.Following.{fresh_follows, later_follows, reading_follows, ending_follows}
 use Rattle.usb_session_streams.specs.Numbers.{numbers_from}
@@ -25,20 +25,20 @@ use Rattle.usb_session.proofs.StreamPlaces.{drop-nothing, take-nothing, called-p
 use Rattle.usb_session.proofs.ReadersKeep.{made_of, set_to, off_at, called_at, reading_at, Consumes, consumes-with, ReaderLaw}
 
 -- what a framed reader consumed, and which of its endpoint's tickets were taken
-abbrev pub history_of : Endpoint → List Item → History
+abbrev pub history_of : Endpoint → List Mark → History
 history_of h consumed = record { taken = take h.taken h.tickets; consumed = consumed }
 
 -- a reader of an IN endpoint follows its stream
-pub record FollowsAt (past : List Event) (x : ReaderAt) (consumed : List Item) : Type 0 where
+pub record FollowsAt (past : List Event) (x : ReaderAt) (consumed : List Mark) : Type 0 where
   pub input : 128 ≤ x.endpoint.address
   pub follows : Follows past (state_of_reader x) (history_of x.endpoint consumed)
 
 -- so it is of one that is framed
 abbrev pub IsFollowing : List Event → ReaderAt → Type 0
-IsFollowing past x = (consumed : List Item) → x.reader.consumed ≡ Some consumed → FollowsAt past x consumed
+IsFollowing past x = (consumed : List Mark) → x.reader.consumed ≡ Some consumed → FollowsAt past x consumed
 
 -- as it is made it has consumed nothing
-nothing-is : (ts : List ℕ) (consumed : List Item) → nothing_consumed ts ≡ Some consumed → (ts ≡ []) × (consumed ≡ [])
+nothing-is : (ts : List ℕ) (consumed : List Mark) → nothing_consumed ts ≡ Some consumed → (ts ≡ []) × (consumed ≡ [])
 nothing-is [] consumed is = (refl, sym (same_Some [] consumed is))
 nothing-is (t ∷ ts) consumed is = absurd (none-some consumed is)
 
@@ -54,7 +54,7 @@ made-follows past h size input consumed is =
     }
 
 -- behind a call
-step-follows : (state : State) (x : ReaderAt) (w : Reading HostState) (before : List Item) (bytes : List ℕ) (now : Option (List Item)) → w.reader.endpoint ≡ record (endpoint_state x.endpoint) { pending = w.reader.endpoint.pending } → 128 ≤ x.endpoint.address
+step-follows : (state : State) (x : ReaderAt) (w : Reading HostState) (before : List Mark) (bytes : List ℕ) (now : Option (List Mark)) → w.reader.endpoint ≡ record (endpoint_state x.endpoint) { pending = w.reader.endpoint.pending } → 128 ≤ x.endpoint.address
     → GoesOnToFollow (reading_at state x) w (history_of x.endpoint before) bytes → FollowsAt w.bus.kernel.past (called_at state now bytes w x) (before ++ map Byte bytes)
 step-follows state x w before bytes now rest input g =
     let k = x.endpoint.taken in
@@ -71,7 +71,7 @@ step-follows state x w before bytes now rest input g =
           (follows-as w.bus.kernel.past w.reader (record { taken = take k ts ++ g.taken; consumed = before ++ map Byte bytes }) (take x'.endpoint.taken x'.endpoint.tickets) (before ++ map Byte bytes) parts.0 refl g.follows);
     }
 
-call-follows : (state : State) (call : ReaderCall) (now : Option (List Item)) (x : ReaderAt) → Consumes (is_framed call) (map Byte (handed_by call (reading_at state x))) x.reader.consumed now
+call-follows : (state : State) (call : ReaderCall) (now : Option (List Mark)) (x : ReaderAt) → Consumes (is_framed call) (map Byte (handed_by call (reading_at state x))) x.reader.consumed now
     → IsLawful (read_by call (reading_at state x)).left.bus.kernel.past → IsFollowing state.host.kernel.past x
     → IsFollowing (read_by call (reading_at state x)).left.bus.kernel.past (called_at state now (handed_by call (reading_at state x)) (read_by call (reading_at state x)).left x)
 call-follows state call now x consumes lawful f consumed is =
@@ -81,7 +81,7 @@ call-follows state call now x consumes lawful f consumed is =
     let b = consumes consumed is in
     let was = f b.before b.was in
     let g = framed_calls-follow call w b.within was.input lawful (history_of x.endpoint b.before) was.follows in
-    subst (λ (all : List Item). FollowsAt left.bus.kernel.past (called_at state now bytes left x) all) b.is
+    subst (λ (all : List Mark). FollowsAt left.bus.kernel.past (called_at state now bytes left x) all) b.is
     (step-follows state x left b.before bytes now (reader_calls-go_on call w).endpoint was.input g)
 
 -- what is set is not what it follows by
@@ -98,7 +98,7 @@ read-follows past framing n x f consumed is =
     record {
       input = was.input;
       follows =
-          subst (λ (all : List Item). Follows past (with_read n (state_of_reader x)) (history_of x.endpoint all)) b.is
+          subst (λ (all : List Mark). Follows past (with_read n (state_of_reader x)) (history_of x.endpoint all)) b.is
           (reading_follows past (state_of_reader x) (history_of x.endpoint b.before) n was.follows);
     }
 
@@ -109,7 +109,7 @@ end-follows past x ended f consumed is =
     record {
       input = was.input;
       follows =
-          subst (λ (all : List Item). Follows past (without_end (state_of_reader x)) (history_of x.endpoint all)) b.is
+          subst (λ (all : List Mark). Follows past (without_end (state_of_reader x)) (history_of x.endpoint all)) b.is
           (ending_follows past (state_of_reader x) (history_of x.endpoint b.before) ended was.follows);
     }
 

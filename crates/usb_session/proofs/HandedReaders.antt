@@ -6,7 +6,7 @@ use Rattle.usb_kernel.specs.declared.event.Event.{Event}
 use Rattle.usb_kernel.specs.Extends.{Extends}
 use Rattle.usb_device_host.specs.HostState.{HostState}
 use Rattle.usb_io.specs.Reads.{Reading}
-use Rattle.usb_io.specs.Streams.{Item as StreamItem}
+use Rattle.usb_io.specs.Streams.{Mark}
 use Rattle.usb_session_streams.specs.Numbers.{numbers_from}
 use Rattle.usb_session_streams.specs.Handed.{completed_bytes, HandsOver}
 use Rattle.usb_session_streams.specs.Told.{IsComplete}
@@ -54,7 +54,7 @@ at-later old new x extends f =
     }
 
 -- behind a call, which handed over these bytes
-step-hands : (state : State) (x : ReaderAt) (w : Reading HostState) (now : Option (List StreamItem)) (bytes : List ℕ) → Extends state.host.kernel.past w.bus.kernel.past → HandsOver (reading_at state x) w bytes → HandsAt state.host.kernel.past x
+step-hands : (state : State) (x : ReaderAt) (w : Reading HostState) (now : Option (List Mark)) (bytes : List ℕ) → Extends state.host.kernel.past w.bus.kernel.past → HandsOver (reading_at state x) w bytes → HandsAt state.host.kernel.past x
     → HandsAt w.bus.kernel.past (called_at state now bytes w x)
 step-hands state x w now bytes extends g f =
     let old = state.host.kernel.past in

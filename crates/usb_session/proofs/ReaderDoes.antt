@@ -8,7 +8,7 @@ use Rattle.usb_device_host.proofs.CountLemmas.{all_discarded-count}
 use Rattle.usb_device_host.proofs.FollowLemmas.{on-all_discarded}
 use Rattle.usb_io.specs.Readers.{ReaderState, fresh_buffer, with_read, is_end}
 use Rattle.usb_io.specs.Reads.{Reading, reading, filled_to}
-use Rattle.usb_io.specs.Streams.{Item, Byte}
+use Rattle.usb_io.specs.Streams.{Mark, Byte}
 use Rattle.usb_io.specs.declared.fault.ReadFault.{ReadFault}
 use Rattle.usb_io.specs.declared.fault.ReadFault.TheVariants.{Transfer, TimedOut, UnexpectedEof}
 use Rattle.usb_io.specs.Answers.{fill_came, read_came}
@@ -78,7 +78,7 @@ close_reader-does state r lines =
 abbrev Led : State → ℕ → ReaderAt → Answer → Reading HostState → Type 0
 Led state r x a w = Leads (TookFew state) a state (reader_place r) x.endpoint w.bus w.reader.endpoint
 
-called-does : (state : State) (r : ℕ) (x : ReaderAt) (consumed : Option (List Item)) (bytes : List ℕ) (y : ReaderState) (w : Reading HostState) (line : List ℕ) (us : Bool) (timeout : ℕ) → reader_at state r ≡ Some x → says_done line ≡ false
+called-does : (state : State) (r : ℕ) (x : ReaderAt) (consumed : Option (List Mark)) (bytes : List ℕ) (y : ReaderState) (w : Reading HostState) (line : List ℕ) (us : Bool) (timeout : ℕ) → reader_at state r ≡ Some x → says_done line ≡ false
     → y.endpoint ≡ endpoint_state x.endpoint
     → (Keeps host_calls us timeout (Led state r x (answer_with (called state r consumed bytes w) line)) → Led state r x (answer_with (called state r consumed bytes w) line) (reading state.host y) → Led state r x (answer_with (called state r consumed bytes w) line) w)
     → Does state (answer_with (called state r consumed bytes w) line)

@@ -15,7 +15,7 @@ use Rattle.usb_device_host.specs.EndpointRefusals.{same_direction}
 use Rattle.usb_device_host.proofs.FollowLemmas.{on-rest, on-all_discarded}
 use Rattle.usb_io.specs.Readers.{ReaderState, fresh_reader, with_read, without_end, is_end}
 use Rattle.usb_io.specs.Reads.{Reading, reading, filled_to}
-use Rattle.usb_io.specs.Streams.{Item as StreamItem, Byte, End}
+use Rattle.usb_io.specs.Streams.{Mark, Byte, End}
 use Rattle.usb_io.specs.declared.fault.ReadFault.{ReadFault}
 use Rattle.usb_io.specs.Answers.{fill_came, read_came}
 use Rattle.usb_session_streams.specs.ReaderCalls.{given_by, ReaderCall as StreamCall, Fill, Read, Submit, read_by, handed_by, is_framed}
@@ -80,31 +80,31 @@ abbrev pub set_to : ℕ → ℕ → ReaderAt → ReaderAt
 set_to n timeout x = at_of (record x.reader { bare = record x.reader.bare { n = n; timeout = timeout } }) x.endpoint
 
 -- one off which items were taken, by what the call left of it
-abbrev pub off_at : Framing → List StreamItem → List ℕ → ReaderState → ReaderAt → ReaderAt
+abbrev pub off_at : Framing → List Mark → List ℕ → ReaderState → ReaderAt → ReaderAt
 off_at framing items bytes left x = at_of (record x.reader { bare = bare_of left; given = x.reader.given ++ bytes; consumed = consumed_with framing items x.reader.consumed }) x.endpoint
 
 -- and one behind a call
-abbrev pub called_at : State → Option (List StreamItem) → List ℕ → Reading HostState → ReaderAt → ReaderAt
+abbrev pub called_at : State → Option (List Mark) → List ℕ → Reading HostState → ReaderAt → ReaderAt
 called_at state now bytes w x =
     at_of (record x.reader { bare = bare_of w.reader; given = x.reader.given ++ bytes; consumed = now }) (called_endpoint (tickets_of state) (tickets_of (with_host state w.bus)) w.reader.endpoint.pending x.endpoint)
 
 -- what a reader that is framed behind a call consumed before it, where the call consumed these items: it goes no further than a
 -- short packet
-pub record Before (short : Bool) (items : List StreamItem) (old : Option (List StreamItem)) (consumed : List StreamItem) : Type 0 where
+pub record Before (short : Bool) (items : List Mark) (old : Option (List Mark)) (consumed : List Mark) : Type 0 where
   pub within : short ≡ true
-  pub before : List StreamItem
+  pub before : List Mark
   pub was : old ≡ Some before
   pub is : before ++ items ≡ consumed
 
-abbrev pub Consumes : Bool → List StreamItem → Option (List StreamItem) → Option (List StreamItem) → Type 0
-Consumes short items old now = (consumed : List StreamItem) → now ≡ Some consumed → Before short items old consumed
+abbrev pub Consumes : Bool → List Mark → Option (List Mark) → Option (List Mark) → Type 0
+Consumes short items old now = (consumed : List Mark) → now ≡ Some consumed → Before short items old consumed
 
-pub consumes-with : (framing : Framing) (items : List StreamItem) (old : Option (List StreamItem)) → Consumes (is_until_short framing) items old (consumed_with framing items old)
+pub consumes-with : (framing : Framing) (items : List Mark) (old : Option (List Mark)) → Consumes (is_until_short framing) items old (consumed_with framing items old)
 consumes-with Plain items old consumed is = absurd (none-some consumed is)
 consumes-with UntilShort items None consumed is = absurd (none-some consumed is)
 consumes-with UntilShort items (Some before) consumed is = record { within = refl; before = before; was = refl; is = same_Some (before ++ items) consumed is }
 
-consumes-none : (old : Option (List StreamItem)) → Consumes true [] old old
+consumes-none : (old : Option (List Mark)) → Consumes true [] old old
 consumes-none old consumed is = record { within = refl; before = consumed; was = is; is = append-nil consumed }
 
 -- a reader as its calls see it
@@ -118,7 +118,7 @@ pub record ReaderLaw (At : List Event → ReaderAt → Type 0) (Legal : List Eve
   pub later : (old new : List Event) (x : ReaderAt) → Extends old new → At old x → At new x
   pub made : (past : List Event) (h : Endpoint) (size : ℕ) → 128 ≤ h.address → At past (made_of h size)
   pub set : (past : List Event) (n timeout : ℕ) (x : ReaderAt) → At past x → At past (set_to n timeout x)
-  pub called : (state : State) (call : StreamCall) (now : Option (List StreamItem)) (x : ReaderAt) →
+  pub called : (state : State) (call : StreamCall) (now : Option (List Mark)) (x : ReaderAt) →
       Consumes (is_framed call) (map Byte (handed_by call (reading_at state x))) x.reader.consumed now →
       Legal (read_by call (reading_at state x)).left.bus.kernel.past → At state.host.kernel.past x →
       At (read_by call (reading_at state x)).left.bus.kernel.past (called_at state now (handed_by call (reading_at state x)) (read_by call (reading_at state x)).left x)
@@ -223,7 +223,7 @@ module _ (At : List Event → ReaderAt → Type 0) (Legal : List Event → Type 
       own-keeps of_readers Reader (Here old) (Here new) (stays old new extends) state.readers state.endpoints f r change x.reader x.endpoint parts.reader parts.endpoint here
 
   -- what takes transfers or submits them (with so many transfers to be pending, n)
-  called-keep : (state : State) (r n : ℕ) (call : StreamCall) (now : Option (List StreamItem)) (x : ReaderAt) → reader_at state r ≡ Some x → Consumes (is_framed call) (map Byte (handed_by call (reading_at state (set_to n x.reader.bare.timeout x)))) x.reader.consumed now → All state
+  called-keep : (state : State) (r n : ℕ) (call : StreamCall) (now : Option (List Mark)) (x : ReaderAt) → reader_at state r ≡ Some x → Consumes (is_framed call) (map Byte (handed_by call (reading_at state (set_to n x.reader.bare.timeout x)))) x.reader.consumed now → All state
       → Legal (read_by call (reading_at state (set_to n x.reader.bare.timeout x))).left.bus.kernel.past
       → All (called state r now (handed_by call (reading_at state (set_to n x.reader.bare.timeout x))) (read_by call (reading_at state (set_to n x.reader.bare.timeout x))).left)
   called-keep state r n call now x at consumes f legal =
@@ -260,7 +260,7 @@ module _ (At : List Event → ReaderAt → Type 0) (Legal : List Event → Type 
       (called-keep state r n (Submit (n - 1)) x.reader.consumed x at (consumes-none x.reader.consumed) f)
 
   -- what takes off what stands
-  off-keep : (state : State) (framing : Framing) (r : ℕ) (x : ReaderAt) (items : List StreamItem) (bytes : List ℕ) (left : ReaderState) → reader_at state r ≡ Some x → At state.host.kernel.past (off_at framing items bytes left x) → All state → All (read_off state framing r x items bytes left)
+  off-keep : (state : State) (framing : Framing) (r : ℕ) (x : ReaderAt) (items : List Mark) (bytes : List ℕ) (left : ReaderState) → reader_at state r ≡ Some x → At state.host.kernel.past (off_at framing items bytes left x) → All state → All (read_off state framing r x items bytes left)
   off-keep state framing r x items bytes left at here f =
       own-keep state r state.host (λ y. record y { bare = bare_of left; given = y.given ++ bytes; consumed = consumed_with framing items x.reader.consumed }) x at (extends-same state.host.kernel.past) here f
 

@@ -9,7 +9,7 @@ use Rattle.usb_device_host.specs.HostState.{HostState}
 use Rattle.usb_device_host.specs.HostCalls.{host_calls}
 use Rattle.usb_io.specs.Readers.{is_end}
 use Rattle.usb_io.specs.Reads.{Reading, reading, filled_to}
-use Rattle.usb_io.specs.Streams.{Item as StreamItem, Byte}
+use Rattle.usb_io.specs.Streams.{Mark, Byte}
 use Rattle.usb_io.specs.declared.fault.ReadFault.{ReadFault}
 use Rattle.usb_io.specs.Answers.{Read, fill_came, read_came}
 use Rattle.usb_session_streams.specs.Reads.{read_line, buffer_line}
@@ -98,7 +98,7 @@ inner-leaves state p r apart names =
     if-leaves state (is_free state.endpoints p) (ok_answer (without_reader state p r x)) (λ free. without_reader-leaves state p r x apart (small-reader state r x names at)))
 
 -- behind a call
-called-leaves : (state : State) (r : ℕ) (consumed : Option (List StreamItem)) (bytes : List ℕ) (left : Reading HostState) → r < 64 → LeavesWriters state (called state r consumed bytes left)
+called-leaves : (state : State) (r : ℕ) (consumed : Option (List Mark)) (bytes : List ℕ) (left : Reading HostState) → r < 64 → LeavesWriters state (called state r consumed bytes left)
 called-leaves state r consumed bytes left within =
     keeps (length-changed _ state.readers r) refl (λ w small. named-change_other _ state.endpoints (reader_place r) (writer_place w) (writer-reader_apart w r within))
 

@@ -3,9 +3,9 @@ use Rattle.std.specs.Prelude.{ℕ, ◌≡◌, ◌≤◌, List, [], ◌∷◌, �
 use Rattle.usb_kernel.specs.declared.event.Event.{Event}
 use Rattle.usb_kernel.specs.Legal.{IsLawful}
 use Rattle.usb_script_words.specs.declared.framing.Framing.TheVariants.{UntilShort}
-use Rattle.usb_script_lines.specs.declared.item.Item.{Item as Line}
+use Rattle.usb_script_lines.specs.declared.item.Item.{Item}
 use Rattle.usb_script_lines.specs.declared.item.Item.TheVariants.{Read, PollRead, FillBuf, PollFillBuf}
-use Rattle.usb_io.specs.Streams.{Item, End, stream_of, delivered}
+use Rattle.usb_io.specs.Streams.{Mark, End, stream_of, delivered}
 use Rattle.usb_io.specs.Following.{IsPrefixOf}
 use Rattle.usb_session_streams.specs.Reads.{read_line, buffer_line}
 use Rattle.usb_session_calls.specs.State.{State, Endpoint}
@@ -16,24 +16,24 @@ use Rattle.usb_session.specs.Output.{start, final_host, behind}
 
 -- the packets that an endpoint's tickets accepted, in the order of the journal: their bytes, with an end after each packet
 -- that is shorter than the maximum
-abbrev pub stream_at : List Event → Endpoint → List Item
+abbrev pub stream_at : List Event → Endpoint → List Mark
 stream_at past h = stream_of h.maximum (delivered h.tickets past)
 
 -- what each framed reader consumed so far is a prefix of the stream of its endpoint
 abbrev pub ConsumedIsPrefix : State → Type 0
 ConsumedIsPrefix state =
-    (r : ℕ) (x : ReaderAt) (consumed : List Item) → reader_at state r ≡ Some x → x.reader.consumed ≡ Some consumed →
+    (r : ℕ) (x : ReaderAt) (consumed : List Mark) → reader_at state r ≡ Some x → x.reader.consumed ≡ Some consumed →
     IsPrefixOf consumed (stream_at state.host.kernel.past x.endpoint)
 
 -- where an answer gives no byte, by the line that is printed of bytes, the reader of this name, if it is framed, has an end next in
 -- its stream
 abbrev pub GivesNoneAtEnds : (List ℕ → List ℕ) → ℕ → Answer → Type 0
 GivesNoneAtEnds print r a =
-    (x : ReaderAt) (consumed : List Item) → reader_at a.state r ≡ Some x → x.reader.consumed ≡ Some consumed → a.line ≡ print [] →
+    (x : ReaderAt) (consumed : List Mark) → reader_at a.state r ≡ Some x → x.reader.consumed ≡ Some consumed → a.line ≡ print [] →
     IsPrefixOf (consumed ++ End ∷ []) (stream_at a.state.host.kernel.past x.endpoint)
 
 -- so it is of a line that reads until a short packet, and has room for a byte, and of one that lends the bytes until there
-abbrev pub EmptyReadIsEnd : State → Line → Type 0
+abbrev pub EmptyReadIsEnd : State → Item → Type 0
 EmptyReadIsEnd state (Read UntilShort r most steps) = 1 ≤ most → GivesNoneAtEnds read_line r (answer state (Read UntilShort r most steps))
 EmptyReadIsEnd state (PollRead UntilShort r most) = 1 ≤ most → GivesNoneAtEnds read_line r (answer state (PollRead UntilShort r most))
 EmptyReadIsEnd state (FillBuf UntilShort r steps) = GivesNoneAtEnds buffer_line r (answer state (FillBuf UntilShort r steps))
@@ -42,11 +42,11 @@ EmptyReadIsEnd state line = Unit {0}
 
 -- before the first line of a script and behind each, what the framed readers have consumed is a prefix of their streams; and
 -- each line that reads until a short packet, or lends the bytes, gives no byte only where an end is next
-pub record FramedReadersFollow (items : List Line) : Type 0 where
-  pub prefix : (before after : List Line) → before ++ after ≡ items → ConsumedIsPrefix (behind (start items) before)
-  pub empty : (before after : List Line) (line : Line) → before ++ line ∷ after ≡ items →
+pub record FramedReadersFollow (items : List Item) : Type 0 where
+  pub prefix : (before after : List Item) → before ++ after ≡ items → ConsumedIsPrefix (behind (start items) before)
+  pub empty : (before after : List Item) (line : Item) → before ++ line ∷ after ≡ items →
       EmptyReadIsEnd (behind (start items) before) line
 
 -- the law: so it is of each script at whose end the journal is lawful
 abbrev pub FramedScriptsFollow : Type 0
-FramedScriptsFollow = (items : List Line) → IsLawful (final_host items).kernel.past → FramedReadersFollow items
+FramedScriptsFollow = (items : List Item) → IsLawful (final_host items).kernel.past → FramedReadersFollow items

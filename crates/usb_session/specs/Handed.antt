@@ -1,7 +1,7 @@
 -- What readers hand over of the completions of their tickets, over a script.
 use Rattle.std.specs.Prelude.{ℕ, ◌≡◌, List, ◌++◌, take, All, Some}
 use Rattle.usb_kernel.specs.declared.event.Event.{Event}
-use Rattle.usb_script_lines.specs.declared.item.Item.{Item as Line}
+use Rattle.usb_script_lines.specs.declared.item.Item.{Item}
 use Rattle.usb_session_streams.specs.Handed.{completed_bytes}
 use Rattle.usb_session_streams.specs.Told.{IsComplete}
 use Rattle.usb_session_calls.specs.State.{State, pending}
@@ -24,9 +24,9 @@ abbrev pub ReadersHandOver : State → Type 0
 ReadersHandOver state = (r : ℕ) (x : ReaderAt) → reader_at state r ≡ Some x → IsHandedOver state.host.kernel.past x
 
 -- before the first line of a script and behind each
-abbrev pub BytesAreHandedOver : List Line → Type 0
-BytesAreHandedOver items = (before after : List Line) → before ++ after ≡ items → ReadersHandOver (behind (start items) before)
+abbrev pub BytesAreHandedOver : List Item → Type 0
+BytesAreHandedOver items = (before after : List Item) → before ++ after ≡ items → ReadersHandOver (behind (start items) before)
 
 -- the law: so it is of each script
 abbrev pub ScriptsHandOver : Type 0
-ScriptsHandOver = (items : List Line) → BytesAreHandedOver items
+ScriptsHandOver = (items : List Item) → BytesAreHandedOver items

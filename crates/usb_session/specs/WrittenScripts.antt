@@ -1,7 +1,7 @@
 -- What writers write, over a script.
 use Rattle.std.specs.Prelude.{ℕ, ◌≡◌, List, ◌++◌, take, unwrap_or, Some, []}
 use Rattle.usb_kernel.specs.declared.event.Event.{Event}
-use Rattle.usb_script_lines.specs.declared.item.Item.{Item as Line}
+use Rattle.usb_script_lines.specs.declared.item.Item.{Item}
 use Rattle.usb_io.specs.Writes.{Written, written}
 use Rattle.usb_io.specs.Carried.{AllCarry}
 use Rattle.usb_session_streams.specs.Told.{WriterCalls, failures_at}
@@ -28,9 +28,9 @@ WritersTell state =
     IsWritten state.host.kernel.past x c
 
 -- before the first line of a script and behind each
-abbrev pub WritersAreTold : List Line → Type 0
-WritersAreTold items = (before after : List Line) → before ++ after ≡ items → WritersTell (behind (start items) before)
+abbrev pub WritersAreTold : List Item → Type 0
+WritersAreTold items = (before after : List Item) → before ++ after ≡ items → WritersTell (behind (start items) before)
 
 -- the law: so it is of each script
 abbrev pub ScriptsAreWritten : Type 0
-ScriptsAreWritten = (items : List Line) → WritersAreTold items
+ScriptsAreWritten = (items : List Item) → WritersAreTold items

@@ -18,7 +18,7 @@ use Rattle.usb_device_host.specs.HostCalls.{host_discarded, host_calls}
 use Rattle.usb_io.specs.Readers.{ReaderState, with_read, without_end, is_end}
 use Rattle.usb_io.specs.Along.{ReadsAlong}
 use Rattle.usb_io.specs.Reads.{Reading, reading, filled_to}
-use Rattle.usb_io.specs.Streams.{Item, Byte, End}
+use Rattle.usb_io.specs.Streams.{Mark, Byte, End}
 use Rattle.usb_io.specs.declared.fault.ReadFault.{ReadFault}
 use Rattle.usb_io.specs.declared.fault.ReadFault.TheVariants.{Transfer, TimedOut, UnexpectedEof}
 use Rattle.usb_io.specs.declared.until_short.ExpectedShortPacket.{ExpectedShortPacket}
@@ -183,12 +183,12 @@ kept-read old new x y h came rest same =
 
 -- an answer that goes on to what a call left of host and reader
 pub record ComesTo (state : State) (r : ℕ) (new : HostState) (y : ReaderState) (line : List ℕ) (a : Answer) : Type 0 where
-  pub consumed : Option (List Item)
+  pub consumed : Option (List Mark)
   pub bytes : List ℕ
   pub is : a ≡ answer_with (called state r consumed bytes (reading new y)) line
 
 module _ (old new : HostState) (x y : ReaderState) (came : TicketsCame (reading old x) (reading new y)) (rest : y.endpoint ≡ record x.endpoint { pending = y.endpoint.pending }) where
-  represents-called : (s : SessionState) (state : State) (r : ℕ) (at : ReaderAt) (consumed : Option (List Item)) (bytes : List ℕ) → Represents s state → s.host ≡ old → HasReader s state r x at → Represents (with_reader_called s r new y) (called state r consumed bytes (reading new y))
+  represents-called : (s : SessionState) (state : State) (r : ℕ) (at : ReaderAt) (consumed : Option (List Mark)) (bytes : List ℕ) → Represents s state → s.host ≡ old → HasReader s state r x at → Represents (with_reader_called s r new y) (called state r consumed bytes (reading new y))
   represents-called s state r at consumed bytes rep host_was has =
       let host : old ≡ state.host = sym host_was ∙ host_is s state rep in
       let count = length (tickets state.host.kernel.past) in

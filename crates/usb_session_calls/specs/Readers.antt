@@ -7,7 +7,7 @@ use Rattle.usb_device_host.specs.HostState.{HostState}
 use Rattle.usb_device_host.specs.HostCalls.{host_discarded}
 use Rattle.usb_io.specs.Readers.{ReaderState, fresh_reader}
 use Rattle.usb_io.specs.Reads.{Reading, reading, filled_to}
-use Rattle.usb_io.specs.Streams.{Item}
+use Rattle.usb_io.specs.Streams.{Mark}
 use Rattle.usb_device_host.specs.HostCalls.{host_calls}
 use Rattle.usb_session_streams.specs.Numbers.{numbers_from}
 use Rattle.usb_session_calls.specs.Names.{named, is_free, freed, set_name, change_named}
@@ -19,7 +19,7 @@ use Rattle.usb_session_calls.specs.Answer.{Answer, condition_answer, ok_answer, 
 use Rattle.usb_session_calls.specs.Submits.{has_direction}
 
 -- a reader is framed where its endpoint has no ticket yet: it has consumed nothing
-abbrev pub nothing_consumed : List ℕ → Option (List Item)
+abbrev pub nothing_consumed : List ℕ → Option (List Mark)
 nothing_consumed [] = Some []
 nothing_consumed tickets = None
 
@@ -78,7 +78,7 @@ called_endpoint old new pending h =
 
 -- the state behind a call of a reader, by what the call left of host and reader, what the reader has consumed then, and the bytes
 -- that the call handed over
-abbrev pub called : State → ℕ → Option (List Item) → List ℕ → Reading HostState → State
+abbrev pub called : State → ℕ → Option (List Mark) → List ℕ → Reading HostState → State
 called state r consumed bytes w =
     record state {
       host = w.bus;

@@ -3,7 +3,7 @@ use Rattle.std.specs.Prelude.{ℕ, ◌++◌, nat_lt, Bool, true, false, List, []
 use Rattle.std.specs.Option.{option_map}
 use Rattle.usb_io.specs.Readers.{ReaderState, with_read, without_end, is_end}
 use Rattle.usb_io.specs.Reads.{reading}
-use Rattle.usb_io.specs.Streams.{Item, Byte, End}
+use Rattle.usb_io.specs.Streams.{Mark, Byte, End}
 use Rattle.usb_io.specs.declared.fault.ReadFault.{ReadFault}
 use Rattle.usb_io.specs.declared.fault.ReadFault.TheVariants.{TimedOut}
 use Rattle.usb_io.specs.Answers.{Read, fill_came, read_came}
@@ -30,7 +30,7 @@ is_until_short Plain = false
 is_until_short UntilShort = true
 
 -- what was consumed, with these items too. A plain call ends that a reader is framed
-abbrev pub consumed_with : Framing → List Item → Option (List Item) → Option (List Item)
+abbrev pub consumed_with : Framing → List Mark → Option (List Mark) → Option (List Mark)
 consumed_with Plain items consumed = None
 consumed_with UntilShort items consumed = option_map (λ before. before ++ items) consumed
 
@@ -74,7 +74,7 @@ fill_on state framing r timeout line x =
     else filled_as state framing r x line (fill_came host_calls (is_until_short framing) timeout (reading state.host (state_of_reader x)))
 
 -- a reader as a call left it that asks nothing of the host, these items consumed, and these bytes handed over
-abbrev pub read_off : State → Framing → ℕ → ReaderAt → List Item → List ℕ → ReaderState → State
+abbrev pub read_off : State → Framing → ℕ → ReaderAt → List Mark → List ℕ → ReaderState → State
 read_off state framing r x items bytes left =
     record state {
       readers = change_named (λ y. record y { bare = bare_of left; given = y.given ++ bytes; consumed = consumed_with framing items x.reader.consumed })

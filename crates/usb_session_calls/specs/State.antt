@@ -8,7 +8,7 @@ use Rattle.usb_device_endpoint.specs.EndpointState.{EndpointState}
 use Rattle.usb_device_host.specs.HostState.{HostState}
 use Rattle.usb_device.specs.HandleStates.{InterfaceState}
 use Rattle.usb_device.specs.Futures.{FutureState}
-use Rattle.usb_io.specs.Streams.{Item}
+use Rattle.usb_io.specs.Streams.{Mark}
 use Rattle.usb_session_streams.specs.Told.{WriterCalls}
 use Rattle.usb_session_calls.specs.BareReaders.{BareReader}
 use Rattle.usb_session_calls.specs.BareWriters.{BareWriter}
@@ -33,7 +33,7 @@ pub record Reader : Type 0 where
   pub bare : BareReader
   pub before : List ℕ
   pub given : List ℕ
-  pub consumed : Option (List Item)
+  pub consumed : Option (List Mark)
 
 -- an open writer but for its endpoint. While it alone used its endpoint (which had no ticket before) also its accepted calls,
 -- and the failed transfers that its calls answered

@@ -2,10 +2,10 @@
 use Rattle.std.proofs.Common.{ℕ, List, ◌++◌, take-append-drop, sym, subst}
 use Rattle.usb_kernel.specs.declared.event.Event.{Event}
 use Rattle.usb_kernel.specs.Legal.{IsLawful}
-use Rattle.usb_script_lines.specs.declared.item.Item.{Item as Line}
-use Rattle.usb_io.specs.Streams.{Item, IsAscending, Each, stream_of, delivered}
+use Rattle.usb_script_lines.specs.declared.item.Item.{Item}
+use Rattle.usb_io.specs.Streams.{Mark, IsAscending, Each, stream_of, delivered}
 use Rattle.usb_io.specs.Following.{IsMine, IsPrefixOf}
-use Rattle.usb_io.specs.Writes.{NoMidFlush, items_of, written}
+use Rattle.usb_io.specs.Writes.{NoMidFlush, marks_of, written}
 use Rattle.usb_io.specs.Carried.{AllCarry}
 use Rattle.usb_io.proofs.Following.{consumed_is_prefix}
 use Rattle.usb_session_streams.specs.Told.{WriterCalls}
@@ -21,7 +21,7 @@ use Rattle.usb_session.proofs.FramedBehind.{follow-at}
 use Rattle.usb_session.proofs.LinesBehind.{behind-extends}
 use Rattle.usb_session_run.specs.Exchanges.{exchange_of, OnlyExchange, MessagesAlwaysArrive, MessagesKeepArriving}
 
-arrive : (past : List Event) (x : WriterAt) (y : ReaderAt) (c : WriterCalls) (consumed : List Item) → TellsAt past x c → FollowsAt past y consumed → OnlyExchange past x y c → AreFirstOf (messages consumed) (messages (items_of c.accepted))
+arrive : (past : List Event) (x : WriterAt) (y : ReaderAt) (c : WriterCalls) (consumed : List Mark) → TellsAt past x c → FollowsAt past y consumed → OnlyExchange past x y c → AreFirstOf (messages consumed) (messages (marks_of c.accepted))
 arrive past x y c consumed tells follows only =
     let m = x.endpoint.maximum in
     let more = tells.whole.0 in
@@ -42,13 +42,13 @@ arrive past x y c consumed tells follows only =
     (subst (λ (n : ℕ). Each (IsMine past y.endpoint.device y.endpoint.address n) y.endpoint.tickets) only.maximum mine))
     (subst (λ (n : ℕ). IsPrefixOf consumed (stream_of n (delivered y.endpoint.tickets past))) only.maximum prefix)
 
-pub messages-arrive : (items : List Line) → IsLawful (final_host items).kernel.past → MessagesAlwaysArrive items
+pub messages-arrive : (items : List Item) → IsLawful (final_host items).kernel.past → MessagesAlwaysArrive items
 messages-arrive items lawful before after all w r x y c consumed writer calls reader framed only =
     arrive (behind (start items) before).host.kernel.past x y c consumed (tells-behind scripts-go_on items before w x c writer calls)
     (follow-at scripts-go_on items lawful before after all r y reader consumed framed) only
 
 -- so it is of the writer as it was before
-pub messages-keep-arriving : (items : List Line) → IsLawful (final_host items).kernel.past → MessagesKeepArriving items
+pub messages-keep-arriving : (items : List Item) → IsLawful (final_host items).kernel.past → MessagesKeepArriving items
 messages-keep-arriving items lawful before middle after all w r x y c consumed writer calls reader framed only =
     let old = (behind (start items) before).host.kernel.past in
     let new = (behind (start items) (before ++ middle)).host.kernel.past in

@@ -8,10 +8,10 @@ use Rattle.usb_kernel.specs.declared.event.Body.TheVariants.{Wanted, Sent}
 use Rattle.usb_kernel_devices.specs.declared.step.KernelStep.TheVariants.{Echo}
 use Rattle.usb_script_words.specs.declared.endpoint_kind.EndpointKind.TheVariants.{InterruptIn, InterruptOut}
 use Rattle.usb_script_words.specs.declared.framing.Framing.TheVariants.{UntilShort}
-use Rattle.usb_script_lines.specs.declared.item.Item.{Item as Line}
+use Rattle.usb_script_lines.specs.declared.item.Item.{Item}
 use Rattle.usb_script_lines.specs.declared.item.Item.TheVariants as item
-use Rattle.usb_io.specs.Streams.{Item, Byte, End}
-use Rattle.usb_io.specs.Writes.{Accept, Finish, items_of}
+use Rattle.usb_io.specs.Streams.{Mark, Byte, End}
+use Rattle.usb_io.specs.Writes.{Accept, Finish, marks_of}
 use Rattle.usb_session_streams.specs.Told.{WriterCalls}
 use Rattle.usb_io.specs.Messages.{messages}
 use Rattle.usb_session_calls.specs.State.{State}
@@ -23,7 +23,7 @@ use Rattle.usb_session_run.specs.Exchanges.{OnlyExchange}
 
 -- the writer of number 0 in one state, with its calls, and the reader of number 0 in the same or a later one, with what it
 -- consumed; the journal of the later state, on which the two do nothing but exchange messages; and the messages that were ended
-pub record HaveExchanged (first state : State) (x : WriterAt) (y : ReaderAt) (c : WriterCalls) (consumed : List Item) (past : List Event) (read sent : List (List ℕ)) : Type 0 where
+pub record HaveExchanged (first state : State) (x : WriterAt) (y : ReaderAt) (c : WriterCalls) (consumed : List Mark) (past : List Event) (read sent : List (List ℕ)) : Type 0 where
   pub writer : writer_at first 0 ≡ Some x
   pub calls : x.writer.calls ≡ Some c
   pub reader : reader_at state 0 ≡ Some y
@@ -31,7 +31,7 @@ pub record HaveExchanged (first state : State) (x : WriterAt) (y : ReaderAt) (c 
   pub journal : state.host.kernel.past ≡ past
   pub only : OnlyExchange past x y c
   pub are_read : messages consumed ≡ read
-  pub are_sent : messages (items_of c.accepted) ≡ sent
+  pub are_sent : messages (marks_of c.accepted) ≡ sent
 
 -- a device with an interface 5 in a configuration 7, and in it an interrupt IN endpoint 81 and an interrupt OUT endpoint 02 for packets of at most 4 bytes
 abbrev pub descriptors : List ℕ
@@ -44,12 +44,12 @@ descriptors = 18 ∷ 1 ∷ 0 ∷ 2 ∷ 0 ∷ 0 ∷ 0 ∷ 64 ∷ 170 ∷ 170 ∷ 
 
 -- both are open, with a writer whose transfers take 8 bytes, and a reader
 -- whose transfers take 12
-abbrev pub opened : List Line → List Line
+abbrev pub opened : List Item → List Item
 opened lines =
     item.Device 0 1 6 2 7 descriptors ∷ item.Open 0 1 6 ∷ item.Claim 0 5 0 ∷ item.Endpoint 0 0 129 InterruptIn ∷ item.Endpoint 1 0 2 InterruptOut
     ∷ item.Writer 0 1 8 ∷ item.Reader 0 0 12 ∷ lines
 
-abbrev pub behind_all : List Line → State
+abbrev pub behind_all : List Item → State
 behind_all lines = behind (start lines) lines
 
 -- what is open then: the writer with so many tickets taken, and the reader, which has read all that it took
@@ -60,7 +60,7 @@ writer_with tickets taken c =
       endpoint = record { device = 0; address = 2; kind = Interrupt; maximum = 4; key = 1; tickets = tickets; taken = taken; was_streamed = true };
     }
 
-abbrev pub reader_with : List ℕ → List Item → ReaderAt
+abbrev pub reader_with : List ℕ → List Mark → ReaderAt
 reader_with given consumed =
     record {
       reader = record { bare = record { n = 1; size = 12; timeout = 2 ^ 64 - 1; unread = []; ended = false; error = None }; before = []; given = given; consumed = Some consumed };
@@ -68,7 +68,7 @@ reader_with given consumed =
     }
 
 -- five bytes are written, echoed in two packets, and read
-abbrev pub five : List Line
+abbrev pub five : List Item
 five =
     opened
     (item.Write 0 (1 ∷ 2 ∷ 3 ∷ 4 ∷ 5 ∷ []) [] ∷ item.SubmitEnd 0 ∷ item.Read UntilShort 0 20 (Echo 0 2 129 ∷ Echo 0 2 129 ∷ [])
@@ -77,7 +77,7 @@ five =
 abbrev pub five_calls : WriterCalls
 five_calls = record { accepted = Finish ∷ Accept (1 ∷ 2 ∷ 3 ∷ 4 ∷ 5 ∷ []) ∷ []; failures = [] }
 
-abbrev pub five_consumed : List Item
+abbrev pub five_consumed : List Mark
 five_consumed = Byte 1 ∷ Byte 2 ∷ Byte 3 ∷ Byte 4 ∷ Byte 5 ∷ End ∷ []
 
 abbrev pub five_past : List Event
@@ -106,7 +106,7 @@ five_bytes =
     }
 
 -- an empty message is read; of the next one, of a byte, nothing yet
-abbrev pub none : List Line
+abbrev pub none : List Item
 none =
     opened
     (item.SubmitEnd 0 ∷ item.Read UntilShort 0 20 (Echo 0 2 129 ∷ []) ∷ item.ConsumeEnd 0 ∷ item.Write 0 (7 ∷ []) [] ∷ item.SubmitEnd 0 ∷ [])
@@ -140,20 +140,20 @@ no_bytes =
 
 -- five bytes are written and echoed in two packets, of which one byte is read; then the writer is gone, by this line, and the other
 -- bytes are read
-abbrev pub five_sent : List Line
+abbrev pub five_sent : List Item
 five_sent =
     opened
     (item.Write 0 (1 ∷ 2 ∷ 3 ∷ 4 ∷ 5 ∷ []) [] ∷ item.SubmitEnd 0 ∷ item.Read UntilShort 0 1 (Echo 0 2 129 ∷ Echo 0 2 129 ∷ []) ∷ [])
 
-abbrev pub five_read : Line → List Line
+abbrev pub five_read : Item → List Item
 five_read gone = gone ∷ item.Read UntilShort 0 20 [] ∷ item.ConsumeEnd 0 ∷ []
 
 -- in both states the script is the whole one
-abbrev pub behind_first : List Line → List Line → State
+abbrev pub behind_first : List Item → List Item → State
 behind_first before middle = behind (start (before ++ middle)) before
 
 -- no writer of number 0 is open then, and yet its message is read
-pub record AreReadWithout (gone : Line) : Type 0 where
+pub record AreReadWithout (gone : Item) : Type 0 where
   pub none : writer_at (behind_all (five_sent ++ five_read gone)) 0 ≡ None
   pub exchanged : HaveExchanged (behind_first five_sent (five_read gone)) (behind_all (five_sent ++ five_read gone)) (writer_with (0 ∷ []) 0 five_calls)
       (reader_with (1 ∷ 2 ∷ 3 ∷ 4 ∷ 5 ∷ []) five_consumed) five_calls five_consumed five_past ((1 ∷ 2 ∷ 3 ∷ 4 ∷ 5 ∷ []) ∷ []) ((1 ∷ 2 ∷ 3 ∷ 4 ∷ 5 ∷ []) ∷ [])

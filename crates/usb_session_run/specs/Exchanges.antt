@@ -1,9 +1,9 @@
 -- Messages that a writer sends and a reader reads, over a device that echoes.
 use Rattle.std.specs.Prelude.{ℕ, ◌≡◌, List, ◌++◌, Some}
 use Rattle.usb_kernel.specs.declared.event.Event.{Event}
-use Rattle.usb_script_lines.specs.declared.item.Item.{Item as Line}
-use Rattle.usb_io.specs.Streams.{Item}
-use Rattle.usb_io.specs.Writes.{items_of, NoMidFlush}
+use Rattle.usb_script_lines.specs.declared.item.Item.{Item}
+use Rattle.usb_io.specs.Streams.{Mark}
+use Rattle.usb_io.specs.Writes.{marks_of, NoMidFlush}
 use Rattle.usb_session_streams.specs.Told.{WriterCalls}
 use Rattle.usb_io.specs.Messages.{messages, AreFirstOf}
 use Rattle.usb_io.specs.Exchange.{Exchange, OnlyEchoes}
@@ -35,25 +35,25 @@ pub record OnlyExchange (past : List Event) (x : WriterAt) (y : ReaderAt) (c : W
 -- the reader is framed)
 abbrev pub MessagesArrive : State → Type 0
 MessagesArrive state =
-    (w r : ℕ) (x : WriterAt) (y : ReaderAt) (c : WriterCalls) (consumed : List Item) →
+    (w r : ℕ) (x : WriterAt) (y : ReaderAt) (c : WriterCalls) (consumed : List Mark) →
     writer_at state w ≡ Some x → x.writer.calls ≡ Some c → reader_at state r ≡ Some y → y.reader.consumed ≡ Some consumed →
-    OnlyExchange state.host.kernel.past x y c → AreFirstOf (messages consumed) (messages (items_of c.accepted))
+    OnlyExchange state.host.kernel.past x y c → AreFirstOf (messages consumed) (messages (marks_of c.accepted))
 
 -- before the first line of a script and behind each
-abbrev pub MessagesAlwaysArrive : List Line → Type 0
-MessagesAlwaysArrive items = (before after : List Line) → before ++ after ≡ items → MessagesArrive (behind (start items) before)
+abbrev pub MessagesAlwaysArrive : List Item → Type 0
+MessagesAlwaysArrive items = (before after : List Item) → before ++ after ≡ items → MessagesArrive (behind (start items) before)
 
 -- a writer as it is in one state, and a framed reader as it is in a later one: if up to then nothing else happened on the two
 -- endpoints, with the tickets that the writer has in the first, then the messages that the reader ended are the first of those
 -- that the writer ended by the first. (So the writer may be closed in the later state, or have given its endpoint back)
 abbrev pub MessagesStillArrive : State → State → Type 0
 MessagesStillArrive state later =
-    (w r : ℕ) (x : WriterAt) (y : ReaderAt) (c : WriterCalls) (consumed : List Item) →
+    (w r : ℕ) (x : WriterAt) (y : ReaderAt) (c : WriterCalls) (consumed : List Mark) →
     writer_at state w ≡ Some x → x.writer.calls ≡ Some c → reader_at later r ≡ Some y → y.reader.consumed ≡ Some consumed →
-    OnlyExchange later.host.kernel.past x y c → AreFirstOf (messages consumed) (messages (items_of c.accepted))
+    OnlyExchange later.host.kernel.past x y c → AreFirstOf (messages consumed) (messages (marks_of c.accepted))
 
 -- behind lines of a script, and behind the lines that follow them
-abbrev pub MessagesKeepArriving : List Line → Type 0
+abbrev pub MessagesKeepArriving : List Item → Type 0
 MessagesKeepArriving items =
-    (before middle after : List Line) → (before ++ middle) ++ after ≡ items →
+    (before middle after : List Item) → (before ++ middle) ++ after ≡ items →
     MessagesStillArrive (behind (start items) before) (behind (start items) (before ++ middle))

@@ -21,7 +21,7 @@ use Rattle.usb_device_host.proofs.CountLemmas.{entered-count, waited-count, take
 use Rattle.usb_device_host.proofs.FollowLemmas.{adds-entered, on-waited, taken-past}
 use Rattle.usb_io.specs.Readers.{ReaderState, fresh_buffer, with_taken, with_read, turns, is_end}
 use Rattle.usb_io.specs.Reads.{Reading, reading, pending_of, ended_off, submit_one, filled_to}
-use Rattle.usb_io.specs.Streams.{Item, Byte}
+use Rattle.usb_io.specs.Streams.{Mark, Byte}
 use Rattle.usb_io.specs.Following.{History, Follows, with_ticket}
 use Rattle.usb_io.specs.Answers.{handed_over, fill_came, read_came}
 use Rattle.usb_io.specs.declared.fault.ReadFault.{ReadFault}
@@ -60,7 +60,7 @@ entered-entry h e b =
     (λ yes_. submitted-entry h e b) (λ no_. refused-entry h e b)
 
 -- a reader follows its stream with a history that says the same
-pub follows-as : (past : List Event) (r : ReaderState) (h : History) (taken : List ℕ) (consumed : List Item) → taken ≡ h.taken → consumed ≡ h.consumed → Follows past r h → Follows past r (record { taken = taken; consumed = consumed })
+pub follows-as : (past : List Event) (r : ReaderState) (h : History) (taken : List ℕ) (consumed : List Mark) → taken ≡ h.taken → consumed ≡ h.consumed → Follows past r h → Follows past r (record { taken = taken; consumed = consumed })
 follows-as past r h taken consumed same alike f = rw (same, alike) f
 
 -- what a reader went on to take, by the tickets that came
