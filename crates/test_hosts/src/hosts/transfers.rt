@@ -18,7 +18,7 @@ fn read_packet(alloc: Global, host: &mut Host) -> Result<Option<Completion>, Fai
         Ok(()) => Ok(endpoint.wait_next_complete(host, 1_000_000_000)),
         Err(_) => Err(Fail::Memory),
     };
-    endpoint.close(host); // what is still on its way is given up, once
+    endpoint.close(host); // a transfer still on its way is cancelled
     done
 }
 
