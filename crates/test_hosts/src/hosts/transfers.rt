@@ -5,8 +5,7 @@ use crate::hosts::PACKET;
 use std::alloc::Global;
 use usb_device::{Buffer, Bulk, Bus, Completion, Device, Error, Fail, Host, In};
 
-/// Reads one packet from bulk IN endpoint 0x81 of the device at bus 1 and address 6, within a
-/// second.
+/// Reads one packet from the device at bus 1 and address 6, within a second.
 fn read_packet(alloc: Global, host: &mut Host) -> Result<Option<Completion>, Fail<Error>> {
     let Ok(buffer) = Buffer::new(alloc, 64) else {
         return Err(Fail::Memory);
@@ -18,7 +17,7 @@ fn read_packet(alloc: Global, host: &mut Host) -> Result<Option<Completion>, Fai
         Ok(()) => Ok(endpoint.wait_next_complete(host, 1_000_000_000)),
         Err(_) => Err(Fail::Memory),
     };
-    endpoint.close(host); // a transfer still on its way is cancelled
+    endpoint.close(host); // cancels what is on its way
     done
 }
 
