@@ -1,6 +1,6 @@
 -- Deadlines while a journal goes on.
-use Rattle.std.proofs.Common.{◌≡◌, ℕ, ◌+◌, ◌<◌, ◌≤◌, arith, List, [], ◌∷◌, length, Option, Some, None, Bool, true, false, cond, refl, ap, sym, ◌∙◌, inl, inr, slice_get, ◌⊎◌, Ordering, IsSome}
-use Rattle.std.specs.Prelude.{filter, map, is_some, nat_lt, ◌&&◌}
+use Rattle.std.proofs.Common.{◌≡◌, ℕ, ◌+◌, ◌<◌, ◌≤◌, arith, List, [], ◌∷◌, length, Option, Some, None, Bool, true, false, cond, refl, ap, sym, subst, ◌∙◌, inl, inr, slice_get, get_or, ◌⊎◌, Ordering, IsSome}
+use Rattle.std.specs.Prelude.{filter, map, is_some, is_none, nat_lt, ◌&&◌, ◌≢◌, option_and_then}
 use Rattle.std.specs.List.{All}
 use Rattle.std.specs.List.Sorted.{IsStrictlySortedBy}
 use Rattle.std.specs.Cmp.{IsTotalOrder}
@@ -19,13 +19,15 @@ use Rattle.usb_kernel.specs.Submissions.{submit_event, body_of}
 use Rattle.std.specs.BTreeMap.{is_at}
 use Rattle.std.specs.BTreeMap.Range.{IsLeBy}
 use Rattle.std.specs.Set.{remove_key}
-use Rattle.std.proofs.lemmas.List.Elements.{All-head, All-tail}
+use Rattle.std.proofs.lemmas.List.Elements.{All-nil, All-head, All-tail}
 use Rattle.std.proofs.lemmas.Map.Views.{All-remove_key}
-use Rattle.std.proofs.lemmas.Bool.{le-leb}
-use Rattle.usb_kernel.proofs.Waiting.{discard-finishes}
+use Rattle.std.proofs.lemmas.Bool.{le-leb, lt-ltb, ltb-true, ne_eqb, and_parts}
+use Rattle.usb_kernel.proofs.Waiting.{discard-finishes, reapable-parts, event-spares, discard-spares, reap-spares}
+use Rattle.usb_kernel.proofs.Places.{slice_get-append_seam}
+use Rattle.usb_kernel.proofs.KeptEntries.{deadline-within, entry-stays, equal-entries, without-apart}
 use Rattle.usb_kernel.proofs.Completions.{tickets-discard}
 use Rattle.usb_kernel.proofs.Fresh.{fate-fresh}
-use Rattle.usb_kernel.proofs.InOrder.{sorted-insert, filter-insert}
+use Rattle.usb_kernel.proofs.InOrder.{sorted-insert, sorted-remove, filter-insert}
 use Rattle.std.proofs.lemmas.Grind.{common_steps}
 use Rattle.std.proofs.lemmas.Bool.{cases_Bool}
 use Rattle.usb_kernel.specs.declared.event.Event.{Event}
@@ -33,8 +35,13 @@ use Rattle.usb_kernel.specs.declared.event.Event.TheVariants.{Submit, Refuse, Pa
 use Rattle.usb_kernel.specs.Tickets.{Ticket, tickets}
 use Rattle.usb_kernel.specs.Journal.{fate}
 use Rattle.usb_kernel.specs.Steps.{after_discard, is_unfinished}
-use Rattle.usb_kernel.specs.Timers.{by_deadline, with_deadline, deadlines, is_open_entry, is_up, discarded_in_order, timer_turned}
-use Rattle.usb_kernel.specs.Deadlines.{KeepsDeadlines, submits}
+use Rattle.usb_kernel.specs.Timers.{deadline_of, by_deadline, with_deadline, without_deadline, deadlines, is_open_entry, is_up, discarded_in_order, timer_turned}
+use Rattle.usb_kernel.specs.Pending.{is_discard_of, is_discarded}
+use Rattle.usb_kernel.specs.Fates.{Fate, waits}
+use Rattle.usb_kernel.specs.Completions.{reapable}
+use Rattle.usb_kernel.specs.Waits.{reaps}
+use Rattle.usb_kernel.specs.declared.submission.Done.{Done}
+use Rattle.usb_kernel.specs.Deadlines.{IsKeptEntry, KeepsDeadlines, moves_deadline}
 use Rattle.usb_kernel.specs.Extends.{Extends}
 use Rattle.usb_kernel.proofs.Extends.{extends-event, extends-same, extends-discard, extends-discarded_in_order, extends-trans, status-stays}
 
@@ -58,7 +65,7 @@ closed-stays old new p goes closed = closed-by (fate old p.1).status refl
     closed-by None is = let no_ : true ≡ false = rw is at closed in cc
     closed-by (Some errno) is = rw (status-stays old new p.1 errno goes is) refl
 
-deadlines-event : (past : List Event) (event : Event) → submits event ≡ false → deadlines (event ∷ past) ≡ deadlines past
+deadlines-event : (past : List Event) (event : Event) → moves_deadline event ≡ false → deadlines (event ∷ past) ≡ deadlines past
 deadlines-event past (Submit t d e m body room deadline) none = cc
 deadlines-event past (Refuse t d e m body room errno) none = refl
 deadlines-event past (Packet d e b) none = refl
@@ -80,16 +87,46 @@ tickets-longer past (Discard t) = omega arith
 tickets-longer past (Reap t) = omega arith
 tickets-longer past (Unplug d) = omega arith
 
-still-below : (old new : List Event) (ds : List (ℕ × ℕ)) → length (tickets old) ≤ length (tickets new) → All (λ p. p.1 < length (tickets old)) ds → All (λ p. p.1 < length (tickets new)) ds
-still-below old new ds longer below = All-weaker (λ (p : ℕ × ℕ). p.1 < length (tickets old)) (λ p. p.1 < length (tickets new)) (λ p l. omega arith) ds below
+-- what an event that moves no deadline is not
+no-reap : (event : Event) → moves_deadline event ≡ false → reaps event ≡ false
+no-reap (Submit t d e m body room deadline) none = refl
+no-reap (Refuse t d e m body room errno) none = refl
+no-reap (Packet d e b) none = refl
+no-reap (Ack d e) none = refl
+no-reap (Echo d o i) none = refl
+no-reap (Fail d e errno) none = refl
+no-reap (Discard t) none = refl
+no-reap (Reap t) none = cc
+no-reap (Unplug d) none = refl
 
--- an event that submits nothing leaves the deadlines as they were
-pub keeps-event : (past : List Event) (event : Event) (ds : List (ℕ × ℕ)) → submits event ≡ false → KeepsDeadlines past ds → KeepsDeadlines (event ∷ past) ds
+no-discard : (event : Event) (t : ℕ) → moves_deadline event ≡ false → is_discard_of t event ≡ false
+no-discard (Submit t d e m body room deadline) u none = refl
+no-discard (Refuse t d e m body room errno) u none = refl
+no-discard (Packet d e b) u none = refl
+no-discard (Ack d e) u none = refl
+no-discard (Echo d o i) u none = refl
+no-discard (Fail d e errno) u none = refl
+no-discard (Discard t) u none = cc
+no-discard (Reap t) u none = refl
+no-discard (Unplug d) u none = refl
+
+-- what is kept before any event
+pub keeps-none : KeepsDeadlines [] []
+unfolding IsStrictlySortedBy
+keeps-none = record { same = refl; ordered = tt; each = All-nil (IsKeptEntry []); coming = λ t beyond. refl }
+
+-- an event that moves no deadline leaves them as they were
+pub keeps-event : (past : List Event) (event : Event) (ds : List (ℕ × ℕ)) → moves_deadline event ≡ false → KeepsDeadlines past ds → KeepsDeadlines (event ∷ past) ds
 keeps-event past event ds none kept =
     record {
       same = rw (deadlines-event past event none) (filter-narrow (is_open_entry past) (is_open_entry (event ∷ past)) ds (deadlines past) (λ p closed. closed-stays past (event ∷ past) p (extends-event past event) closed) kept.same);
-      below = still-below past (event ∷ past) ds (tickets-longer past event) kept.below;
+      ordered = kept.ordered;
+      each = All-weaker (IsKeptEntry past) (IsKeptEntry (event ∷ past)) still ds kept.each;
+      coming = λ t beyond. rw (no-discard event t none) (kept.coming t (omega (arith, tickets-longer past event)));
     }
+  where
+    still : (p : ℕ × ℕ) → IsKeptEntry past p → IsKeptEntry (event ∷ past) p
+    still p entry = entry-stays past event p (event-spares past event p.1 (deadline-within past p.1 p.0 entry.deadline) (no-reap event none)) (no-discard event p.1 none) entry
 
 by_deadline-total : IsTotalOrder by_deadline
 by_deadline-total = then_total (on_total (λ (p : ℕ × ℕ). p.0) nat_cmp_total) (on_total (λ (p : ℕ × ℕ). p.1) nat_cmp_total)
@@ -121,16 +158,36 @@ open-new past n = rw (fate-fresh past (length (tickets past)) (omega arith)) ref
 open-same : (past : List Event) (a b : ℕ × ℕ) → is_open_entry past a ≡ true → by_deadline a b ≡ Equal → is_open_entry past b ≡ true
 open-same past a b here same = rw (sym (same_number a b same)) here
 
+-- an entry of a new ticket
+new-entry : (past : List Event) (t d e m : ℕ) (body : Body) (room n : ℕ) → is_discarded past (length (tickets past)) ≡ false → IsKeptEntry (Submit t d e m body room (Some n) ∷ past) (n, length (tickets past))
+new-entry past t d e m body room n never =
+    record {
+      deadline = ap (option_and_then (λ (s : Ticket). s.deadline)) (slice_get-append_seam (tickets past) _);
+      unreaped = ap (λ (f : Fate). f.reaped) (fate-fresh past (length (tickets past)) (omega arith));
+      undiscarded = never;
+    }
+
 -- a submission with a deadline adds it at its place
-pub keeps-submit : (past : List Event) (t d e m : ℕ) (body : Body) (room : ℕ) (deadline : Option ℕ) (ds : List (ℕ × ℕ)) → IsStrictlySortedBy by_deadline ds → KeepsDeadlines past ds → KeepsDeadlines (Submit t d e m body room deadline ∷ past) (with_deadline ds deadline (length (tickets past)))
-keeps-submit past t d e m body room None ds up kept =
-    record { same = kept.same; below = still-below past (Submit t d e m body room None ∷ past) ds (omega (arith, length-append {A = Ticket})) kept.below }
-keeps-submit past t d e m body room (Some n) ds up kept =
+pub keeps-submit : (past : List Event) (t d e m : ℕ) (body : Body) (room : ℕ) (deadline : Option ℕ) (ds : List (ℕ × ℕ)) → KeepsDeadlines past ds → KeepsDeadlines (Submit t d e m body room deadline ∷ past) (with_deadline ds deadline (length (tickets past)))
+keeps-submit past t d e m body room None ds kept =
+    let later : List Event = Submit t d e m body room None ∷ past in
+    record {
+      same = kept.same;
+      ordered = kept.ordered;
+      each = All-weaker (IsKeptEntry past) (IsKeptEntry later) (λ p entry. entry-stays past (Submit t d e m body room None) p refl refl entry) ds kept.each;
+      coming = λ u beyond. kept.coming u (omega (arith, length-append {A = Ticket}));
+    }
+keeps-submit past t d e m body room (Some n) ds kept =
+    let later : List Event = Submit t d e m body room (Some n) ∷ past in
     let place = filter-insert by_deadline by_deadline-total (is_open_entry past) (n, length (tickets past)) in
     let same = λ (x : ℕ × ℕ) (h : by_deadline (n, length (tickets past)) x ≡ Equal). open-same past (n, length (tickets past)) x (open-new past n) h in
+    let still : All (IsKeptEntry later) ds = All-weaker (IsKeptEntry past) (IsKeptEntry later) (λ p entry. entry-stays past (Submit t d e m body room (Some n)) p refl refl entry) ds kept.each in
+    let never : is_discarded past (length (tickets past)) ≡ false = kept.coming (length (tickets past)) (omega arith) in
     record {
-      same = place ds (open-new past n) same up ∙ (ap (λ xs. insert_key by_deadline xs (n, length (tickets past))) kept.same ∙ sym (place (deadlines past) (open-new past n) same (deadlines-sorted past)));
-      below = All-insert_key by_deadline (n, length (tickets past)) (λ p. p.1 < length (tickets (Submit t d e m body room (Some n) ∷ past))) ds (still-below past (Submit t d e m body room (Some n) ∷ past) ds (omega (arith, length-append {A = Ticket})) kept.below) (omega (arith, length-append {A = Ticket}));
+      same = place ds (open-new past n) same kept.ordered ∙ (ap (λ xs. insert_key by_deadline xs (n, length (tickets past))) kept.same ∙ sym (place (deadlines past) (open-new past n) same (deadlines-sorted past)));
+      ordered = sorted-insert by_deadline by_deadline-total (n, length (tickets past)) ds kept.ordered;
+      each = All-insert_key by_deadline (n, length (tickets past)) (IsKeptEntry later) ds still (new-entry past t d e m body room n never);
+      coming = λ u beyond. kept.coming u (omega (arith, length-append {A = Ticket}));
     }
 
 -- a discard of a ticket that is finished leaves no event
@@ -163,10 +220,10 @@ turned-kept past clock ds kept =
     ∙ passes-finished past past (filter (is_up clock) ds) (extends-same past))
 
 -- what a submission adds
-pub keeps-added : (past : List Event) (s : Submission) (deadline : Option ℕ) (t : ℕ) (old new : List (ℕ × ℕ)) → IsStrictlySortedBy by_deadline old → new ≡ with_deadline old deadline t → s.deadline ≡ deadline → t ≡ length (tickets past) → KeepsDeadlines past old → KeepsDeadlines (submit_event (length (tickets past)) s ∷ past) new
-keeps-added past s deadline t old new up is has number kept =
+pub keeps-added : (past : List Event) (s : Submission) (deadline : Option ℕ) (t : ℕ) (old new : List (ℕ × ℕ)) → new ≡ with_deadline old deadline t → s.deadline ≡ deadline → t ≡ length (tickets past) → KeepsDeadlines past old → KeepsDeadlines (submit_event (length (tickets past)) s ∷ past) new
+keeps-added past s deadline t old new is has number kept =
     let same : new ≡ with_deadline old s.deadline (length (tickets past)) = is ∙ (ap (with_deadline old deadline) number ∙ ap (λ o. with_deadline old o (length (tickets past))) (sym has)) in
-    rw same (keeps-submit past (length (tickets past)) s.device s.endpoint s.maximum (body_of s.endpoint s.buffer) s.buffer.room s.deadline old up kept)
+    rw same (keeps-submit past (length (tickets past)) s.device s.endpoint s.maximum (body_of s.endpoint s.buffer) s.buffer.room s.deadline old kept)
 
 -- what is taken out with a ticket that is finished
 filter-removed : {X : Type 0} (p q : X → Bool) (xs : List X) → ((x : X) → p x ≡ true → q x ≡ false) → filter q (remove_key p xs) ≡ filter q xs
@@ -180,30 +237,116 @@ filter-removed p q (x ∷ xs) apart =
 closed-same : (past : List Event) (a b : ℕ × ℕ) → is_open_entry past (0, a.1) ≡ false → is_at (by_deadline a) b ≡ true → is_open_entry past b ≡ false
 closed-same past a b closed at = let number : b.1 ≡ a.1 = grind (arith, common_steps) in rw number closed
 
-pub keeps-forgotten : (past : List Event) (n t : ℕ) (old new : List (ℕ × ℕ)) → new ≡ remove_key (is_at (by_deadline (n, t))) old → is_open_entry past (0, t) ≡ false → KeepsDeadlines past old → KeepsDeadlines past new
-keeps-forgotten past n t old new is closed kept =
-    rw is (record {
-      same = filter-removed (is_at (by_deadline (n, t))) (is_open_entry past) old (λ x at. closed-same past (n, t) x closed at) ∙ kept.same;
-      below = All-remove_key (is_at (by_deadline (n, t))) (λ (p : ℕ × ℕ). p.1 < length (tickets past)) old kept.below;
+filter-without : (past : List Event) (o : Option ℕ) (t : ℕ) (ds : List (ℕ × ℕ)) → is_open_entry past (0, t) ≡ false → filter (is_open_entry past) (without_deadline ds o t) ≡ filter (is_open_entry past) ds
+filter-without past None t ds closed = refl
+filter-without past (Some n) t ds closed = filter-removed (is_at (by_deadline (n, t))) (is_open_entry past) ds (λ x at. closed-same past (n, t) x closed at)
+
+sorted-without : (o : Option ℕ) (t : ℕ) (ds : List (ℕ × ℕ)) → IsStrictlySortedBy by_deadline ds → IsStrictlySortedBy by_deadline (without_deadline ds o t)
+sorted-without None t ds up = up
+sorted-without (Some n) t ds up = sorted-remove by_deadline by_deadline-total (is_at (by_deadline (n, t))) ds up
+
+All-without : (P : ℕ × ℕ → Type 0) (o : Option ℕ) (t : ℕ) (ds : List (ℕ × ℕ)) → All P ds → All P (without_deadline ds o t)
+All-without P None t ds all = all
+All-without P (Some n) t ds all = All-remove_key (is_at (by_deadline (n, t))) P ds all
+
+-- an event that reaps or discards one ticket, which is finished then, takes its deadline out
+record TakesOut (past : List Event) (event : Event) (t : ℕ) : Type 0 where
+  deadlines : deadlines (event ∷ past) ≡ deadlines past
+  within : t < length (tickets past)
+  closed : is_open_entry (event ∷ past) (0, t) ≡ false
+  spares : (u : ℕ) → u ≢ t → (fate (event ∷ past) u).reaped ≡ (fate past u).reaped
+  others : (u : ℕ) → u ≢ t → is_discard_of u event ≡ false
+
+keeps-taken : (past : List Event) (event : Event) (t : ℕ) (ds : List (ℕ × ℕ)) → TakesOut past event t → KeepsDeadlines past ds → KeepsDeadlines (event ∷ past) (without_deadline ds (deadline_of past t) t)
+keeps-taken past event t ds takes kept =
+    let o = deadline_of past t in
+    let apart = without-apart past t ds kept.ordered kept.each in
+    let all = All-without (IsKeptEntry past) o t ds kept.each in
+    record {
+      same =
+          filter-without (event ∷ past) o t ds takes.closed
+          ∙ rw takes.deadlines (filter-narrow (is_open_entry past) (is_open_entry (event ∷ past)) ds (deadlines past) (λ p closed. closed-stays past (event ∷ past) p (extends-event past event) closed) kept.same);
+      ordered = sorted-without o t ds kept.ordered;
+      each = λ k d within. still (get_or (without_deadline ds o t) k d) (apart k d within) (all k d within);
+      coming = λ u beyond. rw (takes.others u (later u beyond)) (kept.coming u (omega (arith, tickets-longer past event)));
+    }
+  where
+    still : (p : ℕ × ℕ) → p.1 ≢ t → IsKeptEntry past p → IsKeptEntry (event ∷ past) p
+    still p apart entry = entry-stays past event p (takes.spares p.1 apart) (takes.others p.1 apart) entry
+
+    later : (u : ℕ) → length (tickets (event ∷ past)) ≤ u → u ≢ t
+    later u beyond same = omega (arith, takes.within, tickets-longer past event)
+
+-- a reap does
+pub keeps-reaped : (past : List Event) (t : ℕ) (done : Done) (ds : List (ℕ × ℕ)) → reapable past t ≡ Some done → KeepsDeadlines past ds → KeepsDeadlines (Reap t ∷ past) (without_deadline ds (deadline_of past t) t)
+keeps-reaped past t done ds some kept =
+    let there = reapable-parts t past (slice_get (tickets past) t) refl (rw some refl) in
+    keeps-taken past (Reap t) t ds
+    (record {
+      deadlines = refl;
+      within = slice_get_within (tickets past) t there.0 there.1;
+      closed = closed-stays past (Reap t ∷ past) (0, t) (extends-event past (Reap t)) (waits-closed (fate past t) there.2);
+      spares = reap-spares past t;
+      others = λ u apart. refl;
     })
+    kept
+  where
+    waits-closed : (f : Fate) → waits f ≡ true → is_none f.status ≡ false
+    waits-closed f w = grind (arith, common_steps)
 
 -- a ticket that was discarded is finished
 closed-discarded : (past : List Event) (n t : ℕ) → t < length (tickets past) → is_open_entry (after_discard past t) (n, t) ≡ false
 closed-discarded past n t within = grind (arith, common_steps, discard-finishes past t within)
 
--- and is taken out
+unfinished-within : (past : List Event) (t : ℕ) → is_unfinished past t ≡ true → t < length (tickets past)
+unfinished-within past t some = ltb-true t (length (tickets past)) (and_parts (nat_lt t (length (tickets past))) (is_none (fate past t).status) some).0
+
+-- and a discard that acts
+pub keeps-dropped : (past : List Event) (t : ℕ) (ds : List (ℕ × ℕ)) → is_unfinished past t ≡ true → KeepsDeadlines past ds → KeepsDeadlines (after_discard past t) (without_deadline ds (deadline_of past t) t)
+keeps-dropped past t ds some kept =
+    let within = unfinished-within past t some in
+    rw some
+    (keeps-taken past (Discard t) t ds
+    (record {
+      deadlines = refl;
+      within = within;
+      closed = rw some at (closed-discarded past 0 t within);
+      spares = λ u apart. discard-spares past t u;
+      others = λ u apart. ne_eqb u t apart;
+    })
+    kept)
+
+-- one that does not act leaves the deadlines that are kept
+pub keeps-undropped : (past : List Event) (t : ℕ) (ds : List (ℕ × ℕ)) → is_unfinished past t ≡ false → KeepsDeadlines past ds → KeepsDeadlines (after_discard past t) ds
+keeps-undropped past t ds none kept = rw none kept
+
+-- the entry of a ticket that is finished may be taken out too
+keeps-popped : (past : List Event) (x : ℕ × ℕ) (xs : List (ℕ × ℕ)) → is_open_entry past x ≡ false → KeepsDeadlines past (x ∷ xs) → KeepsDeadlines past xs
+unfolding IsStrictlySortedBy
+keeps-popped past x xs closed kept =
+    record {
+      same = sym (ap (λ v. cond v (x ∷ filter (is_open_entry past) xs) (filter (is_open_entry past) xs)) closed) ∙ kept.same;
+      ordered = kept.ordered.1;
+      each = All-tail (IsKeptEntry past) x xs kept.each;
+      coming = kept.coming;
+    }
+
+without-first : (n t : ℕ) (xs : List (ℕ × ℕ)) (o : Option ℕ) → o ≡ Some n → without_deadline ((n, t) ∷ xs) o t ≡ xs
+without-first n t xs o is = rw (is, equal-entries (n, t) (n, t) refl refl) refl
+
+-- a turn takes the first out, and then discards its ticket
 pub keeps-discarded : (past : List Event) (n t : ℕ) (old new : List (ℕ × ℕ)) → old ≡ (n, t) ∷ new → KeepsDeadlines past old → KeepsDeadlines (after_discard past t) new
 keeps-discarded past n t old new is kept =
-    let later : KeepsDeadlines (after_discard past t) old = keeps-discard past t old kept in
-    let first : KeepsDeadlines (after_discard past t) ((n, t) ∷ new) = rw is at later in
-    let within : t < length (tickets past) = All-head (λ (p : ℕ × ℕ). p.1 < length (tickets past)) (n, t) new (rw is at kept.below) in
-    record {
-      same = sym (ap (λ v. cond v ((n, t) ∷ filter (is_open_entry (after_discard past t)) new) (filter (is_open_entry (after_discard past t)) new)) (closed-discarded past n t within)) ∙ first.same;
-      below = All-tail (λ (p : ℕ × ℕ). p.1 < length (tickets (after_discard past t))) (n, t) new first.below;
-    }
+    let first : KeepsDeadlines past ((n, t) ∷ new) = rw is at kept in
+    let entry : IsKeptEntry past (n, t) = All-head (IsKeptEntry past) (n, t) new first.each in
+    let within : t < length (tickets past) = deadline-within past t n entry.deadline in
+    elim (cases_Bool (is_unfinished past t)) [
+      | inl some ↦ subst (KeepsDeadlines (after_discard past t)) (without-first n t new (deadline_of past t) entry.deadline) (keeps-dropped past t ((n, t) ∷ new) some first)
+      | inr none ↦ keeps-undropped past t new none (keeps-popped past (n, t) new (shut within none) first)
+    ]
   where
-    keeps-discard : (past : List Event) (t : ℕ) (ds : List (ℕ × ℕ)) → KeepsDeadlines past ds → KeepsDeadlines (after_discard past t) ds
-    keeps-discard past t ds kept = elim (is_unfinished past t) as (λ v. KeepsDeadlines (cond v (Discard t ∷ past) past) ds) [ true ↦ keeps-event past (Discard t) ds refl kept | false ↦ kept ]
+    shut : t < length (tickets past) → is_unfinished past t ≡ false → is_open_entry past (n, t) ≡ false
+    shut within none = rw (lt-ltb t (length (tickets past)) within) at none
 
 -- where the first deadline is not up, none is
 pub none-up : (clock : ℕ) (first : ℕ × ℕ) (ds : List (ℕ × ℕ)) → clock < first.0 → All (IsLeBy by_deadline first) ds → filter (is_up clock) ds ≡ []

@@ -1,7 +1,7 @@
-use Rattle.std.proofs.Common.{◌≡◌, ℕ, ◌<◌, ◌≤◌, arith, List, ◌∷◌, length, set, Option, Some, None, true, false, refl, ap, sym, ◌∙◌}
+use Rattle.std.proofs.Common.{◌≡◌, ℕ, ◌<◌, ◌≤◌, arith, List, ◌∷◌, length, set, Option, Some, None, true, false, refl, ap, sym, ◌∙◌, inl, inr}
 use Rattle.std.specs.Prelude.{is_none, is_some}
 use Rattle.std.proofs.lemmas.Grind.{common_steps}
-use Rattle.std.proofs.lemmas.Bool.{lt-ltb, le-ltb}
+use Rattle.std.proofs.lemmas.Bool.{cases_Bool, lt-ltb, le-ltb}
 use Rattle.usb_kernel.specs.declared.event.Event.{Event}
 use Rattle.usb_kernel.specs.declared.event.Event.TheVariants.{Discard}
 use Rattle.usb_kernel.specs.declared.slot.TicketRow.{TicketRow}
@@ -18,6 +18,21 @@ after_discard-none past t none = rw none refl
 
 pub after_discard-some : (past : List Event) (t : ℕ) → is_unfinished past t ≡ true → after_discard past t ≡ Discard t ∷ past
 after_discard-some past t some = rw some refl
+
+-- it tells whether the ticket was unfinished
+pub unfinished-none : (past : List Event) (t : ℕ) → after_discard past t ≡ past → is_unfinished past t ≡ false
+unfinished-none past t same =
+    elim (cases_Bool (is_unfinished past t)) [
+      | inr none ↦ none
+      | inl some ↦ absurd (let longer : length (Discard t ∷ past) ≡ length past = ap length (rw some at same) in omega arith)
+    ]
+
+pub unfinished-some : (past : List Event) (t : ℕ) → after_discard past t ≡ Discard t ∷ past → is_unfinished past t ≡ true
+unfinished-some past t more =
+    elim (cases_Bool (is_unfinished past t)) [
+      | inl some ↦ some
+      | inr none ↦ absurd (let longer : length past ≡ length (Discard t ∷ past) = ap length (rw none at more) in omega arith)
+    ]
 
 pub is_unfinished-beyond : (past : List Event) (rows : List TicketRow) (t : ℕ) → Agrees past rows → length rows ≤ t → is_unfinished past t ≡ false
 is_unfinished-beyond past rows t agrees beyond =

@@ -19,16 +19,6 @@ append-none : {X : Type 0} (xs : List X) → xs ++ [] ≡ xs
 append-none [] = refl
 append-none (x ∷ xs) = ap (λ ys. x ∷ ys) (append-none xs)
 
--- one that passes has an entry at the end
-entries-one : {X : Type 0} (p : TicketRow → Bool) (entry : ℕ → TicketRow → X) (k : ℕ) (r : TicketRow) → p r ≡ true → entries_from p entry k (r ∷ []) ≡ entry k r ∷ []
-unfolding entries_from
-entries-one p entry k r passes = rw passes refl
-
-pub entries-add : {X : Type 0} (p : TicketRow → Bool) (entry : ℕ → TicketRow → X) (rows : List TicketRow) (r : TicketRow) → p r ≡ true → entries_from p entry 0 (rows ++ r ∷ []) ≡ entries_from p entry 0 rows ++ entry (length rows) r ∷ []
-entries-add p entry rows r passes =
-    let z : 0 + length rows ≡ length rows = omega arith in
-    entries-append p entry rows 0 r ∙ ap (λ ys. entries_from p entry 0 rows ++ ys) (entries-one p entry (0 + length rows) r passes ∙ ap (λ k. entry k r ∷ []) z)
-
 -- one that fails has none
 entries-no : {X : Type 0} (p : TicketRow → Bool) (entry : ℕ → TicketRow → X) (k : ℕ) (r : TicketRow) → p r ≡ false → entries_from p entry k (r ∷ []) ≡ []
 unfolding entries_from

@@ -1,4 +1,4 @@
--- Lists in order, with one more at its place.
+-- Lists in order, with one more at its place, or with one less.
 use Rattle.std.proofs.Common.{◌≡◌, List, [], ◌∷◌, Bool, true, false, cond, refl, ap, sym, ◌∙◌, inl, inr}
 use Rattle.std.specs.Prelude.{filter}
 use Rattle.std.specs.List.{AllByRecursion}
@@ -8,6 +8,7 @@ use Rattle.std.specs.declared.cmp.Ordering.{Ordering}
 use Rattle.std.specs.declared.cmp.Ordering.TheVariants.{Less, Equal, Greater}
 use Rattle.std.specs.Ordering.{match_ordering, ordering_reverse}
 use Rattle.std.specs.BTreeSet.{insert_key}
+use Rattle.std.specs.Set.{remove_key}
 use Rattle.std.proofs.lemmas.Bool.{cases_Bool}
 
 module _ {K : Type 0} (R : K → K → Ordering) (o : IsTotalOrder R) where
@@ -58,3 +59,14 @@ module _ {K : Type 0} (R : K → K → Ordering) (o : IsTotalOrder R) where
   filter-insert p k [] passes same up = rw passes refl
   filter-insert p k (x ∷ xs) passes same up =
       filter-insert-by p k x xs (R k x) refl passes (same x) up (filter-insert p k xs passes same up.1)
+
+  -- a list in order stays so without one of its elements
+  all-remove : (P : K → Type 0) (p : K → Bool) (xs : List K) → AllByRecursion P xs → AllByRecursion P (remove_key p xs)
+  all-remove P p [] all = tt
+  all-remove P p (x ∷ xs) all = elim (p x) as (λ v. AllByRecursion P (cond v xs (x ∷ remove_key p xs))) [ true ↦ all.1 | false ↦ (all.0, all-remove P p xs all.1) ]
+
+  pub sorted-remove : (p : K → Bool) (xs : List K) → IsStrictlySortedBy R xs → IsStrictlySortedBy R (remove_key p xs)
+  unfolding IsStrictlySortedBy
+  sorted-remove p [] up = tt
+  sorted-remove p (x ∷ xs) up =
+      elim (p x) as (λ v. IsStrictlySortedBy R (cond v xs (x ∷ remove_key p xs))) [ true ↦ up.1 | false ↦ (all-remove (λ y. R x y ≡ Less) p xs up.0, sorted-remove p xs up.1) ]

@@ -1,8 +1,7 @@
 -- What is true of every kernel stays so over an event that submits nothing, and where there is none.
-use Rattle.std.proofs.Common.{◌≡◌, ℕ, ◌+◌, ◌-◌, ◌*◌, ◌<◌, ◌≤◌, arith, List, ◌∷◌, length, reverse, ap, subst, sym, ◌∙◌, refl, true, false, [], ◌++◌, Some, Vec, Global, vec_len, vec_capacity, Fits, w64, ◌^◌}
+use Rattle.std.proofs.Common.{◌≡◌, ℕ, ◌+◌, ◌-◌, ◌*◌, ◌<◌, ◌≤◌, arith, List, ◌∷◌, length, reverse, ap, subst, sym, ◌∙◌, refl, true, false, [], ◌++◌, Vec, Global, vec_len, vec_capacity, Fits, w64, ◌^◌}
 use Rattle.std.specs.List.{All, sum_by}
 use Rattle.std.specs.Prelude.{is_some}
-use Rattle.std.proofs.lemmas.Grind.{common_steps}
 use Rattle.std.proofs.lemmas.List.Elements.{All-push}
 use Rattle.usb_kernel_devices.specs.Devices.{plugged_device}
 use Rattle.usb_kernel_devices.specs.Errnos.{IsErrno}
@@ -10,11 +9,8 @@ use Rattle.usb_kernel_devices.specs.Refusals.{HasArmedErrno}
 use Rattle.usb_kernel_devices.specs.declared.devices.DeviceState.{DeviceState}
 use Rattle.usb_kernel_devices.specs.declared.step.Armed.{Armed}
 use Rattle.usb_kernel_devices.specs.declared.refusals.Refusals.{Refusals}
-use Rattle.usb_kernel.specs.declared.submission.Done.{Done}
 use Rattle.usb_kernel.specs.declared.event.Event.TheVariants.{Unplug}
-use Rattle.usb_kernel.specs.Completions.{reapable}
 use Rattle.usb_kernel.specs.Steps.{after_unplug}
-use Rattle.usb_kernel.specs.Timers.{is_open_entry}
 use Rattle.usb_kernel.specs.declared.event.Event.{Event}
 use Rattle.usb_kernel.specs.declared.kernel.Kernel.TheInside.{Inside}
 use Rattle.usb_kernel.specs.contracts.kernel.Kernel.{the_view}
@@ -124,10 +120,6 @@ after_unplug-some devices past d was = rw (sym was) refl
 
 pub after_unplug-none : (devices : List DeviceState) (past : List Event) (d : ℕ) → false ≡ is_some (plugged_device devices d) → after_unplug devices past d ≡ past
 after_unplug-none devices past d was = rw (sym was) refl
-
--- a ticket that can be reaped is finished
-pub reapable-finished : (past : List Event) (t : ℕ) (done : Done) → reapable past t ≡ Some done → is_open_entry past (0, t) ≡ false
-reapable-finished past t done some = grind (arith, common_steps)
 
 -- a refusal was armed
 pub room-armed : (k : Inside) → IsKept k → 1 ≤ k.spare → 1 ≤ k.armed.room

@@ -12,10 +12,7 @@ use Rattle.usb_kernel.specs.Journal.{fate}
 use Rattle.usb_kernel.specs.Completions.{is_reapable, lowest}
 use Rattle.usb_kernel.specs.Info.{is_unreaped, unreaped}
 use Rattle.usb_kernel.specs.Rows.{row_of, rows_from, Agrees, is_reapable_row, is_unreaped_row}
-use Rattle.usb_kernel.specs.declared.lists.TicketLists.{TicketLists}
-use Rattle.usb_kernel.specs.Unreaped.{AreListed}
 use Rattle.usb_kernel.proofs.TableLemmas.{position-rows}
-use Rattle.usb_kernel.proofs.Unreaped.{length-lists}
 
 is_reapable_row-row_of : (s : Ticket) (f : Fate) → is_reapable_row (row_of s f) ≡ (is_some f.status && not f.reaped)
 is_reapable_row-row_of s f = grind (arith, common_steps)
@@ -35,10 +32,7 @@ count-rows (t ∷ ts) k f =
     let same : is_unreaped_row (row_of t (f k)) ≡ is_unreaped f (k, t) = is_unreaped_row-row_of t (f k) in
     grind (arith, common_steps)
 
-unreaped_count : (past : List Event) (rows : List TicketRow) → Agrees past rows → count_by is_unreaped_row rows ≡ unreaped past
+-- as many rows are not reaped as tickets
+pub unreaped_count : (past : List Event) (rows : List TicketRow) → Agrees past rows → count_by is_unreaped_row rows ≡ unreaped past
 unfolding unreaped
 unreaped_count past rows agrees = rw agrees.table (count-rows (tickets past) 0 (fate past))
-
--- as many tickets are listed
-pub unreaped_length : (past : List Event) (rows : List TicketRow) (lists : TicketLists) → Agrees past rows → AreListed rows lists → length lists.unfinished.items + length lists.finished.items ≡ unreaped past
-unreaped_length past rows lists agrees listed = length-lists rows lists listed agrees.roomy ∙ unreaped_count past rows agrees

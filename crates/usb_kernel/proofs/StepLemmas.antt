@@ -19,6 +19,7 @@ use Rattle.usb_kernel.specs.Fates.{Fate, reap, finish, with_packet, with_ack, re
 use Rattle.usb_kernel.specs.Journal.{fate, oldest, at_ticket}
 use Rattle.usb_kernel.specs.Completions.{buffer_for, done_if, reapable}
 use Rattle.usb_kernel.specs.Steps.{after_packet, after_ack, after_fail, after_reap}
+use Rattle.usb_kernel.specs.Timers.{deadline_of}
 use Rattle.usb_kernel.specs.Info.{info_of, info_for}
 use Rattle.usb_kernel.specs.Rows.{row_info, row_of, Agrees, HasItsBody, IsRoomy, is_open_row, row_with_packet, row_with_ack, owed, row_done}
 use Rattle.usb_kernel.proofs.RowLemmas.{row-with_packet, row-with_ack}
@@ -155,6 +156,10 @@ row_at past rows i r agrees inside read =
     let z : 0 + i ≡ i = omega arith in
     record { ticket = t.0; at = t.1; row = rw z at t.2 }
 
+-- a row has the deadline of its ticket
+pub deadline-row : (past : List Event) (t : ℕ) (r : TicketRow) → RowAt past t r → r.deadline ≡ deadline_of past t
+deadline-row past t r a = rw (a.at, a.row) refl
+
 pub reapable-row : (past : List Event) (t : ℕ) (r : TicketRow) → RowAt past t r → reapable past t ≡ row_done t r
 reapable-row past t r a = rw (a.at, a.row) (sym (row_done-row_of t a.ticket (fate past t)))
 
@@ -181,19 +186,20 @@ Agrees-reap past later rows i r next agrees a finished is so =
     rw so (Agrees-set past (Reap i) rows i a.ticket next reap agrees a.at same (λ none. absurd (some_not_none next.status done none)) refl (λ u. refl))
 
 -- what is known of an open row, whatever the journal
-pub record OpenRow (rows : List TicketRow) (e i : ℕ) (r : TicketRow) : Type 0 where
+pub record OpenRow (rows : List TicketRow) (d e i : ℕ) (r : TicketRow) : Type 0 where
   pub inside : i < length rows
+  pub device : r.device ≡ d
   pub endpoint : r.endpoint ≡ e
   pub unfinished : r.status ≡ None
   pub roomy : IsRoomy r
 
-pub open_row : (rows : List TicketRow) (d e i : ℕ) (r : TicketRow) → All IsRoomy rows → position (is_open_row d e) rows ≡ Some i → r ≡ get_or rows i r → OpenRow rows e i r
+pub open_row : (rows : List TicketRow) (d e i : ℕ) (r : TicketRow) → All IsRoomy rows → position (is_open_row d e) rows ≡ Some i → r ≡ get_or rows i r → OpenRow rows d e i r
 open_row rows d e i r roomy at read =
     let p = position-Some (is_open_row d e) rows i r at in
     let tests : is_open_row d e r ≡ true = rw read p.1 in
     let parts : (r.device == d ≡ true) × ((r.endpoint == e && is_none r.status) ≡ true) = and_parts _ _ tests in
     let more : (r.endpoint == e ≡ true) × (is_none r.status ≡ true) = and_parts _ _ parts.1 in
-    record { inside = p.0; endpoint = eqb-true _ _ more.0; unfinished = grind (arith, common_steps); roomy = rw read (All-get_or IsRoomy rows i r p.0 roomy) }
+    record { inside = p.0; device = eqb-true _ _ parts.0; endpoint = eqb-true _ _ more.0; unfinished = grind (arith, common_steps); roomy = rw read (All-get_or IsRoomy rows i r p.0 roomy) }
 
 -- writing back what was read
 pub set_read : {X : Type 0} (xs : List X) (i : ℕ) (x : X) → x ≡ get_or xs i x → set xs i x ≡ xs

@@ -49,7 +49,7 @@ waiting-reap past t =
     ]))
 
 -- what is reapable is a ticket that waits
-reapable-parts : (t : ℕ) (past : List Event) (o : Option Ticket) → slice_get (tickets past) t ≡ o → IsSome (reapable past t) → (s : Ticket) × (slice_get (tickets past) t ≡ Some s) × (waits (fate past t) ≡ true)
+pub reapable-parts : (t : ℕ) (past : List Event) (o : Option Ticket) → slice_get (tickets past) t ≡ o → IsSome (reapable past t) → (s : Ticket) × (slice_get (tickets past) t ≡ Some s) × (waits (fate past t) ≡ true)
 reapable-parts t past None at some = let no_ : is_some (reapable past t) ≡ false = rw at refl in cc
 reapable-parts t past (Some s) at some = (s, at, done-waits s (fate past t) (rw at at some))
   where
@@ -140,27 +140,53 @@ ack-spares : (past : List Event) (d e : ℕ) (u : ℕ) → (fate (Ack d e ∷ pa
 ack-spares past d e u =
     at_oldest-keeps (λ g. g.reaped ≡ (fate past u).reaped) (oldest past d e) with_ack (tickets past) (fate past) u refl (λ is r here. ack-reaped r (fate past u))
 
+echo-spares : (past : List Event) (d o i u : ℕ) → (fate (Echo d o i ∷ past) u).reaped ≡ (fate past u).reaped
+echo-spares past d o i u =
+    echo-cases (λ g. g.reaped ≡ (fate past u).reaped) past d o i u (oldest past d o) (oldest past d i) refl
+    (λ b. packet-spares (Ack d o ∷ past) d i b u ∙ ack-spares past d o u)
+
+fail-spares : (past : List Event) (d e errno u : ℕ) → (fate (Fail d e errno ∷ past) u).reaped ≡ (fate past u).reaped
+fail-spares past d e errno u =
+    at_oldest-keeps (λ g. g.reaped ≡ (fate past u).reaped) (oldest past d e) (λ s. finish errno) (tickets past) (fate past) u refl (λ is r here. finish-reaped errno (fate past u))
+
+pub discard-spares : (past : List Event) (t u : ℕ) → (fate (Discard t ∷ past) u).reaped ≡ (fate past u).reaped
+discard-spares past t u =
+    at_ticket-keeps (λ g. g.reaped ≡ (fate past u).reaped) t (λ s. finish 2) (tickets past) (fate past) u refl (λ r here. finish-reaped 2 (fate past u))
+
+unplug-spares : (past : List Event) (d u : ℕ) → (fate (Unplug d ∷ past) u).reaped ≡ (fate past u).reaped
+unplug-spares past d u =
+    change-keeps (λ g. g.reaped ≡ (fate past u).reaped) (unplug d) (slice_get (tickets past) u) (fate past u) refl
+    (λ r here. elim (r.device == d) as (λ v. (cond v (finish 108 (fate past u)) (fate past u)).reaped ≡ (fate past u).reaped) [ true ↦ finish-reaped 108 (fate past u) | false ↦ refl ])
+
+-- a reap is of its own ticket
+pub reap-spares : (past : List Event) (t u : ℕ) → u ≢ t → (fate (Reap t ∷ past) u).reaped ≡ (fate past u).reaped
+reap-spares past t u apart = rw (ne_eqb t u (λ same. apart (sym same))) refl
+
+-- and no other event reaps a ticket that was there
+pub event-spares : (past : List Event) (event : Event) (u : ℕ) → u < length (tickets past) → reaps event ≡ false → (fate (event ∷ past) u).reaped ≡ (fate past u).reaped
+event-spares past (Submit t d e m body room deadline) u within other = refl
+event-spares past (Refuse t d e m body room errno) u within other =
+    let apart : length (tickets past) ≢ u = λ same. omega arith in
+    rw (ne_eqb (length (tickets past)) u apart) refl
+event-spares past (Packet d e b) u within other = packet-spares past d e b u
+event-spares past (Ack d e) u within other = ack-spares past d e u
+event-spares past (Echo d o i) u within other = echo-spares past d o i u
+event-spares past (Fail d e errno) u within other = fail-spares past d e errno u
+event-spares past (Discard t) u within other = discard-spares past t u
+event-spares past (Reap t) u within other = cc
+event-spares past (Unplug d) u within other = unplug-spares past d u
+
 -- every event but a reap adds to them, or leaves them
 pub waiting-more : (past : List Event) (event : Event) → reaps event ≡ false → length (waiting past) ≤ length (waiting (event ∷ past))
 waiting-more past (Submit t d e m body room deadline) other = rw (waiting-submit past t d e m body room deadline) (omega arith)
 waiting-more past (Refuse t d e m body room errno) other = rw (waiting-refuse past t d e m body room errno) (omega arith)
 waiting-more past (Packet d e b) other = waiting-spared past (Packet d e b) refl (packet-spares past d e b)
 waiting-more past (Ack d e) other = waiting-spared past (Ack d e) refl (ack-spares past d e)
-waiting-more past (Echo d o i) other =
-    waiting-spared past (Echo d o i) refl
-    (λ u. echo-cases (λ g. g.reaped ≡ (fate past u).reaped) past d o i u (oldest past d o) (oldest past d i) refl
-    (λ b. packet-spares (Ack d o ∷ past) d i b u ∙ ack-spares past d o u))
-waiting-more past (Fail d e errno) other =
-    waiting-spared past (Fail d e errno) refl
-    (λ u. at_oldest-keeps (λ g. g.reaped ≡ (fate past u).reaped) (oldest past d e) (λ s. finish errno) (tickets past) (fate past) u refl (λ is r here. finish-reaped errno (fate past u)))
-waiting-more past (Discard t) other =
-    waiting-spared past (Discard t) refl
-    (λ u. at_ticket-keeps (λ g. g.reaped ≡ (fate past u).reaped) t (λ s. finish 2) (tickets past) (fate past) u refl (λ r here. finish-reaped 2 (fate past u)))
+waiting-more past (Echo d o i) other = waiting-spared past (Echo d o i) refl (echo-spares past d o i)
+waiting-more past (Fail d e errno) other = waiting-spared past (Fail d e errno) refl (fail-spares past d e errno)
+waiting-more past (Discard t) other = waiting-spared past (Discard t) refl (discard-spares past t)
 waiting-more past (Reap t) other = cc
-waiting-more past (Unplug d) other =
-    waiting-spared past (Unplug d) refl
-    (λ u. change-keeps (λ g. g.reaped ≡ (fate past u).reaped) (unplug d) (slice_get (tickets past) u) (fate past u) refl
-    (λ r here. elim (r.device == d) as (λ v. (cond v (finish 108 (fate past u)) (fate past u)).reaped ≡ (fate past u).reaped) [ true ↦ finish-reaped 108 (fate past u) | false ↦ refl ]))
+waiting-more past (Unplug d) other = waiting-spared past (Unplug d) refl (unplug-spares past d)
 
 -- a discard finishes
 pub discard-finishes : (past : List Event) (t : ℕ) → t < length (tickets past) → IsSome (fate (after_discard past t) t).status

@@ -8,6 +8,7 @@ pub mod Submits
 pub mod Value
 pub mod Discards
 pub mod Timers
+pub mod Pending
 pub mod Calls
 pub mod DeviceCalls
 pub mod Steps
@@ -17,6 +18,12 @@ pub mod Info
 pub mod Rows
 pub mod Passing
 pub mod Unreaped
+pub mod Links
+pub mod Lends
+pub mod Chains
+pub mod Queues
+pub mod Listed
+pub mod Looks
 pub mod TableState
 pub mod TableFacts
 pub mod KernelFacts

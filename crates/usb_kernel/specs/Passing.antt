@@ -1,12 +1,15 @@
 -- A packet that passes from the row of an OUT ticket to that of an IN ticket.
-use Rattle.std.specs.Prelude.{ℕ, ◌+◌, ◌-◌, ◌<◌, ◌≤◌, ◌≡◌, List, [], Option, Some, None, length, min, take, drop, set, slice_get}
+use Rattle.std.specs.Prelude.{ℕ, ◌+◌, ◌-◌, ◌<◌, ◌≤◌, ◌≡◌, List, [], Option, Some, None, length, min, take, drop, set, slice_get, position}
 use Rattle.usb_xfer.specs.BufferState.{BufferState}
 use Rattle.usb_kernel.specs.declared.slot.TicketRow.{TicketRow}
-use Rattle.usb_kernel.specs.Rows.{IsRoomy, row_with_ack, row_with_packet}
+use Rattle.usb_kernel.specs.Rows.{IsRoomy, is_open_row, row_with_ack, row_with_packet}
 
--- there is such a row at a place
-abbrev pub StandsAt : List TicketRow → ℕ → (TicketRow → Type 0) → Type 0
-StandsAt rows at P = (r : TicketRow) × ((slice_get rows at ≡ Some r) × P r)
+-- the row there is the oldest open one of its endpoint
+pub record StandsFirst (rows : List TicketRow) (at : ℕ) (P : TicketRow → Type 0) : Type 0 where
+  pub row : TicketRow
+  pub here : slice_get rows at ≡ Some row
+  pub is : P row
+  pub first : position (is_open_row row.device row.endpoint) rows ≡ Some at
 
 -- an open row of an OUT endpoint
 abbrev pub IsOpenOut : TicketRow → Type 0

@@ -1,13 +1,19 @@
 -- Deadlines, and the turn of the timer.
-use Rattle.std.specs.Prelude.{ℕ, Bool, List, [], ◌∷◌, length, map, filter, Option, Some, None, is_none, nat_le}
+use Rattle.std.specs.Prelude.{ℕ, Bool, List, [], ◌∷◌, length, map, filter, Option, Some, None, is_none, nat_le, slice_get, option_and_then}
 use Rattle.std.specs.declared.cmp.Ordering.{Ordering}
 use Rattle.std.specs.Ordering.{nat_cmp, ordering_then}
+use Rattle.std.specs.BTreeMap.{is_at}
 use Rattle.std.specs.BTreeSet.{insert_key}
+use Rattle.std.specs.Set.{remove_key}
 use Rattle.usb_kernel.specs.declared.event.Event.{Event}
 use Rattle.usb_kernel.specs.declared.event.Event.TheVariants.{Submit}
 use Rattle.usb_kernel.specs.Tickets.{tickets}
 use Rattle.usb_kernel.specs.Journal.{fate}
 use Rattle.usb_kernel.specs.Discards.{after_discard}
+
+-- the deadline of ticket t, if there is such a ticket and it has one
+abbrev pub deadline_of : List Event → ℕ → Option ℕ
+deadline_of past t = option_and_then (λ s. s.deadline) (slice_get (tickets past) t)
 
 -- a deadline and its ticket: the earlier deadline comes first, and of two tickets with one deadline the lower number
 abbrev pub by_deadline : ℕ × ℕ → ℕ × ℕ → Ordering
@@ -17,6 +23,11 @@ by_deadline a b = ordering_then (nat_cmp a.0 b.0) (nat_cmp a.1 b.1)
 abbrev pub with_deadline : List (ℕ × ℕ) → Option ℕ → ℕ → List (ℕ × ℕ)
 with_deadline ds None t = ds
 with_deadline ds (Some n) t = insert_key by_deadline ds (n, t)
+
+-- these without that of a ticket with this deadline, if it has one
+abbrev pub without_deadline : List (ℕ × ℕ) → Option ℕ → ℕ → List (ℕ × ℕ)
+without_deadline ds None t = ds
+without_deadline ds (Some n) t = remove_key (is_at (by_deadline (n, t))) ds
 
 -- the deadlines of all tickets that were submitted with one, in this order. A refused ticket has none
 abbrev pub deadlines : List Event → List (ℕ × ℕ)

@@ -12,6 +12,9 @@ ghost use Rattle.usb_kernel.specs.contracts.kernel.Kernel.{the_row};
 
 use crate::errno;
 use crate::kernel::Kernel;
+use crate::once::unplug_with;
+use std::marker::Brand;
+use std::sync::ledger::Blank;
 use usb_kernel_devices::{DeviceCall, KernelCall, answer, number_at, plugged, release_interface};
 
 impl Kernel {
@@ -156,7 +159,7 @@ impl Kernel {
         if let Some(errno) = self.refusal(device, KernelCall::Reset) {
             return Err(errno);
         }
-        self.unplug(device);
+        unplug_with::<Brand>(self, device, Blank::new(1));
         Ok(())
     }
 

@@ -1,26 +1,48 @@
 //! A packet that goes from one row of the table to another.
 
-ghost use Rattle.std.specs.Prelude.{◌≡◌};
-ghost use Rattle.usb_kernel.specs.Passing.{StandsAt, IsOpenOut, IsOpenIn, passed};
+ghost use Rattle.std.specs.Prelude.{◌≡◌, ◌+◌, ◌≤◌, vec_capacity};
+ghost use Rattle.std.specs.List.{sum_by};
+ghost use Rattle.usb_kernel.specs.Rows.{owed};
+ghost use Rattle.usb_kernel.specs.Listed.{AreListed, rows_of};
+ghost use Rattle.usb_kernel.specs.Passing.{StandsFirst, IsOpenOut, IsOpenIn, passed};
 
-use crate::slot::TicketRow;
+use crate::lists::TicketLists;
+use crate::looks::Steps;
+use crate::tickets::Tickets;
+use std::sync::ledger::Ledger;
 
-/// Acknowledges the next packet of an open OUT row, and gives it to an open IN row. The bytes are
-/// copied once, from the one buffer to the other.
-pub(crate) fn pass_packet(rows: &mut Vec<TicketRow>, from: usize, to: usize)
-    requires sends { StandsAt rows.old.items from IsOpenOut }
-    requires takes { StandsAt rows.old.items to IsOpenIn }
-    ensures rows { rows.new.items ≡ passed rows.old.items from to }
+/// Acknowledges the next packet of the oldest OUT ticket of an endpoint, and gives it to the oldest
+/// IN ticket of another. The bytes are copied once, from the one buffer to the other. It answers how
+/// many places in the journal that freed.
+pub(crate) fn pass_packet<L: Ledger>(
+    tickets: &mut Tickets,
+    lists: &mut TicketLists,
+    from: usize,
+    to: usize,
+    steps: &mut Steps<L>,
+) -> usize
+    requires listed { AreListed tickets.old.records.items lists.old }
+    requires sends { StandsFirst (rows_of tickets.old.records.items) from IsOpenOut }
+    requires takes { StandsFirst (rows_of tickets.old.records.items) to IsOpenIn }
+    ensures rows { rows_of tickets.new.records.items
+        ≡ passed (rows_of tickets.old.records.items) from to }
+    ensures listed { AreListed tickets.new.records.items lists.new }
+    ensures places { sum_by owed (rows_of tickets.new.records.items) + result
+        ≡ sum_by owed (rows_of tickets.old.records.items) }
+    ensures looks { steps.new ≤ steps.old + 3 }
 {
-    let row = &mut rows[from];
-    let start = row.count;
-    row.take_ack();
-    let end = row.count;
-    let Some(sent) = row.buffer.take() else {
-        return;
+    let sender = tickets.at_mut(from, steps);
+    let start = sender.row.count;
+    sender.row.take_ack();
+    let freed = lists.follow(from, sender);
+    let end = sender.row.count;
+    let Some(sent) = sender.row.buffer.take() else {
+        return freed;
     };
-    let taker = &mut rows[to];
-    taker.take_packet(&sent.as_slice()[start..end]);
-    let row = &mut rows[from];
-    row.buffer = Some(sent);
+    let taker = tickets.at_mut(to, steps);
+    taker.row.take_packet(&sent.as_slice()[start..end]);
+    let more = lists.follow(to, taker);
+    let sender = tickets.at_mut(from, steps);
+    sender.row.buffer = Some(sent);
+    freed + more
 }

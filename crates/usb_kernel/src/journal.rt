@@ -2,7 +2,7 @@
 
 ghost use Rattle.std.specs.Prelude.{◌≡◌, ℕ, ◌+◌, ◌<◌, ◌≤◌, ◌∷◌, List, reverse, false, vec_len, vec_capacity};
 ghost use Rattle.usb_kernel.specs.Legal.{IsLegal, IsLawful};
-ghost use Rattle.usb_kernel.specs.Deadlines.{KeepsDeadlines, submits};
+ghost use Rattle.usb_kernel.specs.Deadlines.{KeepsDeadlines, moves_deadline};
 
 use crate::event::Event;
 
@@ -16,14 +16,14 @@ fn push_event(journal: &mut Vec<Event>, event: Event)
     let _ = journal.push(event);
 }
 
-/// The same. A lawful journal stays lawful, and the deadlines that are kept stay so unless it
-/// submits.
+/// The same. A lawful journal stays lawful, and the deadlines that are kept stay so unless one of
+/// them comes or goes with the event.
 pub(crate) fn put(journal: &mut Vec<Event>, event: Event)
     requires room { vec_len journal.old < vec_capacity journal.old }
     ensures items { reverse journal.new.items ≡ event ∷ reverse journal.old.items }
     ensures lawful { IsLegal event → IsLawful (reverse journal.old.items)
         → IsLawful (reverse journal.new.items) }
-    ensures timed { (ds : List (ℕ × ℕ)) → submits event ≡ false
+    ensures timed { (ds : List (ℕ × ℕ)) → moves_deadline event ≡ false
         → KeepsDeadlines (reverse journal.old.items) ds
         → KeepsDeadlines (reverse journal.new.items) ds }
     ensures len { vec_len journal.new ≡ vec_len journal.old + 1 }

@@ -9,11 +9,13 @@ ghost use Rattle.usb_kernel_devices.specs.Devices.{fresh_device};
 ghost use Rattle.usb_kernel.specs.Info.{info_of, unreaped};
 
 use crate::event::Event;
+use crate::once::info_with;
 use crate::submission::TicketInfo;
 use crate::table::TicketTable;
 use std::alloc::Global;
 use std::collections::BTreeSet;
-use std::marker::Model;
+use std::marker::{Brand, Model};
+use std::sync::ledger::Blank;
 use usb_desc::NoMemory;
 use usb_kernel_devices::{DeviceState, Refusals, SimDevice, fresh_devices};
 
@@ -103,7 +105,7 @@ impl Kernel {
         requires below { ticket < length (tickets self.now.past) }
         ensures info { info_of self.now.past ticket ≡ Some result }
     {
-        self.tickets.info_at(ticket)
+        info_with::<Brand>(&self.tickets, ticket, Blank::new(1))
     }
 
     /// The least number of a ticket that is finished and not reaped.

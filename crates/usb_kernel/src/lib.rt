@@ -2,6 +2,7 @@
 //! them.
 #![tactic(auto)]
 
+mod chains;
 mod completion;
 mod devices;
 mod echo;
@@ -10,10 +11,15 @@ mod journal;
 mod kernel;
 mod laws;
 mod lists;
+mod looks;
+mod once;
+mod queues;
+mod record;
 mod slot;
 mod steps;
 mod submission;
 mod table;
+mod tickets;
 mod timer;
 mod transfers;
 
@@ -27,6 +33,7 @@ pub use laws::{
     later_are_untouched, oldest_is_served, reaped_is_final, refusals_come_first,
     resets_are_unplugs, submissions_open_tickets, tickets_are_closed, waiting_tickets_are_counted,
 };
+pub use looks::Steps;
 pub use submission::{Done, Submission, Submitted, TicketInfo};
 pub use usb_desc::errno;
 pub use usb_kernel_devices::{

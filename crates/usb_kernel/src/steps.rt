@@ -1,23 +1,29 @@
 //! Steps: what comes to a kernel from its devices, from time and from a reaping.
 
-ghost use Rattle.std.specs.Prelude.{◌≡◌, ◌+◌, ◌<◌, ◌≤◌, ◌++◌, ◌∷◌, [], max, Some};
+ghost use Rattle.std.specs.Prelude.{◌≡◌, ◌+◌, ◌*◌, ◌<◌, ◌≤◌, ◌++◌, ◌∷◌, [], max, Some};
 ghost use Rattle.usb_kernel.specs.Tickets.{tickets};
 ghost use Rattle.usb_kernel_devices.specs.Errnos.{IsErrno};
 ghost use Rattle.usb_kernel.specs.declared.event.Event.{Event};
 ghost use Rattle.usb_kernel_devices.specs.Devices.{devices_unplugged};
 ghost use Rattle.usb_kernel.specs.Steps.{after_packet, after_ack, after_echo, after_fail, after_unplug, reaped_by, after_reap_of, reapable_of, stepped, step_done, devices_stepped, clock_stepped, armed_stepped, HasErrno};
 ghost use Rattle.usb_kernel.specs.Timers.{timer_turned};
+ghost use Rattle.usb_kernel.specs.Info.{unreaped};
+ghost use Rattle.usb_kernel.specs.Pending.{pending_count};
+ghost use Rattle.usb_kernel.specs.Looks.{looks};
 
 use crate::errno;
 use crate::event::Event;
 use crate::journal::put;
 use crate::kernel::Kernel;
+use crate::looks::Steps;
 use crate::submission::Done;
+use std::sync::ledger::Ledger;
 use usb_kernel_devices::{Armed, Bytes, KernelStep, unplug_device};
 
 impl Kernel {
     /// Applies a step, which uses one place of `spare` whether it acts or not. It takes no memory.
-    pub fn step(&mut self, step: KernelStep) -> Option<Done>
+    /// The count of look-ups at records of tickets rises by at most `looks`.
+    pub fn step<L: Ledger>(&mut self, step: KernelStep, steps: &mut Steps<L>) -> Option<Done>
         requires spare { 1 ≤ self.old.spare }
         requires errno { HasErrno step }
         ensures past { self.new.past ≡ stepped self.old.devices self.old.clock self.old.past step }
@@ -26,28 +32,29 @@ impl Kernel {
         ensures clock { self.new.clock ≡ clock_stepped self.old.clock step }
         ensures armed { self.new.armed ≡ armed_stepped self.old.armed step }
         ensures spare { self.new.spare + 1 ≡ self.old.spare }
+        ensures looks { steps.new ≤ steps.old + looks self.old step }
     {
         match step {
             KernelStep::Packet {
                 device,
                 endpoint,
                 bytes,
-            } => self.packet(device, endpoint, bytes),
-            KernelStep::Ack { device, endpoint } => self.ack(device, endpoint),
+            } => self.packet(device, endpoint, bytes, steps),
+            KernelStep::Ack { device, endpoint } => self.ack(device, endpoint, steps),
             KernelStep::Echo {
                 device,
                 output,
                 input,
-            } => self.echo(device, output, input),
+            } => self.echo(device, output, input, steps),
             KernelStep::Fail {
                 device,
                 endpoint,
                 errno,
-            } => self.fail(device, endpoint, errno),
-            KernelStep::Unplug { device } => self.unplug(device),
+            } => self.fail(device, endpoint, errno, steps),
+            KernelStep::Unplug { device } => self.unplug(device, steps),
             KernelStep::Clock { to } => self.clock(to),
-            KernelStep::Timer => self.timer(),
-            KernelStep::Reap { ticket } => return self.reap_step(ticket),
+            KernelStep::Timer => self.timer(steps),
+            KernelStep::Reap { ticket } => return self.reap_step(ticket, steps),
             KernelStep::Refuse {
                 device,
                 call,
@@ -62,14 +69,18 @@ impl Kernel {
     }
 
     /// A packet comes to an endpoint: it goes to the oldest IN ticket.
-    fn packet(&mut self, device: u8, endpoint: u8, bytes: Bytes)
+    fn packet<L: Ledger>(&mut self, device: u8, endpoint: u8, bytes: Bytes, steps: &mut Steps<L>)
         requires spare { 1 ≤ self.old.spare }
         ensures past { self.new.past ≡ after_packet self.old.past device endpoint bytes }
         ensures spare { self.new.spare + 1 ≡ self.old.spare }
         ensures rest { self.new ≡ record self.old { past = self.new.past; spare = self.new.spare } }
+        ensures looks { steps.new ≤ steps.old + 2 }
     {
         self.spare -= 1;
-        if let Some(freed) = self.tickets.give_packet(device, endpoint, bytes.as_slice()) {
+        if let Some(freed) = self
+            .tickets
+            .give_packet(device, endpoint, bytes.as_slice(), steps)
+        {
             self.owed -= freed;
             put(
                 &mut self.journal,
@@ -83,14 +94,15 @@ impl Kernel {
     }
 
     /// An endpoint acknowledges a packet of its oldest OUT ticket.
-    fn ack(&mut self, device: u8, endpoint: u8)
+    fn ack<L: Ledger>(&mut self, device: u8, endpoint: u8, steps: &mut Steps<L>)
         requires spare { 1 ≤ self.old.spare }
         ensures past { self.new.past ≡ after_ack self.old.past device endpoint }
         ensures spare { self.new.spare + 1 ≡ self.old.spare }
         ensures rest { self.new ≡ record self.old { past = self.new.past; spare = self.new.spare } }
+        ensures looks { steps.new ≤ steps.old + 2 }
     {
         self.spare -= 1;
-        if let Some(freed) = self.tickets.give_ack(device, endpoint) {
+        if let Some(freed) = self.tickets.give_ack(device, endpoint, steps) {
             self.owed -= freed;
             put(&mut self.journal, Event::Ack { device, endpoint });
         }
@@ -98,14 +110,15 @@ impl Kernel {
 
     /// An endpoint acknowledges a packet of its oldest OUT ticket, which goes to the oldest IN
     /// ticket of another.
-    fn echo(&mut self, device: u8, output: u8, input: u8)
+    fn echo<L: Ledger>(&mut self, device: u8, output: u8, input: u8, steps: &mut Steps<L>)
         requires spare { 1 ≤ self.old.spare }
         ensures past { self.new.past ≡ after_echo self.old.past device output input }
         ensures spare { self.new.spare + 1 ≡ self.old.spare }
         ensures rest { self.new ≡ record self.old { past = self.new.past; spare = self.new.spare } }
+        ensures looks { steps.new ≤ steps.old + 4 }
     {
         self.spare -= 1;
-        if let Some(freed) = self.tickets.give_echo(device, output, input) {
+        if let Some(freed) = self.tickets.give_echo(device, output, input, steps) {
             self.owed -= freed;
             put(
                 &mut self.journal,
@@ -119,15 +132,16 @@ impl Kernel {
     }
 
     /// The oldest ticket of an endpoint fails.
-    fn fail(&mut self, device: u8, endpoint: u8, errno: u16)
+    fn fail<L: Ledger>(&mut self, device: u8, endpoint: u8, errno: u16, steps: &mut Steps<L>)
         requires spare { 1 ≤ self.old.spare }
         requires errno { IsErrno errno }
         ensures past { self.new.past ≡ after_fail self.old.past device endpoint errno }
         ensures spare { self.new.spare + 1 ≡ self.old.spare }
         ensures rest { self.new ≡ record self.old { past = self.new.past; spare = self.new.spare } }
+        ensures looks { steps.new ≤ steps.old + 2 }
     {
         self.spare -= 1;
-        if self.tickets.fail_oldest(device, endpoint, errno) {
+        if self.tickets.fail_oldest(device, endpoint, errno, steps) {
             self.owed -= 1;
             put(
                 &mut self.journal,
@@ -141,17 +155,18 @@ impl Kernel {
     }
 
     /// A plugged device is gone, and its tickets are finished.
-    pub(crate) fn unplug(&mut self, device: u8)
+    pub(crate) fn unplug<L: Ledger>(&mut self, device: u8, steps: &mut Steps<L>)
         requires spare { 1 ≤ self.old.spare }
         ensures past { self.new.past ≡ after_unplug self.old.devices self.old.past device }
         ensures devices { self.new.devices ≡ devices_unplugged self.old.devices device }
         ensures spare { self.new.spare + 1 ≡ self.old.spare }
         ensures rest { self.new ≡ record self.old
             { past = self.new.past; devices = self.new.devices; spare = self.new.spare } }
+        ensures looks { steps.new ≤ steps.old + 3 * unreaped self.old.past }
     {
         self.spare -= 1;
         if unplug_device(&mut self.devices, device) {
-            self.owed -= self.tickets.unplug_tickets(device);
+            self.owed -= self.tickets.unplug_tickets(device, steps);
             put(&mut self.journal, Event::Unplug { device });
         }
     }
@@ -169,14 +184,15 @@ impl Kernel {
     }
 
     /// The timer has its turn.
-    fn timer(&mut self)
+    fn timer<L: Ledger>(&mut self, steps: &mut Steps<L>)
         requires spare { 1 ≤ self.old.spare }
         ensures past { self.new.past ≡ timer_turned self.old.clock self.old.past }
         ensures spare { self.new.spare + 1 ≡ self.old.spare }
         ensures rest { self.new ≡ record self.old { past = self.new.past; spare = self.new.spare } }
+        ensures looks { steps.new ≤ steps.old + 3 * pending_count self.old.clock self.old.past }
     {
         self.spare -= 1;
-        self.timer_turn();
+        self.turn_timer(steps);
     }
 
     /// Arms a refusal.
@@ -205,16 +221,17 @@ impl Kernel {
     }
 
     /// The step that reaps.
-    fn reap_step(&mut self, ticket: Option<u64>) -> Option<Done>
+    fn reap_step<L: Ledger>(&mut self, ticket: Option<u64>, steps: &mut Steps<L>) -> Option<Done>
         requires spare { 1 ≤ self.old.spare }
         ensures past { self.new.past
             ≡ after_reap_of self.old.past (reaped_by self.old.past ticket) }
         ensures done { result ≡ reapable_of self.old.past (reaped_by self.old.past ticket) }
         ensures spare { self.new.spare + 1 ≡ self.old.spare }
         ensures rest { self.new ≡ record self.old { past = self.new.past; spare = self.new.spare } }
+        ensures looks { steps.new ≤ steps.old + 3 }
     {
         self.spare -= 1;
         let ticket = self.ticket_to_reap(ticket)?;
-        self.reap(ticket)
+        self.reap_ticket(ticket, steps)
     }
 }

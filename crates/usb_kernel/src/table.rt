@@ -1,32 +1,38 @@
-//! The table of tickets, one row for each. Each change of it is one event of the journal that the
-//! table agrees with.
+//! The table of tickets, one row for each, and how many records each of its functions reaches. Each
+//! change of it is one event of the journal that the table agrees with.
 
-ghost use Rattle.std.specs.Prelude.{◌≡◌, ◌+◌, ◌<◌, ◌≤◌, ◌++◌, ◌∷◌, [], length, map, List, position, vec_len, vec_capacity, is_some, unwrap_or, set, slice_get, Some, OnOk, if◌then◌else◌};
-ghost use Rattle.std.specs.List.{All, sum_by};
-ghost use Rattle.std.specs.Option.{option_and_then};
+ghost use Rattle.std.specs.Prelude.{◌≡◌, ◌+◌, ◌*◌, ◌<◌, ◌≤◌, ◌∷◌, [], length, List, position, vec_capacity, is_some, true, unwrap_or, set, slice_get, Some, IfSome, OnOk, if◌then◌else◌};
+ghost use Rattle.std.specs.List.{All, sum_by, count_by};
+ghost use Rattle.std.specs.Option.{option_map};
 ghost use Rattle.usb_kernel.specs.declared.event.Event.{Event};
 ghost use Rattle.usb_kernel.specs.declared.slot.TicketRow.{TicketRow};
 ghost use Rattle.usb_kernel.specs.Tickets.{tickets};
 ghost use Rattle.usb_kernel.specs.Submissions.{submit_event, refuse_event, IsWhole};
 ghost use Rattle.usb_kernel.specs.Completions.{reapable, refused_done};
 ghost use Rattle.usb_kernel.specs.Steps.{after_packet, after_ack, after_echo, after_fail, after_reap, after_discard};
+ghost use Rattle.usb_kernel.specs.Timers.{deadline_of};
 ghost use Rattle.usb_kernel.specs.Info.{info_of, unreaped};
-ghost use Rattle.usb_kernel.specs.Rows.{IsRoomy, is_reapable_row, row_unplugged, owed, Agrees};
-ghost use Rattle.usb_kernel.specs.Unreaped.{AreListed};
+ghost use Rattle.usb_kernel.specs.declared.record.Record.{Record};
+ghost use Rattle.usb_kernel.specs.Rows.{IsRoomy, is_reapable_row, is_unreaped_row, row_unplugged, owed, Agrees};
+ghost use Rattle.usb_kernel.specs.TableState.{has_entry};
+ghost use Rattle.usb_kernel.specs.Listed.{AreListed, rows_of};
 
 use crate::echo::pass_packet;
 use crate::errno;
-use crate::lists::{OpenTicket, TicketLists};
+use crate::lists::TicketLists;
+use crate::looks::Steps;
 use crate::slot::TicketRow;
 use crate::submission::{Done, Submission, TicketInfo};
+use crate::tickets::Tickets;
 use std::alloc::Global;
 use std::marker::Model;
+use std::sync::ledger::Ledger;
 use usb_desc::NoMemory;
 
-/// The rows of the tickets, and the lists of those that are not reaped.
+/// The records of the tickets, and the lists of those that are not reaped.
 #[derive(Drop)]
 pub(crate) struct TicketTable {
-    rows: Vec<TicketRow>,
+    tickets: Tickets,
     lists: TicketLists,
 }
 
@@ -42,50 +48,48 @@ impl Model for TicketTable {
     ghost invariant = { IsTable };
 }
 
-/// Appends a row for which there is room.
-fn push_slot(rows: &mut Vec<TicketRow>, slot: TicketRow)
-    requires room { vec_len rows.old < vec_capacity rows.old }
-    ensures rows { rows.new.items ≡ rows.old.items ++ slot ∷ [] }
-{
-    let _ = rows.push(slot);
+/// What became of a ticket when a device went: the ticket behind it among those that are not reaped,
+/// and how many places that freed.
+#[derive(Clone, Copy)]
+pub(crate) struct Passed {
+    pub(crate) next: Option<usize>,
+    pub(crate) freed: usize,
 }
 
-/// A device is gone: where the ticket of this row is an open one of its own, it is finished. It
-/// answers how many places that freed.
-fn unplug_row(rows: &mut Vec<TicketRow>, lists: &mut TicketLists, at: usize, device: u8) -> usize
-    requires inside { at < length rows.old.items }
-    requires roomy { All IsRoomy rows.old.items }
-    requires listed { AreListed rows.old.items lists.old }
-    ensures rows { (row : TicketRow) → slice_get rows.old.items at ≡ Some row
-        → rows.new.items ≡ set rows.old.items at (row_unplugged device row) }
-    ensures len { vec_len rows.new ≡ vec_len rows.old }
-    ensures places { sum_by owed rows.new.items + result ≡ sum_by owed rows.old.items }
-    ensures few { result ≤ 1 }
-    ensures roomy { All IsRoomy rows.new.items }
-    ensures listed { AreListed rows.new.items lists.new }
+/// A device is gone: where this ticket is an open one of its own, it is finished.
+fn unplug_ticket<L: Ledger>(
+    tickets: &mut Tickets,
+    lists: &mut TicketLists,
+    at: usize,
+    device: u8,
+    steps: &mut Steps<L>,
+) -> Passed
+    requires inside { at < length tickets.old.records.items }
+    requires roomy { All IsRoomy (rows_of tickets.old.records.items) }
+    requires listed { AreListed tickets.old.records.items lists.old }
+    ensures next { (r : Record) → slice_get tickets.old.records.items at ≡ Some r
+        → result.next ≡ r.unreaped.after }
+    ensures rows { (r : Record) → slice_get tickets.old.records.items at ≡ Some r
+        → rows_of tickets.new.records.items
+        ≡ set (rows_of tickets.old.records.items) at (row_unplugged device r.row) }
+    ensures places { sum_by owed (rows_of tickets.new.records.items) + result.freed
+        ≡ sum_by owed (rows_of tickets.old.records.items) }
+    ensures few { result.freed ≤ 1 }
+    ensures roomy { All IsRoomy (rows_of tickets.new.records.items) }
+    ensures listed { AreListed tickets.new.records.items lists.new }
+    ensures capacity { vec_capacity tickets.new.records ≡ vec_capacity tickets.old.records }
+    ensures looks { steps.new ≤ steps.old + 3 }
 {
-    let row = &mut rows[at];
-    if row.device != device || row.status.is_some() {
-        return 0;
+    let reached = tickets.at_mut(at, steps);
+    let next = reached.unreaped.after;
+    if reached.row.device != device || reached.row.status.is_some() {
+        return Passed { next, freed: 0 };
     }
-    row.fail(errno::SHUTDOWN);
-    lists.finish(at);
-    1
-}
-
-/// Finishes the tickets of a device that is gone. It answers how many places that freed.
-fn unplug_rows(rows: &mut Vec<TicketRow>, lists: &mut TicketLists, device: u8) -> usize
-    requires roomy { All IsRoomy rows.old.items }
-    requires listed { AreListed rows.old.items lists.old }
-    ensures rows { rows.new.items ≡ map (row_unplugged device) rows.old.items }
-    ensures places { sum_by owed rows.new.items + result ≡ sum_by owed rows.old.items }
-    ensures listed { AreListed rows.new.items lists.new }
-{
-    let mut freed = 0;
-    for i in 0..rows.len() {
-        freed += unplug_row(rows, lists, i, device);
-    }
-    freed
+    reached.row.fail(errno::SHUTDOWN);
+    let endpoint = reached.row.endpoint;
+    let link = reached.queue;
+    lists.finish(tickets, at, device, endpoint, link, steps);
+    Passed { next, freed: 1 }
 }
 
 impl TicketTable {
@@ -94,7 +98,7 @@ impl TicketTable {
         ensures rows { result.rows ≡ [] }
     {
         TicketTable {
-            rows: Vec::new(alloc),
+            tickets: Tickets::new(alloc),
             lists: TicketLists::new(alloc),
         }
     }
@@ -103,7 +107,7 @@ impl TicketTable {
     pub(crate) fn len(&self) -> usize
         ensures len { result ≡ length self.now.rows }
     {
-        self.rows.len()
+        self.tickets.len()
     }
 
     /// How many of them are not reaped.
@@ -111,7 +115,7 @@ impl TicketTable {
         ensures unreaped { (past : List Event) → Agrees past self.now.rows
             → result ≡ unreaped past }
     {
-        self.lists.unfinished.len() + self.lists.finished.len()
+        self.lists.count
     }
 
     /// The number of the first ticket that is finished and not reaped.
@@ -122,20 +126,22 @@ impl TicketTable {
         Some(lowest as u64)
     }
 
-    /// Makes room for one more ticket.
-    pub(crate) fn reserve(&mut self) -> Result<(), NoMemory>
+    /// Makes room for one more ticket, of an endpoint.
+    pub(crate) fn reserve(&mut self, device: u8, endpoint: u8) -> Result<(), NoMemory>
         ensures rows { self.new.rows ≡ self.old.rows }
         ensures room { OnOk result (1 ≤ self.new.room) }
+        ensures opened { OnOk result (has_entry self.new device endpoint ≡ true) }
     {
-        if self.rows.reserve(1).is_err() {
+        if self.tickets.reserve().is_err() {
             return Err(NoMemory);
         }
-        self.lists.reserve()
+        self.lists.reserve(device, endpoint)
     }
 
     /// A submission becomes the next ticket. It answers the number.
-    pub(crate) fn add(&mut self, s: Submission) -> u64
+    pub(crate) fn add<L: Ledger>(&mut self, s: Submission, steps: &mut Steps<L>) -> u64
         requires room { 1 ≤ self.old.room }
+        requires opened { has_entry self.old s.device s.endpoint ≡ true }
         requires whole { IsWhole s }
         ensures long { result ≡ length self.old.rows }
         ensures number { (past : List Event) → Agrees past self.old.rows
@@ -144,14 +150,10 @@ impl TicketTable {
             → Agrees (submit_event (length (tickets past)) s ∷ past) self.new.rows }
         ensures places { sum_by owed self.new.rows ≡ sum_by owed self.old.rows + 2 }
     {
-        let ticket = self.rows.len();
-        self.lists.add(OpenTicket {
-            device: s.device,
-            endpoint: s.endpoint,
-            ticket,
-        });
-        push_slot(&mut self.rows, TicketRow::queued(s));
-        ticket as u64
+        let ticket = self.tickets.len() as u64;
+        self.lists
+            .add(&mut self.tickets, TicketRow::queued(s), steps);
+        ticket
     }
 
     /// A refused submission becomes the next ticket.
@@ -164,14 +166,20 @@ impl TicketTable {
             → Agrees (refuse_event (length (tickets past)) s errno ∷ past) self.new.rows }
         ensures places { sum_by owed self.new.rows ≡ sum_by owed self.old.rows }
     {
-        let (slot, done) = TicketRow::refused(self.rows.len() as u64, s, errno);
-        push_slot(&mut self.rows, slot);
+        let (row, done) = TicketRow::refused(self.tickets.len() as u64, s, errno);
+        self.lists.add_refused(&mut self.tickets, row);
         done
     }
 
     /// Gives a packet to the oldest IN ticket of an endpoint. It answers how many places that
     /// freed.
-    pub(crate) fn give_packet(&mut self, device: u8, endpoint: u8, bytes: &[u8]) -> Option<usize>
+    pub(crate) fn give_packet<L: Ledger>(
+        &mut self,
+        device: u8,
+        endpoint: u8,
+        bytes: &[u8],
+        steps: &mut Steps<L>,
+    ) -> Option<usize>
         requires roomy { All IsRoomy self.old.rows }
         ensures agrees { (past : List Event) → Agrees past self.old.rows
             → Agrees (after_packet past device endpoint bytes.now) self.new.rows }
@@ -180,23 +188,25 @@ impl TicketTable {
             ≡ (if is_some result then Event.Packet device endpoint bytes.now ∷ past else past) }
         ensures places { sum_by owed self.new.rows + unwrap_or result 0
             ≡ sum_by owed self.old.rows }
+        ensures looks { steps.new ≤ steps.old + 1 }
     {
         if endpoint < 128 {
             return None;
         }
-        let Some(at) = self.lists.oldest(device, endpoint) else {
-            return None;
-        };
-        let slot = &mut self.rows[at];
-        let before = slot.places();
-        slot.take_packet(bytes);
-        self.lists.follow(at, slot);
-        Some(before - slot.places())
+        let at = self.lists.oldest(device, endpoint)?;
+        let reached = self.tickets.at_mut(at, steps);
+        reached.row.take_packet(bytes);
+        Some(self.lists.follow(at, reached))
     }
 
     /// Acknowledges a packet of the oldest OUT ticket of an endpoint. It answers how many places
     /// that freed.
-    pub(crate) fn give_ack(&mut self, device: u8, endpoint: u8) -> Option<usize>
+    pub(crate) fn give_ack<L: Ledger>(
+        &mut self,
+        device: u8,
+        endpoint: u8,
+        steps: &mut Steps<L>,
+    ) -> Option<usize>
         requires roomy { All IsRoomy self.old.rows }
         ensures agrees { (past : List Event) → Agrees past self.old.rows
             → Agrees (after_ack past device endpoint) self.new.rows }
@@ -205,23 +215,26 @@ impl TicketTable {
             ≡ (if is_some result then Event.Ack device endpoint ∷ past else past) }
         ensures places { sum_by owed self.new.rows + unwrap_or result 0
             ≡ sum_by owed self.old.rows }
+        ensures looks { steps.new ≤ steps.old + 1 }
     {
         if endpoint >= 128 {
             return None;
         }
-        let Some(at) = self.lists.oldest(device, endpoint) else {
-            return None;
-        };
-        let slot = &mut self.rows[at];
-        let before = slot.places();
-        slot.take_ack();
-        self.lists.follow(at, slot);
-        Some(before - slot.places())
+        let at = self.lists.oldest(device, endpoint)?;
+        let reached = self.tickets.at_mut(at, steps);
+        reached.row.take_ack();
+        Some(self.lists.follow(at, reached))
     }
 
     /// Acknowledges the next packet of the oldest OUT ticket of an endpoint, and gives it to the
     /// oldest IN ticket of another, where there are both. It answers how many places that freed.
-    pub(crate) fn give_echo(&mut self, device: u8, output: u8, input: u8) -> Option<usize>
+    pub(crate) fn give_echo<L: Ledger>(
+        &mut self,
+        device: u8,
+        output: u8,
+        input: u8,
+        steps: &mut Steps<L>,
+    ) -> Option<usize>
         requires roomy { All IsRoomy self.old.rows }
         ensures agrees { (past : List Event) → Agrees past self.old.rows
             → Agrees (after_echo past device output input) self.new.rows }
@@ -230,27 +243,24 @@ impl TicketTable {
             ≡ (if is_some result then Event.Echo device output input ∷ past else past) }
         ensures places { sum_by owed self.new.rows + unwrap_or result 0
             ≡ sum_by owed self.old.rows }
+        ensures looks { steps.new ≤ steps.old + 3 }
     {
         if output >= 128 || input < 128 {
             return None;
         }
-        let Some(from) = self.lists.oldest(device, output) else {
-            return None;
-        };
-        let Some(to) = self.lists.oldest(device, input) else {
-            return None;
-        };
-        let before = self.rows[from].places() + self.rows[to].places();
-        pass_packet(&mut self.rows, from, to);
-        let sender = &self.rows[from];
-        self.lists.follow(from, sender);
-        let taker = &self.rows[to];
-        self.lists.follow(to, taker);
-        Some(before - (sender.places() + taker.places()))
+        let from = self.lists.oldest(device, output)?;
+        let to = self.lists.oldest(device, input)?;
+        Some(pass_packet(&mut self.tickets, &mut self.lists, from, to, steps))
     }
 
     /// Finishes the oldest ticket of an endpoint with an errno. It answers whether there was one.
-    pub(crate) fn fail_oldest(&mut self, device: u8, endpoint: u8, errno: u16) -> bool
+    pub(crate) fn fail_oldest<L: Ledger>(
+        &mut self,
+        device: u8,
+        endpoint: u8,
+        errno: u16,
+        steps: &mut Steps<L>,
+    ) -> bool
         requires roomy { All IsRoomy self.old.rows }
         ensures agrees { (past : List Event) → Agrees past self.old.rows
             → Agrees (after_fail past device endpoint errno) self.new.rows }
@@ -259,88 +269,112 @@ impl TicketTable {
             ≡ (if result then Event.Fail device endpoint errno ∷ past else past) }
         ensures places { sum_by owed self.new.rows + (if result then 1 else 0)
             ≡ sum_by owed self.old.rows }
+        ensures looks { steps.new ≤ steps.old + 1 }
     {
         let Some(at) = self.lists.oldest(device, endpoint) else {
             return false;
         };
-        let slot = &mut self.rows[at];
-        slot.fail(errno);
-        self.lists.finish(at);
+        let reached = self.tickets.at_mut(at, steps);
+        reached.row.fail(errno);
+        self.lists.follow(at, reached);
         true
     }
 
-    /// Finishes the tickets of a device that is gone. It answers how many places that freed.
-    pub(crate) fn unplug_tickets(&mut self, device: u8) -> usize
+    /// Finishes the tickets of a device that is gone, of those that are not reaped. It answers how
+    /// many places that freed.
+    pub(crate) fn unplug_tickets<L: Ledger>(&mut self, device: u8, steps: &mut Steps<L>) -> usize
         requires roomy { All IsRoomy self.old.rows }
         ensures agrees { (past : List Event) → Agrees past self.old.rows
             → Agrees (Event.Unplug device ∷ past) self.new.rows }
         ensures places { sum_by owed self.new.rows + result ≡ sum_by owed self.old.rows }
+        ensures looks { steps.new ≤ steps.old + 3 * count_by is_unreaped_row self.old.rows }
     {
-        unplug_rows(&mut self.rows, &mut self.lists, device)
+        let mut freed = 0;
+        let mut next = self.lists.unreaped.first;
+        'walk: while let Some(at) = next {
+            let passed = unplug_ticket(&mut self.tickets, &mut self.lists, at, device, steps);
+            freed += passed.freed;
+            next = passed.next;
+        }
+        freed
     }
 
-    /// Takes the completion of a ticket that is finished and not reaped.
-    pub(crate) fn take_finished(&mut self, ticket: u64) -> Option<Done>
+    /// Takes the completion of a ticket that is finished and not reaped. It answers the ticket's
+    /// deadline too, if it has one.
+    pub(crate) fn take_finished<L: Ledger>(
+        &mut self,
+        ticket: u64,
+        steps: &mut Steps<L>,
+    ) -> Option<(Done, Option<u64>)>
         ensures agrees { (past : List Event) → Agrees past self.old.rows
             → Agrees (after_reap past ticket) self.new.rows }
         ensures done { (past : List Event) → Agrees past self.old.rows
-            → reapable past ticket ≡ result }
+            → reapable past ticket ≡ option_map (λ taken. taken.0) result }
+        ensures deadline { (past : List Event) → Agrees past self.old.rows
+            → IfSome result (λ taken. taken.1 ≡ deadline_of past ticket) }
         ensures places { sum_by owed self.new.rows + (if is_some result then 1 else 0)
             ≡ sum_by owed self.old.rows }
+        ensures looks { steps.new ≤ steps.old + 3 }
     {
-        if ticket >= self.rows.len() as u64 {
+        if ticket >= self.tickets.len() as u64 {
             return None;
         }
-        let slot = &mut self.rows[ticket as usize];
-        if !slot.is_reapable() {
+        let at = ticket as usize;
+        let reached = self.tickets.at_mut(at, steps);
+        if !reached.row.is_reapable() {
             return None;
         }
-        let done = slot.take_done(ticket);
-        self.lists.forget(ticket as usize);
-        Some(done)
+        let deadline = reached.row.deadline;
+        let done = reached.row.take_done(ticket);
+        let link = reached.unreaped;
+        self.lists.forget(&mut self.tickets, at, link, steps);
+        Some((done, deadline))
     }
 
-    /// Finishes a ticket that is not finished, with errno 2. It answers whether there was one.
-    pub(crate) fn drop_open(&mut self, ticket: u64) -> bool
+    /// Finishes a ticket that is not finished, with errno 2. Where there was one it answers the
+    /// ticket's deadline, if it has one.
+    pub(crate) fn drop_open<L: Ledger>(
+        &mut self,
+        ticket: u64,
+        steps: &mut Steps<L>,
+    ) -> Option<Option<u64>>
         requires roomy { All IsRoomy self.old.rows }
         ensures agrees { (past : List Event) → Agrees past self.old.rows
             → Agrees (after_discard past ticket) self.new.rows }
         ensures acts { (past : List Event) → Agrees past self.old.rows
-            → after_discard past ticket ≡ (if result then Event.Discard ticket ∷ past else past) }
-        ensures places { sum_by owed self.new.rows + (if result then 1 else 0)
+            → after_discard past ticket
+            ≡ (if is_some result then Event.Discard ticket ∷ past else past) }
+        ensures deadline { (past : List Event) → Agrees past self.old.rows
+            → IfSome result (λ deadline. deadline ≡ deadline_of past ticket) }
+        ensures places { sum_by owed self.new.rows + (if is_some result then 1 else 0)
             ≡ sum_by owed self.old.rows }
+        ensures looks { steps.new ≤ steps.old + 3 }
     {
-        if ticket >= self.rows.len() as u64 {
-            return false;
+        if ticket >= self.tickets.len() as u64 {
+            return None;
         }
-        let slot = &mut self.rows[ticket as usize];
-        if slot.status.is_some() {
-            return false;
+        let at = ticket as usize;
+        let reached = self.tickets.at_mut(at, steps);
+        if reached.row.status.is_some() {
+            return None;
         }
-        slot.fail(errno::NOENT);
-        self.lists.finish(ticket as usize);
-        true
+        let deadline = reached.row.deadline;
+        reached.row.fail(errno::NOENT);
+        let device = reached.row.device;
+        let endpoint = reached.row.endpoint;
+        let link = reached.queue;
+        self.lists
+            .finish(&mut self.tickets, at, device, endpoint, link, steps);
+        Some(deadline)
     }
 
     /// What is known of a ticket.
-    pub(crate) fn info_at(&self, ticket: u64) -> TicketInfo
+    pub(crate) fn info_at<L: Ledger>(&self, ticket: u64, steps: &mut Steps<L>) -> TicketInfo
         requires below { ticket < length self.now.rows }
         ensures info { (past : List Event) → Agrees past self.now.rows
             → info_of past ticket ≡ Some result }
     {
-        let row = &self.rows[ticket as usize];
-        row.info()
-    }
-
-    /// The deadline of a ticket, if it has one.
-    pub(crate) fn deadline_of(&self, ticket: u64) -> Option<u64>
-        ensures deadline { result
-            ≡ option_and_then (λ (s : TicketRow). s.deadline) (slice_get self.now.rows ticket) }
-    {
-        if ticket >= self.rows.len() as u64 {
-            return None;
-        }
-        let row = &self.rows[ticket as usize];
-        row.deadline
+        let reached = self.tickets.at(ticket as usize, steps);
+        reached.row.info()
     }
 }

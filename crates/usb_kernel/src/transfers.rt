@@ -1,6 +1,6 @@
 //! Transfers: tickets that are submitted, refused, discarded and reaped.
 
-ghost use Rattle.std.specs.Prelude.{◌≡◌, ◌+◌, ◌*◌, ◌^◌, ◌<◌, ◌≤◌, ◌∷◌, length, max, IsSome, vec_len, vec_capacity, Some, List, OnOk, OnErr, IfOk, IfErr, IfSome};
+ghost use Rattle.std.specs.Prelude.{◌≡◌, ◌+◌, ◌*◌, ◌^◌, ◌<◌, ◌≤◌, ◌∷◌, length, max, true, IsSome, vec_len, vec_capacity, Some, List, OnOk, OnErr, IfOk, IfErr, IfSome};
 ghost use Rattle.usb_desc.specs.declared.types.TransferType.{TransferType};
 ghost use Rattle.usb_kernel.specs.Tickets.{tickets};
 ghost use Rattle.usb_kernel_devices.specs.Errnos.{IsErrno};
@@ -11,16 +11,22 @@ ghost use Rattle.usb_kernel.specs.Completions.{reapable};
 ghost use Rattle.usb_kernel.specs.Submits.{submit_refusal, submit_result, after_submit, armed_after_submit, refuse_result, after_refuse, number_of};
 ghost use Rattle.usb_kernel.specs.Steps.{after_reap, after_discard};
 ghost use Rattle.usb_kernel.specs.Timers.{timer_turned};
+ghost use Rattle.usb_kernel.specs.Pending.{pending_count};
+ghost use Rattle.usb_kernel.specs.TableState.{has_entry};
 
 use crate::errno;
 use crate::event::Event;
 use crate::journal::put;
 use crate::kernel::Kernel;
+use crate::looks::Steps;
+use crate::once::{discard_with, queue_with, reap_with, timer_turn_with};
 use crate::submission::{Done, Submission, Submitted};
 use crate::table::TicketTable;
 use crate::timer::{add_deadline, discard_due, discard_ticket, forget_deadline};
 use std::alloc::Global;
 use std::collections::BTreeSet;
+use std::marker::Brand;
+use std::sync::ledger::{Blank, Ledger};
 use usb_desc::NoMemory;
 use usb_kernel_devices::{KernelCall, plugged};
 
@@ -49,23 +55,26 @@ fn make_room(journal: &mut Vec<Event>, places: usize, count: usize) -> Result<()
     Ok(())
 }
 
-/// Makes room for these places and three more, and for one more ticket.
+/// Makes room for these places and three more, and for the ticket of a submission.
 fn make_place(
     journal: &mut Vec<Event>,
     tickets: &mut TicketTable,
     places: usize,
+    s: &Submission,
 ) -> Result<(), NoMemory>
     ensures items { journal.new.items ≡ journal.old.items }
     ensures len { vec_len journal.new ≡ vec_len journal.old }
     ensures capacity { vec_capacity journal.old ≤ vec_capacity journal.new }
     ensures rows { tickets.new.rows ≡ tickets.old.rows }
     ensures ticket { OnOk result (1 ≤ tickets.new.room) }
+    ensures opened { OnOk result
+        (has_entry tickets.new s.now.device s.now.endpoint ≡ true) }
     ensures room { OnOk result (vec_len journal.new + places + 3 ≤ vec_capacity journal.new) }
     ensures four { OnOk result (4 * (length tickets.old.rows + 1) ≤ vec_capacity journal.new) }
     ensures small { OnOk result (4 * (length tickets.old.rows + 1) < 2 ^ 64) }
 {
     make_room(journal, places, tickets.len())?;
-    tickets.reserve()
+    tickets.reserve(s.device, s.endpoint)
 }
 
 /// The event of a submission, whose deadline is added.
@@ -112,7 +121,7 @@ impl Kernel {
         }
         let device = s.device;
         match self.armed.errno(device, KernelCall::Submit) {
-            None => self.queue(s),
+            None => queue_with::<Brand>(self, s, Blank::new(1)),
             Some(errno) => {
                 let refused = self.refuse(s, errno);
                 if refused.is_ok() {
@@ -124,7 +133,11 @@ impl Kernel {
     }
 
     /// A submission becomes the next ticket.
-    fn queue(&mut self, s: Submission) -> Result<Submitted, Submission>
+    pub(crate) fn queue<L: Ledger>(
+        &mut self,
+        s: Submission,
+        steps: &mut Steps<L>,
+    ) -> Result<Submitted, Submission>
         requires whole { IsWhole s }
         ensures submitted { IfOk result
             (λ r. r ≡ Submitted.Queued (length (tickets self.old.past))) }
@@ -136,14 +149,14 @@ impl Kernel {
         ensures back { IfErr result (λ back. back ≡ s) }
     {
         let places = self.spare + self.owed;
-        let Ok(()) = make_place(&mut self.journal, &mut self.tickets, places) else {
+        let Ok(()) = make_place(&mut self.journal, &mut self.tickets, places, &s) else {
             return Err(s);
         };
         let next = self.tickets.len() as u64;
         let Ok(event) = submitted(*self.journal.allocator(), &mut self.deadlines, &s, next) else {
             return Err(s);
         };
-        let ticket = self.tickets.add(s);
+        let ticket = self.tickets.add(s, steps);
         self.owed += 2;
         put(&mut self.journal, event);
         Ok(Submitted::Queued(ticket))
@@ -161,7 +174,7 @@ impl Kernel {
         ensures back { IfErr result (λ back. back ≡ s) }
     {
         let places = self.spare + self.owed;
-        let Ok(()) = make_place(&mut self.journal, &mut self.tickets, places) else {
+        let Ok(()) = make_place(&mut self.journal, &mut self.tickets, places, &s) else {
             return Err(s);
         };
         let next = self.tickets.len() as u64;
@@ -178,7 +191,7 @@ impl Kernel {
         ensures past { self.new.past ≡ after_discard self.old.past ticket }
         ensures rest { self.new ≡ record self.old { past = self.new.past } }
     {
-        self.owed -= discard_ticket(&mut self.journal, &mut self.tickets, ticket);
+        discard_with::<Brand>(self, ticket, Blank::new(1));
     }
 
     /// The turn of the timer: it discards the tickets that are not finished and whose deadline is
@@ -188,11 +201,36 @@ impl Kernel {
         ensures past { self.new.past ≡ timer_turned self.old.clock self.old.past }
         ensures rest { self.new ≡ record self.old { past = self.new.past } }
     {
+        timer_turn_with::<Brand>(self, Blank::new(1));
+    }
+
+    /// The turn of the timer, with three look-ups for each ticket that it may have to look at.
+    pub(crate) fn turn_timer<L: Ledger>(&mut self, steps: &mut Steps<L>)
+        ensures past { self.new.past ≡ timer_turned self.old.clock self.old.past }
+        ensures rest { self.new ≡ record self.old { past = self.new.past } }
+        ensures looks { steps.new ≤ steps.old + 3 * pending_count self.old.clock self.old.past }
+    {
         self.owed -= discard_due(
             &mut self.journal,
             &mut self.tickets,
             &mut self.deadlines,
             self.clock,
+            steps,
+        );
+    }
+
+    /// Discards a ticket that is not finished, with three look-ups.
+    pub(crate) fn discard_counted<L: Ledger>(&mut self, ticket: u64, steps: &mut Steps<L>)
+        ensures past { self.new.past ≡ after_discard self.old.past ticket }
+        ensures rest { self.new ≡ record self.old { past = self.new.past } }
+        ensures looks { steps.new ≤ steps.old + 3 }
+    {
+        self.owed -= discard_ticket(
+            &mut self.journal,
+            &mut self.tickets,
+            &mut self.deadlines,
+            ticket,
+            steps,
         );
     }
 
@@ -202,8 +240,21 @@ impl Kernel {
         ensures past { self.new.past ≡ after_reap self.old.past ticket }
         ensures rest { self.new ≡ record self.old { past = self.new.past } }
     {
-        let done = self.tickets.take_finished(ticket)?;
-        let deadline = self.tickets.deadline_of(ticket);
+        reap_with::<Brand>(self, ticket, Blank::new(1))
+    }
+
+    /// The completion of a ticket that is finished and not reaped, with three look-ups.
+    pub(crate) fn reap_ticket<L: Ledger>(
+        &mut self,
+        ticket: u64,
+        steps: &mut Steps<L>,
+    ) -> Option<Done>
+        ensures done { result ≡ reapable self.old.past ticket }
+        ensures past { self.new.past ≡ after_reap self.old.past ticket }
+        ensures rest { self.new ≡ record self.old { past = self.new.past } }
+        ensures looks { steps.new ≤ steps.old + 3 }
+    {
+        let (done, deadline) = self.tickets.take_finished(ticket, steps)?;
         forget_deadline(&mut self.deadlines, deadline, ticket);
         self.owed -= 1;
         put(&mut self.journal, Event::Reap { ticket });

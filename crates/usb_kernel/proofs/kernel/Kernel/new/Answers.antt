@@ -1,14 +1,14 @@
-use Rattle.std.proofs.Common.{◌<◌, ℕ, arith, refl}
-use Rattle.std.proofs.lemmas.List.Elements.{All-nil}
+use Rattle.std.proofs.Common.{arith, refl}
 use Rattle.usb_kernel_devices.specs.Refusals.{HasArmedErrno}
 use Rattle.usb_kernel.proofs.Fresh.{Agrees-none, All-none}
+use Rattle.usb_kernel.proofs.Deadlines.{keeps-none}
 use Rattle.usb_kernel.proofs.kernel.Kernel.new.Goals as goal
 
 pub invariant_of-result : goal.invariant_of-result
 invariant_of-result c = record {
   lawful = rw c.new.ensures.items tt;
   agrees = rw (c.new.ensures.items, c.new-2.ensures.rows) Agrees-none;
-  timed = rw (c.new.ensures.items, c.new-4.ensures.empty) (record { same = refl; below = All-nil (λ (p : ℕ × ℕ). p.1 < 0) });
+  timed = rw (c.new.ensures.items, c.new-4.ensures.empty) keeps-none;
   owes = rw c.new-2.ensures.rows refl;
   space = rw c.new.ensures.len (omega arith);
   four = rw c.new.ensures.items (omega arith);

@@ -9,4 +9,4 @@ returns-in-Some-clause-rest c =
 pub returns-clause-rest : goal.returns-clause-rest
 returns-clause-rest c =
     let before = c.refusal.ensures.armed in
-    reset-done c.args.self.now c.unplug.new.self c.args.device (sym c.in_default.ensures.errno) (rw before at c.unplug.ensures.past) (rw before at c.unplug.ensures.devices) (rw before at c.unplug.ensures.spare) (rw before at c.unplug.ensures.rest)
+    reset-done c.args.self.now c.unplug_with.new.kernel c.args.device (sym c.in_default.ensures.errno) (rw before at c.unplug_with.ensures.past) (rw before at c.unplug_with.ensures.devices) (rw before at c.unplug_with.ensures.spare) (rw before at c.unplug_with.ensures.rest)

@@ -25,8 +25,8 @@ returns-then-is_none c =
       back = c.refuse.ensures.back;
     }
 
-pub queue-requires : goal.queue-requires
-queue-requires c = record { whole = c.requires.whole }
+pub queue_with-requires-clause-whole : goal.queue_with-requires-clause-whole
+queue_with-requires-clause-whole c = c.requires.whole
 
 pub refuse-refused-requires : goal.refuse-refused-requires
 refuse-refused-requires c = record { errno = c.in-Some.ensures.known c.self.invariant.errnos }
@@ -40,14 +40,14 @@ returns-in-None c =
     let none : armed_errno c.args.self.now.armed c.args.s.device call.Submit ≡ None = ap (λ xs. armed_errno xs c.args.s.device call.Submit) (sym (armed_is c.self.inside c.self.view_is)) ∙ sym c.in-None.ensures.errno in
     let left : disarmed c.args.self.now.armed c.args.s.device call.Submit ≡ c.args.self.now.armed = ap (λ xs. disarmed xs c.args.s.device call.Submit) (sym (armed_is c.self.inside c.self.view_is)) ∙ (c.in-None.ensures.none ∙ armed_is c.self.inside c.self.view_is) in
     record {
-      submitted = rw (here, none) c.queue.ensures.submitted;
-      number = c.queue.ensures.number;
-      past = rw (here, none) c.queue.ensures.past;
-      armed = rw here (on_ok c.queue.result (ap (λ (k : KernelState). k.armed) c.queue.ensures.rest ∙ sym left));
-      known = rw (here, none) (on_ok c.queue.result tt);
-      rest = rest-both c.queue.new.self c.args.self.now c.queue.ensures.rest;
-      err = c.queue.ensures.err;
-      back = c.queue.ensures.back;
+      submitted = rw (here, none) c.queue_with.ensures.submitted;
+      number = c.queue_with.ensures.number;
+      past = rw (here, none) c.queue_with.ensures.past;
+      armed = rw here (on_ok c.queue_with.result (ap (λ (k : KernelState). k.armed) c.queue_with.ensures.rest ∙ sym left));
+      known = rw (here, none) (on_ok c.queue_with.result tt);
+      rest = rest-both c.queue_with.new.kernel c.args.self.now c.queue_with.ensures.rest;
+      err = c.queue_with.ensures.err;
+      back = c.queue_with.ensures.back;
     }
 
 pub returns-then-is_ok : goal.returns-then-is_ok

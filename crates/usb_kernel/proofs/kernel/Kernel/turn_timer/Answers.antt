@@ -1,9 +1,10 @@
 use Rattle.std.proofs.Common.{arith, reverse}
 use Rattle.usb_kernel.proofs.Completions.{tickets-turned}
-use Rattle.usb_kernel.proofs.kernel.Kernel.timer_turn.Goals as goal
+use Rattle.usb_kernel.proofs.Kept.{past_is, clock_is}
+use Rattle.usb_kernel.proofs.kernel.Kernel.turn_timer.Goals as goal
 
 pub invariant_of-self : goal.invariant_of-self
-invariant_of-self c =
+invariant_of-self g c =
     let inv = c.self.invariant in
     let past = reverse c.self.inside.journal.items in
     record {
@@ -16,3 +17,6 @@ invariant_of-self c =
       errnos = inv.errnos;
       places = inv.places;
     }
+
+pub returns-clause-looks : goal.returns-clause-looks
+returns-clause-looks g c = rw (clock_is c.self.inside c.self.view_is, past_is c.self.inside c.self.view_is) at c.discard_due.ensures.looks
