@@ -18,7 +18,7 @@ pub fn apply(kernel: &mut Kernel, step: KernelStep) -> Result<Option<Done>, NoMe
     requires errno { HasErrno step }
 {
     kernel.reserve(1)?;
-    Ok(kernel.step(step))
+    Ok(kernel.step_once(step))
 }
 
 /// A bulk transfer of endpoint 0x81 that wants 64 bytes.
@@ -170,5 +170,33 @@ fn copies_packet(step: &KernelStep, sent: &[u8]) -> Result<bool, NoMemory> {
 fn a_copy_of_a_step_has_its_bytes(rt: HostRuntime) -> Result<(), Fail> {
     let step = packet(rt.alloc(), &[8, 9])?;
     assert!(rt; copies_packet(&step, &[8, 9])?);
+    Ok(())
+}
+
+/// Whether each of so many tickets of one endpoint gets its packet, and is reaped, from the last to
+/// the first.
+fn are_reaped_backwards(alloc: Global, kernel: &mut Kernel, count: u64) -> Result<bool, NoMemory> {
+    for _ in 0..count {
+        if kernel.submit(wanting(alloc, 0)?).is_err() {
+            return Err(NoMemory);
+        }
+    }
+    for _ in 0..count {
+        let _ = apply(kernel, packet(alloc, &[7])?)?;
+    }
+    for ticket in (0..count).rev() {
+        if kernel.reap(ticket).is_none() {
+            return Ok(false);
+        }
+    }
+    Ok(kernel.unreaped() == 0)
+}
+
+#[test]
+fn each_of_many_tickets_is_found_without_a_search(rt: HostRuntime) -> Result<(), Fail> {
+    let alloc = rt.alloc();
+    let mut kernel = new_kernel(alloc, &DEVICE)?;
+    let reaped = are_reaped_backwards(alloc, &mut kernel, 200_000)?;
+    assert!(&rt; reaped);
     Ok(())
 }

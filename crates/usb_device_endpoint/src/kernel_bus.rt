@@ -95,7 +95,7 @@ impl KernelBus {
         requires errno { HasErrno step }
         ensures bus { self.new ≡ bus_stepped self.old step }
     {
-        let done = self.kernel.step(step);
+        let done = self.kernel.step_once(step);
         store(&mut self.slots, done);
     }
 

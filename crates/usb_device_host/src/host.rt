@@ -205,7 +205,7 @@ impl Host {
         requires errno { HasErrno step }
         ensures stepped { self.new ≡ host_stepped self.old step }
     {
-        let arrived = self.kernel.step(step);
+        let arrived = self.kernel.step_once(step);
         complete(&mut self.kernel, &mut self.ledger, arrived);
     }
 

@@ -36,7 +36,7 @@ use Rattle.usb_kernel.specs.Tickets.{Ticket, tickets}
 use Rattle.usb_kernel.specs.Journal.{fate}
 use Rattle.usb_kernel.specs.Steps.{after_discard, is_unfinished}
 use Rattle.usb_kernel.specs.Timers.{deadline_of, by_deadline, with_deadline, without_deadline, deadlines, is_open_entry, is_up, discarded_in_order, timer_turned}
-use Rattle.usb_kernel.specs.Pending.{is_discard_of, is_discarded}
+use Rattle.usb_kernel.specs.Overdue.{is_discard_of, is_discarded}
 use Rattle.usb_kernel.specs.Fates.{Fate, waits}
 use Rattle.usb_kernel.specs.Completions.{reapable}
 use Rattle.usb_kernel.specs.Waits.{reaps}

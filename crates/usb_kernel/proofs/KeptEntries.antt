@@ -13,7 +13,7 @@ use Rattle.usb_kernel.specs.declared.event.Event.{Event}
 use Rattle.usb_kernel.specs.Tickets.{Ticket, tickets}
 use Rattle.usb_kernel.specs.Journal.{fate}
 use Rattle.usb_kernel.specs.Timers.{deadline_of, by_deadline, without_deadline}
-use Rattle.usb_kernel.specs.Pending.{is_discard_of}
+use Rattle.usb_kernel.specs.Overdue.{is_discard_of}
 use Rattle.usb_kernel.specs.Deadlines.{IsKeptEntry}
 use Rattle.usb_kernel.proofs.Rules.{tickets-stay}
 

@@ -29,7 +29,7 @@ pub mod Extends
 pub mod InOrder
 pub mod KeptEntries
 pub mod Deadlines
-pub mod Pending
+pub mod Overdue
 pub mod Waiting
 pub mod Entries
 pub mod Unreaped

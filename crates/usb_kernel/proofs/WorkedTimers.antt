@@ -4,7 +4,7 @@ use Rattle.usb_kernel.specs.declared.event.Event.{Event}
 use Rattle.usb_kernel.specs.declared.event.Event.TheVariants.{Submit, Refuse, Discard, Reap, Packet}
 use Rattle.usb_kernel.specs.declared.event.Body.TheVariants.{Wanted}
 use Rattle.usb_kernel.specs.Timers.{timer_turned}
-use Rattle.usb_kernel.specs.Pending.{pending_count}
+use Rattle.usb_kernel.specs.Overdue.{overdue_count}
 
 -- two control transfers of 64 bytes, with the deadlines 100 and 200
 pub two : List Event
@@ -34,18 +34,18 @@ unfolding timer_turned many
 in_order = refl
 
 -- how many tickets a turn may look at: one that is finished is still one of them, and one that was discarded or reaped is none
-pub first_is_pending : pending_count 100 two ≡ 1
-unfolding pending_count two
-first_is_pending = refl
+pub first_is_overdue : overdue_count 100 two ≡ 1
+unfolding overdue_count two
+first_is_overdue = refl
 
-pub other_is_pending : pending_count 200 (Discard 0 ∷ two) ≡ 1
-unfolding pending_count two
-other_is_pending = refl
+pub other_is_overdue : overdue_count 200 (Discard 0 ∷ two) ≡ 1
+unfolding overdue_count two
+other_is_overdue = refl
 
-pub finished_is_pending : pending_count 9 many ≡ 4
-unfolding pending_count many
-finished_is_pending = refl
+pub finished_is_overdue : overdue_count 9 many ≡ 4
+unfolding overdue_count many
+finished_is_overdue = refl
 
-pub reaped_is_not_pending : pending_count 9 (Reap 5 ∷ many) ≡ 3
-unfolding pending_count many
+pub reaped_is_not_pending : overdue_count 9 (Reap 5 ∷ many) ≡ 3
+unfolding overdue_count many
 reaped_is_not_pending = refl

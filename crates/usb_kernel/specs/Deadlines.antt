@@ -7,7 +7,7 @@ use Rattle.usb_kernel.specs.declared.event.Event.TheVariants.{Submit, Discard, R
 use Rattle.usb_kernel.specs.Tickets.{tickets}
 use Rattle.usb_kernel.specs.Journal.{fate}
 use Rattle.usb_kernel.specs.Timers.{deadline_of, by_deadline, deadlines, is_open_entry}
-use Rattle.usb_kernel.specs.Pending.{is_discarded}
+use Rattle.usb_kernel.specs.Overdue.{is_discarded}
 
 -- an entry, a deadline and a number, is of a ticket with this deadline that is not reaped and was not discarded
 pub record IsKeptEntry (past : List Event) (p : ℕ × ℕ) : Type 0 where

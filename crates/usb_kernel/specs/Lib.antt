@@ -8,7 +8,7 @@ pub mod Submits
 pub mod Value
 pub mod Discards
 pub mod Timers
-pub mod Pending
+pub mod Overdue
 pub mod Calls
 pub mod DeviceCalls
 pub mod Steps

@@ -8,7 +8,7 @@ ghost use Rattle.usb_kernel_devices.specs.Devices.{devices_unplugged};
 ghost use Rattle.usb_kernel.specs.Steps.{after_packet, after_ack, after_echo, after_fail, after_unplug, reaped_by, after_reap_of, reapable_of, stepped, step_done, devices_stepped, clock_stepped, armed_stepped, HasErrno};
 ghost use Rattle.usb_kernel.specs.Timers.{timer_turned};
 ghost use Rattle.usb_kernel.specs.Info.{unreaped};
-ghost use Rattle.usb_kernel.specs.Pending.{pending_count};
+ghost use Rattle.usb_kernel.specs.Overdue.{overdue_count};
 ghost use Rattle.usb_kernel.specs.Looks.{looks};
 
 use crate::errno;
@@ -189,7 +189,7 @@ impl Kernel {
         ensures past { self.new.past ≡ timer_turned self.old.clock self.old.past }
         ensures spare { self.new.spare + 1 ≡ self.old.spare }
         ensures rest { self.new ≡ record self.old { past = self.new.past; spare = self.new.spare } }
-        ensures looks { steps.new ≤ steps.old + 3 * pending_count self.old.clock self.old.past }
+        ensures looks { steps.new ≤ steps.old + 3 * overdue_count self.old.clock self.old.past }
     {
         self.spare -= 1;
         self.turn_timer(steps);

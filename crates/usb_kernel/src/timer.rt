@@ -9,7 +9,7 @@ ghost use Rattle.usb_kernel.specs.Legal.{IsLawful};
 ghost use Rattle.usb_kernel.specs.Steps.{is_unfinished, after_discard};
 ghost use Rattle.usb_kernel.specs.Rows.{Agrees, owed};
 ghost use Rattle.usb_kernel.specs.Timers.{deadline_of, without_deadline, is_up, timer_turned};
-ghost use Rattle.usb_kernel.specs.Pending.{pending_count};
+ghost use Rattle.usb_kernel.specs.Overdue.{overdue_count};
 ghost use Rattle.usb_kernel.specs.Deadlines.{KeepsDeadlines};
 
 use crate::event::Event;
@@ -146,7 +146,7 @@ pub(crate) fn discard_due<L: Ledger>(
     ensures len { vec_len journal.new ≡ vec_len journal.old + result }
     ensures capacity { vec_capacity journal.old ≤ vec_capacity journal.new }
     ensures looks { steps.new
-        ≤ steps.old + 3 * pending_count clock (reverse journal.old.items) }
+        ≤ steps.old + 3 * overdue_count clock (reverse journal.old.items) }
 {
     let mut freed = 0;
     'due: while let Some(ticket) = take_due(deadlines, clock) {

@@ -11,7 +11,7 @@ ghost use Rattle.usb_kernel.specs.Completions.{reapable};
 ghost use Rattle.usb_kernel.specs.Submits.{submit_refusal, submit_result, after_submit, armed_after_submit, refuse_result, after_refuse, number_of};
 ghost use Rattle.usb_kernel.specs.Steps.{after_reap, after_discard};
 ghost use Rattle.usb_kernel.specs.Timers.{timer_turned};
-ghost use Rattle.usb_kernel.specs.Pending.{pending_count};
+ghost use Rattle.usb_kernel.specs.Overdue.{overdue_count};
 ghost use Rattle.usb_kernel.specs.TableState.{has_entry};
 
 use crate::errno;
@@ -208,7 +208,7 @@ impl Kernel {
     pub(crate) fn turn_timer<L: Ledger>(&mut self, steps: &mut Steps<L>)
         ensures past { self.new.past ≡ timer_turned self.old.clock self.old.past }
         ensures rest { self.new ≡ record self.old { past = self.new.past } }
-        ensures looks { steps.new ≤ steps.old + 3 * pending_count self.old.clock self.old.past }
+        ensures looks { steps.new ≤ steps.old + 3 * overdue_count self.old.clock self.old.past }
     {
         self.owed -= discard_due(
             &mut self.journal,

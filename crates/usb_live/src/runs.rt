@@ -84,7 +84,7 @@ fn feed(
         Err(LiveError::Full(_)) => unreachable!(),
         Err(LiveError::Memory(_)) => return Err(NoMemory),
     }
-    let _ = kernel.step(KernelStep::Packet {
+    let _ = kernel.step_once(KernelStep::Packet {
         device: 0,
         endpoint: 0x81,
         bytes,

@@ -4,7 +4,7 @@ use Rattle.std.specs.Int.{from_bool}
 use Rattle.usb_kernel.specs.Steps.{after_discard}
 use Rattle.usb_kernel.specs.Timers.{discarded_in_order}
 use Rattle.usb_kernel.proofs.Deadlines.{keeps-discarded, turn-goes_on, turned-kept}
-use Rattle.usb_kernel.proofs.Pending.{up-pending, up-first, from-bool}
+use Rattle.usb_kernel.proofs.Overdue.{up-overdue, up-first, from-bool}
 use Rattle.usb_kernel.proofs.timer.discard_due.Goals as goal
 
 pub due-preserved : goal.due-preserved
@@ -26,7 +26,7 @@ due-preserved g c =
     }
 
 pub returns-clause-looks : goal.returns-clause-looks
-returns-clause-looks g c = omega (arith, c.due.invariant.looks, up-pending (reverse c.args.journal.now.items) c.args.clock c.args.deadlines.now.keys c.requires.kept)
+returns-clause-looks g c = omega (arith, c.due.invariant.looks, up-overdue (reverse c.args.journal.now.items) c.args.clock c.args.deadlines.now.keys c.requires.kept)
 
 pub returns-clause-journal : goal.returns-clause-journal
 returns-clause-journal g c =

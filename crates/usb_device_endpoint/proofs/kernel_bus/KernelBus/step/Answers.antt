@@ -8,5 +8,5 @@ invariant_of-self c =
     let kernel = c.self.inside.kernel in
     let later = stepped kernel.devices kernel.clock kernel.past c.args.step in
     record {
-      slots = Agree-at later c.step-done.new.self.past c.store.new.slots.items c.store.new.slots.items c.step-done.ensures.past refl (c.store.ensures.agree kernel.past later c.self.invariant.slots (completes-step kernel.devices kernel.clock kernel.past c.args.step c.step-done.result c.step-done.ensures.done));
+      slots = Agree-at later c.step_once-done.new.self.past c.store.new.slots.items c.store.new.slots.items c.step_once-done.ensures.past refl (c.store.ensures.agree kernel.past later c.self.invariant.slots (completes-step kernel.devices kernel.clock kernel.past c.args.step c.step_once-done.result c.step_once-done.ensures.done));
     }

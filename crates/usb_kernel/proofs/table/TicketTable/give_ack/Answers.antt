@@ -59,7 +59,7 @@ follow-requires g c =
     let first : position (is_open_row c.args.device c.args.endpoint) (rows_of records) ≡ Some c.in_ok-at.at = sym (c.in_ok-at.ensures.oldest records c.self.invariant) in
     let row = open-here records c.in_ok-at.at reached at c.args.device c.args.endpoint (rw (seen_rows c.self.view_is) c.requires.roomy) first in
     let next : Record = record reached { row = c.take_ack.new.self } in
-    let goes : GoesOn records c.in_ok-at.at next = goes_on-ack records c.in_ok-at.at reached at  c.take_ack.new.self row.unfinished row.roomy c.take_ack.ensures.row in
+    let goes : GoesOn records c.in_ok-at.at next = goes_on-ack records c.in_ok-at.at reached at c.take_ack.new.self row.unfinished row.roomy c.take_ack.ensures.row in
     record { following = record { records = records; listed = c.self.invariant; goes_on = goes } }
 
 pub invariant_of-self : goal.invariant_of-self
@@ -70,7 +70,7 @@ invariant_of-self g c =
     let first : position (is_open_row c.args.device c.args.endpoint) (rows_of records) ≡ Some c.in_ok-at.at = sym (c.in_ok-at.ensures.oldest records c.self.invariant) in
     let row = open-here records c.in_ok-at.at reached at c.args.device c.args.endpoint (rw (seen_rows c.self.view_is) c.requires.roomy) first in
     let next : Record = record reached { row = c.take_ack.new.self } in
-    let goes : GoesOn records c.in_ok-at.at next = goes_on-ack records c.in_ok-at.at reached at  c.take_ack.new.self row.unfinished row.roomy c.take_ack.ensures.row in
+    let goes : GoesOn records c.in_ok-at.at next = goes_on-ack records c.in_ok-at.at reached at c.take_ack.new.self row.unfinished row.roomy c.take_ack.ensures.row in
     let at_first = first-next records c.in_ok-at.at reached at c.args.device c.args.endpoint next (rw (seen_rows c.self.view_is) c.requires.roomy) first goes in
     c.follow.ensures.listed records c.self.invariant goes at_first
 
@@ -105,5 +105,5 @@ returns-clause-places g c =
     let first : position (is_open_row c.args.device c.args.endpoint) (rows_of records) ≡ Some c.in_ok-at.at = sym (c.in_ok-at.ensures.oldest records c.self.invariant) in
     let row = open-here records c.in_ok-at.at reached at c.args.device c.args.endpoint (rw (seen_rows c.self.view_is) c.requires.roomy) first in
     let next : Record = record reached { row = c.take_ack.new.self } in
-    let goes : GoesOn records c.in_ok-at.at next = goes_on-ack records c.in_ok-at.at reached at  c.take_ack.new.self row.unfinished row.roomy c.take_ack.ensures.row in
+    let goes : GoesOn records c.in_ok-at.at next = goes_on-ack records c.in_ok-at.at reached at c.take_ack.new.self row.unfinished row.roomy c.take_ack.ensures.row in
     rw (rows-now records c.in_ok-at.at reached at next, c.follow.ensures.freed) (freed-now records c.in_ok-at.at reached at next goes ∙ ap (sum_by owed) (seen_rows c.self.view_is))

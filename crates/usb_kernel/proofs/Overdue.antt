@@ -12,7 +12,7 @@ use Rattle.std.proofs.lemmas.Bool.{cases_Bool, ne_eqb, le-leb}
 use Rattle.usb_kernel.specs.declared.event.Event.{Event}
 use Rattle.usb_kernel.specs.Tickets.{Ticket, tickets}
 use Rattle.usb_kernel.specs.Timers.{by_deadline, is_up}
-use Rattle.usb_kernel.specs.Pending.{is_pending, pending_count}
+use Rattle.usb_kernel.specs.Overdue.{is_overdue, overdue_count}
 use Rattle.usb_kernel.specs.Deadlines.{IsKeptEntry, KeepsDeadlines}
 use Rattle.usb_kernel.proofs.KeptEntries.{with-deadline, apart-behind}
 use Rattle.usb_kernel.proofs.Selections.{numbers, without_number, numbers-without, length-without}
@@ -45,19 +45,19 @@ up-few past clock q (x ∷ xs) up each pass =
           rw due (omega arith)
     ]
 
-pending-passes : (past : List Event) (clock : ℕ) (p : ℕ × ℕ) → IsKeptEntry past p → UpPasses past clock (is_pending past clock) p
+pending-passes : (past : List Event) (clock : ℕ) (p : ℕ × ℕ) → IsKeptEntry past p → UpPasses past clock (is_overdue past clock) p
 pending-passes past clock p entry up s at =
     let t = with-deadline past p.1 p.0 entry.deadline in
     let same : s ≡ t.0 = same_Some s t.0 (sym at ∙ t.1) in
     rw (same, entry.unreaped, entry.undiscarded, t.2) up
 
 -- the entries that are up, and with them the tickets that a turn looks at
-pub up-pending : (past : List Event) (clock : ℕ) (ds : List (ℕ × ℕ)) → KeepsDeadlines past ds → length (filter (is_up clock) ds) ≤ pending_count clock past
-unfolding pending_count
-up-pending past clock ds kept =
-    let pass : All (UpPasses past clock (is_pending past clock)) ds = (λ k d within. pending-passes past clock _ (kept.each k d within)) in
-    let few = up-few past clock (is_pending past clock) ds kept.ordered kept.each pass in
-    omega (arith, few, length-map {A = ℕ × Ticket} (filter (is_pending past clock) (enumerate_from 0 (tickets past))) (λ x. x.0), length-filter (is_pending past clock) (enumerate_from 0 (tickets past)))
+pub up-overdue : (past : List Event) (clock : ℕ) (ds : List (ℕ × ℕ)) → KeepsDeadlines past ds → length (filter (is_up clock) ds) ≤ overdue_count clock past
+unfolding overdue_count
+up-overdue past clock ds kept =
+    let pass : All (UpPasses past clock (is_overdue past clock)) ds = (λ k d within. pending-passes past clock _ (kept.each k d within)) in
+    let few = up-few past clock (is_overdue past clock) ds kept.ordered kept.each pass in
+    omega (arith, few, length-map {A = ℕ × Ticket} (filter (is_overdue past clock) (enumerate_from 0 (tickets past))) (λ x. x.0), length-filter (is_overdue past clock) (enumerate_from 0 (tickets past)))
 
 -- the first entry is one of them
 pub up-first : (clock n t : ℕ) (old new : List (ℕ × ℕ)) → old ≡ (n, t) ∷ new → n ≤ clock → length (filter (is_up clock) old) ≡ length (filter (is_up clock) new) + 1
