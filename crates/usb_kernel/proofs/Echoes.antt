@@ -1,9 +1,9 @@
-use Rattle.std.proofs.Common.{◌≢◌, ◌<◌, ◌≤◌, ◌+◌, ◌-◌, ap, set, ◌≡◌, ℕ, List, ◌∷◌, length, take, drop, min, get_or, Option, Some, None, refl, sym, ◌∙◌, slice_get, arith}
-use Rattle.std.proofs.lemmas.List.{set-set, set_comm, get_or-set_same, get_or-set_other}
+use Rattle.std.proofs.Common.{◌≢◌, ◌<◌, ◌≤◌, ◌+◌, ◌-◌, ap, set, ◌≡◌, ℕ, List, ◌∷◌, length, take, drop, min, Option, Some, None, refl, sym, ◌∙◌, slice_get, arith}
+use Rattle.std.proofs.lemmas.List.{set-set, set_comm}
 use Rattle.std.specs.Prelude.{IsSome}
 use Rattle.std.specs.Option.{ForSome}
 use Rattle.std.proofs.lemmas.Bool.{false≢true}
-use Rattle.std.proofs.lemmas.Option.{get_or_from_slice_get, slice_get_within, same_Some, none-some}
+use Rattle.std.proofs.lemmas.Option.{same_Some, none-some}
 use Rattle.usb_xfer.specs.BufferState.{BufferState}
 use Rattle.usb_kernel.specs.declared.event.Event.{Event}
 use Rattle.usb_kernel.specs.declared.event.Event.TheVariants.{Packet, Ack, Echo}
@@ -11,7 +11,7 @@ use Rattle.usb_kernel.specs.declared.slot.TicketRow.{TicketRow}
 use Rattle.usb_kernel.specs.Tickets.{Ticket, tickets}
 use Rattle.usb_kernel.specs.Fates.{Fate}
 use Rattle.usb_kernel.specs.Journal.{fate, oldest, taken_of, echo_comes, packet_comes, ack_comes}
-use Rattle.usb_kernel.specs.Rows.{Agrees, row_with_ack, row_with_packet}
+use Rattle.usb_kernel.specs.Rows.{Agrees, row_with_ack}
 use Rattle.usb_kernel.specs.Passing.{IsOpenOut, row_taken}
 use Rattle.usb_kernel.proofs.TableLemmas.{rows_from-same}
 

@@ -63,11 +63,7 @@ up-overdue past clock ds kept =
 pub up-first : (clock n t : ℕ) (old new : List (ℕ × ℕ)) → old ≡ (n, t) ∷ new → n ≤ clock → length (filter (is_up clock) old) ≡ length (filter (is_up clock) new) + 1
 up-first clock n t old new is up = rw (is, le-leb n clock up) (omega arith)
 
--- and one call frees one place or none
-pub one-or_none : (b : Bool) → (if b then 1 else 0) ≤ 1
-one-or_none true = omega arith
-one-or_none false = omega arith
-
+-- a test as a number
 pub from-bool : (b : Bool) → from_bool b ≡ (if b then 1 else 0)
 from-bool true = refl
 from-bool false = refl

@@ -2,10 +2,10 @@
 use Rattle.std.proofs.Common.{Bool, ◌≡◌, ◌≢◌, ℕ, ◌+◌, ◌*◌, ◌<◌, ◌≤◌, arith, List, ◌∷◌, ◌++◌, length, length-append, inl, inr, min, set, get_or, Option, Some, None, true, false, refl, ap, sym, ◌∙◌, slice_get, cond, subst}
 use Rattle.std.specs.Prelude.{◌==◌, if◌then◌else◌, position, is_some, IsSome, nat_le, nat_lt, ◌&&◌, ◌||◌}
 use Rattle.std.specs.List.{All, sum_by}
-use Rattle.std.proofs.lemmas.List.{length-set, get_or-set_same, get_or-set_other}
+use Rattle.std.proofs.lemmas.List.{length-set}
 use Rattle.std.proofs.lemmas.List.Folds.{position_or_len-set}
 use Rattle.std.proofs.lemmas.List.Quantifiers.{position-Some}
-use Rattle.std.proofs.lemmas.Option.{slice_get-get_or, slice_get_within, get_or_from_slice_get, same_Some, none-some}
+use Rattle.std.proofs.lemmas.Option.{slice_get_within, get_or_from_slice_get, same_Some, none-some}
 use Rattle.std.proofs.lemmas.Grind.{common_steps}
 use Rattle.std.proofs.lemmas.Bool.{cases_Bool, or_parts, le-leb, lt-ltb, ltb-false, leb-false, ne_eqb, false≢true}
 use Rattle.usb_xfer.specs.BufferState.{BufferState}

@@ -1,13 +1,12 @@
 -- The walk of an unplug over the list of the tickets that are not reaped.
-use Rattle.std.proofs.Common.{◌≡◌, ℕ, ◌+◌, ◌-◌, ◌*◌, ◌<◌, ◌≤◌, zero, suc, Bool, true, false, List, [], ◌∷◌, length, take, map, set, Option, Some, None, slice_get, refl, sym, ap, ◌∙◌, subst, arith, inl, inr, cond}
-use Rattle.std.specs.Prelude.{is_some, is_none, IsSome, ◌==◌, ◌&&◌}
+use Rattle.std.proofs.Common.{◌≡◌, ℕ, ◌+◌, ◌-◌, ◌*◌, ◌<◌, ◌≤◌, zero, suc, Bool, true, false, List, [], ◌∷◌, length, take, map, set, Option, Some, None, slice_get, refl, sym, ap, ◌∙◌, arith, inl, inr, cond}
+use Rattle.std.specs.Prelude.{is_some, is_none, ◌==◌, ◌&&◌}
 use Rattle.std.specs.Option.{option_map, option_map_or}
 use Rattle.std.specs.List.{All, count_by, sum_by}
 use Rattle.std.proofs.lemmas.Option.{none-some, same_Some, slice_get_within, slice_get-map}
 use Rattle.std.proofs.lemmas.List.{length-set}
 use Rattle.std.proofs.lemmas.List.Sums.{sum_by-cons}
 use Rattle.std.proofs.lemmas.Bool.{cases_eq, cases_lt, cases_Bool, false≢true}
-use Rattle.std.proofs.lemmas.Grind.{common_steps}
 use Rattle.usb_kernel.specs.declared.slot.TicketRow.{TicketRow}
 use Rattle.usb_kernel.specs.declared.record.Record.{Record}
 use Rattle.usb_kernel.specs.declared.lists.TicketLists.{TicketLists}

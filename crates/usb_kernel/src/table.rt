@@ -5,7 +5,6 @@ ghost use Rattle.std.specs.Prelude.{◌≡◌, ◌+◌, ◌*◌, ◌<◌, ◌≤
 ghost use Rattle.std.specs.List.{All, sum_by, count_by};
 ghost use Rattle.std.specs.Option.{option_map};
 ghost use Rattle.usb_kernel.specs.declared.event.Event.{Event};
-ghost use Rattle.usb_kernel.specs.declared.slot.TicketRow.{TicketRow};
 ghost use Rattle.usb_kernel.specs.Tickets.{tickets};
 ghost use Rattle.usb_kernel.specs.Submissions.{submit_event, refuse_event, IsWhole};
 ghost use Rattle.usb_kernel.specs.Completions.{reapable, refused_done};

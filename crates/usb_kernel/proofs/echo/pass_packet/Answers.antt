@@ -1,13 +1,12 @@
-use Rattle.std.proofs.Common.{◌≡◌, ◌-◌, Some, take, drop, set, slice_get, arith, ap, refl, sym, ◌∙◌}
+use Rattle.std.proofs.Common.{◌≡◌, ◌-◌, take, drop, set, arith, ap, sym, ◌∙◌}
 use Rattle.std.proofs.lemmas.Option.{slice_get_within}
 use Rattle.std.proofs.lemmas.List.{length-set}
-use Rattle.usb_kernel.specs.declared.slot.TicketRow.{TicketRow}
 use Rattle.usb_kernel.specs.declared.record.Record.{Record}
 use Rattle.usb_kernel.specs.Rows.{row_with_packet}
 use Rattle.usb_kernel.specs.Passing.{row_taken}
 use Rattle.usb_kernel.proofs.RecordLemmas.{rows-length}
 use Rattle.usb_kernel.proofs.Echoes.{taken-between, acked-has, acked-counts}
-use Rattle.usb_kernel.proofs.Passing.{sends-open, goes_on-sent, sent-first, to-inside, takes-open, taker-there, goes_on-got, got-first, given-back, pass-records, sender-again, pass-rows, pass-freed}
+use Rattle.usb_kernel.proofs.Passing.{sends-open, goes_on-sent, sent-first, to-inside, takes-open, goes_on-got, got-first, given-back, pass-records, sender-again, pass-rows, pass-freed}
 use Rattle.usb_kernel.proofs.echo.pass_packet.Goals as goal
 
 pub at_mut-sender-requires : goal.at_mut-sender-requires

@@ -7,7 +7,7 @@ use Rattle.usb_kernel.specs.declared.record.Record.{Record}
 use Rattle.usb_kernel.specs.declared.tickets.Tickets.{Tickets}
 use Rattle.usb_kernel.specs.Rows.{IsRoomy, owed, row_unplugged}
 use Rattle.usb_kernel.specs.Listed.{rows_of}
-use Rattle.usb_kernel.proofs.RecordLemmas.{none_there, row-at, row-read, row-inside, set-same, rows-now, roomy-here, same-row, goes_on-fail}
+use Rattle.usb_kernel.proofs.RecordLemmas.{none_there, row-read, row-inside, set-same, rows-now, roomy-here, same-row, goes_on-fail}
 use Rattle.usb_kernel.proofs.Unplugs.{unplugged-open, unplugged-other, unplugged-finished}
 use Rattle.usb_kernel.proofs.Freed.{no_more, freed-one}
 use Rattle.usb_kernel.proofs.table.unplug_ticket.Given.{Over}

@@ -1,4 +1,4 @@
-use Rattle.std.proofs.Common.{◌≡◌, ◌<◌, ◌≤◌, arith, length, refl, ap}
+use Rattle.std.proofs.Common.{◌≡◌, arith, length, refl, ap}
 use Rattle.usb_kernel.specs.Tickets.{tickets}
 use Rattle.usb_kernel.specs.TableState.{TableState}
 use Rattle.usb_kernel.specs.Rows.{Agrees}

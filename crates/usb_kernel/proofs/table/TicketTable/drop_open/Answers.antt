@@ -1,8 +1,8 @@
 use Rattle.std.proofs.Common.{◌≤◌, arith, length, refl, ap, ◌∙◌}
 use Rattle.std.specs.List.{sum_by}
 use Rattle.usb_kernel.specs.declared.record.Record.{Record}
-use Rattle.usb_kernel.specs.Rows.{Agrees, IsRoomy, owed}
-use Rattle.usb_kernel.specs.Listed.{GoesOn, rows_of}
+use Rattle.usb_kernel.specs.Rows.{Agrees, owed}
+use Rattle.usb_kernel.specs.Listed.{rows_of}
 use Rattle.usb_kernel.proofs.StepLemmas.{row_at, deadline-row}
 use Rattle.usb_kernel.proofs.Discards.{after_discard-none, after_discard-some, is_unfinished-beyond, is_unfinished-row, Agrees-discard, none_when, not_none_when}
 use Rattle.usb_kernel.proofs.RecordLemmas.{seen_rows, rows-length, row-read, row-inside, set-same, rows-now, roomy-here, goes_on-fail}

@@ -1,8 +1,8 @@
-use Rattle.std.proofs.Common.{◌≡◌, Some, None, arith, sym, ap, ◌∙◌}
-use Rattle.std.specs.List.{All, sum_by}
+use Rattle.std.proofs.Common.{◌≡◌, Some, None, sym, ap, ◌∙◌}
+use Rattle.std.specs.List.{sum_by}
 use Rattle.std.specs.Prelude.{position}
 use Rattle.usb_kernel.specs.declared.record.Record.{Record}
-use Rattle.usb_kernel.specs.Rows.{Agrees, IsRoomy, is_open_row, owed}
+use Rattle.usb_kernel.specs.Rows.{Agrees, is_open_row, owed}
 use Rattle.usb_kernel.specs.Listed.{GoesOn, rows_of}
 use Rattle.usb_kernel.proofs.StepLemmas.{found, oldest-none, Agrees-fail, after_fail-none, after_fail-some}
 use Rattle.usb_kernel.proofs.RecordLemmas.{seen_rows, found-inside, row-read, row-inside, rows-now, open-here, first-next, goes_on-fail}

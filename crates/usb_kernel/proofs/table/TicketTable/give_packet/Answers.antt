@@ -1,8 +1,8 @@
 use Rattle.std.proofs.Common.{◌≡◌, Some, None, arith, sym, ap, ◌∙◌}
-use Rattle.std.specs.List.{All, sum_by}
+use Rattle.std.specs.List.{sum_by}
 use Rattle.std.specs.Prelude.{position}
 use Rattle.usb_kernel.specs.declared.record.Record.{Record}
-use Rattle.usb_kernel.specs.Rows.{Agrees, IsRoomy, is_open_row, owed}
+use Rattle.usb_kernel.specs.Rows.{Agrees, is_open_row, owed}
 use Rattle.usb_kernel.specs.Listed.{GoesOn, rows_of}
 use Rattle.usb_kernel.proofs.StepLemmas.{found, oldest-none, Agrees-packet, after_packet-none, after_packet-some}
 use Rattle.usb_kernel.proofs.RecordLemmas.{seen_rows, found-inside, row-read, rows-now, open-here, first-next, goes_on-packet, freed-now}

@@ -1,4 +1,4 @@
-use Rattle.std.proofs.Common.{◌≡◌, ◌+◌, ◌≤◌, Some, None, arith, ap, sym, ◌∙◌}
+use Rattle.std.proofs.Common.{Some, None, arith, ap, ◌∙◌}
 use Rattle.std.specs.List.{All, sum_by, count_by}
 use Rattle.usb_kernel.specs.Rows.{Agrees, IsRoomy, is_unreaped_row, owed}
 use Rattle.usb_kernel.specs.Listed.{rows_of}
