@@ -17,8 +17,8 @@ use Rattle.usb_kernel.specs.TransferCompletions.{CompletesOnly}
 use Rattle.usb_device_ledger.specs.declared.ends.TicketEnd.TheVariants.{Reclaimed}
 use Rattle.usb_device_ledger.specs.declared.opened.OpenDevice.{OpenDevice}
 use Rattle.usb_device_ledger.specs.declared.owners.EndedClaim.{EndedClaim}
-use Rattle.usb_device_ledger.specs.declared.slot.TicketState.{TicketState}
-use Rattle.usb_device_ledger.specs.declared.slot.TicketState.TheVariants as slot
+use Rattle.usb_device_ledger.specs.TicketStates.{TicketState}
+use Rattle.usb_device_ledger.specs.TicketStates as slot
 use Rattle.usb_device_ledger.specs.Entries.{Ended}
 use Rattle.usb_device_host.specs.HostState.{HostState}
 use Rattle.usb_device_host.specs.HostFacts.{TicketsAgree, Fits, host_made}

@@ -18,7 +18,7 @@ use Rattle.usb_device_tables.specs.History.{value_at}
 use Rattle.usb_device_tables.proofs.ValueLemmas.{set-value_same}
 use Rattle.usb_device_host.specs.declared.host.Host.TheInside.{Inside}
 use Rattle.usb_device_ledger.specs.declared.opened.OpenDevice.{OpenDevice}
-use Rattle.usb_device_ledger.specs.declared.slot.TicketState.{TicketState}
+use Rattle.usb_device_ledger.specs.TicketStates.{TicketState}
 use Rattle.usb_device_ledger.specs.Entries.{ClaimedInterface}
 use Rattle.usb_device_host.specs.HostState.{HostState}
 use Rattle.usb_device_host.specs.HostFacts.{IsMatched, TicketsAgree, host_made}

@@ -21,9 +21,10 @@ use Rattle.usb_kernel.specs.TransferCompletions.{transfer_completion}
 use Rattle.usb_device_endpoint.specs.Handles.{KeepsOthers}
 use Rattle.usb_device_endpoint.specs.Waits.{is_reaped}
 use Rattle.usb_device_ledger.specs.declared.opened.OpenDevice.{OpenDevice}
-use Rattle.usb_device_ledger.specs.declared.slot.TicketState.TheVariants as slot
+use Rattle.usb_device_ledger.specs.TicketStates as slot
 use Rattle.usb_device_ledger.specs.Entries.{Hold, HostTicket, HeldBy, HostEndpoint, control_endpoint}
-use Rattle.usb_device_ledger.specs.LedgerState.{LedgerState}
+use Rattle.usb_device_ledger.specs.Slots.{slots_with}
+use Rattle.usb_device_ledger.specs.LedgerState.{LedgerState, tickets_in}
 use Rattle.usb_device_tables.proofs.ValueLemmas.{value-last}
 use Rattle.usb_device_host.specs.HostState.{HostState}
 use Rattle.usb_device_host.specs.HostBus.{bus_of, held_as, owner_at, key_at}
@@ -41,7 +42,7 @@ whole-once s asked =
 
 -- the host when one has started
 pub started-made : (k k' : KernelState) (devices : List (Option OpenDevice)) (l l' : LedgerState) (steps : List KernelStep) (s : Submission) (held : HeldData) (room : ℕ) → k' ≡ kernel_submitted k s
-    → l' ≡ record l { endpoints = l.endpoints ++ Some (control_endpoint s.endpoint) ∷ []; slots = l.slots ++ slot.HeldBy (length l.endpoints) (record { endpoint = s.endpoint; kind = s.kind; held = held }) ∷ []; room = room }
+    → l' ≡ record l { endpoints = l.endpoints ++ Some (control_endpoint s.endpoint) ∷ []; slots = l.slots ++ slot.HeldBy (length l.endpoints) (record { endpoint = s.endpoint; kind = s.kind; held = held }) ∷ []; room = room; slot_count = slots_with (tickets_in l) l.slot_count }
     → host_made k' devices l' steps ≡ host_started (host_made k devices l steps) s
 unfolding host_started
 started-made k k' devices l l' steps s held room kernel ledger = rw (kernel, ledger, map-append) refl

@@ -21,11 +21,12 @@ use Rattle.usb_kernel.specs.TransferCompletions.{transfer_completion}
 use Rattle.usb_kernel.specs.Holds.{held_of}
 use Rattle.usb_kernel.specs.Holds.{held_at_once}
 use Rattle.usb_device_ledger.specs.declared.opened.OpenDevice.{OpenDevice}
-use Rattle.usb_device_ledger.specs.declared.slot.TicketState.{TicketState}
-use Rattle.usb_device_ledger.specs.declared.slot.TicketState.TheVariants as slot
+use Rattle.usb_device_ledger.specs.TicketStates.{TicketState}
+use Rattle.usb_device_ledger.specs.TicketStates as slot
 use Rattle.usb_device_host.specs.HostCalls.{host_submitted, host_refused}
 use Rattle.usb_device_host.specs.HostFacts.{TicketsAgree, host_made}
-use Rattle.usb_device_ledger.specs.LedgerState.{LedgerState}
+use Rattle.usb_device_ledger.specs.Slots.{slots_with}
+use Rattle.usb_device_ledger.specs.LedgerState.{LedgerState, tickets_in}
 use Rattle.usb_device_ledger.proofs.ListLemmas.{slice_get-push}
 use Rattle.usb_device_host.proofs.ArrivalLemmas.{Fits-same}
 
@@ -63,12 +64,12 @@ TicketsAgree-enter past slots s refusal key transfer agree held =
 -- the host then
 pub submitted-made : (k k' : KernelState) (devices : List (Option OpenDevice)) (l l' : LedgerState) (steps : List KernelStep) (to : Route) (t : TransferData) (b : BufferState) (held : HeldData) (room : ℕ) → buffer_held t.held ≡ Some b
     → k' ≡ record k { past = after_submit k.devices k.armed k.past (submission_of to b); armed = armed_after_submit k.devices k.armed (submission_of to b) }
-    → l' ≡ record l { slots = l.slots ++ slot.HeldBy to.key (record t { held = held }) ∷ []; room = room } → host_made k' devices l' steps ≡ host_submitted (host_made k devices l steps) to t
+    → l' ≡ record l { slots = l.slots ++ slot.HeldBy to.key (record t { held = held }) ∷ []; room = room; slot_count = slots_with (tickets_in l) l.slot_count } → host_made k' devices l' steps ≡ host_submitted (host_made k devices l steps) to t
 unfolding host_submitted
 submitted-made k k' devices l l' steps to t b held room some kernel ledger = rw (some, kernel, ledger, map-append) refl
 
 pub refused-made : (k k' : KernelState) (devices : List (Option OpenDevice)) (l l' : LedgerState) (steps : List KernelStep) (to : Route) (t : TransferData) (errno : ℕ) (b : BufferState) (held : HeldData) (room : ℕ) → buffer_held t.held ≡ Some b
     → k' ≡ record k { past = after_refuse k.past (submission_of to b) errno }
-    → l' ≡ record l { slots = l.slots ++ slot.HeldBy to.key (record t { held = held }) ∷ []; room = room } → host_made k' devices l' steps ≡ host_refused (host_made k devices l steps) to t errno
+    → l' ≡ record l { slots = l.slots ++ slot.HeldBy to.key (record t { held = held }) ∷ []; room = room; slot_count = slots_with (tickets_in l) l.slot_count } → host_made k' devices l' steps ≡ host_refused (host_made k devices l steps) to t errno
 unfolding host_refused
 refused-made k k' devices l l' steps to t errno b held room some kernel ledger = rw (some, kernel, ledger, map-append) refl

@@ -34,8 +34,8 @@ use Rattle.std.proofs.lemmas.List.{length-map}
 use Rattle.usb_kernel.specs.Value.{KernelState}
 use Rattle.usb_kernel_devices.specs.declared.step.KernelStep.{KernelStep}
 use Rattle.usb_device_ledger.specs.declared.opened.OpenDevice.{OpenDevice}
-use Rattle.usb_device_ledger.specs.declared.slot.TicketState.{TicketState}
-use Rattle.usb_device_ledger.specs.declared.slot.TicketState.TheVariants as slot
+use Rattle.usb_device_ledger.specs.TicketStates.{TicketState}
+use Rattle.usb_device_ledger.specs.TicketStates as slot
 use Rattle.usb_device_host.specs.HostFacts.{TicketsAgree, Fits, host_made}
 use Rattle.usb_device_ledger.specs.LedgerState.{LedgerState, host_ticket}
 

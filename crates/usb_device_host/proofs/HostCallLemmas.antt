@@ -24,14 +24,14 @@ use Rattle.usb_device_ledger.specs.declared.ends.TicketEnd.{TicketEnd}
 use Rattle.usb_device_ledger.specs.declared.ends.TicketEnd.TheVariants.{Dropped}
 use Rattle.usb_device_ledger.specs.declared.opened.OpenDevice.{OpenDevice}
 use Rattle.usb_device_ledger.specs.declared.owners.EndedClaim.{EndedClaim}
-use Rattle.usb_device_ledger.specs.declared.slot.TicketState.{TicketState}
-use Rattle.usb_device_ledger.specs.declared.slot.TicketState.TheVariants as slot
+use Rattle.usb_device_ledger.specs.TicketStates.{TicketState}
+use Rattle.usb_device_ledger.specs.TicketStates as slot
 use Rattle.usb_device_ledger.specs.Entries.{HostTicket, HostEndpoint, Hold, HeldBy, Abandoned, Ended}
 use Rattle.usb_device_host.specs.HostState.{HostState}
 use Rattle.usb_device_host.specs.HostBus.{hold_at, held_as, host_value, key_at}
 use Rattle.usb_device_host.specs.HostFacts.{TicketsAgree, host_made}
 use Rattle.usb_device_host.specs.HostCalls.{host_left}
-use Rattle.usb_device_ledger.specs.LedgerState.{LedgerState, host_ticket, slot_data, is_complete, ended_with, left_with}
+use Rattle.usb_device_ledger.specs.LedgerState.{LedgerState, host_ticket, slot_data, ended_with, left_with}
 use Rattle.usb_device_ledger.specs.Releases.{claim_of}
 use Rattle.usb_device_host.specs.Releases.{without_ended, endpoint_left, settled}
 use Rattle.usb_device_host.specs.HostTurns.{host_turned, host_turn, turned_of, reaped_of, turn_for, host_stepped, host_rest, all_stepped}
@@ -65,25 +65,14 @@ some-transfer None = refl
 some-transfer (Some done) = refl
 
 -- whether it is reaped
-pub come-reaped : (past : List Event) (slots : List TicketState) (t : ℕ) (w : HeldSlot slots t) → TicketsAgree past slots → is_complete (slot.HeldBy w.key w.transfer) ≡ is_some (completion past t)
+pub come-reaped : (past : List Event) (slots : List TicketState) (t : ℕ) (w : HeldSlot slots t) → TicketsAgree past slots → is_some (completion_held w.transfer.held) ≡ is_some (completion past t)
 unfolding transfer_completion
 come-reaped past slots t w agree =
     let fits : w.transfer.held ≡ held_of (transfer_completion past t) = agree.each t (slot.HeldBy w.key w.transfer) w.at in
     ap (λ h. is_some (completion_held h)) fits ∙ some-held (transfer_completion past t) ∙ some-transfer (completion past t)
 
-value-some : (hold : Hold) (o : Option Completion) → is_some (option_map (transfer_with hold) o) ≡ is_some o
-value-some hold None = refl
-value-some hold (Some c) = refl
-
 pub hold-of : (slots : List TicketState) (t : ℕ) (w : HeldSlot slots t) → hold_at (map host_ticket slots) t ≡ Some (record { key = w.key; endpoint = w.transfer.endpoint; kind = w.transfer.kind })
 hold-of slots t w = ap (option_and_then held_as) (ticket-at slots t (slot.HeldBy w.key w.transfer) w.at)
-
-pub come-value : (k : KernelState) (devices : List (Option OpenDevice)) (l : LedgerState) (steps : List KernelStep) (t : ℕ) (w : HeldSlot l.slots t) → TicketsAgree k.past l.slots
-    → is_complete (slot.HeldBy w.key w.transfer) ≡ is_some (host_value (host_made k devices l steps) t)
-unfolding transfer_completion
-come-value k devices l steps t w agree =
-    let hold : Hold = record { key = w.key; endpoint = w.transfer.endpoint; kind = w.transfer.kind } in
-    come-reaped k.past l.slots t w agree ∙ sym (ap (λ o. is_some (option_and_then (λ (hold : Hold). option_map (transfer_with hold) (transfer_completion k.past t)) o)) (hold-of l.slots t w) ∙ value-some hold (transfer_completion k.past t) ∙ some-transfer (completion k.past t))
 
 -- the transfer that is given back
 value-at : (transfer : TransferData) (key : ℕ) (o : Option Completion) → transfer.held ≡ held_of o → IsSome (option_map (transfer_with (record { key = key; endpoint = transfer.endpoint; kind = transfer.kind })) o)

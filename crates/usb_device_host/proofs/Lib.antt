@@ -2,6 +2,7 @@ pub mod Places
 pub mod KernelFrames
 pub mod ArrivalLemmas
 pub mod HostCallLemmas
+pub mod ReapedLemmas
 pub mod EnterLemmas
 pub mod Left
 pub mod TryLemmas

@@ -65,6 +65,7 @@ open_endpoint =
       endpoints = Some (record { interface = Some 0; address = 129; is_open = true }) ∷ [];
       tickets = held ∷ held ∷ held ∷ [];
       steps = [];
+      slot_count = 3;
     }
 
 -- it is closed: the tickets are discarded from the last to the first, and then given up

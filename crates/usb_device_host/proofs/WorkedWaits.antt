@@ -30,6 +30,7 @@ with_steps steps =
       endpoints = Some (record { interface = Some 0; address = 129; is_open = true }) ∷ [];
       tickets = HeldBy (record { key = 0; endpoint = 129; kind = Bulk }) ∷ [];
       steps = steps;
+      slot_count = 1;
     }
 
 -- at 5 nanoseconds a short packet finishes it, and then it is reaped

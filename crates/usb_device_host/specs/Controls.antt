@@ -5,6 +5,7 @@ use Rattle.usb_xfer.specs.Transfers.{setup_held, data_held}
 use Rattle.usb_kernel.specs.declared.submission.Submission.{Submission}
 use Rattle.usb_kernel.specs.Submits.{kernel_submitted}
 use Rattle.usb_device_ledger.specs.Entries.{HeldBy, control_endpoint}
+use Rattle.usb_device_ledger.specs.Slots.{slots_with}
 use Rattle.usb_device_host.specs.HostState.{HostState}
 
 -- when a time in nanoseconds is up: it is cut to a day, and ends at the greatest 64-bit number
@@ -33,6 +34,7 @@ host_started h s =
       tickets =
           h.tickets
           ++ HeldBy (record { key = length h.endpoints; endpoint = s.endpoint; kind = s.kind }) ∷ [];
+      slot_count = slots_with h.tickets h.slot_count;
     }
 
 -- a request to a device was handed in

@@ -17,19 +17,22 @@ use Rattle.usb_device_endpoint.specs.BusCalls.{BusCalls}
 use Rattle.usb_device_endpoint.specs.Routes.{submission_of}
 use Rattle.usb_device_tables.specs.History.{value_at}
 use Rattle.usb_device_ledger.specs.Entries.{HostEndpoint, HeldBy}
+use Rattle.usb_device_ledger.specs.Slots.{slots_with}
 use Rattle.usb_device_host.specs.HostState.{HostState}
 use Rattle.usb_device_host.specs.Releases.{settled}
 use Rattle.usb_device_host.specs.TicketEnds.{host_taken, host_abandoned}
 use Rattle.usb_device_host.specs.HostTurns.{with_past, host_turned, host_turn}
 use Rattle.usb_device_host.specs.HostBus.{bus_of}
 
--- the endpoint of a route holds the next ticket
+-- the endpoint of a route holds the next ticket, which has a slot (`slots_with`: Slots.antt of
+-- usb_device_ledger)
 abbrev pub with_held : HostState → Route → TransferData → KernelState → HostState
 with_held h to t kernel =
     record h {
       kernel = kernel;
       tickets =
           h.tickets ++ HeldBy (record { key = to.key; endpoint = t.endpoint; kind = t.kind }) ∷ [];
+      slot_count = slots_with h.tickets h.slot_count;
     }
 
 -- the buffer of a transfer was submitted, refused or not

@@ -11,8 +11,8 @@ use Rattle.usb_kernel.specs.Steps.{HasErrno}
 use Rattle.usb_kernel.specs.TransferCompletions.{transfer_completion}
 use Rattle.usb_kernel.specs.Holds.{held_of}
 use Rattle.usb_device_ledger.specs.declared.opened.OpenDevice.{OpenDevice}
-use Rattle.usb_device_ledger.specs.declared.slot.TicketState.{TicketState}
-use Rattle.usb_device_ledger.specs.declared.slot.TicketState.TheVariants as slot
+use Rattle.usb_device_ledger.specs.TicketStates.{TicketState}
+use Rattle.usb_device_ledger.specs.TicketStates as slot
 use Rattle.usb_device_host.specs.declared.host.Host.TheInside.{Inside}
 use Rattle.usb_device_host.specs.HostState.{HostState}
 use Rattle.usb_device_ledger.specs.LedgerState.{LedgerState, host_ticket}
@@ -27,6 +27,7 @@ host_made kernel devices l steps =
       endpoints = l.endpoints;
       tickets = map host_ticket l.slots;
       steps = steps;
+      slot_count = l.slot_count;
     }
 
 -- a slot is what the journal says: a transfer that an endpoint holds has its completion as soon as

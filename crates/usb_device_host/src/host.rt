@@ -36,7 +36,7 @@ use std::alloc::Global;
 use std::collections::VecDeque;
 use std::marker::Model;
 use usb_device_endpoint::{Bus, Route, Turn};
-use usb_device_ledger::{Devices, EndedClaim, Ledger, TicketEnd, TicketState};
+use usb_device_ledger::{Devices, EndedClaim, Ledger, TicketEnd};
 use usb_kernel::{Done, Kernel, KernelStep, Submitted, completion_from};
 use usb_xfer::{Held, Idle, Pending, Slots, TransferData};
 
@@ -325,8 +325,7 @@ impl Host {
         ensures come { result ≡ is_some (host_value self.now ticket) }
         ensures reaped { result ≡ is_some (completion self.now.kernel.past ticket) }
     {
-        let slot = self.ledger.slot(ticket as usize);
-        slot.is_complete()
+        self.reaped(ticket).is_some()
     }
 
     /// A ticket that an endpoint holds has its end.

@@ -10,6 +10,7 @@ mod endpoints;
 mod host;
 mod opening;
 mod settings;
+mod slots;
 
 pub use controls::StartedControl;
 pub use host::Host;

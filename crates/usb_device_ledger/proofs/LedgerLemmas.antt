@@ -17,8 +17,8 @@ use Rattle.usb_device_ledger.specs.Entries.{HostTicket, HostEndpoint, ClaimedInt
 use Rattle.usb_device_ledger.specs.Owners.{is_of, is_ticket_of, if_there, lives, lives_on, uses_bit, shares_bit, is_used_among, is_owned_among}
 use Rattle.usb_device_ledger.specs.Releases.{claim_ended, claim_of, interface_at, endpoints_left}
 use Rattle.usb_device_ledger.specs.OwnerRows.{endpoint_of, row_interface, interface_of_row, is_alive, is_alive_on, uses_row, one_if, is_counted, rows_left, row_gone, claim_gone}
-use Rattle.usb_device_ledger.specs.declared.slot.TicketState.{TicketState}
-use Rattle.usb_device_ledger.specs.declared.slot.TicketState.TheVariants as slot
+use Rattle.usb_device_ledger.specs.TicketStates.{TicketState}
+use Rattle.usb_device_ledger.specs.TicketStates as slot
 use Rattle.usb_kernel.specs.declared.submission.Done.{Done}
 use Rattle.usb_device_ledger.specs.declared.ends.TicketEnd.TheVariants.{Reclaimed}
 use Rattle.usb_device_ledger.specs.LedgerState.{Tied, tickets_at, ticket_key, host_ticket, slot_without, slot_with, slot_kept, is_given_up, abandoned_key}
@@ -37,7 +37,7 @@ is_ticket-same : (k : ℕ) (x y : HostTicket) (key : ℕ) → ticket_key x ≡ S
 is_ticket-same k x y key is also = is_ticket-key k key y also ∙ sym (is_ticket-key k key x is)
 
 -- the row of a key counts its tickets
-counts-at : (rows : List (Option EndpointRow)) (tickets : List HostTicket) (k : ℕ) (e : EndpointRow) → Tied rows tickets → value_at rows k ≡ Some e → e.tickets ≡ count_by (is_ticket_of k) tickets
+pub counts-at : (rows : List (Option EndpointRow)) (tickets : List HostTicket) (k : ℕ) (e : EndpointRow) → Tied rows tickets → value_at rows k ≡ Some e → e.tickets ≡ count_by (is_ticket_of k) tickets
 counts-at rows tickets k e tied at = sym (ap (λ (o : Option EndpointRow). option_map_or (λ (r : EndpointRow). r.tickets) o 0) at) ∙ tied k
 
 one-counted : (tickets : List HostTicket) (t key : ℕ) (x : HostTicket) → slice_get tickets t ≡ Some x → ticket_key x ≡ Some key → 0 < count_by (is_ticket_of key) tickets
@@ -274,28 +274,11 @@ pub either : {A E G : Type 0} (r : Result A E) (P Q : Type 0) → OnOk r P → O
 either (Ok a) P Q ok err f g = f ok
 either (Err e) P Q ok err f g = g err
 
-pub key-at : (s : TicketState) → IsSome (ticket_key (host_ticket s)) → (key : ℕ) × (ticket_key (host_ticket s) ≡ Some key)
-key-at s some = some-of (ticket_key (host_ticket s)) some
-  where
-    some-of : (o : Option ℕ) → IsSome o → (key : ℕ) × (o ≡ Some key)
-    some-of None is = absurd (cc)
-    some-of (Some key) is = (key, refl)
-
-pub key-without : (s : TicketState) (key : ℕ) → ticket_key (host_ticket s) ≡ Some key → ticket_key (host_ticket (slot_without s)) ≡ Some key
-key-without (slot.HeldBy k transfer) key is = is
-key-without (slot.Abandoned k) key is = is
-key-without (slot.Ended end) key is = is
-
 -- a slot when its completion comes
 pub given-with : (done : Done) (s : TicketState) → is_given_up s ≡ true → slot_with done s ≡ slot.Ended Reclaimed
 given-with done (slot.HeldBy k transfer) is = absurd (cc)
 given-with done (slot.Abandoned k) is = refl
 given-with done (slot.Ended end) is = absurd (cc)
-
-pub given-key : (done : Done) (s : TicketState) → is_given_up s ≡ true → ticket_key (host_ticket (slot_kept done s)) ≡ abandoned_key s
-given-key done (slot.HeldBy k transfer) is = absurd (cc)
-given-key done (slot.Abandoned k) is = refl
-given-key done (slot.Ended end) is = absurd (cc)
 
 pub kept-with : (done : Done) (s : TicketState) → is_given_up s ≡ false → slot_with done s ≡ slot_kept done s
 kept-with done (slot.HeldBy k transfer) is = refl

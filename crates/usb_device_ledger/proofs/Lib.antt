@@ -4,3 +4,7 @@ pub mod OwnerLemmas
 pub mod LedgerLemmas
 pub mod OwnedRows
 pub mod KeptLemmas
+pub mod FreeLemmas
+pub mod PoolLemmas
+pub mod StandingLemmas
+pub mod PlaceLemmas

@@ -24,10 +24,6 @@ slice_get-push [] y x (suc t) at = absurd (none-some x at)
 slice_get-push (z ∷ zs) y x zero at = inr at
 slice_get-push (z ∷ zs) y x (suc t) at = elim (slice_get-push zs y x t at) [ inl w ↦ inl (ap suc w.0, w.1) | inr w ↦ inr w ]
 
--- the element that an index reads
-pub place : {X : Type 0} (xs : List X) (i : ℕ) (x : X) → i < length xs → x ≡ get_or xs i x → slice_get xs i ≡ Some x
-place xs i x within at = slice_get-get_or xs i x within ∙ ap Some (sym at)
-
 -- the same of what is there
 pub slice-value : {X : Type 0} (xs : List (Option X)) (i : ℕ) (x : X) → value_at xs i ≡ Some x → slice_get xs i ≡ Some (Some x)
 slice-value [] i x at = absurd (none-some x at)
@@ -84,9 +80,6 @@ any-enumerated f p q m (x ∷ xs) each =
     let IH = any-enumerated f p q (m + 1) xs (λ k y at. let e : (m + 1) + k ≡ m + suc k = omega arith in rw e (each (suc k) y at)) in
     rw (here, IH) refl
 
--- there is room for one more, and a number is that of an element
-pub room_there : {X : Type 0} (xs : Vec X Global) → 1 ≤ vec_capacity xs - vec_len xs → vec_len xs < vec_capacity xs
-room_there xs room = omega arith
-
+-- a number is that of an element
 pub place_there : {X : Type 0} (xs : Vec X Global) (i : ℕ) → i < length xs.items → i < vec_len xs
 place_there xs i inside = rw xs.ok.0 inside

@@ -1,5 +1,5 @@
 -- Claimed interfaces, endpoints and tickets, as the users of a host know them.
-use Rattle.std.specs.Prelude.{ℕ, Bool, true, Option, None}
+use Rattle.std.specs.Prelude.{ℕ, Bool, true, false, Option, None}
 -- (`Hold` is what an endpoint holds of a ticket)
 pub use Rattle.usb_kernel.specs.Holds.{Hold}
 use Rattle.usb_device_ledger.specs.declared.ends.TicketEnd.{TicketEnd}
@@ -10,6 +10,12 @@ pub data HostTicket : Type 0 where
   HeldBy : (hold : Hold) → HostTicket
   Abandoned : (key : ℕ) → HostTicket
   Ended : (end : TicketEnd) → HostTicket
+
+-- whether a ticket has no end
+abbrev pub is_unended : HostTicket → Bool
+is_unended (HeldBy hold) = true
+is_unended (Abandoned key) = true
+is_unended (Ended end) = false
 
 -- a claimed interface: the key of its open device, the device's number at the kernel, the
 -- interface's number, its current alternate setting, whether its driver is to be attached again

@@ -1,17 +1,16 @@
 -- The claimed interfaces, their endpoints, and the tickets of these, with the data of their
 -- transfers.
-use Rattle.std.specs.Prelude.{ℕ, Bool, true, false, ◌≡◌, List, map, Option, Some, None, is_some}
+use Rattle.std.specs.Prelude.{ℕ, Bool, true, false, ◌≡◌, List, map, Option, Some, None}
 use Rattle.std.specs.Option.{option_map_or}
 use Rattle.std.specs.List.{count_by}
 use Rattle.usb_device_tables.specs.History.{value_at}
 use Rattle.usb_xfer.specs.declared.transfer.TransferData.{TransferData}
 use Rattle.usb_xfer.specs.declared.transfer.Held.TheVariants.{Complete}
-use Rattle.usb_xfer.specs.Transfers.{completion_held}
 use Rattle.usb_kernel.specs.declared.submission.Done.{Done}
 use Rattle.usb_kernel.specs.TransferCompletions.{completion_of}
 use Rattle.usb_device_ledger.specs.declared.ends.TicketEnd.TheVariants.{Reclaimed}
-use Rattle.usb_device_ledger.specs.declared.slot.TicketState.{TicketState}
-use Rattle.usb_device_ledger.specs.declared.slot.TicketState.TheVariants as slot
+use Rattle.usb_device_ledger.specs.TicketStates.{TicketState}
+use Rattle.usb_device_ledger.specs.TicketStates as slot
 use Rattle.usb_device_ledger.specs.declared.owners.EndedClaim.{EndedClaim}
 use Rattle.usb_device_ledger.specs.declared.owners.EndpointRow.{EndpointRow}
 use Rattle.usb_device_ledger.specs.Entries.{HostTicket, HostEndpoint, ClaimedInterface, HeldBy, Abandoned, Ended}
@@ -26,13 +25,14 @@ host_ticket (slot.Abandoned key) = Abandoned key
 host_ticket (slot.Ended end) = Ended end
 
 -- room: how many more tickets there is a place for. claim_capacity: how many interfaces there is
--- memory for at once
+-- memory for at once. slot_count: how many slots there are for tickets without an end
 pub record LedgerState : Type 0 where
   pub interfaces : List (Option ClaimedInterface)
   pub endpoints : List (Option HostEndpoint)
   pub slots : List TicketState
   pub room : ℕ
   pub claim_capacity : ℕ
+  pub slot_count : ℕ
 
 abbrev pub tickets_in : LedgerState → List HostTicket
 tickets_in l = map host_ticket l.slots
@@ -94,12 +94,6 @@ abbrev pub is_given_up : TicketState → Bool
 is_given_up (slot.HeldBy key transfer) = false
 is_given_up (slot.Abandoned key) = true
 is_given_up (slot.Ended end) = false
-
--- whether a slot has the completion of a ticket that an endpoint holds
-abbrev pub is_complete : TicketState → Bool
-is_complete (slot.HeldBy key transfer) = is_some (completion_held transfer.held)
-is_complete (slot.Abandoned key) = false
-is_complete (slot.Ended end) = false
 
 -- how many tickets without an end the row of a key counts
 abbrev pub tickets_at : List (Option EndpointRow) → ℕ → ℕ

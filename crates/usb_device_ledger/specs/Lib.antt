@@ -8,3 +8,9 @@ pub mod LedgerState
 pub mod LedgerFacts
 pub mod Devices
 pub mod Kept
+pub mod Pools
+pub mod PoolFacts
+pub mod Slots
+pub mod TicketStates
+pub mod Places
+pub mod TicketSlotFacts

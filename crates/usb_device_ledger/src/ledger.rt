@@ -1,7 +1,7 @@
 //! The claimed interfaces, their endpoints, and the tickets of these.
 
-ghost use Rattle.std.specs.Prelude.{◌≡◌, ◌+◌, ◌-◌, ◌^◌, ◌<◌, ◌≤◌, ◌++◌, ◌∷◌, [], length, set, take, true, false, slice_get, Some, None, IsSome, OnOk, OnErr, IfOk, vec_len, vec_capacity};
-ghost use Rattle.std.specs.Option.{ForSome};
+ghost use Rattle.std.specs.Prelude.{◌≡◌, ◌+◌, ◌-◌, ◌^◌, ◌<◌, ◌≤◌, ◌++◌, ◌∷◌, [], length, set, take, true, false, slice_get, option_and_then, Some, None, IsSome, OnOk, OnErr, IfOk};
+ghost use Rattle.std.specs.Option.{ForSome, option_copied};
 ghost use Rattle.usb_device_tables.specs.History.{value_at, live_count};
 ghost use Rattle.usb_device_ledger.specs.OwnerRows.{claim_state};
 ghost use Rattle.std.specs.List.{count_by};
@@ -11,13 +11,15 @@ ghost use Rattle.usb_device_ledger.specs.EndedTickets.{end_at};
 ghost use Rattle.usb_device_ledger.specs.Entries.{fresh_interface, control_endpoint};
 ghost use Rattle.usb_device_ledger.specs.Kept.{EachIsOwned, EachLives};
 ghost use Rattle.usb_device_ledger.specs.LedgerState.{host_ticket, tickets_in, ticket_key, slot_data, slot_with, slot_without, ended_with, left_with, abandoned_key};
+ghost use Rattle.usb_device_ledger.specs.Slots.{HaveSlots, slots_with};
+ghost use Rattle.usb_device_ledger.specs.TicketStates as TicketState;
 
 use crate::ends::TicketEnd;
 use crate::owners::{Claim, EndedClaim, Owners};
-use crate::slot::TicketState;
+use crate::standing::Standing;
+use crate::ticket_slots::TicketSlots;
 use std::alloc::Global;
 use std::marker::Model;
-use std::mem;
 use usb_desc::NoMemory;
 use usb_device_tables::Key;
 use usb_kernel::Done;
@@ -35,11 +37,11 @@ pub struct Ending {
 #[derive(Drop)]
 pub struct Ledger {
     owners: Owners,
-    slots: Vec<TicketState>,
+    tickets: TicketSlots,
 }
 
 impl Model for Ledger {
-    ghost use Rattle.std.specs.Prelude.{map, ◌-◌, vec_len, vec_capacity};
+    ghost use Rattle.std.specs.Prelude.{map};
     ghost use Rattle.std.specs.Option.{option_map};
     ghost use Rattle.usb_device_ledger.specs.OwnerRows.{endpoint_of};
     ghost use Rattle.usb_device_ledger.specs.EndedTickets.{end_at};
@@ -50,9 +52,10 @@ impl Model for Ledger {
     ghost view = { λ l. record {
       interfaces = l.owners.interfaces;
       endpoints = map (option_map endpoint_of) l.owners.rows;
-      slots = l.slots.items;
-      room = vec_capacity l.slots - vec_len l.slots;
+      slots = l.tickets.slots;
+      room = l.tickets.room;
       claim_capacity = l.owners.claim_capacity;
+      slot_count = l.tickets.slot_count;
     } };
 
     ghost use Rattle.usb_device_ledger.specs.LedgerFacts.{IsTied};
@@ -69,11 +72,12 @@ impl Ledger {
           slots = [];
           room = result.room;
           claim_capacity = 0;
+          slot_count = 0;
         } }
     {
         Ledger {
             owners: Owners::new(alloc),
-            slots: Vec::new(alloc),
+            tickets: TicketSlots::new(alloc),
         }
     }
 
@@ -93,9 +97,9 @@ impl Ledger {
               slots = set self.old.slots ticket (TicketState.Ended end);
             }) (ticket_key (host_ticket s))) }
     {
-        let slot = mem::replace(&mut self.slots[ticket], TicketState::Ended(end));
-        let parts = slot.into_parts();
-        let claim = self.owners.end_ticket(parts.key.unwrap());
+        let standing = self.tickets.end(ticket, end);
+        let parts = standing.into_parts();
+        let claim = self.owners.end_ticket(parts.key);
         Ending {
             transfer: parts.transfer,
             claim,
@@ -116,11 +120,14 @@ impl Ledger {
             }) (abandoned_key s)) }
     {
         let ticket = done.ticket as usize;
-        let slot = &mut self.slots[ticket];
-        if slot.keep(done) {
-            return self.end(ticket, TicketEnd::Reclaimed).claim;
+        let standing = self.tickets.standing(ticket)?;
+        match standing.with_completion(done) {
+            Some(complete) => {
+                self.tickets.replace(ticket, complete);
+                None
+            }
+            None => self.end(ticket, TicketEnd::Reclaimed).claim,
         }
-        None
     }
 
     /// The endpoint of a ticket that has no end gives it up.
@@ -131,8 +138,10 @@ impl Ledger {
         ensures slots { ForSome (slice_get self.old.slots ticket) (λ s.
             self.new ≡ record self.old { slots = set self.old.slots ticket (slot_without s) }) }
     {
-        let slot = &mut self.slots[ticket];
-        slot.give_up();
+        if let Some(standing) = self.tickets.standing(ticket) {
+            let key = standing.key();
+            self.tickets.replace(ticket, Standing::Abandoned { key });
+        }
     }
 
     /// Makes room for one more ticket.
@@ -140,24 +149,21 @@ impl Ledger {
         ensures room { OnOk result (1 ≤ self.new.room) }
         ensures rest { self.new ≡ record self.old { room = self.new.room } }
     {
-        if self.slots.reserve(1).is_err() {
-            return Err(NoMemory);
-        }
-        Ok(())
+        self.tickets.reserve()
     }
 
-    /// An endpoint that is open holds the next ticket.
+    /// An endpoint that is open holds the next ticket. It takes no memory.
     pub fn hold(&mut self, key: usize, transfer: TransferData)
         requires room { 1 ≤ self.old.room }
         requires there { IsSome (value_at self.old.endpoints key) }
         requires open { ForSome (value_at self.old.endpoints key) (λ e. e.is_open ≡ true) }
         ensures slots { self.new ≡ record self.old {
           slots = self.old.slots ++ TicketState.HeldBy key transfer ∷ [];
-          room = self.old.room - 1;
+          room = self.new.room;
+          slot_count = slots_with (tickets_in self.old) self.old.slot_count;
         } }
     {
-        self.slots
-            .push_reserved(TicketState::HeldBy { key, transfer });
+        self.tickets.add(Standing::HeldBy { key, transfer });
         self.owners.add_ticket(key);
     }
 
@@ -372,29 +378,33 @@ impl Ledger {
         self.owners.take_control_back();
     }
 
-    /// A slot.
-    pub fn slot(&self, ticket: usize) -> &TicketState
-        requires within { ticket < length self.now.slots }
-        ensures slot { slice_get self.now.slots ticket ≡ Some result.now }
+    /// The transfer of a ticket that an endpoint holds.
+    pub fn transfer(&self, ticket: u64) -> Option<&TransferData>
+        ensures transfer { option_copied result
+            ≡ option_and_then slot_data (slice_get self.now.slots ticket) }
     {
-        &self.slots[ticket]
+        self.tickets.standing(ticket as usize)?.transfer()
     }
 
     /// The end of a ticket, if it has one.
     pub fn end_of(&self, ticket: u64) -> Option<TicketEnd>
         ensures end { result ≡ end_at (tickets_in self.now) ticket }
     {
-        if ticket >= self.slots.len() as u64 {
-            return None;
-        }
-        let slot = &self.slots[ticket as usize];
-        slot.end()
+        self.tickets.end_of(ticket as usize)
     }
 
     /// The number of tickets.
     pub fn count(&self) -> usize
         ensures count { result ≡ length self.now.slots }
     {
-        self.slots.len()
+        self.tickets.count()
+    }
+
+    /// How many slots there are. Each ticket without an end stands in one of its own.
+    pub fn slot_count(&self) -> usize
+        ensures count { result ≡ self.now.slot_count }
+        ensures places { HaveSlots (tickets_in self.now) result }
+    {
+        self.tickets.slot_count()
     }
 }

@@ -7,11 +7,13 @@ mod ends;
 mod ledger;
 mod opened;
 mod owners;
-mod slot;
+mod place;
+mod pool;
+mod standing;
+mod ticket_slots;
 
 pub use devices::Devices;
 pub use ends::TicketEnd;
 pub use ledger::{Ending, Ledger};
 pub use opened::OpenDevice;
 pub use owners::{Claim, EndedClaim};
-pub use slot::TicketState;

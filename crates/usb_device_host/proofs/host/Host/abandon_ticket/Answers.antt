@@ -1,7 +1,7 @@
 use Rattle.std.proofs.Common.{◌≡◌, false, ap, sym, refl, ◌∙◌}
 use Rattle.std.specs.Prelude.{is_some}
 use Rattle.usb_kernel.specs.Completions.{completion}
-use Rattle.usb_device_ledger.specs.declared.slot.TicketState.TheVariants as slot
+use Rattle.usb_device_ledger.specs.TicketStates as slot
 use Rattle.usb_device_host.specs.HostState.{HostState}
 use Rattle.usb_device_ledger.specs.LedgerState.{LedgerState}
 use Rattle.usb_device_host.specs.TicketEnds.{host_abandoned}

@@ -7,7 +7,7 @@ use Rattle.usb_kernel.specs.Value.{KernelState}
 use Rattle.usb_kernel.specs.TransferCompletions.{transfer_completion}
 use Rattle.usb_device_ledger.specs.LedgerState.{LedgerState, slot_data}
 use Rattle.usb_device_ledger.specs.declared.opened.OpenDevice.{OpenDevice}
-use Rattle.usb_device_ledger.specs.declared.slot.TicketState.TheVariants as slot
+use Rattle.usb_device_ledger.specs.TicketStates as slot
 use Rattle.usb_device_host.specs.HostBus.{host_value}
 use Rattle.usb_device_host.specs.HeldTransfers.{transfer_held, host_transfer}
 use Rattle.usb_device_host.specs.HostFacts.{host_made, TicketsAgree}

@@ -8,9 +8,10 @@ use Rattle.usb_kernel.specs.Submits.{submit_refusal, submit_or_refuse, kernel_su
 use Rattle.usb_kernel.specs.Holds.{held_at_once}
 use Rattle.usb_device_tables.specs.History.{value_at}
 use Rattle.usb_device_tables.proofs.ValueLemmas.{is-some, value-last, value-of_last}
-use Rattle.usb_device_ledger.specs.declared.slot.TicketState.TheVariants as slot
+use Rattle.usb_device_ledger.specs.TicketStates as slot
 use Rattle.usb_device_ledger.specs.Entries.{HostEndpoint, control_endpoint}
-use Rattle.usb_device_ledger.specs.LedgerState.{LedgerState}
+use Rattle.usb_device_ledger.specs.Slots.{slots_with}
+use Rattle.usb_device_ledger.specs.LedgerState.{LedgerState, tickets_in}
 use Rattle.usb_device_host.specs.HostState.{HostState}
 use Rattle.usb_device_host.specs.Controls.{host_started, control_submission}
 use Rattle.usb_device_host.proofs.EnterLemmas.{TicketsAgree-enter}
@@ -80,17 +81,18 @@ returns-in-Ok-clause-ok c =
     let address = c.args.request.endpoint in
     let e = control_endpoint address in
     let transfer : TransferData = record { endpoint = address; kind = c.args.request.kind; held = held } in
-    let room = c.open_control.new.self.room - 1 in
+    let room = c.hold.new.self.room in
+    let count = slots_with (tickets_in l) l.slot_count in
     let key : c.in_ok-key.key ≡ length l.endpoints = c.in_ok-key.ensures.key ∙ ap (λ (x : LedgerState). length x.endpoints) c.reserve.ensures.rest in
     let opened : c.open_control.new.self ≡ record l { endpoints = l.endpoints ++ Some e ∷ []; room = c.reserve.new.self.room } =
     c.in_ok-key.ensures.endpoints ∙ ap (λ (x : LedgerState). record x { endpoints = x.endpoints ++ Some e ∷ [] }) c.reserve.ensures.rest in
-    let ledger : c.hold.new.self ≡ record l { endpoints = l.endpoints ++ Some e ∷ []; slots = l.slots ++ slot.HeldBy c.in_ok-key.key transfer ∷ []; room = room } =
-    c.hold.ensures.slots ∙ ap (λ (t : TransferData). record c.open_control.new.self { slots = c.open_control.new.self.slots ++ slot.HeldBy c.in_ok-key.key (record t { held = held }) ∷ []; room = room }) c.submission_from-submission.ensures.rest ∙ ap (λ (x : LedgerState). record x { slots = x.slots ++ slot.HeldBy c.in_ok-key.key transfer ∷ []; room = room }) opened in
+    let ledger : c.hold.new.self ≡ record l { endpoints = l.endpoints ++ Some e ∷ []; slots = l.slots ++ slot.HeldBy c.in_ok-key.key transfer ∷ []; room = room; slot_count = count } =
+    c.hold.ensures.slots ∙ ap (λ (t : TransferData). record c.open_control.new.self { slots = c.open_control.new.self.slots ++ slot.HeldBy c.in_ok-key.key (record t { held = held }) ∷ []; room = room; slot_count = slots_with (tickets_in c.open_control.new.self) c.open_control.new.self.slot_count }) c.submission_from-submission.ensures.rest ∙ ap (λ (x : LedgerState). record x { slots = x.slots ++ slot.HeldBy c.in_ok-key.key transfer ∷ []; room = room; slot_count = slots_with (tickets_in x) x.slot_count }) opened in
     let endpoint : sub.endpoint ≡ address = ap (λ (s : Submission). s.endpoint) c.submission_from-submission.ensures.submission in
     let kind : sub.kind ≡ c.args.request.kind = ap (λ (s : Submission). s.kind) c.submission_from-submission.ensures.submission in
     let kernel : c.submit.new.self ≡ kernel_submitted k sub =
     c.submit.ensures.rest ∙ (ap (λ p. record k { past = p; armed = c.submit.new.self.armed }) c.in-Ok.ensures.past ∙ ap (λ a. record k { past = (kernel_submitted k sub).past; armed = a }) c.in-Ok.ensures.armed) in
-    let made : c.hold.new.self ≡ record l { endpoints = l.endpoints ++ Some (control_endpoint sub.endpoint) ∷ []; slots = l.slots ++ slot.HeldBy (length l.endpoints) (record { endpoint = sub.endpoint; kind = sub.kind; held = held }) ∷ []; room = room } = rw (endpoint, kind, sym key) ledger in
+    let made : c.hold.new.self ≡ record l { endpoints = l.endpoints ++ Some (control_endpoint sub.endpoint) ∷ []; slots = l.slots ++ slot.HeldBy (length l.endpoints) (record { endpoint = sub.endpoint; kind = sub.kind; held = held }) ∷ []; room = room; slot_count = count } = rw (endpoint, kind, sym key) ledger in
     let submission : sub ≡ control_submission now c.args.device c.args.request c.args.timeout =
     c.submission_from-submission.ensures.submission ∙ ap (λ d. record (control_submission now c.args.device c.args.request c.args.timeout) { deadline = Some d }) c.deadline_after-deadline.ensures.deadline in
     started-made k c.submit.new.self c.self.inside.devices l c.hold.new.self c.self.inside.steps.items sub held room kernel made

@@ -14,11 +14,11 @@ pub returns-clause-interfaces : goal.returns-clause-interfaces
 returns-clause-interfaces c = λ x there.
     let here : value_at c.self.inside.owners.interfaces c.args.interface.serial ≡ Some x = ap (λ (l : LedgerState). value_at l.interfaces c.args.interface.serial) c.self.view_is ∙ there in
     let left = set c.self.inside.owners.interfaces c.args.interface.serial (Some (record x { handles = x.handles - 1 })) in
-    let ended = c.close_handle.ensures.gone x here ∙ sym (claim_ended-rows c.self.inside.owners.rows (map host_ticket c.self.inside.slots.items) c.self.invariant left c.args.interface.serial) in
+    let ended = c.close_handle.ensures.gone x here ∙ sym (claim_ended-rows c.self.inside.owners.rows (map host_ticket c.self.inside.tickets.slots) c.self.invariant left c.args.interface.serial) in
     rw (← c.self.view_is, c.close_handle.ensures.interfaces x here, ended) refl
 
 pub returns-clause-claim : goal.returns-clause-claim
 returns-clause-claim c = λ x there.
     let here : value_at c.self.inside.owners.interfaces c.args.interface.serial ≡ Some x = ap (λ (l : LedgerState). value_at l.interfaces c.args.interface.serial) c.self.view_is ∙ there in
     let left = set c.self.inside.owners.interfaces c.args.interface.serial (Some (record x { handles = x.handles - 1 })) in
-    rw (← c.self.view_is) (c.close_handle.ensures.gone x here ∙ sym (claim_ended-rows c.self.inside.owners.rows (map host_ticket c.self.inside.slots.items) c.self.invariant left c.args.interface.serial))
+    rw (← c.self.view_is) (c.close_handle.ensures.gone x here ∙ sym (claim_ended-rows c.self.inside.owners.rows (map host_ticket c.self.inside.tickets.slots) c.self.invariant left c.args.interface.serial))

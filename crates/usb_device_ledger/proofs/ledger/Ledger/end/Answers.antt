@@ -6,13 +6,13 @@ use Rattle.usb_device_tables.specs.History.{value_at}
 use Rattle.usb_device_tables.proofs.ValueLemmas.{some-of}
 use Rattle.usb_device_ledger.specs.declared.ends.TicketEnd.{TicketEnd}
 use Rattle.usb_device_ledger.specs.declared.owners.EndpointRow.{EndpointRow}
-use Rattle.usb_device_ledger.specs.declared.slot.TicketState.{TicketState}
-use Rattle.usb_device_ledger.specs.declared.slot.TicketState.TheVariants as slot
+use Rattle.usb_device_ledger.specs.TicketStates.{TicketState, state_of}
+use Rattle.usb_device_ledger.specs.TicketStates as slot
 use Rattle.usb_device_ledger.specs.Entries.{HostTicket, ClaimedInterface}
 use Rattle.usb_device_ledger.specs.Releases.{claim_of, endpoints_left}
 use Rattle.usb_device_ledger.specs.OwnerRows.{OwnersState, endpoint_of, rows_left, row_gone, with_row}
 use Rattle.usb_device_ledger.specs.LedgerState.{Tied, host_ticket, ticket_key, slot_data}
-use Rattle.usb_device_ledger.proofs.ListLemmas.{place, place_there}
+use Rattle.usb_device_ledger.proofs.StandingLemmas.{standing-slot, keyed-standing}
 use Rattle.usb_device_ledger.proofs.OwnerLemmas.{with_row-at}
 use Rattle.usb_device_ledger.proofs.LedgerLemmas.{key-there, counted-some, Tied-end, Tied-left, claim_of-rows, left-rows, interface-row, endpoints-kept, ticket-at}
 use Rattle.usb_device_ledger.proofs.ledger.Ledger.end.Goals as goal
@@ -46,40 +46,36 @@ row rows slots ticket own end s tied at key =
       kept = endpoints-kept rows own e (record e { tickets = e.tickets - 1 }) found.1 refl;
     }
 
--- the key of its endpoint, of the parts of what stood in the slot
-key_of : {s read : TicketState} {k : Option ℕ} {own : ℕ} → read ≡ s → k ≡ ticket_key (host_ticket read) → k ≡ Some own → ticket_key (host_ticket s) ≡ Some own
-key_of same parts is = ap (λ (x : TicketState). ticket_key (host_ticket x)) (sym same) ∙ sym parts ∙ is
-
 pub end_ticket-claim-requires-clause-there : goal.end_ticket-claim-requires-clause-there
 end_ticket-claim-requires-clause-there c =
     let rows = c.self.inside.owners.rows in
-    let slots = c.self.inside.slots.items in
-    let s = c.index_mut.result.now in
-    let at : slice_get slots c.args.ticket ≡ Some s = place slots c.args.ticket s (rw (← c.self.view_is) at c.requires.within) c.index_mut.ensures.value in
-    let key = key_of c.replace-slot.ensures.value c.into_parts-parts.ensures.key c.unwrap.ensures in
-    key-there rows (map host_ticket slots) c.args.ticket c.unwrap.result (host_ticket s) c.self.invariant (ticket-at slots c.args.ticket s at) key
+    let slots = c.self.inside.tickets.slots in
+    let s = state_of c.end-standing.result in
+    let at : slice_get slots c.args.ticket ≡ Some s = standing-slot slots c.args.ticket c.end-standing.result c.end-standing.ensures.standing in
+    let key = c.into_parts-parts.ensures.key in
+    key-there rows (map host_ticket slots) c.args.ticket c.into_parts-parts.result.key (host_ticket s) c.self.invariant (ticket-at slots c.args.ticket s at) key
 
 pub end_ticket-claim-requires-clause-some : goal.end_ticket-claim-requires-clause-some
 end_ticket-claim-requires-clause-some c = λ e there.
     let rows = c.self.inside.owners.rows in
-    let slots = c.self.inside.slots.items in
-    let s = c.index_mut.result.now in
-    let at : slice_get slots c.args.ticket ≡ Some s = place slots c.args.ticket s (rw (← c.self.view_is) at c.requires.within) c.index_mut.ensures.value in
-    let key = key_of c.replace-slot.ensures.value c.into_parts-parts.ensures.key c.unwrap.ensures in
-    counted-some rows (map host_ticket slots) c.args.ticket c.unwrap.result (host_ticket s) e c.self.invariant (ticket-at slots c.args.ticket s at) key there
+    let slots = c.self.inside.tickets.slots in
+    let s = state_of c.end-standing.result in
+    let at : slice_get slots c.args.ticket ≡ Some s = standing-slot slots c.args.ticket c.end-standing.result c.end-standing.ensures.standing in
+    let key = c.into_parts-parts.ensures.key in
+    counted-some rows (map host_ticket slots) c.args.ticket c.into_parts-parts.result.key (host_ticket s) e c.self.invariant (ticket-at slots c.args.ticket s at) key there
 
 pub invariant_of-self : goal.invariant_of-self
 invariant_of-self c =
     let rows = c.self.inside.owners.rows in
-    let slots = c.self.inside.slots.items in
-    let s = c.index_mut.result.now in
-    let at : slice_get slots c.args.ticket ≡ Some s = place slots c.args.ticket s (rw (← c.self.view_is) at c.requires.within) c.index_mut.ensures.value in
-    let key = key_of c.replace-slot.ensures.value c.into_parts-parts.ensures.key c.unwrap.ensures in
-    let r = row rows slots c.args.ticket c.unwrap.result c.args.end s c.self.invariant at key in
-    let after : c.end_ticket-claim.new.self.rows ≡ rows_left (fewer rows c.unwrap.result r.e) c.unwrap.result =
-    ap (λ (o : OwnersState). o.rows) (c.end_ticket-claim.ensures.rows r.e r.there) ∙ ap (λ l. rows_left l c.unwrap.result) r.row_is in
-    let left : Tied c.end_ticket-claim.new.self.rows (map host_ticket (set slots c.args.ticket c.replace-slot.new.dest)) =
-    rw (after, c.replace-slot.ensures.after) (Tied-left (fewer rows c.unwrap.result r.e) (tickets_with slots c.args.ticket c.args.end) c.unwrap.result r.tied) in
+    let slots = c.self.inside.tickets.slots in
+    let s = state_of c.end-standing.result in
+    let at : slice_get slots c.args.ticket ≡ Some s = standing-slot slots c.args.ticket c.end-standing.result c.end-standing.ensures.standing in
+    let key = c.into_parts-parts.ensures.key in
+    let r = row rows slots c.args.ticket c.into_parts-parts.result.key c.args.end s c.self.invariant at key in
+    let after : c.end_ticket-claim.new.self.rows ≡ rows_left (fewer rows c.into_parts-parts.result.key r.e) c.into_parts-parts.result.key =
+    ap (λ (o : OwnersState). o.rows) (c.end_ticket-claim.ensures.rows r.e r.there) ∙ ap (λ l. rows_left l c.into_parts-parts.result.key) r.row_is in
+    let left : Tied c.end_ticket-claim.new.self.rows (map host_ticket c.end-standing.new.self.slots) =
+    rw (after, c.end-standing.ensures.slots) (Tied-left (fewer rows c.into_parts-parts.result.key r.e) (tickets_with slots c.args.ticket c.args.end) c.into_parts-parts.result.key r.tied) in
     left
 
 -- the claim that ends with a ticket
@@ -93,12 +89,12 @@ claim_is {rows} {slots} {ticket} {own} {end} interfaces r =
 pub returns-clause-slots : goal.returns-clause-slots
 returns-clause-slots c = λ x here.
     let rows = c.self.inside.owners.rows in
-    let slots = c.self.inside.slots.items in
-    let s = c.index_mut.result.now in
-    let at : slice_get slots c.args.ticket ≡ Some s = place slots c.args.ticket s (rw (← c.self.view_is) at c.requires.within) c.index_mut.ensures.value in
-    let key = key_of c.replace-slot.ensures.value c.into_parts-parts.ensures.key c.unwrap.ensures in
-    let r = row rows slots c.args.ticket c.unwrap.result c.args.end s c.self.invariant at key in
-    let own = c.unwrap.result in
+    let slots = c.self.inside.tickets.slots in
+    let s = state_of c.end-standing.result in
+    let at : slice_get slots c.args.ticket ≡ Some s = standing-slot slots c.args.ticket c.end-standing.result c.end-standing.ensures.standing in
+    let key = c.into_parts-parts.ensures.key in
+    let r = row rows slots c.args.ticket c.into_parts-parts.result.key c.args.end s c.self.invariant at key in
+    let own = c.into_parts-parts.result.key in
     let interfaces = c.self.inside.owners.interfaces in
     let tickets = tickets_with slots c.args.ticket c.args.end in
     let ended : c.end_ticket-claim.result ≡ claim_of interfaces tickets (map (option_map endpoint_of) rows) own =
@@ -106,25 +102,25 @@ returns-clause-slots c = λ x here.
     let same : x ≡ s = same_Some x s (sym here ∙ rw (← c.self.view_is) at) in
     let left : map (option_map endpoint_of) (rows_left (fewer rows own r.e) own) ≡ endpoints_left tickets (map (option_map endpoint_of) rows) own =
     sym (left-rows (fewer rows own r.e) tickets r.tied own) ∙ ap (λ endpoints. endpoints_left tickets endpoints own) r.kept in
-    rw (same, key, ← c.self.view_is) (rw (c.end_ticket-claim.ensures.rows r.e r.there, r.row_is, left, c.replace-slot.ensures.after, interface-row rows own, ended) refl)
+    rw (same, key, ← c.self.view_is) (rw (c.end_ticket-claim.ensures.rows r.e r.there, r.row_is, left, c.end-standing.ensures.slots, interface-row rows own, ended) refl)
 
 pub returns-clause-transfer : goal.returns-clause-transfer
 returns-clause-transfer c = λ x there.
-    let slots = c.self.inside.slots.items in
-    let s = c.index_mut.result.now in
-    let at : slice_get slots c.args.ticket ≡ Some s = place slots c.args.ticket s (rw (← c.self.view_is) at c.requires.within) c.index_mut.ensures.value in
+    let slots = c.self.inside.tickets.slots in
+    let s = state_of c.end-standing.result in
+    let at : slice_get slots c.args.ticket ≡ Some s = standing-slot slots c.args.ticket c.end-standing.result c.end-standing.ensures.standing in
     let same : x ≡ s = same_Some x s (sym there ∙ rw (← c.self.view_is) at) in
-    c.into_parts-parts.ensures.transfer ∙ ap slot_data (c.replace-slot.ensures.value ∙ sym same)
+    c.into_parts-parts.ensures.transfer ∙ ap slot_data (sym same)
 
 pub returns-clause-claim : goal.returns-clause-claim
 returns-clause-claim c = λ x here.
     let rows = c.self.inside.owners.rows in
-    let slots = c.self.inside.slots.items in
-    let s = c.index_mut.result.now in
-    let at : slice_get slots c.args.ticket ≡ Some s = place slots c.args.ticket s (rw (← c.self.view_is) at c.requires.within) c.index_mut.ensures.value in
-    let key = key_of c.replace-slot.ensures.value c.into_parts-parts.ensures.key c.unwrap.ensures in
-    let r = row rows slots c.args.ticket c.unwrap.result c.args.end s c.self.invariant at key in
-    let own = c.unwrap.result in
+    let slots = c.self.inside.tickets.slots in
+    let s = state_of c.end-standing.result in
+    let at : slice_get slots c.args.ticket ≡ Some s = standing-slot slots c.args.ticket c.end-standing.result c.end-standing.ensures.standing in
+    let key = c.into_parts-parts.ensures.key in
+    let r = row rows slots c.args.ticket c.into_parts-parts.result.key c.args.end s c.self.invariant at key in
+    let own = c.into_parts-parts.result.key in
     let interfaces = c.self.inside.owners.interfaces in
     let tickets = tickets_with slots c.args.ticket c.args.end in
     let ended : c.end_ticket-claim.result ≡ claim_of interfaces tickets (map (option_map endpoint_of) rows) own =
@@ -132,13 +128,6 @@ returns-clause-claim c = λ x here.
     let same : x ≡ s = same_Some x s (sym here ∙ rw (← c.self.view_is) at) in
     rw (same, key, ← c.self.view_is) ended
 
-pub index_mut-requires : goal.index_mut-requires
-index_mut-requires c = place_there c.self.inside.slots c.args.ticket (rw (← c.self.view_is) at c.requires.within)
-
-pub unwrap-requires : goal.unwrap-requires
-unwrap-requires c =
-    let slots = c.self.inside.slots.items in
-    let s = c.index_mut.result.now in
-    let at : slice_get slots c.args.ticket ≡ Some s = place slots c.args.ticket s (rw (← c.self.view_is) at c.requires.within) c.index_mut.ensures.value in
-    let read_is : c.replace-slot.result ≡ s = c.replace-slot.ensures.value in
-    rw (c.into_parts-parts.ensures.key, read_is) (c.requires.key s (rw (← c.self.view_is) at))
+pub end-standing-requires : goal.end-standing-requires
+end-standing-requires c =
+    record { there = keyed-standing c.self.inside.tickets.slots c.args.ticket (rw (← c.self.view_is) at c.requires.within) (rw (← c.self.view_is) at c.requires.key) }

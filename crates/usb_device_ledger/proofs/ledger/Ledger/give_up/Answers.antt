@@ -1,26 +1,32 @@
 use Rattle.std.proofs.Common.{◌≡◌, map, Some, slice_get, sym, refl, ◌∙◌}
 use Rattle.std.proofs.lemmas.List.{map-set}
 use Rattle.std.proofs.lemmas.Option.{same_Some}
-use Rattle.usb_device_ledger.specs.LedgerState.{host_ticket, slot_without}
-use Rattle.usb_device_ledger.proofs.ListLemmas.{place}
-use Rattle.usb_device_ledger.proofs.LedgerLemmas.{Tied-kept, ticket-at, key-at, key-without}
+use Rattle.usb_device_ledger.specs.Entries.{Abandoned}
+use Rattle.usb_device_ledger.specs.TicketStates.{state_of, standing_at}
+use Rattle.usb_device_ledger.specs.TicketStates as slot
+use Rattle.usb_device_ledger.specs.LedgerState.{host_ticket}
+use Rattle.usb_device_ledger.proofs.LedgerLemmas.{Tied-kept, ticket-at}
+use Rattle.usb_device_ledger.proofs.StandingLemmas.{standing-slot, keyed-standing, without-key, not-none}
 use Rattle.usb_device_ledger.proofs.ledger.Ledger.give_up.Goals as goal
 
 pub invariant_of-self : goal.invariant_of-self
 invariant_of-self c =
-    let slots = c.self.inside.slots.items in
-    let s = c.index_mut-slot.result.now in
-    let at : slice_get slots c.args.ticket ≡ Some s = place slots c.args.ticket s (rw (← c.self.view_is) at c.requires.within) c.index_mut-slot.ensures.value in
-    let some = c.requires.key s (rw (← c.self.view_is) at) in
-    let key = key-at s some in
-    rw (c.give_up.ensures.slot, map-set host_ticket slots c.args.ticket (slot_without s)) (Tied-kept c.self.inside.owners.rows (map host_ticket slots) c.args.ticket key.0 (host_ticket s) (host_ticket (slot_without s)) c.self.invariant (ticket-at slots c.args.ticket s at) key.1 (key-without s key.0 key.1))
+    let slots = c.self.inside.tickets.slots in
+    let standing = c.in-Some.standing.now in
+    let key = c.key-key.result in
+    let at : slice_get slots c.args.ticket ≡ Some (state_of standing) = standing-slot slots c.args.ticket standing (sym c.in-Some.ensures.standing) in
+    rw (c.replace.ensures.slots, map-set host_ticket slots c.args.ticket (slot.Abandoned key)) (Tied-kept c.self.inside.owners.rows (map host_ticket slots) c.args.ticket key (host_ticket (state_of standing)) (Abandoned key) c.self.invariant (ticket-at slots c.args.ticket (state_of standing) at) c.key-key.ensures.key refl)
 
-pub returns : goal.returns
-returns c = record {
+pub returns-in-Some : goal.returns-in-Some
+returns-in-Some c = record {
   slots = λ x there.
-      let slots = c.self.inside.slots.items in
-      let s = c.index_mut-slot.result.now in
-      let at : slice_get slots c.args.ticket ≡ Some s = place slots c.args.ticket s (rw (← c.self.view_is) at c.requires.within) c.index_mut-slot.ensures.value in
-      let same : x ≡ s = same_Some x s (sym there ∙ rw (← c.self.view_is) at) in
-      rw (← c.self.view_is, c.give_up.ensures.slot, same) refl;
+      let slots = c.self.inside.tickets.slots in
+      let standing = c.in-Some.standing.now in
+      let at : slice_get slots c.args.ticket ≡ Some (state_of standing) = standing-slot slots c.args.ticket standing (sym c.in-Some.ensures.standing) in
+      let same : x ≡ state_of standing = same_Some x (state_of standing) (sym there ∙ rw (← c.self.view_is) at) in
+      rw (← c.self.view_is, c.replace.ensures.slots, same, without-key standing c.key-key.result c.key-key.ensures.key) refl;
 }
+
+pub returns-in_default : goal.returns-in_default
+returns-in_default c =
+    absurd (not-none (standing_at c.self.inside.tickets.slots c.args.ticket) (keyed-standing c.self.inside.tickets.slots c.args.ticket (rw (← c.self.view_is) at c.requires.within) (rw (← c.self.view_is) at c.requires.key)) (sym c.in_default.ensures.standing))

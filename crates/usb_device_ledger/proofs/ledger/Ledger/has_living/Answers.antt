@@ -6,5 +6,5 @@ use Rattle.usb_device_ledger.proofs.ledger.Ledger.has_living.Goals as goal
 pub returns : goal.returns
 returns c =
     let rows = c.self.inside.owners.rows in
-    let tickets = map host_ticket c.self.inside.slots.items in
+    let tickets = map host_ticket c.self.inside.tickets.slots in
     record { living = c.has_living.ensures.living ∙ sym (has_living-rows rows tickets c.self.invariant c.args.interface.serial) ∙ rw (← c.self.view_is) refl }

@@ -8,7 +8,7 @@ use Rattle.usb_device_ledger.proofs.ledger.Ledger.is_shared.Goals as goal
 pub returns : goal.returns
 returns c =
     let rows = c.self.inside.owners.rows in
-    let tickets = map host_ticket c.self.inside.slots.items in
+    let tickets = map host_ticket c.self.inside.tickets.slots in
     record {
       shared = λ x there.
           let here : value_at c.self.inside.owners.interfaces c.args.interface.serial ≡ Some x = ap (λ (l : LedgerState). value_at l.interfaces c.args.interface.serial) c.self.view_is ∙ there in

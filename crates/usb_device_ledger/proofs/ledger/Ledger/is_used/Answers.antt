@@ -6,5 +6,5 @@ use Rattle.usb_device_ledger.proofs.ledger.Ledger.is_used.Goals as goal
 pub returns : goal.returns
 returns c =
     let rows = c.self.inside.owners.rows in
-    let tickets = map host_ticket c.self.inside.slots.items in
+    let tickets = map host_ticket c.self.inside.tickets.slots in
     record { used = c.is_used.ensures.used ∙ sym (is_used-rows rows tickets c.self.invariant c.args.interface.serial c.args.address) ∙ rw (← c.self.view_is) refl }

@@ -17,7 +17,7 @@ pub invariant_of-self : goal.invariant_of-self
 invariant_of-self c =
     let rows = c.self.inside.owners.rows in
     let key = c.args.key in
-    let tickets = map host_ticket c.self.inside.slots.items in
+    let tickets = map host_ticket c.self.inside.tickets.slots in
     let there = some-of (value_at rows key) (row-there rows key (rw (← c.self.view_is) at c.requires.there)) in
     let e = there.0 in
     let next : EndpointRow = record e { is_open = false } in
@@ -33,7 +33,7 @@ pub returns-clause-endpoints : goal.returns-clause-endpoints
 returns-clause-endpoints c = λ x at.
     let rows = c.self.inside.owners.rows in
     let key = c.args.key in
-    let tickets = map host_ticket c.self.inside.slots.items in
+    let tickets = map host_ticket c.self.inside.tickets.slots in
     let there = some-of (value_at rows key) (row-there rows key (rw (← c.self.view_is) at c.requires.there)) in
     let e = there.0 in
     let next : EndpointRow = record e { is_open = false } in
@@ -55,7 +55,7 @@ pub returns-clause-claim : goal.returns-clause-claim
 returns-clause-claim c = λ x at.
     let rows = c.self.inside.owners.rows in
     let key = c.args.key in
-    let tickets = map host_ticket c.self.inside.slots.items in
+    let tickets = map host_ticket c.self.inside.tickets.slots in
     let there = some-of (value_at rows key) (row-there rows key (rw (← c.self.view_is) at c.requires.there)) in
     let e = there.0 in
     let next : EndpointRow = record e { is_open = false } in

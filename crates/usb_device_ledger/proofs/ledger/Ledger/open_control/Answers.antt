@@ -11,10 +11,10 @@ invariant_of-self c =
     let rows = c.self.inside.owners.rows in
     let e : EndpointRow = record { interface = None; address = c.args.address; is_open = true; tickets = 0 } in
     either c.open_control.result _ _ c.open_control.ensures.rows c.open_control.ensures.err
-    (λ ok. rw ok (Tied-open rows (map host_ticket c.self.inside.slots.items) e c.self.invariant refl))
+    (λ ok. rw ok (Tied-open rows (map host_ticket c.self.inside.tickets.slots) e c.self.invariant refl))
     (λ err. rw err c.self.invariant)
 
 pub returns-clause-unheld : goal.returns-clause-unheld
 returns-clause-unheld c =
     ap (λ (l : LedgerState). count_by (is_ticket_of (length l.endpoints)) (tickets_in l)) (sym c.self.view_is)
-    ∙ none-next c.self.inside.owners.rows (map host_ticket c.self.inside.slots.items) c.self.invariant
+    ∙ none-next c.self.inside.owners.rows (map host_ticket c.self.inside.tickets.slots) c.self.invariant

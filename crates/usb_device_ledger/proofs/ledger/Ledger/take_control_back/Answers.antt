@@ -19,7 +19,7 @@ take_control_back-requires-clause-control c = λ x at.
 pub invariant_of-self : goal.invariant_of-self
 invariant_of-self c =
     let rows = c.self.inside.owners.rows in
-    let tickets = map host_ticket c.self.inside.slots.items in
+    let tickets = map host_ticket c.self.inside.tickets.slots in
     let n = length-map rows (option_map endpoint_of) in
     let some : 0 < length rows = omega (arith, n, subst (λ (l : LedgerState). 0 < length l.endpoints) (sym c.self.view_is) c.requires.some) in
     let unheld = subst (λ (l : LedgerState). count_by (is_ticket_of (length l.endpoints - 1)) (tickets_in l) ≡ 0) (sym c.self.view_is) c.requires.unheld in
