@@ -33,6 +33,12 @@ use usb_error::{ActiveConfigurationError, Error};
 use usb_xfer::{KnownDirection, KnownType};
 
 /// A handle of a device that is open at a host. `close` spends it.
+///
+/// ```
+/// let device = Device::open_at(alloc, host, 1, 6)?;
+/// let vendor = device.device_descriptor(host).vendor_id();
+/// device.close(host);
+/// ```
 pub struct Device {
     key: Key,
 }
@@ -52,6 +58,13 @@ impl fmt::Debug for Device {
 }
 
 /// A handle of an interface that is claimed at a host (USB 2.0, section 9.2.3). `close` spends it.
+///
+/// ```
+/// let device = Device::open_at(alloc, host, 1, 6)?;
+/// let interface = device.into_interface(host, 0)?;
+/// let selected = interface.set_alt_setting(host, 1);
+/// interface.close(host);
+/// ```
 pub struct Interface {
     key: Key,
     number: u8,

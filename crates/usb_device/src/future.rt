@@ -179,7 +179,8 @@ impl<'a> MaybeFuture for OnHost<'a> {
         ensures host { self.exit.1.0.now
             ≡ future_taken (future_awaited self.entry.host.now self.entry.future)
             self.entry.future }
-        ensures handles { StandBesideKey self.entry.host.now self.exit.1.0.now self.entry.future.key }
+        ensures handles { StandBesideKey self.entry.host.now self.exit.1.0.now
+            self.entry.future.key }
     {
         let OnHost { future, host } = self;
         future.wait(host)

@@ -41,9 +41,11 @@ pub trait Bus: Slots<TransferData> {
         ensures ticket { IfOk result (λ p. p ≡ length (tickets (calls.state self.old).past)) }
         ensures fresh { OnOk result
             ((calls.state self.old).owner (length (tickets (calls.state self.old).past)) ≡ None) }
-        ensures state { OnOk result (IsSubmitted (calls.state self.old) (calls.state self.new) to t.held) }
+        ensures state { OnOk result (IsSubmitted (calls.state self.old)
+            (calls.state self.new) to t.held) }
         ensures left { OnOk result
-            (128 ≤ to.endpoint → (calls.state self.new).turns_left ≤ (calls.state self.old).turns_left) }
+            (128 ≤ to.endpoint → (calls.state self.new).turns_left
+            ≤ (calls.state self.old).turns_left) }
         ensures ok { OnOk result (self.new ≡ calls.submitted self.old to t) }
         ensures err { OnErr result (self.new ≡ self.old) }
         ensures back { IfErr result (λ back. back ≡ t) };
@@ -63,8 +65,10 @@ pub trait Bus: Slots<TransferData> {
         ensures ticket { IfOk result (λ p. p ≡ length (tickets (calls.state self.old).past)) }
         ensures fresh { OnOk result
             ((calls.state self.old).owner (length (tickets (calls.state self.old).past)) ≡ None) }
-        ensures state { OnOk result (IsRefused (calls.state self.old) (calls.state self.new) to t.held errno) }
-        ensures left { OnOk result ((calls.state self.new).turns_left ≤ (calls.state self.old).turns_left) }
+        ensures state { OnOk result (IsRefused (calls.state self.old)
+            (calls.state self.new) to t.held errno) }
+        ensures left { OnOk result ((calls.state self.new).turns_left
+            ≤ (calls.state self.old).turns_left) }
         ensures ok { OnOk result (self.new ≡ calls.refused self.old to t errno) }
         ensures err { OnErr result (self.new ≡ self.old) }
         ensures back { IfErr result (λ back. back ≡ t) };
@@ -82,21 +86,26 @@ pub trait Bus: Slots<TransferData> {
     fn abandon(&mut self, p: Pending<TransferData>)
         requires stands { IsTrue (Self.stands self.old p) }
         ensures state { calls.state self.new
-            ≡ record (calls.state self.old) { owner = without_owner (calls.state self.old).owner p } }
+            ≡ record (calls.state self.old) {
+              owner = without_owner (calls.state self.old).owner p;
+            } }
         ensures ok { self.new ≡ calls.abandoned self.old p };
 
     /// The endpoint of this key, which must be open, is gone.
     fn leave(&mut self, endpoint_key: usize)
         requires key { (calls.state self.old).keys endpoint_key ≡ true }
         ensures state { calls.state self.new
-            ≡ record (calls.state self.old) { keys = without_key (calls.state self.old).keys endpoint_key } }
+            ≡ record (calls.state self.old) {
+              keys = without_key (calls.state self.old).keys endpoint_key;
+            } }
         ensures ok { self.new ≡ calls.closed self.old endpoint_key };
 
     /// Goes on by one turn. Time is up only where no ticket is finished and unreaped, and then
     /// nothing has changed.
     fn turn(&mut self) -> Turn
         ensures state { IsLater (calls.state self.old) (calls.state self.new) }
-        ensures falls { Falls result (calls.state self.old).turns_left (calls.state self.new).turns_left }
+        ensures falls { Falls result (calls.state self.old).turns_left
+            (calls.state self.new).turns_left }
         ensures time_up { result ≡ Turn.TimeUp → lowest (calls.state self.old).past ≡ None }
         ensures still { result ≡ Turn.TimeUp → calls.state self.new ≡ calls.state self.old }
         ensures turn { result ≡ calls.turn_of self.old }

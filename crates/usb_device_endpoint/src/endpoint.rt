@@ -33,6 +33,15 @@ use usb_xfer::{
 /// were submitted to it.
 ///
 /// It is never dropped: `close` spends it.
+///
+/// ```
+/// let mut endpoint = interface.into_endpoint::<Bulk, In>(host, 0x81)?;
+/// let done = match endpoint.submit(host, buffer) {
+///     Ok(()) => endpoint.wait_next_complete(host, 1_000_000_000),
+///     Err(_) => None,
+/// };
+/// endpoint.close(host);
+/// ```
 pub struct Endpoint<T: EndpointType, D: EndpointDirection> {
     device: u8,
     address: u8,
@@ -253,7 +262,8 @@ impl<T: EndpointType, D: EndpointDirection> Endpoint<T, D> {
     pub fn poll_next_complete<B: Bus>(&mut self, bus: &mut B) -> Poll<Completion>
         requires some { 0 < length self.old.pending }
         requires stands { Stands (B.calls.state bus.old) self.old }
-        ensures polled { polled B.calls bus.old self.old ≡ front_found (in_poll result) bus.new self.new }
+        ensures polled { polled B.calls bus.old self.old
+            ≡ front_found (in_poll result) bus.new self.new }
         ensures goes_on { GoesOn (B.calls.state bus.old) (B.calls.state bus.new) }
         ensures stands { Stands (B.calls.state bus.new) self.new }
         ensures others { KeepsOthers (B.calls.state bus.old) (B.calls.state bus.new) self.old.key }
@@ -321,7 +331,8 @@ impl<T: EndpointType, D: EndpointDirection> Endpoint<T, D> {
     /// Gives the pending transfers up, from the first on, and leaves the bus.
     fn give_up<B: Bus>(self, bus: &mut B)
         requires stands { Stands (B.calls.state bus.old) self }
-        ensures bus { bus.new ≡ B.calls.closed (all_abandoned B.calls.abandoned bus.old self.pending) self.key }
+        ensures bus { bus.new
+            ≡ B.calls.closed (all_abandoned B.calls.abandoned bus.old self.pending) self.key }
         ensures state { B.calls.state bus.new ≡ record (B.calls.state bus.old) {
           owner = all_abandoned without_owner (B.calls.state bus.old).owner self.pending;
           keys = without_key (B.calls.state bus.old).keys self.key;

@@ -53,7 +53,8 @@ fn hand_over<B: Bus>(
     ensures state { OnOk result
         (HandsOver (B.calls.state bus.old) (B.calls.state bus.new) to transfer.held is_valid) }
     ensures left { OnOk result
-        (128 ≤ to.endpoint → (B.calls.state bus.new).turns_left ≤ (B.calls.state bus.old).turns_left) }
+        (128 ≤ to.endpoint → (B.calls.state bus.new).turns_left
+        ≤ (B.calls.state bus.old).turns_left) }
     ensures ok { OnOk result
         (bus.new ≡ handed_over B.calls bus.old to transfer is_valid) }
     ensures err { OnErr result (bus.new ≡ bus.old) }
@@ -79,9 +80,11 @@ pub(crate) fn enter<B: Bus>(
     ensures ticket { IfOk result (λ p. p ≡ length (tickets (B.calls.state bus.old).past)) }
     ensures fresh { OnOk result
         ((B.calls.state bus.old).owner (length (tickets (B.calls.state bus.old).past)) ≡ None) }
-    ensures state { OnOk result (Enters (B.calls.state bus.old) (B.calls.state bus.new) to buf is_valid) }
+    ensures state { OnOk result (Enters (B.calls.state bus.old)
+        (B.calls.state bus.new) to buf is_valid) }
     ensures left { OnOk result
-        (128 ≤ to.endpoint → (B.calls.state bus.new).turns_left ≤ (B.calls.state bus.old).turns_left) }
+        (128 ≤ to.endpoint → (B.calls.state bus.new).turns_left
+        ≤ (B.calls.state bus.old).turns_left) }
     ensures ok { OnOk result
         (bus.new ≡ handed_over B.calls bus.old to (transfer_by to buf) is_valid) }
     ensures err { OnErr result (bus.new ≡ bus.old) }

@@ -29,7 +29,8 @@ impl<'a, T: EndpointType, D: EndpointDirection> NextComplete<'a, T, D> {
             ≡ front_found (in_poll result) bus.new self.new.endpoint.now }
         ensures goes_on { GoesOn (B.calls.state bus.old) (B.calls.state bus.new) }
         ensures stands { Stands (B.calls.state bus.new) self.new.endpoint.now }
-        ensures others { KeepsOthers (B.calls.state bus.old) (B.calls.state bus.new) self.old.endpoint.now.key }
+        ensures others { KeepsOthers (B.calls.state bus.old)
+            (B.calls.state bus.new) self.old.endpoint.now.key }
         ensures rest { self.new.endpoint.now ≡ record self.old.endpoint.now {
           pending = self.new.endpoint.now.pending;
         } }

@@ -33,7 +33,8 @@ impl<T: EndpointType, D: EndpointDirection> Endpoint<T, D> {
         ensures found_why { IfSome result (λ _.
             FoundWhy (B.calls.state bus.old) (B.calls.state bus.new) (front_of self.old.pending)) }
         ensures why { IfNone result
-            (EndedWhy (B.calls.state bus.old) (B.calls.state bus.new) (front_of self.old.pending) timeout) }
+            (EndedWhy (B.calls.state bus.old) (B.calls.state bus.new)
+            (front_of self.old.pending) timeout) }
         ensures goes_on { GoesOn (B.calls.state bus.old) (B.calls.state bus.new) }
         ensures stands { Stands (B.calls.state bus.new) self.new }
         ensures others { KeepsOthers (B.calls.state bus.old) (B.calls.state bus.new) self.old.key }
@@ -91,7 +92,8 @@ impl<T: EndpointType, D: EndpointDirection> Endpoint<T, D> {
         requires none { self.old.pending ≡ [] }
         requires stands { Stands (B.calls.state bus.old) self.old }
         ensures transferred { IfOk result (λ c.
-            transferred B.calls timeout bus.old self.old buf ≡ front_found (Some c) bus.new self.new) }
+            transferred B.calls timeout bus.old self.old buf
+            ≡ front_found (Some c) bus.new self.new) }
         ensures stands { Stands (B.calls.state bus.new) self.new }
         ensures others { KeepsOthers (B.calls.state bus.old) (B.calls.state bus.new) self.old.key }
         ensures rest { self.new ≡ self.old }

@@ -78,7 +78,8 @@ impl Host {
     /// more, and with the last owner the claim ends.
     pub fn close_handle(&mut self, interface: Key)
         requires interface { IsSome (value_at self.old.interfaces interface.serial) }
-        requires open { ForSome (value_at self.old.interfaces interface.serial) (λ c. 0 < c.handles) }
+        requires open { ForSome (value_at self.old.interfaces interface.serial)
+            (λ c. 0 < c.handles) }
         ensures closed { self.new ≡ handle_closed self.old interface.serial }
     {
         let claim = self.ledger.interface(interface);

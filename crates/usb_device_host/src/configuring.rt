@@ -47,7 +47,8 @@ impl Host {
     /// The number of an open device at the kernel.
     fn number_of(&self, device: Key) -> u8
         requires device { IsSome (value_at self.now.devices device.serial) }
-        ensures number { ForSome (value_at self.now.devices device.serial) (λ o. result ≡ o.device) }
+        ensures number { ForSome (value_at self.now.devices device.serial)
+            (λ o. result ≡ o.device) }
     {
         self.devices.get(device).device
     }

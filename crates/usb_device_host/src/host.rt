@@ -41,6 +41,12 @@ use usb_kernel::{Done, Kernel, KernelStep, Submitted, completion_from};
 use usb_xfer::{Held, Idle, Pending, Slots, TransferData};
 
 /// A kernel, what is open on it, and the steps of a line that are left.
+///
+/// ```
+/// let kernel = Kernel::new(alloc, devices)?;
+/// let mut host = Host::new(alloc, kernel);
+/// let opened = Device::open_at(alloc, &mut host, 1, 6);
+/// ```
 #[derive(Drop)]
 pub struct Host {
     pub(crate) kernel: Kernel,

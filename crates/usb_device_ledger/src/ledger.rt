@@ -367,8 +367,8 @@ impl Ledger {
     /// endpoint that never had a ticket.
     pub fn take_control_back(&mut self)
         requires some { 0 < length self.old.endpoints }
-        requires control { ForSome (value_at self.old.endpoints (length self.old.endpoints - 1)) (λ e.
-            e.interface ≡ None) }
+        requires control { ForSome (value_at self.old.endpoints (length self.old.endpoints - 1))
+            (λ e. e.interface ≡ None) }
         requires unheld { count_by (is_ticket_of (length self.old.endpoints - 1))
             (tickets_in self.old) ≡ 0 }
         ensures endpoints { self.new ≡ record self.old {

@@ -14,6 +14,13 @@ use usb_xfer::{Buffer, BulkOrInterrupt, Out};
 /// A writer of an OUT endpoint, which gathers bytes into transfers of one size.
 ///
 /// It is never dropped: `close` and `into_inner` spend it.
+///
+/// ```
+/// let mut writer = EndpointWrite::new(endpoint, 512);
+/// let wrote = writer.write(host, &[1, 2, 3]);
+/// let flushed = writer.flush(host);
+/// writer.close(host);
+/// ```
 pub struct EndpointWrite<T: BulkOrInterrupt> {
     pub(crate) endpoint: Endpoint<T, Out>,
     pub(crate) num_transfers: usize,

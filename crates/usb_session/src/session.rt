@@ -214,7 +214,8 @@ fn all_names(alloc: Global) -> Result<Names, NoMemory>
 
 /// A host as `host_with` makes it, and names of each kind under which nothing is open.
 fn host_and_names(alloc: Global, items: &[Item], places: usize) -> Result<(Host, Names), NoMemory>
-    ensures host { IfOk result (λ h. places ≡ place_count items.now → h.0 ≡ (start items.now).host) }
+    ensures host { IfOk result (λ h. places ≡ place_count items.now → h.0
+        ≡ (start items.now).host) }
     ensures devices { IfOk result (λ h. h.1.devices.items ≡ replicate 64 None) }
     ensures interfaces { IfOk result (λ h. h.1.interfaces.items ≡ replicate 64 None) }
     ensures endpoints { IfOk result (λ h. h.1.endpoints.items ≡ replicate 64 None) }
