@@ -1,6 +1,5 @@
 -- The table is kept: one lemma for each event.
 use Rattle.std.proofs.Common.{◌≡◌, ℕ, ◌+◌, ◌-◌, ◌<◌, ◌≤◌, arith, List, ◌∷◌, length, set, get_or, Option, Some, None, true, false, refl, ap, sym, ◌∙◌, slice_get, subst, cond}
-use Rattle.std.proofs.lemmas.List.{set-get_or}
 use Rattle.std.specs.Prelude.{position, is_none, IsSome, is_some, nat_le, nat_lt, ◌&&◌, ◌==◌}
 use Rattle.std.specs.List.{All, sum_by}
 use Rattle.std.proofs.lemmas.List.Sums.{sum_by-set, get_or-le-sum_by}
@@ -200,10 +199,6 @@ open_row rows d e i r roomy at read =
     let parts : (r.device == d ≡ true) × ((r.endpoint == e && is_none r.status) ≡ true) = and_parts _ _ tests in
     let more : (r.endpoint == e ≡ true) × (is_none r.status ≡ true) = and_parts _ _ parts.1 in
     record { inside = p.0; device = eqb-true _ _ parts.0; endpoint = eqb-true _ _ more.0; unfinished = grind (arith, common_steps); roomy = rw read (All-get_or IsRoomy rows i r p.0 roomy) }
-
--- writing back what was read
-pub set_read : {X : Type 0} (xs : List X) (i : ℕ) (x : X) → x ≡ get_or xs i x → set xs i x ≡ xs
-set_read xs i x read = subst (λ y. set xs i y ≡ xs) (sym read) (set-get_or xs i x)
 
 -- a row tells what its ticket does
 row_info-row_of : (s : Ticket) (f : Fate) → row_info (row_of s f) ≡ info_for s f

@@ -95,7 +95,8 @@ impl Tickets {
         }
     }
 
-    /// Puts the next ticket at the end of a list. It answers the neighbours that the ticket has there.
+    /// Puts the next ticket at the end of a list. It answers the neighbours that the ticket has
+    /// there.
     pub(crate) fn link_last<L: Ledger>(
         &mut self,
         ends: &mut Ends,

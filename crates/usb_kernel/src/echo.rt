@@ -1,6 +1,6 @@
 //! A packet that goes from one row of the table to another.
 
-ghost use Rattle.std.specs.Prelude.{◌≡◌, ◌+◌, ◌≤◌, vec_capacity};
+ghost use Rattle.std.specs.Prelude.{◌≡◌, ◌+◌, ◌≤◌};
 ghost use Rattle.std.specs.List.{sum_by};
 ghost use Rattle.usb_kernel.specs.Rows.{owed};
 ghost use Rattle.usb_kernel.specs.Listed.{AreListed, rows_of};
@@ -12,8 +12,8 @@ use crate::tickets::Tickets;
 use std::sync::ledger::Ledger;
 
 /// Acknowledges the next packet of the oldest OUT ticket of an endpoint, and gives it to the oldest
-/// IN ticket of another. The bytes are copied once, from the one buffer to the other. It answers how
-/// many places in the journal that freed.
+/// IN ticket of another. The bytes are copied once, from the one buffer to the other. It answers
+/// how many places in the journal that freed.
 pub(crate) fn pass_packet<L: Ledger>(
     tickets: &mut Tickets,
     lists: &mut TicketLists,

@@ -1,5 +1,5 @@
-//! The lists of the tickets that are not reaped: of those of each endpoint that are not finished, and
-//! of all. They are linked through the records, so that no search goes over them.
+//! The lists of the tickets that are not reaped: of those of each endpoint that are not finished,
+//! and of all. They are linked through the records, so that no search goes over them.
 
 ghost use Rattle.std.specs.Prelude.{◌≡◌, ◌+◌, ◌<◌, ◌≤◌, ◌++◌, ◌∷◌, [], List, set, length, position, vec_len, vec_capacity, true, Some, None, IsSome, is_some, OnOk, if◌then◌else◌};
 ghost use Rattle.usb_kernel.specs.declared.record.Record.{Record};
@@ -18,8 +18,8 @@ use std::alloc::Global;
 use std::sync::ledger::Ledger;
 use usb_desc::NoMemory;
 
-/// The ends of the lists of unfinished tickets by endpoint, the ends of the list of all tickets that
-/// are not reaped, how many those are, and the numbers of those that are finished, ascending.
+/// The ends of the lists of unfinished tickets by endpoint, the ends of the list of all tickets
+/// that are not reaped, how many those are, and the numbers of those that are finished, ascending.
 #[derive(Drop)]
 pub(crate) struct TicketLists {
     pub(crate) queues: Queues,
@@ -105,8 +105,8 @@ impl TicketLists {
         1
     }
 
-    /// The record of an open ticket of an endpoint was written, which finished it: it goes out of the
-    /// list of the endpoint, by at most two look-ups.
+    /// The record of an open ticket of an endpoint was written, which finished it: it goes out of
+    /// the list of the endpoint, by at most two look-ups.
     pub(crate) fn finish<L: Ledger>(
         &mut self,
         tickets: &mut Tickets,
@@ -129,8 +129,8 @@ impl TicketLists {
         add_finished(&mut self.finished, ticket);
     }
 
-    /// The record of a ticket was written, which is reaped now: it goes out of the list of all, by at
-    /// most two look-ups.
+    /// The record of a ticket was written, which is reaped now: it goes out of the list of all, by
+    /// at most two look-ups.
     pub(crate) fn forget<L: Ledger>(
         &mut self,
         tickets: &mut Tickets,
@@ -157,8 +157,8 @@ impl TicketLists {
         self.finished.first().copied()
     }
 
-    /// Makes an entry for the tickets of an endpoint, and room for the number of one more ticket once
-    /// it is finished.
+    /// Makes an entry for the tickets of an endpoint, and room for the number of one more ticket
+    /// once it is finished.
     pub(crate) fn reserve(&mut self, device: u8, endpoint: u8) -> Result<(), NoMemory>
         ensures listed { (records : List Record) → AreListed records self.old
             → AreListed records self.new }

@@ -19,8 +19,8 @@ pub(crate) struct Ends {
     pub(crate) last: Option<usize>,
 }
 
-/// The lists that a ticket may stand in: that of the unfinished tickets of its endpoint, and that of
-/// all tickets that are not reaped.
+/// The lists that a ticket may stand in: that of the unfinished tickets of its endpoint, and that
+/// of all tickets that are not reaped.
 #[derive(Clone, Copy)]
 pub(crate) enum Chain {
     Queue,

@@ -47,8 +47,8 @@ impl Model for TicketTable {
     ghost invariant = { IsTable };
 }
 
-/// What became of a ticket when a device went: the ticket behind it among those that are not reaped,
-/// and how many places that freed.
+/// What became of a ticket when a device went: the ticket behind it among those that are not
+/// reaped, and how many places that freed.
 #[derive(Clone, Copy)]
 pub(crate) struct Passed {
     pub(crate) next: Option<usize>,

@@ -98,8 +98,8 @@ fn submitted(
 impl Kernel {
     /// A submission becomes the next ticket, which is refused with 19 where no plugged device has
     /// the number, and else by the first refusal that is armed for it, which is used up. Four times
-    /// the ticket's number, plus 3, is a 64-bit number, and so the word of a cell (usb_live) is one.
-    /// An `Err` is want of memory, and then nothing has changed.
+    /// the ticket's number, plus 3, is a 64-bit number, and so the word of a cell (usb_live) is
+    /// one. An `Err` is want of memory, and then nothing has changed.
     pub fn submit(&mut self, s: Submission) -> Result<Submitted, Submission>
         requires whole { IsWhole s }
         requires deadline { IsSome s.deadline → s.kind ≡ TransferType.Control }
