@@ -5,11 +5,14 @@ ghost use Rattle.std.specs.List.{All};
 ghost use Rattle.usb_kernel.specs.Steps.{HasErrno};
 
 mod handles;
+mod slots;
 mod transfers;
 
 use crate::devices::{DEVICE, new_kernel};
 use crate::hosts::handles::{has_texts, is_mapped, is_timed};
+use crate::hosts::slots::has_slots;
 use crate::hosts::transfers::{has_packet, leaves_room};
+use crate::steps::packet;
 use std::alloc::Global;
 use std::process::Abort;
 use std::test::Fail;
@@ -31,6 +34,21 @@ fn new_line(alloc: Global, endpoint: u8) -> Result<Vec<KernelStep>, NoMemory>
         Ok(steps) => Ok(steps),
         Err(_) => Err(NoMemory),
     }
+}
+
+/// A line of packets that come to endpoint 0x81, each with a reap behind it.
+fn new_lines(alloc: Global, count: usize) -> Result<Vec<KernelStep>, NoMemory>
+    ensures errnos { IfOk result (λ steps. All HasErrno steps.items) }
+{
+    let mut steps = Vec::new(alloc);
+    'packets: for _ in 0..count {
+        let packet = packet(alloc, &PACKET)?;
+        let reap = KernelStep::Reap { ticket: None };
+        if steps.push(packet).is_err() || steps.push(reap).is_err() {
+            return Err(NoMemory);
+        }
+    }
+    Ok(steps)
 }
 
 /// A host of a kernel with device 0 at address 6 of bus 1, and the steps of a line.
@@ -56,11 +74,15 @@ enum Case {
     Mapped,
     /// The timer has its turn at the deadline of a control transfer.
     Timed,
+    /// Transfers are submitted and taken, one after the other and three at once.
+    Slots,
 }
 
-/// Compares what is found at a new host. It is owned here alone.
-fn expect(rt: &impl Abort, alloc: Global, endpoint: u8, case: &Case) -> Result<(), Fail> {
-    let mut host = new_host(alloc, new_line(alloc, endpoint)?)?;
+/// Compares what is found at a new host with the steps of a line. It is owned here alone.
+fn expect(rt: &impl Abort, alloc: Global, steps: Vec<KernelStep>, case: &Case) -> Result<(), Fail>
+    requires errnos { All HasErrno steps.items }
+{
+    let mut host = new_host(alloc, steps)?;
     assert!(rt; is_so(alloc, &mut host, case));
     Ok(())
 }
@@ -72,30 +94,36 @@ fn is_so(alloc: Global, host: &mut Host, case: &Case) -> bool {
         Case::Texts => matches!(has_texts(alloc, host), Ok(true)),
         Case::Mapped => is_mapped(alloc, host),
         Case::Timed => is_timed(alloc, host),
+        Case::Slots => has_slots(alloc, host),
     }
 }
 
 #[test]
 fn a_short_driver_reads_a_packet(rt: HostRuntime) -> Result<(), Fail> {
-    expect(&rt, rt.alloc(), 0x81, &Case::Packet)
+    expect(&rt, rt.alloc(), new_line(rt.alloc(), 0x81)?, &Case::Packet)
 }
 
 #[test]
 fn memory_of_a_closed_handle_is_used_again(rt: HostRuntime) -> Result<(), Fail> {
-    expect(&rt, rt.alloc(), 0x81, &Case::Room)
+    expect(&rt, rt.alloc(), new_line(rt.alloc(), 0x81)?, &Case::Room)
 }
 
 #[test]
 fn debug_texts_name_the_handles(rt: HostRuntime) -> Result<(), Fail> {
-    expect(&rt, rt.alloc(), 0x81, &Case::Texts)
+    expect(&rt, rt.alloc(), new_line(rt.alloc(), 0x81)?, &Case::Texts)
 }
 
 #[test]
 fn what_a_control_transfer_brings_is_mapped(rt: HostRuntime) -> Result<(), Fail> {
-    expect(&rt, rt.alloc(), 0x80, &Case::Mapped)
+    expect(&rt, rt.alloc(), new_line(rt.alloc(), 0x80)?, &Case::Mapped)
 }
 
 #[test]
 fn a_timer_turn_cancels_what_is_due(rt: HostRuntime) -> Result<(), Fail> {
-    expect(&rt, rt.alloc(), 0x80, &Case::Timed)
+    expect(&rt, rt.alloc(), new_line(rt.alloc(), 0x80)?, &Case::Timed)
+}
+
+#[test]
+fn slots_of_tickets_that_ended_are_used_again(rt: HostRuntime) -> Result<(), Fail> {
+    expect(&rt, rt.alloc(), new_lines(rt.alloc(), 104)?, &Case::Slots)
 }
