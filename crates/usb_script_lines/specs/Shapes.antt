@@ -6,6 +6,7 @@ use Rattle.usb_script_lines.specs.declared.item.Item.{Item}
 use Rattle.usb_script_words.specs.declared.control.Setup.{Setup}
 use Rattle.usb_script_words.specs.declared.control.ControlTarget.{ControlTarget}
 use Rattle.usb_script_words.specs.Controls.{setup_and_more, control_target_of}
+use Rattle.usb_script_words.specs.Words.{◌>>=◌}
 use Rattle.usb_script_words.specs.Fields.{Word, one_and_more, two}
 use Rattle.usb_script_words.specs.KernelSteps.{own_steps_of}
 
