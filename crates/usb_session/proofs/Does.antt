@@ -1,6 +1,6 @@
 -- What a line does.
 use Rattle.std.proofs.Common.{◌≡◌, ◌≢◌, ℕ, ◌≤◌, Bool, true, false, List, [], ◌∷◌, ◌++◌, map, codes, length, Option, Some, None, Result, Ok, Err, refl, ap, sym, ◌∙◌, subst, slice_get}
-use Rattle.std.specs.Prelude.{nat_eq, option_and_then, if◌then◌else◌}
+use Rattle.std.specs.Prelude.{nat_eq, if◌then◌else◌}
 use Rattle.std.specs.List.{starts_with}
 use Rattle.std.specs.Option.{option_map}
 use Rattle.std.proofs.lemmas.Bool.{cond_both}
@@ -12,21 +12,25 @@ use Rattle.usb_kernel_devices.specs.declared.step.KernelStep.{KernelStep}
 use Rattle.usb_kernel.specs.Tickets.{tickets}
 use Rattle.usb_kernel.specs.TransferCompletions.{transfer_completion}
 use Rattle.usb_xfer.specs.declared.transfer.TransferData.{TransferData}
+use Rattle.usb_device_endpoint.specs.Closes.{after_close}
+use Rattle.usb_device_endpoint.specs.Submits.{entered}
 use Rattle.usb_device_host.specs.HostState.{HostState}
+use Rattle.usb_device_host.specs.HostCalls.{host_calls}
+use Rattle.usb_device_host.specs.TicketEnds.{host_taken}
 use Rattle.usb_device_host.proofs.CountLemmas.{KeepsCount, CountsOneMore, count-trans, rest-count}
 use Rattle.usb_device_host.proofs.FollowLemmas.{KeepsTickets, on-then, on-kept, on-rest}
 use Rattle.usb_device_host.proofs.StartedLemmas.{Parts, AddsTaken}
 use Rattle.usb_device.specs.Futures.{FutureState}
 use Rattle.usb_session_text.specs.Calls.{ok_line, condition_line, error_line, result_line}
 use Rattle.usb_session_text.specs.Completions.{done_line}
-use Rattle.usb_session_calls.specs.Names.{named, is_free, is_free_place, freed, set_name, nothing}
-use Rattle.usb_session_calls.proofs.NameLemmas.{named_of, free_place, slice_get-change_other}
-use Rattle.usb_session_calls.specs.State.{State, Endpoint, tickets_of, with_host}
+use Rattle.usb_session_calls.specs.Names.{named, is_free, freed}
+use Rattle.usb_session_calls.specs.EndpointNames.{EndpointName, Own, OfReader, OfWriter, endpoint_under}
+use Rattle.usb_session_calls.proofs.EndpointNameLemmas.{Changed, ChangedAt, own-changed, reader-changed, writer-changed}
+use Rattle.usb_session_calls.specs.State.{State, Endpoint, Reader, Writer, endpoint_state, tickets_of, with_host}
 use Rattle.usb_session_calls.specs.Answer.{Answer, answer_with, condition_answer, ok_answer, error_answer, silent, if_open}
-use Rattle.usb_session_calls.specs.Submits.{submitted}
-use Rattle.usb_session_calls.specs.Polls.{taken_from}
+use Rattle.usb_session_calls.specs.Submits.{with_submission}
+use Rattle.usb_session_calls.specs.Polls.{one_taken}
 use Rattle.usb_session.specs.Futures.{with_future}
-use Rattle.usb_session_calls.specs.Closes.{without_endpoint}
 use Rattle.usb_session_calls.specs.Steps.{with_steps, steps_applied, stepped_all, then_applied, along_steps}
 use Rattle.usb_session.specs.Accounts.{TookFew}
 use Rattle.usb_session.specs.Served.{ClosedEndpoint, closed_as, closed_under}
@@ -36,7 +40,7 @@ use Rattle.usb_session.specs.ControlAnswers.{listed}
 pub record Quiet (old new : State) : Type 0 where
   pub keeps : KeepsTickets old.host new.host
   pub count : KeepsCount old.host new.host
-  pub endpoints : new.endpoints ≡ old.endpoints
+  pub endpoints : (e : EndpointName) → endpoint_under new e ≡ endpoint_under old e
   pub futures : new.futures ≡ old.futures
 
 -- a future is open under a name no more
@@ -51,17 +55,25 @@ CountsAlike h = length h.tickets ≡ length (tickets h.kernel.past)
 abbrev pub says_done : List ℕ → Bool
 says_done line = starts_with nat_eq line (codes "done")
 
--- the endpoint of one place is at another, where nothing was
-abbrev pub moved : State → ℕ → ℕ → Endpoint → State
-moved state from to g = record state { endpoints = set_name (freed state.endpoints from) to g }
+-- another host, and another endpoint under one name or none, with the same futures
+pub record Changes (old new : State) (host : HostState) (e : EndpointName) (o : Option Endpoint) : Type 0 where
+  pub host_is : new.host ≡ host
+  pub endpoints : Changed (endpoint_under old) (endpoint_under new) e o
+  pub futures : new.futures ≡ old.futures
 
--- these are two places, and the other is free then, too
-places-differ : (es : List (Option Endpoint)) (from to : ℕ) (h : Endpoint) → named es from ≡ Some h → is_free es to ≡ true → to ≢ from
-places-differ es from to h here free same = absurd (none-some h (sym (named_of es to None (free_place es to free)) ∙ (ap (named es) same ∙ here)))
+-- the endpoint of one name is open under another, where nothing was
+pub record MovesTo (old new : State) (from to : EndpointName) (g : Endpoint) : Type 0 where
+  pub host_is : new.host ≡ old.host
+  pub here : endpoint_under new to ≡ Some g
+  pub gone : endpoint_under new from ≡ None
+  pub others : (d : EndpointName) → d ≢ from → d ≢ to → endpoint_under new d ≡ endpoint_under old d
+  pub futures : new.futures ≡ old.futures
 
-pub free-still : (es : List (Option Endpoint)) (from to : ℕ) (h : Endpoint) → named es from ≡ Some h → is_free es to ≡ true → is_free (freed es from) to ≡ true
-unfolding is_free freed
-free-still es from to h here free = ap is_free_place (slice_get-change_other nothing es from to (places-differ es from to h here free)) ∙ free
+-- the name of a reader or a writer
+abbrev pub IsStream : EndpointName → Type 0
+IsStream (Own e) = ⊥
+IsStream (OfReader r) = Unit {0}
+IsStream (OfWriter w) = Unit {0}
 
 -- an endpoint with the tickets of another
 pub record SameTickets (h g : Endpoint) : Type 0 where
@@ -112,21 +124,20 @@ parted-parted [] = refl
 parted-parted (t ∷ ts) = ap (λ us. t ∷ us) (parted-parted ts)
 
 -- what an answer does from a state on, the endpoints that it closes, and what becomes of the control transfers of its line: the
--- host goes on, endpoints are opened (at no place of a reader or a writer) and tickets submitted, a reader or a writer takes a
--- ticket (`reads`), a control transfer is handed in (`starts`: its future is opened; `controls`: it is awaited and its ticket
+-- host goes on, endpoints are opened (under names of their own) and tickets submitted, a reader or a writer takes a ticket (`reads`), a control transfer is handed in (`starts`: its future is opened; `controls`: it is awaited and its ticket
 -- taken at once), and the host parts with the ticket of a future, whose name is free then; and then there is nothing more, or a
--- ticket is taken and its completion printed, or an endpoint is closed, or goes to another place (`moves`: from then on a reader
--- or a writer was made of it; at the place of one it was before). `few` is what is asked of the state before the line: no more
+-- ticket is taken and its completion printed, or an endpoint is closed, or goes to another name (`moves`: from then on a reader
+-- or a writer was made of it; under the name of one it was before). `few` is what is asked of the state before the line: no more
 -- tickets of an endpoint were taken than it has. It may be used for all that is done (`fits`)
 pub data Acts (few : Type 0) (a : Answer) : State → List ClosedEndpoint → List ControlMove → Type 0 where
   goes : {state next : State} {closed : List ClosedEndpoint} {handed : List ControlMove} → Quiet state next → Acts few a next closed handed → Acts few a state closed handed
-  opens : {state : State} {closed : List ClosedEndpoint} {handed : List ControlMove} (e : ℕ) (x : Endpoint) → is_free state.endpoints e ≡ true → x.tickets ≡ [] → x.taken ≡ 0
-      → (64 ≤ e → 192 ≤ e) → Acts few a (record state { endpoints = set_name state.endpoints e x }) closed handed → Acts few a state closed handed
-  submits : {state : State} {closed : List ClosedEndpoint} {handed : List ControlMove} (e : ℕ) (b : BufferState) (h : Endpoint) → named state.endpoints e ≡ Some h
-      → (few → h.taken ≤ length h.tickets) → Acts few a (submitted state e b h) closed handed → Acts few a state closed handed
+  opens : {state next : State} {closed : List ClosedEndpoint} {handed : List ControlMove} (e : ℕ) (x : Endpoint) → endpoint_under state (Own e) ≡ None → x.tickets ≡ [] → x.taken ≡ 0
+      → Changes state next state.host (Own e) (Some x) → Acts few a next closed handed → Acts few a state closed handed
+  submits : {state next : State} {closed : List ClosedEndpoint} {handed : List ControlMove} (e : EndpointName) (b : BufferState) (h : Endpoint) → endpoint_under state e ≡ Some h
+      → (few → h.taken ≤ length h.tickets) → Changes state next (entered host_calls state.host (endpoint_state h) b) e (Some (with_submission (tickets_of state) h)) → Acts few a next closed handed → Acts few a state closed handed
   fits : {state : State} {closed : List ClosedEndpoint} {handed : List ControlMove} → says_done a.line ≡ false → (few → Acts few a state closed handed) → Acts few a state closed handed
-  reads : {state : State} {closed : List ClosedEndpoint} {handed : List ControlMove} (e t : ℕ) (h : Endpoint) → 64 ≤ e → named state.endpoints e ≡ Some h → slice_get h.tickets h.taken ≡ Some t
-      → says_done a.line ≡ false → Acts few a (taken_from state e t) closed handed → Acts few a state closed handed
+  reads : {state next : State} {closed : List ClosedEndpoint} {handed : List ControlMove} (e : EndpointName) (t : ℕ) (h : Endpoint) → IsStream e → endpoint_under state e ≡ Some h → slice_get h.tickets h.taken ≡ Some t
+      → says_done a.line ≡ false → Changes state next (host_taken state.host t) e (Some (one_taken h)) → Acts few a next closed handed → Acts few a state closed handed
   starts : {state : State} {closed : List ClosedEndpoint} {handed : List ControlMove} (n : ℕ) (request : TransferData) (timeout device : ℕ) → is_free state.futures n ≡ true
       → Acts few a (with_future state n request timeout device) closed handed → Acts few a state closed (Handed (tickets_of state) ∷ handed)
   controls : {state : State} {closed : List ClosedEndpoint} {handed : List ControlMove} (host : HostState) → CountsOneMore state.host host → (CountsAlike state.host → AddsTaken state.host host)
@@ -134,12 +145,12 @@ pub data Acts (few : Type 0) (a : Answer) : State → List ClosedEndpoint → Li
   frees : {state : State} {closed : List ClosedEndpoint} {handed : List ControlMove} (n : ℕ) (f : FutureState) (host : HostState) → named state.futures n ≡ Some f → Parts state.host host f.ticket
       → Acts few a (without_future_of state host n) closed handed → Acts few a state closed (map Parted (listed f.ticket) ++ handed)
   ends : {state : State} → says_done a.line ≡ false → Quiet state a.state → Acts few a state [] []
-  takes : {state : State} (e t : ℕ) (h : Endpoint) (c : Completion) → named state.endpoints e ≡ Some h → (few → slice_get h.tickets h.taken ≡ Some t)
-      → transfer_completion state.host.kernel.past t ≡ Some c → a.line ≡ done_line c → Quiet (taken_from state e t) a.state → Acts few a state [] []
-  closes : {state : State} (e : ℕ) (h : Endpoint) (lines : List (List ℕ)) → named state.endpoints e ≡ Some h → says_done a.line ≡ false
-      → Quiet (without_endpoint state e h) a.state → Acts few a state (record { endpoint = h; past = state.host.kernel.past; lines = lines } ∷ []) []
-  moves : {state : State} (from to : ℕ) (h g : Endpoint) → named state.endpoints from ≡ Some h → is_free state.endpoints to ≡ true → SameTickets h g
-      → ((64 ≤ from → h.was_streamed ≡ true) → g.was_streamed ≡ true) → says_done a.line ≡ false → Quiet (moved state from to g) a.state → Acts few a state [] []
+  takes : {state next : State} (e : EndpointName) (t : ℕ) (h : Endpoint) (c : Completion) → endpoint_under state e ≡ Some h → (few → slice_get h.tickets h.taken ≡ Some t)
+      → transfer_completion state.host.kernel.past t ≡ Some c → a.line ≡ done_line c → Changes state next (host_taken state.host t) e (Some (one_taken h)) → Quiet next a.state → Acts few a state [] []
+  closes : {state next : State} (e : EndpointName) (h : Endpoint) (lines : List (List ℕ)) → endpoint_under state e ≡ Some h → says_done a.line ≡ false
+      → Changes state next (after_close host_calls state.host (endpoint_state h)) e None → Quiet next a.state → Acts few a state (record { endpoint = h; past = state.host.kernel.past; lines = lines } ∷ []) []
+  moves : {state next : State} (from to : EndpointName) (h g : Endpoint) → endpoint_under state from ≡ Some h → endpoint_under state to ≡ None → SameTickets h g
+      → ((IsStream from → h.was_streamed ≡ true) → g.was_streamed ≡ true) → says_done a.line ≡ false → MovesTo state next from to g → Quiet next a.state → Acts few a state [] []
 
 -- what the answer of a line does that closes no endpoint, and hands in no control transfer
 abbrev pub Does : State → Answer → Type 0
@@ -150,12 +161,12 @@ quiet-then {a} {b} {c} first second =
     record {
       keeps = on-then a.host b.host c.host first.keeps second.keeps;
       count = count-trans a.host b.host c.host first.count second.count;
-      endpoints = second.endpoints ∙ first.endpoints;
+      endpoints = λ e. second.endpoints e ∙ first.endpoints e;
       futures = second.futures ∙ first.futures;
     }
 
 -- journal and tickets are as they were
-pub quiet-aside : (old new : State) → new.host.kernel.past ≡ old.host.kernel.past → new.host.tickets ≡ old.host.tickets → new.endpoints ≡ old.endpoints → new.futures ≡ old.futures → Quiet old new
+pub quiet-aside : (old new : State) → new.host.kernel.past ≡ old.host.kernel.past → new.host.tickets ≡ old.host.tickets → ((e : EndpointName) → endpoint_under new e ≡ endpoint_under old e) → new.futures ≡ old.futures → Quiet old new
 quiet-aside old new past same endpoints futures =
     record {
       keeps = on-kept old.host new.host past same;
@@ -165,13 +176,13 @@ quiet-aside old new past same endpoints futures =
     }
 
 pub quiet-same : (state : State) → Quiet state state
-quiet-same state = quiet-aside state state refl refl refl refl
+quiet-same state = quiet-aside state state refl refl (λ e. refl) refl
 
 quiet-rested : (state : State) → Quiet state (steps_applied state)
-quiet-rested state = record { keeps = on-rest state.host; count = rest-count state.host; endpoints = refl; futures = refl }
+quiet-rested state = record { keeps = on-rest state.host; count = rest-count state.host; endpoints = λ e. refl; futures = refl }
 
 pub quiet-lent : (state : State) (steps : List KernelStep) → Quiet state (with_steps state steps)
-quiet-lent state steps = quiet-aside state (with_steps state steps) refl refl refl refl
+quiet-lent state steps = quiet-aside state (with_steps state steps) refl refl (λ e. refl) refl
 
 pub quiet-stepped : (state : State) (steps : List KernelStep) → Quiet state (stepped_all state steps)
 unfolding stepped_all
@@ -196,25 +207,29 @@ pub named-does : {X : Type 0} {state : State} (o : Option X) (call : X → Answe
 named-does {state} None call does = barred-does state
 named-does (Some x) call does = does x refl
 
--- an endpoint is closed, where one is open at its place
-pub closing-does : {few : Type 0} (state : State) (e : ℕ) (lines : ℕ → List (List ℕ)) (a : Option Endpoint → Answer) → says_done (a None).line ≡ false → Quiet state (a None).state
-    → ((h : Endpoint) → says_done (a (Some h)).line ≡ false) → ((h : Endpoint) → Quiet (without_endpoint state e h) (a (Some h)).state) → Acts few (a (named state.endpoints e)) state (closed_under state lines e) []
-closing-does {few} state e lines a none same other quiet = by (named state.endpoints e) refl
-  where
-    by : (o : Option Endpoint) → named state.endpoints e ≡ o → Acts few (a o) state (closed_as state.host.kernel.past (lines e) o) []
-    by None here = ends none same
-    by (Some h) here = closes e h (lines e) here (other h) (quiet h)
+-- an endpoint is closed, where one is open under its name
+pub closing-does : {few : Type 0} {X : Type 0} (state : State) (e : EndpointName) (lines : EndpointName → List (List ℕ)) (o : Option X) (its : X → Endpoint) (a : Option X → Answer) (without : X → State)
+    → endpoint_under state e ≡ option_map its o → says_done (a None).line ≡ false → Quiet state (a None).state → ((x : X) → says_done (a (Some x)).line ≡ false)
+    → ((x : X) → o ≡ Some x → Changes state (without x) (after_close host_calls state.host (endpoint_state (its x))) e None) → ((x : X) → Quiet (without x) (a (Some x)).state)
+    → Acts few (a o) state (closed_under state lines e) []
+closing-does {few} state e lines None its a without here none same other changes quiet =
+    subst (λ p. Acts few (a None) state (closed_as state.host.kernel.past (lines e) p) []) (sym here) (ends none same)
+closing-does {few} state e lines (Some x) its a without here none same other changes quiet =
+    subst (λ p. Acts few (a (Some x)) state (closed_as state.host.kernel.past (lines e) p) []) (sym here) (closes e (its x) (lines e) here (other x) (changes x refl) (quiet x))
 
--- an act of the end of a session closes what is open at a place, if anything is
-abbrev pub Closing : (State → ℕ → State) → (ℕ → ℕ) → Type 0
-Closing act place = (state : State) (n : ℕ) (lines : ℕ → List (List ℕ)) → Acts (Unit {0}) (silent (act state n)) state (closed_under state lines (place n)) []
+-- an act of the end of a session closes what is open under a name, if anything is
+abbrev pub Closing : (State → ℕ → State) → (ℕ → EndpointName) → Type 0
+Closing act name = (state : State) (n : ℕ) (lines : EndpointName → List (List ℕ)) → Acts (Unit {0}) (silent (act state n)) state (closed_under state lines (name n)) []
 
--- what is open under a name has its endpoint at its place
-pub endpoint-at : {X Y : Type 0} (p : Option X) (o : Option Endpoint) (both : X → Endpoint → Y) (its : Y → Endpoint) (y : Y) → ((x : X) (h : Endpoint) → its (both x h) ≡ h)
-    → option_and_then (λ x. option_map (both x) o) p ≡ Some y → o ≡ Some (its y)
-endpoint-at None o both its y same is = absurd (none-some y is)
-endpoint-at (Some x) None both its y same is = absurd (none-some y is)
-endpoint-at (Some x) (Some h) both its y same is = ap (λ g. Some g) (sym (same x h)) ∙ ap (λ z. Some (its z)) (same_Some (both x h) y is)
+-- what becomes of the endpoints of a state where the names of one kind changed
+pub own-names : (state : State) (after : List (Option Endpoint)) (e : ℕ) (o : Option Endpoint) → ChangedAt state.endpoints after e o → Changed (endpoint_under state) (endpoint_under (record state { endpoints = after })) (Own e) o
+own-names state after e o c = own-changed (λ (x : Reader). x.endpoint) (λ (x : Writer). x.endpoint) state.endpoints state.readers state.writers after e o c
+
+pub reader-names : (state : State) (after : List (Option Reader)) (r : ℕ) (o : Option Reader) → ChangedAt state.readers after r o → Changed (endpoint_under state) (endpoint_under (record state { readers = after })) (OfReader r) (option_map (λ (x : Reader). x.endpoint) o)
+reader-names state after r o c = reader-changed (λ (x : Reader). x.endpoint) (λ (x : Writer). x.endpoint) state.endpoints state.readers state.writers after r o c
+
+pub writer-names : (state : State) (after : List (Option Writer)) (w : ℕ) (o : Option Writer) → ChangedAt state.writers after w o → Changed (endpoint_under state) (endpoint_under (record state { writers = after })) (OfWriter w) (option_map (λ (x : Writer). x.endpoint) o)
+writer-names state after w o c = writer-changed (λ (x : Reader). x.endpoint) (λ (x : Writer). x.endpoint) state.endpoints state.readers state.writers after w o c
 
 -- it is done, or refused
 pub result-other : (r : Result (Unit {0}) ErrorState) → says_done (result_line r) ≡ false
@@ -236,17 +251,17 @@ try-does call (Ok x) refused does = does x
 -- with the steps of its line
 rest-does : {few : Type 0} {a : Answer} {state : State} {closed : List ClosedEndpoint} {handed : List ControlMove} → Acts few a state closed handed → Acts few (then_applied a) state closed handed
 rest-does (goes quiet rest) = goes quiet (rest-does rest)
-rest-does (opens e x free none zero_ apart rest) = opens e x free none zero_ apart (rest-does rest)
-rest-does (submits e b h here few rest) = submits e b h here few (rest-does rest)
+rest-does (opens e x free none zero_ changes rest) = opens e x free none zero_ changes (rest-does rest)
+rest-does (submits e b h here few changes rest) = submits e b h here few changes (rest-does rest)
 rest-does (fits other rest) = fits other (λ few_. rest-does (rest few_))
-rest-does (reads e t h above here front other rest) = reads e t h above here front other (rest-does rest)
+rest-does (reads e t h stream here front other changes rest) = reads e t h stream here front other changes (rest-does rest)
 rest-does (starts n request timeout device free rest) = starts n request timeout device free (rest-does rest)
 rest-does (controls host one adds rest) = controls host one adds (rest-does rest)
 rest-does (frees n f host here parts rest) = frees n f host here parts (rest-does rest)
 rest-does {a} (ends other quiet) = ends other (quiet-then quiet (quiet-rested a.state))
-rest-does {a} (takes e t h c here front came line quiet) = takes e t h c here front came line (quiet-then quiet (quiet-rested a.state))
-rest-does {a} (closes e h lines here other quiet) = closes e h lines here other (quiet-then quiet (quiet-rested a.state))
-rest-does {a} (moves from to h g here free same read other quiet) = moves from to h g here free same read other (quiet-then quiet (quiet-rested a.state))
+rest-does {a} (takes e t h c here front came line changes quiet) = takes e t h c here front came line changes (quiet-then quiet (quiet-rested a.state))
+rest-does {a} (closes e h lines here other changes quiet) = closes e h lines here other changes (quiet-then quiet (quiet-rested a.state))
+rest-does {a} (moves from to h g here free same read other moved quiet) = moves from to h g here free same read other moved (quiet-then quiet (quiet-rested a.state))
 
 pub along-does : {few : Type 0} {closed : List ClosedEndpoint} {handed : List ControlMove} (state : State) (steps : List KernelStep) (call : State → Answer)
     → Acts few (call (with_steps state steps)) (with_steps state steps) closed handed → Acts few (along_steps state steps call) state closed handed

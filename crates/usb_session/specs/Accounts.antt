@@ -7,15 +7,16 @@ use Rattle.usb_device_host.specs.HostBus.{owner_at}
 use Rattle.usb_device.specs.Futures.{FutureState}
 use Rattle.usb_session_calls.specs.Names.{named}
 use Rattle.usb_session_calls.specs.State.{State, Endpoint, pending}
+use Rattle.usb_session_calls.specs.EndpointNames.{EndpointName, endpoint_under}
 use Rattle.usb_session.specs.Answers.{answer}
 use Rattle.usb_session.specs.Ends.{all_closed}
 use Rattle.usb_session.specs.Output.{start}
 
 -- a ticket is pending at the endpoint of a key, which is open under a name
-pub record Covered (endpoints : List (Option Endpoint)) (t key : ℕ) : Type 0 where
-  pub name : ℕ
+pub record Covered (opened : EndpointName → Option Endpoint) (t key : ℕ) : Type 0 where
+  pub name : EndpointName
   pub entry : Endpoint
-  pub at : named endpoints name ≡ Some entry
+  pub at : opened name ≡ Some entry
   pub key_is : entry.key ≡ key
   pub in_pending : Contains (pending entry) t
 
@@ -31,12 +32,12 @@ pub record IsAwaited (futures : List (Option FutureState)) (t key : ℕ) : Type 
 -- tickets as the journal
 pub record Accounted (state : State) : Type 0 where
   pub held : (t key : ℕ) → owner_at state.host.tickets t ≡ Some key →
-      Covered state.endpoints t key ⊎ IsAwaited state.futures t key
+      Covered (endpoint_under state) t key ⊎ IsAwaited state.futures t key
   pub count : length state.host.tickets ≡ length (tickets state.host.kernel.past)
 
 -- no more tickets of an open endpoint were taken than it has
 abbrev pub TookFew : State → Type 0
-TookFew state = (e : ℕ) (h : Endpoint) → named state.endpoints e ≡ Some h → h.taken ≤ length h.tickets
+TookFew state = (e : EndpointName) (h : Endpoint) → endpoint_under state e ≡ Some h → h.taken ≤ length h.tickets
 
 -- before the first line
 abbrev pub StartIsAccounted : Type 0

@@ -4,7 +4,6 @@ use Rattle.usb_script_lines.specs.declared.item.Item.{Item}
 use Rattle.usb_session_calls.specs.declared.call.Call.{Call}
 use Rattle.usb_session_calls.specs.declared.call.Call.TheVariants.{Setup, Steps, Now, Tree, Open, Close, Device, Interface, Endpoint, Reader, Writer, Control, Future}
 use Rattle.usb_session_calls.specs.State.{State}
-use Rattle.usb_session_calls.specs.ReaderAt.{endpoint_place}
 use Rattle.usb_session_calls.specs.Answer.{Answer, answer_with, silent}
 use Rattle.usb_session_calls.specs.Steps.{along_steps, stepped_all}
 use Rattle.usb_session_calls.specs.Calls.{call_of}
@@ -27,7 +26,7 @@ call_answer state (Open call) = on_open state call
 call_answer state (Close call) = on_close state call
 call_answer state (Device d call) = on_device state d call
 call_answer state (Interface i call) = on_interface state i call
-call_answer state (Endpoint e call steps) = along_steps state steps (λ s. on_endpoint s (endpoint_place e) call)
+call_answer state (Endpoint e call steps) = along_steps state steps (λ s. on_endpoint s e call)
 call_answer state (Reader r call steps) = along_steps state steps (λ s. on_reader s r call)
 call_answer state (Writer w call steps) = along_steps state steps (λ s. on_writer s w call)
 call_answer state (Control call steps) = along_steps state steps (λ s. on_control s call)

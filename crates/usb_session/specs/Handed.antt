@@ -4,24 +4,24 @@ use Rattle.usb_kernel.specs.declared.event.Event.{Event}
 use Rattle.usb_script_lines.specs.declared.item.Item.{Item}
 use Rattle.usb_session_streams.specs.Handed.{completed_bytes}
 use Rattle.usb_session_streams.specs.Told.{IsComplete}
-use Rattle.usb_session_calls.specs.State.{State, pending}
-use Rattle.usb_session_calls.specs.ReaderAt.{ReaderAt, reader_at}
+use Rattle.usb_session_calls.specs.Names.{named}
+use Rattle.usb_session_calls.specs.State.{State, Reader, pending}
 use Rattle.usb_session.specs.Output.{start, behind}
 
 -- of the tickets that were taken of a reader's endpoint the first were taken before the reader was made of it, and then the reader
 -- took these. Each has its completion. What the reader handed over, and then what is unread, are the bytes of these completions,
 -- in order, also of those that failed or were cancelled. So what it handed over is a prefix of the bytes of all completions that
 -- the tickets that it took and those that are pending have
-pub record IsHandedOver (past : List Event) (x : ReaderAt) : Type 0 where
+pub record IsHandedOver (past : List Event) (x : Reader) : Type 0 where
   pub taken : List ℕ
-  pub tickets : take x.endpoint.taken x.endpoint.tickets ≡ x.reader.before ++ taken
+  pub tickets : take x.endpoint.taken x.endpoint.tickets ≡ x.before ++ taken
   pub complete : All (IsComplete past) taken
-  pub bytes : completed_bytes past taken ≡ x.reader.given ++ x.reader.bare.unread
-  pub prefix : (rest : List ℕ) × (x.reader.given ++ rest ≡ completed_bytes past (taken ++ pending x.endpoint))
+  pub bytes : completed_bytes past taken ≡ x.given ++ x.bare.unread
+  pub prefix : (rest : List ℕ) × (x.given ++ rest ≡ completed_bytes past (taken ++ pending x.endpoint))
 
 -- so it is of each open reader, whether its calls are plain ones or end at short packets
 abbrev pub ReadersHandOver : State → Type 0
-ReadersHandOver state = (r : ℕ) (x : ReaderAt) → reader_at state r ≡ Some x → IsHandedOver state.host.kernel.past x
+ReadersHandOver state = (r : ℕ) (x : Reader) → named state.readers r ≡ Some x → IsHandedOver state.host.kernel.past x
 
 -- before the first line of a script and behind each
 abbrev pub BytesAreHandedOver : List Item → Type 0

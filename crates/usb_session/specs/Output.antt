@@ -53,7 +53,7 @@ start items =
       host = host_of (record { past = []; devices = map fresh_device (devices_of items); clock = 0; armed = []; spare = place_count items });
       devices = replicate 64 None;
       interfaces = replicate 64 None;
-      endpoints = replicate 192 None;
+      endpoints = replicate 64 None;
       readers = replicate 64 None;
       writers = replicate 64 None;
       futures = replicate 64 None;

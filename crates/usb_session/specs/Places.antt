@@ -7,7 +7,7 @@ use Rattle.usb_script_lines.specs.declared.item.Item.TheVariants.{Poll}
 use Rattle.usb_session_text.specs.Completions.{done_line, polled_line}
 use Rattle.usb_session_calls.specs.Names.{named}
 use Rattle.usb_session_calls.specs.State.{State, Endpoint}
-use Rattle.usb_session_calls.specs.ReaderAt.{endpoint_place}
+use Rattle.usb_session_calls.specs.EndpointNames.{EndpointName}
 use Rattle.usb_session_calls.specs.Answer.{Answer}
 use Rattle.usb_session.specs.Crowded.{is_crowded}
 use Rattle.usb_session.specs.Answers.{answer}
@@ -18,7 +18,7 @@ use Rattle.usb_session.specs.Served.{taken_under}
 -- completion that the journal has of it, and `pending` exactly where it has none
 abbrev pub PollAnswersForItsPlace : State → ℕ → Type 0
 PollAnswersForItsPlace state e =
-    (h : Endpoint) (t : ℕ) → is_crowded state ≡ false → named state.endpoints (endpoint_place e) ≡ Some h → slice_get h.tickets h.taken ≡ Some t →
+    (h : Endpoint) (t : ℕ) → is_crowded state ≡ false → named state.endpoints e ≡ Some h → slice_get h.tickets h.taken ≡ Some t →
     (answer state (Poll e)).line ≡ polled_line (transfer_completion state.host.kernel.past t)
 
 -- so does each poll of a script
@@ -35,7 +35,7 @@ PollsOfScriptsAnswer = (items : List Item) → PollsAnswer items
 
 -- an answer takes a ticket from what is open under some name
 abbrev pub TakesOne : State → Answer → Type 0
-TakesOne state a = (e : ℕ) × (taken_under a.state e ≡ taken_under state e + 1)
+TakesOne state a = (e : EndpointName) × (taken_under a.state e ≡ taken_under state e + 1)
 
 -- a line with a completion is printed only where a ticket is taken
 abbrev pub CompletionsAreTaken : Type 0

@@ -5,7 +5,7 @@ use Rattle.usb_kernel.specs.declared.event.Event.{Event}
 use Rattle.usb_kernel.specs.TransferCompletions.{transfer_completion}
 use Rattle.usb_session_text.specs.Completions.{done_line}
 use Rattle.usb_script_lines.specs.declared.item.Item.{Item}
-use Rattle.usb_session_calls.specs.Names.{named}
+use Rattle.usb_session_calls.specs.EndpointNames.{EndpointName, endpoint_under}
 use Rattle.usb_session_calls.specs.State.{State, Endpoint}
 use Rattle.usb_session_calls.specs.Answer.{Answer}
 use Rattle.usb_session.specs.Answers.{answer}
@@ -15,13 +15,13 @@ use Rattle.usb_session.specs.Served.{taken_under}
 -- the answer of a line took one ticket of the endpoint that is open under a name behind it: where n were taken before it is the
 -- endpoint's n-th, counted from 0. Of no other endpoint it took one. It printed the completion that the last journal has of this ticket
 pub record TookAndPrinted (last : List Event) (before : State) (a : Answer) : Type 0 where
-  pub name : ℕ
+  pub name : EndpointName
   pub entry : Endpoint
   pub ticket : ℕ
   pub completion : Completion
-  pub open_behind : named a.state.endpoints name ≡ Some entry
+  pub open_behind : endpoint_under a.state name ≡ Some entry
   pub one_more : entry.taken ≡ taken_under before name + 1
-  pub others : (d : ℕ) → d ≢ name → taken_under a.state d ≡ taken_under before d
+  pub others : (d : EndpointName) → d ≢ name → taken_under a.state d ≡ taken_under before d
   pub taken : slice_get entry.tickets (taken_under before name) ≡ Some ticket
   pub came : transfer_completion last ticket ≡ Some completion
   pub printed : a.line ≡ done_line completion

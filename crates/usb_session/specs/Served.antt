@@ -17,10 +17,8 @@ use Rattle.usb_device_host.specs.HostState.{HostState}
 use Rattle.usb_device_ledger.specs.EndedTickets.{end_at}
 use Rattle.usb_device_host.specs.Finishes.{HasEnds}
 use Rattle.usb_session_text.specs.Completions.{polled_line}
-use Rattle.usb_session_calls.specs.Names.{named}
 use Rattle.usb_session_calls.specs.State.{State, Endpoint, tickets_of}
-use Rattle.usb_session_calls.specs.ReaderAt.{endpoint_place, reader_place}
-use Rattle.usb_session_calls.specs.WriterAt.{writer_place}
+use Rattle.usb_session_calls.specs.EndpointNames.{EndpointName, Own, OfReader, OfWriter, endpoint_under}
 use Rattle.usb_session_calls.specs.Calls.{call_of, is_of_control}
 use Rattle.usb_session_calls.specs.Answer.{Answer}
 use Rattle.usb_session.specs.Crowded.{bars_line}
@@ -40,21 +38,21 @@ pub record ClosedEndpoint : Type 0 where
   pub lines : List (List ℕ)
 
 -- how many tickets of the endpoint that is open under a name were taken, 0 where none is open
-abbrev pub taken_under : State → ℕ → ℕ
-taken_under state e = option_map_or (λ (h : Endpoint). h.taken) (named state.endpoints e) 0
+abbrev pub taken_under : State → EndpointName → ℕ
+taken_under state e = option_map_or (λ (h : Endpoint). h.taken) (endpoint_under state e) 0
 
 -- whether a reader or a writer was made of the endpoint that is open under a name
-abbrev pub was_streamed_under : State → ℕ → Bool
-was_streamed_under state e = option_map_or (λ (h : Endpoint). h.was_streamed) (named state.endpoints e) false
+abbrev pub was_streamed_under : State → EndpointName → Bool
+was_streamed_under state e = option_map_or (λ (h : Endpoint). h.was_streamed) (endpoint_under state e) false
 
 -- the line of an answer, where the answer takes a ticket of what is open under a name, of which no reader or writer was made
-abbrev pub line_taking : State → Answer → ℕ → List (List ℕ)
+abbrev pub line_taking : State → Answer → EndpointName → List (List ℕ)
 line_taking state a e = if nat_lt (taken_under state e) (taken_under a.state e) && not (was_streamed_under a.state e) then a.line ∷ [] else []
 
 -- for each name the lines that printed completions of the endpoint that is open under it, with that
 -- of this answer; `lines` has those before it
-abbrev pub lines_behind : State → Answer → (ℕ → List (List ℕ)) → ℕ → List (List ℕ)
-lines_behind state a lines e = (if is_none (named state.endpoints e) then [] else lines e) ++ line_taking state a e
+abbrev pub lines_behind : State → Answer → (EndpointName → List (List ℕ)) → EndpointName → List (List ℕ)
+lines_behind state a lines e = (if is_none (endpoint_under state e) then [] else lines e) ++ line_taking state a e
 
 -- an endpoint that is closed now, if there is one, with this journal and these lines
 abbrev pub closed_as : List Event → List (List ℕ) → Option Endpoint → List ClosedEndpoint
@@ -62,33 +60,33 @@ closed_as past lines None = []
 closed_as past lines (Some e) = record { endpoint = e; past = past; lines = lines } ∷ []
 
 -- what is open under a name, where it is closed now
-abbrev pub closed_under : State → (ℕ → List (List ℕ)) → ℕ → List ClosedEndpoint
-closed_under state lines e = closed_as state.host.kernel.past (lines e) (named state.endpoints e)
+abbrev pub closed_under : State → (EndpointName → List (List ℕ)) → EndpointName → List ClosedEndpoint
+closed_under state lines e = closed_as state.host.kernel.past (lines e) (endpoint_under state e)
 
 -- the endpoint that a call closes, which may be a reader's or a writer's
-abbrev pub closed_by_call : State → (ℕ → List (List ℕ)) → Call → List ClosedEndpoint
-closed_by_call state lines (Close (closes.Endpoint e)) = closed_under state lines (endpoint_place e)
-closed_by_call state lines (Close (closes.Reader r)) = closed_under state lines (reader_place r)
-closed_by_call state lines (Close (closes.Writer w)) = closed_under state lines (writer_place w)
+abbrev pub closed_by_call : State → (EndpointName → List (List ℕ)) → Call → List ClosedEndpoint
+closed_by_call state lines (Close (closes.Endpoint e)) = closed_under state lines (Own e)
+closed_by_call state lines (Close (closes.Reader r)) = closed_under state lines (OfReader r)
+closed_by_call state lines (Close (closes.Writer w)) = closed_under state lines (OfWriter w)
 closed_by_call state lines call = []
 
 -- the one that an item closes: none where the session is crowded
-abbrev pub closed_by : State → (ℕ → List (List ℕ)) → Item → List ClosedEndpoint
+abbrev pub closed_by : State → (EndpointName → List (List ℕ)) → Item → List ClosedEndpoint
 closed_by state lines item = if bars_line state item then [] else closed_by_call state lines (call_of item)
 
 -- those of readers that the end of the session closes, of the names below k in order; then those of writers; and then those that have
 -- names of their own
-abbrev pub read_at_end : State → (ℕ → List (List ℕ)) → ℕ → List ClosedEndpoint
-read_at_end state lines = given_below reader_closed (λ s k. closed_under s lines (reader_place k)) state
+abbrev pub read_at_end : State → (EndpointName → List (List ℕ)) → ℕ → List ClosedEndpoint
+read_at_end state lines = given_below reader_closed (λ s k. closed_under s lines (OfReader k)) state
 
-abbrev pub written_at_end : State → (ℕ → List (List ℕ)) → ℕ → List ClosedEndpoint
-written_at_end state lines = given_below writer_closed (λ s k. closed_under s lines (writer_place k)) state
+abbrev pub written_at_end : State → (EndpointName → List (List ℕ)) → ℕ → List ClosedEndpoint
+written_at_end state lines = given_below writer_closed (λ s k. closed_under s lines (OfWriter k)) state
 
-abbrev pub closed_at_end : State → (ℕ → List (List ℕ)) → ℕ → List ClosedEndpoint
-closed_at_end state lines = given_below closed (λ s k. closed_under s lines k) state
+abbrev pub closed_at_end : State → (EndpointName → List (List ℕ)) → ℕ → List ClosedEndpoint
+closed_at_end state lines = given_below closed (λ s k. closed_under s lines (Own k)) state
 
 -- the endpoints that these items close, and then the end of the session
-abbrev pub closed_endpoints_from : State → (ℕ → List (List ℕ)) → List Item → List ClosedEndpoint
+abbrev pub closed_endpoints_from : State → (EndpointName → List (List ℕ)) → List Item → List ClosedEndpoint
 closed_endpoints_from state lines [] =
     read_at_end state lines 64 ++ written_at_end (readers_closed state 64) lines 64 ++ closed_at_end (writers_closed (readers_closed state 64) 64) lines 64
 closed_endpoints_from state lines (item ∷ items) = closed_by state lines item ++ closed_endpoints_from (answer state item).state (lines_behind state (answer state item) lines) items

@@ -5,26 +5,26 @@ use Rattle.usb_script_lines.specs.declared.item.Item.{Item}
 use Rattle.usb_io.specs.Writes.{Written, written}
 use Rattle.usb_io.specs.Carried.{AllCarry}
 use Rattle.usb_session_streams.specs.Told.{WriterCalls, failures_at}
-use Rattle.usb_session_calls.specs.State.{State}
-use Rattle.usb_session_calls.specs.WriterAt.{WriterAt, writer_at}
+use Rattle.usb_session_calls.specs.Names.{named}
+use Rattle.usb_session_calls.specs.State.{State, Writer}
 use Rattle.usb_session.specs.Output.{start, behind}
 
 -- what the accepted calls of a writer submit, and what they leave
-abbrev pub written_by : WriterAt → WriterCalls → Written
-written_by x c = written x.endpoint.maximum x.writer.bare.size c.accepted
+abbrev pub written_by : Writer → WriterCalls → Written
+written_by x c = written x.endpoint.maximum x.bare.size c.accepted
 
 -- the tickets of a writer's endpoint carry, one each and in order, the transfers of its accepted calls; the rest of what was
 -- accepted stands in its buffer; and the failed ones of the tickets that were taken are, in order, what its calls answered,
 -- which is one each at most
-pub record IsWritten (past : List Event) (x : WriterAt) (c : WriterCalls) : Type 0 where
+pub record IsWritten (past : List Event) (x : Writer) (c : WriterCalls) : Type 0 where
   pub transfers : AllCarry past x.endpoint.device x.endpoint.address x.endpoint.maximum x.endpoint.tickets (written_by x c).transfers
-  pub standing : unwrap_or x.writer.bare.buffer [] ≡ (written_by x c).standing
+  pub standing : unwrap_or x.bare.buffer [] ≡ (written_by x c).standing
   pub failures : failures_at past (take x.endpoint.taken x.endpoint.tickets) ≡ c.failures
 
 -- so it is of each open writer that alone used its endpoint
 abbrev pub WritersTell : State → Type 0
 WritersTell state =
-    (w : ℕ) (x : WriterAt) (c : WriterCalls) → writer_at state w ≡ Some x → x.writer.calls ≡ Some c →
+    (w : ℕ) (x : Writer) (c : WriterCalls) → named state.writers w ≡ Some x → x.calls ≡ Some c →
     IsWritten state.host.kernel.past x c
 
 -- before the first line of a script and behind each

@@ -1,12 +1,12 @@
 //! `close` and `release`.
 
 ghost use Rattle.std.specs.Prelude.{◌≡◌, is_some};
-ghost use Rattle.usb_session_calls.specs.ReaderAt.{endpoint_place};
 ghost use Rattle.usb_session_calls.specs.State.{State};
 ghost use Rattle.usb_session_calls.specs.Names.{named, freed};
 ghost use Rattle.usb_session_calls.specs.Closes.{closed, close_answer, close_future_answer, close_device_answer, close_interface_answer, release_answer};
 ghost use Rattle.usb_session.specs.Ends.{future_closed_under, interface_closed, name_closed};
 ghost use Rattle.usb_session_calls.specs.Relation.{Represents};
+ghost use Rattle.usb_session_calls.specs.SessionState.{open_under};
 ghost use Rattle.usb_session_calls.specs.Answered.{Answers};
 
 use crate::session::Session;
@@ -18,10 +18,12 @@ use usb_session_text::{write_condition, write_error, write_ok};
 impl Session {
     /// Closes what is open under the number of an endpoint's name, and says whether anything was.
     pub(crate) fn close_endpoint(&mut self, number: u8) -> bool
-        ensures was_open { result ≡ is_some (named self.old.endpoints (endpoint_place number)) }
+        ensures was_open { result ≡ is_some (named self.old.endpoints number) }
         ensures stands { (state : State) → Represents self.old state →
-            Represents self.new (closed state (endpoint_place number)) }
-        ensures freed { self.new.endpoints ≡ freed self.old.endpoints (endpoint_place number) }
+            Represents self.new (closed state number) }
+        ensures freed { self.new.endpoints ≡ freed self.old.endpoints number }
+        ensures readers { self.new.readers ≡ self.old.readers }
+        ensures writers { self.new.writers ≡ self.old.writers }
         ensures spare { self.new.host.kernel.spare ≡ self.old.host.kernel.spare }
     {
         let Some(endpoint) = take_at(&mut self.endpoints, number) else {
@@ -35,7 +37,7 @@ impl Session {
     /// open no more.
     pub(crate) fn close(&mut self, line: &mut String, name: Name) -> Result<(), NoMemory>
         ensures answered { Answers self.old self.new line.old line.new result
-            (λ state. close_answer state (endpoint_place name)) }
+            (λ state. close_answer state name) }
         ensures spare { self.new.host.kernel.spare ≡ self.old.host.kernel.spare }
     {
         if self.close_endpoint(name.number()) {
@@ -51,7 +53,7 @@ impl Session {
         ensures stands { (state : State) → Represents self.old state →
             Represents self.new (future_closed_under state number) }
         ensures freed { self.new.futures ≡ freed self.old.futures number }
-        ensures endpoints { self.new.endpoints ≡ self.old.endpoints }
+        ensures endpoints { open_under self.new ≡ open_under self.old }
         ensures spare { self.new.host.kernel.spare ≡ self.old.host.kernel.spare }
     {
         let Some(future) = take_at(&mut self.futures, number) else {
@@ -81,7 +83,7 @@ impl Session {
             Represents self.new (name_closed state number) }
         ensures freed { self.new.devices ≡ freed self.old.devices number }
         ensures interfaces { self.new.interfaces ≡ self.old.interfaces }
-        ensures endpoints { self.new.endpoints ≡ self.old.endpoints }
+        ensures endpoints { open_under self.new ≡ open_under self.old }
         ensures futures { self.new.futures ≡ self.old.futures }
         ensures spare { self.new.host.kernel.spare ≡ self.old.host.kernel.spare }
     {
@@ -111,7 +113,7 @@ impl Session {
         ensures stands { (state : State) → Represents self.old state →
             Represents self.new (interface_closed state number) }
         ensures freed { self.new.interfaces ≡ freed self.old.interfaces number }
-        ensures endpoints { self.new.endpoints ≡ self.old.endpoints }
+        ensures endpoints { open_under self.new ≡ open_under self.old }
         ensures futures { self.new.futures ≡ self.old.futures }
         ensures spare { self.new.host.kernel.spare ≡ self.old.host.kernel.spare }
     {

@@ -6,10 +6,9 @@ ghost use Rattle.usb_device_host.specs.Finishes.{HasEnds, HasCompletions, KeepsN
 ghost use Rattle.usb_device_tables.specs.History.{value_at};
 ghost use Rattle.usb_session_calls.specs.State.{State};
 ghost use Rattle.usb_session_calls.specs.Names.{named, freed};
-ghost use Rattle.usb_session_calls.specs.ReaderAt.{reader_place};
-ghost use Rattle.usb_session_calls.specs.WriterAt.{writer_place};
 ghost use Rattle.usb_session.specs.Ends.{readers_closed, writers_closed, endpoints_closed, futures_closed, interfaces_closed, devices_closed, ended};
 ghost use Rattle.usb_session_calls.specs.Relation.{Represents};
+ghost use Rattle.usb_session_calls.specs.SessionState.{open_under};
 ghost use Rattle.usb_session.specs.Accounts.{Accounted};
 
 use crate::session::Session;
@@ -22,7 +21,7 @@ impl Session {
     fn close_readers(&mut self)
         ensures stands { (state : State) → Represents self.old state →
             Represents self.new (readers_closed state 64) }
-        ensures none { (r : ℕ) → r < 64 → named self.new.endpoints (reader_place r) ≡ None }
+        ensures none { (r : ℕ) → r < 64 → named self.new.readers r ≡ None }
     {
         for number in 0..64 {
             let Some(name) = Name::new(number) else {
@@ -36,9 +35,8 @@ impl Session {
     fn close_writers(&mut self)
         ensures stands { (state : State) → Represents self.old state →
             Represents self.new (writers_closed state 64) }
-        ensures none { (w : ℕ) → w < 64 → named self.new.endpoints (writer_place w) ≡ None }
-        ensures readers { (r : ℕ) → r < 64 → named self.new.endpoints (reader_place r)
-            ≡ named self.old.endpoints (reader_place r) }
+        ensures none { (w : ℕ) → w < 64 → named self.new.writers w ≡ None }
+        ensures readers { self.new.readers ≡ self.old.readers }
     {
         for number in 0..64 {
             let Some(name) = Name::new(number) else {
@@ -53,8 +51,8 @@ impl Session {
         ensures stands { (state : State) → Represents self.old state →
             Represents self.new (endpoints_closed state 64) }
         ensures none { (e : ℕ) → e < 64 → named self.new.endpoints e ≡ None }
-        ensures streams { (e : ℕ) → 64 ≤ e → named self.new.endpoints e
-            ≡ named self.old.endpoints e }
+        ensures readers { self.new.readers ≡ self.old.readers }
+        ensures writers { self.new.writers ≡ self.old.writers }
     {
         for name in 0..64 {
             self.close_endpoint(name);
@@ -66,7 +64,7 @@ impl Session {
         ensures stands { (state : State) → Represents self.old state →
             Represents self.new (futures_closed state 64) }
         ensures none { (f : ℕ) → f < 64 → named self.new.futures f ≡ None }
-        ensures endpoints { self.new.endpoints ≡ self.old.endpoints }
+        ensures endpoints { open_under self.new ≡ open_under self.old }
     {
         for name in 0..64 {
             self.close_future_at(name);
@@ -78,7 +76,7 @@ impl Session {
         ensures stands { (state : State) → Represents self.old state →
             Represents self.new (interfaces_closed state 64) }
         ensures none { (i : ℕ) → i < 64 → named self.new.interfaces i ≡ None }
-        ensures endpoints { self.new.endpoints ≡ self.old.endpoints }
+        ensures endpoints { open_under self.new ≡ open_under self.old }
         ensures futures { self.new.futures ≡ self.old.futures }
     {
         for name in 0..64 {
@@ -92,7 +90,7 @@ impl Session {
             Represents self.new (devices_closed state 64) }
         ensures none { (d : ℕ) → d < 64 → named self.new.devices d ≡ None }
         ensures interfaces { self.new.interfaces ≡ self.old.interfaces }
-        ensures endpoints { self.new.endpoints ≡ self.old.endpoints }
+        ensures endpoints { open_under self.new ≡ open_under self.old }
         ensures futures { self.new.futures ≡ self.old.futures }
     {
         for name in 0..64 {

@@ -4,7 +4,6 @@ ghost use Rattle.std.specs.Prelude.{◌≡◌, OnOk, IfOk, string_bytes};
 ghost use Rattle.usb_script_words.specs.EndpointKinds.{transfer_type_of, direction_of};
 ghost use Rattle.usb_device_endpoint.specs.Handles.{Stands, KeepsOthers};
 ghost use Rattle.usb_device_host.specs.HostBus.{bus_of};
-ghost use Rattle.usb_session_calls.specs.ReaderAt.{endpoint_place};
 ghost use Rattle.usb_device.specs.HandleStates.{StandsInterface};
 ghost use Rattle.usb_device_host.specs.EndpointOpens.{OpensEndpoint};
 ghost use Rattle.usb_session_calls.specs.State.{State};
@@ -70,7 +69,7 @@ impl Session {
         kind: EndpointKind,
     ) -> Result<(), NoMemory>
         ensures answered { Answers self.old self.new line.old line.new result
-            (λ state. endpoint_answer state (endpoint_place name) interface address
+            (λ state. endpoint_answer state name interface address
             (transfer_type_of kind) (direction_of kind)) }
         ensures spare { self.new.host.kernel.spare ≡ self.old.host.kernel.spare }
     {

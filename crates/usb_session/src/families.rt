@@ -4,7 +4,6 @@ ghost use Rattle.std.specs.Prelude.{◌≡◌, ◌≤◌, ◌+◌, length};
 ghost use Rattle.usb_session_calls.specs.Answered.{Answers};
 ghost use Rattle.usb_session_calls.specs.DeviceCalls.{device_places, on_device};
 ghost use Rattle.usb_session_calls.specs.InterfaceCalls.{on_interface};
-ghost use Rattle.usb_session_calls.specs.ReaderAt.{endpoint_place};
 ghost use Rattle.usb_session_calls.specs.Steps.{along_steps};
 ghost use Rattle.usb_session_calls.specs.EndpointCalls.{on_endpoint};
 ghost use Rattle.usb_session_calls.specs.CalledReaders.{on_reader};
@@ -68,7 +67,7 @@ impl Session {
     ) -> Result<(), NoMemory>
         requires room { length steps ≤ self.old.host.kernel.spare }
         ensures answered { Answers self.old self.new line.old line.new result
-            (λ state. along_steps state steps (λ s. on_endpoint s (endpoint_place name) call)) }
+            (λ state. along_steps state steps (λ s. on_endpoint s name call)) }
         ensures spare { self.new.host.kernel.spare + length steps ≡ self.old.host.kernel.spare }
     {
         let number = name.number();

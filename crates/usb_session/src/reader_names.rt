@@ -4,7 +4,6 @@
 ghost use Rattle.std.specs.Prelude.{◌≡◌, is_some};
 ghost use Rattle.usb_session_calls.specs.State.{State};
 ghost use Rattle.usb_session_calls.specs.Names.{named, freed};
-ghost use Rattle.usb_session_calls.specs.ReaderAt.{endpoint_place, reader_place};
 ghost use Rattle.usb_session_calls.specs.Readers.{reader_answer, inner_answer, reader_closed, close_reader_answer};
 ghost use Rattle.usb_session_calls.specs.Relation.{Represents};
 ghost use Rattle.usb_session_calls.specs.Answered.{Answers};
@@ -28,7 +27,7 @@ impl Session {
         transfer_size: Length,
     ) -> Result<(), NoMemory>
         ensures answered { Answers self.old self.new line.old line.new result
-            (λ state. reader_answer state reader (endpoint_place endpoint) transfer_size) }
+            (λ state. reader_answer state reader endpoint transfer_size) }
         ensures spare { self.new.host.kernel.spare ≡ self.old.host.kernel.spare }
     {
         let name = reader.number();
@@ -61,7 +60,7 @@ impl Session {
         reader: Name,
     ) -> Result<(), NoMemory>
         ensures answered { Answers self.old self.new line.old line.new result
-            (λ state. inner_answer state (endpoint_place endpoint) reader) }
+            (λ state. inner_answer state endpoint reader) }
         ensures spare { self.new.host.kernel.spare ≡ self.old.host.kernel.spare }
     {
         let name = endpoint.number();
@@ -78,10 +77,10 @@ impl Session {
 
     /// Closes what is open under a reader's name, and says whether anything was.
     pub(crate) fn close_reader_at(&mut self, name: Name) -> bool
-        ensures was_open { result ≡ is_some (named self.old.endpoints (reader_place name)) }
+        ensures was_open { result ≡ is_some (named self.old.readers name) }
         ensures stands { (state : State) → Represents self.old state →
             Represents self.new (reader_closed state name) }
-        ensures freed { self.new.endpoints ≡ freed self.old.endpoints (reader_place name) }
+        ensures freed { self.new.readers ≡ freed self.old.readers name }
         ensures spare { self.new.host.kernel.spare ≡ self.old.host.kernel.spare }
     {
         let Some(reader) = take_at(&mut self.readers, name.number()) else {

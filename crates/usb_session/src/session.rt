@@ -40,10 +40,7 @@ pub struct Session {
 }
 
 impl Model for Session {
-    ghost use Rattle.std.specs.Prelude.{map};
-    ghost use Rattle.std.specs.Option.{option_map};
     ghost use Rattle.usb_session_calls.specs.SessionState.{SessionState};
-    ghost use Rattle.usb_session_calls.specs.SessionParts.{endpoints_with, bare_reader_of, bare_writer_of};
     ghost use Rattle.usb_session.specs.SessionFacts.{IsSoundInside};
 
     ghost Value = { SessionState };
@@ -52,9 +49,9 @@ impl Model for Session {
       host = s.host;
       devices = s.devices.items;
       interfaces = s.interfaces.items;
-      endpoints = endpoints_with s.endpoints.items s.readers.items s.writers.items;
-      readers = map (option_map bare_reader_of) s.readers.items;
-      writers = map (option_map bare_writer_of) s.writers.items;
+      endpoints = s.endpoints.items;
+      readers = s.readers.items;
+      writers = s.writers.items;
       futures = s.futures.items;
       tree = s.tree;
       packets = s.watch;

@@ -4,8 +4,6 @@
 ghost use Rattle.std.specs.Prelude.{◌≡◌, is_some};
 ghost use Rattle.usb_session_calls.specs.State.{State};
 ghost use Rattle.usb_session_calls.specs.Names.{named, freed};
-ghost use Rattle.usb_session_calls.specs.ReaderAt.{endpoint_place};
-ghost use Rattle.usb_session_calls.specs.WriterAt.{writer_place};
 ghost use Rattle.usb_session_calls.specs.Writers.{writer_answer, writer_inner_answer, writer_closed, close_writer_answer};
 ghost use Rattle.usb_session_calls.specs.Relation.{Represents};
 ghost use Rattle.usb_session_calls.specs.Answered.{Answers};
@@ -29,7 +27,7 @@ impl Session {
         transfer_size: Length,
     ) -> Result<(), NoMemory>
         ensures answered { Answers self.old self.new line.old line.new result
-            (λ state. writer_answer state writer (endpoint_place endpoint) transfer_size) }
+            (λ state. writer_answer state writer endpoint transfer_size) }
         ensures spare { self.new.host.kernel.spare ≡ self.old.host.kernel.spare }
     {
         let name = writer.number();
@@ -62,7 +60,7 @@ impl Session {
         writer: Name,
     ) -> Result<(), NoMemory>
         ensures answered { Answers self.old self.new line.old line.new result
-            (λ state. writer_inner_answer state (endpoint_place endpoint) writer) }
+            (λ state. writer_inner_answer state endpoint writer) }
         ensures spare { self.new.host.kernel.spare ≡ self.old.host.kernel.spare }
     {
         let name = endpoint.number();
@@ -79,10 +77,11 @@ impl Session {
 
     /// Closes what is open under a writer's name, and says whether anything was.
     pub(crate) fn close_writer_at(&mut self, name: Name) -> bool
-        ensures was_open { result ≡ is_some (named self.old.endpoints (writer_place name)) }
+        ensures was_open { result ≡ is_some (named self.old.writers name) }
         ensures stands { (state : State) → Represents self.old state →
             Represents self.new (writer_closed state name) }
-        ensures freed { self.new.endpoints ≡ freed self.old.endpoints (writer_place name) }
+        ensures freed { self.new.writers ≡ freed self.old.writers name }
+        ensures readers { self.new.readers ≡ self.old.readers }
         ensures spare { self.new.host.kernel.spare ≡ self.old.host.kernel.spare }
     {
         let Some(writer) = take_at(&mut self.writers, name.number()) else {

@@ -4,10 +4,14 @@ use Rattle.std.specs.Prelude.{OnOk}
 use Rattle.std.specs.Option.{option_map}
 use Rattle.usb_session_text.specs.Calls.{condition_line}
 use Rattle.usb_session_calls.specs.Names.{named, is_free}
-use Rattle.usb_session_calls.specs.State.{State, Endpoint, endpoint_state}
+use Rattle.usb_io.specs.Readers.{ReaderState}
+use Rattle.usb_io.specs.Writers.{WriterState}
+use Rattle.usb_session_calls.specs.State.{State, Endpoint, Reader, Writer, endpoint_state, state_of_reader, state_of_writer}
+use Rattle.usb_session_calls.specs.EndpointNames.{EndpointName, endpoint_under}
+use Rattle.usb_session_calls.proofs.EndpointNameLemmas.{held-seen}
 use Rattle.usb_session_calls.specs.Answer.{Answer, answer_with, condition_answer, if_open}
 use Rattle.usb_session_calls.specs.Answered.{Answered}
-use Rattle.usb_session_calls.specs.SessionState.{SessionState}
+use Rattle.usb_session_calls.specs.SessionState.{SessionState, open_under}
 use Rattle.usb_session_calls.specs.Relation.{Represents}
 use Rattle.usb_session_calls.proofs.NameLemmas.{named-map, is_free-map}
 
@@ -53,6 +57,12 @@ named_kept s state e r = ap (λ (v : SessionState). named v.endpoints e) r.is �
 
 pub free_kept : (s : SessionState) (state : State) (e : ℕ) → Represents s state → is_free s.endpoints e ≡ is_free state.endpoints e
 free_kept s state e r = ap (λ (v : SessionState). is_free v.endpoints e) r.is ∙ is_free-map endpoint_state state.endpoints e
+
+-- the same of each endpoint that is open
+pub under_kept : (s : SessionState) (state : State) (e : EndpointName) → Represents s state → open_under s e ≡ option_map endpoint_state (endpoint_under state e)
+under_kept s state e r =
+    ap (λ (v : SessionState). open_under v e) r.is
+    ∙ held-seen endpoint_state state_of_reader state_of_writer (λ (x : Reader). x.endpoint) (λ (x : Writer). x.endpoint) (λ (x : ReaderState). x.endpoint) (λ (x : WriterState). x.endpoint) (λ x. refl) (λ x. refl) state.endpoints state.readers state.writers e
 
 none_by : (o : Option Endpoint) → option_map endpoint_state o ≡ None → o ≡ None
 none_by None is = refl

@@ -1,4 +1,5 @@
 pub mod NameLemmas
+pub mod EndpointNameLemmas
 pub mod Answering
 pub mod Called
 pub mod CountedNames

@@ -162,6 +162,10 @@ map-change_named v f g xs n same =
     map-change (option_map v) (option_map f) (option_map g) xs n
     (λ o at. option_map-change v f g o (λ x is. same x (named_of xs n o at ∙ is)))
 
+pub length-change_named : {X : Type 0} (f : X → X) (xs : List (Option X)) (n : ℕ) → length (change_named f xs n) ≡ length xs
+unfolding change_named
+length-change_named f xs n = length-change (option_map f) xs n
+
 pub length-freed : {X : Type 0} (xs : List (Option X)) (n : ℕ) → length (freed xs n) ≡ length xs
 unfolding freed
 length-freed xs n = length-change nothing xs n

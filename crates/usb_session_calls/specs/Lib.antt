@@ -2,6 +2,7 @@ pub mod Names
 pub mod BareReaders
 pub mod BareWriters
 pub mod State
+pub mod EndpointNames
 pub mod Answer
 pub mod OpenAt
 pub mod Clones
@@ -15,10 +16,8 @@ pub mod Waits
 pub mod Transfers
 pub mod Halts
 pub mod Closes
-pub mod ReaderAt
 pub mod Readers
 pub mod Reads
-pub mod WriterAt
 pub mod Writers
 pub mod Writes
 pub mod Calls

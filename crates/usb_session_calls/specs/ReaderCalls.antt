@@ -4,9 +4,7 @@ use Rattle.std.specs.declared.alloc.Global.{Global}
 use Rattle.usb_device_host.specs.HostState.{HostState}
 use Rattle.usb_io.specs.Readers.{ReaderState}
 use Rattle.usb_session_calls.specs.Names.{named, change_named}
-use Rattle.usb_session_calls.specs.BareReaders.{bare_of}
-use Rattle.usb_session_calls.specs.State.{State}
-use Rattle.usb_session_calls.specs.ReaderAt.{ReaderAt, reader_place, reader_at, state_of_reader}
+use Rattle.usb_session_calls.specs.State.{State, Reader, state_of_reader}
 use Rattle.usb_session_calls.specs.Answer.{Answer}
 use Rattle.usb_session_calls.specs.SessionState.{SessionState}
 use Rattle.usb_session_calls.specs.Relation.{Represents}
@@ -17,23 +15,21 @@ abbrev pub with_reader_called : SessionState → ℕ → HostState → ReaderSta
 with_reader_called s r host y =
     record s {
       host = host;
-      endpoints = change_named (λ x. y.endpoint) s.endpoints (reader_place r);
-      readers = change_named (λ x. bare_of y) s.readers r;
+      readers = change_named (λ x. y) s.readers r;
     }
 
 -- a session has this reader open under a name, and so has the state that it stands for
-pub record HasReader (s : SessionState) (state : State) (r : ℕ) (x : ReaderState) (at : ReaderAt) : Type 0 where
-  pub endpoint : named s.endpoints (reader_place r) ≡ Some x.endpoint
-  pub reader : named s.readers r ≡ Some (bare_of x)
-  pub is : reader_at state r ≡ Some at
+pub record HasReader (s : SessionState) (state : State) (r : ℕ) (x : ReaderState) (at : Reader) : Type 0 where
+  pub reader : named s.readers r ≡ Some x
+  pub is : named state.readers r ≡ Some at
   pub same : state_of_reader at ≡ x
 
 -- in whatever session the reader is open it goes to the state behind the answer, whose line is
 -- printed; of want of memory nothing is said. x is the reader before the call, and y after it
 abbrev pub ReaderAnswers : {E : Type 0} → HostState → HostState → ReaderState → ReaderState →
-    String Global → String Global → Result Unit E → (State → ℕ → ReaderAt → Answer) → Type 0
+    String Global → String Global → Result Unit E → (State → ℕ → Reader → Answer) → Type 0
 ReaderAnswers old new x y before after result call =
     OnOk result
-    ((s : SessionState) (state : State) (r : ℕ) (at : ReaderAt) → Represents s state → s.host ≡ old →
+    ((s : SessionState) (state : State) (r : ℕ) (at : Reader) → Represents s state → s.host ≡ old →
     HasReader s state r x at →
     Answered (with_reader_called s r new y) (string_bytes before) (string_bytes after) (call state r at))

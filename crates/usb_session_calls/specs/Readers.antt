@@ -1,6 +1,6 @@
 -- `reader`, `inner`, `num`, `timeout`, `cancel` and `close` of a reader. `inner` and `close` are barred where it is not open, and
 -- `reader` where the endpoint isn't, or the reader's name is in use.
-use Rattle.std.specs.Prelude.{ℕ, ◌-◌, ◌||◌, ◌&&◌, nat_lt, Bool, true, List, [], ◌++◌, length, take, Option, Some, None, if◌then◌else◌}
+use Rattle.std.specs.Prelude.{ℕ, ◌-◌, ◌||◌, nat_lt, true, List, [], ◌++◌, length, take, Option, Some, None, if◌then◌else◌}
 use Rattle.usb_desc.specs.declared.types.Direction.TheVariants.{In}
 use Rattle.usb_device_endpoint.specs.Closes.{all_discarded, after_close}
 use Rattle.usb_device_host.specs.HostState.{HostState}
@@ -12,9 +12,8 @@ use Rattle.usb_device_host.specs.HostCalls.{host_calls}
 use Rattle.usb_session_streams.specs.Numbers.{numbers_from}
 use Rattle.usb_session_calls.specs.Names.{named, is_free, freed, set_name, change_named}
 use Rattle.usb_session_streams.specs.Needs.{bars_need}
-use Rattle.usb_session_calls.specs.State.{State, Endpoint, Reader, endpoint_state, pending, tickets_of, with_host}
+use Rattle.usb_session_calls.specs.State.{State, Endpoint, Reader, endpoint_state, pending, state_of_reader, tickets_of, with_host}
 use Rattle.usb_session_calls.specs.BareReaders.{bare_of}
-use Rattle.usb_session_calls.specs.ReaderAt.{ReaderAt, reader_place, reader_at, state_of_reader}
 use Rattle.usb_session_calls.specs.Answer.{Answer, condition_answer, ok_answer, if_open}
 use Rattle.usb_session_calls.specs.Submits.{has_direction}
 
@@ -31,8 +30,9 @@ as_streamed h = record h { was_streamed = true }
 abbrev pub with_reader : State → ℕ → ℕ → ℕ → Endpoint → State
 with_reader state r e size h =
     record state {
-      endpoints = set_name (freed state.endpoints e) (reader_place r) (as_streamed h);
+      endpoints = freed state.endpoints e;
       readers = set_name state.readers r (record {
+        endpoint = as_streamed h;
         bare = bare_of (fresh_reader (endpoint_state h) size);
         before = take h.taken h.tickets;
         given = [];
@@ -40,14 +40,10 @@ with_reader state r e size h =
       });
     }
 
--- whether a reader's name may be opened: it and its place among the endpoints are free
-abbrev pub is_free_reader : State → ℕ → Bool
-is_free_reader state r = is_free state.readers r && is_free state.endpoints (reader_place r)
-
 -- of an endpoint that is open (h)
 abbrev pub reader_on : State → ℕ → ℕ → ℕ → Endpoint → Answer
 reader_on state r e size h =
-    if is_free_reader state r then (if has_direction In (endpoint_state h) then ok_answer (with_reader state r e size h) else condition_answer state)
+    if is_free state.readers r then (if has_direction In (endpoint_state h) then ok_answer (with_reader state r e size h) else condition_answer state)
     else condition_answer state
 
 -- `reader`: a reader is made of an endpoint
@@ -55,17 +51,17 @@ unfoldable pub reader_answer : State → ℕ → ℕ → ℕ → Answer
 reader_answer state r e size = if_open (named state.endpoints e) (reader_on state r e size) (condition_answer state)
 
 -- the endpoint is open under its own name again, and the reader's is free
-abbrev pub without_reader : State → ℕ → ℕ → ReaderAt → State
+abbrev pub without_reader : State → ℕ → ℕ → Reader → State
 without_reader state e r x =
     record state {
-      endpoints = set_name (freed state.endpoints (reader_place r)) e x.endpoint;
+      endpoints = set_name state.endpoints e x.endpoint;
       readers = freed state.readers r;
     }
 
 -- `inner`: the endpoint comes back, under a name that is free
 unfoldable pub inner_answer : State → ℕ → ℕ → Answer
 inner_answer state e r =
-    if_open (reader_at state r) (λ x. if is_free state.endpoints e then ok_answer (without_reader state e r x) else condition_answer state) (condition_answer state)
+    if_open (named state.readers r) (λ x. if is_free state.endpoints e then ok_answer (without_reader state e r x) else condition_answer state) (condition_answer state)
 
 -- an endpoint behind a call of its reader or writer: each ticket that came to the journal is one of its tickets (from `old` many to
 -- `new` many), and those that are not pending were taken
@@ -82,8 +78,12 @@ abbrev pub called : State → ℕ → Option (List Mark) → List ℕ → Readin
 called state r consumed bytes w =
     record state {
       host = w.bus;
-      endpoints = change_named (called_endpoint (tickets_of state) (tickets_of (with_host state w.bus)) w.reader.endpoint.pending) state.endpoints (reader_place r);
-      readers = change_named (λ x. record x { bare = bare_of w.reader; given = x.given ++ bytes; consumed = consumed }) state.readers r;
+      readers = change_named (λ x. record x {
+        endpoint = called_endpoint (tickets_of state) (tickets_of (with_host state w.bus)) w.reader.endpoint.pending x.endpoint;
+        bare = bare_of w.reader;
+        given = x.given ++ bytes;
+        consumed = consumed;
+      }) state.readers r;
     }
 
 -- a reader of which so many transfers are to be pending
@@ -91,10 +91,10 @@ abbrev pub with_count : ℕ → ReaderState → ReaderState
 with_count n r = record r { n = n }
 
 -- as many transfers are submitted as are missing of one less
-abbrev pub num_on : State → ℕ → ℕ → ReaderAt → Answer
+abbrev pub num_on : State → ℕ → ℕ → Reader → Answer
 num_on state r n x =
     if nat_lt 64 n || bars_need state.host.kernel.past (length (pending x.endpoint)) (n - 1 - length (pending x.endpoint)) then condition_answer state
-    else ok_answer (called state r x.reader.consumed [] (filled_to host_calls (n - 1) (reading state.host (with_count n (state_of_reader x)))))
+    else ok_answer (called state r x.consumed [] (filled_to host_calls (n - 1) (reading state.host (with_count n (state_of_reader x)))))
 
 -- a reader whose waits have this timeout
 abbrev pub with_timeout : ℕ → Reader → Reader
@@ -109,28 +109,27 @@ abbrev pub with_none : Reader → Reader
 with_none x = record x { bare = record x.bare { n = 0 } }
 
 -- what is pending is discarded, from the last to the first, and none is to be pending from then on
-abbrev pub cancel_reader_on : State → ℕ → ReaderAt → Answer
+abbrev pub cancel_reader_on : State → ℕ → Reader → Answer
 cancel_reader_on state r x =
     ok_answer (record state { host = all_discarded host_discarded state.host (pending x.endpoint); readers = change_named with_none state.readers r })
 
 -- a reader is closed as its endpoint is, and its name is free
-abbrev pub closed_reader : State → ℕ → Endpoint → State
-closed_reader state r h =
+abbrev pub closed_reader : State → ℕ → Reader → State
+closed_reader state r x =
     record state {
-      host = after_close host_calls state.host (endpoint_state h);
-      endpoints = freed state.endpoints (reader_place r);
+      host = after_close host_calls state.host (endpoint_state x.endpoint);
       readers = freed state.readers r;
     }
 
 -- `close`
 unfoldable pub close_reader_answer : State → ℕ → Answer
-close_reader_answer state r = if_open (named state.endpoints (reader_place r)) (λ h. ok_answer (closed_reader state r h)) (condition_answer state)
+close_reader_answer state r = if_open (named state.readers r) (λ x. ok_answer (closed_reader state r x)) (condition_answer state)
 
 -- what is open under a name is closed, if anything is
-abbrev pub reader_closed_at : State → ℕ → Option Endpoint → State
+abbrev pub reader_closed_at : State → ℕ → Option Reader → State
 reader_closed_at state r None = state
-reader_closed_at state r (Some h) = closed_reader state r h
+reader_closed_at state r (Some x) = closed_reader state r x
 
 -- the same, with the name looked up
 unfoldable pub reader_closed : State → ℕ → State
-reader_closed state r = reader_closed_at state r (named state.endpoints (reader_place r))
+reader_closed state r = reader_closed_at state r (named state.readers r)

@@ -17,9 +17,8 @@ use Rattle.usb_session_text.specs.Controls.{pending_line}
 use Rattle.usb_script_words.specs.declared.framing.Framing.{Framing}
 use Rattle.usb_script_words.specs.declared.framing.Framing.TheVariants.{Plain, UntilShort}
 use Rattle.usb_session_calls.specs.Names.{change_named}
-use Rattle.usb_session_calls.specs.State.{State, pending}
+use Rattle.usb_session_calls.specs.State.{State, Reader, pending, state_of_reader}
 use Rattle.usb_session_calls.specs.BareReaders.{bare_of}
-use Rattle.usb_session_calls.specs.ReaderAt.{ReaderAt, state_of_reader}
 use Rattle.usb_session_calls.specs.Readers.{called}
 use Rattle.usb_session_streams.specs.Needs.{bars_need}
 use Rattle.usb_session_calls.specs.Answer.{Answer, answer_with, condition_answer, ok_answer}
@@ -39,7 +38,7 @@ abbrev pub need_of : Framing → ReaderState → ℕ
 need_of framing r = read_need (is_until_short framing) r
 
 -- whether a reading call is barred
-abbrev pub bars_read : State → Framing → ReaderAt → Bool
+abbrev pub bars_read : State → Framing → Reader → Bool
 bars_read state framing x = bars_need state.host.kernel.past (length (pending x.endpoint)) (need_of framing (state_of_reader x))
 
 -- the line of what a read took, or of what stands, or of why there is nothing
@@ -53,42 +52,42 @@ polled_given_line line (Err TimedOut) = pending_line
 polled_given_line line answer = given_line line answer
 
 -- a call that takes the bytes that it gives
-abbrev pub read_as : State → Framing → ℕ → ReaderAt → (Result (List ℕ) ReadFault → List ℕ) → Read HostState → Answer
+abbrev pub read_as : State → Framing → ℕ → Reader → (Result (List ℕ) ReadFault → List ℕ) → Read HostState → Answer
 read_as state framing r x line a =
-    answer_with (called state r (consumed_with framing (map Byte (given_by a.answer)) x.reader.consumed) (given_by a.answer) a.left) (line a.answer)
+    answer_with (called state r (consumed_with framing (map Byte (given_by a.answer)) x.consumed) (given_by a.answer) a.left) (line a.answer)
 
 -- one that lends them
-abbrev pub filled_as : State → Framing → ℕ → ReaderAt → (Result (List ℕ) ReadFault → List ℕ) → Read HostState → Answer
-filled_as state framing r x line a = answer_with (called state r (consumed_with framing [] x.reader.consumed) [] a.left) (line a.answer)
+abbrev pub filled_as : State → Framing → ℕ → Reader → (Result (List ℕ) ReadFault → List ℕ) → Read HostState → Answer
+filled_as state framing r x line a = answer_with (called state r (consumed_with framing [] x.consumed) [] a.left) (line a.answer)
 
 -- a read of at most so many bytes, which waits for at most so many nanoseconds where none stand
-abbrev pub read_on : State → Framing → ℕ → ℕ → ℕ → (Result (List ℕ) ReadFault → List ℕ) → ReaderAt → Answer
+abbrev pub read_on : State → Framing → ℕ → ℕ → ℕ → (Result (List ℕ) ReadFault → List ℕ) → Reader → Answer
 read_on state framing r most timeout line x =
     if bars_read state framing x then condition_answer state
     else read_as state framing r x line (read_came host_calls (is_until_short framing) timeout most (reading state.host (state_of_reader x)))
 
 -- the bytes that stand, with such a wait where none do
-abbrev pub fill_on : State → Framing → ℕ → ℕ → (Result (List ℕ) ReadFault → List ℕ) → ReaderAt → Answer
+abbrev pub fill_on : State → Framing → ℕ → ℕ → (Result (List ℕ) ReadFault → List ℕ) → Reader → Answer
 fill_on state framing r timeout line x =
     if bars_read state framing x then condition_answer state
     else filled_as state framing r x line (fill_came host_calls (is_until_short framing) timeout (reading state.host (state_of_reader x)))
 
 -- a reader as a call left it that asks nothing of the host, these items consumed, and these bytes handed over
-abbrev pub read_off : State → Framing → ℕ → ReaderAt → List Mark → List ℕ → ReaderState → State
+abbrev pub read_off : State → Framing → ℕ → Reader → List Mark → List ℕ → ReaderState → State
 read_off state framing r x items bytes left =
     record state {
-      readers = change_named (λ y. record y { bare = bare_of left; given = y.given ++ bytes; consumed = consumed_with framing items x.reader.consumed })
+      readers = change_named (λ y. record y { bare = bare_of left; given = y.given ++ bytes; consumed = consumed_with framing items x.consumed })
           state.readers r;
     }
 
 -- bytes are taken off, of those that stand
-abbrev pub consume_on : State → Framing → ℕ → ℕ → ReaderAt → Answer
+abbrev pub consume_on : State → Framing → ℕ → ℕ → Reader → Answer
 consume_on state framing r n x =
-    if nat_lt (length x.reader.bare.unread) n then condition_answer state
-    else ok_answer (read_off state framing r x (map Byte (take n x.reader.bare.unread)) (take n x.reader.bare.unread) (with_read n (state_of_reader x)))
+    if nat_lt (length x.bare.unread) n then condition_answer state
+    else ok_answer (read_off state framing r x (map Byte (take n x.bare.unread)) (take n x.bare.unread) (with_read n (state_of_reader x)))
 
 -- the end is taken off, where it is next
-abbrev pub consume_end_on : State → ℕ → ReaderAt → Answer
+abbrev pub consume_end_on : State → ℕ → Reader → Answer
 consume_end_on state r x =
     if is_end (state_of_reader x)
     then answer_with (read_off state UntilShort r x (End ∷ []) [] (without_end (state_of_reader x))) (consumed_end_line (Ok tt))

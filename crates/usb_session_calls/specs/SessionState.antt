@@ -10,23 +10,23 @@ use Rattle.usb_device_ledger.specs.Entries.{ClaimedInterface, HostEndpoint}
 use Rattle.usb_device_ledger.specs.declared.opened.OpenDevice.{OpenDevice}
 use Rattle.usb_device_host.specs.HostState.{HostState}
 use Rattle.usb_device_host.specs.HostBus.{bus_of, key_at}
+use Rattle.usb_io.specs.Readers.{ReaderState}
+use Rattle.usb_io.specs.Writers.{WriterState}
 use Rattle.usb_device.specs.HandleStates.{InterfaceState, StandsDevice, StandsInterface}
 use Rattle.usb_device.specs.Futures.{FutureState, StandsFuture}
 use Rattle.usb_device.specs.DeviceLaws.{DevicesAreHeld}
 use Rattle.usb_session_calls.specs.Names.{named}
-use Rattle.usb_session_calls.specs.BareReaders.{BareReader}
-use Rattle.usb_session_calls.specs.BareWriters.{BareWriter}
+use Rattle.usb_session_calls.specs.EndpointNames.{EndpointName, held_under}
 
--- the host, and what is open by the number of its name: the keys of devices, the interfaces, the endpoints as their calls see them (those
--- of readers behind the 64 others, and then those of writers), the readers and the writers but for their endpoints, and the futures; the
--- tree of attributes, and the packets of udev that are left
+-- the host, and what is open by the number of its name: the keys of devices, the interfaces, the endpoints, readers and writers as
+-- their calls see them, and the futures; the tree of attributes, and the packets of udev that are left
 pub record SessionState : Type 0 where
   pub host : HostState
   pub devices : List (Option ℕ)
   pub interfaces : List (Option InterfaceState)
   pub endpoints : List (Option EndpointState)
-  pub readers : List (Option BareReader)
-  pub writers : List (Option BareWriter)
+  pub readers : List (Option ReaderState)
+  pub writers : List (Option WriterState)
   pub futures : List (Option FutureState)
   pub tree : Tree
   pub packets : List UdevPacket
@@ -48,26 +48,34 @@ pub record IsNamed {X : Type 0} (key_of : X → ℕ) (names : List (Option X)) (
   pub at : named names name ≡ Some entry
   pub key_is : key_of entry ≡ key
 
-abbrev pub endpoint_key : EndpointState → ℕ
-endpoint_key e = e.key
-
 abbrev pub future_key : FutureState → ℕ
 future_key f = f.key
 
--- each endpoint that is open at the host is open under a name, or is that of a future
-abbrev pub KeysAreNamed : List (Option HostEndpoint) → List (Option EndpointState) → List (Option FutureState) → Type 0
-KeysAreNamed opened endpoints futures =
-    (key : ℕ) → key_at opened key ≡ true → IsNamed endpoint_key endpoints key ⊎ IsNamed future_key futures key
+-- the endpoint that is open under a name, as its calls see it
+abbrev pub open_under : SessionState → EndpointName → Option EndpointState
+open_under s = held_under (λ (x : ReaderState). x.endpoint) (λ (x : WriterState). x.endpoint) s.endpoints s.readers s.writers
 
--- between calls no step is left; there are 64 names of each kind, and so 192 places for endpoints, whose maximum packet size has 11 bits; what is open under a name stands in the host; a device and an interface have as many open handles as there
+-- an endpoint that is open under some name has this key
+pub record IsUnder (opened : EndpointName → Option EndpointState) (key : ℕ) : Type 0 where
+  pub name : EndpointName
+  pub entry : EndpointState
+  pub at : opened name ≡ Some entry
+  pub key_is : entry.key ≡ key
+
+-- each endpoint that is open at the host is open under a name, or is that of a future
+abbrev pub KeysAreNamed : List (Option HostEndpoint) → (EndpointName → Option EndpointState) → List (Option FutureState) → Type 0
+KeysAreNamed keys opened futures =
+    (key : ℕ) → key_at keys key ≡ true → IsUnder opened key ⊎ IsNamed future_key futures key
+
+-- between calls no step is left; there are 64 names of each kind; the maximum packet size of an endpoint has 11 bits; what is open under a name stands in the host; a device and an interface have as many open handles as there
 -- are names of them; each device that the host keeps is held; no endpoint and no future is open under two names, and no two of them have one key;
 -- a future that is open under a name still has its ticket; and each endpoint that is open at the host is open under a name, or is a future's.
--- (In `endpoints_differ` d and e are places of endpoints, and in `futures_differ` m and n of names of futures)
+-- (In `futures_differ` m and n are numbers of names of futures)
 pub record IsSound (s : SessionState) : Type 0 where
   pub idle : s.host.steps ≡ []
   pub device_names : length s.devices ≡ 64
   pub interface_names : length s.interfaces ≡ 64
-  pub endpoint_names : length s.endpoints ≡ 192
+  pub endpoint_names : length s.endpoints ≡ 64
   pub reader_names : length s.readers ≡ 64
   pub writer_names : length s.writers ≡ 64
   pub future_names : length s.futures ≡ 64
@@ -76,11 +84,11 @@ pub record IsSound (s : SessionState) : Type 0 where
   pub devices_held : DevicesAreHeld s.host
   pub interfaces_stand : (i : ℕ) (f : InterfaceState) → named s.interfaces i ≡ Some f → StandsInterface s.host f
   pub interfaces_counted : (key : ℕ) (c : ClaimedInterface) → value_at s.host.interfaces key ≡ Some c → count_by (is_handle_of key) s.interfaces ≡ c.handles
-  pub endpoints_stand : (e : ℕ) (h : EndpointState) → named s.endpoints e ≡ Some h → Stands (bus_of s.host) h
-  pub endpoints_small : (e : ℕ) (h : EndpointState) → named s.endpoints e ≡ Some h → h.maximum < 2048
-  pub endpoints_differ : (d e : ℕ) (g h : EndpointState) → named s.endpoints d ≡ Some g → named s.endpoints e ≡ Some h → d ≢ e → g.key ≢ h.key
+  pub endpoints_stand : (e : EndpointName) (h : EndpointState) → open_under s e ≡ Some h → Stands (bus_of s.host) h
+  pub endpoints_small : (e : EndpointName) (h : EndpointState) → open_under s e ≡ Some h → h.maximum < 2048
+  pub endpoints_differ : (d e : EndpointName) (g h : EndpointState) → open_under s d ≡ Some g → open_under s e ≡ Some h → d ≢ e → g.key ≢ h.key
   pub futures_wait : (n : ℕ) (f : FutureState) → named s.futures n ≡ Some f → IsSome f.ticket
   pub futures_stand : (n : ℕ) (f : FutureState) → named s.futures n ≡ Some f → StandsFuture s.host f
   pub futures_differ : (m n : ℕ) (f g : FutureState) → named s.futures m ≡ Some f → named s.futures n ≡ Some g → m ≢ n → f.key ≢ g.key
-  pub futures_apart : (e n : ℕ) (h : EndpointState) (f : FutureState) → named s.endpoints e ≡ Some h → named s.futures n ≡ Some f → h.key ≢ f.key
-  pub keys_named : KeysAreNamed s.host.endpoints s.endpoints s.futures
+  pub futures_apart : (e : EndpointName) (n : ℕ) (h : EndpointState) (f : FutureState) → open_under s e ≡ Some h → named s.futures n ≡ Some f → h.key ≢ f.key
+  pub keys_named : KeysAreNamed s.host.endpoints (open_under s) s.futures

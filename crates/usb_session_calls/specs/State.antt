@@ -8,10 +8,12 @@ use Rattle.usb_device_endpoint.specs.EndpointState.{EndpointState}
 use Rattle.usb_device_host.specs.HostState.{HostState}
 use Rattle.usb_device.specs.HandleStates.{InterfaceState}
 use Rattle.usb_device.specs.Futures.{FutureState}
+use Rattle.usb_io.specs.Readers.{ReaderState}
 use Rattle.usb_io.specs.Streams.{Mark}
+use Rattle.usb_io.specs.Writers.{WriterState}
 use Rattle.usb_session_streams.specs.Told.{WriterCalls}
-use Rattle.usb_session_calls.specs.BareReaders.{BareReader}
-use Rattle.usb_session_calls.specs.BareWriters.{BareWriter}
+use Rattle.usb_session_calls.specs.BareReaders.{BareReader, reader_with}
+use Rattle.usb_session_calls.specs.BareWriters.{BareWriter, writer_with}
 
 -- an open endpoint: where its submissions go, its tickets in the order of submission, how many of them were taken, and
 -- whether a reader or a writer was made of it
@@ -25,26 +27,27 @@ pub record Endpoint : Type 0 where
   pub taken : ℕ
   pub was_streamed : Bool
 
--- an open reader but for its endpoint: the tickets that were taken of its endpoint before it was made, and the bytes that it
--- handed over, by reads and by the taking off of bytes that stand. While it is framed (its endpoint had no ticket before, and it
--- is read until short packets alone) also what it consumed: the bytes that reads handed over or `sconsume` took off, and the ends
--- that `endmsg` did
+-- an open reader: the endpoint that it holds, the tickets that were taken of that before the reader was made, and the bytes that
+-- it handed over, by reads and by the taking off of bytes that stand. While it is framed (its endpoint had no ticket before, and
+-- it is read until short packets alone) also what it consumed: the bytes that reads handed over or `sconsume` took off, and the
+-- ends that `endmsg` did
 pub record Reader : Type 0 where
+  pub endpoint : Endpoint
   pub bare : BareReader
   pub before : List ℕ
   pub given : List ℕ
   pub consumed : Option (List Mark)
 
--- an open writer but for its endpoint. While it alone used its endpoint (which had no ticket before) also its accepted calls,
--- and the failed transfers that its calls answered
+-- an open writer: the endpoint that it holds, and, while it alone used that (it had no ticket before), its accepted calls and the
+-- failed transfers that its calls answered
 pub record Writer : Type 0 where
+  pub endpoint : Endpoint
   pub bare : BareWriter
   pub calls : Option WriterCalls
 
 -- the host, and what is open by the number of its name: the keys of devices, the interfaces, the endpoints, the readers, the
 -- writers, and the control transfers on their way (futures); the tree of attributes, and the packets of udev that are still
--- to be looked at. The list of endpoints has those of the readers and writers, too: behind the 64 with names of endpoints
--- those of readers and then those of writers, by the numbers of their names
+-- to be looked at
 pub record State : Type 0 where
   pub host : HostState
   pub devices : List (Option ℕ)
@@ -64,6 +67,13 @@ pending e = drop e.taken e.tickets
 abbrev pub endpoint_state : Endpoint → EndpointState
 endpoint_state e =
     record { device = e.device; address = e.address; kind = e.kind; maximum = e.maximum; key = e.key; pending = pending e }
+
+-- a reader and a writer as their calls see them
+abbrev pub state_of_reader : Reader → ReaderState
+state_of_reader x = reader_with (endpoint_state x.endpoint) x.bare
+
+abbrev pub state_of_writer : Writer → WriterState
+state_of_writer x = writer_with (endpoint_state x.endpoint) x.bare
 
 -- the number of tickets
 abbrev pub tickets_of : State → ℕ

@@ -1,6 +1,6 @@
 -- `writer`, `inner`, `num`, `timeout` and `close` of a writer. `inner` and `close` are barred where it is not open, and `writer`
 -- where the endpoint isn't, or the writer's name is in use.
-use Rattle.std.specs.Prelude.{ℕ, ◌&&◌, Bool, List, [], Option, Some, None, if◌then◌else◌}
+use Rattle.std.specs.Prelude.{ℕ, List, [], Option, Some, None, if◌then◌else◌}
 use Rattle.usb_desc.specs.declared.types.Direction.TheVariants.{Out}
 use Rattle.usb_device_endpoint.specs.Closes.{after_close}
 use Rattle.usb_device_host.specs.HostCalls.{host_calls}
@@ -10,7 +10,6 @@ use Rattle.usb_session_calls.specs.Names.{named, is_free, freed, set_name, chang
 use Rattle.usb_session_streams.specs.Needs.{bars_transfers}
 use Rattle.usb_session_calls.specs.State.{State, Endpoint, Writer, endpoint_state}
 use Rattle.usb_session_calls.specs.BareWriters.{bare_writer}
-use Rattle.usb_session_calls.specs.WriterAt.{WriterAt, writer_place, writer_at}
 use Rattle.usb_session_calls.specs.Answer.{Answer, condition_answer, ok_answer, if_open}
 use Rattle.usb_session_calls.specs.Submits.{has_direction}
 use Rattle.usb_session_calls.specs.Readers.{as_streamed}
@@ -24,18 +23,18 @@ nothing_called tickets = None
 abbrev pub with_writer : State → ℕ → ℕ → ℕ → Endpoint → State
 with_writer state w e size h =
     record state {
-      endpoints = set_name (freed state.endpoints e) (writer_place w) (as_streamed h);
-      writers = set_name state.writers w (record { bare = bare_writer (fresh_writer (endpoint_state h) size); calls = nothing_called h.tickets });
+      endpoints = freed state.endpoints e;
+      writers = set_name state.writers w (record {
+        endpoint = as_streamed h;
+        bare = bare_writer (fresh_writer (endpoint_state h) size);
+        calls = nothing_called h.tickets;
+      });
     }
-
--- whether a writer's name may be opened: it and its place among the endpoints are free
-abbrev pub is_free_writer : State → ℕ → Bool
-is_free_writer state w = is_free state.writers w && is_free state.endpoints (writer_place w)
 
 -- of an endpoint that is open (h)
 abbrev pub writer_on : State → ℕ → ℕ → ℕ → Endpoint → Answer
 writer_on state w e size h =
-    if is_free_writer state w then (if has_direction Out (endpoint_state h) then ok_answer (with_writer state w e size h) else condition_answer state)
+    if is_free state.writers w then (if has_direction Out (endpoint_state h) then ok_answer (with_writer state w e size h) else condition_answer state)
     else condition_answer state
 
 -- `writer`: a writer is made of an endpoint
@@ -43,17 +42,17 @@ unfoldable pub writer_answer : State → ℕ → ℕ → ℕ → Answer
 writer_answer state w e size = if_open (named state.endpoints e) (writer_on state w e size) (condition_answer state)
 
 -- the endpoint is open under its own name again, and the writer's is free
-abbrev pub without_writer : State → ℕ → ℕ → WriterAt → State
+abbrev pub without_writer : State → ℕ → ℕ → Writer → State
 without_writer state e w x =
     record state {
-      endpoints = set_name (freed state.endpoints (writer_place w)) e x.endpoint;
+      endpoints = set_name state.endpoints e x.endpoint;
       writers = freed state.writers w;
     }
 
 -- `inner`: the endpoint comes back, under a name that is free
 unfoldable pub writer_inner_answer : State → ℕ → ℕ → Answer
 writer_inner_answer state e w =
-    if_open (writer_at state w) (λ x. if is_free state.endpoints e then ok_answer (without_writer state e w x) else condition_answer state) (condition_answer state)
+    if_open (named state.writers w) (λ x. if is_free state.endpoints e then ok_answer (without_writer state e w x) else condition_answer state) (condition_answer state)
 
 -- a writer of which so many transfers are to be pending
 abbrev pub with_transfers : ℕ → Writer → Writer
@@ -75,23 +74,22 @@ write_timeout_on state w timeout =
     ok_answer (record state { writers = change_named (with_write_timeout timeout) state.writers w })
 
 -- a writer is closed as its endpoint is, and its name is free. (Bytes that it did not submit are gone)
-abbrev pub closed_writer : State → ℕ → Endpoint → State
-closed_writer state w h =
+abbrev pub closed_writer : State → ℕ → Writer → State
+closed_writer state w x =
     record state {
-      host = after_close host_calls state.host (endpoint_state h);
-      endpoints = freed state.endpoints (writer_place w);
+      host = after_close host_calls state.host (endpoint_state x.endpoint);
       writers = freed state.writers w;
     }
 
 -- `close`
 unfoldable pub close_writer_answer : State → ℕ → Answer
-close_writer_answer state w = if_open (named state.endpoints (writer_place w)) (λ h. ok_answer (closed_writer state w h)) (condition_answer state)
+close_writer_answer state w = if_open (named state.writers w) (λ x. ok_answer (closed_writer state w x)) (condition_answer state)
 
 -- what is open under a name is closed, if anything is
-abbrev pub writer_closed_at : State → ℕ → Option Endpoint → State
+abbrev pub writer_closed_at : State → ℕ → Option Writer → State
 writer_closed_at state w None = state
-writer_closed_at state w (Some h) = closed_writer state w h
+writer_closed_at state w (Some x) = closed_writer state w x
 
 -- the same, with the name looked up
 unfoldable pub writer_closed : State → ℕ → State
-writer_closed state w = writer_closed_at state w (named state.endpoints (writer_place w))
+writer_closed state w = writer_closed_at state w (named state.writers w)

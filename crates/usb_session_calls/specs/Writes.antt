@@ -3,7 +3,7 @@ use Rattle.std.specs.Prelude.{ℕ, List, [], ◌∷◌, Option, Result, if◌the
 use Rattle.std.specs.Option.{option_map}
 use Rattle.usb_device_host.specs.HostState.{HostState}
 use Rattle.usb_io.specs.declared.fault.WriteFault.{WriteFault}
-use Rattle.usb_io.specs.Writers.{Writing}
+use Rattle.usb_io.specs.Writers.{Writing, writing}
 use Rattle.usb_io.specs.Writes.{Call, Flush, Finish}
 use Rattle.usb_io.specs.Carried.{written_calls, begun_calls}
 use Rattle.usb_io.specs.Answered.{Answered}
@@ -12,42 +12,48 @@ use Rattle.usb_device_host.specs.HostCalls.{host_calls}
 use Rattle.usb_session_streams.specs.Told.{WriterCalls, with_calls, failures_of}
 use Rattle.usb_session_streams.specs.Needs.{bars_call, write_need, flush_need, finish_need, poll_finish_need}
 use Rattle.usb_session_calls.specs.Names.{change_named}
-use Rattle.usb_session_calls.specs.State.{State, tickets_of, with_host}
+use Rattle.usb_session_calls.specs.State.{State, Writer, state_of_writer, tickets_of, with_host}
 use Rattle.usb_session_calls.specs.BareWriters.{bare_writer}
-use Rattle.usb_session_calls.specs.WriterAt.{WriterAt, writer_place, state_of_writer, writing_at}
 use Rattle.usb_session_calls.specs.Readers.{called_endpoint}
 use Rattle.usb_session_calls.specs.Answer.{Answer, answer_with, condition_answer}
+
+-- a writer with the host of its session
+abbrev pub writing_at : State → Writer → Writing HostState
+writing_at state x = writing state.host (state_of_writer x)
 
 -- the state behind a call of a writer, by what the call left of host and writer, and the calls that were accepted then
 abbrev pub left_by_writer : State → ℕ → Option WriterCalls → Writing HostState → State
 left_by_writer state w calls v =
     record state {
       host = v.bus;
-      endpoints = change_named (called_endpoint (tickets_of state) (tickets_of (with_host state v.bus)) v.writer.endpoint.pending) state.endpoints (writer_place w);
-      writers = change_named (λ x. record { bare = bare_writer v.writer; calls = calls }) state.writers w;
+      writers = change_named (λ x. record {
+        endpoint = called_endpoint (tickets_of state) (tickets_of (with_host state v.bus)) v.writer.endpoint.pending x.endpoint;
+        bare = bare_writer v.writer;
+        calls = calls;
+      }) state.writers w;
     }
 
 -- a call that may need so many submissions, counts as these accepted calls, prints this line and answers so
-abbrev pub called_as : {A : Type 0} → State → ℕ → WriterAt → ℕ → List Call → (Result A WriteFault → List ℕ) → Answered A WriteFault (Writing HostState) → Answer
+abbrev pub called_as : {A : Type 0} → State → ℕ → Writer → ℕ → List Call → (Result A WriteFault → List ℕ) → Answered A WriteFault (Writing HostState) → Answer
 called_as state w x need calls line a =
     if bars_call (writing_at state x) need then condition_answer state
-    else answer_with (left_by_writer state w (option_map (with_calls calls (failures_of a.answer)) x.writer.calls) a.left) (line a.answer)
+    else answer_with (left_by_writer state w (option_map (with_calls calls (failures_of a.answer)) x.calls) a.left) (line a.answer)
 
 -- a write of bytes (src) counts as those that it accepted
-abbrev pub write_on : State → ℕ → List ℕ → WriterAt → (Result ℕ WriteFault → List ℕ) → ℕ → Answer
+abbrev pub write_on : State → ℕ → List ℕ → Writer → (Result ℕ WriteFault → List ℕ) → ℕ → Answer
 write_on state w src x line timeout =
     let came = write_came host_calls timeout src (writing_at state x) in
     called_as state w x (write_need (state_of_writer x)) (written_calls src came.answer) line came
 
 -- a flush of what stands, and a submission, which is a flush that waits for nothing
-abbrev pub flush_as : State → ℕ → WriterAt → (Result Unit WriteFault → List ℕ) → Answered Unit WriteFault (Writing HostState) → Answer
+abbrev pub flush_as : State → ℕ → Writer → (Result Unit WriteFault → List ℕ) → Answered Unit WriteFault (Writing HostState) → Answer
 flush_as state w x line a = called_as state w x (flush_need (state_of_writer x)) (Flush ∷ []) line a
 
 -- the end of a message, with a flush or with none
-abbrev pub finish_as : State → ℕ → WriterAt → (Result Unit WriteFault → List ℕ) → Answered Unit WriteFault (Writing HostState) → Answer
+abbrev pub finish_as : State → ℕ → Writer → (Result Unit WriteFault → List ℕ) → Answered Unit WriteFault (Writing HostState) → Answer
 finish_as state w x line a = called_as state w x (finish_need (state_of_writer x)) (Finish ∷ []) line a
 
 -- a poll ends the message where no end has begun
-abbrev pub poll_finish_on : State → ℕ → WriterAt → (Result Unit WriteFault → List ℕ) → Answer
+abbrev pub poll_finish_on : State → ℕ → Writer → (Result Unit WriteFault → List ℕ) → Answer
 poll_finish_on state w x line =
-    called_as state w x (poll_finish_need (state_of_writer x)) (begun_calls x.writer.bare.begun) line (poll_flush_end_came host_calls (writing_at state x))
+    called_as state w x (poll_finish_need (state_of_writer x)) (begun_calls x.bare.begun) line (poll_flush_end_came host_calls (writing_at state x))

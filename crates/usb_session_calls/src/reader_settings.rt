@@ -10,7 +10,7 @@ ghost use Rattle.usb_session_streams.specs.Reads.{is_end_line};
 ghost use Rattle.usb_session_streams.specs.Needs.{bars_need};
 ghost use Rattle.usb_session_calls.specs.Readers.{num_on, timeout_on, cancel_reader_on};
 ghost use Rattle.usb_session_calls.specs.Reads.{consume_on, consume_end_on};
-ghost use Rattle.usb_session_calls.specs.ReaderAt.{state_of_reader};
+ghost use Rattle.usb_session_calls.specs.State.{state_of_reader};
 ghost use Rattle.usb_session_calls.specs.Answer.{answer_with};
 ghost use Rattle.usb_session_calls.specs.OpenCalls.{CallKeeps};
 ghost use Rattle.usb_session_calls.specs.ReaderCalls.{ReaderAnswers};

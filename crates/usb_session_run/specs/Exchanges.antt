@@ -7,13 +7,12 @@ use Rattle.usb_io.specs.Writes.{marks_of, NoMidFlush}
 use Rattle.usb_session_streams.specs.Told.{WriterCalls}
 use Rattle.usb_io.specs.Messages.{messages, AreFirstOf}
 use Rattle.usb_io.specs.Exchange.{Exchange, OnlyEchoes}
-use Rattle.usb_session_calls.specs.State.{State}
-use Rattle.usb_session_calls.specs.ReaderAt.{ReaderAt, reader_at}
-use Rattle.usb_session_calls.specs.WriterAt.{WriterAt, writer_at}
+use Rattle.usb_session_calls.specs.Names.{named}
+use Rattle.usb_session_calls.specs.State.{State, Reader, Writer}
 use Rattle.usb_session.specs.Output.{start, behind}
 
 -- the endpoints of a writer and of a reader, with all tickets of both
-abbrev pub exchange_of : WriterAt → ReaderAt → Exchange
+abbrev pub exchange_of : Writer → Reader → Exchange
 exchange_of x y =
     record {
       device = x.endpoint.device;
@@ -25,18 +24,18 @@ exchange_of x y =
 
 -- a writer, with its calls, and a reader are on one device, whose endpoints have one maximum; on these endpoints nothing happened
 -- yet but submissions by the two, reaps, and echoes from the one to the other; and no flush found bytes that were not submitted
-pub record OnlyExchange (past : List Event) (x : WriterAt) (y : ReaderAt) (c : WriterCalls) : Type 0 where
+pub record OnlyExchange (past : List Event) (x : Writer) (y : Reader) (c : WriterCalls) : Type 0 where
   pub device : y.endpoint.device ≡ x.endpoint.device
   pub maximum : y.endpoint.maximum ≡ x.endpoint.maximum
   pub echoes : OnlyEchoes (exchange_of x y) past
-  pub whole : NoMidFlush x.endpoint.maximum x.writer.bare.size c.accepted
+  pub whole : NoMidFlush x.endpoint.maximum x.bare.size c.accepted
 
 -- then the messages that the reader ended are the first of those that the writer ended. (The writer alone used its endpoint, and
 -- the reader is framed)
 abbrev pub MessagesArrive : State → Type 0
 MessagesArrive state =
-    (w r : ℕ) (x : WriterAt) (y : ReaderAt) (c : WriterCalls) (consumed : List Mark) →
-    writer_at state w ≡ Some x → x.writer.calls ≡ Some c → reader_at state r ≡ Some y → y.reader.consumed ≡ Some consumed →
+    (w r : ℕ) (x : Writer) (y : Reader) (c : WriterCalls) (consumed : List Mark) →
+    named state.writers w ≡ Some x → x.calls ≡ Some c → named state.readers r ≡ Some y → y.consumed ≡ Some consumed →
     OnlyExchange state.host.kernel.past x y c → AreFirstOf (messages consumed) (messages (marks_of c.accepted))
 
 -- before the first line of a script and behind each
@@ -48,8 +47,8 @@ MessagesAlwaysArrive items = (before after : List Item) → before ++ after ≡ 
 -- that the writer ended by the first. (So the writer may be closed in the later state, or have given its endpoint back)
 abbrev pub MessagesStillArrive : State → State → Type 0
 MessagesStillArrive state later =
-    (w r : ℕ) (x : WriterAt) (y : ReaderAt) (c : WriterCalls) (consumed : List Mark) →
-    writer_at state w ≡ Some x → x.writer.calls ≡ Some c → reader_at later r ≡ Some y → y.reader.consumed ≡ Some consumed →
+    (w r : ℕ) (x : Writer) (y : Reader) (c : WriterCalls) (consumed : List Mark) →
+    named state.writers w ≡ Some x → x.calls ≡ Some c → named later.readers r ≡ Some y → y.consumed ≡ Some consumed →
     OnlyExchange later.host.kernel.past x y c → AreFirstOf (messages consumed) (messages (marks_of c.accepted))
 
 -- behind lines of a script, and behind the lines that follow them
