@@ -1,5 +1,5 @@
 -- Calls on one endpoint of a session: what they keep.
-use Rattle.std.proofs.Common.{◌≡◌, ◌≢◌, ℕ, ◌<◌, ◌≤◌, List, [], length, map, Option, Some, None, false, refl, ap, sym, ◌∙◌, subst, inl, inr, ◌⊎◌}
+use Rattle.std.proofs.Common.{◌≡◌, ◌≢◌, ℕ, ◌<◌, ◌≤◌, List, [], length, map, Option, Some, None, false, refl, ap, sym, ◌∙◌, subst, inl, inr}
 use Rattle.std.specs.Option.{option_map}
 use Rattle.std.proofs.lemmas.Bool.{cases_eq}
 use Rattle.std.proofs.lemmas.Option.{none-some, same_Some}
@@ -28,7 +28,7 @@ use Rattle.usb_session_calls.proofs.CountedNames.{counted-goes}
 use Rattle.usb_session_calls.proofs.CountedDevices.{devices-kept}
 use Rattle.usb_session_calls.proofs.NamedKeys.{OpensNone, named-goes, named-put, named-closed}
 use Rattle.usb_session_calls.proofs.FutureLemmas.{control_with, future-goes}
-use Rattle.usb_session_calls.proofs.NameLemmas.{named-map, named-set, named-set_other, named-freed, named-freed_other, freed-free, length-freed, length-set_name, map-freed, map-set, map-change_named, put-changed, named-change_same, named-change_other}
+use Rattle.usb_session_calls.proofs.NameLemmas.{named-freed, named-freed_other, map-freed, map-set, map-change_named}
 
 -- what is kept between lines
 pub record KeepsSession (old new : HostState) : Type 0 where
