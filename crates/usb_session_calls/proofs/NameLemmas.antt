@@ -113,6 +113,9 @@ pub free_place : {X : Type 0} (xs : List (Option X)) (n : ℕ) → is_free xs n 
 unfolding is_free
 free_place xs n free = free-is (slice_get xs n) free
 
+pub free-none : {X : Type 0} (xs : List (Option X)) (n : ℕ) → is_free xs n ≡ true → named xs n ≡ None
+free-none xs n free = named_of xs n None (free_place xs n free)
+
 pub named-set : {X : Type 0} (xs : List (Option X)) (n : ℕ) (x : X) → is_free xs n ≡ true → named (set_name xs n x) n ≡ Some x
 unfolding named set_name
 named-set xs n x free = rw (slice_get-change (something x) xs n, free_place xs n free) refl
@@ -221,7 +224,7 @@ pub free-within : {X : Type 0} (xs : List (Option X)) (n : ℕ) → is_free xs n
 free-within xs n free = slice_get_within xs n None (free_place xs n free)
 
 pub free-read : {X : Type 0} (xs : List (Option X)) (n : ℕ) (x : Option X) → is_free xs n ≡ true → x ≡ get_or xs n x → x ≡ None
-free-read xs n x free read = named-read xs n x (free-within xs n free) read ∙ named_of xs n None (free_place xs n free)
+free-read xs n x free read = named-read xs n x (free-within xs n free) read ∙ free-none xs n free
 
 -- all names but the last
 pub slice_get-front : {X : Type 0} (xs ys : List X) (n : ℕ) (x : X) → slice_get xs n ≡ Some x → slice_get (xs ++ ys) n ≡ Some x
