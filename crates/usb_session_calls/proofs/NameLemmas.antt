@@ -2,6 +2,7 @@
 use Rattle.std.proofs.Common.{◌≡◌, ◌≢◌, ℕ, ◌<◌, ◌≤◌, suc, zero, arith, List, [], ◌∷◌, ◌++◌, length, set, get_or, map, replicate, Option, Some, None, Bor, Bool, true, refl, ap, sym, ◌∙◌, slice_get, inl, inr, ◌⊎◌}
 use Rattle.std.proofs.lemmas.Bool.{cases_eq}
 use Rattle.std.specs.Option.{option_map, option_copied}
+use Rattle.std.proofs.lemmas.Iterator.Adapters.{option_map_id}
 use Rattle.std.proofs.lemmas.Option.{slice_get-map, slice_get_past, slice_get_read, slice_get_within, none-some, same_Some}
 use Rattle.usb_session_calls.specs.Names.{named, flat, is_free, is_free_place, change_at, change_named, freed, nothing, set_name, something}
 
@@ -145,6 +146,11 @@ pub put-back : {X : Type 0} (xs : List (Option X)) (n : ℕ) (x : X) → named x
 unfolding set_name freed
 put-back xs n x is =
     change-change nothing (something x) (λ o. o) xs n (λ o at. sym (same_Some o (Some x) (sym at ∙ place_of xs n x is))) ∙ change-same (λ o. o) xs n (λ o at. refl)
+
+-- a change that leaves what is open as it is
+pub change_named-none : {X : Type 0} (xs : List (Option X)) (n : ℕ) → change_named (λ x. x) xs n ≡ xs
+unfolding change_named
+change_named-none xs n = change-same (option_map (λ x. x)) xs n (λ o at. option_map_id o)
 
 -- names seen through a function
 pub map-freed : {X Y : Type 0} (v : X → Y) (xs : List (Option X)) (n : ℕ) → map (option_map v) (freed xs n) ≡ freed (map (option_map v) xs) n
