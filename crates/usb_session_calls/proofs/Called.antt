@@ -1,5 +1,5 @@
 -- Calls on one endpoint of a session: what they keep.
-use Rattle.std.proofs.Common.{◌≡◌, ◌≢◌, ℕ, ◌<◌, ◌≤◌, List, [], length, map, Option, Some, None, false, refl, ap, sym, ◌∙◌, subst, inl, inr, ◌⊎◌}
+use Rattle.std.proofs.Common.{◌≡◌, ◌≢◌, ℕ, ◌<◌, ◌≤◌, List, [], length, map, Option, Some, None, false, refl, ap, sym, ◌∙◌, subst, inl, inr}
 use Rattle.std.specs.Option.{option_map}
 use Rattle.std.proofs.lemmas.Bool.{cases_eq}
 use Rattle.std.proofs.lemmas.Option.{none-some, same_Some}
@@ -28,7 +28,7 @@ use Rattle.usb_session_calls.proofs.CountedNames.{counted-goes}
 use Rattle.usb_session_calls.proofs.CountedDevices.{devices-kept}
 use Rattle.usb_session_calls.proofs.NamedKeys.{OpensNone, named-goes, named-put, named-closed}
 use Rattle.usb_session_calls.proofs.FutureLemmas.{control_with, future-goes}
-use Rattle.usb_session_calls.proofs.NameLemmas.{named-map, named-set, named-set_other, named-freed, named-freed_other, freed-free, length-freed, length-set_name, map-freed, map-change_named, put-changed, named-change_same, named-change_other}
+use Rattle.usb_session_calls.proofs.NameLemmas.{named-freed, named-freed_other, map-freed, map-set, map-change_named}
 
 -- what is kept between lines
 pub record KeepsSession (old new : HostState) : Type 0 where
@@ -50,10 +50,10 @@ abbrev pub with_open : SessionState → HostState → List (Option EndpointState
 with_open s host endpoints readers writers = record s { host = host; endpoints = endpoints; readers = readers; writers = writers }
 
 -- it has as many names as before
-pub record SameCounts (s : SessionState) (endpoints : List (Option EndpointState)) (readers : List (Option ReaderState)) (writers : List (Option WriterState)) : Type 0 where
-  pub endpoints : length endpoints ≡ length s.endpoints
-  pub readers : length readers ≡ length s.readers
-  pub writers : length writers ≡ length s.writers
+pub record SameCounts (s : SessionState) (es : List (Option EndpointState)) (rs : List (Option ReaderState)) (ws : List (Option WriterState)) : Type 0 where
+  pub endpoints : length es ≡ length s.endpoints
+  pub readers : length rs ≡ length s.readers
+  pub writers : length ws ≡ length s.writers
 
 -- futures stand over a call on an endpoint
 futures-other : (s : SessionState) (now : HostState) (e : EndpointName) (x : EndpointState) → IsSound s → open_under s e ≡ Some x → KeepsSession s.host now → KeepsOthers (bus_of s.host) (bus_of now) x.key → (n : ℕ) (f : FutureState) → named s.futures n ≡ Some f → StandsFuture now f

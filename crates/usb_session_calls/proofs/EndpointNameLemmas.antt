@@ -7,7 +7,7 @@ use Rattle.usb_session_calls.specs.Names.{named, is_free, freed, set_name, chang
 use Rattle.usb_session_calls.specs.EndpointNames.{EndpointName, Own, OfReader, OfWriter, held_under}
 use Rattle.usb_session_calls.proofs.NameLemmas.{named-map, named-change_same, named-change_other, named-freed, named-freed_other, named-set, named-set_other, freed-free, length-change_named, length-freed, length-set_name}
 
-number_of : EndpointName → ℕ
+abbrev number_of : EndpointName → ℕ
 number_of (Own e) = e
 number_of (OfReader r) = r
 number_of (OfWriter w) = w

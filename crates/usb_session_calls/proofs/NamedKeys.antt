@@ -16,7 +16,7 @@ use Rattle.usb_session_calls.specs.Names.{named, is_free, freed, set_name}
 use Rattle.usb_session_calls.specs.SessionState.{IsNamed, IsUnder, KeysAreNamed, future_key}
 use Rattle.usb_session_calls.specs.EndpointNames.{EndpointName}
 use Rattle.usb_session_calls.proofs.EndpointNameLemmas.{Changed, cases_name}
-use Rattle.usb_session_calls.proofs.NameLemmas.{free_place, named_of, named-set, named-set_other, named-freed_other, freed-free}
+use Rattle.usb_session_calls.proofs.NameLemmas.{free_place, named_of, named-set, named-set_other, named-freed_other}
 
 -- no endpoint was opened
 abbrev pub OpensNone : List (Option HostEndpoint) → List (Option HostEndpoint) → Type 0

@@ -18,6 +18,7 @@ use Rattle.usb_device_host.proofs.CallFrames.{keeps-open, keeps-taken}
 use Rattle.usb_device_host.proofs.WaitFrames.{line-keeps}
 use Rattle.usb_device_host.proofs.FollowLemmas.{taken-past}
 use Rattle.usb_session_calls.specs.Names.{named, change_named}
+use Rattle.usb_session_calls.specs.EndpointNames.{Own}
 use Rattle.usb_session_calls.specs.State.{State, Endpoint, endpoint_state, with_host}
 use Rattle.usb_session_calls.specs.Answer.{Answer, answer_with}
 use Rattle.usb_session_calls.specs.Answered.{Answered}
@@ -43,10 +44,10 @@ call-comes old now x y before text (Err error) f line call printed comes = tt
 call-comes old now x y before text (Ok done) f line call printed comes =
     λ s state e h r host was at.
     let same = kept_at s state e x h r was at in
-    let c = comes state e h (sym (host_is s state r) ∙ host) same (r.few e h at) in
+    let c = comes state e h (sym (host_is s state r) ∙ host) same (r.few (Own e) h at) in
     subst (Answered (with_called s e now y) (string_bytes before) (string_bytes text)) (sym c.is)
     (told-answered (with_called s e now y) (record state { host = now; endpoints = change_named f state.endpoints e }) (string_bytes before) (string_bytes text) line
-    (represents-put s state now (with_called s e now y).endpoints f e x y (record { entry = h; is = at; same = same; few = r.few e h at }) r (sym (put-changed (λ z. y) s.endpoints e x y was refl)) c.kept_is c.few)
+    (represents-put s state now f e h y r at c.kept_is c.few)
     printed)
 
 -- only the host goes on

@@ -1,5 +1,5 @@
 -- Of which state of the definitions a session is what the code keeps.
-use Rattle.std.specs.Prelude.{ℕ, ◌≡◌, ◌≤◌, Some, length, map}
+use Rattle.std.specs.Prelude.{◌≡◌, ◌≤◌, Some, length, map}
 use Rattle.std.specs.Option.{option_map}
 use Rattle.usb_session_calls.specs.SessionState.{SessionState}
 use Rattle.usb_session_calls.specs.EndpointNames.{EndpointName, endpoint_under}
