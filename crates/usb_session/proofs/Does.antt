@@ -72,14 +72,11 @@ pub record Changes (old new : State) (host : HostState) (e : EndpointName) (o : 
   pub names : name_counts new ≡ name_counts old
   pub futures : new.futures ≡ old.futures
 
--- the endpoint of one name is open under another, where nothing was
+-- the endpoint of one name is open under another, where nothing was: it is taken out, and then put there
 pub record MovesTo (old new : State) (from to : EndpointName) (g : Endpoint) : Type 0 where
-  pub host_is : new.host ≡ old.host
-  pub here : endpoint_under new to ≡ Some g
-  pub gone : endpoint_under new from ≡ None
-  pub others : (d : EndpointName) → d ≢ from → d ≢ to → endpoint_under new d ≡ endpoint_under old d
-  pub names : name_counts new ≡ name_counts old
-  pub futures : new.futures ≡ old.futures
+  pub mid : State
+  pub gone : Changes old mid old.host from None
+  pub put : Changes mid new old.host to (Some g)
 
 -- the name of a reader or a writer
 abbrev pub IsStream : EndpointName → Type 0
