@@ -37,11 +37,21 @@ use Rattle.usb_session.specs.Accounts.{TookFew}
 use Rattle.usb_session.specs.Served.{ClosedEndpoint, closed_as, closed_under}
 use Rattle.usb_session.specs.ControlAnswers.{listed}
 
+-- how many names there are under which endpoints are open: their own, those of readers and those of writers
+pub record NameCounts : Type 0 where
+  pub own : ℕ
+  pub readers : ℕ
+  pub writers : ℕ
+
+abbrev pub name_counts : State → NameCounts
+name_counts state = record { own = length state.endpoints; readers = length state.readers; writers = length state.writers }
+
 -- the host went on, and no endpoint or future was opened or closed, and no ticket submitted or taken
 pub record Quiet (old new : State) : Type 0 where
   pub keeps : KeepsTickets old.host new.host
   pub count : KeepsCount old.host new.host
   pub endpoints : (e : EndpointName) → endpoint_under new e ≡ endpoint_under old e
+  pub names : name_counts new ≡ name_counts old
   pub futures : new.futures ≡ old.futures
 
 -- a future is open under a name no more
@@ -60,15 +70,14 @@ says_done line = starts_with nat_eq line (codes "done")
 pub record Changes (old new : State) (host : HostState) (e : EndpointName) (o : Option Endpoint) : Type 0 where
   pub host_is : new.host ≡ host
   pub endpoints : Changed (endpoint_under old) (endpoint_under new) e o
+  pub names : name_counts new ≡ name_counts old
   pub futures : new.futures ≡ old.futures
 
--- the endpoint of one name is open under another, where nothing was
+-- the endpoint of one name is open under another, where nothing was: it is taken out, and then put there
 pub record MovesTo (old new : State) (from to : EndpointName) (g : Endpoint) : Type 0 where
-  pub host_is : new.host ≡ old.host
-  pub here : endpoint_under new to ≡ Some g
-  pub gone : endpoint_under new from ≡ None
-  pub others : (d : EndpointName) → d ≢ from → d ≢ to → endpoint_under new d ≡ endpoint_under old d
-  pub futures : new.futures ≡ old.futures
+  pub mid : State
+  pub gone : Changes old mid old.host from None
+  pub put : Changes mid new old.host to (Some g)
 
 -- the name of a reader or a writer
 abbrev pub IsStream : EndpointName → Type 0
@@ -163,27 +172,29 @@ quiet-then {a} {b} {c} first second =
       keeps = on-then a.host b.host c.host first.keeps second.keeps;
       count = count-trans a.host b.host c.host first.count second.count;
       endpoints = λ e. second.endpoints e ∙ first.endpoints e;
+      names = second.names ∙ first.names;
       futures = second.futures ∙ first.futures;
     }
 
 -- journal and tickets are as they were
-pub quiet-aside : (old new : State) → new.host.kernel.past ≡ old.host.kernel.past → new.host.tickets ≡ old.host.tickets → ((e : EndpointName) → endpoint_under new e ≡ endpoint_under old e) → new.futures ≡ old.futures → Quiet old new
-quiet-aside old new past same endpoints futures =
+pub quiet-aside : (old new : State) → new.host.kernel.past ≡ old.host.kernel.past → new.host.tickets ≡ old.host.tickets → ((e : EndpointName) → endpoint_under new e ≡ endpoint_under old e) → name_counts new ≡ name_counts old → new.futures ≡ old.futures → Quiet old new
+quiet-aside old new past same endpoints names futures =
     record {
       keeps = on-kept old.host new.host past same;
       count = record { count = ap (λ l. length l) same; past = ap (λ p. length (tickets p)) past };
       endpoints = endpoints;
+      names = names;
       futures = futures;
     }
 
 pub quiet-same : (state : State) → Quiet state state
-quiet-same state = quiet-aside state state refl refl (λ e. refl) refl
+quiet-same state = quiet-aside state state refl refl (λ e. refl) refl refl
 
 quiet-rested : (state : State) → Quiet state (steps_applied state)
-quiet-rested state = record { keeps = on-rest state.host; count = rest-count state.host; endpoints = λ e. refl; futures = refl }
+quiet-rested state = record { keeps = on-rest state.host; count = rest-count state.host; endpoints = λ e. refl; names = refl; futures = refl }
 
 pub quiet-lent : (state : State) (steps : List KernelStep) → Quiet state (with_steps state steps)
-quiet-lent state steps = quiet-aside state (with_steps state steps) refl refl (λ e. refl) refl
+quiet-lent state steps = quiet-aside state (with_steps state steps) refl refl (λ e. refl) refl refl
 
 pub quiet-stepped : (state : State) (steps : List KernelStep) → Quiet state (stepped_all state steps)
 unfolding stepped_all
@@ -222,15 +233,35 @@ closing-does {few} state e lines (Some x) its a without here none same other cha
 abbrev pub Closing : (State → ℕ → State) → (ℕ → EndpointName) → Type 0
 Closing act name = (state : State) (n : ℕ) (lines : EndpointName → List (List ℕ)) → Acts (Unit {0}) (silent (act state n)) state (closed_under state lines (name n)) []
 
--- what becomes of the endpoints of a state where the names of one kind changed
-pub own-names : (state : State) (after : List (Option Endpoint)) (e : ℕ) (o : Option Endpoint) → ChangedAt state.endpoints after e o → Changed (endpoint_under state) (endpoint_under (record state { endpoints = after })) (Own e) o
-own-names state after e o c = own-changed (λ (x : Reader). x.endpoint) (λ (x : Writer). x.endpoint) state.endpoints state.readers state.writers after e o c
+-- a state where what is open under the names of one kind changed, and the host
+pub own-changes : (state : State) (host : HostState) (after : List (Option Endpoint)) (e : ℕ) (o : Option Endpoint) → ChangedAt state.endpoints after e o → Changes state (record state { host = host; endpoints = after }) host (Own e) o
+own-changes state host after e o c =
+    record {
+      host_is = refl;
+      endpoints = own-changed (λ (x : Reader). x.endpoint) (λ (x : Writer). x.endpoint) state.endpoints state.readers state.writers after e o c;
+      names = ap (λ n. record { own = n; readers = length state.readers; writers = length state.writers }) c.length;
+      futures = refl;
+    }
 
-pub reader-names : (state : State) (after : List (Option Reader)) (r : ℕ) (o : Option Reader) → ChangedAt state.readers after r o → Changed (endpoint_under state) (endpoint_under (record state { readers = after })) (OfReader r) (option_map (λ (x : Reader). x.endpoint) o)
-reader-names state after r o c = reader-changed (λ (x : Reader). x.endpoint) (λ (x : Writer). x.endpoint) state.endpoints state.readers state.writers after r o c
+pub reader-changes : (state : State) (host : HostState) (after : List (Option Reader)) (r : ℕ) (o : Option Reader) → ChangedAt state.readers after r o
+    → Changes state (record state { host = host; readers = after }) host (OfReader r) (option_map (λ (x : Reader). x.endpoint) o)
+reader-changes state host after r o c =
+    record {
+      host_is = refl;
+      endpoints = reader-changed (λ (x : Reader). x.endpoint) (λ (x : Writer). x.endpoint) state.endpoints state.readers state.writers after r o c;
+      names = ap (λ n. record { own = length state.endpoints; readers = n; writers = length state.writers }) c.length;
+      futures = refl;
+    }
 
-pub writer-names : (state : State) (after : List (Option Writer)) (w : ℕ) (o : Option Writer) → ChangedAt state.writers after w o → Changed (endpoint_under state) (endpoint_under (record state { writers = after })) (OfWriter w) (option_map (λ (x : Writer). x.endpoint) o)
-writer-names state after w o c = writer-changed (λ (x : Reader). x.endpoint) (λ (x : Writer). x.endpoint) state.endpoints state.readers state.writers after w o c
+pub writer-changes : (state : State) (host : HostState) (after : List (Option Writer)) (w : ℕ) (o : Option Writer) → ChangedAt state.writers after w o
+    → Changes state (record state { host = host; writers = after }) host (OfWriter w) (option_map (λ (x : Writer). x.endpoint) o)
+writer-changes state host after w o c =
+    record {
+      host_is = refl;
+      endpoints = writer-changed (λ (x : Reader). x.endpoint) (λ (x : Writer). x.endpoint) state.endpoints state.readers state.writers after w o c;
+      names = ap (λ n. record { own = length state.endpoints; readers = length state.readers; writers = n }) c.length;
+      futures = refl;
+    }
 
 -- an endpoint goes from one name to another
 pub moves-by : {old new : State} {from to : EndpointName} {g : Endpoint} (mid : State) → Changed (endpoint_under old) (endpoint_under mid) from None → Changed (endpoint_under mid) (endpoint_under new) to (Some g) → from ≢ to → new.host ≡ old.host → new.futures ≡ old.futures → MovesTo old new from to g
