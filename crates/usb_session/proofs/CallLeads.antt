@@ -23,7 +23,7 @@ use Rattle.usb_session_calls.specs.Answer.{Answer}
 use Rattle.usb_session_calls.specs.Submits.{with_submission}
 use Rattle.usb_session_calls.specs.Polls.{one_taken}
 use Rattle.usb_session.specs.Accounts.{TookFew}
-use Rattle.usb_session.proofs.Does.{Acts, Changes, Does, IsStream, says_done, goes, submits, fits, reads, ends, quiet-aside, own-names, reader-names, writer-names}
+use Rattle.usb_session.proofs.Does.{Acts, Changes, Does, IsStream, says_done, goes, submits, fits, reads, ends, quiet-aside, own-changes, reader-changes, writer-changes}
 
 -- a ticket that stands next
 front-next : (xs : List ℕ) (n t : ℕ) (ts : List ℕ) → drop n xs ≡ t ∷ ts → (slice_get xs n ≡ Some t) × (drop (n + 1) xs ≡ ts) × (n + 1 ≤ length xs)
@@ -56,23 +56,24 @@ held-by : {X Y : Type 0} (f : X → Y) (o : Option X) (y : Y) → option_map f o
 held-by f None y is = absurd (none-some y is)
 held-by f (Some x) y is = (x, refl)
 
-put-futures : (state : State) (e : EndpointName) (g : Endpoint) → (put_endpoint state e g).futures ≡ state.futures
-put-futures state (Own e) g = refl
-put-futures state (OfReader r) g = refl
-put-futures state (OfWriter w) g = refl
-
-put-changed : (state : State) (e : EndpointName) (h g : Endpoint) → endpoint_under state e ≡ Some h → Changed (endpoint_under state) (endpoint_under (put_endpoint state e g)) e (Some g)
-put-changed state (Own e) h g here = own-names state (change_named (λ (x : Endpoint). g) state.endpoints e) e (Some g) (change-changes (λ (x : Endpoint). g) state.endpoints e h here)
-put-changed state (OfReader r) h g here =
+at-changes : (state : State) (e : EndpointName) (h g : Endpoint) (host : HostState) → endpoint_under state e ≡ Some h → Changes state (at_call state e g host) host e (Some g)
+at-changes state (Own e) h g host here = own-changes state host (change_named (λ (x : Endpoint). g) state.endpoints e) e (Some g) (change-changes (λ (x : Endpoint). g) state.endpoints e h here)
+at-changes state (OfReader r) h g host here =
     let y = held-by (λ (x : Reader). x.endpoint) (named state.readers r) h here in
-    reader-names state (change_named (λ (x : Reader). record x { endpoint = g }) state.readers r) r (Some (record y.0 { endpoint = g })) (change-changes (λ (x : Reader). record x { endpoint = g }) state.readers r y.0 y.1)
-put-changed state (OfWriter w) h g here =
+    reader-changes state host (change_named (λ (x : Reader). record x { endpoint = g }) state.readers r) r (Some (record y.0 { endpoint = g })) (change-changes (λ (x : Reader). record x { endpoint = g }) state.readers r y.0 y.1)
+at-changes state (OfWriter w) h g host here =
     let y = held-by (λ (x : Writer). x.endpoint) (named state.writers w) h here in
-    writer-names state (change_named (λ (x : Writer). record x { endpoint = g }) state.writers w) w (Some (record y.0 { endpoint = g })) (change-changes (λ (x : Writer). record x { endpoint = g }) state.writers w y.0 y.1)
+    writer-changes state host (change_named (λ (x : Writer). record x { endpoint = g }) state.writers w) w (Some (record y.0 { endpoint = g })) (change-changes (λ (x : Writer). record x { endpoint = g }) state.writers w y.0 y.1)
 
 -- two changes under one name
-pub then-changed : {X : Type 0} {old mid new : EndpointName → Option X} {e : EndpointName} {o p : Option X} → Changed old mid e o → Changed old new e p → Changed mid new e p
-then-changed first second = record { here = second.here; others = λ d apart. second.others d apart ∙ sym (first.others d apart) }
+pub then-changes : {old mid new : State} {first second : HostState} {e : EndpointName} {o p : Option Endpoint} → Changes old mid first e o → Changes old new second e p → Changes mid new second e p
+then-changes one two =
+    record {
+      host_is = two.host_is;
+      endpoints = record { here = two.endpoints.here; others = λ d apart. two.endpoints.others d apart ∙ sym (one.endpoints.others d apart) };
+      names = two.names ∙ sym one.names;
+      futures = two.futures ∙ sym one.futures;
+    }
 
 same-changed : {X : Type 0} {old mid new : EndpointName → Option X} {e : EndpointName} {o p : Option X} → Changed old mid e o → Changed old new e p → p ≡ o → (d : EndpointName) → new d ≡ mid d
 same-changed {mid = mid} {new = new} {e = e} first second same d =
@@ -95,15 +96,10 @@ pub record Leads (few : Type 0) (a : Answer) (state : State) (e : EndpointName) 
 module _ (few : Type 0) (a : Answer) (state : State) (e : EndpointName) (h : Endpoint) (stream : IsStream e) (here : endpoint_under state e ≡ Some h) (other : says_done a.line ≡ false) where
   -- from one of its states to another
   changes-at : (g next : Endpoint) (host after : HostState) → Changes (at_call state e g host) (at_call state e next after) after e (Some next)
-  changes-at g next host after =
-      record {
-        host_is = refl;
-        endpoints = then-changed (put-changed state e h g here) (put-changed state e h next here);
-        futures = put-futures state e next ∙ sym (put-futures state e g);
-      }
+  changes-at g next host after = then-changes (at-changes state e h g host here) (at-changes state e h next after here)
 
   here-now : (g : Endpoint) → endpoint_under (put_endpoint state e g) e ≡ Some g
-  here-now g = (put-changed state e h g here).here
+  here-now g = (at-changes state e h g state.host here).endpoints.here
 
   pub leads-start : (x : EndpointState) → x ≡ endpoint_state h → h.taken ≤ length h.tickets → Leads few a state e h state.host x
   leads-start x same within =
@@ -118,7 +114,7 @@ module _ (few : Type 0) (a : Answer) (state : State) (e : EndpointName) (h : End
         within = within;
         left = sym left;
         kept_is = same ∙ sym (ap (λ (p : List ℕ). record (endpoint_state h) { pending = p }) left);
-        leads = λ rest. goes (quiet-aside state (at_call state e h state.host) refl refl (λ d. sym (same-changed (put-changed state e h h here) (stays here) refl d)) (put-futures state e h)) rest;
+        leads = let c = at-changes state e h h state.host here in λ rest. goes (quiet-aside state (at_call state e h state.host) refl refl (λ d. sym (same-changed c.endpoints (stays here) refl d)) c.names c.futures) rest;
       }
     where
       stays : endpoint_under state e ≡ Some h → Changed (endpoint_under state) (endpoint_under state) e (Some h)
@@ -152,7 +148,7 @@ module _ (few : Type 0) (a : Answer) (state : State) (e : EndpointName) (h : End
         left = drop-append-le l.taken l.tickets (n ∷ []) l.within ∙ ap (λ (p : List ℕ). p ++ n ∷ []) l.left;
         kept_is = ap (λ (z : EndpointState). record z { pending = x.pending ++ n ∷ [] }) l.kept_is;
         leads = λ rest. l.leads (submits e b g (here-now g) (λ few_. l.within)
-            (record { host_is = ap (λ (z : EndpointState). entered host_calls host z b) (sym kept_g); endpoints = changes.endpoints; futures = changes.futures }) rest);
+            (record { host_is = ap (λ (z : EndpointState). entered host_calls host z b) (sym kept_g); endpoints = changes.endpoints; names = changes.names; futures = changes.futures }) rest);
       }
 
   -- a wait
@@ -170,7 +166,7 @@ module _ (few : Type 0) (a : Answer) (state : State) (e : EndpointName) (h : End
         within = l.within;
         left = l.left;
         kept_is = l.kept_is;
-        leads = λ rest. l.leads (goes (record { keeps = on-waited host front timeout; count = count; endpoints = λ d. refl; futures = refl }) rest);
+        leads = λ rest. l.leads (goes (record { keeps = on-waited host front timeout; count = count; endpoints = λ d. refl; names = refl; futures = refl }) rest);
       }
 
   -- the front is taken
@@ -203,8 +199,9 @@ leads-end few a state e h host x here other changes l =
     let g = by_now h l.tickets l.taken in
     let size : length l.tickets - length p ≡ l.taken = omega (arith, length-drop l.taken l.tickets, ap (λ (ts : List ℕ). length ts) l.left, l.within) in
     let are : f h ≡ g = ap (λ (ts : List ℕ). by_now h ts (length ts - length p)) (sym l.are) ∙ ap (by_now h l.tickets) size in
+    let c = then-changes (at-changes state e h g host here) changes in
     l.leads (ends other (quiet-aside (at_call state e g host) a.state (ap (λ (v : HostState). v.kernel.past) changes.host_is) (ap (λ (v : HostState). v.tickets) changes.host_is)
-    (same-changed (put-changed state e h g here) changes.endpoints (ap (λ (z : Endpoint). Some z) are)) (changes.futures ∙ sym (put-futures state e g))))
+    (same-changed (at-changes state e h g host here).endpoints changes.endpoints (ap (λ (z : Endpoint). Some z) are)) c.names c.futures))
 
 pub called-acts : (state : State) (a : Answer) (e : EndpointName) (h : Endpoint) (host : HostState) (x : EndpointState) → endpoint_under state e ≡ Some h → says_done a.line ≡ false
     → Changes state a.state host e (Some (called_endpoint (tickets_of state) (count_in host) x.pending h)) → (h.taken ≤ length h.tickets → Leads (TookFew state) a state e h host x) → Does state a

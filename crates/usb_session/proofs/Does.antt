@@ -25,7 +25,7 @@ use Rattle.usb_session_text.specs.Calls.{ok_line, condition_line, error_line, re
 use Rattle.usb_session_text.specs.Completions.{done_line}
 use Rattle.usb_session_calls.specs.Names.{named, is_free, freed, change_named}
 use Rattle.usb_session_calls.specs.EndpointNames.{EndpointName, Own, OfReader, OfWriter, endpoint_under}
-use Rattle.usb_session_calls.proofs.NameLemmas.{named_of, free_place, named-change_same, named-change_other}
+use Rattle.usb_session_calls.proofs.NameLemmas.{named-change_same, named-change_other}
 use Rattle.usb_session_calls.proofs.EndpointNameLemmas.{Changed, ChangedAt, own-changed, reader-changed, writer-changed}
 use Rattle.usb_session_calls.specs.State.{State, Endpoint, Reader, Writer, endpoint_state, tickets_of, with_host}
 use Rattle.usb_session_calls.specs.Answer.{Answer, answer_with, condition_answer, ok_answer, error_answer, silent, if_open}
@@ -262,21 +262,6 @@ writer-changes state host after w o c =
       names = ap (λ n. record { own = length state.endpoints; readers = length state.readers; writers = n }) c.length;
       futures = refl;
     }
-
--- an endpoint goes from one name to another
-pub moves-by : {old new : State} {from to : EndpointName} {g : Endpoint} (mid : State) → Changed (endpoint_under old) (endpoint_under mid) from None → Changed (endpoint_under mid) (endpoint_under new) to (Some g) → from ≢ to → new.host ≡ old.host → new.futures ≡ old.futures → MovesTo old new from to g
-moves-by {from = from} mid first second apart host futures =
-    record {
-      host_is = host;
-      here = second.here;
-      gone = second.others from apart ∙ first.here;
-      others = λ d away off. second.others d off ∙ first.others d away;
-      futures = futures;
-    }
-
--- nothing is open under a name that is free
-pub free-none : {X : Type 0} (xs : List (Option X)) (n : ℕ) → is_free xs n ≡ true → named xs n ≡ None
-free-none xs n free = named_of xs n None (free_place xs n free)
 
 -- a change that keeps a part of what is open under a name
 map-kept : {X Y : Type 0} (v : X → Y) (f : X → X) → ((x : X) → v (f x) ≡ v x) → (o : Option X) → option_map v (option_map f o) ≡ option_map v o

@@ -44,18 +44,19 @@ use Rattle.usb_session_calls.specs.Transfers.{bars_transfer, with_taken, transfe
 use Rattle.usb_session_calls.specs.Closes.{without_endpoint, close_answer, closed_at, closed}
 use Rattle.usb_session.specs.Served.{closed_under}
 use Rattle.usb_session_calls.specs.EndpointNames.{EndpointName, Own}
+use Rattle.usb_session_calls.proofs.NameLemmas.{free-none}
 use Rattle.usb_session_calls.proofs.EndpointNameLemmas.{set-changes, freed-changes, change-changes}
-use Rattle.usb_session.proofs.CallLeads.{then-changed}
-use Rattle.usb_session.proofs.Does.{Acts, Changes, Does, free-none, own-names, says_done, goes, opens, submits, ends, takes, quiet-aside, quiet-same, told-does, barred-does, free-does, bar-does, try-does, ok-does, named-does, closing-does, result-other}
+use Rattle.usb_session.proofs.CallLeads.{then-changes}
+use Rattle.usb_session.proofs.Does.{Acts, Changes, Does, own-changes, says_done, goes, opens, submits, ends, takes, quiet-aside, quiet-same, told-does, barred-does, free-does, bar-does, try-does, ok-does, named-does, closing-does, result-other}
 use Rattle.usb_session_calls.proofs.DeviceHosts.{halt-aside}
 
 -- an endpoint is opened
 endpoint_as-does : (state : State) (e address : ℕ) (kind : TransferType) (x : InterfaceAt) (tried : Result ℕ ErrorState) → is_free state.endpoints e ≡ true → Does state (endpoint_as state e address kind x tried)
 endpoint_as-does state e address kind x tried free =
     try-does (endpoint_as state e address kind x) tried (λ error. refl) (λ maximum.
-    goes (quiet-aside state (with_host state (with_endpoint state.host x.handle.key address)) refl refl (λ d. refl) refl)
+    goes (quiet-aside state (with_host state (with_endpoint state.host x.handle.key address)) refl refl (λ d. refl) refl refl)
     (opens e (new_endpoint state.host x.claimed.device address kind maximum) (free-none state.endpoints e free) refl refl
-    (record { host_is = refl; endpoints = own-names state _ e _ (set-changes state.endpoints e (new_endpoint state.host x.claimed.device address kind maximum) free); futures = refl }) (ok-does _)))
+    (own-changes (with_host state (with_endpoint state.host x.handle.key address)) (with_endpoint state.host x.handle.key address) _ e _ (set-changes state.endpoints e (new_endpoint state.host x.claimed.device address kind maximum) free)) (ok-does _)))
 
 pub endpoint-does : (state : State) (e i address : ℕ) (kind : TransferType) (direction : Direction) → Does state (endpoint_answer state e i address kind direction)
 unfolding endpoint_answer
@@ -63,12 +64,12 @@ endpoint-does state e i address kind direction =
     named-does (interface_at state i) _ (λ x is.
     free-does (λ free.
     let host = host_asked state.host x.claimed.opened in
-    goes (record { keeps = on-asked state.host x.claimed.opened; count = asked-count state.host x.claimed.opened; endpoints = λ d. refl; futures = refl })
+    goes (record { keeps = on-asked state.host x.claimed.opened; count = asked-count state.host x.claimed.opened; endpoints = λ d. refl; names = refl; futures = refl })
     (endpoint_as-does (with_host state host) e address kind x (host_tries host x.handle.key x.claimed address kind direction) free)))
 
 -- what a call changes of an endpoint
 changed-own : (state : State) (f : Endpoint → Endpoint) (e : ℕ) (h : Endpoint) → named state.endpoints e ≡ Some h → (host : HostState) → Changes state (record state { host = host; endpoints = change_named f state.endpoints e }) host (Own e) (Some (f h))
-changed-own state f e h here host = record { host_is = refl; endpoints = own-names state (change_named f state.endpoints e) e (Some (f h)) (change-changes f state.endpoints e h here); futures = refl }
+changed-own state f e h here host = own-changes state host (change_named f state.endpoints e) e (Some (f h)) (change-changes f state.endpoints e h here)
 
 -- a ticket is submitted
 submit_on-does : (state : State) (direction : Direction) (e : ℕ) (b : BufferState) (h : Endpoint) → named state.endpoints e ≡ Some h → Does state (submit_on state direction e b h)
@@ -89,7 +90,7 @@ wait_on-does : (state : State) (e timeout : ℕ) (h : Endpoint) (o : Option ℕ)
 wait_on-does state e timeout h None here front = barred-does state
 wait_on-does state e timeout h (Some t) here front =
     let mid = with_host state (waited host_calls t timeout state.host) in
-    goes (record { keeps = on-waited state.host t timeout; count = waited-count state.host t timeout; endpoints = λ d. refl; futures = refl })
+    goes (record { keeps = on-waited state.host t timeout; count = waited-count state.host t timeout; endpoints = λ d. refl; names = refl; futures = refl })
     (took-does waited_line mid e t h (transfer_completion mid.host.kernel.past t) refl (λ c. refl) here front refl)
 
 -- a blocking transfer at an endpoint where none is pending: its ticket is submitted, comes, and is taken
@@ -114,11 +115,12 @@ transfer_made-does state e b timeout h here none =
     let one = entered-count state.host (endpoint_state h) b in
     let found = some-of (transfer_completion last.host.kernel.past n) (blocked-found sent.host n timeout (omega (arith, one.past))) in
     let first = changed-own state (with_submission n) e h here (entered host_calls state.host (endpoint_state h) b) in
+    let here_last = changed-own state (with_submission n) e h here last.host in
     let whole = changed-own state (with_taken n) e h here (host_taken last.host n) in
-    submits (Own e) b h here (λ few. few (Own e) h here) first (goes {next = last} (record { keeps = on-blocked sent.host n timeout; count = blocked-count sent.host n timeout; endpoints = λ d. refl; futures = refl })
-    (takes (Own e) n (with_submission n h) found.0 first.endpoints.here
+    submits (Own e) b h here (λ few. few (Own e) h here) first (goes {next = last} (record { keeps = on-blocked sent.host n timeout; count = blocked-count sent.host n timeout; endpoints = λ d. refl; names = refl; futures = refl })
+    (takes {state = last} {next = (transfer_made state e b timeout h).state} (Own e) n (with_submission n h) found.0 first.endpoints.here
     (λ few. pushed-front h.taken h.tickets n (few (Own e) h here) none) found.1 (ap waited_line found.1)
-    (record { host_is = refl; endpoints = then-changed first.endpoints whole.endpoints; futures = refl }) (quiet-same (transfer_made state e b timeout h).state)))
+    (then-changes here_last whole) (quiet-same (transfer_made state e b timeout h).state)))
 
 transfer_on-does : (state : State) (direction : Direction) (e : ℕ) (b : BufferState) (timeout : ℕ) (h : Endpoint) → named state.endpoints e ≡ Some h → Does state (transfer_on state direction e b timeout h)
 transfer_on-does state direction e b timeout h here =
@@ -135,11 +137,11 @@ called-does state e h (Wait timeout) here = wait_on-does state e timeout h (slic
 called-does state e h (TransferIn n timeout) here = transfer_on-does state In e (in_buffer n) timeout h here
 called-does state e h (TransferOut bytes timeout) here = transfer_on-does state Out e (out_buffer bytes) timeout h here
 called-does state e h Cancel here =
-    ends refl (record { keeps = on-all_discarded state.host (pending h); count = all_discarded-count state.host (pending h); endpoints = λ d. refl; futures = refl })
+    ends refl (record { keeps = on-all_discarded state.host (pending h); count = all_discarded-count state.host (pending h); endpoints = λ d. refl; names = refl; futures = refl })
 called-does state e h ClearHalt here =
     let aside = halt-aside state.host h.device h.address in
     ends (result-other (or_error clear_halt_error (host_halt_result state.host h.device h.address)))
-    (quiet-aside state (with_host state (host_halt_cleared state.host h.device h.address)) aside.past aside.handles.tickets (λ d. refl) refl)
+    (quiet-aside state (with_host state (host_halt_cleared state.host h.device h.address)) aside.past aside.handles.tickets (λ d. refl) refl refl)
 
 pub on_endpoint-does : (state : State) (e : ℕ) (call : EndpointCall) → Does state (on_endpoint state e call)
 unfolding on_endpoint
@@ -151,7 +153,7 @@ map-id (Some x) = refl
 
 -- an endpoint is closed
 closed-changes : (state : State) (e : ℕ) (h : Endpoint) → Changes state (without_endpoint state e h) (after_close host_calls state.host (endpoint_state h)) (Own e) None
-closed-changes state e h = record { host_is = refl; endpoints = own-names state (freed state.endpoints e) e None (freed-changes state.endpoints e); futures = refl }
+closed-changes state e h = own-changes state (after_close host_calls state.host (endpoint_state h)) (freed state.endpoints e) e None (freed-changes state.endpoints e)
 
 pub closed-does : {few : Type 0} (state : State) (e : ℕ) (lines : EndpointName → List (List ℕ)) → Acts few (silent (closed state e)) state (closed_under state lines (Own e)) []
 unfolding closed

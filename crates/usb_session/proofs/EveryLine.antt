@@ -13,6 +13,7 @@ use Rattle.usb_session_calls.specs.declared.call.OpenCall.TheVariants as opens
 use Rattle.usb_session_calls.specs.declared.call.CloseCall.{CloseCall}
 use Rattle.usb_session_calls.specs.declared.call.CloseCall.TheVariants as closes
 use Rattle.usb_session_calls.specs.State.{State}
+use Rattle.usb_session_calls.specs.EndpointNames.{EndpointName}
 use Rattle.usb_session_calls.specs.Answer.{Answer, condition_answer}
 use Rattle.usb_session_calls.specs.Steps.{with_steps, stepped_all}
 use Rattle.usb_session_calls.specs.Calls.{call_of}

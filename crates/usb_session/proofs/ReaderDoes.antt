@@ -25,8 +25,9 @@ use Rattle.usb_session_calls.specs.CalledReaders.{reader_called, on_reader}
 use Rattle.usb_session_calls.specs.State.{State, Reader, endpoint_state, pending, state_of_reader}
 use Rattle.usb_session_calls.specs.BareReaders.{bare_of}
 use Rattle.usb_session_calls.specs.EndpointNames.{EndpointName, Own, OfReader, OfWriter, endpoint_under}
+use Rattle.usb_session_calls.proofs.NameLemmas.{free-none, length-change_named}
 use Rattle.usb_session_calls.proofs.EndpointNameLemmas.{set-changes, freed-changes, change-changes}
-use Rattle.usb_session_calls.specs.Readers.{nothing_consumed, as_streamed, with_reader, reader_answer, without_reader, inner_answer, called, with_count, num_on, closed_reader, reader_closed_at, reader_closed, close_reader_answer}
+use Rattle.usb_session_calls.specs.Readers.{nothing_consumed, with_none, as_streamed, with_reader, reader_answer, without_reader, inner_answer, called, with_count, num_on, closed_reader, reader_closed_at, reader_closed, close_reader_answer}
 use Rattle.usb_session_streams.specs.ReaderCalls.{given_by}
 use Rattle.usb_session_calls.specs.Reads.{is_until_short, consumed_with, given_line, polled_given_line, bars_read, read_as, filled_as, read_on, fill_on, read_off}
 use Rattle.usb_session_calls.specs.Answer.{Answer, answer_with, condition_answer, ok_answer, silent, if_open}
@@ -34,7 +35,7 @@ use Rattle.usb_device_endpoint.specs.Closes.{after_close}
 use Rattle.usb_session.specs.Accounts.{TookFew}
 use Rattle.usb_session.specs.Served.{closed_under}
 use Rattle.usb_session.proofs.CallLeads.{Leads, leads-start, leads-send, leads-wait, leads-take, called-acts}
-use Rattle.usb_session.proofs.Does.{Acts, Changes, Does, says_done, ends, moves, moves-by, free-none, kept-change, own-names, reader-names, quiet-aside, quiet-same, told-does, named-does, closing-does, free-does, bar-does}
+use Rattle.usb_session.proofs.Does.{Acts, Changes, Quiet, Does, says_done, ends, moves, kept-change, own-changes, reader-changes, quiet-aside, quiet-same, told-does, named-does, closing-does, free-does, bar-does}
 
 -- a reader is made of an endpoint, and the endpoint comes back
 pub reader-does : (state : State) (r e size : ℕ) → Does state (reader_answer state r e size)
@@ -45,8 +46,11 @@ reader-does state r e size =
     free-does (λ in_.
     let y : Reader = record { endpoint = as_streamed h; bare = bare_of (fresh_reader (endpoint_state h) size); before = take h.taken h.tickets; given = []; consumed = nothing_consumed h.tickets } in
     moves (Own e) (OfReader r) h (as_streamed h) here (ap (option_map (λ (x : Reader). x.endpoint)) (free-none state.readers r free)) (record { key = refl; tickets = refl; taken = refl }) (λ was. refl) refl
-    (moves-by (record state { endpoints = freed state.endpoints e }) (own-names state (freed state.endpoints e) e None (freed-changes state.endpoints e))
-    (reader-names (record state { endpoints = freed state.endpoints e }) (set_name state.readers r y) r (Some y) (set-changes state.readers r y free)) (λ same. absurd (cc)) refl refl)
+    (record {
+      mid = record state { endpoints = freed state.endpoints e };
+      gone = own-changes state state.host (freed state.endpoints e) e None (freed-changes state.endpoints e);
+      put = reader-changes (record state { endpoints = freed state.endpoints e }) state.host (set_name state.readers r y) r (Some y) (set-changes state.readers r y free);
+    })
     (quiet-same (with_reader state r e size h)))))
 
 pub inner-does : (state : State) (e r : ℕ) → Does state (inner_answer state e r)
@@ -55,13 +59,16 @@ inner-does state e r =
     named-does (named state.readers r) _ (λ x is.
     free-does (λ free.
     moves (OfReader r) (Own e) x.endpoint x.endpoint (ap (option_map (λ (y : Reader). y.endpoint)) is) (free-none state.endpoints e free) (record { key = refl; tickets = refl; taken = refl }) (λ was. was tt) refl
-    (moves-by (record state { readers = freed state.readers r }) (reader-names state (freed state.readers r) r None (freed-changes state.readers r))
-    (own-names (record state { readers = freed state.readers r }) (set_name state.endpoints e x.endpoint) e (Some x.endpoint) (set-changes state.endpoints e x.endpoint free)) (λ same. absurd (cc)) refl refl)
+    (record {
+      mid = record state { readers = freed state.readers r };
+      gone = reader-changes state state.host (freed state.readers r) r None (freed-changes state.readers r);
+      put = own-changes (record state { readers = freed state.readers r }) state.host (set_name state.endpoints e x.endpoint) e (Some x.endpoint) (set-changes state.endpoints e x.endpoint free);
+    })
     (quiet-same (without_reader state e r x))))
 
 -- it is closed
 closed-changes : (state : State) (r : ℕ) (x : Reader) → Changes state (closed_reader state r x) (after_close host_calls state.host (endpoint_state x.endpoint)) (OfReader r) None
-closed-changes state r x = record { host_is = refl; endpoints = reader-names state (freed state.readers r) r None (freed-changes state.readers r); futures = refl }
+closed-changes state r x = reader-changes state (after_close host_calls state.host (endpoint_state x.endpoint)) (freed state.readers r) r None (freed-changes state.readers r)
 
 pub reader_closed-does : {few : Type 0} (state : State) (r : ℕ) (lines : EndpointName → List (List ℕ)) → Acts few (silent (reader_closed state r)) state (closed_under state lines (OfReader r)) []
 unfolding reader_closed
@@ -81,6 +88,11 @@ endpoint-kept f state r same (Own e) = refl
 endpoint-kept f state r same (OfReader n) = kept-change (λ (x : Reader). x.endpoint) f same state.readers r n
 endpoint-kept f state r same (OfWriter n) = refl
 
+kept-quiet : (f : Reader → Reader) (state : State) (r : ℕ) → ((x : Reader) → (f x).endpoint ≡ x.endpoint) → Quiet state (record state { readers = change_named f state.readers r })
+kept-quiet f state r same =
+    quiet-aside state (record state { readers = change_named f state.readers r }) refl refl (endpoint-kept f state r same)
+    (ap (λ n. record { own = length state.endpoints; readers = n; writers = length state.writers }) (length-change_named f state.readers r)) refl
+
 -- a call goes on
 abbrev Led : State → ℕ → Reader → Answer → Reading HostState → Type 0
 Led state r x a w = Leads (TookFew state) a state (OfReader r) x.endpoint w.bus w.reader.endpoint
@@ -96,7 +108,7 @@ called-does state r x consumed bytes y w line us timeout is other same keeps =
     let h = x.endpoint in
     let here = ap (option_map (λ (y : Reader). y.endpoint)) is in
     called-acts state a e h w.bus w.reader.endpoint here other
-    (record { host_is = refl; endpoints = reader-names state _ r _ (change-changes _ state.readers r x is); futures = refl }) (λ within.
+    (reader-changes state _ _ r _ (change-changes _ state.readers r x is)) (λ within.
     keeps
     (record {
       submission = λ w l. leads-send few a state e h tt here other w.bus w.reader.endpoint (fresh_buffer w.reader.size) l;
@@ -170,15 +182,15 @@ reader_called-does state r x (FillBuf framing) is = fill_on-does state framing r
 reader_called-does state r x (PollFillBuf framing) is = fill_on-does state framing r 0 (polled_given_line buffer_line) x is (polled-other buffer_line buffer-other)
 reader_called-does state r x (Consume framing n) is =
     let next = read_off state framing r x (map Byte (take n x.bare.unread)) (take n x.bare.unread) (with_read n (state_of_reader x)) in
-    bar-does {bars = nat_lt (length x.bare.unread) n} {call = ok_answer next} (λ no_. ends refl (quiet-aside state next refl refl (endpoint-kept _ state r (λ y. refl)) refl))
+    bar-does {bars = nat_lt (length x.bare.unread) n} {call = ok_answer next} (λ no_. ends refl (kept-quiet _ state r (λ y. refl)))
 reader_called-does state r x IsEnd is = told-does state (is_end_line (is_end (state_of_reader x))) (end-other (is_end (state_of_reader x)))
 reader_called-does state r x ConsumeEnd is =
     cond_both (is_end (state_of_reader x)) _ (answer_with state (consumed_end_line (Err (record {})))) (Does state)
-    (λ yes_. ends refl (quiet-aside state _ refl refl (endpoint-kept _ state r (λ y. refl)) refl)) (λ no_. told-does state _ refl)
+    (λ yes_. ends refl (kept-quiet _ state r (λ y. refl))) (λ no_. told-does state _ refl)
 reader_called-does state r x (SetNumTransfers n) is = num_on-does state r n x is
-reader_called-does state r x (SetReadTimeout timeout) is = ends refl (quiet-aside state _ refl refl (endpoint-kept _ state r (λ y. refl)) refl)
+reader_called-does state r x (SetReadTimeout timeout) is = ends refl (kept-quiet _ state r (λ y. refl))
 reader_called-does state r x Cancel is =
-    ends refl (record { keeps = on-all_discarded state.host (pending x.endpoint); count = all_discarded-count state.host (pending x.endpoint); endpoints = endpoint-kept _ state r (λ y. refl); futures = refl })
+    ends refl (record { keeps = on-all_discarded state.host (pending x.endpoint); count = all_discarded-count state.host (pending x.endpoint); endpoints = endpoint-kept _ state r (λ y. refl); names = (kept-quiet with_none state r (λ y. refl)).names; futures = refl })
 
 pub on_reader-does : (state : State) (r : ℕ) (call : ReaderCall) → Does state (on_reader state r call)
 unfolding on_reader

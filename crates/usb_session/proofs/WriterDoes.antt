@@ -1,5 +1,5 @@
 -- What the calls on writers do.
-use Rattle.std.proofs.Common.{◌≡◌, ℕ, ◌≤◌, arith, false, List, [], ◌∷◌, Some, None, Result, Ok, Err, refl, ap}
+use Rattle.std.proofs.Common.{◌≡◌, ℕ, ◌≤◌, arith, false, List, [], ◌∷◌, length, Some, None, Result, Ok, Err, refl, ap}
 use Rattle.std.specs.Option.{option_map}
 use Rattle.std.proofs.lemmas.Bool.{and_parts}
 use Rattle.usb_device_host.specs.HostState.{HostState}
@@ -24,6 +24,7 @@ use Rattle.usb_session_calls.specs.CalledWriters.{writer_called, on_writer}
 use Rattle.usb_session_calls.specs.State.{State, Writer, endpoint_state, state_of_writer}
 use Rattle.usb_session_calls.specs.BareWriters.{bare_writer}
 use Rattle.usb_session_calls.specs.EndpointNames.{EndpointName, Own, OfReader, OfWriter, endpoint_under}
+use Rattle.usb_session_calls.proofs.NameLemmas.{free-none, length-change_named}
 use Rattle.usb_session_calls.proofs.EndpointNameLemmas.{set-changes, freed-changes, change-changes}
 use Rattle.usb_session_calls.specs.Readers.{as_streamed}
 use Rattle.usb_session_calls.specs.Writers.{nothing_called, with_writer, writer_answer, without_writer, writer_inner_answer, with_transfers, closed_writer, close_writer_answer, writer_closed_at, writer_closed}
@@ -33,7 +34,7 @@ use Rattle.usb_device_endpoint.specs.Closes.{after_close}
 use Rattle.usb_session.specs.Accounts.{TookFew}
 use Rattle.usb_session.specs.Served.{closed_under}
 use Rattle.usb_session.proofs.CallLeads.{Leads, leads-start, leads-send, leads-wait, leads-take, called-acts}
-use Rattle.usb_session.proofs.Does.{Acts, Changes, Does, says_done, ends, moves, moves-by, free-none, kept-change, own-names, writer-names, quiet-aside, quiet-same, named-does, closing-does, free-does, bar-does}
+use Rattle.usb_session.proofs.Does.{Acts, Changes, Quiet, Does, says_done, ends, moves, kept-change, own-changes, writer-changes, quiet-aside, quiet-same, named-does, closing-does, free-does, bar-does}
 
 -- a writer is made of an endpoint, and the endpoint comes back
 pub writer-does : (state : State) (w e size : ℕ) → Does state (writer_answer state w e size)
@@ -44,8 +45,11 @@ writer-does state w e size =
     free-does (λ out.
     let y : Writer = record { endpoint = as_streamed h; bare = bare_writer (fresh_writer (endpoint_state h) size); calls = nothing_called h.tickets } in
     moves (Own e) (OfWriter w) h (as_streamed h) here (ap (option_map (λ (x : Writer). x.endpoint)) (free-none state.writers w free)) (record { key = refl; tickets = refl; taken = refl }) (λ was. refl) refl
-    (moves-by (record state { endpoints = freed state.endpoints e }) (own-names state (freed state.endpoints e) e None (freed-changes state.endpoints e))
-    (writer-names (record state { endpoints = freed state.endpoints e }) (set_name state.writers w y) w (Some y) (set-changes state.writers w y free)) (λ same. absurd (cc)) refl refl)
+    (record {
+      mid = record state { endpoints = freed state.endpoints e };
+      gone = own-changes state state.host (freed state.endpoints e) e None (freed-changes state.endpoints e);
+      put = writer-changes (record state { endpoints = freed state.endpoints e }) state.host (set_name state.writers w y) w (Some y) (set-changes state.writers w y free);
+    })
     (quiet-same (with_writer state w e size h)))))
 
 pub writer_inner-does : (state : State) (e w : ℕ) → Does state (writer_inner_answer state e w)
@@ -54,13 +58,16 @@ writer_inner-does state e w =
     named-does (named state.writers w) _ (λ x is.
     free-does (λ free.
     moves (OfWriter w) (Own e) x.endpoint x.endpoint (ap (option_map (λ (y : Writer). y.endpoint)) is) (free-none state.endpoints e free) (record { key = refl; tickets = refl; taken = refl }) (λ was. was tt) refl
-    (moves-by (record state { writers = freed state.writers w }) (writer-names state (freed state.writers w) w None (freed-changes state.writers w))
-    (own-names (record state { writers = freed state.writers w }) (set_name state.endpoints e x.endpoint) e (Some x.endpoint) (set-changes state.endpoints e x.endpoint free)) (λ same. absurd (cc)) refl refl)
+    (record {
+      mid = record state { writers = freed state.writers w };
+      gone = writer-changes state state.host (freed state.writers w) w None (freed-changes state.writers w);
+      put = own-changes (record state { writers = freed state.writers w }) state.host (set_name state.endpoints e x.endpoint) e (Some x.endpoint) (set-changes state.endpoints e x.endpoint free);
+    })
     (quiet-same (without_writer state e w x))))
 
 -- it is closed
 closed-changes : (state : State) (w : ℕ) (x : Writer) → Changes state (closed_writer state w x) (after_close host_calls state.host (endpoint_state x.endpoint)) (OfWriter w) None
-closed-changes state w x = record { host_is = refl; endpoints = writer-names state (freed state.writers w) w None (freed-changes state.writers w); futures = refl }
+closed-changes state w x = writer-changes state (after_close host_calls state.host (endpoint_state x.endpoint)) (freed state.writers w) w None (freed-changes state.writers w)
 
 pub writer_closed-does : {few : Type 0} (state : State) (w : ℕ) (lines : EndpointName → List (List ℕ)) → Acts few (silent (writer_closed state w)) state (closed_under state lines (OfWriter w)) []
 unfolding writer_closed
@@ -80,6 +87,11 @@ endpoint-kept f state w same (Own e) = refl
 endpoint-kept f state w same (OfWriter n) = kept-change (λ (x : Writer). x.endpoint) f same state.writers w n
 endpoint-kept f state w same (OfReader n) = refl
 
+kept-quiet : (f : Writer → Writer) (state : State) (w : ℕ) → ((x : Writer) → (f x).endpoint ≡ x.endpoint) → Quiet state (record state { writers = change_named f state.writers w })
+kept-quiet f state w same =
+    quiet-aside state (record state { writers = change_named f state.writers w }) refl refl (endpoint-kept f state w same)
+    (ap (λ n. record { own = length state.endpoints; readers = length state.readers; writers = n }) (length-change_named f state.writers w)) refl
+
 -- what is kept by all that a call does is kept by one that leaves this
 abbrev KeptBy : Writing HostState → Writing HostState → Type 1
 KeptBy old new = (P : Writing HostState → Type 0) → Keeps P → P old → P new
@@ -95,7 +107,7 @@ called_as-does state w x need calls line came is other keeps =
     let a = answer_with (left_by_writer state w (option_map (with_calls calls (failures_of came.answer)) x.calls) came.left) (line came.answer) in
     bar-does {bars = bars_call (writing_at state x) need} {call = a} (λ no_.
     called-acts state a e h came.left.bus came.left.writer.endpoint here not_done
-    (record { host_is = refl; endpoints = writer-names state _ w _ (change-changes _ state.writers w x is); futures = refl }) (λ within.
+    (writer-changes state _ _ w _ (change-changes _ state.writers w x is)) (λ within.
     keeps (λ v. Leads few a state e h v.bus v.writer.endpoint)
     (record {
       set = λ v buffer begun l. l;
@@ -153,8 +165,8 @@ writer_called-does state w x PollFlushEnd is =
     called_as-does state w x _ _ (poll_line flushed_line) (poll_flush_end_came host_calls (writing_at state x)) is (polled-other flushed_line flushed-other) (λ P keeps. poll_flush_end-keeps P keeps (writing_at state x))
 writer_called-does state w x (SetNumTransfers n) is =
     let next = record state { writers = change_named (with_transfers n) state.writers w } in
-    bar-does {bars = bars_transfers n} {call = ok_answer next} (λ no_. ends refl (quiet-aside state next refl refl (endpoint-kept _ state w (λ y. refl)) refl))
-writer_called-does state w x (SetWriteTimeout timeout) is = ends refl (quiet-aside state _ refl refl (endpoint-kept _ state w (λ y. refl)) refl)
+    bar-does {bars = bars_transfers n} {call = ok_answer next} (λ no_. ends refl (kept-quiet _ state w (λ y. refl)))
+writer_called-does state w x (SetWriteTimeout timeout) is = ends refl (kept-quiet _ state w (λ y. refl))
 
 pub on_writer-does : (state : State) (w : ℕ) (call : WriterCall) → Does state (on_writer state w call)
 unfolding on_writer
