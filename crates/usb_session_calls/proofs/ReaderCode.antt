@@ -1,5 +1,5 @@
 -- What calls on an open reader answer.
-use Rattle.std.proofs.Common.{◌≡◌, ◌≢◌, ℕ, ◌<◌, ◌≤◌, ◌-◌, arith, Bool, true, false, cond, List, [], ◌∷◌, ◌++◌, length, length-append, map, take, drop, Option, Some, None, Result, Ok, Err, refl, ap, sym, ◌∙◌, subst, String, string_bytes}
+use Rattle.std.proofs.Common.{◌≡◌, ◌≢◌, ℕ, ◌<◌, ◌≤◌, ◌-◌, arith, Bool, true, false, cond, List, [], ◌∷◌, ◌++◌, length, length-append, map, take, drop, Option, Result, Ok, Err, refl, ap, sym, ◌∙◌, subst, String, string_bytes}
 use Rattle.std.specs.Prelude.{OnOk, OnErr, nat_lt, ◌||◌}
 use Rattle.std.specs.Option.{option_map}
 use Rattle.std.specs.declared.alloc.Global.{Global}
@@ -60,13 +60,13 @@ keeps-along old new x y line goes =
     }
 
 -- an answer of a call of a reader (at): the reader is changed, to one that calls see so (y), the host goes on, and this line is told
-pub record ComesTo (state : State) (r : ℕ) (at : Reader) (now : HostState) (y : ReaderState) (line : List ℕ) (a : Answer) : Type 0 where
+record ComesTo (state : State) (r : ℕ) (at : Reader) (now : HostState) (y : ReaderState) (line : List ℕ) (a : Answer) : Type 0 where
   pub change : Reader → Reader
   pub is : a ≡ answer_with (record state { host = now; readers = change_named change state.readers r }) line
   pub same : state_of_reader (change at) ≡ y
   pub few : (change at).endpoint.taken ≤ length (change at).endpoint.tickets
 
-pub reader-comes : {E : Type 0} (old now : HostState) (x y : ReaderState) (before text : String Global) (result : Result Unit E) (line : List ℕ) (call : State → ℕ → Reader → Answer) → OnOk result (string_bytes text ≡ string_bytes before ++ line)
+reader-comes : {E : Type 0} (old now : HostState) (x y : ReaderState) (before text : String Global) (result : Result Unit E) (line : List ℕ) (call : State → ℕ → Reader → Answer) → OnOk result (string_bytes text ≡ string_bytes before ++ line)
     → ((state : State) (r : ℕ) (at : Reader) → state.host ≡ old → state_of_reader at ≡ x → at.endpoint.taken ≤ length at.endpoint.tickets → ComesTo state r at now y line (call state r at)) → ReaderAnswers old now x y before text result call
 reader-comes old now x y before text (Err error) line call printed comes = tt
 reader-comes old now x y before text (Ok done) line call printed comes =
@@ -78,7 +78,7 @@ reader-comes old now x y before text (Ok done) line call printed comes =
     (represents-reader s state now c.change r at y rep has.is c.same c.few) printed)
 
 -- a line is told, and nothing else
-pub reader-told : {E : Type 0} (host : HostState) (x : ReaderState) (before text : String Global) (result : Result Unit E) (line : List ℕ) (call : State → ℕ → Reader → Answer) → OnOk result (string_bytes text ≡ string_bytes before ++ line)
+reader-told : {E : Type 0} (host : HostState) (x : ReaderState) (before text : String Global) (result : Result Unit E) (line : List ℕ) (call : State → ℕ → Reader → Answer) → OnOk result (string_bytes text ≡ string_bytes before ++ line)
     → ((state : State) (r : ℕ) (at : Reader) → state.host ≡ host → state_of_reader at ≡ x → call state r at ≡ answer_with state line) → ReaderAnswers host host x x before text result call
 reader-told host x before text result line call printed tells =
     reader-comes host host x x before text result line call printed
@@ -93,7 +93,7 @@ reader-told host x before text result line call printed tells =
     })
 
 -- or the host is not asked
-pub reader-off : {E : Type 0} (host : HostState) (x y : ReaderState) (before text : String Global) (result : Result Unit E) (line : List ℕ) (call : State → ℕ → Reader → Answer) → OnOk result (string_bytes text ≡ string_bytes before ++ line)
+reader-off : {E : Type 0} (host : HostState) (x y : ReaderState) (before text : String Global) (result : Result Unit E) (line : List ℕ) (call : State → ℕ → Reader → Answer) → OnOk result (string_bytes text ≡ string_bytes before ++ line)
     → ((state : State) (r : ℕ) (at : Reader) → state_of_reader at ≡ x → at.endpoint.taken ≤ length at.endpoint.tickets → ComesTo state r at state.host y line (call state r at)) → ReaderAnswers host host x y before text result call
 reader-off host x y before text result line call printed comes =
     reader-comes host host x y before text result line call printed
@@ -154,7 +154,7 @@ reads-barred framing host x before text result call bars printed =
     (λ state r at host_was same. ap (λ b. cond b (condition_answer state) (call state r at)) (bars_at framing host x state at host_was same ∙ bars))
 
 -- what a reading call gave is told, and the bytes that it took are consumed
-abbrev pub given_as : State → Framing → ℕ → Reader → (Result (List ℕ) ReadFault → List ℕ) → (Result (List ℕ) ReadFault → List ℕ) → Read HostState → Answer
+abbrev given_as : State → Framing → ℕ → Reader → (Result (List ℕ) ReadFault → List ℕ) → (Result (List ℕ) ReadFault → List ℕ) → Read HostState → Answer
 given_as state framing r at bytes line a = answer_with (called state r (consumed_with framing (map Byte (bytes a.answer)) at.consumed) (bytes a.answer) a.left) (line a.answer)
 
 module _ (framing : Framing) (old new : HostState) (x y : ReaderState) (goes : ReadsAlong (bus_of old) (bus_of new) x.endpoint y.endpoint) (free : bars_need old.kernel.past (length x.endpoint.pending) (need_of framing x) ≡ false) where
@@ -198,7 +198,7 @@ keeps-rest host x y stands same =
     })
 
 -- a poll that is not pending is told as what waits is
-pub in_time-line : (line : List ℕ → List ℕ) (fault : ReadFault) → fault ≢ TimedOut → polled_given_line line (Err fault) ≡ read_fault_line fault
+in_time-line : (line : List ℕ → List ℕ) (fault : ReadFault) → fault ≢ TimedOut → polled_given_line line (Err fault) ≡ read_fault_line fault
 in_time-line line (Transfer e) in_time = refl
 in_time-line line TimedOut in_time = absurd (in_time refl)
 in_time-line line UnexpectedEof in_time = refl
