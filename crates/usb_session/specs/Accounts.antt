@@ -1,12 +1,12 @@
 -- What endpoints hold is pending at an endpoint that is open under a name, or is the ticket of a future that is.
-use Rattle.std.specs.Prelude.{ℕ, ◌≡◌, ◌≤◌, ◌⊎◌, List, Option, Some, length}
+use Rattle.std.specs.Prelude.{ℕ, ◌≡◌, ◌⊎◌, List, Option, Some, length}
 use Rattle.std.specs.List.{Contains}
 use Rattle.usb_kernel.specs.Tickets.{tickets}
 use Rattle.usb_script_lines.specs.declared.item.Item.{Item}
 use Rattle.usb_device_host.specs.HostBus.{owner_at}
 use Rattle.usb_device.specs.Futures.{FutureState}
 use Rattle.usb_session_calls.specs.Names.{named}
-use Rattle.usb_session_calls.specs.State.{State, Endpoint, pending}
+use Rattle.usb_session_calls.specs.State.{State, Endpoint}
 use Rattle.usb_session_calls.specs.EndpointNames.{EndpointName, endpoint_under}
 use Rattle.usb_session.specs.Answers.{answer}
 use Rattle.usb_session.specs.Ends.{all_closed}
@@ -17,8 +17,8 @@ pub record Covered (opened : EndpointName → Option Endpoint) (t key : ℕ) : T
   pub name : EndpointName
   pub entry : Endpoint
   pub at : opened name ≡ Some entry
-  pub key_is : entry.key ≡ key
-  pub in_pending : Contains (pending entry) t
+  pub key_is : entry.state.key ≡ key
+  pub in_pending : Contains entry.state.pending t
 
 -- a ticket is that of a future of a key, which is open under a name
 pub record IsAwaited (futures : List (Option FutureState)) (t key : ℕ) : Type 0 where
@@ -35,17 +35,13 @@ pub record Accounted (state : State) : Type 0 where
       Covered (endpoint_under state) t key ⊎ IsAwaited state.futures t key
   pub count : length state.host.tickets ≡ length (tickets state.host.kernel.past)
 
--- no more tickets of an open endpoint were taken than it has
-abbrev pub TookFew : State → Type 0
-TookFew state = (e : EndpointName) (h : Endpoint) → endpoint_under state e ≡ Some h → h.taken ≤ length h.tickets
-
 -- before the first line
 abbrev pub StartIsAccounted : Type 0
 StartIsAccounted = (items : List Item) → Accounted (start items)
 
 -- over each line
 abbrev pub AnswerKeepsAccounts : Type 0
-AnswerKeepsAccounts = (state : State) (item : Item) → TookFew state → Accounted state → Accounted (answer state item).state
+AnswerKeepsAccounts = (state : State) (item : Item) → Accounted state → Accounted (answer state item).state
 
 -- and over the closes at the end
 abbrev pub CloseKeepsAccounts : Type 0

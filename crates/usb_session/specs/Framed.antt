@@ -9,7 +9,7 @@ use Rattle.usb_io.specs.Streams.{Mark, End, stream_of, delivered}
 use Rattle.usb_io.specs.Following.{IsPrefixOf}
 use Rattle.usb_session_streams.specs.Reads.{read_line, buffer_line}
 use Rattle.usb_session_calls.specs.Names.{named}
-use Rattle.usb_session_calls.specs.State.{State, Endpoint, Reader}
+use Rattle.usb_session_calls.specs.State.{State, Endpoint, Reader, tickets_at, endpoint_of_reader}
 use Rattle.usb_session_calls.specs.Answer.{Answer}
 use Rattle.usb_session.specs.Answers.{answer}
 use Rattle.usb_session.specs.Output.{start, final_host, behind}
@@ -17,20 +17,20 @@ use Rattle.usb_session.specs.Output.{start, final_host, behind}
 -- the packets that an endpoint's tickets accepted, in the order of the journal: their bytes, with an end after each packet
 -- that is shorter than the maximum
 abbrev pub stream_at : List Event → Endpoint → List Mark
-stream_at past h = stream_of h.maximum (delivered h.tickets past)
+stream_at past h = stream_of h.state.maximum (delivered (tickets_at h) past)
 
 -- what each framed reader consumed so far is a prefix of the stream of its endpoint
 abbrev pub ConsumedIsPrefix : State → Type 0
 ConsumedIsPrefix state =
     (r : ℕ) (x : Reader) (consumed : List Mark) → named state.readers r ≡ Some x → x.consumed ≡ Some consumed →
-    IsPrefixOf consumed (stream_at state.host.kernel.past x.endpoint)
+    IsPrefixOf consumed (stream_at state.host.kernel.past (endpoint_of_reader x))
 
 -- where an answer gives no byte, by the line that is printed of bytes, the reader of this name, if it is framed, has an end next in
 -- its stream
 abbrev pub GivesNoneAtEnds : (List ℕ → List ℕ) → ℕ → Answer → Type 0
 GivesNoneAtEnds print r a =
     (x : Reader) (consumed : List Mark) → named a.state.readers r ≡ Some x → x.consumed ≡ Some consumed → a.line ≡ print [] →
-    IsPrefixOf (consumed ++ End ∷ []) (stream_at a.state.host.kernel.past x.endpoint)
+    IsPrefixOf (consumed ++ End ∷ []) (stream_at a.state.host.kernel.past (endpoint_of_reader x))
 
 -- so it is of a line that reads until a short packet, and has room for a byte, and of one that lends the bytes until there
 abbrev pub EmptyReadIsEnd : State → Item → Type 0

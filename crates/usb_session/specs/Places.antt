@@ -1,5 +1,5 @@
--- What is printed of an endpoint's tickets: where n were taken, it is the n-th that comes next, counted from 0.
-use Rattle.std.specs.Prelude.{ℕ, ◌≡◌, ◌+◌, false, List, ◌∷◌, ◌++◌, slice_get, Some}
+-- What is printed of an endpoint's tickets: the oldest that is pending comes next.
+use Rattle.std.specs.Prelude.{ℕ, ◌≡◌, false, List, [], ◌∷◌, ◌++◌, slice_get, Some}
 use Rattle.usb_xfer.specs.declared.transfer.Completion.{Completion}
 use Rattle.usb_kernel.specs.TransferCompletions.{transfer_completion}
 use Rattle.usb_script_lines.specs.declared.item.Item.{Item}
@@ -14,11 +14,11 @@ use Rattle.usb_session.specs.Answers.{answer}
 use Rattle.usb_session.specs.Output.{start, behind}
 use Rattle.usb_session.specs.Served.{taken_under}
 
--- while the session is not crowded, a poll answers for the endpoint's n-th ticket, counted from 0, where n were taken: with the
--- completion that the journal has of it, and `pending` exactly where it has none
+-- while the session is not crowded, a poll answers for the endpoint's oldest pending ticket: with the completion that the journal has
+-- of it, and `pending` exactly where it has none
 abbrev pub PollAnswersForItsPlace : State → ℕ → Type 0
 PollAnswersForItsPlace state e =
-    (h : Endpoint) (t : ℕ) → is_crowded state ≡ false → named state.endpoints e ≡ Some h → slice_get h.tickets h.taken ≡ Some t →
+    (h : Endpoint) (t : ℕ) → is_crowded state ≡ false → named state.endpoints e ≡ Some h → slice_get h.state.pending 0 ≡ Some t →
     (answer state (Poll e)).line ≡ polled_line (transfer_completion state.host.kernel.past t)
 
 -- so does each poll of a script
@@ -35,7 +35,7 @@ PollsOfScriptsAnswer = (items : List Item) → PollsAnswer items
 
 -- an answer takes a ticket from what is open under some name
 abbrev pub TakesOne : State → Answer → Type 0
-TakesOne state a = (e : EndpointName) × (taken_under a.state e ≡ taken_under state e + 1)
+TakesOne state a = (e : EndpointName) × (t : ℕ) × (taken_under a.state e ≡ taken_under state e ++ t ∷ [])
 
 -- a line with a completion is printed only where a ticket is taken
 abbrev pub CompletionsAreTaken : Type 0

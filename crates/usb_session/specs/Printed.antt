@@ -1,5 +1,5 @@
 -- Each completion that a line prints is that of the ticket that the line took.
-use Rattle.std.specs.Prelude.{ℕ, ◌≡◌, ◌≢◌, ◌+◌, List, ◌∷◌, ◌++◌, slice_get, Some}
+use Rattle.std.specs.Prelude.{ℕ, ◌≡◌, ◌≢◌, List, [], ◌∷◌, ◌++◌, Some}
 use Rattle.usb_xfer.specs.declared.transfer.Completion.{Completion}
 use Rattle.usb_kernel.specs.declared.event.Event.{Event}
 use Rattle.usb_kernel.specs.TransferCompletions.{transfer_completion}
@@ -12,17 +12,16 @@ use Rattle.usb_session.specs.Answers.{answer}
 use Rattle.usb_session.specs.Output.{start, behind, final_host}
 use Rattle.usb_session.specs.Served.{taken_under}
 
--- the answer of a line took one ticket of the endpoint that is open under a name behind it: where n were taken before it is the
--- endpoint's n-th, counted from 0. Of no other endpoint it took one. It printed the completion that the last journal has of this ticket
+-- the answer of a line took one ticket of the endpoint that is open under a name behind it, and none of another. It printed the
+-- completion that the last journal has of this ticket. (It was the oldest pending one: taken tickets are the first)
 pub record TookAndPrinted (last : List Event) (before : State) (a : Answer) : Type 0 where
   pub name : EndpointName
   pub entry : Endpoint
   pub ticket : ℕ
   pub completion : Completion
   pub open_behind : endpoint_under a.state name ≡ Some entry
-  pub one_more : entry.taken ≡ taken_under before name + 1
+  pub taken : entry.taken ≡ taken_under before name ++ ticket ∷ []
   pub others : (d : EndpointName) → d ≢ name → taken_under a.state d ≡ taken_under before d
-  pub taken : slice_get entry.tickets (taken_under before name) ≡ Some ticket
   pub came : transfer_completion last ticket ≡ Some completion
   pub printed : a.line ≡ done_line completion
 

@@ -1,5 +1,5 @@
 -- Each endpoint that a script opens: its tickets in the order of submission, how many of them were taken, what was printed at that, and how all of them ended.
-use Rattle.std.specs.Prelude.{ℕ, ◌≡◌, ◌<◌, ◌≤◌, ◌==◌, nat_lt, Bool, false, not, ◌&&◌, List, [], ◌∷◌, ◌++◌, take, drop, length, map, flat_map, count_by, Option, Some, None, is_none, is_some, if◌then◌else◌}
+use Rattle.std.specs.Prelude.{ℕ, ◌≡◌, ◌<◌, ◌==◌, nat_lt, Bool, false, not, ◌&&◌, List, [], ◌∷◌, ◌++◌, length, map, flat_map, count_by, Option, Some, None, is_none, is_some, if◌then◌else◌}
 use Rattle.std.specs.List.{All}
 use Rattle.std.specs.List.Sorted.{IsStrictlyIncreasing}
 use Rattle.std.specs.Option.{option_map_or}
@@ -17,7 +17,7 @@ use Rattle.usb_device_host.specs.HostState.{HostState}
 use Rattle.usb_device_ledger.specs.EndedTickets.{end_at}
 use Rattle.usb_device_host.specs.Finishes.{HasEnds}
 use Rattle.usb_session_text.specs.Completions.{polled_line}
-use Rattle.usb_session_calls.specs.State.{State, Endpoint, tickets_of}
+use Rattle.usb_session_calls.specs.State.{State, Endpoint, tickets_at, tickets_of}
 use Rattle.usb_session_calls.specs.EndpointNames.{EndpointName, Own, OfReader, OfWriter, endpoint_under}
 use Rattle.usb_session_calls.specs.Calls.{call_of, is_of_control}
 use Rattle.usb_session_calls.specs.Answer.{Answer}
@@ -37,9 +37,9 @@ pub record ClosedEndpoint : Type 0 where
   pub past : List Event
   pub lines : List (List ℕ)
 
--- how many tickets of the endpoint that is open under a name were taken, 0 where none is open
-abbrev pub taken_under : State → EndpointName → ℕ
-taken_under state e = option_map_or (λ (h : Endpoint). h.taken) (endpoint_under state e) 0
+-- the tickets that were taken of the endpoint that is open under a name, none where none is open
+abbrev pub taken_under : State → EndpointName → List ℕ
+taken_under state e = option_map_or (λ (h : Endpoint). h.taken) (endpoint_under state e) []
 
 -- whether a reader or a writer was made of the endpoint that is open under a name
 abbrev pub was_streamed_under : State → EndpointName → Bool
@@ -47,7 +47,7 @@ was_streamed_under state e = option_map_or (λ (h : Endpoint). h.was_streamed) (
 
 -- the line of an answer, where the answer takes a ticket of what is open under a name, of which no reader or writer was made
 abbrev pub line_taking : State → Answer → EndpointName → List (List ℕ)
-line_taking state a e = if nat_lt (taken_under state e) (taken_under a.state e) && not (was_streamed_under a.state e) then a.line ∷ [] else []
+line_taking state a e = if nat_lt (length (taken_under state e)) (length (taken_under a.state e)) && not (was_streamed_under a.state e) then a.line ∷ [] else []
 
 -- for each name the lines that printed completions of the endpoint that is open under it, with that
 -- of this answer; `lines` has those before it
@@ -115,21 +115,19 @@ control_tickets items = control_tickets_from (start items) items
 abbrev pub end_given_up : List Event → ℕ → TicketEnd
 end_given_up past t = if is_some (completion past t) then Dropped else Reclaimed
 
--- An endpoint's tickets are in the order of their submission (`rising`). The first of them, `taken`
--- many, were taken: these have the end `Taken`, and where no reader or writer was made of it the
--- lines that were printed are those of their completions by the last journal, in this order
--- (`printed`; a wait prints the same line as a poll, but a reader prints bytes, and a writer counts). The others were given up at the close,
--- with the end that comes of that (`others`)
+-- An endpoint's tickets are in the order of their submission (`rising`). The first of them were taken: these have the end `Taken`,
+-- and where no reader or writer was made of it the lines that were printed are those of their completions by the last journal, in
+-- this order (`printed`; a wait prints the same line as a poll, but a reader prints bytes, and a writer counts). The others were
+-- given up at the close, with the end that comes of that (`others`)
 pub record IsServedInOrder (last : HostState) (h : ClosedEndpoint) : Type 0 where
-  pub rising : IsStrictlyIncreasing h.endpoint.tickets
-  pub few : h.endpoint.taken ≤ length h.endpoint.tickets
-  pub printed : h.endpoint.was_streamed ≡ false → h.lines ≡ map (λ t. polled_line (transfer_completion last.kernel.past t)) (take h.endpoint.taken h.endpoint.tickets)
-  pub taken : All (λ t. end_at last.tickets t ≡ Some Taken) (take h.endpoint.taken h.endpoint.tickets)
-  pub others : All (λ t. end_at last.tickets t ≡ Some (end_given_up h.past t)) (drop h.endpoint.taken h.endpoint.tickets)
+  pub rising : IsStrictlyIncreasing (tickets_at h.endpoint)
+  pub printed : h.endpoint.was_streamed ≡ false → h.lines ≡ map (λ t. polled_line (transfer_completion last.kernel.past t)) h.endpoint.taken
+  pub taken : All (λ t. end_at last.tickets t ≡ Some Taken) h.endpoint.taken
+  pub others : All (λ t. end_at last.tickets t ≡ Some (end_given_up h.past t)) h.endpoint.state.pending
 
 -- the tickets of all of them
 abbrev pub tickets_of_all : List ClosedEndpoint → List ℕ
-tickets_of_all hs = flat_map (λ (h : ClosedEndpoint). h.endpoint.tickets) hs
+tickets_of_all hs = flat_map (λ (h : ClosedEndpoint). tickets_at h.endpoint) hs
 
 -- each endpoint of a script is served so, and each ticket belongs to one endpoint, at one place, or is that of one control
 -- transfer

@@ -13,13 +13,13 @@ use Rattle.usb_session_calls.specs.Writes.{writing_at, write_on, flush_as, finis
 
 -- each call at a writer that is open (x)
 abbrev pub writer_called : WriterCall → State → ℕ → Writer → Answer
-writer_called (Write bytes) state w x = write_on state w bytes x written_line x.bare.timeout
+writer_called (Write bytes) state w x = write_on state w bytes x written_line x.state.timeout
 writer_called (PollWrite bytes) state w x = write_on state w bytes x (poll_line written_line) 0
 writer_called Submit state w x = flush_as state w x flushed_line (submitted_to (submit_came host_calls (writing_at state x)))
 writer_called SubmitEnd state w x = finish_as state w x flushed_line (submitted_to (submit_end_came host_calls (writing_at state x)))
-writer_called Flush state w x = flush_as state w x flushed_line (flush_came host_calls x.bare.timeout (writing_at state x))
+writer_called Flush state w x = flush_as state w x flushed_line (flush_came host_calls x.state.timeout (writing_at state x))
 writer_called PollFlush state w x = flush_as state w x (poll_line flushed_line) (flush_came host_calls 0 (writing_at state x))
-writer_called FlushEnd state w x = finish_as state w x flushed_line (flush_end_came host_calls x.bare.timeout (writing_at state x))
+writer_called FlushEnd state w x = finish_as state w x flushed_line (flush_end_came host_calls x.state.timeout (writing_at state x))
 writer_called PollFlushEnd state w x = poll_finish_on state w x (poll_line flushed_line)
 writer_called (SetNumTransfers n) state w x = transfers_on state w n
 writer_called (SetWriteTimeout timeout) state w x = write_timeout_on state w timeout

@@ -12,18 +12,18 @@ use Rattle.usb_device.specs.Futures.{FutureState, future_closed}
 use Rattle.usb_device_host.specs.Owners.{is_shared}
 use Rattle.usb_error.specs.Errors.{interface_in_use_error}
 use Rattle.usb_session_calls.specs.Names.{named, freed}
-use Rattle.usb_session_calls.specs.State.{State, Endpoint, endpoint_state, pending, with_host}
+use Rattle.usb_session_calls.specs.State.{State, Endpoint, with_host}
 use Rattle.usb_session_calls.specs.OpenAt.{InterfaceAt, interface_at}
 use Rattle.usb_session_calls.specs.Answer.{Answer, condition_answer, ok_answer, error_answer, if_open}
 
 -- what is pending at an endpoint is discarded
 abbrev pub cancelled : State → Endpoint → State
-cancelled state h = with_host state (all_discarded host_discarded state.host (pending h))
+cancelled state h = with_host state (all_discarded host_discarded state.host h.state.pending)
 
 -- an endpoint is closed, and its name is free
 abbrev pub without_endpoint : State → ℕ → Endpoint → State
 without_endpoint state e h =
-    record state { host = after_close host_calls state.host (endpoint_state h); endpoints = freed state.endpoints e }
+    record state { host = after_close host_calls state.host h.state; endpoints = freed state.endpoints e }
 
 -- the answer to `close` of an endpoint
 unfoldable pub close_answer : State → ℕ → Answer

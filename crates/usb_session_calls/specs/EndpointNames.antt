@@ -2,7 +2,7 @@
 use Rattle.std.specs.Prelude.{ℕ, List, Option}
 use Rattle.std.specs.Option.{option_map}
 use Rattle.usb_session_calls.specs.Names.{named}
-use Rattle.usb_session_calls.specs.State.{State, Endpoint, Reader, Writer}
+use Rattle.usb_session_calls.specs.State.{State, Endpoint, endpoint_of_reader, endpoint_of_writer}
 
 pub data EndpointName : Type 0 where
   Own : ℕ → EndpointName
@@ -17,4 +17,4 @@ held_under of_reader of_writer endpoints readers writers (OfWriter w) = option_m
 
 -- the endpoint that is open under a name
 abbrev pub endpoint_under : State → EndpointName → Option Endpoint
-endpoint_under state = held_under (λ (x : Reader). x.endpoint) (λ (x : Writer). x.endpoint) state.endpoints state.readers state.writers
+endpoint_under state = held_under endpoint_of_reader endpoint_of_writer state.endpoints state.readers state.writers

@@ -13,7 +13,11 @@ use Rattle.usb_session_calls.specs.Answer.{Answer, condition_answer, ok_answer, 
 -- an endpoint with no ticket, and the next key
 abbrev pub new_endpoint : HostState → ℕ → ℕ → TransferType → ℕ → Endpoint
 new_endpoint h device address kind maximum =
-    record { device = device; address = address; kind = kind; maximum = maximum; key = length h.endpoints; tickets = []; taken = 0; was_streamed = false }
+    record {
+      state = record { device = device; address = address; kind = kind; maximum = maximum; key = length h.endpoints; pending = [] };
+      taken = [];
+      was_streamed = false;
+    }
 
 -- by what the host answers: the endpoint is open under its name, or the error is printed
 abbrev pub endpoint_as : State → ℕ → ℕ → TransferType → InterfaceAt → Result ℕ ErrorState → Answer

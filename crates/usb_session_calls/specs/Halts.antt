@@ -9,5 +9,5 @@ use Rattle.usb_session_calls.specs.Answer.{Answer, answer_with}
 -- on an endpoint that is open (h)
 abbrev pub halt_cleared : State → Endpoint → Answer
 halt_cleared state h =
-    answer_with (with_host state (host_halt_cleared state.host h.device h.address))
-    (result_line (or_error clear_halt_error (host_halt_result state.host h.device h.address)))
+    answer_with (with_host state (host_halt_cleared state.host h.state.device h.state.address))
+    (result_line (or_error clear_halt_error (host_halt_result state.host h.state.device h.state.address)))

@@ -1,6 +1,4 @@
 pub mod Names
-pub mod BareReaders
-pub mod BareWriters
 pub mod State
 pub mod EndpointNames
 pub mod Answer

@@ -36,5 +36,5 @@ abbrev pub CallAnswers : {E : Type 0} → HostState → HostState → EndpointSt
 CallAnswers old new x y before after result call =
     OnOk result
     ((s : SessionState) (state : State) (e : ℕ) (h : Endpoint) → Represents s state →
-    s.host ≡ old → named s.endpoints e ≡ Some x → named state.endpoints e ≡ Some h →
+    s.host ≡ old → named state.endpoints e ≡ Some h → h.state ≡ x →
     Answered (with_called s e new y) (string_bytes before) (string_bytes after) (call state e h))

@@ -4,7 +4,7 @@ use Rattle.std.specs.declared.alloc.Global.{Global}
 use Rattle.usb_device_host.specs.HostState.{HostState}
 use Rattle.usb_io.specs.Readers.{ReaderState}
 use Rattle.usb_session_calls.specs.Names.{named, change_named}
-use Rattle.usb_session_calls.specs.State.{State, Reader, state_of_reader}
+use Rattle.usb_session_calls.specs.State.{State, Reader}
 use Rattle.usb_session_calls.specs.Answer.{Answer}
 use Rattle.usb_session_calls.specs.SessionState.{SessionState}
 use Rattle.usb_session_calls.specs.Relation.{Represents}
@@ -18,12 +18,6 @@ with_reader_called s r host y =
       readers = change_named (λ x. y) s.readers r;
     }
 
--- a session has this reader open under a name, and so has the state that it stands for
-pub record HasReader (s : SessionState) (state : State) (r : ℕ) (x : ReaderState) (at : Reader) : Type 0 where
-  pub reader : named s.readers r ≡ Some x
-  pub is : named state.readers r ≡ Some at
-  pub same : state_of_reader at ≡ x
-
 -- in whatever session the reader is open it goes to the state behind the answer, whose line is
 -- printed; of want of memory nothing is said. x is the reader before the call, and y after it
 abbrev pub ReaderAnswers : {E : Type 0} → HostState → HostState → ReaderState → ReaderState →
@@ -31,5 +25,5 @@ abbrev pub ReaderAnswers : {E : Type 0} → HostState → HostState → ReaderSt
 ReaderAnswers old new x y before after result call =
     OnOk result
     ((s : SessionState) (state : State) (r : ℕ) (at : Reader) → Represents s state → s.host ≡ old →
-    HasReader s state r x at →
+    named state.readers r ≡ Some at → at.state ≡ x →
     Answered (with_reader_called s r new y) (string_bytes before) (string_bytes after) (call state r at))

@@ -12,8 +12,7 @@ use Rattle.usb_device_host.specs.HostCalls.{host_calls}
 use Rattle.usb_session_streams.specs.Numbers.{numbers_from}
 use Rattle.usb_session_calls.specs.Names.{named, is_free, freed, set_name, change_named}
 use Rattle.usb_session_streams.specs.Needs.{bars_need}
-use Rattle.usb_session_calls.specs.State.{State, Endpoint, Reader, endpoint_state, pending, state_of_reader, tickets_of, with_host}
-use Rattle.usb_session_calls.specs.BareReaders.{bare_of}
+use Rattle.usb_session_calls.specs.State.{State, Endpoint, Reader, tickets_at, endpoint_of_reader, tickets_of, with_host}
 use Rattle.usb_session_calls.specs.Answer.{Answer, condition_answer, ok_answer, if_open}
 use Rattle.usb_session_calls.specs.Submits.{has_direction}
 
@@ -22,28 +21,24 @@ abbrev pub nothing_consumed : List ℕ → Option (List Mark)
 nothing_consumed [] = Some []
 nothing_consumed tickets = None
 
--- an endpoint of which a reader or a writer was made
-abbrev pub as_streamed : Endpoint → Endpoint
-as_streamed h = record h { was_streamed = true }
-
 -- an endpoint becomes a reader's, and its name is free
 abbrev pub with_reader : State → ℕ → ℕ → ℕ → Endpoint → State
 with_reader state r e size h =
     record state {
       endpoints = freed state.endpoints e;
       readers = set_name state.readers r (record {
-        endpoint = as_streamed h;
-        bare = bare_of (fresh_reader (endpoint_state h) size);
-        before = take h.taken h.tickets;
+        state = fresh_reader h.state size;
+        before = h.taken;
+        taken = [];
         given = [];
-        consumed = nothing_consumed h.tickets;
+        consumed = nothing_consumed (tickets_at h);
       });
     }
 
 -- of an endpoint that is open (h)
 abbrev pub reader_on : State → ℕ → ℕ → ℕ → Endpoint → Answer
 reader_on state r e size h =
-    if is_free state.readers r then (if has_direction In (endpoint_state h) then ok_answer (with_reader state r e size h) else condition_answer state)
+    if is_free state.readers r then (if has_direction In h.state then ok_answer (with_reader state r e size h) else condition_answer state)
     else condition_answer state
 
 -- `reader`: a reader is made of an endpoint
@@ -54,7 +49,7 @@ reader_answer state r e size = if_open (named state.endpoints e) (reader_on stat
 abbrev pub without_reader : State → ℕ → ℕ → Reader → State
 without_reader state e r x =
     record state {
-      endpoints = set_name state.endpoints e x.endpoint;
+      endpoints = set_name state.endpoints e (endpoint_of_reader x);
       readers = freed state.readers r;
     }
 
@@ -63,14 +58,11 @@ unfoldable pub inner_answer : State → ℕ → ℕ → Answer
 inner_answer state e r =
     if_open (named state.readers r) (λ x. if is_free state.endpoints e then ok_answer (without_reader state e r x) else condition_answer state) (condition_answer state)
 
--- an endpoint behind a call of its reader or writer: each ticket that came to the journal is one of its tickets (from `old` many to
--- `new` many), and those that are not pending were taken
-abbrev pub called_endpoint : ℕ → ℕ → List ℕ → Endpoint → Endpoint
-called_endpoint old new pending h =
-    record h {
-      tickets = h.tickets ++ numbers_from old (new - old);
-      taken = length (h.tickets ++ numbers_from old (new - old)) - length pending;
-    }
+-- what a call took of an endpoint at which these tickets were pending (`before`), by those that are behind it (`after`): of the
+-- former and of each that came to the journal since (from `old` many to `new` many) all that are not pending
+abbrev pub taken_by_call : ℕ → ℕ → List ℕ → List ℕ → List ℕ
+taken_by_call old new before after =
+    let all = before ++ numbers_from old (new - old) in take (length all - length after) all
 
 -- the state behind a call of a reader, by what the call left of host and reader, what the reader has consumed then, and the bytes
 -- that the call handed over
@@ -79,8 +71,8 @@ called state r consumed bytes w =
     record state {
       host = w.bus;
       readers = change_named (λ x. record x {
-        endpoint = called_endpoint (tickets_of state) (tickets_of (with_host state w.bus)) w.reader.endpoint.pending x.endpoint;
-        bare = bare_of w.reader;
+        state = w.reader;
+        taken = x.taken ++ taken_by_call (tickets_of state) (tickets_of (with_host state w.bus)) x.state.endpoint.pending w.reader.endpoint.pending;
         given = x.given ++ bytes;
         consumed = consumed;
       }) state.readers r;
@@ -93,12 +85,12 @@ with_count n r = record r { n = n }
 -- as many transfers are submitted as are missing of one less
 abbrev pub num_on : State → ℕ → ℕ → Reader → Answer
 num_on state r n x =
-    if nat_lt 64 n || bars_need state.host.kernel.past (length (pending x.endpoint)) (n - 1 - length (pending x.endpoint)) then condition_answer state
-    else ok_answer (called state r x.consumed [] (filled_to host_calls (n - 1) (reading state.host (with_count n (state_of_reader x)))))
+    if nat_lt 64 n || bars_need state.host.kernel.past (length x.state.endpoint.pending) (n - 1 - length x.state.endpoint.pending) then condition_answer state
+    else ok_answer (called state r x.consumed [] (filled_to host_calls (n - 1) (reading state.host (with_count n x.state))))
 
 -- a reader whose waits have this timeout
 abbrev pub with_timeout : ℕ → Reader → Reader
-with_timeout timeout x = record x { bare = record x.bare { timeout = timeout } }
+with_timeout timeout x = record x { state = record x.state { timeout = timeout } }
 
 -- of a reader that is open
 abbrev pub timeout_on : State → ℕ → ℕ → Answer
@@ -106,18 +98,18 @@ timeout_on state r timeout = ok_answer (record state { readers = change_named (w
 
 -- a reader that keeps none pending
 abbrev pub with_none : Reader → Reader
-with_none x = record x { bare = record x.bare { n = 0 } }
+with_none x = record x { state = record x.state { n = 0 } }
 
 -- what is pending is discarded, from the last to the first, and none is to be pending from then on
 abbrev pub cancel_reader_on : State → ℕ → Reader → Answer
 cancel_reader_on state r x =
-    ok_answer (record state { host = all_discarded host_discarded state.host (pending x.endpoint); readers = change_named with_none state.readers r })
+    ok_answer (record state { host = all_discarded host_discarded state.host x.state.endpoint.pending; readers = change_named with_none state.readers r })
 
 -- a reader is closed as its endpoint is, and its name is free
 abbrev pub closed_reader : State → ℕ → Reader → State
 closed_reader state r x =
     record state {
-      host = after_close host_calls state.host (endpoint_state x.endpoint);
+      host = after_close host_calls state.host x.state.endpoint;
       readers = freed state.readers r;
     }
 

@@ -17,8 +17,7 @@ use Rattle.usb_session_text.specs.Controls.{pending_line}
 use Rattle.usb_script_words.specs.declared.framing.Framing.{Framing}
 use Rattle.usb_script_words.specs.declared.framing.Framing.TheVariants.{Plain, UntilShort}
 use Rattle.usb_session_calls.specs.Names.{change_named}
-use Rattle.usb_session_calls.specs.State.{State, Reader, pending, state_of_reader}
-use Rattle.usb_session_calls.specs.BareReaders.{bare_of}
+use Rattle.usb_session_calls.specs.State.{State, Reader}
 use Rattle.usb_session_calls.specs.Readers.{called}
 use Rattle.usb_session_streams.specs.Needs.{bars_need}
 use Rattle.usb_session_calls.specs.Answer.{Answer, answer_with, condition_answer, ok_answer}
@@ -39,7 +38,7 @@ need_of framing r = read_need (is_until_short framing) r
 
 -- whether a reading call is barred
 abbrev pub bars_read : State → Framing → Reader → Bool
-bars_read state framing x = bars_need state.host.kernel.past (length (pending x.endpoint)) (need_of framing (state_of_reader x))
+bars_read state framing x = bars_need state.host.kernel.past (length x.state.endpoint.pending) (need_of framing x.state)
 
 -- the line of what a read took, or of what stands, or of why there is nothing
 abbrev pub given_line : (List ℕ → List ℕ) → Result (List ℕ) ReadFault → List ℕ
@@ -64,31 +63,31 @@ filled_as state framing r x line a = answer_with (called state r (consumed_with 
 abbrev pub read_on : State → Framing → ℕ → ℕ → ℕ → (Result (List ℕ) ReadFault → List ℕ) → Reader → Answer
 read_on state framing r most timeout line x =
     if bars_read state framing x then condition_answer state
-    else read_as state framing r x line (read_came host_calls (is_until_short framing) timeout most (reading state.host (state_of_reader x)))
+    else read_as state framing r x line (read_came host_calls (is_until_short framing) timeout most (reading state.host x.state))
 
 -- the bytes that stand, with such a wait where none do
 abbrev pub fill_on : State → Framing → ℕ → ℕ → (Result (List ℕ) ReadFault → List ℕ) → Reader → Answer
 fill_on state framing r timeout line x =
     if bars_read state framing x then condition_answer state
-    else filled_as state framing r x line (fill_came host_calls (is_until_short framing) timeout (reading state.host (state_of_reader x)))
+    else filled_as state framing r x line (fill_came host_calls (is_until_short framing) timeout (reading state.host x.state))
 
 -- a reader as a call left it that asks nothing of the host, these items consumed, and these bytes handed over
 abbrev pub read_off : State → Framing → ℕ → Reader → List Mark → List ℕ → ReaderState → State
 read_off state framing r x items bytes left =
     record state {
-      readers = change_named (λ y. record y { bare = bare_of left; given = y.given ++ bytes; consumed = consumed_with framing items x.consumed })
+      readers = change_named (λ y. record y { state = left; given = y.given ++ bytes; consumed = consumed_with framing items x.consumed })
           state.readers r;
     }
 
 -- bytes are taken off, of those that stand
 abbrev pub consume_on : State → Framing → ℕ → ℕ → Reader → Answer
 consume_on state framing r n x =
-    if nat_lt (length x.bare.unread) n then condition_answer state
-    else ok_answer (read_off state framing r x (map Byte (take n x.bare.unread)) (take n x.bare.unread) (with_read n (state_of_reader x)))
+    if nat_lt (length x.state.unread) n then condition_answer state
+    else ok_answer (read_off state framing r x (map Byte (take n x.state.unread)) (take n x.state.unread) (with_read n x.state))
 
 -- the end is taken off, where it is next
 abbrev pub consume_end_on : State → ℕ → Reader → Answer
 consume_end_on state r x =
-    if is_end (state_of_reader x)
-    then answer_with (read_off state UntilShort r x (End ∷ []) [] (without_end (state_of_reader x))) (consumed_end_line (Ok tt))
+    if is_end x.state
+    then answer_with (read_off state UntilShort r x (End ∷ []) [] (without_end x.state)) (consumed_end_line (Ok tt))
     else answer_with state (consumed_end_line (Err (record {})))

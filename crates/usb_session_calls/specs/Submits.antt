@@ -10,7 +10,7 @@ use Rattle.usb_device_endpoint.specs.Submits.{entered}
 use Rattle.usb_device_host.specs.HostCalls.{host_calls}
 use Rattle.usb_device_host.specs.EndpointRefusals.{same_direction}
 use Rattle.usb_session_calls.specs.Names.{change_named}
-use Rattle.usb_session_calls.specs.State.{State, Endpoint, endpoint_state, tickets_of}
+use Rattle.usb_session_calls.specs.State.{State, Endpoint, tickets_of}
 use Rattle.usb_session_calls.specs.Answer.{Answer, condition_answer, ok_answer}
 
 -- whether the endpoint has this direction
@@ -24,17 +24,17 @@ bars_submission past direction h = not (has_direction direction h) || (nat_le 64
 
 -- an endpoint with one more ticket
 abbrev pub with_submission : ℕ → Endpoint → Endpoint
-with_submission t h = record h { tickets = h.tickets ++ t ∷ [] }
+with_submission t h = record h { state = record h.state { pending = h.state.pending ++ t ∷ [] } }
 
 -- the buffer gets the next number, which goes to the end of the endpoint's tickets
 abbrev pub submitted : State → ℕ → BufferState → Endpoint → State
 submitted state e b h =
     record state {
-      host = entered host_calls state.host (endpoint_state h) b;
+      host = entered host_calls state.host h.state b;
       endpoints = change_named (with_submission (tickets_of state)) state.endpoints e;
     }
 
 -- on an endpoint that is open (h)
 abbrev pub submit_on : State → Direction → ℕ → BufferState → Endpoint → Answer
 submit_on state direction e b h =
-    if bars_submission state.host.kernel.past direction (endpoint_state h) then condition_answer state else ok_answer (submitted state e b h)
+    if bars_submission state.host.kernel.past direction h.state then condition_answer state else ok_answer (submitted state e b h)

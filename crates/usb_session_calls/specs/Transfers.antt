@@ -13,7 +13,7 @@ use Rattle.usb_device_host.specs.HostCalls.{host_calls}
 use Rattle.usb_device_host.specs.TicketEnds.{host_taken}
 use Rattle.usb_session_text.specs.Completions.{waited_line}
 use Rattle.usb_session_calls.specs.Names.{change_named}
-use Rattle.usb_session_calls.specs.State.{State, Endpoint, endpoint_state, tickets_of}
+use Rattle.usb_session_calls.specs.State.{State, Endpoint, tickets_of}
 use Rattle.usb_session_calls.specs.Answer.{Answer, answer_with, condition_answer}
 use Rattle.usb_session_calls.specs.Submits.{has_direction}
 
@@ -24,7 +24,7 @@ bars_transfer past direction h = not (has_direction direction h) || (not (length
 
 -- an endpoint with one more ticket, which was taken
 abbrev pub with_taken : ℕ → Endpoint → Endpoint
-with_taken t h = record h { tickets = h.tickets ++ t ∷ []; taken = h.taken + 1 }
+with_taken t h = record h { taken = h.taken ++ t ∷ [] }
 
 -- ticket t is taken, and the completion that the journal now has of it is printed
 abbrev pub transfer_ended : State → ℕ → ℕ → HostState → Answer
@@ -36,9 +36,9 @@ transfer_ended state e t host =
 abbrev pub transfer_made : State → ℕ → BufferState → ℕ → Endpoint → Answer
 transfer_made state e b timeout h =
     transfer_ended state e (tickets_of state)
-    (blocked host_calls (tickets_of state) timeout (entered host_calls state.host (endpoint_state h) b))
+    (blocked host_calls (tickets_of state) timeout (entered host_calls state.host h.state b))
 
 -- on an endpoint that is open (h)
 abbrev pub transfer_on : State → Direction → ℕ → BufferState → ℕ → Endpoint → Answer
 transfer_on state direction e b timeout h =
-    if bars_transfer state.host.kernel.past direction (endpoint_state h) then condition_answer state else transfer_made state e b timeout h
+    if bars_transfer state.host.kernel.past direction h.state then condition_answer state else transfer_made state e b timeout h

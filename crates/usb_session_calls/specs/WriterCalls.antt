@@ -4,7 +4,7 @@ use Rattle.std.specs.declared.alloc.Global.{Global}
 use Rattle.usb_device_host.specs.HostState.{HostState}
 use Rattle.usb_io.specs.Writers.{WriterState}
 use Rattle.usb_session_calls.specs.Names.{named, change_named}
-use Rattle.usb_session_calls.specs.State.{State, Writer, state_of_writer}
+use Rattle.usb_session_calls.specs.State.{State, Writer}
 use Rattle.usb_session_calls.specs.Answer.{Answer}
 use Rattle.usb_session_calls.specs.SessionState.{SessionState}
 use Rattle.usb_session_calls.specs.Relation.{Represents}
@@ -18,12 +18,6 @@ with_writer_called s w host y =
       writers = change_named (λ x. y) s.writers w;
     }
 
--- a session has this writer open under a name, and so has the state that it stands for
-pub record HasWriter (s : SessionState) (state : State) (w : ℕ) (x : WriterState) (at : Writer) : Type 0 where
-  pub writer : named s.writers w ≡ Some x
-  pub is : named state.writers w ≡ Some at
-  pub same : state_of_writer at ≡ x
-
 -- in whatever session the writer is open it goes to the state behind the answer, whose line is
 -- printed; of want of memory nothing is said. x is the writer before the call, and y after it
 abbrev pub WriterAnswers : {E : Type 0} → HostState → HostState → WriterState → WriterState →
@@ -31,5 +25,5 @@ abbrev pub WriterAnswers : {E : Type 0} → HostState → HostState → WriterSt
 WriterAnswers old new x y before after result call =
     OnOk result
     ((s : SessionState) (state : State) (w : ℕ) (at : Writer) → Represents s state → s.host ≡ old →
-    HasWriter s state w x at →
+    named state.writers w ≡ Some at → at.state ≡ x →
     Answered (with_writer_called s w new y) (string_bytes before) (string_bytes after) (call state w at))

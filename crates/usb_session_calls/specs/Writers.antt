@@ -8,11 +8,9 @@ use Rattle.usb_io.specs.Writers.{fresh_writer}
 use Rattle.usb_session_streams.specs.Told.{WriterCalls, no_calls}
 use Rattle.usb_session_calls.specs.Names.{named, is_free, freed, set_name, change_named}
 use Rattle.usb_session_streams.specs.Needs.{bars_transfers}
-use Rattle.usb_session_calls.specs.State.{State, Endpoint, Writer, endpoint_state}
-use Rattle.usb_session_calls.specs.BareWriters.{bare_writer}
+use Rattle.usb_session_calls.specs.State.{State, Endpoint, Writer, tickets_at, endpoint_of_writer}
 use Rattle.usb_session_calls.specs.Answer.{Answer, condition_answer, ok_answer, if_open}
 use Rattle.usb_session_calls.specs.Submits.{has_direction}
-use Rattle.usb_session_calls.specs.Readers.{as_streamed}
 
 -- a writer alone uses its endpoint where that has no ticket yet: it did nothing
 abbrev pub nothing_called : List ℕ → Option WriterCalls
@@ -25,16 +23,16 @@ with_writer state w e size h =
     record state {
       endpoints = freed state.endpoints e;
       writers = set_name state.writers w (record {
-        endpoint = as_streamed h;
-        bare = bare_writer (fresh_writer (endpoint_state h) size);
-        calls = nothing_called h.tickets;
+        state = fresh_writer h.state size;
+        taken = h.taken;
+        calls = nothing_called (tickets_at h);
       });
     }
 
 -- of an endpoint that is open (h)
 abbrev pub writer_on : State → ℕ → ℕ → ℕ → Endpoint → Answer
 writer_on state w e size h =
-    if is_free state.writers w then (if has_direction Out (endpoint_state h) then ok_answer (with_writer state w e size h) else condition_answer state)
+    if is_free state.writers w then (if has_direction Out h.state then ok_answer (with_writer state w e size h) else condition_answer state)
     else condition_answer state
 
 -- `writer`: a writer is made of an endpoint
@@ -45,7 +43,7 @@ writer_answer state w e size = if_open (named state.endpoints e) (writer_on stat
 abbrev pub without_writer : State → ℕ → ℕ → Writer → State
 without_writer state e w x =
     record state {
-      endpoints = set_name state.endpoints e x.endpoint;
+      endpoints = set_name state.endpoints e (endpoint_of_writer x);
       writers = freed state.writers w;
     }
 
@@ -56,7 +54,7 @@ writer_inner_answer state e w =
 
 -- a writer of which so many transfers are to be pending
 abbrev pub with_transfers : ℕ → Writer → Writer
-with_transfers n x = record x { bare = record x.bare { n = n } }
+with_transfers n x = record x { state = record x.state { n = n } }
 
 -- it is one at least, and 64 at most
 abbrev pub transfers_on : State → ℕ → ℕ → Answer
@@ -66,7 +64,7 @@ transfers_on state w n =
 
 -- a writer whose waits have this timeout
 abbrev pub with_write_timeout : ℕ → Writer → Writer
-with_write_timeout timeout x = record x { bare = record x.bare { timeout = timeout } }
+with_write_timeout timeout x = record x { state = record x.state { timeout = timeout } }
 
 -- of a writer that is open
 abbrev pub write_timeout_on : State → ℕ → ℕ → Answer
@@ -77,7 +75,7 @@ write_timeout_on state w timeout =
 abbrev pub closed_writer : State → ℕ → Writer → State
 closed_writer state w x =
     record state {
-      host = after_close host_calls state.host (endpoint_state x.endpoint);
+      host = after_close host_calls state.host x.state.endpoint;
       writers = freed state.writers w;
     }
 

@@ -58,7 +58,7 @@ pub(crate) fn fill_open(
         reader.new.endpoint }
     ensures answered { ReaderAnswers host.old host.new reader.old
         reader.new line.old line.new result
-        (λ state r at. fill_on state framing r at.bare.timeout
+        (λ state r at. fill_on state framing r at.state.timeout
         (given_line buffer_line) at) }
 {
     if bars_read(host, framing, reader) {

@@ -5,7 +5,6 @@ ghost use Rattle.usb_device_endpoint.specs.Handles.{Stands};
 ghost use Rattle.usb_device_host.specs.HostBus.{bus_of};
 ghost use Rattle.usb_device_host.specs.HostState.{HostState};
 ghost use Rattle.usb_session_text.specs.Completions.{count_line};
-ghost use Rattle.usb_session_calls.specs.State.{pending};
 ghost use Rattle.usb_session_calls.specs.Answer.{answer_with};
 ghost use Rattle.usb_session_calls.specs.Polls.{poll_on};
 ghost use Rattle.usb_session_calls.specs.OpenCalls.{CallKeeps, CallAnswers};
@@ -21,7 +20,7 @@ use usb_xfer::Any;
 pub(crate) fn pending_open(endpoint: &Endpoint<Any, Any>, line: &mut String) -> Result<(), NoMemory>
     ensures answered { (host : HostState) → CallAnswers host host endpoint.now endpoint.now
         line.old line.new result
-        (λ state e h. answer_with state (count_line (length (pending h)))) }
+        (λ state e h. answer_with state (count_line (length h.state.pending))) }
 {
     write_count(line, endpoint.pending())
 }
@@ -35,7 +34,7 @@ pub(crate) fn poll_open(
     requires stands { Stands (bus_of host.old) endpoint.old }
     ensures keeps { CallKeeps host.old host.new endpoint.old endpoint.new }
     ensures answered { CallAnswers host.old host.new endpoint.old endpoint.new
-        line.old line.new result (λ state e h. poll_on state e (slice_get h.tickets h.taken)) }
+        line.old line.new result (λ state e h. poll_on state e (slice_get h.state.pending 0)) }
 {
     if endpoint.pending() == 0 {
         return write_condition(line);

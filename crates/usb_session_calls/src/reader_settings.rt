@@ -10,7 +10,6 @@ ghost use Rattle.usb_session_streams.specs.Reads.{is_end_line};
 ghost use Rattle.usb_session_streams.specs.Needs.{bars_need};
 ghost use Rattle.usb_session_calls.specs.Readers.{num_on, timeout_on, cancel_reader_on};
 ghost use Rattle.usb_session_calls.specs.Reads.{consume_on, consume_end_on};
-ghost use Rattle.usb_session_calls.specs.State.{state_of_reader};
 ghost use Rattle.usb_session_calls.specs.Answer.{answer_with};
 ghost use Rattle.usb_session_calls.specs.OpenCalls.{CallKeeps};
 ghost use Rattle.usb_session_calls.specs.ReaderCalls.{ReaderAnswers};
@@ -154,7 +153,7 @@ fn is_at_end(reader: &EndpointRead<Any>) -> bool
 pub(crate) fn is_end_open(reader: &EndpointRead<Any>, line: &mut String) -> Result<(), NoMemory>
     ensures answered { (host : HostState) → ReaderAnswers host host reader.now
         reader.now line.old line.new result
-        (λ state r at. answer_with state (is_end_line (is_end (state_of_reader at)))) }
+        (λ state r at. answer_with state (is_end_line (is_end at.state))) }
 {
     write_is_end(line, is_at_end(reader))
 }

@@ -83,7 +83,7 @@ pub(crate) fn read_open(
         reader.new.endpoint }
     ensures answered { ReaderAnswers host.old host.new reader.old
         reader.new line.old line.new result
-        (λ state r at. read_on state framing r most at.bare.timeout
+        (λ state r at. read_on state framing r most at.state.timeout
         (given_line read_line) at) }
 {
     if bars_read(host, framing, reader) {

@@ -24,7 +24,7 @@ pub(crate) fn wait_open(
     ensures keeps { CallKeeps host.old host.new endpoint.old endpoint.new }
     ensures answered { CallAnswers host.old host.new endpoint.old endpoint.new
         line.old line.new result
-        (λ state e h. wait_on state e timeout (slice_get h.tickets h.taken)) }
+        (λ state e h. wait_on state e timeout (slice_get h.state.pending 0)) }
 {
     if endpoint.pending() == 0 {
         return write_condition(line);

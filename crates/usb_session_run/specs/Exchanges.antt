@@ -8,27 +8,27 @@ use Rattle.usb_session_streams.specs.Told.{WriterCalls}
 use Rattle.usb_io.specs.Messages.{messages, AreFirstOf}
 use Rattle.usb_io.specs.Exchange.{Exchange, OnlyEchoes}
 use Rattle.usb_session_calls.specs.Names.{named}
-use Rattle.usb_session_calls.specs.State.{State, Reader, Writer}
+use Rattle.usb_session_calls.specs.State.{State, Reader, Writer, tickets_at, endpoint_of_reader, endpoint_of_writer}
 use Rattle.usb_session.specs.Output.{start, behind}
 
 -- the endpoints of a writer and of a reader, with all tickets of both
 abbrev pub exchange_of : Writer → Reader → Exchange
 exchange_of x y =
     record {
-      device = x.endpoint.device;
-      output = x.endpoint.address;
-      input = y.endpoint.address;
-      outs = x.endpoint.tickets;
-      ins = y.endpoint.tickets;
+      device = x.state.endpoint.device;
+      output = x.state.endpoint.address;
+      input = y.state.endpoint.address;
+      outs = tickets_at (endpoint_of_writer x);
+      ins = tickets_at (endpoint_of_reader y);
     }
 
 -- a writer, with its calls, and a reader are on one device, whose endpoints have one maximum; on these endpoints nothing happened
 -- yet but submissions by the two, reaps, and echoes from the one to the other; and no flush found bytes that were not submitted
 pub record OnlyExchange (past : List Event) (x : Writer) (y : Reader) (c : WriterCalls) : Type 0 where
-  pub device : y.endpoint.device ≡ x.endpoint.device
-  pub maximum : y.endpoint.maximum ≡ x.endpoint.maximum
+  pub device : y.state.endpoint.device ≡ x.state.endpoint.device
+  pub maximum : y.state.endpoint.maximum ≡ x.state.endpoint.maximum
   pub echoes : OnlyEchoes (exchange_of x y) past
-  pub whole : NoMidFlush x.endpoint.maximum x.bare.size c.accepted
+  pub whole : NoMidFlush x.state.endpoint.maximum x.state.size c.accepted
 
 -- then the messages that the reader ended are the first of those that the writer ended. (The writer alone used its endpoint, and
 -- the reader is framed)
