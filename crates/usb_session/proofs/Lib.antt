@@ -41,8 +41,9 @@ pub mod WorkedStreams
 pub mod TreeAnswers
 pub mod TreeLines
 pub mod OtherLines
-pub mod StreamPlaces
-pub mod WritersLeave
+pub mod Barred
+pub mod TakenTickets
+pub mod StreamsLeave
 pub mod LinesBehind
 pub mod StreamsKeep
 pub mod ReadersKeep
@@ -53,7 +54,6 @@ pub mod FramedScripts
 pub mod Moves
 pub mod WriterMoves
 pub mod WriterCloses
-pub mod ReadersLeave
 pub mod WrittenWriters
 pub mod WrittenLaw
 pub mod PrintedLaw
