@@ -43,19 +43,19 @@ use Rattle.usb_session_calls.specs.declared.call.ControlCall.{ControlCall}
 use Rattle.usb_session_calls.specs.declared.call.FutureCall.{FutureCall}
 use Rattle.usb_session_calls.specs.declared.call.FutureCall.TheVariants as futures
 use Rattle.usb_session_calls.specs.State.{State, Endpoint, with_host}
-use Rattle.usb_session_calls.specs.Answer.{Answer, condition_answer, ok_answer, error_answer, if_open, at_host}
+use Rattle.usb_session_calls.specs.Answer.{Answer, condition_answer, ok_answer, error_answer, if_open}
 use Rattle.usb_session_calls.specs.OpenAt.{DeviceAt, InterfaceAt, device_at, interface_at}
 use Rattle.usb_session.specs.Opens.{opened_as, opened_at, opened_probed, open_answer, open_path_answer}
 use Rattle.usb_session.specs.Listings.{listed, list_answer, listed_buses, buses_answer}
 use Rattle.usb_session.specs.Probes.{probed, probe_answer, looked_for, match_answer}
 use Rattle.usb_session.specs.Hotplugs.{hotplug_answer}
 use Rattle.usb_session.specs.Claims.{claimed_as, claim_on, claim_answer}
-use Rattle.usb_session_calls.specs.Clones.{with_handle, clone_device_answer, with_clone, clone_interface_answer}
-use Rattle.usb_session_calls.specs.Endpoints.{endpoint_as, endpoint_asked, endpoint_on, endpoint_answer}
+use Rattle.usb_session_calls.specs.Clones.{clone_device_answer, clone_interface_answer}
+use Rattle.usb_session_calls.specs.Endpoints.{endpoint_as, endpoint_on, endpoint_answer}
 use Rattle.usb_session_calls.specs.Polls.{took, poll_on}
 use Rattle.usb_session_calls.specs.Waits.{wait_on}
 use Rattle.usb_session_calls.specs.Closes.{close_answer, close_future_answer, close_device_answer, without_interface, close_interface_answer, release_on, release_answer}
-use Rattle.usb_session_calls.specs.Controls.{device_of_target, bars_control, target_of, control_called, control_on, on_control, request_for, request_with}
+use Rattle.usb_session_calls.specs.Controls.{device_of_target, bars_control, target_of, control_on, on_control, request_for, request_with}
 use Rattle.usb_session.specs.Futures.{with_future, start_on, start_answer, future_polled, future_waited, on_future}
 use Rattle.usb_session_calls.specs.Steps.{with_steps, stepped_all}
 use Rattle.usb_session.specs.TreeCalls.{on_tree}
@@ -143,9 +143,7 @@ claimed_as-leaves state number i (Err error) = (refl, refl)
 
 claim-leaves : (state : State) (number i : ℕ) (reattach : Bool) (x : DeviceAt) → Leaves state (claim_on state number i reattach x).state
 claim-leaves state number i reattach x =
-    let host = host_claimed state.host x.key number reattach in
-    let key = claimed_key (length state.host.interfaces) (claim_tried state.host x.opened number reattach) in
-    free-leaves state (is_free state.interfaces i) (claimed_as (with_host state host) number i key) (claimed_as-leaves (with_host state host) number i key)
+    free-leaves state _ _ (claimed_as-leaves (with_host state (host_claimed state.host x.key number reattach)) number i (claimed_key (length state.host.interfaces) (claim_tried state.host x.opened number reattach)))
 
 endpoint_as-leaves : (state : State) (e address : ℕ) (kind : TransferType) (x : InterfaceAt) (r : Result ℕ ErrorState) → Leaves state (endpoint_as state e address kind x r).state
 endpoint_as-leaves state e address kind x (Err error) = (refl, refl)
@@ -154,8 +152,7 @@ endpoint_as-leaves state e address kind x (Ok maximum) = (refl, refl)
 endpoint_on-leaves : (state : State) (e address : ℕ) (kind : TransferType) (direction : Direction) (x : InterfaceAt) → Leaves state (endpoint_on state e address kind direction x).state
 endpoint_on-leaves state e address kind direction x =
     let host = host_asked state.host x.claimed.opened in
-    free-leaves state (is_free state.endpoints e) (endpoint_asked state e address kind direction x host)
-    (endpoint_as-leaves (with_host state host) e address kind x (host_tries host x.handle.key x.claimed address kind direction))
+    free-leaves state _ _ (endpoint_as-leaves (with_host state host) e address kind x (host_tries host x.handle.key x.claimed address kind direction))
 
 start-leaves : (state : State) (n : ℕ) (target : ControlTarget) (request : TransferData) (timeout : ℕ) → Leaves state (start_answer state n target request timeout).state
 unfolding start_answer
@@ -166,11 +163,11 @@ start-leaves state n target request timeout =
 
 open-leaves : (state : State) (call : OpenCall) → is_streamed (families.Open call) ≡ false → Leaves state (on_open state call).state
 unfolding open_answer open_path_answer clone_device_answer claim_answer clone_interface_answer endpoint_answer
-open-leaves state (opens.Device d bus address) is = free-leaves state (is_free state.devices d) (opened_at state d bus address) (opened_at-leaves state d bus address)
-open-leaves state (opens.Path d path) is = free-leaves state (is_free state.devices d) (opened_probed state d (probe state.tree path)) (opened_probed-leaves state d (probe state.tree path))
-open-leaves state (opens.CloneDevice name d) is = on-leaves state (named state.devices d) _ (λ key. free-leaves state (is_free state.devices name) (ok_answer (with_handle state name key)) (refl, refl))
+open-leaves state (opens.Device d bus address) is = free-leaves state _ _ (opened_at-leaves state d bus address)
+open-leaves state (opens.Path d path) is = free-leaves state _ _ (opened_probed-leaves state d (probe state.tree path))
+open-leaves state (opens.CloneDevice name d) is = on-leaves state (named state.devices d) _ (λ key. free-leaves state _ _ (refl, refl))
 open-leaves state (opens.Claim d number i detach) is = on-leaves state (device_at state d) (claim_on state number i detach) (claim-leaves state number i detach)
-open-leaves state (opens.CloneInterface name i) is = on-leaves state (named state.interfaces i) _ (λ f. free-leaves state (is_free state.interfaces name) (ok_answer (with_clone state name f)) (refl, refl))
+open-leaves state (opens.CloneInterface name i) is = on-leaves state (named state.interfaces i) _ (λ f. free-leaves state _ _ (refl, refl))
 open-leaves state (opens.Endpoint e i address kind) is =
     let type = transfer_type_of kind in
     let direction = direction_of kind in
@@ -230,9 +227,7 @@ endpoint-leaves state e call = on-leaves state (named state.endpoints e) (endpoi
 -- control transfers
 control-leaves : (state : State) (call : ControlCall) → Leaves state (on_control state call).state
 unfolding on_control
-control-leaves state call =
-    on-leaves state (device_of_target state (target_of call)) (control_on call state) (λ n.
-    bar-leaves state (bars_control state.host.kernel.past) (at_host state (control_called call state.host n)) (refl, refl))
+control-leaves state call = on-leaves state (device_of_target state (target_of call)) (control_on call state) (λ n. bar-leaves state _ _ (refl, refl))
 
 future_polled-leaves : (state : State) (n : ℕ) (f : FutureState) (o : Option (Result (List ℕ) TransferError)) → Leaves state (future_polled state n f o).state
 future_polled-leaves state n f None = (refl, refl)
