@@ -1,4 +1,4 @@
--- What is true of a state, and of that behind a call, is so of that behind a call which may be barred: that does nothing.
+-- What is true of a state and stays true behind a call also stays so where the call may be barred, since a barred call does nothing.
 use Rattle.std.proofs.Common.{◌≡◌, Bool, true, Option, Some, None, refl}
 use Rattle.std.specs.Prelude.{if◌then◌else◌}
 use Rattle.std.proofs.lemmas.Bool.{cond_both}

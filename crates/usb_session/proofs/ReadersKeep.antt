@@ -34,7 +34,7 @@ use Rattle.usb_session_calls.specs.declared.call.ReaderCall.{ReaderCall}
 use Rattle.usb_session_calls.specs.declared.call.ReaderCall.TheVariants as readers
 use Rattle.usb_session_calls.specs.BareReaders.{bare_of}
 use Rattle.usb_session_calls.specs.State.{State, Endpoint, Reader, pending, endpoint_state, state_of_reader, tickets_of, with_host}
-use Rattle.usb_session_calls.specs.Answer.{Answer, answer_with, condition_answer, ok_answer, if_open}
+use Rattle.usb_session_calls.specs.Answer.{Answer, answer_with, condition_answer, ok_answer}
 use Rattle.usb_session_calls.specs.Submits.{has_direction}
 use Rattle.usb_session_calls.specs.Readers.{nothing_consumed, as_streamed, with_reader, reader_on, reader_answer, without_reader, inner_answer, called_endpoint, called, with_count, with_timeout, with_none, num_on, timeout_on, cancel_reader_on, closed_reader, close_reader_answer}
 use Rattle.usb_session_calls.specs.Reads.{is_until_short, consumed_with, bars_read, given_line, polled_given_line, read_as, filled_as, read_on, fill_on, read_off, consume_on, consume_end_on}
@@ -111,10 +111,10 @@ pub record ReaderLaw (At : List Event → Reader → Type 0) (Legal : List Event
       At past (off_at framing (map Byte (take n x.bare.unread)) (take n x.bare.unread) (with_read n (state_of_reader x)) x)
   pub ended : (past : List Event) (x : Reader) → is_end (state_of_reader x) ≡ true → At past x → At past (off_at UntilShort (End ∷ []) [] (without_end (state_of_reader x)) x)
 
--- it is true of each open reader
 abbrev readers_of : State → List (Option Reader)
 readers_of state = state.readers
 
+-- it is true of each open reader
 abbrev pub AllReaders : (List Event → Reader → Type 0) → State → Type 0
 AllReaders At state = EachOpen readers_of At state
 
@@ -157,13 +157,11 @@ module _ (At : List Event → Reader → Type 0) (Legal : List Event → Type 0)
       gone-keeps readers_of At law.later state (without_reader state e r x) (extends-same state.host.kernel.past) r (freed-changes state.readers r) f))
 
   -- it is closed
-  close-keeps : (state : State) (r : ℕ) → Extends state.host.kernel.past (close_reader_answer state r).state.host.kernel.past → All state → Keeps (close_reader_answer state r).state
+  close-keeps : (state : State) (r : ℕ) → All state → Extends state.host.kernel.past (close_reader_answer state r).state.host.kernel.past → Keeps (close_reader_answer state r).state
   unfolding close_reader_answer
-  close-keeps state r extends f = by (named state.readers r) extends
-    where
-      by : (o : Option Reader) → Extends state.host.kernel.past (if_open o (λ x. ok_answer (closed_reader state r x)) (condition_answer state)).state.host.kernel.past → Keeps (if_open o (λ x. ok_answer (closed_reader state r x)) (condition_answer state)).state
-      by None extends = λ legal. f
-      by (Some x) extends = λ legal. gone-keeps readers_of At law.later state (closed_reader state r x) extends r (freed-changes state.readers r) f
+  close-keeps state r f =
+      open-keeps (λ (next : State). Extends state.host.kernel.past next.host.kernel.past → Keeps next) state (λ extends legal. f) (named state.readers r) _ (λ x at extends legal.
+      gone-keeps readers_of At law.later state (closed_reader state r x) extends r (freed-changes state.readers r) f)
 
   -- a reader that is open, in a session in which what is said is true of each
   module _ (state : State) (f : All state) (r : ℕ) (x : Reader) (at : named state.readers r ≡ Some x) where
@@ -254,7 +252,7 @@ module _ (At : List Event → Reader → Type 0) (Legal : List Event → Type 0)
   call-keeps state (families.Reader r call steps) extends f = let now = with_steps state steps in applied-keeps (on_reader now r call) (on_reader-keeps now r call f)
   call-keeps state (families.Open (opens.Reader r e size)) extends f = reader-keeps state r e size f
   call-keeps state (families.Open (opens.ReaderInner e r)) extends f = inner-keeps state e r f
-  call-keeps state (families.Close (closes.Reader r)) extends f = close-keeps state r extends f
+  call-keeps state (families.Close (closes.Reader r)) extends f = close-keeps state r f extends
   call-keeps state call extends f = λ legal. left-keeps readers_of At law.later state (call_answer state call).state extends (leaves-readers state call refl) f
 
   -- and each line

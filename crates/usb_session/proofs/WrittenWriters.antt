@@ -44,7 +44,7 @@ use Rattle.usb_session_calls.specs.declared.call.WriterCall.TheVariants as write
 use Rattle.usb_session_calls.specs.BareWriters.{bare_writer, writer_with}
 use Rattle.usb_session_calls.specs.State.{State, Endpoint, Writer, endpoint_state, state_of_writer, tickets_of, with_host}
 use Rattle.usb_session.specs.WrittenScripts.{IsWritten, ScriptsAreWritten, written_by}
-use Rattle.usb_session_calls.specs.Answer.{Answer, answer_with, condition_answer, ok_answer, if_open}
+use Rattle.usb_session_calls.specs.Answer.{Answer, answer_with, condition_answer, ok_answer}
 use Rattle.usb_session_calls.specs.Submits.{has_direction}
 use Rattle.usb_session_calls.specs.Readers.{as_streamed, called_endpoint}
 use Rattle.usb_session_calls.specs.Writers.{nothing_called, with_writer, writer_on, writer_answer, without_writer, writer_inner_answer, with_transfers, with_write_timeout, closed_writer, close_writer_answer}
@@ -141,10 +141,10 @@ fresh-at past h size output c is =
       failed = ap (failures_at past) nothing ∙ sym (ap (λ (d : WriterCalls). d.failures) none.1);
     }
 
--- and so it is of each that is open
 abbrev writers_of : State → List (Option Writer)
 writers_of state = state.writers
 
+-- so it is of each that is open
 abbrev AllTell : State → Type 0
 AllTell state = EachOpen writers_of IsTelling state
 
@@ -168,13 +168,11 @@ inner-tell state e w f =
     gone-keeps writers_of IsTelling later state (without_writer state e w x) (extends-same state.host.kernel.past) w (freed-changes state.writers w) f))
 
 -- it is closed
-close-tell : (state : State) (w : ℕ) → Extends state.host.kernel.past (close_writer_answer state w).state.host.kernel.past → AllTell state → AllTell (close_writer_answer state w).state
+close-tell : (state : State) (w : ℕ) → AllTell state → Extends state.host.kernel.past (close_writer_answer state w).state.host.kernel.past → AllTell (close_writer_answer state w).state
 unfolding close_writer_answer
-close-tell state w extends f = by (named state.writers w) extends
-  where
-    by : (o : Option Writer) → Extends state.host.kernel.past (if_open o (λ x. ok_answer (closed_writer state w x)) (condition_answer state)).state.host.kernel.past → AllTell (if_open o (λ x. ok_answer (closed_writer state w x)) (condition_answer state)).state
-    by None extends = f
-    by (Some x) extends = gone-keeps writers_of IsTelling later state (closed_writer state w x) extends w (freed-changes state.writers w) f
+close-tell state w f =
+    open-keeps (λ (next : State). Extends state.host.kernel.past next.host.kernel.past → AllTell next) state (λ extends. f) (named state.writers w) _ (λ x at extends.
+    gone-keeps writers_of IsTelling later state (closed_writer state w x) extends w (freed-changes state.writers w) f)
 
 -- what is set is neither calls nor transfer size nor buffer
 set-tells : (past : List Event) (n timeout : ℕ) (x : Writer) → IsTelling past x → IsTelling past (record x { bare = record x.bare { n = n; timeout = timeout } })
@@ -293,7 +291,7 @@ unfolding call_answer
 call-tell state (families.Writer w call steps) extends f = let now = with_steps state steps in applied-tell (on_writer now w call) (on_writer-tell now w call f)
 call-tell state (families.Open (opens.Writer w e size)) extends f = writer-tell state w e size f
 call-tell state (families.Open (opens.WriterInner e w)) extends f = inner-tell state e w f
-call-tell state (families.Close (closes.Writer w)) extends f = close-tell state w extends f
+call-tell state (families.Close (closes.Writer w)) extends f = close-tell state w f extends
 call-tell state call extends f = left-keeps writers_of IsTelling later state (call_answer state call).state extends (leaves-writers state call refl) f
 
 -- and each line
@@ -307,7 +305,7 @@ start-tells items = none-open (IsTelling [])
 
 pub tell-at : ScriptsGoOn → (items before : List Item) → AllTell (behind (start items) before)
 tell-at go items before =
-    behind-keeps AllTell (λ past. Unit {0}) (record { before = λ old new extends legal. tt; first = start-tells; line = λ state line extends legal f. line-tells state line extends f }) go items before tt
+    behind-keeps AllTell (λ past. Unit {0}) (record { before = λ old new extends legal. tt; first = start-tells; line = λ state line extends legal. line-tells state line extends }) go items before tt
 
 pub tell-by : ScriptsGoOn → ScriptsAreWritten
 tell-by go items before after all w x c at is = is-written (past_of (behind (start items) before)) x c (tell-at go items before w x at c is)
