@@ -1,9 +1,9 @@
 -- What a line does.
-use Rattle.std.proofs.Common.{◌≡◌, ◌≢◌, ℕ, ◌≤◌, Bool, true, false, List, [], ◌∷◌, ◌++◌, map, codes, length, Option, Some, None, Result, Ok, Err, refl, ap, sym, ◌∙◌, subst, slice_get}
+use Rattle.std.proofs.Common.{◌≡◌, ◌≢◌, ℕ, ◌≤◌, Bool, true, false, List, [], ◌∷◌, ◌++◌, map, codes, length, Option, Some, None, Result, Ok, Err, inl, inr, refl, ap, sym, ◌∙◌, subst, slice_get}
 use Rattle.std.specs.Prelude.{nat_eq, if◌then◌else◌}
 use Rattle.std.specs.List.{starts_with}
 use Rattle.std.specs.Option.{option_map}
-use Rattle.std.proofs.lemmas.Bool.{cond_both}
+use Rattle.std.proofs.lemmas.Bool.{cases_eq, cond_both}
 use Rattle.std.proofs.lemmas.Option.{none-some, same_Some}
 use Rattle.usb_xfer.specs.BufferState.{BufferState}
 use Rattle.usb_xfer.specs.declared.transfer.Completion.{Completion}
@@ -23,8 +23,9 @@ use Rattle.usb_device_host.proofs.StartedLemmas.{Parts, AddsTaken}
 use Rattle.usb_device.specs.Futures.{FutureState}
 use Rattle.usb_session_text.specs.Calls.{ok_line, condition_line, error_line, result_line}
 use Rattle.usb_session_text.specs.Completions.{done_line}
-use Rattle.usb_session_calls.specs.Names.{named, is_free, freed}
+use Rattle.usb_session_calls.specs.Names.{named, is_free, freed, change_named}
 use Rattle.usb_session_calls.specs.EndpointNames.{EndpointName, Own, OfReader, OfWriter, endpoint_under}
+use Rattle.usb_session_calls.proofs.NameLemmas.{named-change_same, named-change_other}
 use Rattle.usb_session_calls.proofs.EndpointNameLemmas.{Changed, ChangedAt, own-changed, reader-changed, writer-changed}
 use Rattle.usb_session_calls.specs.State.{State, Endpoint, Reader, Writer, endpoint_state, tickets_of, with_host}
 use Rattle.usb_session_calls.specs.Answer.{Answer, answer_with, condition_answer, ok_answer, error_answer, silent, if_open}
@@ -36,11 +37,21 @@ use Rattle.usb_session.specs.Accounts.{TookFew}
 use Rattle.usb_session.specs.Served.{ClosedEndpoint, closed_as, closed_under}
 use Rattle.usb_session.specs.ControlAnswers.{listed}
 
+-- how many names there are under which endpoints are open: their own, those of readers and those of writers
+pub record NameCounts : Type 0 where
+  pub own : ℕ
+  pub readers : ℕ
+  pub writers : ℕ
+
+abbrev pub name_counts : State → NameCounts
+name_counts state = record { own = length state.endpoints; readers = length state.readers; writers = length state.writers }
+
 -- the host went on, and no endpoint or future was opened or closed, and no ticket submitted or taken
 pub record Quiet (old new : State) : Type 0 where
   pub keeps : KeepsTickets old.host new.host
   pub count : KeepsCount old.host new.host
   pub endpoints : (e : EndpointName) → endpoint_under new e ≡ endpoint_under old e
+  pub names : name_counts new ≡ name_counts old
   pub futures : new.futures ≡ old.futures
 
 -- a future is open under a name no more
@@ -59,15 +70,14 @@ says_done line = starts_with nat_eq line (codes "done")
 pub record Changes (old new : State) (host : HostState) (e : EndpointName) (o : Option Endpoint) : Type 0 where
   pub host_is : new.host ≡ host
   pub endpoints : Changed (endpoint_under old) (endpoint_under new) e o
+  pub names : name_counts new ≡ name_counts old
   pub futures : new.futures ≡ old.futures
 
--- the endpoint of one name is open under another, where nothing was
+-- the endpoint of one name is open under another, where nothing was: it is taken out, and then put there
 pub record MovesTo (old new : State) (from to : EndpointName) (g : Endpoint) : Type 0 where
-  pub host_is : new.host ≡ old.host
-  pub here : endpoint_under new to ≡ Some g
-  pub gone : endpoint_under new from ≡ None
-  pub others : (d : EndpointName) → d ≢ from → d ≢ to → endpoint_under new d ≡ endpoint_under old d
-  pub futures : new.futures ≡ old.futures
+  pub mid : State
+  pub gone : Changes old mid old.host from None
+  pub put : Changes mid new old.host to (Some g)
 
 -- the name of a reader or a writer
 abbrev pub IsStream : EndpointName → Type 0
@@ -162,27 +172,29 @@ quiet-then {a} {b} {c} first second =
       keeps = on-then a.host b.host c.host first.keeps second.keeps;
       count = count-trans a.host b.host c.host first.count second.count;
       endpoints = λ e. second.endpoints e ∙ first.endpoints e;
+      names = second.names ∙ first.names;
       futures = second.futures ∙ first.futures;
     }
 
 -- journal and tickets are as they were
-pub quiet-aside : (old new : State) → new.host.kernel.past ≡ old.host.kernel.past → new.host.tickets ≡ old.host.tickets → ((e : EndpointName) → endpoint_under new e ≡ endpoint_under old e) → new.futures ≡ old.futures → Quiet old new
-quiet-aside old new past same endpoints futures =
+pub quiet-aside : (old new : State) → new.host.kernel.past ≡ old.host.kernel.past → new.host.tickets ≡ old.host.tickets → ((e : EndpointName) → endpoint_under new e ≡ endpoint_under old e) → name_counts new ≡ name_counts old → new.futures ≡ old.futures → Quiet old new
+quiet-aside old new past same endpoints names futures =
     record {
       keeps = on-kept old.host new.host past same;
       count = record { count = ap (λ l. length l) same; past = ap (λ p. length (tickets p)) past };
       endpoints = endpoints;
+      names = names;
       futures = futures;
     }
 
 pub quiet-same : (state : State) → Quiet state state
-quiet-same state = quiet-aside state state refl refl (λ e. refl) refl
+quiet-same state = quiet-aside state state refl refl (λ e. refl) refl refl
 
 quiet-rested : (state : State) → Quiet state (steps_applied state)
-quiet-rested state = record { keeps = on-rest state.host; count = rest-count state.host; endpoints = λ e. refl; futures = refl }
+quiet-rested state = record { keeps = on-rest state.host; count = rest-count state.host; endpoints = λ e. refl; names = refl; futures = refl }
 
 pub quiet-lent : (state : State) (steps : List KernelStep) → Quiet state (with_steps state steps)
-quiet-lent state steps = quiet-aside state (with_steps state steps) refl refl (λ e. refl) refl
+quiet-lent state steps = quiet-aside state (with_steps state steps) refl refl (λ e. refl) refl refl
 
 pub quiet-stepped : (state : State) (steps : List KernelStep) → Quiet state (stepped_all state steps)
 unfolding stepped_all
@@ -221,15 +233,47 @@ closing-does {few} state e lines (Some x) its a without here none same other cha
 abbrev pub Closing : (State → ℕ → State) → (ℕ → EndpointName) → Type 0
 Closing act name = (state : State) (n : ℕ) (lines : EndpointName → List (List ℕ)) → Acts (Unit {0}) (silent (act state n)) state (closed_under state lines (name n)) []
 
--- what becomes of the endpoints of a state where the names of one kind changed
-pub own-names : (state : State) (after : List (Option Endpoint)) (e : ℕ) (o : Option Endpoint) → ChangedAt state.endpoints after e o → Changed (endpoint_under state) (endpoint_under (record state { endpoints = after })) (Own e) o
-own-names state after e o c = own-changed (λ (x : Reader). x.endpoint) (λ (x : Writer). x.endpoint) state.endpoints state.readers state.writers after e o c
+-- a state where what is open under the names of one kind changed, and the host
+pub own-changes : (state : State) (host : HostState) (after : List (Option Endpoint)) (e : ℕ) (o : Option Endpoint) → ChangedAt state.endpoints after e o → Changes state (record state { host = host; endpoints = after }) host (Own e) o
+own-changes state host after e o c =
+    record {
+      host_is = refl;
+      endpoints = own-changed (λ (x : Reader). x.endpoint) (λ (x : Writer). x.endpoint) state.endpoints state.readers state.writers after e o c;
+      names = ap (λ n. record { own = n; readers = length state.readers; writers = length state.writers }) c.length;
+      futures = refl;
+    }
 
-pub reader-names : (state : State) (after : List (Option Reader)) (r : ℕ) (o : Option Reader) → ChangedAt state.readers after r o → Changed (endpoint_under state) (endpoint_under (record state { readers = after })) (OfReader r) (option_map (λ (x : Reader). x.endpoint) o)
-reader-names state after r o c = reader-changed (λ (x : Reader). x.endpoint) (λ (x : Writer). x.endpoint) state.endpoints state.readers state.writers after r o c
+pub reader-changes : (state : State) (host : HostState) (after : List (Option Reader)) (r : ℕ) (o : Option Reader) → ChangedAt state.readers after r o
+    → Changes state (record state { host = host; readers = after }) host (OfReader r) (option_map (λ (x : Reader). x.endpoint) o)
+reader-changes state host after r o c =
+    record {
+      host_is = refl;
+      endpoints = reader-changed (λ (x : Reader). x.endpoint) (λ (x : Writer). x.endpoint) state.endpoints state.readers state.writers after r o c;
+      names = ap (λ n. record { own = length state.endpoints; readers = n; writers = length state.writers }) c.length;
+      futures = refl;
+    }
 
-pub writer-names : (state : State) (after : List (Option Writer)) (w : ℕ) (o : Option Writer) → ChangedAt state.writers after w o → Changed (endpoint_under state) (endpoint_under (record state { writers = after })) (OfWriter w) (option_map (λ (x : Writer). x.endpoint) o)
-writer-names state after w o c = writer-changed (λ (x : Reader). x.endpoint) (λ (x : Writer). x.endpoint) state.endpoints state.readers state.writers after w o c
+pub writer-changes : (state : State) (host : HostState) (after : List (Option Writer)) (w : ℕ) (o : Option Writer) → ChangedAt state.writers after w o
+    → Changes state (record state { host = host; writers = after }) host (OfWriter w) (option_map (λ (x : Writer). x.endpoint) o)
+writer-changes state host after w o c =
+    record {
+      host_is = refl;
+      endpoints = writer-changed (λ (x : Reader). x.endpoint) (λ (x : Writer). x.endpoint) state.endpoints state.readers state.writers after w o c;
+      names = ap (λ n. record { own = length state.endpoints; readers = length state.readers; writers = n }) c.length;
+      futures = refl;
+    }
+
+-- a change that keeps a part of what is open under a name
+map-kept : {X Y : Type 0} (v : X → Y) (f : X → X) → ((x : X) → v (f x) ≡ v x) → (o : Option X) → option_map v (option_map f o) ≡ option_map v o
+map-kept v f same None = refl
+map-kept v f same (Some x) = ap (λ y. Some y) (same x)
+
+pub kept-change : {X Y : Type 0} (v : X → Y) (f : X → X) → ((x : X) → v (f x) ≡ v x) → (xs : List (Option X)) (n m : ℕ) → option_map v (named (change_named f xs n) m) ≡ option_map v (named xs m)
+kept-change v f same xs n m =
+    elim (cases_eq m n) [
+      | inl is ↦ ap (λ k. option_map v (named (change_named f xs n) k)) is ∙ ap (option_map v) (named-change_same f xs n) ∙ map-kept v f same (named xs n) ∙ ap (λ k. option_map v (named xs k)) (sym is)
+      | inr apart ↦ ap (option_map v) (named-change_other f xs n m apart)
+    ]
 
 -- it is done, or refused
 pub result-other : (r : Result (Unit {0}) ErrorState) → says_done (result_line r) ≡ false

@@ -13,7 +13,7 @@ use Rattle.usb_kernel.specs.Completions.{completion}
 use Rattle.usb_kernel.proofs.Extends.{completion-stays}
 use Rattle.usb_kernel.specs.TransferCompletions.{completion_of, transfer_completion}
 use Rattle.usb_session_text.specs.Completions.{done_line, polled_line}
-use Rattle.usb_session_calls.specs.Names.{named}
+use Rattle.usb_session_calls.specs.EndpointNames.{EndpointName, endpoint_under}
 use Rattle.usb_session_calls.specs.State.{State, Endpoint}
 use Rattle.usb_session_calls.specs.Answer.{Answer}
 use Rattle.usb_session.specs.Served.{taken_under, was_streamed_under, lines_behind}
@@ -74,18 +74,18 @@ taken_in None = []
 taken_in (Some h) = taken_of h
 
 -- of what is open under a name now, and of which no reader or writer was made, an answer took no ticket more; or it took one, and printed its completion
-pub data Takes (state : State) (a : Answer) (e : ℕ) (g : Endpoint) : Type 0 where
-  none : was_streamed_under state e ≡ false → g.taken ≡ taken_under state e → taken_of g ≡ taken_in (named state.endpoints e) → Takes state a e g
-  next : (t : ℕ) (c : Completion) → was_streamed_under state e ≡ false → g.taken ≡ suc (taken_under state e) → taken_of g ≡ taken_in (named state.endpoints e) ++ t ∷ [] → transfer_completion a.state.host.kernel.past t ≡ Some c → a.line ≡ done_line c → Takes state a e g
+pub data Takes (state : State) (a : Answer) (e : EndpointName) (g : Endpoint) : Type 0 where
+  none : was_streamed_under state e ≡ false → g.taken ≡ taken_under state e → taken_of g ≡ taken_in (endpoint_under state e) → Takes state a e g
+  next : (t : ℕ) (c : Completion) → was_streamed_under state e ≡ false → g.taken ≡ suc (taken_under state e) → taken_of g ≡ taken_in (endpoint_under state e) ++ t ∷ [] → transfer_completion a.state.host.kernel.past t ≡ Some c → a.line ≡ done_line c → Takes state a e g
 
 -- the lines of all that is open, and of which no reader or writer was made
-abbrev pub AllPrint : State → (ℕ → List (List ℕ)) → Type 0
-AllPrint state lines = (e : ℕ) (h : Endpoint) → named state.endpoints e ≡ Some h → h.was_streamed ≡ false → Prints state.host.kernel.past (taken_of h) (lines e)
+abbrev pub AllPrint : State → (EndpointName → List (List ℕ)) → Type 0
+AllPrint state lines = (e : EndpointName) (h : Endpoint) → endpoint_under state e ≡ Some h → h.was_streamed ≡ false → Prints state.host.kernel.past (taken_of h) (lines e)
 
-pub count-under : (state : State) (e : ℕ) (h : Endpoint) → named state.endpoints e ≡ Some h → taken_under state e ≡ h.taken
+pub count-under : (state : State) (e : EndpointName) (h : Endpoint) → endpoint_under state e ≡ Some h → taken_under state e ≡ h.taken
 count-under state e h is = ap (λ (o : Option Endpoint). option_map_or (λ (x : Endpoint). x.taken) o 0) is
 
-pub read-under : (state : State) (e : ℕ) (h : Endpoint) → named state.endpoints e ≡ Some h → was_streamed_under state e ≡ h.was_streamed
+pub read-under : (state : State) (e : EndpointName) (h : Endpoint) → endpoint_under state e ≡ Some h → was_streamed_under state e ≡ h.was_streamed
 read-under state e h is = ap (λ (o : Option Endpoint). option_map_or (λ (x : Endpoint). x.was_streamed) o false) is
 
 prints-none : (past : List Event) → Prints past [] []
@@ -104,20 +104,20 @@ not_more n m same = grind (arith, nat_tests)
 pub one_more : (n m : ℕ) → m ≡ suc n → nat_lt n m ≡ true
 one_more n m more = grind (arith, nat_tests)
 
-one-prints : (state : State) (a : Answer) (lines : ℕ → List (List ℕ)) (e : ℕ) (g : Endpoint) → Extends state.host.kernel.past a.state.host.kernel.past → named a.state.endpoints e ≡ Some g → g.was_streamed ≡ false → AllPrint state lines → Takes state a e g → Prints a.state.host.kernel.past (taken_of g) (lines_behind state a lines e)
+one-prints : (state : State) (a : Answer) (lines : EndpointName → List (List ℕ)) (e : EndpointName) (g : Endpoint) → Extends state.host.kernel.past a.state.host.kernel.past → endpoint_under a.state e ≡ Some g → g.was_streamed ≡ false → AllPrint state lines → Takes state a e g → Prints a.state.host.kernel.past (taken_of g) (lines_behind state a lines e)
 one-prints state a lines e g extends is unread all takes = by takes
   where
     past : List Event
     past = a.state.host.kernel.past
 
     was : List ℕ
-    was = taken_in (named state.endpoints e)
+    was = taken_in (endpoint_under state e)
 
     printed : List (List ℕ)
-    printed = if is_none (named state.endpoints e) then [] else lines e
+    printed = if is_none (endpoint_under state e) then [] else lines e
 
     before : was_streamed_under state e ≡ false → Prints past was printed
-    before none_read = prints-stay state.host.kernel.past past was printed extends (prints-in state.host.kernel.past (lines e) (named state.endpoints e) (λ h at. all e h at (sym (read-under state e h at) ∙ none_read)))
+    before none_read = prints-stay state.host.kernel.past past was printed extends (prints-in state.host.kernel.past (lines e) (endpoint_under state e) (λ h at. all e h at (sym (read-under state e h at) ∙ none_read)))
 
     now : taken_under a.state e ≡ g.taken
     now = count-under a.state e g is
@@ -134,5 +134,5 @@ one-prints state a lines e g extends is unread all takes = by takes
         prints-are past (was ++ t ∷ []) (taken_of g) (printed ++ a.line ∷ []) (lines_behind state a lines e) same (rw (more, unread_now) refl)
         (prints-more past was t printed a.line (record { completion = c; is = came }) (line ∙ ap polled_line (sym came)) (before none_read))
 
-pub all-print : (state : State) (a : Answer) (lines : ℕ → List (List ℕ)) → Extends state.host.kernel.past a.state.host.kernel.past → AllPrint state lines → ((e : ℕ) (g : Endpoint) → named a.state.endpoints e ≡ Some g → g.was_streamed ≡ false → Takes state a e g) → AllPrint a.state (lines_behind state a lines)
+pub all-print : (state : State) (a : Answer) (lines : EndpointName → List (List ℕ)) → Extends state.host.kernel.past a.state.host.kernel.past → AllPrint state lines → ((e : EndpointName) (g : Endpoint) → endpoint_under a.state e ≡ Some g → g.was_streamed ≡ false → Takes state a e g) → AllPrint a.state (lines_behind state a lines)
 all-print state a lines extends all takes e g is unread = one-prints state a lines e g extends is unread all (takes e g is unread)
