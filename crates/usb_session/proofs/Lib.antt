@@ -67,4 +67,5 @@ pub mod WorkedHanded
 pub mod WriterCalled
 pub mod Lent
 pub mod TakenOut
-pub mod OpenPlaces
+pub mod KeptNames
+pub mod Replaced
