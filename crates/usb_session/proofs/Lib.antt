@@ -22,7 +22,6 @@ pub mod OrderLemmas
 pub mod PlaceLemmas
 pub mod PrintLemmas
 pub mod ReaderCalled
-pub mod ReaderCloses
 pub mod ReaderMoves
 pub mod ReaderDoes
 pub mod RunLemmas
@@ -52,7 +51,6 @@ pub mod FramedBehind
 pub mod FramedScripts
 pub mod Moves
 pub mod WriterMoves
-pub mod WriterCloses
 pub mod ReadersLeave
 pub mod WrittenWriters
 pub mod WrittenLaw
