@@ -7,8 +7,8 @@ use Rattle.usb_io.specs.Readers.{ReaderState}
 use Rattle.usb_io.specs.Writers.{WriterState}
 use Rattle.usb_session_calls.specs.EndpointNames.{EndpointName, Own, OfReader, OfWriter}
 use Rattle.usb_session_calls.specs.SessionState.{SessionState, open_under}
-use Rattle.usb_session_calls.proofs.Called.{SameCounts, with_open}
-use Rattle.usb_session_calls.proofs.EndpointNameLemmas.{Changed, ChangedAt, own-changed, reader-changed, writer-changed}
+use Rattle.usb_session_calls.proofs.Called.{SameCounts, with_open, own-open, reader-open, writer-open}
+use Rattle.usb_session_calls.proofs.EndpointNameLemmas.{Changed, ChangedAt}
 
 -- the endpoint of a reader and of a writer
 abbrev pub reader_endpoint : ReaderState → EndpointState
@@ -27,19 +27,19 @@ module _ (s : SessionState) (n : ℕ) where
   own-replaces after o change =
       record {
         counts = record { endpoints = change.length; readers = refl; writers = refl };
-        changed = own-changed reader_endpoint writer_endpoint s.endpoints s.readers s.writers after n o change;
+        changed = own-open s s.host n after o change;
       }
 
   pub reader-replaces : (after : List (Option ReaderState)) (o : Option ReaderState) → ChangedAt s.readers after n o → Replaces s s.endpoints after s.writers (OfReader n) (option_map reader_endpoint o)
   reader-replaces after o change =
       record {
         counts = record { endpoints = refl; readers = change.length; writers = refl };
-        changed = reader-changed reader_endpoint writer_endpoint s.endpoints s.readers s.writers after n o change;
+        changed = reader-open s s.host n after o change;
       }
 
   pub writer-replaces : (after : List (Option WriterState)) (o : Option WriterState) → ChangedAt s.writers after n o → Replaces s s.endpoints s.readers after (OfWriter n) (option_map writer_endpoint o)
   writer-replaces after o change =
       record {
         counts = record { endpoints = refl; readers = refl; writers = change.length };
-        changed = writer-changed reader_endpoint writer_endpoint s.endpoints s.readers s.writers after n o change;
+        changed = writer-open s s.host n after o change;
       }
