@@ -22,7 +22,6 @@ pub mod OrderLemmas
 pub mod PlaceLemmas
 pub mod PrintLemmas
 pub mod ReaderCalled
-pub mod ReaderCloses
 pub mod ReaderMoves
 pub mod ReaderDoes
 pub mod RunLemmas
@@ -53,7 +52,7 @@ pub mod FramedBehind
 pub mod FramedScripts
 pub mod Moves
 pub mod WriterMoves
-pub mod WriterCloses
+
 pub mod WrittenWriters
 pub mod WrittenLaw
 pub mod PrintedLaw
@@ -67,4 +66,5 @@ pub mod WorkedHanded
 pub mod WriterCalled
 pub mod Lent
 pub mod TakenOut
-pub mod OpenPlaces
+pub mod KeptNames
+pub mod Replaced
