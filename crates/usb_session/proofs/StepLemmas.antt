@@ -38,7 +38,7 @@ use Rattle.usb_session_calls.proofs.NameLemmas.{named-freed, named-freed_other, 
 use Rattle.usb_session_calls.proofs.EndpointNameLemmas.{Changed, changed-back, changed-gone}
 use Rattle.usb_session.proofs.TimesLemmas.{one, times, times-append, among, among-once, times_open, times_awaited, listed-once, listed-apart, open-change, open-put, open-same, open-one, open-two, awaited-freed, awaited-set, awaited-one}
 use Rattle.usb_session.proofs.OrderLemmas.{IsHeld, Stays, held-stays, stays-keeps, leaves-is, leaves-held, InOrder, order-few, order-stays, order-keeps, order-fresh, order-push, order-within, order-takes, front-held, front-stands, pending-all, stays-same, left_by, LeavesTickets, goes-keeps, goes-then, goes-taken, goes-left, IsClosed, closed-goes, closed-order, left-stays}
-use Rattle.usb_session.proofs.Does.{Quiet, quiet-same, Changes, MovesTo, IsStream, name_counts, Closing, ControlMove, Handed, Parted, handed_of, handed-append, handed-handed, handed-parted, Acts, SameTickets, without_future_of, goes, opens, submits, fits, reads, starts, controls, frees, ends, takes, closes, moves}
+use Rattle.usb_session.proofs.Does.{Quiet, quiet-same, Changes, MovesTo, IsStream, name_counts, Closing, ControlMove, Handed, Parted, handed_of, handed-append, handed-handed, handed-parted, Acts, SameTickets, without_future_of, at-host, goes, opens, submits, fits, reads, starts, controls, frees, ends, takes, closes, moves}
 use Rattle.usb_session.proofs.ControlLines.{parted_by, control_moves, moves_parting, future_closed_under-does}
 use Rattle.usb_session.proofs.EveryLine.{answer-does}
 
@@ -139,10 +139,6 @@ Ordered host e h = InOrder host h
 
 abbrev WasRead : EndpointName → Endpoint → Type 0
 WasRead e h = IsStream e → h.was_streamed ≡ true
-
--- the state behind a change has the host that the change names
-pub at-host : {old new : State} {host : HostState} {e : EndpointName} {o : Option Endpoint} (P : State → Type 0) → Changes old new host e o → P (with_host new host) → P new
-at-host {new = new} P changes now = subst P (ap (with_host new) (sym changes.host_is)) now
 
 -- the host goes on
 pub step-quiet : {state next : State} → Inv state → Quiet state next → Step state next [] []
