@@ -1,7 +1,8 @@
--- A call of a reader or a writer submits and takes tickets of the endpoint at its place, and leads to what it left of the host and the endpoint.
-use Rattle.std.proofs.Common.{◌≡◌, ℕ, ◌≤◌, ◌+◌, ◌-◌, zero, suc, arith, false, List, [], ◌∷◌, ◌++◌, length, drop, length-append, length-drop, Option, Some, None, refl, ap, sym, ◌∙◌, slice_get, append_assoc, append-nil}
+-- A call of a reader or a writer submits and takes tickets of the endpoint that it holds, and leads to what it left of the host and the endpoint.
+use Rattle.std.proofs.Common.{◌≡◌, ℕ, ◌≤◌, ◌+◌, ◌-◌, zero, suc, arith, false, List, [], ◌∷◌, ◌++◌, length, drop, length-append, length-drop, Option, Some, None, inl, inr, refl, ap, sym, ◌∙◌, slice_get, append_assoc, append-nil}
 use Rattle.std.specs.Option.{option_map}
 use Rattle.std.proofs.lemmas.List.{drop-append-le}
+use Rattle.std.proofs.lemmas.Option.{none-some}
 use Rattle.usb_xfer.specs.BufferState.{BufferState}
 use Rattle.usb_kernel.specs.Tickets.{tickets}
 use Rattle.usb_device_endpoint.specs.EndpointState.{EndpointState}
@@ -14,14 +15,15 @@ use Rattle.usb_device_host.proofs.CountLemmas.{entered-count, waited-count, take
 use Rattle.usb_device_host.proofs.FollowLemmas.{on-waited}
 use Rattle.usb_session_streams.specs.Numbers.{numbers_from}
 use Rattle.usb_session_calls.specs.Names.{named, change_named}
-use Rattle.usb_session_calls.proofs.NameLemmas.{named-change_same, change-change, put-changed, put-back}
-use Rattle.usb_session_calls.specs.State.{State, Endpoint, endpoint_state, pending, tickets_of}
+use Rattle.usb_session_calls.specs.EndpointNames.{EndpointName, Own, OfReader, OfWriter, endpoint_under}
+use Rattle.usb_session_calls.proofs.EndpointNameLemmas.{Changed, change-changes, cases_name}
+use Rattle.usb_session_calls.specs.State.{State, Endpoint, Reader, Writer, endpoint_state, pending, tickets_of}
 use Rattle.usb_session_calls.specs.Readers.{called_endpoint}
 use Rattle.usb_session_calls.specs.Answer.{Answer}
-use Rattle.usb_session_calls.specs.Submits.{submitted, with_submission}
-use Rattle.usb_session_calls.specs.Polls.{one_taken, taken_from}
+use Rattle.usb_session_calls.specs.Submits.{with_submission}
+use Rattle.usb_session_calls.specs.Polls.{one_taken}
 use Rattle.usb_session.specs.Accounts.{TookFew}
-use Rattle.usb_session.proofs.Does.{Quiet, Acts, Does, says_done, goes, submits, fits, reads, ends, quiet-aside}
+use Rattle.usb_session.proofs.Does.{Acts, Changes, Does, IsStream, says_done, goes, submits, fits, reads, ends, quiet-aside, own-changes, reader-changes, writer-changes}
 
 -- a ticket that stands next
 front-next : (xs : List ℕ) (n t : ℕ) (ts : List ℕ) → drop n xs ≡ t ∷ ts → (slice_get xs n ≡ Some t) × (drop (n + 1) xs ≡ ts) × (n + 1 ≤ length xs)
@@ -41,11 +43,47 @@ count_in host = length (tickets host.kernel.past)
 abbrev by_now : Endpoint → List ℕ → ℕ → Endpoint
 by_now h tickets taken = record h { tickets = tickets; taken = taken }
 
-abbrev at_call : State → ℕ → Endpoint → HostState → State
-at_call state e g host = record state { host = host; endpoints = change_named (λ (x : Endpoint). g) state.endpoints e }
+abbrev put_endpoint : State → EndpointName → Endpoint → State
+put_endpoint state (Own e) g = record state { endpoints = change_named (λ (x : Endpoint). g) state.endpoints e }
+put_endpoint state (OfReader r) g = record state { readers = change_named (λ (x : Reader). record x { endpoint = g }) state.readers r }
+put_endpoint state (OfWriter w) g = record state { writers = change_named (λ (x : Writer). record x { endpoint = g }) state.writers w }
+
+abbrev at_call : State → EndpointName → Endpoint → HostState → State
+at_call state e g host = record (put_endpoint state e g) { host = host }
+
+-- what holds an endpoint that is open
+held-by : {X Y : Type 0} (f : X → Y) (o : Option X) (y : Y) → option_map f o ≡ Some y → (x : X) × (o ≡ Some x)
+held-by f None y is = absurd (none-some y is)
+held-by f (Some x) y is = (x, refl)
+
+at-changes : (state : State) (e : EndpointName) (h g : Endpoint) (host : HostState) → endpoint_under state e ≡ Some h → Changes state (at_call state e g host) host e (Some g)
+at-changes state (Own e) h g host here = own-changes state host (change_named (λ (x : Endpoint). g) state.endpoints e) e (Some g) (change-changes (λ (x : Endpoint). g) state.endpoints e h here)
+at-changes state (OfReader r) h g host here =
+    let y = held-by (λ (x : Reader). x.endpoint) (named state.readers r) h here in
+    reader-changes state host (change_named (λ (x : Reader). record x { endpoint = g }) state.readers r) r (Some (record y.0 { endpoint = g })) (change-changes (λ (x : Reader). record x { endpoint = g }) state.readers r y.0 y.1)
+at-changes state (OfWriter w) h g host here =
+    let y = held-by (λ (x : Writer). x.endpoint) (named state.writers w) h here in
+    writer-changes state host (change_named (λ (x : Writer). record x { endpoint = g }) state.writers w) w (Some (record y.0 { endpoint = g })) (change-changes (λ (x : Writer). record x { endpoint = g }) state.writers w y.0 y.1)
+
+-- two changes under one name
+pub then-changes : {old mid new : State} {first second : HostState} {e : EndpointName} {o p : Option Endpoint} → Changes old mid first e o → Changes old new second e p → Changes mid new second e p
+then-changes one two =
+    record {
+      host_is = two.host_is;
+      endpoints = record { here = two.endpoints.here; others = λ d apart. two.endpoints.others d apart ∙ sym (one.endpoints.others d apart) };
+      names = two.names ∙ sym one.names;
+      futures = two.futures ∙ sym one.futures;
+    }
+
+same-changed : {X : Type 0} {old mid new : EndpointName → Option X} {e : EndpointName} {o p : Option X} → Changed old mid e o → Changed old new e p → p ≡ o → (d : EndpointName) → new d ≡ mid d
+same-changed {mid = mid} {new = new} {e = e} first second same d =
+    elim (cases_name d e) [
+      | inl is ↦ ap new is ∙ second.here ∙ same ∙ sym first.here ∙ ap mid (sym is)
+      | inr apart ↦ second.others d apart ∙ sym (first.others d apart)
+    ]
 
 -- it has come to this host, and the endpoint is this one to it (x)
-pub record Leads (few : Type 0) (a : Answer) (state : State) (e : ℕ) (h : Endpoint) (host : HostState) (x : EndpointState) : Type 0 where
+pub record Leads (few : Type 0) (a : Answer) (state : State) (e : EndpointName) (h : Endpoint) (host : HostState) (x : EndpointState) : Type 0 where
   tickets : List ℕ
   taken : ℕ
   are : tickets ≡ h.tickets ++ numbers_from (tickets_of state) (count_in host - tickets_of state)
@@ -55,19 +93,14 @@ pub record Leads (few : Type 0) (a : Answer) (state : State) (e : ℕ) (h : Endp
   kept_is : x ≡ record (endpoint_state h) { pending = x.pending }
   leads : Acts few a (at_call state e (by_now h tickets taken) host) [] [] → Acts few a state [] []
 
-option-const : (f : Endpoint → Endpoint) (g : Endpoint) (o : Option Endpoint) → option_map f (option_map (λ (x : Endpoint). g) o) ≡ option_map (λ (x : Endpoint). f g) o
-option-const f g None = refl
-option-const f g (Some x) = refl
+module _ (few : Type 0) (a : Answer) (state : State) (e : EndpointName) (h : Endpoint) (stream : IsStream e) (here : endpoint_under state e ≡ Some h) (other : says_done a.line ≡ false) where
+  -- from one of its states to another
+  changes-at : (g next : Endpoint) (host after : HostState) → Changes (at_call state e g host) (at_call state e next after) after e (Some next)
+  changes-at g next host after = then-changes (at-changes state e h g host here) (at-changes state e h next after here)
 
-const-change : (f : Endpoint → Endpoint) (g : Endpoint) (es : List (Option Endpoint)) (e : ℕ) → change_named f (change_named (λ (x : Endpoint). g) es e) e ≡ change_named (λ (x : Endpoint). f g) es e
-unfolding change_named
-const-change f g es e = change-change (option_map (λ (x : Endpoint). g)) (option_map f) (option_map (λ (x : Endpoint). f g)) es e (λ o at. option-const f g o)
+  here-now : (g : Endpoint) → endpoint_under (put_endpoint state e g) e ≡ Some g
+  here-now g = (at-changes state e h g state.host here).endpoints.here
 
-quiet-path : (old new : State) → new.host ≡ old.host → new.endpoints ≡ old.endpoints → new.futures ≡ old.futures → Quiet old new
-quiet-path old new host endpoints futures =
-    quiet-aside old new (ap (λ (h : HostState). h.kernel.past) host) (ap (λ (h : HostState). h.tickets) host) endpoints futures
-
-module _ (few : Type 0) (a : Answer) (state : State) (e : ℕ) (h : Endpoint) (above : 64 ≤ e) (here : named state.endpoints e ≡ Some h) (other : says_done a.line ≡ false) where
   pub leads-start : (x : EndpointState) → x ≡ endpoint_state h → h.taken ≤ length h.tickets → Leads few a state e h state.host x
   leads-start x same within =
       let m = tickets_of state in
@@ -81,11 +114,11 @@ module _ (few : Type 0) (a : Answer) (state : State) (e : ℕ) (h : Endpoint) (a
         within = within;
         left = sym left;
         kept_is = same ∙ sym (ap (λ (p : List ℕ). record (endpoint_state h) { pending = p }) left);
-        leads = λ rest. goes (quiet-path state (at_call state e h state.host) refl (sym (put-changed (λ (x : Endpoint). h) state.endpoints e h h here refl) ∙ put-back state.endpoints e h here) refl) rest;
+        leads = let c = at-changes state e h h state.host here in λ rest. goes (quiet-aside state (at_call state e h state.host) refl refl (λ d. sym (same-changed c.endpoints (stays here) refl d)) c.names c.futures) rest;
       }
-
-  here-now : (g : Endpoint) → named (change_named (λ (x : Endpoint). g) state.endpoints e) e ≡ Some g
-  here-now g = named-change_same (λ (x : Endpoint). g) state.endpoints e ∙ ap (option_map (λ (x : Endpoint). g)) here
+    where
+      stays : endpoint_under state e ≡ Some h → Changed (endpoint_under state) (endpoint_under state) e (Some h)
+      stays at = record { here = at; others = λ d apart. refl }
 
   -- a submission
   pub leads-send : (host : HostState) (x : EndpointState) (b : BufferState) → Leads few a state e h host x → Leads few a state e h (entered host_calls host x b) (record x { pending = x.pending ++ count_in host ∷ [] })
@@ -101,6 +134,7 @@ module _ (few : Type 0) (a : Answer) (state : State) (e : ℕ) (h : Endpoint) (a
       let last : m + (n - m) ≡ n = omega (arith, more) in
       let kept_g : endpoint_state g ≡ x = ap (λ (p : List ℕ). record (endpoint_state h) { pending = p }) l.left ∙ sym l.kept_is in
       let all = l.tickets ++ n ∷ [] in
+      let changes = changes-at g (by_now h all l.taken) host after in
       record {
         tickets = all;
         taken = l.taken;
@@ -114,9 +148,7 @@ module _ (few : Type 0) (a : Answer) (state : State) (e : ℕ) (h : Endpoint) (a
         left = drop-append-le l.taken l.tickets (n ∷ []) l.within ∙ ap (λ (p : List ℕ). p ++ n ∷ []) l.left;
         kept_is = ap (λ (z : EndpointState). record z { pending = x.pending ++ n ∷ [] }) l.kept_is;
         leads = λ rest. l.leads (submits e b g (here-now g) (λ few_. l.within)
-            (goes (quiet-path (submitted mid e b g) (at_call state e (by_now h all l.taken) after)
-            (ap (λ (z : EndpointState). entered host_calls host z b) (sym kept_g))
-            (sym (const-change (with_submission n) g state.endpoints e)) refl) rest));
+            (record { host_is = ap (λ (z : EndpointState). entered host_calls host z b) (sym kept_g); endpoints = changes.endpoints; names = changes.names; futures = changes.futures }) rest);
       }
 
   -- a wait
@@ -134,7 +166,7 @@ module _ (few : Type 0) (a : Answer) (state : State) (e : ℕ) (h : Endpoint) (a
         within = l.within;
         left = l.left;
         kept_is = l.kept_is;
-        leads = λ rest. l.leads (goes (record { keeps = on-waited host front timeout; count = count; endpoints = refl; futures = refl }) rest);
+        leads = λ rest. l.leads (goes (record { keeps = on-waited host front timeout; count = count; endpoints = λ d. refl; names = refl; futures = refl }) rest);
       }
 
   -- the front is taken
@@ -154,25 +186,24 @@ module _ (few : Type 0) (a : Answer) (state : State) (e : ℕ) (h : Endpoint) (a
         within = at.2;
         left = at.1;
         kept_is = ap (λ (z : EndpointState). record z { pending = others }) l.kept_is;
-        leads = λ rest. l.leads (reads e front g above (here-now g) at.0 other
-            (goes (quiet-path (taken_from mid e front) (at_call state e (by_now h l.tickets (l.taken + 1)) (host_taken host front)) refl (sym (const-change one_taken g state.endpoints e)) refl) rest));
+        leads = λ rest. l.leads (reads e front g stream (here-now g) at.0 other (changes-at g (by_now h l.tickets (l.taken + 1)) host (host_taken host front)) rest);
       }
 
 -- so it comes to the state behind the call
-leads-end : (few : Type 0) (a : Answer) (state : State) (e : ℕ) (h : Endpoint) (host : HostState) (x : EndpointState) → named state.endpoints e ≡ Some h → says_done a.line ≡ false → a.state.host ≡ host
-    → a.state.endpoints ≡ change_named (called_endpoint (tickets_of state) (count_in host) x.pending) state.endpoints e → a.state.futures ≡ state.futures → Leads few a state e h host x → Acts few a state [] []
-leads-end few a state e h host x here other same endpoints futures l =
-    let es = state.endpoints in
+leads-end : (few : Type 0) (a : Answer) (state : State) (e : EndpointName) (h : Endpoint) (host : HostState) (x : EndpointState) → endpoint_under state e ≡ Some h → says_done a.line ≡ false
+    → Changes state a.state host e (Some (called_endpoint (tickets_of state) (count_in host) x.pending h)) → Leads few a state e h host x → Acts few a state [] []
+leads-end few a state e h host x here other changes l =
     let m = tickets_of state in
     let p = x.pending in
     let f : Endpoint → Endpoint = called_endpoint m (count_in host) p in
     let g = by_now h l.tickets l.taken in
     let size : length l.tickets - length p ≡ l.taken = omega (arith, length-drop l.taken l.tickets, ap (λ (ts : List ℕ). length ts) l.left, l.within) in
     let are : f h ≡ g = ap (λ (ts : List ℕ). by_now h ts (length ts - length p)) (sym l.are) ∙ ap (by_now h l.tickets) size in
-    l.leads (ends other (quiet-path (at_call state e g host) a.state same (endpoints ∙ (sym (put-changed f es e h g here are) ∙ put-changed (λ (x : Endpoint). g) es e h g here refl)) futures))
+    let c = then-changes (at-changes state e h g host here) changes in
+    l.leads (ends other (quiet-aside (at_call state e g host) a.state (ap (λ (v : HostState). v.kernel.past) changes.host_is) (ap (λ (v : HostState). v.tickets) changes.host_is)
+    (same-changed (at-changes state e h g host here).endpoints changes.endpoints (ap (λ (z : Endpoint). Some z) are)) c.names c.futures))
 
-pub called-acts : (state : State) (a : Answer) (e : ℕ) (h : Endpoint) (host : HostState) (x : EndpointState) → named state.endpoints e ≡ Some h → says_done a.line ≡ false → a.state.host ≡ host
-    → a.state.endpoints ≡ change_named (called_endpoint (tickets_of state) (count_in host) x.pending) state.endpoints e → a.state.futures ≡ state.futures
-    → (h.taken ≤ length h.tickets → Leads (TookFew state) a state e h host x) → Does state a
-called-acts state a e h host x here other same endpoints futures leads =
-    fits other (λ few. leads-end (TookFew state) a state e h host x here other same endpoints futures (leads (few e h here)))
+pub called-acts : (state : State) (a : Answer) (e : EndpointName) (h : Endpoint) (host : HostState) (x : EndpointState) → endpoint_under state e ≡ Some h → says_done a.line ≡ false
+    → Changes state a.state host e (Some (called_endpoint (tickets_of state) (count_in host) x.pending h)) → (h.taken ≤ length h.tickets → Leads (TookFew state) a state e h host x) → Does state a
+called-acts state a e h host x here other changes leads =
+    fits other (λ few. leads-end (TookFew state) a state e h host x here other changes (leads (few e h here)))

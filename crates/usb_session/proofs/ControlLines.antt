@@ -276,7 +276,7 @@ future_polled-does state n f (Some r) here =
 pub awaited-quiet : (state : State) (deadline : ℕ) (ticket : Option ℕ) → Quiet state (with_host state (awaited_by state.host deadline ticket))
 awaited-quiet state deadline None = quiet-same state
 awaited-quiet state deadline (Some t) =
-    record { keeps = on-awaited state.host t deadline; count = awaited-count state.host t deadline; endpoints = refl; futures = refl }
+    record { keeps = on-awaited state.host t deadline; count = awaited-count state.host t deadline; endpoints = λ d. refl; names = refl; futures = refl }
 
 future_waited-does : (state : State) (n : ℕ) (f : FutureState) → named state.futures n ≡ Some f → DoesFuture state n (Some f) (future_waited state n f)
 future_waited-does state n f here =

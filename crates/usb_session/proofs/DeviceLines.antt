@@ -45,8 +45,8 @@ pub opened_at-does : (state : State) (d bus address : ℕ) → Does state (opene
 opened_at-does state d bus address =
     let is = opened-is state.host bus address in
     let host = host_opened state.host bus address in
-    goes (quiet-aside state (with_host state host) (ap (λ (h : HostState). h.kernel.past) is) (ap (λ (h : HostState). h.tickets) is) refl refl)
-    (try-does (opened_as (with_host state host) d) (open_key state.host bus address) (λ error. refl) (λ key. ends refl (quiet-aside (with_host state host) _ refl refl refl refl)))
+    goes (quiet-aside state (with_host state host) (ap (λ (h : HostState). h.kernel.past) is) (ap (λ (h : HostState). h.tickets) is) (λ d. refl) refl refl)
+    (try-does (opened_as (with_host state host) d) (open_key state.host bus address) (λ error. refl) (λ key. ends refl (quiet-aside (with_host state host) _ refl refl (λ d. refl) refl refl)))
 
 pub open-does : (state : State) (d bus address : ℕ) → Does state (open_answer state d bus address)
 unfolding open_answer
@@ -58,23 +58,23 @@ claim-does state d number i reattach =
     named-does (device_at state d) _ (λ x is.
     free-does (λ free.
     let host = host_claimed state.host x.key number reattach in
-    goes (record { keeps = on-claimed state.host x.key number reattach; count = claimed-count state.host x.key number reattach; endpoints = refl; futures = refl })
+    goes (record { keeps = on-claimed state.host x.key number reattach; count = claimed-count state.host x.key number reattach; endpoints = λ d. refl; names = refl; futures = refl })
     (try-does (claimed_as (with_host state host) number i) (claimed_key (length state.host.interfaces) (claim_tried state.host x.opened number reattach)) (λ error. refl)
-    (λ key. ends refl (quiet-aside (with_host state host) _ refl refl refl refl)))))
+    (λ key. ends refl (quiet-aside (with_host state host) _ refl refl (λ d. refl) refl refl)))))
 
 -- handles of devices
 pub clone_device-does : (state : State) (name d : ℕ) → Does state (clone_device_answer state name d)
 unfolding clone_device_answer
 clone_device-does state name d =
-    named-does (named state.devices d) _ (λ key is. free-does (λ free. ends refl (quiet-aside state (with_handle state name key) refl refl refl refl)))
+    named-does (named state.devices d) _ (λ key is. free-does (λ free. ends refl (quiet-aside state (with_handle state name key) refl refl (λ d. refl) refl refl)))
 
 pub close_device-does : (state : State) (d : ℕ) → Does state (close_device_answer state d)
 unfolding close_device_answer
-close_device-does state d = named-does (named state.devices d) _ (λ key is. ends refl (quiet-aside state _ refl refl refl refl))
+close_device-does state d = named-does (named state.devices d) _ (λ key is. ends refl (quiet-aside state _ refl refl (λ d. refl) refl refl))
 
 -- calls on open devices
 aside-quiet : (state : State) (host : HostState) → KeepsAside state.host host → Quiet state (with_host state host)
-aside-quiet state host keeps = quiet-aside state (with_host state host) keeps.past keeps.handles.tickets refl refl
+aside-quiet state host keeps = quiet-aside state (with_host state host) keeps.past keeps.handles.tickets (λ e. refl) refl refl
 
 active-other : (r : Result (List ℕ) ActiveConfigurationError) → says_done (active_line r) ≡ false
 unfolding configuration_line no_configuration_line
@@ -91,7 +91,7 @@ device_called-does state Speed x = ends refl (aside-quiet state (host_speed_aske
 device_called-does state (SetConfiguration value) x =
     ends (result-other (set_configuration_tried state.host x.opened value)) (aside-quiet state (host_configured state.host x.key value) (configured-aside state.host x.key value))
 device_called-does state Reset x =
-    ends (result-other (reset_tried state.host x.opened)) (record { keeps = reset-follows state.host x.key; count = reset-count state.host x.key; endpoints = refl; futures = refl })
+    ends (result-other (reset_tried state.host x.opened)) (record { keeps = reset-follows state.host x.key; count = reset-count state.host x.key; endpoints = λ d. refl; names = refl; futures = refl })
 device_called-does state (DetachDriver number) x =
     ends (result-other (detach_tried state.host x.opened number)) (aside-quiet state (host_detached state.host x.key number) (detached-aside state.host x.key number))
 device_called-does state (AttachDriver number) x =
@@ -104,7 +104,7 @@ on_device-does state d call = named-does (device_at state d) (λ x. at_host stat
 -- one more handle of an interface
 cloned-quiet : (state : State) (i : ℕ) (o : Option ClaimedInterface) → Quiet state (with_host state (handle_added state.host i o))
 cloned-quiet state i None = quiet-same state
-cloned-quiet state i (Some c) = quiet-aside state _ refl refl refl refl
+cloned-quiet state i (Some c) = quiet-aside state _ refl refl (λ d. refl) refl refl
 
 pub clone_interface-does : (state : State) (name i : ℕ) → Does state (clone_interface_answer state name i)
 unfolding clone_interface_answer handle_cloned
@@ -112,11 +112,11 @@ clone_interface-does state name i =
     named-does (named state.interfaces i) _ (λ f is.
     free-does (λ free.
     let mid = with_host state (handle_cloned state.host f.key) in
-    ends refl (quiet-then (cloned-quiet state f.key (value_at state.host.interfaces f.key)) (quiet-aside mid (with_clone state name f) refl refl refl refl))))
+    ends refl (quiet-then (cloned-quiet state f.key (value_at state.host.interfaces f.key)) (quiet-aside mid (with_clone state name f) refl refl (λ d. refl) refl refl))))
 
 -- a handle of an interface is closed
 without_interface-quiet : (state : State) (i : ℕ) (f : InterfaceState) → Quiet state (without_interface state i f)
-without_interface-quiet state i f = record { keeps = on-handle_closed state.host f.key; count = handle_closed-count state.host f.key; endpoints = refl; futures = refl }
+without_interface-quiet state i f = record { keeps = on-handle_closed state.host f.key; count = handle_closed-count state.host f.key; endpoints = λ d. refl; names = refl; futures = refl }
 
 pub close_interface-does : (state : State) (i : ℕ) → Does state (close_interface_answer state i)
 unfolding close_interface_answer
@@ -137,7 +137,7 @@ set-quiet state i setting None = quiet-same state
 set-quiet state i setting (Some c) =
     cond_both (has_living state.host.tickets state.host.endpoints i) state.host (alt_setting_asked state.host i setting c) (λ (h : HostState). Quiet state (with_host state h))
     (λ yes_. quiet-same state)
-    (λ no_. quiet-aside state (with_host state (alt_setting_asked state.host i setting c)) refl refl refl refl)
+    (λ no_. quiet-aside state (with_host state (alt_setting_asked state.host i setting c)) refl refl (λ d. refl) refl refl)
 
 interface-other : (o : Option (List ℕ)) → says_done (interface_line o) ≡ false
 unfolding setting_words class_words
@@ -165,7 +165,7 @@ interface_closed_at-quiet state i (Some f) = without_interface-quiet state i f
 
 device_closed_at-quiet : (state : State) (d : ℕ) (o : Option ℕ) → Quiet state (device_closed_at state d o)
 device_closed_at-quiet state d None = quiet-same state
-device_closed_at-quiet state d (Some key) = quiet-aside state (without_device state d key) refl refl refl refl
+device_closed_at-quiet state d (Some key) = quiet-aside state (without_device state d key) refl refl (λ e. refl) refl refl
 
 below-quiet : (act : State → ℕ → State) → ((s : State) (n : ℕ) → Quiet s (act s n)) → (state : State) (k : ℕ) → Quiet state (below act state k)
 below-quiet act quiet state zero = quiet-same state

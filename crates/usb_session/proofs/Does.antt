@@ -1,9 +1,9 @@
 -- What a line does.
-use Rattle.std.proofs.Common.{◌≡◌, ◌≢◌, ℕ, ◌≤◌, Bool, true, false, List, [], ◌∷◌, ◌++◌, map, codes, length, Option, Some, None, Result, Ok, Err, refl, ap, sym, ◌∙◌, subst, slice_get}
+use Rattle.std.proofs.Common.{◌≡◌, ◌≢◌, ℕ, ◌≤◌, Bool, true, false, List, [], ◌∷◌, ◌++◌, map, codes, length, Option, Some, None, Result, Ok, Err, inl, inr, refl, ap, sym, ◌∙◌, subst, slice_get}
 use Rattle.std.specs.Prelude.{nat_eq, if◌then◌else◌}
 use Rattle.std.specs.List.{starts_with}
 use Rattle.std.specs.Option.{option_map}
-use Rattle.std.proofs.lemmas.Bool.{cond_both}
+use Rattle.std.proofs.lemmas.Bool.{cases_eq, cond_both}
 use Rattle.std.proofs.lemmas.Option.{none-some, same_Some}
 use Rattle.usb_xfer.specs.BufferState.{BufferState}
 use Rattle.usb_xfer.specs.declared.transfer.Completion.{Completion}
@@ -23,8 +23,9 @@ use Rattle.usb_device_host.proofs.StartedLemmas.{Parts, AddsTaken}
 use Rattle.usb_device.specs.Futures.{FutureState}
 use Rattle.usb_session_text.specs.Calls.{ok_line, condition_line, error_line, result_line}
 use Rattle.usb_session_text.specs.Completions.{done_line}
-use Rattle.usb_session_calls.specs.Names.{named, is_free, freed}
+use Rattle.usb_session_calls.specs.Names.{named, is_free, freed, change_named}
 use Rattle.usb_session_calls.specs.EndpointNames.{EndpointName, Own, OfReader, OfWriter, endpoint_under}
+use Rattle.usb_session_calls.proofs.NameLemmas.{named-change_same, named-change_other}
 use Rattle.usb_session_calls.proofs.EndpointNameLemmas.{Changed, ChangedAt, own-changed, reader-changed, writer-changed}
 use Rattle.usb_session_calls.specs.State.{State, Endpoint, Reader, Writer, endpoint_state, tickets_of, with_host}
 use Rattle.usb_session_calls.specs.Answer.{Answer, answer_with, condition_answer, ok_answer, error_answer, silent, if_open}
@@ -265,6 +266,18 @@ writer-changes state host after w o c =
       names = ap (λ n. record { own = length state.endpoints; readers = length state.readers; writers = n }) c.length;
       futures = refl;
     }
+
+-- a change that keeps a part of what is open under a name
+map-kept : {X Y : Type 0} (v : X → Y) (f : X → X) → ((x : X) → v (f x) ≡ v x) → (o : Option X) → option_map v (option_map f o) ≡ option_map v o
+map-kept v f same None = refl
+map-kept v f same (Some x) = ap (λ y. Some y) (same x)
+
+pub kept-change : {X Y : Type 0} (v : X → Y) (f : X → X) → ((x : X) → v (f x) ≡ v x) → (xs : List (Option X)) (n m : ℕ) → option_map v (named (change_named f xs n) m) ≡ option_map v (named xs m)
+kept-change v f same xs n m =
+    elim (cases_eq m n) [
+      | inl is ↦ ap (λ k. option_map v (named (change_named f xs n) k)) is ∙ ap (option_map v) (named-change_same f xs n) ∙ map-kept v f same (named xs n) ∙ ap (λ k. option_map v (named xs k)) (sym is)
+      | inr apart ↦ ap (option_map v) (named-change_other f xs n m apart)
+    ]
 
 -- it is done, or refused
 pub result-other : (r : Result (Unit {0}) ErrorState) → says_done (result_line r) ≡ false

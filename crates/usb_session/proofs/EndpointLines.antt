@@ -16,7 +16,11 @@ use Rattle.usb_kernel.specs.Info.{unreaped}
 use Rattle.usb_kernel.proofs.Places.{slice_get-append_seam}
 use Rattle.usb_kernel.specs.TransferCompletions.{transfer_completion}
 use Rattle.usb_device_endpoint.specs.EndpointState.{EndpointState}
+use Rattle.usb_device_endpoint.specs.Closes.{after_close}
+use Rattle.usb_device_endpoint.specs.Submits.{entered}
 use Rattle.usb_device_endpoint.specs.Waits.{waited}
+use Rattle.usb_device_host.specs.HostState.{HostState}
+use Rattle.usb_device_host.specs.TicketEnds.{host_taken}
 use Rattle.usb_device_endpoint.specs.Blocking.{blocked}
 use Rattle.usb_device_host.specs.HostCalls.{host_halt_result, host_halt_cleared, host_calls}
 use Rattle.usb_device_host.specs.EndpointOpens.{host_asked, host_tries, with_endpoint}
@@ -24,7 +28,7 @@ use Rattle.usb_device_host.proofs.CountLemmas.{asked-count, entered-count, waite
 use Rattle.usb_device_host.proofs.FollowLemmas.{on-asked, on-waited, on-blocked, on-all_discarded}
 use Rattle.usb_device_host.proofs.FoundLemmas.{blocked-found}
 use Rattle.usb_session_text.specs.Completions.{count_line, done_line, polled_line, waited_line}
-use Rattle.usb_session_calls.specs.Names.{named, is_free, change_named}
+use Rattle.usb_session_calls.specs.Names.{named, is_free, freed, change_named}
 use Rattle.usb_session_calls.specs.declared.call.EndpointCall.{EndpointCall}
 use Rattle.usb_session_calls.specs.declared.call.EndpointCall.TheVariants.{SubmitIn, SubmitOut, Pending, Poll, Wait, TransferIn, TransferOut, Cancel, ClearHalt}
 use Rattle.usb_session_calls.specs.Buffers.{in_buffer, out_buffer}
@@ -39,34 +43,44 @@ use Rattle.usb_session_calls.specs.Waits.{wait_on}
 use Rattle.usb_session_calls.specs.Transfers.{bars_transfer, with_taken, transfer_made, transfer_on}
 use Rattle.usb_session_calls.specs.Closes.{without_endpoint, close_answer, closed_at, closed}
 use Rattle.usb_session.specs.Served.{closed_under}
-use Rattle.usb_session_calls.proofs.NameLemmas.{named-change_same, change-change}
-use Rattle.usb_session.proofs.Does.{Acts, Does, says_done, goes, opens, submits, ends, takes, quiet-aside, quiet-same, told-does, barred-does, free-does, bar-does, try-does, ok-does, named-does, closing-does, result-other}
+use Rattle.usb_session_calls.specs.EndpointNames.{EndpointName, Own}
+use Rattle.usb_session_calls.proofs.NameLemmas.{free-none}
+use Rattle.usb_session_calls.proofs.EndpointNameLemmas.{set-changes, freed-changes, change-changes}
+use Rattle.usb_session.proofs.CallLeads.{then-changes}
+use Rattle.usb_session.proofs.Does.{Acts, Changes, Does, own-changes, says_done, goes, opens, submits, ends, takes, quiet-aside, quiet-same, told-does, barred-does, free-does, bar-does, try-does, ok-does, named-does, closing-does, result-other}
 use Rattle.usb_session_calls.proofs.DeviceHosts.{halt-aside}
 
 -- an endpoint is opened
-endpoint_as-does : (state : State) (e address : ℕ) (kind : TransferType) (x : InterfaceAt) (tried : Result ℕ ErrorState) → is_free state.endpoints e ≡ true → (64 ≤ e → 192 ≤ e) → Does state (endpoint_as state e address kind x tried)
-endpoint_as-does state e address kind x tried free outside =
+endpoint_as-does : (state : State) (e address : ℕ) (kind : TransferType) (x : InterfaceAt) (tried : Result ℕ ErrorState) → is_free state.endpoints e ≡ true → Does state (endpoint_as state e address kind x tried)
+endpoint_as-does state e address kind x tried free =
     try-does (endpoint_as state e address kind x) tried (λ error. refl) (λ maximum.
-    goes (quiet-aside state (with_host state (with_endpoint state.host x.handle.key address)) refl refl refl refl)
-    (opens e (new_endpoint state.host x.claimed.device address kind maximum) free refl refl outside (ok-does _)))
+    goes (quiet-aside state (with_host state (with_endpoint state.host x.handle.key address)) refl refl (λ d. refl) refl refl)
+    (opens e (new_endpoint state.host x.claimed.device address kind maximum) (free-none state.endpoints e free) refl refl
+    (own-changes (with_host state (with_endpoint state.host x.handle.key address)) (with_endpoint state.host x.handle.key address) _ e _ (set-changes state.endpoints e (new_endpoint state.host x.claimed.device address kind maximum) free)) (ok-does _)))
 
-pub endpoint-does : (state : State) (e i address : ℕ) (kind : TransferType) (direction : Direction) → (64 ≤ e → 192 ≤ e) → Does state (endpoint_answer state e i address kind direction)
+pub endpoint-does : (state : State) (e i address : ℕ) (kind : TransferType) (direction : Direction) → Does state (endpoint_answer state e i address kind direction)
 unfolding endpoint_answer
-endpoint-does state e i address kind direction outside =
+endpoint-does state e i address kind direction =
     named-does (interface_at state i) _ (λ x is.
     free-does (λ free.
     let host = host_asked state.host x.claimed.opened in
-    goes (record { keeps = on-asked state.host x.claimed.opened; count = asked-count state.host x.claimed.opened; endpoints = refl; futures = refl })
-    (endpoint_as-does (with_host state host) e address kind x (host_tries host x.handle.key x.claimed address kind direction) free outside)))
+    goes (record { keeps = on-asked state.host x.claimed.opened; count = asked-count state.host x.claimed.opened; endpoints = λ d. refl; names = refl; futures = refl })
+    (endpoint_as-does (with_host state host) e address kind x (host_tries host x.handle.key x.claimed address kind direction) free)))
+
+-- what a call changes of an endpoint
+changed-own : (state : State) (f : Endpoint → Endpoint) (e : ℕ) (h : Endpoint) → named state.endpoints e ≡ Some h → (host : HostState) → Changes state (record state { host = host; endpoints = change_named f state.endpoints e }) host (Own e) (Some (f h))
+changed-own state f e h here host = own-changes state host (change_named f state.endpoints e) e (Some (f h)) (change-changes f state.endpoints e h here)
 
 -- a ticket is submitted
 submit_on-does : (state : State) (direction : Direction) (e : ℕ) (b : BufferState) (h : Endpoint) → named state.endpoints e ≡ Some h → Does state (submit_on state direction e b h)
-submit_on-does state direction e b h here = bar-does (λ no_. submits e b h here (λ few. few e h here) (ok-does (submitted state e b h)))
+submit_on-does state direction e b h here = bar-does (λ no_. submits (Own e) b h here (λ few. few (Own e) h here)
+    (changed-own state (with_submission (tickets_of state)) e h here (entered host_calls state.host (endpoint_state h) b)) (ok-does (submitted state e b h)))
 
 -- the ticket at the place of those that were taken is taken
 took-does : (line : Option Completion → List ℕ) (state : State) (e t : ℕ) (h : Endpoint) (o : Option Completion) → says_done (line None) ≡ false → ((c : Completion) → line (Some c) ≡ done_line c) → named state.endpoints e ≡ Some h → slice_get h.tickets h.taken ≡ Some t → transfer_completion state.host.kernel.past t ≡ o → Does state (took line state e t o)
 took-does line state e t h None other done here front is = told-does state (line None) other
-took-does line state e t h (Some c) other done here front is = takes e t h c here (λ few. front) is (done c) (quiet-same (taken_from state e t))
+took-does line state e t h (Some c) other done here front is = takes (Own e) t h c here (λ few. front) is (done c)
+    (changed-own state one_taken e h here (host_taken state.host t)) (quiet-same (taken_from state e t))
 
 poll_on-does : (state : State) (e : ℕ) (h : Endpoint) (o : Option ℕ) → named state.endpoints e ≡ Some h → slice_get h.tickets h.taken ≡ o → Does state (poll_on state e o)
 poll_on-does state e h None here front = barred-does state
@@ -76,7 +90,7 @@ wait_on-does : (state : State) (e timeout : ℕ) (h : Endpoint) (o : Option ℕ)
 wait_on-does state e timeout h None here front = barred-does state
 wait_on-does state e timeout h (Some t) here front =
     let mid = with_host state (waited host_calls t timeout state.host) in
-    goes (record { keeps = on-waited state.host t timeout; count = waited-count state.host t timeout; endpoints = refl; futures = refl })
+    goes (record { keeps = on-waited state.host t timeout; count = waited-count state.host t timeout; endpoints = λ d. refl; names = refl; futures = refl })
     (took-does waited_line mid e t h (transfer_completion mid.host.kernel.past t) refl (λ c. refl) here front refl)
 
 -- a blocking transfer at an endpoint where none is pending: its ticket is submitted, comes, and is taken
@@ -85,14 +99,6 @@ transfer-free past direction h allowed =
     let others = or_parts (not (has_direction direction h)) (not (length h.pending == 0) || nat_le 1024 (unreaped past)) allowed in
     let none = or_parts (not (length h.pending == 0)) (nat_le 1024 (unreaped past)) others.1 in
     eqb-true (length h.pending) 0 (not-false (length h.pending == 0) none.0)
-
-option-taken : (n : ℕ) (o : Option Endpoint) → option_map one_taken (option_map (with_submission n) o) ≡ option_map (with_taken n) o
-option-taken n None = refl
-option-taken n (Some h) = refl
-
-pushed-taken : (n : ℕ) (es : List (Option Endpoint)) (e : ℕ) → change_named one_taken (change_named (with_submission n) es e) e ≡ change_named (with_taken n) es e
-unfolding change_named
-pushed-taken n es e = change-change (option_map (with_submission n)) (option_map one_taken) (option_map (with_taken n)) es e (λ o at. option-taken n o)
 
 pub some-of : {X : Type 0} (o : Option X) → is_some o ≡ true → (x : X) × (o ≡ Some x)
 some-of None is = absurd (cc)
@@ -108,10 +114,13 @@ transfer_made-does state e b timeout h here none =
     let last = with_host sent (blocked host_calls n timeout sent.host) in
     let one = entered-count state.host (endpoint_state h) b in
     let found = some-of (transfer_completion last.host.kernel.past n) (blocked-found sent.host n timeout (omega (arith, one.past))) in
-    submits e b h here (λ few. few e h here) (goes (record { keeps = on-blocked sent.host n timeout; count = blocked-count sent.host n timeout; endpoints = refl; futures = refl })
-    (takes e n (with_submission n h) found.0 (named-change_same (with_submission n) state.endpoints e ∙ ap (option_map (with_submission n)) here)
-    (λ few. pushed-front h.taken h.tickets n (few e h here) none) found.1 (ap waited_line found.1)
-    (quiet-aside (taken_from last e n) (transfer_made state e b timeout h).state refl refl (sym (pushed-taken n state.endpoints e)) refl)))
+    let first = changed-own state (with_submission n) e h here (entered host_calls state.host (endpoint_state h) b) in
+    let here_last = changed-own state (with_submission n) e h here last.host in
+    let whole = changed-own state (with_taken n) e h here (host_taken last.host n) in
+    submits (Own e) b h here (λ few. few (Own e) h here) first (goes {next = last} (record { keeps = on-blocked sent.host n timeout; count = blocked-count sent.host n timeout; endpoints = λ d. refl; names = refl; futures = refl })
+    (takes {state = last} {next = (transfer_made state e b timeout h).state} (Own e) n (with_submission n h) found.0 first.endpoints.here
+    (λ few. pushed-front h.taken h.tickets n (few (Own e) h here) none) found.1 (ap waited_line found.1)
+    (then-changes here_last whole) (quiet-same (transfer_made state e b timeout h).state)))
 
 transfer_on-does : (state : State) (direction : Direction) (e : ℕ) (b : BufferState) (timeout : ℕ) (h : Endpoint) → named state.endpoints e ≡ Some h → Does state (transfer_on state direction e b timeout h)
 transfer_on-does state direction e b timeout h here =
@@ -128,22 +137,32 @@ called-does state e h (Wait timeout) here = wait_on-does state e timeout h (slic
 called-does state e h (TransferIn n timeout) here = transfer_on-does state In e (in_buffer n) timeout h here
 called-does state e h (TransferOut bytes timeout) here = transfer_on-does state Out e (out_buffer bytes) timeout h here
 called-does state e h Cancel here =
-    ends refl (record { keeps = on-all_discarded state.host (pending h); count = all_discarded-count state.host (pending h); endpoints = refl; futures = refl })
+    ends refl (record { keeps = on-all_discarded state.host (pending h); count = all_discarded-count state.host (pending h); endpoints = λ d. refl; names = refl; futures = refl })
 called-does state e h ClearHalt here =
     let aside = halt-aside state.host h.device h.address in
     ends (result-other (or_error clear_halt_error (host_halt_result state.host h.device h.address)))
-    (quiet-aside state (with_host state (host_halt_cleared state.host h.device h.address)) aside.past aside.handles.tickets refl refl)
+    (quiet-aside state (with_host state (host_halt_cleared state.host h.device h.address)) aside.past aside.handles.tickets (λ d. refl) refl refl)
 
 pub on_endpoint-does : (state : State) (e : ℕ) (call : EndpointCall) → Does state (on_endpoint state e call)
 unfolding on_endpoint
 on_endpoint-does state e call = named-does (named state.endpoints e) (endpoint_called call state e) (λ h here. called-does state e h call here)
 
--- an endpoint is closed
-pub closed-does : {few : Type 0} (state : State) (e : ℕ) (lines : ℕ → List (List ℕ)) → Acts few (silent (closed state e)) state (closed_under state lines e) []
-unfolding closed
-closed-does state e lines = closing-does state e lines (λ o. silent (closed_at state e o)) refl (quiet-same state) (λ h. refl) (λ h. quiet-same (without_endpoint state e h))
+map-id : {X : Type 0} (o : Option X) → option_map (λ x. x) o ≡ o
+map-id None = refl
+map-id (Some x) = refl
 
-pub close-does : {few : Type 0} (state : State) (e : ℕ) (lines : ℕ → List (List ℕ)) → Acts few (close_answer state e) state (closed_under state lines e) []
+-- an endpoint is closed
+closed-changes : (state : State) (e : ℕ) (h : Endpoint) → Changes state (without_endpoint state e h) (after_close host_calls state.host (endpoint_state h)) (Own e) None
+closed-changes state e h = own-changes state (after_close host_calls state.host (endpoint_state h)) (freed state.endpoints e) e None (freed-changes state.endpoints e)
+
+pub closed-does : {few : Type 0} (state : State) (e : ℕ) (lines : EndpointName → List (List ℕ)) → Acts few (silent (closed state e)) state (closed_under state lines (Own e)) []
+unfolding closed
+closed-does state e lines =
+    closing-does state (Own e) lines (named state.endpoints e) (λ h. h) (λ o. silent (closed_at state e o)) (without_endpoint state e) (sym (map-id (named state.endpoints e))) refl (quiet-same state) (λ h. refl)
+    (λ h is. closed-changes state e h) (λ h. quiet-same (without_endpoint state e h))
+
+pub close-does : {few : Type 0} (state : State) (e : ℕ) (lines : EndpointName → List (List ℕ)) → Acts few (close_answer state e) state (closed_under state lines (Own e)) []
 unfolding close_answer
 close-does state e lines =
-    closing-does state e lines (λ o. if_open o (λ h. ok_answer (without_endpoint state e h)) (condition_answer state)) refl (quiet-same state) (λ h. refl) (λ h. quiet-same (without_endpoint state e h))
+    closing-does state (Own e) lines (named state.endpoints e) (λ h. h) (λ o. if_open o (λ h. ok_answer (without_endpoint state e h)) (condition_answer state)) (without_endpoint state e) (sym (map-id (named state.endpoints e))) refl (quiet-same state) (λ h. refl)
+    (λ h is. closed-changes state e h) (λ h. quiet-same (without_endpoint state e h))

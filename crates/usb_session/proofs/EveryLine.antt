@@ -13,9 +13,9 @@ use Rattle.usb_session_calls.specs.declared.call.OpenCall.TheVariants as opens
 use Rattle.usb_session_calls.specs.declared.call.CloseCall.{CloseCall}
 use Rattle.usb_session_calls.specs.declared.call.CloseCall.TheVariants as closes
 use Rattle.usb_session_calls.specs.State.{State}
+use Rattle.usb_session_calls.specs.EndpointNames.{EndpointName}
 use Rattle.usb_session_calls.specs.Answer.{Answer, condition_answer}
 use Rattle.usb_session_calls.specs.Steps.{with_steps, stepped_all}
-use Rattle.usb_session_calls.specs.ReaderAt.{endpoint_place}
 use Rattle.usb_session_calls.specs.Calls.{call_of}
 use Rattle.usb_session.specs.NameCalls.{on_open, on_close}
 use Rattle.usb_session_calls.specs.EndpointCalls.{on_endpoint}
@@ -35,14 +35,6 @@ use Rattle.usb_session.proofs.ReaderDoes.{reader-does, inner-does, on_reader-doe
 use Rattle.usb_session.proofs.WriterDoes.{writer-does, writer_inner-does, on_writer-does, close_writer-does}
 use Rattle.usb_session.proofs.ControlLines.{control_moves, moves-quiet, control-does, start-does, on_future-does, close_future-does}
 
--- the place of an endpoint's name is none of a reader's or a writer's
-place-outside : (e : ℕ) → 64 ≤ endpoint_place e → 192 ≤ endpoint_place e
-place-outside e =
-    elim (cases_lt e 64) [
-      | inl below ↦ rw (lt-ltb e 64 below) (λ above. absurd (omega arith))
-      | inr beyond ↦ rw (le-ltb e 64 beyond) (λ above. omega arith)
-    ]
-
 -- what is opened, and what is closed
 on_open-does : (state : State) (call : OpenCall) → Acts (TookFew state) (on_open state call) state [] (control_moves state (Open call) (on_open state call))
 on_open-does state (opens.Device d bus address) = open-does state d bus address
@@ -50,26 +42,26 @@ on_open-does state (opens.Path d path) = open_path-does state d path
 on_open-does state (opens.CloneDevice name d) = clone_device-does state name d
 on_open-does state (opens.Claim d number i detach) = claim-does state d number i detach
 on_open-does state (opens.CloneInterface name i) = clone_interface-does state name i
-on_open-does state (opens.Endpoint e i address kind) = endpoint-does state (endpoint_place e) i address (transfer_type_of kind) (direction_of kind) (place-outside e)
-on_open-does state (opens.Reader r e size) = reader-does state r (endpoint_place e) size
-on_open-does state (opens.ReaderInner e r) = inner-does state (endpoint_place e) r
-on_open-does state (opens.Writer w e size) = writer-does state w (endpoint_place e) size
-on_open-does state (opens.WriterInner e w) = writer_inner-does state (endpoint_place e) w
+on_open-does state (opens.Endpoint e i address kind) = endpoint-does state e i address (transfer_type_of kind) (direction_of kind)
+on_open-does state (opens.Reader r e size) = reader-does state r e size
+on_open-does state (opens.ReaderInner e r) = inner-does state e r
+on_open-does state (opens.Writer w e size) = writer-does state w e size
+on_open-does state (opens.WriterInner e w) = writer_inner-does state e w
 on_open-does state (opens.ControlIn n target setup wanted timeout) = start-does state n target (request_for setup wanted) timeout
 on_open-does state (opens.ControlOut n target setup bytes timeout) = start-does state n target (request_with setup bytes) timeout
 
-on_close-does : (state : State) (lines : ℕ → List (List ℕ)) (call : CloseCall)
+on_close-does : (state : State) (lines : EndpointName → List (List ℕ)) (call : CloseCall)
     → Acts (TookFew state) (on_close state call) state (closed_by_call state lines (Close call)) (control_moves state (Close call) (on_close state call))
 on_close-does state lines (closes.Device d) = close_device-does state d
 on_close-does state lines (closes.Interface i) = close_interface-does state i
 on_close-does state lines (closes.Release i) = release-does state i
-on_close-does state lines (closes.Endpoint e) = close-does state (endpoint_place e) lines
+on_close-does state lines (closes.Endpoint e) = close-does state e lines
 on_close-does state lines (closes.Reader r) = close_reader-does state r lines
 on_close-does state lines (closes.Writer w) = close_writer-does state w lines
 on_close-does state lines (closes.Future n) = close_future-does state n
 
 -- each call, by its family
-pub call-does : (state : State) (lines : ℕ → List (List ℕ)) (call : Call)
+pub call-does : (state : State) (lines : EndpointName → List (List ℕ)) (call : Call)
     → Acts (TookFew state) (call_answer state call) state (closed_by_call state lines call) (control_moves state call (call_answer state call))
 unfolding call_answer now_line
 call-does state lines Setup = told-does state [] refl
@@ -80,7 +72,7 @@ call-does state lines (Open call) = on_open-does state call
 call-does state lines (Close call) = on_close-does state lines call
 call-does state lines (Device d call) = on_device-does state d call
 call-does state lines (Interface i call) = on_interface-does state i call
-call-does state lines (Endpoint e call steps) = along-does state steps (λ s. on_endpoint s (endpoint_place e) call) (on_endpoint-does (with_steps state steps) (endpoint_place e) call)
+call-does state lines (Endpoint e call steps) = along-does state steps (λ s. on_endpoint s e call) (on_endpoint-does (with_steps state steps) e call)
 call-does state lines (Reader r call steps) = along-does state steps (λ s. on_reader s r call) (on_reader-does (with_steps state steps) r call)
 call-does state lines (Writer w call steps) = along-does state steps (λ s. on_writer s w call) (on_writer-does (with_steps state steps) w call)
 call-does state lines (Control call steps) = control-does state call steps
@@ -96,7 +88,7 @@ crowded-does state call line =
 abbrev answer_if : State → Item → Bool → Answer
 answer_if state line b = if b then condition_answer (stepped_all state (steps_in line)) else line_answer state line
 
-pub answer-does : (state : State) (lines : ℕ → List (List ℕ)) (line : Item) → Acts (TookFew state) (answer state line) state (closed_by state lines line) (control_moves state (call_of line) (answer state line))
+pub answer-does : (state : State) (lines : EndpointName → List (List ℕ)) (line : Item) → Acts (TookFew state) (answer state line) state (closed_by state lines line) (control_moves state (call_of line) (answer state line))
 unfolding answer
 answer-does state lines line = by (bars_line state line)
   where

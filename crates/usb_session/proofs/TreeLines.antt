@@ -68,7 +68,7 @@ on_tree-does state trees.List = listed-does state (devices state.tree)
 on_tree-does state trees.Buses = listed_buses-does state (buses state.tree)
 on_tree-does state (trees.Probe path) = probed-does state (probe state.tree path)
 on_tree-does state (trees.Match path selector) = looked_for-does state (matched state.tree path selector)
-on_tree-does state trees.Hotplug = ends (event-other (hotplug_polled state.tree state.packets)) (quiet-aside state (record state { packets = drop 1 state.packets }) refl refl refl refl)
+on_tree-does state trees.Hotplug = ends (event-other (hotplug_polled state.tree state.packets)) (quiet-aside state (record state { packets = drop 1 state.packets }) refl refl (λ d. refl) refl refl)
 
 opened_probed-does : (state : State) (d : ℕ) (r : Result DeviceFacts SysfsError) → Does state (opened_probed state d r)
 opened_probed-does state d (Ok device) = opened_at-does state d device.numbers.busnum device.numbers.address

@@ -1,5 +1,5 @@
 -- Calls on one endpoint of a session: what they keep.
-use Rattle.std.proofs.Common.{◌≡◌, ◌≢◌, ℕ, ◌<◌, ◌≤◌, List, [], length, map, Option, Some, None, false, refl, ap, sym, ◌∙◌, subst, inl, inr}
+use Rattle.std.proofs.Common.{◌≡◌, ◌≢◌, ℕ, ◌<◌, ◌≤◌, List, [], length, map, Option, Some, None, true, false, refl, ap, sym, ◌∙◌, subst, inl, inr}
 use Rattle.std.specs.Option.{option_map}
 use Rattle.std.proofs.lemmas.Bool.{cases_eq}
 use Rattle.std.proofs.lemmas.Option.{none-some, same_Some}
@@ -15,7 +15,7 @@ use Rattle.usb_device_ledger.proofs.DeviceLemmas.{KeepsCounts, counts-there, ope
 use Rattle.usb_device.proofs.DeviceLemmas.{counts-stands}
 use Rattle.usb_device.proofs.HeldDevices.{held-goes}
 use Rattle.usb_device.proofs.StandLemmas.{StandsInterface-same}
-use Rattle.usb_session_calls.specs.Names.{named, change_named, freed, set_name}
+use Rattle.usb_session_calls.specs.Names.{named, is_free, change_named, freed, set_name}
 use Rattle.usb_io.specs.Readers.{ReaderState}
 use Rattle.usb_io.specs.Writers.{WriterState}
 use Rattle.usb_session_calls.specs.EndpointNames.{EndpointName, Own, OfReader, OfWriter, endpoint_under}
@@ -23,7 +23,7 @@ use Rattle.usb_session_calls.specs.State.{State, Endpoint, Reader, Writer, endpo
 use Rattle.usb_session_calls.specs.SessionState.{SessionState, IsSound, open_under}
 use Rattle.usb_session_calls.specs.Relation.{Represents, session_of}
 use Rattle.usb_session_calls.proofs.Answering.{under_kept}
-use Rattle.usb_session_calls.proofs.EndpointNameLemmas.{Changed, changed-back, changed-gone, own-changed, reader-changed, writer-changed, change-changes, freed-changes}
+use Rattle.usb_session_calls.proofs.EndpointNameLemmas.{Changed, ChangedAt, changed-back, changed-gone, own-changed, reader-changed, writer-changed, set-changes, change-changes, freed-changes}
 use Rattle.usb_session_calls.proofs.CountedNames.{counted-goes}
 use Rattle.usb_session_calls.proofs.CountedDevices.{devices-kept}
 use Rattle.usb_session_calls.proofs.NamedKeys.{OpensNone, named-goes, named-put, named-closed}
@@ -54,6 +54,17 @@ pub record SameCounts (s : SessionState) (es : List (Option EndpointState)) (rs 
   pub endpoints : length es ≡ length s.endpoints
   pub readers : length rs ≡ length s.readers
   pub writers : length ws ≡ length s.writers
+
+-- what becomes of its endpoints where the names of one kind changed
+module _ (s : SessionState) (now : HostState) (n : ℕ) where
+  pub own-open : (after : List (Option EndpointState)) (o : Option EndpointState) → ChangedAt s.endpoints after n o → Changed (open_under s) (open_under (record s { host = now; endpoints = after })) (Own n) o
+  own-open after o c = own-changed (λ (x : ReaderState). x.endpoint) (λ (x : WriterState). x.endpoint) s.endpoints s.readers s.writers after n o c
+
+  pub reader-open : (after : List (Option ReaderState)) (o : Option ReaderState) → ChangedAt s.readers after n o → Changed (open_under s) (open_under (record s { host = now; readers = after })) (OfReader n) (option_map (λ (x : ReaderState). x.endpoint) o)
+  reader-open after o c = reader-changed (λ (x : ReaderState). x.endpoint) (λ (x : WriterState). x.endpoint) s.endpoints s.readers s.writers after n o c
+
+  pub writer-open : (after : List (Option WriterState)) (o : Option WriterState) → ChangedAt s.writers after n o → Changed (open_under s) (open_under (record s { host = now; writers = after })) (OfWriter n) (option_map (λ (x : WriterState). x.endpoint) o)
+  writer-open after o c = writer-changed (λ (x : ReaderState). x.endpoint) (λ (x : WriterState). x.endpoint) s.endpoints s.readers s.writers after n o c
 
 -- futures stand over a call on an endpoint
 futures-other : (s : SessionState) (now : HostState) (e : EndpointName) (x : EndpointState) → IsSound s → open_under s e ≡ Some x → KeepsSession s.host now → KeepsOthers (bus_of s.host) (bus_of now) x.key → (n : ℕ) (f : FutureState) → named s.futures n ≡ Some f → StandsFuture now f
@@ -240,6 +251,15 @@ represents-put s state now f e h y r was same few =
     (change-kept endpoint_state f state.endpoints s.endpoints e h y (endpoints_kept s state r) was same) (readers_kept s state r) (writers_kept s state r)
     (few-put (endpoint_under state) (endpoint_under (state_with state now (change_named f state.endpoints e) state.readers state.writers)) (Own e) (f h)
     (own-changed (λ (x : Reader). x.endpoint) (λ (x : Writer). x.endpoint) state.endpoints state.readers state.writers (change_named f state.endpoints e) e (Some (f h)) (change-changes f state.endpoints e h was)) few r.few)
+
+-- or opened, under a name that is free
+pub represents-set : (s : SessionState) (state : State) (now : HostState) (e : ℕ) (h : Endpoint) → Represents s state → is_free state.endpoints e ≡ true → h.taken ≤ length h.tickets
+    → Represents (record s { host = now; endpoints = set_name s.endpoints e (endpoint_state h) }) (record state { host = now; endpoints = set_name state.endpoints e h })
+represents-set s state now e h r free few =
+    represents-open s state now (set_name s.endpoints e (endpoint_state h)) s.readers s.writers (set_name state.endpoints e h) state.readers state.writers r
+    (set-kept endpoint_state state.endpoints s.endpoints e h (endpoints_kept s state r)) (readers_kept s state r) (writers_kept s state r)
+    (few-put (endpoint_under state) (endpoint_under (state_with state now (set_name state.endpoints e h) state.readers state.writers)) (Own e) h
+    (own-changed (λ (x : Reader). x.endpoint) (λ (x : Writer). x.endpoint) state.endpoints state.readers state.writers (set_name state.endpoints e h) e (Some h) (set-changes state.endpoints e h free)) few r.few)
 
 -- a reader was called and put back
 pub represents-reader : (s : SessionState) (state : State) (now : HostState) (f : Reader → Reader) (n : ℕ) (x : Reader) (y : ReaderState) → Represents s state → named state.readers n ≡ Some x → state_of_reader (f x) ≡ y → (f x).endpoint.taken ≤ length (f x).endpoint.tickets

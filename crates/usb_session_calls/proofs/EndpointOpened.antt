@@ -1,7 +1,6 @@
 -- Endpoints of claimed interfaces are opened.
-use Rattle.std.proofs.Common.{◌≡◌, ◌≢◌, ℕ, ◌<◌, ◌≤◌, arith, List, [], ◌∷◌, ◌++◌, length, map, Option, Some, None, Result, Ok, Err, Bool, true, false, refl, ap, sym, ◌∙◌, subst, inl, inr}
+use Rattle.std.proofs.Common.{◌≡◌, ◌≢◌, ℕ, ◌<◌, arith, List, [], ◌∷◌, ◌++◌, length, Option, Some, None, Result, Ok, Err, Bool, true, false, refl, ap, sym, ◌∙◌, subst, inl, inr}
 use Rattle.std.specs.Prelude.{not, ◌==◌, if◌then◌else◌}
-use Rattle.std.specs.Option.{option_map}
 use Rattle.std.proofs.Math.Nat.{mod-lt}
 use Rattle.usb_device_tables.specs.History.{value_at}
 use Rattle.usb_desc.specs.declared.types.Direction.{Direction}
@@ -27,10 +26,11 @@ use Rattle.usb_device.proofs.StandLemmas.{StandsInterface-same}
 use Rattle.usb_device_host.proofs.InterfaceFrames.{asked-is, asked-counts}
 use Rattle.usb_device.proofs.FreshKeys.{endpoint-within}
 use Rattle.usb_session_calls.specs.Names.{named, is_free, set_name}
-use Rattle.usb_session_calls.specs.State.{State, Endpoint, endpoint_state, with_host}
+use Rattle.usb_session_calls.specs.State.{State, endpoint_state, with_host}
 use Rattle.usb_session_calls.specs.OpenAt.{InterfaceAt}
 use Rattle.usb_session_calls.specs.Endpoints.{new_endpoint, endpoint_as, endpoint_answer}
-use Rattle.usb_session_calls.specs.SessionState.{SessionState, IsSound}
+use Rattle.usb_session_calls.specs.EndpointNames.{EndpointName, Own}
+use Rattle.usb_session_calls.specs.SessionState.{SessionState, IsSound, open_under}
 use Rattle.usb_session_calls.specs.Relation.{Represents, session_of}
 use Rattle.usb_device_ledger.proofs.DeviceLemmas.{KeepsCounts, counts-there, opened-counts}
 use Rattle.usb_device.proofs.DeviceLemmas.{counts-stands}
@@ -39,8 +39,9 @@ use Rattle.usb_device_host.proofs.ClaimFrames.{goes-same}
 use Rattle.usb_device.proofs.HeldDevices.{held-goes}
 use Rattle.usb_session_calls.proofs.CountedDevices.{devices-kept}
 use Rattle.usb_session_calls.proofs.CountedNames.{counted-goes}
-use Rattle.usb_session_calls.proofs.NameLemmas.{length-set_name, map-set, is_free-map, names-set}
-use Rattle.usb_session_calls.proofs.Called.{KeepsSession, sound-host, represents-host}
+use Rattle.usb_session_calls.proofs.NameLemmas.{length-set_name, is_free-map, free-none}
+use Rattle.usb_session_calls.proofs.Called.{KeepsSession, sound-host, represents-host, represents-set, own-open}
+use Rattle.usb_session_calls.proofs.EndpointNameLemmas.{Changed, ChangedAt, changed-back, set-changes}
 use Rattle.usb_session_calls.proofs.Answering.{Gives, barred-gives, free_kept}
 use Rattle.usb_session_calls.proofs.NamedKeys.{none-bus, named-opened}
 use Rattle.usb_session_calls.proofs.FutureLemmas.{control_with, future-goes, future-within, past-same}
@@ -115,7 +116,8 @@ maximum-small h i c address kind direction m is =
 pub endpoint-sound : (s : SessionState) (now : HostState) (after : List (Option EndpointState)) (e i address : ℕ) (y : EndpointState) (c : ClaimedInterface) → IsSound s → now ≡ with_endpoint (host_asked s.host c.opened) i address → y.key ≡ length s.host.endpoints → y.maximum < 2048 → Stands (bus_of now) y → KeepsOthers (bus_of s.host) (bus_of now) y.key → is_free s.endpoints e ≡ true → after ≡ set_name s.endpoints e y → IsSound (record s { host = now; endpoints = after })
 endpoint-sound s now after e i address y c sound is key small stands others free put =
     let keeps = opened-keeps s.host now c.opened i address sound.idle is in
-    let old : (d : ℕ) (g : EndpointState) → named s.endpoints d ≡ Some g → g.key ≢ y.key = λ d g at. apart-next g.key y.key (length s.host.endpoints) (endpoint-within s.host g (sound.endpoints_stand d g at)) key in
+    let opened : Changed (open_under s) (open_under (record s { host = now; endpoints = after })) (Own e) (Some y) = own-open s now e after (Some y) (subst (λ l. ChangedAt s.endpoints l e (Some y)) (sym put) (set-changes s.endpoints e y free)) in
+    let old : (d : EndpointName) (g : EndpointState) → open_under s d ≡ Some g → g.key ≢ y.key = λ d g at. apart-next g.key y.key (length s.host.endpoints) (endpoint-within s.host g (sound.endpoints_stand d g at)) key in
     let newer : (n : ℕ) (f : FutureState) → named s.futures n ≡ Some f → f.key ≢ y.key = λ n f at. apart-next f.key y.key (length s.host.endpoints) (future-within s.host f (sound.futures_wait n f at) (sound.futures_stand n f at)) key in
     record {
       idle = keeps.idle;
@@ -129,60 +131,50 @@ endpoint-sound s now after e i address y c sound is key small stands others free
       devices_held = held-goes s.host now keeps.devices keeps.interfaces sound.devices_held;
       interfaces_stand = λ j f at. StandsInterface-same s.host now f keeps.interfaces (counts-there s.host.devices now.devices keeps.devices) (sound.interfaces_stand j f at);
       interfaces_counted = counted-goes s.host.interfaces now.interfaces s.interfaces keeps.interfaces sound.interfaces_counted;
-      endpoints_stand = λ d h at. elim (names-set s.endpoints after e d y h free put at) [
+      endpoints_stand = λ d h at. elim (changed-back _ _ (Own e) d h y opened at) [
         | inl here ↦ subst (Stands (bus_of now)) (sym here.1) stands
         | inr there ↦ Stands-other (bus_of s.host) (bus_of now) y.key h others (old d h there.1) (sound.endpoints_stand d h there.1)
       ];
-      endpoints_small = λ d h at. elim (names-set s.endpoints after e d y h free put at) [
+      endpoints_small = λ d h at. elim (changed-back _ _ (Own e) d h y opened at) [
         | inl here ↦ subst (λ (z : EndpointState). z.maximum < 2048) (sym here.1) small
         | inr there ↦ sound.endpoints_small d h there.1
       ];
-      endpoints_differ = λ j k g h isg ish apart. elim (names-set s.endpoints after e j y g free put isg) [
-        | inl herej ↦ elim (names-set s.endpoints after e k y h free put ish) [
+      endpoints_differ = λ j k g h isg ish apart. elim (changed-back _ _ (Own e) j g y opened isg) [
+        | inl herej ↦ elim (changed-back _ _ (Own e) k h y opened ish) [
           | inl herek ↦ absurd (apart (herej.0 ∙ sym herek.0))
           | inr therek ↦ λ same. old k h therek.1 (sym same ∙ ap (λ (z : EndpointState). z.key) herej.1)
         ]
-        | inr therej ↦ elim (names-set s.endpoints after e k y h free put ish) [
+        | inr therej ↦ elim (changed-back _ _ (Own e) k h y opened ish) [
           | inl herek ↦ λ same. old j g therej.1 (same ∙ ap (λ (z : EndpointState). z.key) herek.1)
           | inr therek ↦ sound.endpoints_differ j k g h therej.1 therek.1 apart
         ]
       ];
       keys_named =
-          named-opened s.host.endpoints now.endpoints s.endpoints after s.futures e (record { interface = Some i; address = address; is_open = true }) y
-          (opened-endpoints s.host now c.opened i address is) key free put sound.keys_named;
+          named-opened s.host.endpoints now.endpoints (open_under s) (open_under (record s { host = now; endpoints = after })) s.futures (Own e) (record { interface = Some i; address = address; is_open = true }) y
+          (opened-endpoints s.host now c.opened i address is) key (free-none s.endpoints e free) opened sound.keys_named;
       future_names = sound.future_names;
       futures_wait = sound.futures_wait;
       futures_stand = λ n f at. future-goes s.host now f (λ t. Stands-other (bus_of s.host) (bus_of now) y.key (control_with f.key t) others (newer n f at)) keeps.past (sound.futures_stand n f at);
       futures_differ = sound.futures_differ;
-      futures_apart = λ d n h f ish isf. elim (names-set s.endpoints after e d y h free put ish) [
+      futures_apart = λ d n h f ish isf. elim (changed-back _ _ (Own e) d h y opened ish) [
         | inl here ↦ λ same. newer n f isf (sym same ∙ ap (λ (z : EndpointState). z.key) here.1)
         | inr there ↦ sound.futures_apart d n h f there.1 isf
       ];
     }
 
 -- the state in which it is open
-few-set : (state : State) (e : ℕ) (z : Endpoint) → ((d : ℕ) (g : Endpoint) → named state.endpoints d ≡ Some g → g.taken ≤ length g.tickets) → is_free state.endpoints e ≡ true → z.taken ≤ length z.tickets → (d : ℕ) (g : Endpoint) → named (set_name state.endpoints e z) d ≡ Some g → g.taken ≤ length g.tickets
-few-set state e z few free fresh d g at =
-    elim (names-set state.endpoints (set_name state.endpoints e z) e d z g free refl at) [
-      | inl here ↦ subst (λ (x : Endpoint). x.taken ≤ length x.tickets) (sym here.1) fresh
-      | inr there ↦ few d g there.1
-    ]
-
 open-as : (state : State) (host now : HostState) (after : List (Option EndpointState)) (e address maximum : ℕ) (kind : TransferType) (x : InterfaceAt) (y : EndpointState) (t : Result ℕ ErrorState) → Represents (session_of state) state → is_free (session_of state).endpoints e ≡ true → t ≡ Ok maximum → y ≡ fresh_endpoint x.claimed address kind maximum (length host.endpoints) → now ≡ with_endpoint host x.handle.key address → after ≡ set_name (session_of state).endpoints e y → Gives (record (session_of state) { host = now; endpoints = after }) ok_line (endpoint_as (with_host state host) e address kind x t)
 open-as state host now after e address maximum kind x y (Err error) r free tried fresh is put = absurd (cc)
 open-as state host now after e address maximum kind x y (Ok m) r free tried fresh is put =
     let same : maximum ≡ m = cc in
     let z = new_endpoint host x.claimed.device address kind m in
-    let names : after ≡ map (option_map endpoint_state) (set_name state.endpoints e z) =
-    put ∙ ap (set_name (map (option_map endpoint_state) state.endpoints) e) (fresh ∙ ap (λ (n : ℕ). fresh_endpoint x.claimed address kind n (length host.endpoints)) same)
-    ∙ sym (map-set endpoint_state state.endpoints e z) in
+    let names : after ≡ set_name (session_of state).endpoints e (endpoint_state z) = put ∙ ap (set_name (session_of state).endpoints e) (fresh ∙ ap (λ (n : ℕ). fresh_endpoint x.claimed address kind n (length host.endpoints)) same) in
+    let now_is = with_endpoint host x.handle.key address in
     record {
-      state = record {
-        is =
-            ap (λ (g : HostState). record (session_of state) { host = g; endpoints = after }) is
-            ∙ ap (λ (l : List (Option EndpointState)). record (session_of state) { host = with_endpoint host x.handle.key address; endpoints = l }) names;
-        few = few-set state e z r.few (sym (is_free-map endpoint_state state.endpoints e) ∙ free) (omega arith);
-      };
+      state =
+          subst (λ (g : HostState). Represents (record (session_of state) { host = g; endpoints = after }) (record state { host = now_is; endpoints = set_name state.endpoints e z })) (sym is)
+          (subst (λ (l : List (Option EndpointState)). Represents (record (session_of state) { host = now_is; endpoints = l }) (record state { host = now_is; endpoints = set_name state.endpoints e z })) (sym names)
+          (represents-set (session_of state) state now_is e z r (sym (is_free-map endpoint_state state.endpoints e) ∙ free) (omega arith)));
       same = refl;
     }
 

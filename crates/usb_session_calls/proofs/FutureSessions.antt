@@ -25,7 +25,8 @@ use Rattle.usb_device.proofs.HeldDevices.{held-goes}
 use Rattle.usb_device_host.proofs.HostKeeps.{KeepsOpen}
 use Rattle.usb_device.proofs.StandLemmas.{StandsInterface-same}
 use Rattle.usb_session_calls.specs.Names.{named, is_free, freed, set_name}
-use Rattle.usb_session_calls.specs.SessionState.{SessionState, IsSound}
+use Rattle.usb_session_calls.specs.EndpointNames.{EndpointName}
+use Rattle.usb_session_calls.specs.SessionState.{SessionState, IsSound, open_under}
 use Rattle.usb_session_calls.proofs.Called.{KeepsSession, names-freed}
 use Rattle.usb_session_calls.proofs.CountedNames.{counted-goes}
 use Rattle.usb_session_calls.proofs.CountedDevices.{devices-kept}
@@ -117,7 +118,7 @@ sound-future_freed s now after n x sound was rest leaves =
           future-goes s.host now f (λ t. Stands-other (bus_of s.host) (bus_of now) x.key (control_with f.key t) leaves.others (sound.futures_differ m n f x there.1 was there.0)) keeps.past (sound.futures_stand m f there.1);
       futures_differ = λ m k f g isf isg apart. sound.futures_differ m k f g (before m f isf).1 (before k g isg).1 apart;
       futures_apart = λ e m h f ish isf. sound.futures_apart e m h f ish (before m f isf).1;
-      keys_named = named-future_closed s.host.endpoints now.endpoints s.endpoints s.futures after n x leaves.none leaves.closed was rest sound.keys_named;
+      keys_named = named-future_closed s.host.endpoints now.endpoints (open_under s) s.futures after n x leaves.none leaves.closed was rest sound.keys_named;
     }
 
 -- a future is open under a name that was free
@@ -125,7 +126,7 @@ pub sound-future_opened : (s : SessionState) (now : HostState) (after : List (Op
     → KeepsSession s.host now → KeepsOthers (bus_of s.host) (bus_of now) x.key → now.endpoints ≡ s.host.endpoints ++ Some h ∷ [] → IsSound (record s { host = now; futures = after })
 sound-future_opened s now after n x h sound free put key some stands keeps others more =
     let old : (f : FutureState) (m : ℕ) → named s.futures m ≡ Some f → f.key ≢ x.key = λ f m at. apart f.key (future-within s.host f (sound.futures_wait m f at) (sound.futures_stand m f at)) in
-    let older : (g : EndpointState) (e : ℕ) → named s.endpoints e ≡ Some g → g.key ≢ x.key = λ g e at. apart g.key (endpoint-within s.host g (sound.endpoints_stand e g at)) in
+    let older : (g : EndpointState) (e : EndpointName) → open_under s e ≡ Some g → g.key ≢ x.key = λ g e at. apart g.key (endpoint-within s.host g (sound.endpoints_stand e g at)) in
     record {
       idle = keeps.idle;
       device_names = sound.device_names;
@@ -165,7 +166,7 @@ sound-future_opened s now after n x h sound free put key some stands keeps other
         | inl here ↦ λ same. older g e isg (same ∙ ap (λ (z : FutureState). z.key) here.1)
         | inr there ↦ sound.futures_apart e m g f isg there.1
       ];
-      keys_named = named-future_opened s.host.endpoints now.endpoints s.endpoints s.futures after n h x more key free put sound.keys_named;
+      keys_named = named-future_opened s.host.endpoints now.endpoints (open_under s) s.futures after n h x more key free put sound.keys_named;
     }
   where
     apart : (k : ℕ) → k < length s.host.endpoints → k ≢ x.key

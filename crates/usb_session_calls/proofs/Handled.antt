@@ -23,7 +23,7 @@ use Rattle.usb_device_host.proofs.CalledHosts.{setting-in_use, setting-asked}
 use Rattle.std.proofs.lemmas.Bool.{cases_Bool}
 use Rattle.usb_session_calls.specs.Names.{named, is_free, freed, set_name}
 use Rattle.usb_session_calls.specs.State.{State}
-use Rattle.usb_session_calls.specs.SessionState.{SessionState, IsSound}
+use Rattle.usb_session_calls.specs.SessionState.{SessionState, IsSound, open_under}
 use Rattle.usb_session_calls.specs.Relation.{Represents}
 use Rattle.usb_session_calls.proofs.NameLemmas.{length-set_name, length-freed, names-set}
 use Rattle.usb_session_calls.proofs.CountedNames.{Counted, counted-same, counted-goes, counted-open, counted-claimed, counted-closed, counted-cloned, counted-changed}
@@ -50,7 +50,7 @@ sound-handled s now after sound keeps names stands counted held =
       endpoints_stand = λ e h at. subst (λ (b : BusState). Stands b h) (sym keeps.bus) (sound.endpoints_stand e h at);
       endpoints_small = sound.endpoints_small;
       endpoints_differ = sound.endpoints_differ;
-      keys_named = named-goes s.host.endpoints now.endpoints s.endpoints s.futures (none-bus s.host now keeps.bus) sound.keys_named;
+      keys_named = named-goes s.host.endpoints now.endpoints (open_under s) s.futures (none-bus s.host now keeps.bus) sound.keys_named;
       future_names = sound.future_names;
       futures_wait = sound.futures_wait;
       futures_stand = λ n f at. future-same s.host now f keeps.bus (sound.futures_stand n f at);

@@ -1,7 +1,8 @@
 -- Names: what is open under each.
-use Rattle.std.proofs.Common.{◌≡◌, ◌≢◌, ℕ, ◌<◌, ◌≤◌, ◌+◌, suc, zero, arith, List, [], ◌∷◌, ◌++◌, length, set, get_or, map, replicate, Option, Some, None, Bor, Bool, true, refl, ap, sym, ◌∙◌, slice_get, inl, inr, ◌⊎◌}
+use Rattle.std.proofs.Common.{◌≡◌, ◌≢◌, ℕ, ◌<◌, ◌≤◌, suc, zero, arith, List, [], ◌∷◌, ◌++◌, length, set, get_or, map, replicate, Option, Some, None, Bor, Bool, true, refl, ap, sym, ◌∙◌, slice_get, inl, inr, ◌⊎◌}
 use Rattle.std.proofs.lemmas.Bool.{cases_eq}
 use Rattle.std.specs.Option.{option_map, option_copied}
+use Rattle.std.proofs.lemmas.Iterator.Adapters.{option_map_id}
 use Rattle.std.proofs.lemmas.Option.{slice_get-map, slice_get_past, slice_get_read, slice_get_within, none-some, same_Some}
 use Rattle.usb_session_calls.specs.Names.{named, flat, is_free, is_free_place, change_at, change_named, freed, nothing, set_name, something}
 
@@ -113,6 +114,9 @@ pub free_place : {X : Type 0} (xs : List (Option X)) (n : ℕ) → is_free xs n 
 unfolding is_free
 free_place xs n free = free-is (slice_get xs n) free
 
+pub free-none : {X : Type 0} (xs : List (Option X)) (n : ℕ) → is_free xs n ≡ true → named xs n ≡ None
+free-none xs n free = named_of xs n None (free_place xs n free)
+
 pub named-set : {X : Type 0} (xs : List (Option X)) (n : ℕ) (x : X) → is_free xs n ≡ true → named (set_name xs n x) n ≡ Some x
 unfolding named set_name
 named-set xs n x free = rw (slice_get-change (something x) xs n, free_place xs n free) refl
@@ -142,6 +146,11 @@ pub put-back : {X : Type 0} (xs : List (Option X)) (n : ℕ) (x : X) → named x
 unfolding set_name freed
 put-back xs n x is =
     change-change nothing (something x) (λ o. o) xs n (λ o at. sym (same_Some o (Some x) (sym at ∙ place_of xs n x is))) ∙ change-same (λ o. o) xs n (λ o at. refl)
+
+-- a change that leaves what is open as it is
+pub change_named-none : {X : Type 0} (xs : List (Option X)) (n : ℕ) → change_named (λ x. x) xs n ≡ xs
+unfolding change_named
+change_named-none xs n = change-same (option_map (λ x. x)) xs n (λ o at. option_map_id o)
 
 -- names seen through a function
 pub map-freed : {X Y : Type 0} (v : X → Y) (xs : List (Option X)) (n : ℕ) → map (option_map v) (freed xs n) ≡ freed (map (option_map v) xs) n
@@ -221,7 +230,7 @@ pub free-within : {X : Type 0} (xs : List (Option X)) (n : ℕ) → is_free xs n
 free-within xs n free = slice_get_within xs n None (free_place xs n free)
 
 pub free-read : {X : Type 0} (xs : List (Option X)) (n : ℕ) (x : Option X) → is_free xs n ≡ true → x ≡ get_or xs n x → x ≡ None
-free-read xs n x free read = named-read xs n x (free-within xs n free) read ∙ named_of xs n None (free_place xs n free)
+free-read xs n x free read = named-read xs n x (free-within xs n free) read ∙ free-none xs n free
 
 -- all names but the last
 pub slice_get-front : {X : Type 0} (xs ys : List X) (n : ℕ) (x : X) → slice_get xs n ≡ Some x → slice_get (xs ++ ys) n ≡ Some x
@@ -253,47 +262,6 @@ names-set xs after n m y z free put is =
       | inl same ↦ inl (same, same_Some z y (sym is ∙ ap (λ l. named l m) put ∙ ap (named (set_name xs n y)) same ∙ named-set xs n y free))
       | inr apart ↦ inr (apart, sym (named-set_other xs n m y apart) ∙ sym (ap (λ l. named l m) put) ∙ is)
     ]
-
--- one list of names behind another: the places of the first, and those of the second
-pub slice_get-left : {X : Type 0} (xs ys : List X) (n : ℕ) → n < length xs → slice_get (xs ++ ys) n ≡ slice_get xs n
-slice_get-left [] ys n below = absurd (omega arith)
-slice_get-left (x ∷ xs) ys zero below = refl
-slice_get-left (x ∷ xs) ys (suc n) below = slice_get-left xs ys n (omega arith)
-
-pub slice_get-right : {X : Type 0} (xs ys : List X) (n m : ℕ) → m ≡ length xs + n → slice_get (xs ++ ys) m ≡ slice_get ys n
-slice_get-right [] ys n m is = let same : m ≡ n = omega arith in ap (slice_get ys) same
-slice_get-right (x ∷ xs) ys n zero is = absurd (omega arith)
-slice_get-right (x ∷ xs) ys n (suc m) is = slice_get-right xs ys n m (omega arith)
-
-pub change-left : {X : Type 0} (f : X → X) (xs ys : List X) (n : ℕ) → n < length xs → change_at f (xs ++ ys) n ≡ change_at f xs n ++ ys
-change-left f [] ys n below = absurd (omega arith)
-change-left f (x ∷ xs) ys zero below = refl
-change-left f (x ∷ xs) ys (suc n) below = ap (λ l. x ∷ l) (change-left f xs ys n (omega arith))
-
-pub change-right : {X : Type 0} (f : X → X) (xs ys : List X) (n m : ℕ) → m ≡ length xs + n → change_at f (xs ++ ys) m ≡ xs ++ change_at f ys n
-change-right f [] ys n m is = let same : m ≡ n = omega arith in ap (change_at f ys) same
-change-right f (x ∷ xs) ys n zero is = absurd (omega arith)
-change-right f (x ∷ xs) ys n (suc m) is = ap (λ l. x ∷ l) (change-right f xs ys n m (omega arith))
-
-pub named-left : {X : Type 0} (xs ys : List (Option X)) (n : ℕ) → n < length xs → named (xs ++ ys) n ≡ named xs n
-unfolding named
-named-left xs ys n below = ap flat (slice_get-left xs ys n below)
-
-pub named-right : {X : Type 0} (xs ys : List (Option X)) (n m : ℕ) → m ≡ length xs + n → named (xs ++ ys) m ≡ named ys n
-unfolding named
-named-right xs ys n m is = ap flat (slice_get-right xs ys n m is)
-
-pub is_free-right : {X : Type 0} (xs ys : List (Option X)) (n m : ℕ) → m ≡ length xs + n → is_free (xs ++ ys) m ≡ is_free ys n
-unfolding is_free
-is_free-right xs ys n m is = ap is_free_place (slice_get-right xs ys n m is)
-
-pub freed-right : {X : Type 0} (xs ys : List (Option X)) (n m : ℕ) → m ≡ length xs + n → freed (xs ++ ys) m ≡ xs ++ freed ys n
-unfolding freed
-freed-right xs ys n m is = change-right nothing xs ys n m is
-
-pub set-right : {X : Type 0} (xs ys : List (Option X)) (n m : ℕ) (x : X) → m ≡ length xs + n → set_name (xs ++ ys) m x ≡ xs ++ set_name ys n x
-unfolding set_name
-set-right xs ys n m x is = change-right (something x) xs ys n m is
 
 -- what the code found under a name
 pub found_at : {X : Type 0} (names shown : List (Option X)) (name number : ℕ) (o : Option (Bor X)) (r : Option X) → shown ≡ names → number ≡ name → option_copied o ≡ named shown number → option_copied o ≡ r → named names name ≡ r

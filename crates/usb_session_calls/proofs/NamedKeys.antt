@@ -16,7 +16,7 @@ use Rattle.usb_session_calls.specs.Names.{named, is_free, freed, set_name}
 use Rattle.usb_session_calls.specs.SessionState.{IsNamed, IsUnder, KeysAreNamed, future_key}
 use Rattle.usb_session_calls.specs.EndpointNames.{EndpointName}
 use Rattle.usb_session_calls.proofs.EndpointNameLemmas.{Changed, cases_name}
-use Rattle.usb_session_calls.proofs.NameLemmas.{free_place, named_of, named-set, named-set_other, named-freed_other}
+use Rattle.usb_session_calls.proofs.NameLemmas.{free-none, named-set, named-set_other, named-freed_other}
 
 -- no endpoint was opened
 abbrev pub OpensNone : List (Option HostEndpoint) → List (Option HostEndpoint) → Type 0
@@ -58,7 +58,7 @@ module _ {X : Type 0} (key_of : X → ℕ) (names after : List (Option X)) (e : 
   is_named-other : (y : X) (key : ℕ) → is_free names e ≡ true → after ≡ set_name names e y → IsNamed key_of names key → IsNamed key_of after key
   is_named-other y key free put n =
       elim (cases_eq n.name e) [
-        | inl same ↦ absurd (none-some n.entry (sym (named_of names e None (free_place names e free)) ∙ ap (named names) (sym same) ∙ n.at))
+        | inl same ↦ absurd (none-some n.entry (sym (free-none names e free) ∙ ap (named names) (sym same) ∙ n.at))
         | inr apart ↦
             record {
               name = n.name;

@@ -27,8 +27,8 @@ use Rattle.usb_session_calls.specs.SessionState.{SessionState}
 use Rattle.usb_session_calls.specs.Relation.{Represents}
 use Rattle.usb_session_calls.specs.OpenCalls.{CallAnswers, with_called}
 use Rattle.usb_session_calls.proofs.Answering.{named_kept, host_is, told-answered}
-use Rattle.usb_session_calls.proofs.NameLemmas.{put-changed, put-back}
-use Rattle.usb_session_calls.proofs.Called.{represents-put, represents-host}
+use Rattle.usb_session_calls.proofs.NameLemmas.{change_named-none}
+use Rattle.usb_session_calls.proofs.Called.{represents-put}
 
 -- an answer by which the host is another and the endpoint is changed, and a line is told
 pub record Comes (state : State) (e : ℕ) (h : Endpoint) (now : HostState) (y : EndpointState) (f : Endpoint → Endpoint) (line : List ℕ) (a : Answer) : Type 0 where
@@ -51,18 +51,15 @@ call-comes old now x y before text (Ok done) f line call printed comes =
     printed)
 
 -- only the host goes on
-with_same : (s : SessionState) (e : ℕ) (x y : EndpointState) (host : HostState) → y ≡ x → named s.endpoints e ≡ Some x → record s { host = host } ≡ with_called s e host y
-with_same s e x y host same was =
-    ap (λ (l : List (Option EndpointState)). record s { host = host; endpoints = l }) (sym (put-back s.endpoints e x was) ∙ put-changed (λ z. x) s.endpoints e x x was refl)
-    ∙ ap (with_called s e host) (sym same)
-
 pub call-host : {E : Type 0} (old now : HostState) (x y : EndpointState) (before text : String Global) (result : Result Unit E) (line : List ℕ) (call : State → ℕ → Endpoint → Answer) → y ≡ x → OnOk result (string_bytes text ≡ string_bytes before ++ line) → ((state : State) (e : ℕ) (h : Endpoint) → state.host ≡ old → endpoint_state h ≡ x → call state e h ≡ answer_with (with_host state now) line) → CallAnswers old now x y before text result call
-call-host old now x y before text (Err error) line call same printed tells = tt
-call-host old now x y before text (Ok done) line call same printed tells =
-    λ s state e h r host was at.
-    subst (Answered (with_called s e now y) (string_bytes before) (string_bytes text)) (sym (tells state e h (sym (host_is s state r) ∙ host) (kept_at s state e x h r was at)))
-    (subst (λ v. Answered v (string_bytes before) (string_bytes text) (answer_with (with_host state now) line)) (with_same s e x y now same was)
-    (told-answered (record s { host = now }) (with_host state now) (string_bytes before) (string_bytes text) line (represents-host s state now r) printed))
+call-host old now x y before text result line call same printed tells =
+    call-comes old now x y before text result (λ z. z) line call printed
+    (λ state e h host_was kept_is few.
+    record {
+      is = tells state e h host_was kept_is ∙ ap (λ (l : List (Option Endpoint)). answer_with (record state { host = now; endpoints = l }) line) (sym (change_named-none state.endpoints e));
+      kept_is = kept_is ∙ sym same;
+      few = few;
+    })
 
 -- nothing is changed
 pub call-told : {E : Type 0} (old now : HostState) (x y : EndpointState) (before text : String Global) (result : Result Unit E) (line : List ℕ) (call : State → ℕ → Endpoint → Answer) → now ≡ old → y ≡ x → OnOk result (string_bytes text ≡ string_bytes before ++ line) → ((state : State) (e : ℕ) (h : Endpoint) → state.host ≡ old → endpoint_state h ≡ x → call state e h ≡ answer_with state line) → CallAnswers old now x y before text result call

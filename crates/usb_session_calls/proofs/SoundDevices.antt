@@ -10,7 +10,7 @@ use Rattle.usb_device_host.specs.HostBus.{bus_of}
 use Rattle.usb_device.specs.HandleStates.{InterfaceState, StandsDevice, StandsInterface}
 use Rattle.usb_device.specs.DeviceLaws.{DevicesAreHeld}
 use Rattle.usb_session_calls.specs.Names.{named}
-use Rattle.usb_session_calls.specs.SessionState.{SessionState, IsSound}
+use Rattle.usb_session_calls.specs.SessionState.{SessionState, IsSound, open_under}
 use Rattle.usb_session_calls.proofs.CountedNames.{counted-same}
 use Rattle.usb_session_calls.proofs.CountedDevices.{CountedDevices}
 use Rattle.usb_session_calls.proofs.NamedKeys.{none-bus, named-goes}
@@ -44,7 +44,7 @@ sound-device s now after sound steps interfaces bus names stand counted held =
       endpoints_stand = λ e h at. subst (λ (b : BusState). Stands b h) (sym bus) (sound.endpoints_stand e h at);
       endpoints_small = sound.endpoints_small;
       endpoints_differ = sound.endpoints_differ;
-      keys_named = named-goes s.host.endpoints now.endpoints s.endpoints s.futures (none-bus s.host now bus) sound.keys_named;
+      keys_named = named-goes s.host.endpoints now.endpoints (open_under s) s.futures (none-bus s.host now bus) sound.keys_named;
       future_names = sound.future_names;
       futures_wait = sound.futures_wait;
       futures_stand = λ n f at. future-same s.host now f bus (sound.futures_stand n f at);

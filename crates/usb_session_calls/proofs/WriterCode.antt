@@ -1,9 +1,8 @@
 -- What calls on an open writer answer.
-use Rattle.std.proofs.Common.{◌≡◌, ℕ, ◌≤◌, ◌+◌, ◌-◌, suc, arith, Bool, true, false, cond, List, [], ◌∷◌, ◌++◌, length, map, take, drop, Option, Some, None, Result, Ok, Err, refl, ap, sym, ◌∙◌, subst, String, string_bytes}
-use Rattle.std.specs.Prelude.{OnOk, option_and_then}
+use Rattle.std.proofs.Common.{◌≡◌, ℕ, ◌≤◌, ◌+◌, ◌-◌, suc, arith, Bool, true, false, cond, List, [], ◌∷◌, ◌++◌, length, Option, Some, Result, Ok, Err, refl, ap, sym, ◌∙◌, subst, String, string_bytes}
+use Rattle.std.specs.Prelude.{OnOk}
 use Rattle.std.specs.Option.{option_map}
 use Rattle.std.specs.declared.alloc.Global.{Global}
-use Rattle.std.proofs.lemmas.Option.{none-some, same_Some}
 use Rattle.std.proofs.lemmas.List.{append_assoc, append-nil}
 use Rattle.usb_xfer.specs.BufferState.{BufferState}
 use Rattle.usb_kernel.specs.Tickets.{tickets}
@@ -25,22 +24,22 @@ use Rattle.usb_session_streams.proofs.WritesKeep.{Keeps, write-keeps, flush-keep
 use Rattle.usb_session_text.specs.Calls.{condition_line, ok_line}
 use Rattle.usb_session_streams.specs.Needs.{bars_call, bars_transfers, write_need}
 use Rattle.usb_session_streams.specs.Printed.{CallKeeps as WriterKeeps, Prints, CameTo}
-use Rattle.usb_session_calls.specs.Names.{named, change_named, freed, set_name}
-use Rattle.usb_session_calls.proofs.NameLemmas.{map-change_named, put-changed, put-back}
-use Rattle.usb_session_calls.specs.State.{State, Endpoint, Writer, endpoint_state, tickets_of}
-use Rattle.usb_session_calls.specs.BareWriters.{BareWriter, bare_writer}
-use Rattle.usb_session_calls.specs.WriterAt.{WriterAt, writer_place, writer_at, state_of_writer, writing_at}
+use Rattle.usb_session_calls.specs.Names.{named, change_named}
+use Rattle.usb_session_calls.proofs.NameLemmas.{change_named-none}
+use Rattle.usb_session_calls.specs.EndpointNames.{OfWriter}
+use Rattle.usb_session_calls.specs.State.{State, Writer, endpoint_state, state_of_writer}
+use Rattle.usb_session_calls.specs.BareWriters.{bare_writer, writer_with}
 use Rattle.usb_session_calls.specs.Readers.{called_endpoint}
 use Rattle.usb_session_calls.specs.Writers.{with_transfers, transfers_on, with_write_timeout, write_timeout_on}
-use Rattle.usb_session_calls.specs.Writes.{left_by_writer, called_as}
-use Rattle.usb_session_calls.specs.Answer.{Answer, answer_with, condition_answer, ok_answer}
+use Rattle.usb_session_calls.specs.Writes.{writing_at, left_by_writer, called_as}
+use Rattle.usb_session_calls.specs.Answer.{Answer, answer_with, condition_answer}
 use Rattle.usb_session_calls.specs.Answered.{Answered}
 use Rattle.usb_session_calls.specs.SessionState.{SessionState}
-use Rattle.usb_session_calls.specs.Relation.{Represents, session_of}
+use Rattle.usb_session_calls.specs.Relation.{Represents}
 use Rattle.usb_session_calls.specs.OpenCalls.{CallKeeps}
-use Rattle.usb_session_calls.proofs.Answering.{host_is}
-use Rattle.usb_session_calls.proofs.Called.{OpenAt, represents-put}
-use Rattle.usb_session_calls.proofs.ReaderCode.{drop-last, tickets-read}
+use Rattle.usb_session_calls.proofs.Answering.{host_is, told-answered}
+use Rattle.usb_session_calls.proofs.Called.{represents-writer}
+use Rattle.usb_session_calls.proofs.ReaderCode.{endpoint-called}
 use Rattle.usb_session_calls.specs.WriterCalls.{HasWriter, WriterAnswers, with_writer_called}
 
 -- what a call on a writer keeps, by its endpoint
@@ -137,80 +136,46 @@ submit-follows w = submit-keeps (Follows w) (follows-kept w) w (follows-same w)
 pub submit_end-follows : (w : Writing HostState) → Follows w (submit_end_came host_calls w)
 submit_end-follows w = submit_end-keeps (Follows w) (follows-kept w) w (follows-same w)
 
--- the endpoint behind a call
-kept-called : (old new : Writing HostState) (h : Endpoint) → Follows old new → endpoint_state h ≡ old.writer.endpoint
-    → endpoint_state (called_endpoint (count_of old) (count_of new) new.writer.endpoint.pending h) ≡ new.writer.endpoint
-kept-called old new h came same =
-    let numbers = numbers_from (count_of old) (count_of new - count_of old) in
-    let last = new.writer.endpoint.pending in
-    let all = tickets-read h old.writer.endpoint.pending came.taken last numbers (ap (λ (z : EndpointState). z.pending) same) came.same in
-    let pending_is : drop (length (h.tickets ++ numbers) - length last) (h.tickets ++ numbers) ≡ last =
-    ap (λ (l : List ℕ). drop (length l - length last) l) all ∙ drop-last (take h.taken h.tickets ++ came.taken) last in
-    ap (λ (l : List ℕ). record (endpoint_state h) { pending = l }) pending_is
-    ∙ ap (λ (z : EndpointState). record z { pending = last }) same
-    ∙ sym came.rest
+-- an answer of a call of a writer (at): the writer is changed, to one that calls see so (y), the host goes on, and this line is told
+record ComesTo (state : State) (w : ℕ) (at : Writer) (now : HostState) (y : WriterState) (line : List ℕ) (a : Answer) : Type 0 where
+  pub change : Writer → Writer
+  pub is : a ≡ answer_with (record state { host = now; writers = change_named change state.writers w }) line
+  pub same : state_of_writer (change at) ≡ y
+  pub few : (change at).endpoint.taken ≤ length (change at).endpoint.tickets
 
--- a writer that is open, and its endpoint
-both_of : (o : Option Writer) (p : Option Endpoint) (at : WriterAt) → option_and_then (λ (x : Writer). option_map (λ h. record { writer = x; endpoint = h }) p) o ≡ Some at → (o ≡ Some at.writer) × (p ≡ Some at.endpoint)
-both_of None p at is = absurd (none-some at is)
-both_of (Some x) None at is = absurd (none-some at is)
-both_of (Some x) (Some h) at is =
-    let same = same_Some (record { writer = x; endpoint = h }) at is in
-    (ap (λ (z : WriterAt). Some z.writer) same, ap (λ (z : WriterAt). Some z.endpoint) same)
+comes-answered : (s : SessionState) (state : State) (w : ℕ) (at : Writer) (x : WriterState) (now : HostState) (y : WriterState) (before after line : List ℕ) (a : Answer) → Represents s state → HasWriter s state w x at → after ≡ before ++ line → ComesTo state w at now y line a
+    → Answered (with_writer_called s w now y) before after a
+comes-answered s state w at x now y before after line a rep has printed c =
+    subst (Answered (with_writer_called s w now y) before after) (sym c.is)
+    (told-answered (with_writer_called s w now y) (record state { host = now; writers = change_named c.change state.writers w }) before after line
+    (represents-writer s state now c.change w at y rep has.is c.same c.few) printed)
 
-both_at : (state : State) (w : ℕ) (at : WriterAt) → writer_at state w ≡ Some at → (named state.writers w ≡ Some at.writer) × (named state.endpoints (writer_place w) ≡ Some at.endpoint)
-both_at state w at is = both_of (named state.writers w) (named state.endpoints (writer_place w)) at is
+few_of : (s : SessionState) (state : State) (w : ℕ) (at : Writer) → Represents s state → named state.writers w ≡ Some at → at.endpoint.taken ≤ length at.endpoint.tickets
+few_of s state w at rep is = rep.few (OfWriter w) at.endpoint (ap (option_map (λ (z : Writer). z.endpoint)) is)
 
--- the writers of a session, of which one was called
-writers-called : (s : SessionState) (state : State) (w : ℕ) (y : WriterState) (at : WriterAt) (g : Writer → Writer) → Represents s state → named state.writers w ≡ Some at.writer → (g at.writer).bare ≡ bare_writer y
-    → change_named (λ z. bare_writer y) s.writers w ≡ map (option_map (λ (z : Writer). z.bare)) (change_named g state.writers w)
-writers-called s state w y at g rep was bare =
-    ap (λ (v : SessionState). change_named (λ z. bare_writer y) v.writers w) rep.is
-    ∙ sym (map-change_named (λ (z : Writer). z.bare) g (λ z. bare_writer y) state.writers w (λ z is. ap (λ (v : Writer). (g v).bare) (same_Some z at.writer (sym is ∙ was)) ∙ bare))
+-- nothing but the line
+comes-told : (state : State) (w : ℕ) (at : Writer) (x : WriterState) (line : List ℕ) → state_of_writer at ≡ x → at.endpoint.taken ≤ length at.endpoint.tickets → ComesTo state w at state.host x line (answer_with state line)
+comes-told state w at x line same few =
+    record { change = λ z. z; is = ap (λ (l : List (Option Writer)). answer_with (record state { writers = l }) line) (sym (change_named-none state.writers w)); same = same; few = few }
 
--- a writer was called and put back
-represents-writer : (s : SessionState) (state : State) (w : ℕ) (host : HostState) (x y : WriterState) (at : WriterAt) (f : Endpoint → Endpoint) (g : Writer → Writer) → Represents s state → HasWriter s state w x at
-    → endpoint_state (f at.endpoint) ≡ y.endpoint → (f at.endpoint).taken ≤ length (f at.endpoint).tickets → (g at.writer).bare ≡ bare_writer y
-    → Represents (with_writer_called s w host y) (record state { host = host; endpoints = change_named f state.endpoints (writer_place w); writers = change_named g state.writers w })
-represents-writer s state w host x y at f g rep has same few bare =
-    let both = both_at state w at has.is in
-    let o : OpenAt state (writer_place w) x.endpoint =
-    record { entry = at.endpoint; is = both.1; same = ap (λ (z : WriterState). z.endpoint) has.same; few = rep.few (writer_place w) at.endpoint both.1 } in
-    let after = change_named (λ (z : EndpointState). y.endpoint) s.endpoints (writer_place w) in
-    let put =
-    represents-put s state host after f (writer_place w) x.endpoint y.endpoint o rep
-    (sym (put-changed (λ z. y.endpoint) s.endpoints (writer_place w) x.endpoint y.endpoint has.endpoint refl)) same few in
+-- what a call left of host and writer
+comes-called : (state : State) (w : ℕ) (at : Writer) (old : HostState) (x : WriterState) (v : Writing HostState) (calls : Option WriterCalls) (line : List ℕ) → Follows (writing old x) v → state.host ≡ old → state_of_writer at ≡ x
+    → ComesTo state w at v.bus v.writer line (answer_with (left_by_writer state w calls v) line)
+comes-called state w at old x v calls line came host_was same =
+    let count = λ (h : HostState). length (tickets h.kernel.past) in
+    let now = v.writer.endpoint in
+    let is : endpoint_state (called_endpoint (count state.host) (count v.bus) now.pending at.endpoint) ≡ now =
+    ap (λ (h : HostState). endpoint_state (called_endpoint (count h) (count v.bus) now.pending at.endpoint)) host_was
+    ∙ endpoint-called (count old) (count v.bus) x.endpoint now came.taken at.endpoint came.same came.rest (ap (λ (z : WriterState). z.endpoint) same) in
     record {
-      is =
-          ap (λ (v : SessionState). record v { writers = change_named (λ z. bare_writer y) s.writers w }) put.is
-          ∙ ap (λ (l : List (Option BareWriter)). record (session_of (record state { host = host; endpoints = change_named f state.endpoints (writer_place w) })) { writers = l })
-          (writers-called s state w y at g rep both.0 bare);
-      few = put.few;
+      change = λ z. record { endpoint = called_endpoint (count state.host) (count v.bus) now.pending z.endpoint; bare = bare_writer v.writer; calls = calls };
+      is = refl;
+      same = ap (λ (h : EndpointState). writer_with h (bare_writer v.writer)) is;
+      few = omega arith;
     }
 
--- nothing was changed
-same_session : (s : SessionState) (state : State) (w : ℕ) (host : HostState) (x : WriterState) (at : WriterAt) → HasWriter s state w x at → s.host ≡ host → with_writer_called s w host x ≡ s
-same_session s state w host x at has host_was =
-    let place = writer_place w in
-    ap (λ (h : HostState). record s { host = h; endpoints = change_named (λ (z : EndpointState). x.endpoint) s.endpoints place; writers = change_named (λ (z : BareWriter). bare_writer x) s.writers w }) (sym host_was)
-    ∙ ap (λ (l : List (Option EndpointState)). record s { endpoints = l; writers = change_named (λ (z : BareWriter). bare_writer x) s.writers w })
-    (sym (put-changed (λ z. x.endpoint) s.endpoints place x.endpoint x.endpoint has.endpoint refl) ∙ put-back s.endpoints place x.endpoint has.endpoint)
-    ∙ ap (λ (l : List (Option BareWriter)). record s { writers = l })
-    (sym (put-changed (λ z. bare_writer x) s.writers w (bare_writer x) (bare_writer x) has.writer refl) ∙ put-back s.writers w (bare_writer x) has.writer)
-
--- the session behind a call stands for the state behind it
-represents-called : (s : SessionState) (state : State) (w : ℕ) (old : HostState) (x : WriterState) (v : Writing HostState) (at : WriterAt) (calls : Option WriterCalls) → Follows (writing old x) v → Represents s state → s.host ≡ old → HasWriter s state w x at
-    → Represents (with_writer_called s w v.bus v.writer) (left_by_writer state w calls v)
-represents-called s state w old x v at calls came rep host_was has =
-    let host : old ≡ state.host = sym host_was ∙ host_is s state rep in
-    let f = called_endpoint (tickets_of state) (count_of v) v.writer.endpoint.pending in
-    let kept_is : endpoint_state (f at.endpoint) ≡ v.writer.endpoint =
-    ap (λ (h : HostState). endpoint_state (called_endpoint (length (tickets h.kernel.past)) (count_of v) v.writer.endpoint.pending at.endpoint)) (sym host)
-    ∙ kept-called (writing old x) v at.endpoint came (ap (λ (z : WriterState). z.endpoint) has.same) in
-    represents-writer s state w v.bus x v.writer at f (λ z. record { bare = bare_writer v.writer; calls = calls }) rep has kept_is (omega arith) refl
-
 -- a call, by what it comes to at the host
-abbrev pub called_by : {A : Type 0} → (Writing HostState → Given A WriteFault (Writing HostState)) → (WriterState → ℕ) → (WriterState → Result A WriteFault → List Call) → (Result A WriteFault → List ℕ) → State → ℕ → WriterAt → Answer
+abbrev pub called_by : {A : Type 0} → (Writing HostState → Given A WriteFault (Writing HostState)) → (WriterState → ℕ) → (WriterState → Result A WriteFault → List Call) → (Result A WriteFault → List ℕ) → State → ℕ → Writer → Answer
 called_by came need calls line state w at =
     called_as state w at (need (state_of_writer at)) (calls (state_of_writer at) (came (writing_at state at)).answer) line (came (writing_at state at))
 
@@ -226,17 +191,20 @@ writer-answers {A} came need calls line old new x y before text (Ok done) follow
     let host : state.host ≡ old = sym (host_is s state rep) ∙ host_was in
     let there : writing_at state at ≡ writing old x =
     ap (λ (h : HostState). writing h (state_of_writer at)) host ∙ ap (λ (z : WriterState). writing old z) has.same in
-    let all = λ (p : Writing HostState). option_map (with_calls (calls p.writer (came p).answer) (failures_of (came p).answer)) at.writer.calls in
+    let all = λ (p : Writing HostState). option_map (with_calls (calls p.writer (came p).answer) (failures_of (came p).answer)) at.calls in
     let answer = λ (p : Writing HostState). cond (bars_call p (need p.writer)) (condition_answer state) (answer_with (left_by_writer state w (all p) (came p).left) (line (came p).answer)) in
     let by : (b : Bool) → CameTo b (line a.answer) a.left (string_bytes before) (string_bytes text) (writing old x) (writing new y)
     → Answered (with_writer_called s w new y) (string_bytes before) (string_bytes text) (cond b (condition_answer state) (answer_with (left_by_writer state w (all (writing old x)) a.left) (line a.answer))) =
     elim [
       | true ↦ λ p.
           subst (λ (v : Writing HostState). Answered (with_writer_called s w v.bus v.writer) (string_bytes before) (string_bytes text) (condition_answer state)) (sym p.1)
-          (subst (λ (z : SessionState). Answered z (string_bytes before) (string_bytes text) (condition_answer state)) (sym (same_session s state w old x at has host_was)) (record { state = rep; line = p.0 }))
+          (comes-answered s state w at x old x (string_bytes before) (string_bytes text) condition_line (condition_answer state) rep has p.0
+          (subst (λ (h : HostState). ComesTo state w at h x condition_line (condition_answer state)) host (comes-told state w at x condition_line has.same (few_of s state w at rep has.is))))
       | false ↦ λ p.
-          subst (λ (v : Writing HostState). Answered (with_writer_called s w v.bus v.writer) (string_bytes before) (string_bytes text) (answer_with (left_by_writer state w (all (writing old x)) a.left) (line a.answer))) (sym p.1)
-          (record { state = represents-called s state w old x a.left at (all (writing old x)) follows rep host_was has; line = p.0 })
+          let after = answer_with (left_by_writer state w (all (writing old x)) a.left) (line a.answer) in
+          subst (λ (v : Writing HostState). Answered (with_writer_called s w v.bus v.writer) (string_bytes before) (string_bytes text) after) (sym p.1)
+          (comes-answered s state w at x a.left.bus a.left.writer (string_bytes before) (string_bytes text) (line a.answer) after rep has p.0
+          (comes-called state w at old x a.left (all (writing old x)) (line a.answer) follows host has.same))
     ] in
     subst (Answered (with_writer_called s w new y) (string_bytes before) (string_bytes text)) (sym (ap answer there)) (by (bars_call (writing old x) (need x)) prints)
 
@@ -248,53 +216,28 @@ write-answers timeout src l line old new x y before text result same prints =
     writer-answers (λ v. write_came host_calls (timeout v.writer) src v) write_need (λ z r. written_calls src r) line old new x y before text result (write-follows (timeout x) src (writing old x))
     (subst (λ (bytes : List ℕ). Prints (bars_call (writing old x) (write_need x)) line (write_came host_calls (timeout x) bytes (writing old x)) before text (writing old x) (writing new y) result) same prints)
 
--- a call that asks nothing of the host: a line is told, and nothing else
-pub writer-told : {E : Type 0} (host : HostState) (x : WriterState) (before text : String Global) (result : Result Unit E) (line : List ℕ) (call : State → ℕ → WriterAt → Answer) → OnOk result (string_bytes text ≡ string_bytes before ++ line)
-    → ((state : State) (w : ℕ) (at : WriterAt) → call state w at ≡ answer_with state line) → WriterAnswers host host x x before text result call
-writer-told host x before text (Err error) line call printed tells = tt
-writer-told host x before text (Ok done) line call printed tells =
+-- a call that asks nothing of the host
+writer-off : {E : Type 0} (host : HostState) (x y : WriterState) (before text : String Global) (result : Result Unit E) (line : List ℕ) (call : State → ℕ → Writer → Answer) → OnOk result (string_bytes text ≡ string_bytes before ++ line)
+    → ((state : State) (w : ℕ) (at : Writer) → state_of_writer at ≡ x → at.endpoint.taken ≤ length at.endpoint.tickets → ComesTo state w at state.host y line (call state w at)) → WriterAnswers host host x y before text result call
+writer-off host x y before text (Err error) line call printed comes = tt
+writer-off host x y before text (Ok done) line call printed comes =
     λ s state w at rep host_was has.
-    subst (Answered (with_writer_called s w host x) (string_bytes before) (string_bytes text)) (sym (tells state w at))
-    (subst (λ (v : SessionState). Answered v (string_bytes before) (string_bytes text) (answer_with state line)) (sym (same_session s state w host x at has host_was))
-    (record { state = rep; line = printed }))
-
--- or something of the writer is set
-pub writer-set : {E : Type 0} (host : HostState) (x y : WriterState) (before text : String Global) (result : Result Unit E) (g : Writer → Writer) (call : State → ℕ → WriterAt → Answer) → y.endpoint ≡ x.endpoint → ((z : Writer) → z.bare ≡ bare_writer x → (g z).bare ≡ bare_writer y) → OnOk result (string_bytes text ≡ string_bytes before ++ ok_line)
-    → ((state : State) (w : ℕ) (at : WriterAt) → call state w at ≡ ok_answer (record state { writers = change_named g state.writers w })) → WriterAnswers host host x y before text result call
-writer-set host x y before text (Err error) g call same sets printed tells = tt
-writer-set host x y before text (Ok done) g call same sets printed tells =
-    λ s state w at rep host_was has.
-    let place = writer_place w in
-    let back : change_named (λ (z : EndpointState). y.endpoint) s.endpoints place ≡ s.endpoints =
-    sym (put-changed (λ z. y.endpoint) s.endpoints place x.endpoint y.endpoint has.endpoint refl)
-    ∙ ap (set_name (freed s.endpoints place) place) same
-    ∙ put-back s.endpoints place x.endpoint has.endpoint in
-    subst (Answered (with_writer_called s w host y) (string_bytes before) (string_bytes text)) (sym (tells state w at))
-    (record {
-      state = record {
-        is =
-            ap (λ (h : HostState). record s { host = h; endpoints = change_named (λ (z : EndpointState). y.endpoint) s.endpoints place; writers = change_named (λ z. bare_writer y) s.writers w }) (sym host_was)
-            ∙ ap (λ (l : List (Option EndpointState)). record s { endpoints = l; writers = change_named (λ z. bare_writer y) s.writers w }) back
-            ∙ ap (λ (v : SessionState). record v { writers = change_named (λ z. bare_writer y) s.writers w }) rep.is
-            ∙ ap (λ (l : List (Option BareWriter)). record (session_of state) { writers = l })
-            (writers-called s state w y at g rep (both_at state w at has.is).0 (sets at.writer (ap (λ (z : WriterState). bare_writer z) has.same)));
-        few = rep.few;
-      };
-      line = printed;
-    })
+    comes-answered s state w at x host y (string_bytes before) (string_bytes text) line (call state w at) rep has printed
+    (subst (λ (h : HostState). ComesTo state w at h y line (call state w at)) (sym (host_is s state rep) ∙ host_was) (comes state w at has.same (few_of s state w at rep has.is)))
 
 -- `num` of a writer
 pub transfers-barred : {E : Type 0} (host : HostState) (x : WriterState) (n : ℕ) (before text : String Global) (result : Result Unit E) → bars_transfers n ≡ true → OnOk result (string_bytes text ≡ string_bytes before ++ condition_line) → WriterAnswers host host x x before text result (λ state w at. transfers_on state w n)
 transfers-barred host x n before text result bars printed =
-    writer-told host x before text result condition_line (λ state w at. transfers_on state w n) printed (λ state w at. rw bars refl)
+    writer-off host x x before text result condition_line (λ state w at. transfers_on state w n) printed
+    (λ state w at same few. rw bars (comes-told state w at x condition_line same few))
 
 pub transfers-set : {E : Type 0} (host : HostState) (x y : WriterState) (n : ℕ) (before text : String Global) (result : Result Unit E) → bars_transfers n ≡ false → y ≡ record x { n = n } → OnOk result (string_bytes text ≡ string_bytes before ++ ok_line) → WriterAnswers host host x y before text result (λ state w at. transfers_on state w n)
 transfers-set host x y n before text result free is printed =
-    writer-set host x y before text result (with_transfers n) (λ state w at. transfers_on state w n) (ap (λ (z : WriterState). z.endpoint) is)
-    (λ z bare. ap (λ (b : BareWriter). record b { n = n }) bare ∙ ap (λ (v : WriterState). bare_writer v) (sym is)) printed (λ state w at. rw free refl)
+    writer-off host x y before text result ok_line (λ state w at. transfers_on state w n) printed
+    (λ state w at same few. record { change = with_transfers n; is = rw free refl; same = ap (λ (z : WriterState). record z { n = n }) same ∙ sym is; few = few })
 
 -- and `timeout`
 pub write_timeout-set : {E : Type 0} (host : HostState) (x y : WriterState) (timeout : ℕ) (before text : String Global) (result : Result Unit E) → y ≡ record x { timeout = timeout } → OnOk result (string_bytes text ≡ string_bytes before ++ ok_line) → WriterAnswers host host x y before text result (λ state w at. write_timeout_on state w timeout)
 write_timeout-set host x y timeout before text result is printed =
-    writer-set host x y before text result (with_write_timeout timeout) (λ state w at. write_timeout_on state w timeout) (ap (λ (z : WriterState). z.endpoint) is)
-    (λ z bare. ap (λ (b : BareWriter). record b { timeout = timeout }) bare ∙ ap (λ (v : WriterState). bare_writer v) (sym is)) printed (λ state w at. refl)
+    writer-off host x y before text result ok_line (λ state w at. write_timeout_on state w timeout) printed
+    (λ state w at same few. record { change = with_write_timeout timeout; is = refl; same = ap (λ (z : WriterState). record z { timeout = timeout }) same ∙ sym is; few = few })

@@ -3,7 +3,7 @@ use Rattle.usb_io.specs.Reads.{reading}
 use Rattle.usb_io.specs.Answers.{fill_came}
 use Rattle.usb_device_host.specs.HostCalls.{host_calls}
 use Rattle.usb_session_streams.specs.Reads.{buffer_line}
-use Rattle.usb_session_calls.specs.ReaderAt.{state_of_reader}
+use Rattle.usb_session_calls.specs.State.{state_of_reader}
 use Rattle.usb_session_calls.specs.Reads.{is_until_short, given_line, filled_as}
 use Rattle.usb_session_calls.proofs.ReaderCode.{keeps-along, reads-barred, fill-gave}
 use Rattle.usb_session_calls.proofs.filling.fill_open.Goals as goal
@@ -11,7 +11,7 @@ use Rattle.usb_session_calls.proofs.filling.fill_open.Goals as goal
 pub returns-then-bars_read-clause-answered : goal.returns-then-bars_read-clause-answered
 returns-then-bars_read-clause-answered c =
     reads-barred c.args.framing c.args.host.now c.args.reader.now c.args.line.now c.write_condition.new.out c.write_condition.result
-    (λ state r at. filled_as state c.args.framing r at (given_line buffer_line) (fill_came host_calls (is_until_short c.args.framing) at.reader.bare.timeout (reading state.host (state_of_reader at))))
+    (λ state r at. filled_as state c.args.framing r at (given_line buffer_line) (fill_came host_calls (is_until_short c.args.framing) at.bare.timeout (reading state.host (state_of_reader at))))
     (sym c.bars_read.ensures.barred ∙ c.if-bars_read.true) c.write_condition.ensures.text
 
 pub returns-in-Ok-clause-keeps : goal.returns-in-Ok-clause-keeps

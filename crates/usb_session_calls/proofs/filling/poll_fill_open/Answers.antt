@@ -4,7 +4,7 @@ use Rattle.usb_io.specs.declared.fault.ReadFault.TheVariants.{TimedOut}
 use Rattle.usb_io.specs.Answers.{fill_came}
 use Rattle.usb_device_host.specs.HostCalls.{host_calls}
 use Rattle.usb_session_streams.specs.Reads.{buffer_line}
-use Rattle.usb_session_calls.specs.ReaderAt.{state_of_reader}
+use Rattle.usb_session_calls.specs.State.{state_of_reader}
 use Rattle.usb_session_calls.specs.Reads.{is_until_short, polled_given_line, filled_as}
 use Rattle.usb_session_calls.proofs.ReaderCode.{keeps-along, reads-barred, fill-gave, printed-in_time}
 use Rattle.usb_session_calls.proofs.filling.poll_fill_open.Goals as goal

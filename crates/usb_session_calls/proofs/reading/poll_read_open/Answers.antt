@@ -7,7 +7,7 @@ use Rattle.usb_io.specs.Answers.{read_came}
 use Rattle.usb_io.specs.Answered.{answered}
 use Rattle.usb_device_host.specs.HostCalls.{host_calls}
 use Rattle.usb_session_streams.specs.Reads.{read_line}
-use Rattle.usb_session_calls.specs.ReaderAt.{state_of_reader}
+use Rattle.usb_session_calls.specs.State.{state_of_reader}
 use Rattle.usb_session_calls.specs.Reads.{is_until_short, polled_given_line, read_as}
 use Rattle.usb_session_calls.proofs.ReaderCode.{keeps-along, reads-barred, read-gave, printed-in_time}
 use Rattle.usb_session_calls.proofs.reading.poll_read_open.Goals as goal
